@@ -1,0 +1,5 @@
+pub mod Terms
+pub mod TermCode
+pub mod Values
+pub mod Patterns
+pub mod RulePatterns

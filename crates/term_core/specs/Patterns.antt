@@ -1,0 +1,84 @@
+-- Patterns of rules (Kore language document, "Patterns"): terms with variables and calls of functions. Variables are
+-- numbers too; a substitution is the list of what stands for them, by number, where something does.
+use Rattle.std.specs.Prelude.{ℕ, List, [], ◌∷◌, Option, Some, None, option_map, slice_index_or}
+use Rattle.term_core.specs.Terms.{DomainValue, Tree, leaf, node, inj, Forest, no_tree, more_trees, injected}
+
+-- `call` has the symbol of a function, the sorts that it is applied at, and its arguments.
+mutual
+  pub data Pattern : Type 0 where
+    variable : ℕ → Pattern
+    domain_value : ℕ → DomainValue → Pattern
+    application : ℕ → Patterns → Pattern
+    injection : ℕ → ℕ → Pattern → Pattern
+    call : ℕ → List ℕ → Patterns → Pattern
+
+  pub data Patterns : Type 0 where
+    no_pattern : Patterns
+    more_patterns : Pattern → Patterns → Patterns
+
+-- the patterns of a list, in its order
+abbrev pub patterns : List Pattern → Patterns
+patterns [] = no_pattern
+patterns (p ∷ ps) = more_patterns p (patterns ps)
+
+-- what a substitution gives a variable
+abbrev pub binding : List (Option Tree) → ℕ → Option Tree
+binding theta x = slice_index_or theta x None
+
+-- a tree in front of trees, where both are there
+abbrev pub with_first : Option Tree → Option Forest → Option Forest
+with_first None ts = None
+with_first (Some t) None = None
+with_first (Some t) (Some ts) = Some (more_trees t ts)
+
+-- The tree that a pattern becomes under a substitution, as it is written. There is none where a variable is not bound or
+-- a function is called.
+abbrev mutual
+  pub substituted : List (Option Tree) → Pattern → Option Tree
+  substituted theta (variable x) = binding theta x
+  substituted theta (domain_value s v) = Some (leaf s v)
+  substituted theta (application f ps) = option_map (node f) (all_substituted theta ps)
+  substituted theta (injection a b p) = option_map (inj a b) (substituted theta p)
+  substituted theta (call f ss ps) = None
+
+  pub all_substituted : List (Option Tree) → Patterns → Option Forest
+  all_substituted theta no_pattern = Some no_tree
+  all_substituted theta (more_patterns p ps) = with_first (substituted theta p) (all_substituted theta ps)
+
+-- The same tree with two injections in a row joined as it is built. Where the substitution gives normal terms, it is the
+-- normal form of `substituted`.
+abbrev mutual
+  pub instance_of : List (Option Tree) → Pattern → Option Tree
+  instance_of theta (variable x) = binding theta x
+  instance_of theta (domain_value s v) = Some (leaf s v)
+  instance_of theta (application f ps) = option_map (node f) (instances_of theta ps)
+  instance_of theta (injection a b p) = option_map (injected a b) (instance_of theta p)
+  instance_of theta (call f ss ps) = None
+
+  pub instances_of : List (Option Tree) → Patterns → Option Forest
+  instances_of theta no_pattern = Some no_tree
+  instances_of theta (more_patterns p ps) = with_first (instance_of theta p) (instances_of theta ps)
+
+-- no variable stands in it and no function is called
+abbrev mutual
+  pub IsGround : Pattern → Type 0
+  IsGround (variable x) = ⊥
+  IsGround (domain_value s v) = Unit {0}
+  IsGround (application f ps) = AreGround ps
+  IsGround (injection a b p) = IsGround p
+  IsGround (call f ss ps) = ⊥
+
+  pub AreGround : Patterns → Type 0
+  AreGround no_pattern = Unit {0}
+  AreGround (more_patterns p ps) = IsGround p × AreGround ps
+
+-- the pattern that stands for one term alone
+abbrev mutual
+  pub ground_pattern : Tree → Pattern
+  ground_pattern (leaf s v) = domain_value s v
+  ground_pattern (node f ts) = application f (ground_patterns ts)
+  ground_pattern (inj a b t) = injection a b (ground_pattern t)
+
+  pub ground_patterns : Forest → Patterns
+  ground_patterns no_tree = no_pattern
+  ground_patterns (more_trees t ts) = more_patterns (ground_pattern t) (ground_patterns ts)

@@ -1,0 +1,13 @@
+// Numbers that stand for names: the reader gives each name its number once, and nothing compares text afterwards.
+
+/// The number of a symbol in its signature.
+#[derive(Clone, Copy, PartialEq, Eq, PartialOrd, Ord, Hash, Debug)]
+pub struct SymId(pub u32);
+
+/// The number of a sort in its signature.
+#[derive(Clone, Copy, PartialEq, Eq, PartialOrd, Ord, Hash, Debug)]
+pub struct SortId(pub u32);
+
+/// The number of a hook in the table of hooks.
+#[derive(Clone, Copy, PartialEq, Eq, PartialOrd, Ord, Hash, Debug)]
+pub struct HookNo(pub u8);
