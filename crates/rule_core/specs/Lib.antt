@@ -1,2 +1,6 @@
 pub mod Named
 pub mod TableFields
+pub mod Rules
+pub mod Matching
+pub mod FirstRule
+pub mod Runs

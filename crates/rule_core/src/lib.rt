@@ -1,6 +1,11 @@
-// Tables of named things, numbered in the order of their first mention.
+// Rewrite rules over a signature, matching, the order of trial and runs. The contract used above: the plain trial of
+// rules finds the first that matches by substitution.
 #![tactic(auto)]
 
+mod rules;
+mod signature;
 mod table;
 
+pub use rules::{Rule, VarInfo};
+pub use signature::{Signature, SortInfo, SortKind, SortRef, SymInfo, SymKind};
 pub use table::Table;
