@@ -1,0 +1,3 @@
+-- What a reader of the contracts has to believe, lowest first.
+pub mod Trees
+pub mod Plain
