@@ -1,0 +1,176 @@
+-- The grammar of Kore text (Kore language document, syntax), as the spelling of each tree. A
+-- spelling is a list of wishes that stands in front of the wishes for what follows it.
+--
+-- Not in the grammar yet, and so spelled by no text: sort parameters as sorts, variables, strings,
+-- binders, domain values, folds, imports, hooked declarations, aliases and claims.
+use Rattle.std.specs.Prelude.{ℕ, ◌==◌, Bool, true, false, not, ◌&&◌, Option, Some, None, List, [], ◌∷◌, codes}
+use Rattle.kore_ast.specs.declared.tree.Op.{Op}
+use Rattle.kore_ast.specs.declared.tree.Op.TheVariants as op
+use Rattle.kore_ast.specs.Pieces.{Token, identifier, builtin, mark}
+use Rattle.kore_ast.specs.Trees.{SortTree, sort_parameter, sort_applied, SortTrees, no_sorts, sort_then, sort_count}
+use Rattle.kore_ast.specs.Trees.{PatternTree, element_variable, set_variable, string, symbol_applied, connected, binding, domain_value, folded}
+use Rattle.kore_ast.specs.Trees.{PatternTrees, no_patterns, pattern_then, pattern_trees, pattern_count, sort_trees}
+use Rattle.kore_ast.specs.Trees.{SortDeclaration, SymbolDeclaration, AxiomDeclaration, ModuleTree, DefinitionTree}
+use Rattle.kore_ast.specs.Trees.{Declaration, import_declaration, sort_declaration, symbol_declaration, alias_declaration, axiom_declaration, claim_declaration}
+
+-- a token at this place, a token at any place, or, without a token, that a condition holds
+pub data Want : Type 0 where
+  placed : ℕ → Token → Want
+  any : Token → Want
+  given : Bool → Want
+
+-- the name of a connective, behind its backslash
+abbrev pub name_of : Op → List ℕ
+name_of op.Top = codes "top"
+name_of op.Bottom = codes "bottom"
+name_of op.Not = codes "not"
+name_of op.Next = codes "next"
+name_of op.And = codes "and"
+name_of op.Or = codes "or"
+name_of op.Implies = codes "implies"
+name_of op.Iff = codes "iff"
+name_of op.Rewrites = codes "rewrites"
+name_of op.Ceil = codes "ceil"
+name_of op.Floor = codes "floor"
+name_of op.Equals = codes "equals"
+name_of op.Member = codes "in"
+
+-- the number of its sorts
+abbrev pub sorts_of : Op → ℕ
+sorts_of op.Ceil = 2
+sorts_of op.Floor = 2
+sorts_of op.Equals = 2
+sorts_of op.Member = 2
+sorts_of _ = 1
+
+-- the number of its arguments, none where it takes any number
+abbrev pub arguments_of : Op → Option ℕ
+arguments_of op.Top = Some 0
+arguments_of op.Bottom = Some 0
+arguments_of op.Not = Some 1
+arguments_of op.Next = Some 1
+arguments_of op.And = None
+arguments_of op.Or = None
+arguments_of op.Implies = Some 2
+arguments_of op.Iff = Some 2
+arguments_of op.Rewrites = Some 2
+arguments_of op.Ceil = Some 1
+arguments_of op.Floor = Some 1
+arguments_of op.Equals = Some 2
+arguments_of op.Member = Some 2
+
+abbrev pub is_count : Option ℕ → ℕ → Bool
+is_count None n = true
+is_count (Some m) n = n == m
+
+-- the connective takes so many sorts and so many arguments
+abbrev pub takes : Op → ℕ → ℕ → Bool
+takes o sorts arguments = (sorts == sorts_of o) && is_count (arguments_of o) arguments
+
+-- a list of names from behind its opening bracket up to and with the closing mark
+abbrev mutual
+  pub spell_names : List (List ℕ) → ℕ → List Want → List Want
+  spell_names [] close k = any (mark close) ∷ k
+  spell_names (n ∷ ns) close k = any (identifier n) ∷ spell_more_names ns close k
+
+  -- .. from behind a name
+  pub spell_more_names : List (List ℕ) → ℕ → List Want → List Want
+  spell_more_names [] close k = any (mark close) ∷ k
+  spell_more_names (n ∷ ns) close k = any (mark 44) ∷ any (identifier n) ∷ spell_more_names ns close k
+
+abbrev mutual
+  -- a sort: its name, and its sorts in braces
+  pub spell_sort : SortTree → List Want → List Want
+  spell_sort (sort_parameter at n) k = given false ∷ k
+  spell_sort (sort_applied at n ss) k = placed at (identifier n) ∷ any (mark 123) ∷ spell_sorts ss 125 k
+
+  -- sorts from behind their opening bracket up to and with the closing mark
+  pub spell_sorts : SortTrees → ℕ → List Want → List Want
+  spell_sorts no_sorts close k = any (mark close) ∷ k
+  spell_sorts (sort_then s ss) close k = spell_sort s (spell_more_sorts ss close k)
+
+  -- .. from behind a sort
+  pub spell_more_sorts : SortTrees → ℕ → List Want → List Want
+  spell_more_sorts no_sorts close k = any (mark close) ∷ k
+  spell_more_sorts (sort_then s ss) close k = any (mark 44) ∷ spell_sort s (spell_more_sorts ss close k)
+
+abbrev mutual
+  -- a pattern: a symbol's name or a connective, the sorts in braces, the arguments in parentheses
+  pub spell_pattern : PatternTree → List Want → List Want
+  spell_pattern (element_variable at n s) k = given false ∷ k
+  spell_pattern (set_variable at n s) k = given false ∷ k
+  spell_pattern (string at t) k = given false ∷ k
+  spell_pattern (symbol_applied at n ss ps) k =
+      placed at (identifier n) ∷ any (mark 123) ∷ spell_sorts ss 125 (any (mark 40) ∷ spell_patterns ps 41 k)
+  spell_pattern (connected at o ss ps) k =
+      placed at (builtin (name_of o)) ∷ any (mark 123)
+      ∷ spell_sorts ss 125 (any (mark 40)
+      ∷ spell_patterns ps 41 (given (takes o (sort_count ss) (pattern_count ps)) ∷ k))
+  spell_pattern (binding at b ss x p) k = given false ∷ k
+  spell_pattern (domain_value at s t place) k = given false ∷ k
+  spell_pattern (folded at left p) k = given false ∷ k
+
+  -- patterns from behind their opening bracket up to and with the closing mark
+  pub spell_patterns : PatternTrees → ℕ → List Want → List Want
+  spell_patterns no_patterns close k = any (mark close) ∷ k
+  spell_patterns (pattern_then p ps) close k = spell_pattern p (spell_more_patterns ps close k)
+
+  -- .. from behind a pattern
+  pub spell_more_patterns : PatternTrees → ℕ → List Want → List Want
+  spell_more_patterns no_patterns close k = any (mark close) ∷ k
+  spell_more_patterns (pattern_then p ps) close k = any (mark 44) ∷ spell_pattern p (spell_more_patterns ps close k)
+
+-- attributes: patterns in brackets
+abbrev pub spell_attributes : List PatternTree → List Want → List Want
+spell_attributes ps k = any (mark 91) ∷ spell_patterns (pattern_trees ps) 93 k
+
+-- `sort` name { names } attributes
+abbrev pub spell_sort_declaration : SortDeclaration → List Want → List Want
+spell_sort_declaration d k =
+    given (not d.hooked) ∷ placed d.at (identifier (codes "sort")) ∷ any (identifier d.name)
+    ∷ any (mark 123) ∷ spell_names d.params 125 (spell_attributes d.attributes k)
+
+-- `symbol` name { names } ( sorts ) : sort attributes
+abbrev pub spell_symbol_declaration : SymbolDeclaration → List Want → List Want
+spell_symbol_declaration d k =
+    given (not d.hooked) ∷ placed d.at (identifier (codes "symbol")) ∷ any (identifier d.name)
+    ∷ any (mark 123) ∷ spell_names d.params 125 (any (mark 40)
+    ∷ spell_sorts (sort_trees d.args) 41 (any (mark 58)
+    ∷ spell_sort d.result (spell_attributes d.attributes k)))
+
+-- `axiom` { names } pattern attributes
+abbrev pub spell_axiom_declaration : AxiomDeclaration → List Want → List Want
+spell_axiom_declaration d k =
+    placed d.at (identifier (codes "axiom")) ∷ any (mark 123)
+    ∷ spell_names d.params 125 (spell_pattern d.pattern (spell_attributes d.attributes k))
+
+abbrev pub spell_declaration : Declaration → List Want → List Want
+spell_declaration (import_declaration d) k = given false ∷ k
+spell_declaration (sort_declaration d) k = spell_sort_declaration d k
+spell_declaration (symbol_declaration d) k = spell_symbol_declaration d k
+spell_declaration (alias_declaration d) k = given false ∷ k
+spell_declaration (axiom_declaration d) k = spell_axiom_declaration d k
+spell_declaration (claim_declaration d) k = given false ∷ k
+
+abbrev pub spell_declarations : List Declaration → List Want → List Want
+spell_declarations [] k = k
+spell_declarations (d ∷ ds) k = spell_declaration d (spell_declarations ds k)
+
+-- `module` name declarations `endmodule` attributes
+abbrev pub spell_module : ModuleTree → List Want → List Want
+spell_module m k =
+    placed m.at (identifier (codes "module")) ∷ any (identifier m.name)
+    ∷ spell_declarations m.declarations (any (identifier (codes "endmodule")) ∷ spell_attributes m.attributes k)
+
+abbrev pub spell_modules : List ModuleTree → List Want → List Want
+spell_modules [] k = k
+spell_modules (m ∷ ms) k = spell_module m (spell_modules ms k)
+
+abbrev pub is_some_module : List ModuleTree → Bool
+is_some_module [] = false
+is_some_module (m ∷ ms) = true
+
+-- attributes, and one module or more
+abbrev pub spell_definition : DefinitionTree → List Want → List Want
+spell_definition d k =
+    spell_attributes d.attributes (spell_modules d.modules (given (is_some_module d.modules) ∷ k))

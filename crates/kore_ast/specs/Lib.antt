@@ -1,0 +1,7 @@
+-- What a reader of the contracts has to believe, lowest first.
+pub mod Trees
+pub mod Plain
+pub mod Pieces
+pub mod Lexed
+pub mod Grammar
+pub mod KoreText
