@@ -1,10 +1,11 @@
-use Rattle.std.proofs.Common.{◌≡◌, ℕ, ◌+◌, List, [], ◌∷◌, ◌++◌, length, Bool, true, false, cond, is_some, Option, Some, None, refl, sym, ◌∙◌, ap, arith, add-zero}
+use Rattle.std.proofs.Common.{◌≡◌, ℕ, ◌+◌, List, [], ◌∷◌, ◌++◌, length, Bool, true, false, cond, is_some, Option, Some, None, refl, sym, ◌∙◌, ap, ◌≢◌, arith, add-zero}
 use Rattle.std.specs.List.{position_from}
 use Rattle.std.specs.Str.{bytes_eq}
 use Rattle.std.proofs.lemmas.Bool.{false≢true}
 use Rattle.std.proofs.lemmas.Bool.Decides.{same_from_decides}
+use Rattle.std.proofs.lemmas.List.{map-append}
 use Rattle.std.proofs.lemmas.Slice.Eq.{bytes_eq-Decides}
-use Rattle.rule_core.specs.Named.{number_of}
+use Rattle.rule_core.specs.Named.{number_of, names_of, IsNoneOf, AreDistinct}
 
 -- whether two names are the same does not depend on their order
 pub bytes_eq-comm : (a b : List ℕ) → bytes_eq a b ≡ bytes_eq b a
@@ -24,11 +25,11 @@ step e k q i n rest old false same es eb kb h = h
 
 -- a name that is not found differs from the first one, and is not found among the others
 not_found : {V : Type 0} (e : List ℕ × V) (es : List (List ℕ × V)) (i : ℕ) (k : List ℕ) → position_from (λ (e' : List ℕ × V). bytes_eq k e'.0) i (e ∷ es) ≡ None
-  → (bytes_eq k e.0 ≡ false) × (position_from (λ (e' : List ℕ × V). bytes_eq k e'.0) (i + 1) es ≡ None)
+    → (bytes_eq k e.0 ≡ false) × (position_from (λ (e' : List ℕ × V). bytes_eq k e'.0) (i + 1) es ≡ None)
 not_found e es i k h = only_none (bytes_eq k e.0) i _ h
 
 from : {V : Type 0} (es : List (List ℕ × V)) (i : ℕ) (k : List ℕ) (v : V) (q : List ℕ) → position_from (λ (e : List ℕ × V). bytes_eq k e.0) i es ≡ None
-  → position_from (λ (e : List ℕ × V). bytes_eq q e.0) i (es ++ (k, v) ∷ []) ≡ cond (bytes_eq k q) (Some (i + length es)) (position_from (λ (e : List ℕ × V). bytes_eq q e.0) i es)
+    → position_from (λ (e : List ℕ × V). bytes_eq q e.0) i (es ++ (k, v) ∷ []) ≡ cond (bytes_eq k q) (Some (i + length es)) (position_from (λ (e : List ℕ × V). bytes_eq q e.0) i es)
 from [] i k v q h = rw (bytes_eq-comm q k, add-zero) refl
 from {V = V} (e ∷ es) i k v q h =
     let o = not_found e es i k h in
@@ -44,7 +45,22 @@ none_is (Some n) h = absurd (false≢true (sym h))
 
 -- a map that had just the numbers of the old names, and got the new name's number, has just the numbers of all names
 pub indexed-push : {V : Type 0} (f g : List ℕ → Option ℕ) (es new : List (List ℕ × V)) (k : List ℕ) (v : V) (n : ℕ) → ((q : List ℕ) → f q ≡ number_of es q)
-  → is_some (number_of es k) ≡ false → n ≡ length es → ((q : List ℕ) → g q ≡ cond (bytes_eq k q) (Some n) (f q)) → new ≡ es ++ (k, v) ∷ [] → (q : List ℕ) → g q ≡ number_of new q
+    → is_some (number_of es k) ≡ false → n ≡ length es → ((q : List ℕ) → g q ≡ cond (bytes_eq k q) (Some n) (f q)) → new ≡ es ++ (k, v) ∷ [] → (q : List ℕ) → g q ≡ number_of new q
 indexed-push f g es new k v n had absent size got grown q =
     got q ∙ ap (λ o. cond (bytes_eq k q) (Some n) o) (had q) ∙ ap (λ m. cond (bytes_eq k q) (Some m) (number_of es q)) size
     ∙ sym (number_of-push es k v q (none_is _ absent)) ∙ ap (λ xs. number_of xs q) (sym grown)
+
+-- names that differ stay so where one comes that is none of them
+IsNoneOf-push : (name : List ℕ) (others : List (List ℕ)) (new : List ℕ) → IsNoneOf name others → name ≢ new → IsNoneOf name (others ++ new ∷ [])
+IsNoneOf-push name [] new all last = (last, tt)
+IsNoneOf-push name (other ∷ others) new all last = (all.0, IsNoneOf-push name others new all.1 last)
+
+differ : {V : Type 0} (es : List (List ℕ × V)) (i : ℕ) (k : List ℕ) (v : V) → AreDistinct (names_of es) → position_from (λ (e : List ℕ × V). bytes_eq k e.0) i es ≡ None
+    → AreDistinct (names_of es ++ k ∷ [])
+differ [] i k v had absent = (tt, tt)
+differ (e ∷ es) i k v had absent =
+    let o = not_found e es i k absent in
+    (IsNoneOf-push e.0 (names_of es) k had.0 (λ same. false≢true (sym o.0 ∙ (bytes_eq-Decides k e.0).1 (sym same))), differ es (i + 1) k v had.1 o.1)
+
+pub AreDistinct-push : {V : Type 0} (es : List (List ℕ × V)) (k : List ℕ) (v : V) → AreDistinct (names_of es) → is_some (number_of es k) ≡ false → AreDistinct (names_of (es ++ (k, v) ∷ []))
+AreDistinct-push es k v had absent = rw map-append (differ es 0 k v had (none_is _ absent))

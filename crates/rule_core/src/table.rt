@@ -1,5 +1,5 @@
 ghost use Rattle.std.specs.Prelude.{◌≡◌, ◌+◌, ◌^◌, ◌<◌, [], ◌∷◌, ◌++◌, length, OnErr, IfOk, IsNone, slice_get, option_copied, option_map, string_bytes, is_none, if◌then◌else◌, ◌==◌};
-ghost use Rattle.rule_core.specs.Named.{number_of};
+ghost use Rattle.rule_core.specs.Named.{number_of, names_of, AreDistinct};
 
 use std::alloc::{AllocError, Global};
 use std::collections::BTreeMap;
@@ -39,6 +39,13 @@ impl<V: Drop> Table<V> {
         ensures { result ≡ length self.now }
     {
         self.entries.len()
+    }
+
+    /// No name stands twice in a table.
+    pub fn names_differ(&self)
+        ensures { AreDistinct (names_of self.now) }
+    {
+        let _entries = &self.entries;
     }
 
     pub fn is_empty(&self) -> bool
