@@ -1,0 +1,13 @@
+use Rattle.std.proofs.Common.{length, ◌-◌, ◌≤◌, take}
+use Rattle.desk_io.specs.Sent.{Appends}
+use Rattle.desk_io.proofs.sink.send_whole.Given as goal
+
+abbrev pub invariant-loop-at : goal.invariant-loop-at
+invariant-loop-at g l = record {
+  within : l.at ≤ length l.bytes;
+  appends : Appends (g.S.Sink.bytes l.initial.sink) (g.S.Sink.bytes l.sink) (take l.at l.bytes);
+  counts : g.S.Sink.faults l.initial.sink ≤ g.S.Sink.faults l.sink;
+}
+
+abbrev pub decreases-loop-at : goal.decreases-loop-at
+decreases-loop-at g l = length l.bytes - l.at

@@ -1,0 +1,4 @@
+pub mod Counts
+pub mod End
+pub mod Sent
+pub mod Told

@@ -1,0 +1,78 @@
+-- What a desk tells of itself, and what its calls do to that. A clause on a desk that tells nothing
+-- says nothing.
+use Rattle.std.specs.Prelude.{◌≡◌, ℕ, ◌<◌, ◌≤◌, Bool, true, false, if◌then◌else◌, List, [], ◌∷◌, ◌++◌, length, drop, Option, Some, None, Result, Ok, Err, nat_eq}
+use Rattle.std.specs.Cmp.Lexicographic.{pointwise}
+use Rattle.desk_io.specs.declared.desk.DeskFault.{DeskFault}
+
+-- the files, each by the bytes of its name and its content, and what is unread of the opened file,
+-- which is nothing where none is opened
+pub record Told : Type 0 where
+  pub files : List (List ℕ × List ℕ)
+  pub unread : List ℕ
+
+-- the content of the first file of that name
+abbrev pub file_of : List (List ℕ × List ℕ) → List ℕ → Option (List ℕ)
+file_of [] name = None
+file_of (file ∷ files) name = if pointwise nat_eq file.0 name then Some file.1 else file_of files name
+
+-- it tells the same as before
+abbrev pub Same : Option Told → Option Told → Type 0
+Same None new = Unit {0}
+Same (Some old) new = new ≡ Some old
+
+-- it tells the same files as before
+abbrev pub KeepsFiles : Option Told → Option Told → Type 0
+KeepsFiles None new = Unit {0}
+KeepsFiles (Some old) new = (unread : List ℕ) × (new ≡ Some (record old { unread = unread }))
+
+-- what an answer to 'open the file of this name' says: true, and the whole file is unread; or false,
+-- there is none, and nothing is unread; or a fault, and nothing is unread
+abbrev pub Opens : Option Told → Option Told → List ℕ → Result Bool DeskFault → Type 0
+Opens None new name answer = Unit {0}
+Opens (Some old) new name (Ok true) = (content : List ℕ) × (file_of old.files name ≡ Some content) × (new ≡ Some (record old { unread = content }))
+Opens (Some old) new name (Ok false) = (file_of old.files name ≡ None) × (new ≡ Some (record old { unread = [] }))
+Opens (Some old) new name (Err fault) = new ≡ Some (record old { unread = [] })
+
+-- these bytes were the first unread ones, and are unread no longer
+abbrev pub Passed : Option Told → Option Told → List ℕ → Type 0
+Passed None new bytes = Unit {0}
+Passed (Some old) new bytes = (rest : List ℕ) × (old.unread ≡ bytes ++ rest) × (new ≡ Some (record old { unread = rest }))
+
+-- nothing is unread
+abbrev pub AtEnd : Option Told → Type 0
+AtEnd None = Unit {0}
+AtEnd (Some told) = told.unread ≡ []
+
+-- there is a file of that name, with this content
+abbrev pub Holds : Option Told → List ℕ → List ℕ → Type 0
+Holds None name content = Unit {0}
+Holds (Some told) name content = file_of told.files name ≡ Some content
+
+-- there is no file of that name
+abbrev pub Lacks : Option Told → List ℕ → Type 0
+Lacks None name = Unit {0}
+Lacks (Some told) name = file_of told.files name ≡ None
+
+-- there is a file of that name, with more bytes than the limit
+abbrev pub HoldsMore : Option Told → List ℕ → ℕ → Type 0
+HoldsMore None name limit = Unit {0}
+HoldsMore (Some told) name limit = (content : List ℕ) × (file_of told.files name ≡ Some content) × (limit < length content)
+
+-- the file of that name is open, and all but its first n bytes are unread
+abbrev pub Leaves : Option Told → Option Told → List ℕ → ℕ → Type 0
+Leaves None new name n = Unit {0}
+Leaves (Some old) new name n = (content : List ℕ) × (file_of old.files name ≡ Some content) × (new ≡ Some (record old { unread = drop n content }))
+
+-- these bytes were all that was unread, and nothing is now
+abbrev pub Drains : Option Told → Option Told → List ℕ → Type 0
+Drains None new bytes = Unit {0}
+Drains (Some old) new bytes = (old.unread ≡ bytes) × (new ≡ Some (record old { unread = [] }))
+
+-- the first n unread bytes are unread no longer
+abbrev pub PassedMany : Option Told → Option Told → ℕ → Type 0
+PassedMany None new n = Unit {0}
+PassedMany (Some old) new n = (n ≤ length old.unread) × (new ≡ Some (record old { unread = drop n old.unread }))
+
+-- a list grew by bytes that were the first unread ones, and are unread no longer
+abbrev pub PassedTo : Option Told → Option Told → List ℕ → List ℕ → Type 0
+PassedTo told told' list list' = (bytes : List ℕ) × (list' ≡ list ++ bytes) × Passed told told' bytes

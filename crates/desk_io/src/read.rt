@@ -1,0 +1,123 @@
+// Reading a file whole.
+ghost use Rattle.std.specs.Prelude.{◌≡◌, ◌<◌, ◌≤◌, ◌+◌, ◌⊎◌, length, IfOk, IsOk, IsErrOf, vec_len};
+ghost use Rattle.desk_io.specs.Told.{KeepsFiles, Holds, Lacks, HoldsMore, Leaves, AtEnd, Drains, PassedMany, PassedTo};
+ghost use Rattle.desk_io.specs.Counts.{Rose};
+ghost use Rattle.desk_io.specs.End.{end_by};
+ghost use Rattle.desk_io.specs.declared.read.ReadEnd.TheVariants.{Memory};
+
+use crate::desk::{Desk, DeskFault};
+use std::alloc::{AllocError, Global};
+
+/// How many bytes one read asks for at most.
+const BUFFER: usize = 8192;
+
+/// Why a file was not read whole.
+#[derive(Clone, Copy, Debug, PartialEq, Eq)]
+pub enum ReadEnd {
+    /// There is no file of that name.
+    NoFile,
+
+    /// The desk failed, and counted it.
+    Failed,
+
+    /// The file has more bytes than the limit.
+    TooLarge,
+
+    /// Memory ran out.
+    Memory,
+}
+
+impl From<AllocError> for ReadEnd {
+    ghost from_gives = { λ _ e. e ≡ Memory };
+
+    fn from(_error: AllocError) -> ReadEnd {
+        ReadEnd::Memory
+    }
+}
+
+/// The end of a reading by the fault of the desk.
+fn end_of(fault: DeskFault) -> ReadEnd
+    ensures { result ≡ end_by fault }
+{
+    match fault {
+        DeskFault::Failed => ReadEnd::Failed,
+        DeskFault::Memory => ReadEnd::Memory,
+    }
+}
+
+/// The bytes of the named file, whole, where they are at most `limit`. Takes at most one byte more
+/// than the limit from the desk, and leaves its files as they were.
+pub fn read_file<D: Desk>(
+    alloc: Global,
+    desk: &mut D,
+    name: &str,
+    limit: usize,
+) -> Result<Vec<u8>, ReadEnd>
+    requires { limit ≤ 268435456 }
+    ensures found { IfOk result (λ v. Holds (D.told desk.old) name.now v.items) }
+    ensures within { IfOk result (λ v. vec_len v ≤ limit) }
+    ensures no_file { IsErrOf result ReadEnd.NoFile → Lacks (D.told desk.old) name.now }
+    ensures too_large { IsErrOf result ReadEnd.TooLarge → HoldsMore (D.told desk.old) name.now limit }
+    ensures failed { IsErrOf result ReadEnd.Failed → Rose (D.read_faults desk.old) (D.read_faults desk.new) }
+
+    // What the call did to the desk.
+    ensures taken { IfOk result (λ v. Leaves (D.told desk.old) (D.told desk.new) name.now (vec_len v)) }
+    ensures taken_more { IsErrOf result ReadEnd.TooLarge → Leaves (D.told desk.old) (D.told desk.new) name.now (limit + 1) }
+    ensures files { KeepsFiles (D.told desk.old) (D.told desk.new) }
+    ensures counts { D.read_faults desk.old ≤ D.read_faults desk.new }
+{
+    match desk.open_file(name) {
+        Ok(true) => read_rest(alloc, desk, limit),
+        Ok(false) => Err(ReadEnd::NoFile),
+        Err(fault) => Err(end_of(fault)),
+    }
+}
+
+/// All that is unread, where it is at most `limit` bytes.
+fn read_rest<D: Desk>(alloc: Global, desk: &mut D, limit: usize) -> Result<Vec<u8>, ReadEnd>
+    requires { limit ≤ 268435456 }
+    ensures drained { IfOk result (λ v. Drains (D.told desk.old) (D.told desk.new) v.items) }
+    ensures within { IfOk result (λ v. vec_len v ≤ limit) }
+    ensures too_large { IsErrOf result ReadEnd.TooLarge → PassedMany (D.told desk.old) (D.told desk.new) (limit + 1) }
+    ensures some_file { ¬ (IsErrOf result ReadEnd.NoFile) }
+    ensures failed { IsErrOf result ReadEnd.Failed → Rose (D.read_faults desk.old) (D.read_faults desk.new) }
+    ensures files { KeepsFiles (D.told desk.old) (D.told desk.new) }
+    ensures counts { D.read_faults desk.old ≤ D.read_faults desk.new }
+{
+    let mut bytes = Vec::new(alloc);
+    let mut buffer = [0u8; BUFFER];
+    while bytes.len() <= limit {
+        let room = (limit + 1 - bytes.len()).min(BUFFER);
+        match read_more(desk, &mut buffer[..room], &mut bytes) {
+            Ok(0) => return Ok(bytes),
+            Ok(_) => {}
+            Err(end) => return Err(end),
+        }
+    }
+    Err(ReadEnd::TooLarge)
+}
+
+/// One read through `buffer`, whose bytes are appended to `bytes`. Answers how many there were.
+fn read_more<D: Desk>(
+    desk: &mut D,
+    buffer: &mut [u8],
+    bytes: &mut Vec<u8>,
+) -> Result<usize, ReadEnd>
+    requires { 0 < length buffer.old }
+    ensures within { IfOk result (λ n. n ≤ length buffer.old) }
+    ensures length { IfOk result (λ n. vec_len bytes.new ≡ vec_len bytes.old + n) }
+    ensures passed { IfOk result (λ n. PassedTo (D.told desk.old) (D.told desk.new) bytes.old.items bytes.new.items) }
+    ensures end { IfOk result (λ n. n ≡ 0 → AtEnd (D.told desk.old)) }
+    ensures fault { (IsErrOf result ReadEnd.Failed) ⊎ (IsErrOf result ReadEnd.Memory) ⊎ IsOk result }
+    ensures failed { IsErrOf result ReadEnd.Failed → Rose (D.read_faults desk.old) (D.read_faults desk.new) }
+    ensures files { KeepsFiles (D.told desk.old) (D.told desk.new) }
+    ensures counts { D.read_faults desk.old ≤ D.read_faults desk.new }
+{
+    match desk.read(buffer) {
+        Ok(n) => {
+            bytes.extend_from_slice(&buffer[..n])?;
+            Ok(n)
+        }
+        Err(fault) => Err(end_of(fault)),
+    }
+}

@@ -1,0 +1,43 @@
+// Where text goes.
+ghost use Rattle.std.specs.Prelude.{◌≡◌, ℕ, List, ◌<◌, ◌≤◌, Option, length, take, IfOk, OnOk, OnErr, IsErrOf};
+ghost use Rattle.desk_io.specs.Sent.{Appends, AppendsFront, SameBytes};
+ghost use Rattle.desk_io.specs.Counts.{Rose};
+
+use crate::desk::DeskFault;
+
+/// A stream that bytes are written to.
+pub trait Sink {
+    // All that it has taken, where it tells that.
+    ghost bytes: { Self → Option (List ℕ) };
+
+    // How many faults `write` has had. It stands still at 2^64 - 1.
+    ghost faults: { Self → ℕ };
+
+    /// Appends the first bytes of `piece`, and answers how many: 0 only where the piece is empty.
+    /// After a fault nothing is appended.
+    fn write(&mut self, piece: &[u8]) -> Result<usize, DeskFault>
+        ensures within { IfOk result (λ n. n ≤ length piece.now) }
+        ensures some { IfOk result (λ n. 0 < length piece.now → 0 < n) }
+        ensures appends { IfOk result (λ n. Appends (bytes self.old) (bytes self.new) (take n piece.now)) }
+        ensures fault { OnErr result (SameBytes (bytes self.old) (bytes self.new)) }
+        ensures failed { IsErrOf result DeskFault.Failed → Rose (faults self.old) (faults self.new) }
+        ensures counts { faults self.old ≤ faults self.new };
+}
+
+/// Appends all of `bytes`, in as many writes as the sink needs. After an error some bytes from the
+/// front of `bytes` are appended, maybe none.
+pub fn send_whole<S: Sink>(sink: &mut S, bytes: &[u8]) -> Result<(), DeskFault>
+    ensures sent { OnOk result (Appends (S.bytes sink.old) (S.bytes sink.new) bytes.now) }
+    ensures prefix { OnErr result (AppendsFront (S.bytes sink.old) (S.bytes sink.new) bytes.now) }
+    ensures failed { IsErrOf result DeskFault.Failed → Rose (S.faults sink.old) (S.faults sink.new) }
+    ensures counts { S.faults sink.old ≤ S.faults sink.new }
+{
+    let mut at = 0;
+    while at < bytes.len() {
+        match sink.write(&bytes[at..]) {
+            Ok(n) => at += n,
+            Err(fault) => return Err(fault),
+        }
+    }
+    Ok(())
+}
