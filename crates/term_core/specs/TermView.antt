@@ -1,0 +1,14 @@
+-- The tree that a `Term` of the code stands for: its children stand for theirs.
+use Rattle.term_core.specs.Terms.{Tree, leaf, node, inj, forest}
+use Rattle.term_core.specs.Values.{value_of}
+use Rattle.term_core.specs.declared.terms.Node.{Node}
+use Rattle.term_core.specs.declared.terms.Node.TheVariants as form
+use Rattle.term_core.specs.declared.terms.Term.TheInside.{Inside}
+
+abbrev pub node_tree : Node → Tree
+node_tree (form.Leaf s v) = leaf s.0 (value_of v)
+node_tree (form.Ctor f args) = node f.0 (forest args.items)
+node_tree (form.Inj a b t) = inj a.0 b.0 t
+
+abbrev pub tree_of : Inside → Tree
+tree_of a = node_tree a.node.value

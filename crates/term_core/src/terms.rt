@@ -1,0 +1,167 @@
+// Ground terms. A term is a tree that is shared, not copied, and is always normal: no injection stands right below another.
+ghost use Rattle.std.specs.Prelude.{◌≡◌, ◌+◌, ◌<◌, ◌≤◌, ◌↔◌, length, slice_get, IfOk, IsTrue};
+ghost use Rattle.term_core.specs.Terms.{leaf, node, inj, forest, children, height, heights, injected, norm, IsNormal, AreNormal};
+ghost use Rattle.term_core.specs.Values.{value_of};
+ghost use Rattle.term_core.specs.Heads.{Shows};
+
+use crate::ids::{SortId, SymId};
+use crate::steps::Steps;
+use crate::values::Value;
+use std::alloc::{AllocError, Global};
+use std::marker::Model;
+use std::rc::Rc;
+use std::sync::ledger::Ledger;
+
+/// The greatest height of a term. It bounds how deep a walk over a term recurses.
+pub const MAX_HEIGHT: u32 = 500;
+
+/// A ground term. Contracts see it as a plain normal tree.
+#[cycle(term)]
+#[derive(Drop)]
+pub struct Term {
+    high: u32,
+    node: Rc<Node>,
+}
+
+#[cycle(term)]
+#[derive(Drop)]
+enum Node {
+    Leaf(SortId, Value),
+    Ctor(SymId, Vec<Term>),
+    Inj(SortId, SortId, Term),
+}
+
+impl Model for Term {
+    ghost use Rattle.std.specs.Prelude.{◌≡◌, ◌≤◌};
+    ghost use Rattle.term_core.specs.Terms.{Tree, height, IsTermOfHeight};
+    ghost use Rattle.term_core.specs.TermCode.{tree_code};
+
+    ghost Value = { Tree };
+
+    ghost coded = { tree_code };
+
+    ghost use Rattle.term_core.specs.TermView.{tree_of};
+
+    ghost view = { tree_of };
+
+    ghost invariant = { λ a. IsTermOfHeight a.high (tree_of a) };
+
+    ghost size = { height };
+
+    ghost use Rattle.std.proofs.Common.{arith};
+    ghost use Rattle.term_core.specs.TermSize.{deep-height};
+
+    ghost size_decreases = { λ a h. Prim.omega (arith, deep-height a.node.value) };
+}
+
+/// What stands at the root of a term.
+#[derive(Clone, Copy)]
+pub enum View<'a> {
+    /// A domain value of a sort.
+    Value(SortId, &'a Value),
+    /// A constructor, and how many arguments it has.
+    Ctor(SymId, usize),
+    /// An injection, by the sort that it comes from and the sort that it goes to; its term is child 0.
+    Inj(SortId, SortId),
+}
+
+impl Term {
+    /// The domain value of a sort.
+    pub fn value(alloc: Global, sort: SortId, value: Value) -> Result<Term, AllocError>
+        ensures { IfOk result (λ t. t ≡ leaf sort.0 (value_of value)) }
+    {
+        let node = Rc::new(alloc, Node::Leaf(sort, value))?;
+        Ok(Term { high: 1, node })
+    }
+
+    /// A constructor applied to terms.
+    pub fn ctor(alloc: Global, sym: SymId, args: Vec<Term>) -> Result<Term, AllocError>
+        requires { heights (forest args.items) < MAX_HEIGHT }
+        ensures { IfOk result (λ t. t ≡ node sym.0 (forest args.items)) }
+    {
+        let high = Term::highest(&args) + 1;
+        let node = Rc::new(alloc, Node::Ctor(sym, args))?;
+        Ok(Term { high, node })
+    }
+
+    /// The injection of a term, which replaces an injection at the term's root.
+    pub fn inj(alloc: Global, from: SortId, to: SortId, child: &Term) -> Result<Term, AllocError>
+        requires { height (injected from.0 to.0 child.now) ≤ MAX_HEIGHT }
+        ensures injected { IfOk result (λ t. t ≡ injected from.0 to.0 child.now) }
+    {
+        match &*child.node {
+            Node::Inj(first, _, below) => {
+                let node = Rc::new(alloc, Node::Inj(*first, to, below.share()?))?;
+                Ok(Term {
+                    high: child.high,
+                    node,
+                })
+            }
+            _ => {
+                let node = Rc::new(alloc, Node::Inj(from, to, child.share()?))?;
+                Ok(Term {
+                    high: child.high + 1,
+                    node,
+                })
+            }
+        }
+    }
+
+    /// The same term, shared: it costs the same for every term.
+    pub fn share(&self) -> Result<Term, AllocError>
+        ensures same { IfOk result (λ t. t ≡ self.now) }
+    {
+        let node = self.node.clone()?;
+        Ok(Term {
+            high: self.high,
+            node,
+        })
+    }
+
+    /// The height: 1 for a value and for a constructor with no argument, else one more than the greatest of a child.
+    pub fn height(&self) -> u32
+        ensures value { result ≡ height self.now }
+        ensures bound { result ≤ MAX_HEIGHT }
+        ensures normal { IsNormal self.now }
+    {
+        self.high
+    }
+
+    /// The greatest height of some terms, 0 where there is none.
+    pub fn highest(args: &[Term]) -> u32
+        ensures value { result ≡ heights (forest args.now) }
+        ensures bound { result ≤ MAX_HEIGHT }
+        ensures normal { AreNormal (forest args.now) }
+    {
+        let mut highest: u32 = 0;
+        for arg in args {
+            highest = highest.max(arg.height());
+        }
+        highest
+    }
+
+    /// A child: an argument of a constructor, or the term of an injection.
+    pub fn child(&self, i: usize) -> &Term
+        requires { i < length (children self.now) }
+        ensures { slice_get (children self.now) i ≡ Some result.now }
+    {
+        match &*self.node {
+            Node::Ctor(_, args) => &args[i],
+            Node::Inj(_, _, below) => below,
+            Node::Leaf(..) => unreachable!(),
+        }
+    }
+
+    /// What stands at the root. It takes one step.
+    pub fn view<L: Ledger>(&self, steps: &mut Steps<L>) -> View<'_>
+        ensures shows { Shows self.now result }
+        ensures step { steps.new ≡ steps.old + 1 }
+    {
+        steps.tick();
+        match &*self.node {
+            Node::Leaf(sort, value) => View::Value(*sort, value),
+            Node::Ctor(sym, args) => View::Ctor(*sym, args.len()),
+            Node::Inj(from, to, _) => View::Inj(*from, *to),
+        }
+    }
+}
