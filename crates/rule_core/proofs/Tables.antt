@@ -1,4 +1,4 @@
-use Rattle.std.proofs.Common.{◌≡◌, ℕ, ◌+◌, List, [], ◌∷◌, ◌++◌, length, Bool, true, false, cond, is_some, Option, Some, None, refl, sym, ◌∙◌, ap, ◌≢◌, arith, add-zero}
+use Rattle.std.proofs.Common.{◌≡◌, ℕ, ◌+◌, List, [], ◌∷◌, ◌++◌, length, Bool, true, false, cond, is_some, Option, Some, None, refl, sym, slice_get, suc, ◌∙◌, ap, ◌≢◌, arith, add-zero}
 use Rattle.std.specs.List.{position_from}
 use Rattle.std.specs.Str.{bytes_eq}
 use Rattle.std.proofs.lemmas.Bool.{false≢true}
@@ -64,3 +64,21 @@ differ (e ∷ es) i k v had absent =
 
 pub AreDistinct-push : {V : Type 0} (es : List (List ℕ × V)) (k : List ℕ) (v : V) → AreDistinct (names_of es) → is_some (number_of es k) ≡ false → AreDistinct (names_of (es ++ (k, v) ∷ []))
 AreDistinct-push es k v had absent = rw map-append (differ es 0 k v had (none_is _ absent))
+
+found_at : {V : Type 0} (e : List ℕ × V) (es : List (List ℕ × V)) (i : ℕ) (k : List ℕ) (j : ℕ) (b : Bool) → bytes_eq k e.0 ≡ b → cond b (Some i) (position_from (λ (e' : List ℕ × V). bytes_eq k e'.0) (i + 1) es) ≡ Some j
+  → (position_from (λ (e' : List ℕ × V). bytes_eq k e'.0) (i + 1) es ≡ Some j → (n : ℕ) × ((j ≡ i + 1 + n) × ((v : V) × (slice_get es n ≡ Some (k, v))))) → (n : ℕ) × ((j ≡ i + n) × ((v : V) × (slice_get (e ∷ es) n ≡ Some (k, v))))
+found_at e es i k j true eb h further =
+    let same : i ≡ j = cc in
+    let name : k ≡ e.0 = (bytes_eq-Decides k e.0).0 eb in
+    (0, (omega arith, (e.1, ap (λ n. Some (n, e.1)) (sym name))))
+found_at e es i k j false eb h further = let p = further h in (suc p.0, (omega (arith, p.1.0), p.1.1))
+
+found : {V : Type 0} (es : List (List ℕ × V)) (i : ℕ) (k : List ℕ) (j : ℕ) → position_from (λ (e : List ℕ × V). bytes_eq k e.0) i es ≡ Some j → (n : ℕ) × ((j ≡ i + n) × ((v : V) × (slice_get es n ≡ Some (k, v))))
+found [] i k j h = absurd (let z : ⊥ = cc in z)
+found (e ∷ es) i k j h = found_at e es i k j (bytes_eq k e.0) refl h (found es (i + 1) k j)
+
+-- the entry with the number of a name is under that name
+pub number_of-entry : {V : Type 0} (es : List (List ℕ × V)) (k : List ℕ) (i : ℕ) → number_of es k ≡ Some i → (v : V) × (slice_get es i ≡ Some (k, v))
+number_of-entry es k i h = let p = found es 0 k i h in
+    let same : i ≡ p.0 = omega (arith, p.1.0) in
+    (p.1.1.0, ap (λ n. slice_get es n) same ∙ p.1.1.1)

@@ -6,6 +6,6 @@ mod rules;
 mod signature;
 mod table;
 
-pub use rules::{Rule, VarInfo};
+pub use rules::{Outcome, Program, Rule, VarInfo};
 pub use signature::{Signature, SortInfo, SortKind, SortRef, SymInfo, SymKind};
 pub use table::Table;

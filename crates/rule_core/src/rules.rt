@@ -1,4 +1,5 @@
-// Rewrite rules.
+// Rewrite rules, programs and how a run ends.
+use crate::Signature;
 use term_core::{RulePat, SortId};
 
 /// A variable of a rule: its name, and the sort of what it stands for.
@@ -17,4 +18,22 @@ pub struct Rule {
     pub right: RulePat,
     pub vars: Vec<VarInfo>,
     pub priority: u32,
+}
+
+/// An accepted definition. The rules stand in the order of trial, and all rewrite terms of the sort
+/// `top`, which is given where there is a rule.
+#[derive(Drop)]
+pub struct Program {
+    pub sig: Signature,
+    pub top: Option<SortId>,
+    pub rules: Vec<Rule>,
+}
+
+/// How a run ends, and after how many steps.
+#[derive(Clone, Copy, PartialEq, Eq, Debug)]
+pub enum Outcome {
+    /// No rule applies to the last configuration.
+    Stuck(u32),
+    /// The limit of steps is reached, and no rule was tried.
+    Limit(u32),
 }

@@ -1,0 +1,5 @@
+pub mod TreesOfForms
+pub mod Denoting
+pub mod Pairings
+pub mod Declared
+pub mod WordsOfCases

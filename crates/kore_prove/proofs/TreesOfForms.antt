@@ -1,0 +1,23 @@
+-- The tree of a pattern, by its form.
+use Rattle.std.proofs.Common.{◌≡◌, ℕ, List, map, ◌∙◌, ap, sym}
+use Rattle.std.specs.Global.{Vec}
+use Rattle.kore_ast.specs.Trees.{PatternTree, symbol_applied, connected, sort_trees, pattern_trees}
+use Rattle.kore_ast.specs.Plain.{plain_sort, plain_pattern, pattern_form_step, pattern_step}
+use Rattle.kore_ast.specs.declared.tree.Op.{Op}
+use Rattle.kore_ast.specs.declared.tree.Sort.{Sort}
+use Rattle.kore_ast.specs.declared.tree.Pat.{Pat}
+use Rattle.kore_ast.specs.declared.tree.PatForm.TheOpen as layer
+use Rattle.kore_ast.specs.declared.tree.PatForm.TheVariants.{App, Built, rolls-App, rolls-Built}
+use Rattle.kore_ast.specs.declared.tree.PatForm.TheFolds.{fold-PatForm, fold-roll-Pat, fold-roll-PatForm}
+
+pub plain-App : (at : ℕ) (name : List ℕ) (ss : Vec Sort) (ps : Vec Pat)
+  → plain_pattern (record { at = at; form = App name ss ps }) ≡ symbol_applied at name (sort_trees (map plain_sort ss.items)) (pattern_trees (map plain_pattern ps.items))
+plain-App at name ss ps =
+    fold-roll-Pat (ℕ → PatternTree) PatternTree pattern_form_step pattern_step (record { at = at; form = App name ss ps })
+    ∙ ap (λ (g : ℕ → PatternTree). g at) (ap (fold-PatForm (ℕ → PatternTree) PatternTree pattern_form_step pattern_step) (sym (rolls-App name ss ps)) ∙ fold-roll-PatForm (ℕ → PatternTree) PatternTree pattern_form_step pattern_step (layer.App name ss ps))
+
+pub plain-Built : (at : ℕ) (op : Op) (ss : Vec Sort) (ps : Vec Pat)
+  → plain_pattern (record { at = at; form = Built op ss ps }) ≡ connected at op (sort_trees (map plain_sort ss.items)) (pattern_trees (map plain_pattern ps.items))
+plain-Built at op ss ps =
+    fold-roll-Pat (ℕ → PatternTree) PatternTree pattern_form_step pattern_step (record { at = at; form = Built op ss ps })
+    ∙ ap (λ (g : ℕ → PatternTree). g at) (ap (fold-PatForm (ℕ → PatternTree) PatternTree pattern_form_step pattern_step) (sym (rolls-Built op ss ps)) ∙ fold-roll-PatForm (ℕ → PatternTree) PatternTree pattern_form_step pattern_step (layer.Built op ss ps))

@@ -1,0 +1,168 @@
+-- Which definitions and terms are accepted, and what they mean (Kore language document, "Modules and declarations").
+use Rattle.std.specs.Prelude.{◌≡◌, ℕ, List, [], ◌∷◌, All, slice_get, Option, Some, None, codes, ◌⊎◌, false}
+use Rattle.std.specs.List.{filter_map}
+use Rattle.term_core.specs.declared.ids.SortId.{SortId}
+use Rattle.term_core.specs.Patterns.{Pattern, Patterns, application, no_pattern, more_patterns}
+use Rattle.kore_ast.specs.Trees.{SortTree, sort_applied, no_sorts, sort_trees}
+use Rattle.kore_ast.specs.Trees.{PatternTree, PatternTrees, element_variable, set_variable, string, symbol_applied, connected, binding, domain_value, folded, no_patterns, pattern_then, pattern_trees}
+use Rattle.kore_ast.specs.Trees.{SortDeclaration, SymbolDeclaration, AxiomDeclaration, Declaration, import_declaration, sort_declaration, symbol_declaration, alias_declaration, axiom_declaration, claim_declaration, ModuleTree, DefinitionTree}
+use Rattle.kore_ast.specs.declared.tree.Op.TheVariants.{And, Top, Rewrites}
+use Rattle.rule_core.specs.Named.{number_of, names_of, AreDistinct}
+use Rattle.rule_core.specs.Rules.{RewriteRule}
+use Rattle.rule_core.specs.declared.signature.Signature.{Signature}
+use Rattle.rule_core.specs.declared.signature.SortInfo.{SortInfo}
+use Rattle.rule_core.specs.declared.signature.SymInfo.{SymInfo}
+use Rattle.rule_core.specs.declared.signature.SortRef.{SortRef}
+use Rattle.rule_core.specs.declared.signature.SortRef.TheVariants.{Sort}
+use Rattle.rule_core.specs.declared.signature.SortKind.TheVariants.{Other}
+use Rattle.rule_core.specs.declared.signature.SymKind.TheVariants.{Ctor}
+
+-- the items of two lists stand in a relation, each with the one at its place
+abbrev pub Each : {A B : Type 0} → (A → B → Type 0) → List A → List B → Type 0
+Each R [] [] = Unit {0}
+Each R [] (y ∷ ys) = ⊥
+Each R (x ∷ xs) [] = ⊥
+Each R (x ∷ xs) (y ∷ ys) = R x y × Each R xs ys
+
+-- a declared sort without arguments, by its number
+pub record NamesSort (sorts : List (List ℕ × SortInfo)) (tree : SortTree) (sort : ℕ) : Type 0 where
+  pub at : ℕ
+  pub name : List ℕ
+  pub spelled : tree ≡ sort_applied at name no_sorts
+  pub declared : number_of sorts name ≡ Some sort
+
+-- the symbol takes no arguments and makes this sort
+abbrev pub IsConstantOf : SymInfo → SortId → Type 0
+IsConstantOf info sort = (info.args.items ≡ []) × (info.result ≡ Sort sort)
+
+-- The pattern of the text means this pattern, of this sort: each symbol is declared, and has no sort arguments and
+-- as many arguments as its declaration says, each of the sort that stands there.
+abbrev mutual
+  pub Denotes : Signature → PatternTree → Pattern → ℕ → Type 0
+  Denotes sig (element_variable at name s) p sort = ⊥
+  Denotes sig (set_variable at name s) p sort = ⊥
+  Denotes sig (string at text) p sort = ⊥
+  Denotes sig (symbol_applied at name sorts args) p sort =
+      (f : ℕ) × (info : SymInfo) × (ps : Patterns) × (sorts ≡ no_sorts) × (number_of sig.symbols name ≡ Some f) × (slice_get sig.symbols f ≡ Some (name, info)) × (info.result ≡ Sort (record { 0 = sort }))
+      × (p ≡ application f ps) × AllDenote sig args ps info.args.items
+  Denotes sig (connected at op sorts args) p sort = ⊥
+  Denotes sig (binding at binder sorts variable body) p sort = ⊥
+  Denotes sig (domain_value at s text place) p sort = ⊥
+  Denotes sig (folded at left q) p sort = ⊥
+
+  pub AllDenote : Signature → PatternTrees → Patterns → List SortRef → Type 0
+  AllDenote sig no_patterns ps sorts = (ps ≡ no_pattern) × (sorts ≡ [])
+  AllDenote sig (pattern_then a rest) ps sorts =
+      (q : Pattern) × (qs : Patterns) × (s : ℕ) × (ss : List SortRef) × (ps ≡ more_patterns q qs) × (sorts ≡ Sort (record { 0 = s }) ∷ ss) × Denotes sig a q s × AllDenote sig rest qs ss
+
+-- what a declaration declares, where it declares that
+abbrev pub sort_declared : Declaration → Option SortDeclaration
+sort_declared (import_declaration d) = None
+sort_declared (sort_declaration d) = Some d
+sort_declared (symbol_declaration d) = None
+sort_declared (alias_declaration d) = None
+sort_declared (axiom_declaration d) = None
+sort_declared (claim_declaration d) = None
+
+abbrev pub symbol_declared : Declaration → Option SymbolDeclaration
+symbol_declared (import_declaration d) = None
+symbol_declared (sort_declaration d) = None
+symbol_declared (symbol_declaration d) = Some d
+symbol_declared (alias_declaration d) = None
+symbol_declared (axiom_declaration d) = None
+symbol_declared (claim_declaration d) = None
+
+abbrev pub axiom_declared : Declaration → Option AxiomDeclaration
+axiom_declared (import_declaration d) = None
+axiom_declared (sort_declaration d) = None
+axiom_declared (symbol_declaration d) = None
+axiom_declared (alias_declaration d) = None
+axiom_declared (axiom_declaration d) = Some d
+axiom_declared (claim_declaration d) = None
+
+-- sorts, symbols and axioms are accepted, other declarations are not yet
+abbrev pub IsBuilt : Declaration → Type 0
+IsBuilt (import_declaration d) = ⊥
+IsBuilt (sort_declaration d) = Unit {0}
+IsBuilt (symbol_declaration d) = Unit {0}
+IsBuilt (alias_declaration d) = ⊥
+IsBuilt (axiom_declaration d) = Unit {0}
+IsBuilt (claim_declaration d) = ⊥
+
+-- `sort S{} []`
+pub record IsSortEntry (d : SortDeclaration) (entry : List ℕ × SortInfo) : Type 0 where
+  pub hooked : d.hooked ≡ false
+  pub params : d.params ≡ []
+  pub attributes : d.attributes ≡ []
+  pub name : entry.0 ≡ d.name
+  pub kind : entry.1.kind ≡ Other
+
+-- the attributes are `[constructor{}()]`
+abbrev pub IsConstructorAlone : List PatternTree → Type 0
+IsConstructorAlone attributes =
+    (at : ℕ) × (attributes ≡ symbol_applied at (codes "constructor") no_sorts no_patterns ∷ [])
+
+-- `symbol f{}() : S{} [constructor{}()]`
+pub record IsSymbolEntry (sorts : List (List ℕ × SortInfo)) (d : SymbolDeclaration) (entry : List ℕ × SymInfo) : Type 0 where
+  pub hooked : d.hooked ≡ false
+  pub params : d.params ≡ []
+  pub args : d.args ≡ []
+  pub attributes : IsConstructorAlone d.attributes
+  pub name : entry.0 ≡ d.name
+  pub kind : entry.1.kind ≡ Ctor
+  pub arity : entry.1.args.items ≡ []
+  pub sort : ℕ
+  pub names : NamesSort sorts d.result sort
+  pub result : entry.1.result ≡ Sort (record { 0 = sort })
+
+-- the pattern is `\and{S}(q,\top{S}())`
+pub record IsSide (sorts : List (List ℕ × SortInfo)) (tree : PatternTree) (sort : ℕ) (q : PatternTree) : Type 0 where
+  pub at : ℕ
+  pub top_at : ℕ
+  pub outer : SortTree
+  pub inner : SortTree
+  pub spelled : tree ≡ connected at And (sort_trees (outer ∷ [])) (pattern_trees (q ∷ connected top_at Top (sort_trees (inner ∷ [])) no_patterns ∷ []))
+  pub outer_names : NamesSort sorts outer sort
+  pub inner_names : NamesSort sorts inner sort
+
+-- `axiom{} \rewrites{S}(\and{S}(l,\top{S}()),\and{S}(r,\top{S}())) []` with the rules' sort S
+pub record IsRuleOf (sig : Signature) (top : Option ℕ) (axiom_of : AxiomDeclaration) (rule : RewriteRule) : Type 0 where
+  pub at : ℕ
+  pub whole : SortTree
+  pub before : PatternTree
+  pub after : PatternTree
+  pub l : PatternTree
+  pub r : PatternTree
+  pub sort : ℕ
+  pub params : axiom_of.params ≡ []
+  pub attributes : axiom_of.attributes ≡ []
+  pub spelled : axiom_of.pattern ≡ connected at Rewrites (sort_trees (whole ∷ [])) (pattern_trees (before ∷ after ∷ []))
+  pub names : NamesSort sig.sorts whole sort
+  pub left_side : IsSide sig.sorts before sort l
+  pub right_side : IsSide sig.sorts after sort r
+  pub left : Denotes sig l rule.left sort
+  pub right : Denotes sig r rule.right sort
+  pub variables : rule.variables ≡ 0
+  pub priority : rule.priority ≡ 50
+  pub place : rule.place ≡ axiom_of.at
+  pub same_sort : top ≡ Some sort
+
+-- The definition has one module, whose declarations are accepted; it has this signature and, in the order of the file,
+-- these rules, all of the one sort `top`.
+pub record IsAccepted (definition : DefinitionTree) (sig : Signature) (top : Option ℕ) (rules : List RewriteRule) : Type 0 where
+  pub main : ModuleTree
+  pub only_module : definition.modules ≡ main ∷ []
+  pub attributes : definition.attributes ≡ []
+  pub main_attributes : main.attributes ≡ []
+  pub built : All IsBuilt main.declarations
+  pub sorts : Each IsSortEntry (filter_map sort_declared main.declarations) sig.sorts
+  pub sorts_differ : AreDistinct (names_of sig.sorts)
+  pub symbols : Each (IsSymbolEntry sig.sorts) (filter_map symbol_declared main.declarations) sig.symbols
+  pub symbols_differ : AreDistinct (names_of sig.symbols)
+  pub rules_are : Each (IsRuleOf sig top) (filter_map axiom_declared main.declarations) rules
+
+-- the term is a pattern of the rules' sort, or of any sort where there is no rule
+pub record IsAcceptedTerm (sig : Signature) (top : Option ℕ) (tree : PatternTree) (start : Pattern) : Type 0 where
+  pub sort : ℕ
+  pub means : Denotes sig tree start sort
+  pub fits : (top ≡ None) ⊎ (top ≡ Some sort)

@@ -1,0 +1,14 @@
+-- The rewrite rules of a program of the code, without memory.
+use Rattle.std.specs.Prelude.{◌≡◌, ℕ, List, map, vec_len}
+use Rattle.term_core.specs.RulePatterns.{plain_pattern}
+use Rattle.rule_core.specs.Rules.{RewriteRule}
+use Rattle.rule_core.specs.declared.rules.Rule.{Rule}
+
+abbrev pub rewrite_rule : Rule → RewriteRule
+rewrite_rule r = record {
+  left = plain_pattern r.left;
+  right = plain_pattern r.right;
+  variables = vec_len r.vars;
+  priority = r.priority;
+  place = r.at;
+}
