@@ -3,12 +3,27 @@ ghost use Rattle.std.specs.Prelude.{◌≡◌, ◌+◌, ◌-◌, ◌^◌, ◌≤
 ghost use Rattle.std.specs.List.{list_any};
 ghost use Rattle.desk_io.specs.Counts.{Rose};
 
+use crate::desk::DeskFault;
+use std::io::{self, ErrorKind};
+
 /// One more than `count`, which stands still at its last value.
 pub fn raised(count: u64) -> u64
     ensures rose { Rose count result }
     ensures counts { count ≤ result }
 {
     count.saturating_add(1)
+}
+
+/// The fault that an error of the system is. Each is counted, but for want of memory.
+pub fn counted(error: &io::Error, faults: &mut u64) -> DeskFault
+    ensures failed { result ≡ DeskFault.Failed → Rose faults.old faults.new }
+    ensures counts { faults.old ≤ faults.new }
+{
+    if error.kind() == ErrorKind::OutOfMemory {
+        return DeskFault::Memory;
+    }
+    *faults = raised(*faults);
+    DeskFault::Failed
 }
 
 /// Which calls of a desk or a sink in memory fail: those whose numbers, from 0, are listed.

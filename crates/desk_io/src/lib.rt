@@ -15,10 +15,14 @@ mod faults;
 mod mem_desk;
 mod mem_sink;
 mod read;
+mod real_desk;
+mod real_sink;
 mod sink;
 
 pub use desk::{Desk, DeskFault};
 pub use mem_desk::MemDesk;
 pub use mem_sink::MemSink;
 pub use read::{ReadEnd, read_file};
+pub use real_desk::RealDesk;
+pub use real_sink::RealSink;
 pub use sink::{Sink, send_whole};
