@@ -26,3 +26,6 @@ pub use read::{ReadEnd, read_file};
 pub use real_desk::RealDesk;
 pub use real_sink::RealSink;
 pub use sink::{Sink, send_whole};
+
+#[cfg(test)]
+mod tests;

@@ -1,8 +1,8 @@
 // A desk in memory.
-ghost use Rattle.std.specs.Prelude.{◌≡◌, ◌<◌, ◌≤◌, [], length, take, map, min, vec_len, string_bytes, option_copied, nat_eq};
-ghost use Rattle.std.specs.List.{IsDistinct, position};
+ghost use Rattle.std.specs.Prelude.{◌≡◌, ◌<◌, ◌≤◌, [], length, take, min, vec_len, string_bytes, option_copied, nat_eq};
+ghost use Rattle.std.specs.List.{position};
 ghost use Rattle.std.specs.Cmp.Lexicographic.{pointwise};
-ghost use Rattle.desk_io.specs.Told.{file_of};
+ghost use Rattle.desk_io.specs.Told.{file_of, NamesDiffer};
 ghost use Rattle.desk_io.specs.Memory.{named_bytes, content_of, passed_of, files_needed};
 
 use crate::desk::{Desk, DeskFault};
@@ -35,7 +35,7 @@ impl MemDesk {
     /// A desk with these files, none of them open. A call of `read` passes at most `most` bytes. The
     /// calls whose numbers, from 0, are in `fail_at` fail; the numbers stop at 2^64 - 1.
     pub fn new(files: Vec<(String, Vec<u8>)>, most: usize, fail_at: Vec<u64>) -> MemDesk
-        requires names { IsDistinct (pointwise nat_eq) (map (λ f. f.0) (named_bytes files.items)) }
+        requires names { NamesDiffer (named_bytes files.items) }
         requires some { 0 < most }
         ensures files { files_of result ≡ named_bytes files.items }
         ensures unread { unread_of result ≡ [] }

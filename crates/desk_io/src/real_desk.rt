@@ -57,8 +57,5 @@ impl<R: Files> Desk for RealDesk<R> {
 
 /// Whether there is no such file: the name leads nowhere, or through something that is no folder.
 fn is_missing(error: &io::Error) -> bool {
-    matches!(
-        error.kind(),
-        ErrorKind::NotFound | ErrorKind::NotADirectory
-    )
+    matches!(error.kind(), ErrorKind::NotFound | ErrorKind::NotADirectory)
 }
