@@ -1,3 +1,4 @@
 pub mod Counts
+pub mod Memory
 pub mod Sent
 pub mod Told

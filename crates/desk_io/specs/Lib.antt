@@ -1,4 +1,7 @@
 pub mod Counts
 pub mod End
+pub mod MemDesk
+pub mod MemSink
+pub mod Memory
 pub mod Sent
 pub mod Told

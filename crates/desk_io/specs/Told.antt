@@ -15,6 +15,11 @@ abbrev pub file_of : List (List ℕ × List ℕ) → List ℕ → Option (List �
 file_of [] name = None
 file_of (file ∷ files) name = if pointwise nat_eq file.0 name then Some file.1 else file_of files name
 
+-- no two files have one name
+abbrev pub NamesDiffer : List (List ℕ × List ℕ) → Type 0
+NamesDiffer [] = Unit {0}
+NamesDiffer (file ∷ files) = (file_of files file.0 ≡ None) × NamesDiffer files
+
 -- it tells the same as before
 abbrev pub Same : Option Told → Option Told → Type 0
 Same None new = Unit {0}

@@ -1,0 +1,54 @@
+// Counts of faults, and faults that are asked for.
+ghost use Rattle.std.specs.Prelude.{◌≡◌, ◌+◌, ◌-◌, ◌^◌, ◌≤◌, ◌↔◌, min, IsTrue, nat_eq};
+ghost use Rattle.std.specs.List.{list_any};
+ghost use Rattle.desk_io.specs.Counts.{Rose};
+
+use crate::desk::DeskFault;
+use std::io::{self, ErrorKind};
+
+/// One more than `count`, which stands still at its last value.
+pub fn raised(count: u64) -> u64
+    ensures rose { Rose count result }
+    ensures counts { count ≤ result }
+{
+    count.saturating_add(1)
+}
+
+/// The fault that an error of the system is. Each is counted, but for want of memory.
+pub fn counted(error: &io::Error, faults: &mut u64) -> DeskFault
+    ensures failed { result ≡ DeskFault.Failed → Rose faults.old faults.new }
+    ensures counts { faults.old ≤ faults.new }
+{
+    if error.kind() == ErrorKind::OutOfMemory {
+        return DeskFault::Memory;
+    }
+    *faults = raised(*faults);
+    DeskFault::Failed
+}
+
+/// Which calls of a desk or a sink in memory fail: those whose numbers, from 0, are listed.
+#[derive(Drop)]
+pub struct FaultPlan {
+    fail_at: Vec<u64>,
+    calls: u64,
+}
+
+impl FaultPlan {
+    pub fn new(fail_at: Vec<u64>) -> FaultPlan
+        ensures plan { result.fail_at ≡ fail_at }
+        ensures calls { result.calls ≡ 0 }
+    {
+        FaultPlan { fail_at, calls: 0 }
+    }
+
+    /// Counts a call, and answers whether it is to fail.
+    pub fn is_to_fail(&mut self) -> bool
+        ensures fails { result ≡ list_any (λ call. nat_eq call self.old.calls) self.old.fail_at.items }
+        ensures calls { self.new.calls ≡ min (self.old.calls + 1) (2 ^ 64 - 1) }
+        ensures plan { self.new.fail_at ≡ self.old.fail_at }
+    {
+        let fails = self.fail_at.contains(&self.calls);
+        self.calls = self.calls.saturating_add(1);
+        fails
+    }
+}
