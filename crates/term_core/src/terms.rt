@@ -164,4 +164,54 @@ impl Term {
             Node::Inj(from, to, _) => View::Inj(*from, *to),
         }
     }
+
+    /// Whether both are the same term. It costs the size of the smaller one at most.
+    #[cycle(same)]
+    pub fn same(&self, other: &Term) -> bool
+        ensures { IsTrue result ↔ (self.now ≡ other.now) }
+    {
+        if self.high != other.high {
+            return false;
+        }
+        match (&*self.node, &*other.node) {
+            (Node::Leaf(sort, value), Node::Leaf(other_sort, other_value)) => {
+                sort == other_sort && value.same(other_value)
+            }
+            (Node::Ctor(sym, args), Node::Ctor(other_sym, other_args)) => {
+                sym == other_sym && all_same(args, other_args)
+            }
+            (Node::Inj(from, to, below), Node::Inj(other_from, other_to, other_below)) => {
+                from == other_from && to == other_to && below.same(other_below)
+            }
+            _ => false,
+        }
+    }
+
+    /// Whether the term is the injection of `child` from `from` to `to`.
+    pub fn same_inj(&self, from: SortId, to: SortId, child: &Term) -> bool
+        ensures { IsTrue result ↔ (self.now ≡ inj from.0 to.0 child.now) }
+    {
+        match &*self.node {
+            Node::Inj(own_from, own_to, below) => *own_from == from
+                && *own_to == to
+                && below.same(child),
+            _ => false,
+        }
+    }
+}
+
+// Whether both have the same terms in the same order.
+#[cycle(same)]
+fn all_same(xs: &[Term], ys: &[Term]) -> bool
+    ensures { IsTrue result ↔ (xs.now ≡ ys.now) }
+{
+    if xs.len() != ys.len() {
+        return false;
+    }
+    for i in 0..xs.len() {
+        if !xs[i].same(&ys[i]) {
+            return false;
+        }
+    }
+    true
 }
