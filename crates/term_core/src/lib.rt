@@ -2,12 +2,14 @@
 #![tactic(auto)]
 
 mod ids;
+mod instances;
 mod rule_patterns;
 mod steps;
 mod terms;
 mod values;
 
 pub use ids::{HookNo, SortId, SymId};
+pub use instances::is_instance;
 pub use rule_patterns::RulePat;
 pub use steps::Steps;
 pub use terms::{MAX_HEIGHT, Term, View};

@@ -1,0 +1,101 @@
+-- What a pattern becomes, taken apart.
+use Rattle.std.proofs.Common.{◌≡◌, ℕ, ◌+◌, ◌<◌, ◌≤◌, ◌≢◌, ◌↔◌, ◌⊎◌, zero, suc, max, List, [], ◌∷◌, length, get_or, slice_get, drop, Option, Some, None, refl, sym, ◌∙◌, ap, ⊎_elim, arith}
+use Rattle.std.specs.Prelude.{option_map, Bool, false, IsTrue}
+use Rattle.std.proofs.lemmas.Bool.{false≢true}
+use Rattle.std.proofs.lemmas.List.{drop_more}
+use Rattle.std.proofs.lemmas.Option.{get_or_from_slice_get, slice_get_within}
+use Rattle.term_core.specs.Terms.{Tree, leaf, node, inj, Forest, no_tree, more_trees, forest, children, IsNoInjection}
+use Rattle.term_core.specs.Patterns.{Pattern, variable, domain_value, application, injection, call, Patterns, no_pattern, more_patterns, with_first, instance_of, instances_of}
+use Rattle.term_core.specs.RulePatterns.{plain_pattern, plain_patterns}
+use Rattle.term_core.specs.declared.rule_patterns.RulePat.{RulePat}
+
+-- how deep a pattern is
+abbrev mutual
+  pub depth : Pattern → ℕ
+  depth (variable x) = 1
+  depth (domain_value s v) = 1
+  depth (application f ps) = depths ps + 1
+  depth (injection a b p) = depth p + 1
+  depth (call f ss ps) = depths ps + 1
+
+  pub depths : Patterns → ℕ
+  depths no_pattern = 0
+  depths (more_patterns p ps) = max (depth p) (depths ps)
+
+-- a forest is there where its first tree and the others are
+pub with_first_some : (o : Option Tree) (os : Option Forest) (t : Tree) (ts : Forest) → (with_first o os ≡ Some (more_trees t ts)) ↔ ((o ≡ Some t) × (os ≡ Some ts))
+with_first_some None os t ts = (λ e. let no : ⊥ = cc in absurd no, λ e. let p : None ≡ Some t = e.0 in cc)
+with_first_some (Some u) None t ts = (λ e. let no : ⊥ = cc in absurd no, λ e. let p : None ≡ Some ts = e.1 in cc)
+with_first_some (Some u) (Some us) t ts = (λ e. (cc, cc), λ e. let p : Some u ≡ Some t = e.0 in let q : Some us ≡ Some ts = e.1 in cc)
+
+-- a constructor is there where its arguments are
+pub node_some : (f g : ℕ) (os : Option Forest) (ts : Forest) → (option_map (node f) os ≡ Some (node g ts)) ↔ ((f ≡ g) × (os ≡ Some ts))
+node_some f g None ts = (λ e. let no : ⊥ = cc in absurd no, λ e. let p : None ≡ Some ts = e.1 in cc)
+node_some f g (Some us) ts = (λ e. (cc, cc), λ e. let p : f ≡ g = e.0 in let q : Some us ≡ Some ts = e.1 in cc)
+
+-- the pattern is no injection
+abbrev pub IsOtherPattern : Pattern → Type 0
+IsOtherPattern (variable x) = Unit {0}
+IsOtherPattern (domain_value s v) = Unit {0}
+IsOtherPattern (application f ps) = Unit {0}
+IsOtherPattern (injection a b p) = ⊥
+IsOtherPattern (call f ss ps) = Unit {0}
+
+-- With no variable bound, a pattern that is no injection becomes no injection.
+pub other_instance : (p : Pattern) (t : Tree) → IsOtherPattern p → instance_of [] p ≡ Some t → IsNoInjection t
+other_instance (variable x) t other e = let no : ⊥ = cc in absurd no
+other_instance (domain_value s v) (leaf s' v') other e = tt
+other_instance (domain_value s v) (node f ts) other e = tt
+other_instance (domain_value s v) (inj a b t) other e = let no : ⊥ = cc in absurd no
+other_instance (application f ps) t other e = other_node f (instances_of [] ps) t e where
+  other_node : (f : ℕ) (os : Option Forest) (t : Tree) → option_map (node f) os ≡ Some t → IsNoInjection t
+  other_node f None t e = let no : ⊥ = cc in absurd no
+  other_node f (Some us) (leaf s v) e = tt
+  other_node f (Some us) (node g ts) e = tt
+  other_node f (Some us) (inj a b t) e = let no : ⊥ = cc in absurd no
+other_instance (injection a b p) t other e = absurd other
+other_instance (call f ss ps) t other e = let no : ⊥ = cc in absurd no
+
+-- no pattern is deeper than the deepest
+pub depth_of-item : (ps : List RulePat) (i : ℕ) (p : RulePat) → p ≡ get_or ps i p → i < length ps → depth (plain_pattern p) ≤ depths (plain_patterns ps)
+depth_of-item [] i p e lt = absurd (omega arith)
+depth_of-item (q ∷ ps) zero p e lt =
+    let same : depth (plain_pattern p) ≡ depth (plain_pattern q) = ap (λ (r : RulePat). depth (plain_pattern r)) e in
+    omega arith
+depth_of-item (q ∷ ps) (suc i) p e lt = omega (arith, depth_of-item ps i p e (omega arith))
+
+-- as many trees as patterns
+pub length-instances : (theta : List (Option Tree)) (ps : List RulePat) (ts : List Tree) → instances_of theta (plain_patterns ps) ≡ Some (forest ts) → length ps ≡ length ts
+length-instances theta [] [] e = refl
+length-instances theta [] (t ∷ ts) e = let no : ⊥ = cc in absurd no
+length-instances theta (p ∷ ps) [] e = absurd (not_none (instance_of theta (plain_pattern p)) (instances_of theta (plain_patterns ps)) e) where
+  not_none : (o : Option Tree) (os : Option Forest) → with_first o os ≡ Some no_tree → ⊥
+  not_none None os e = cc
+  not_none (Some u) None e = cc
+  not_none (Some u) (Some us) e = cc
+length-instances theta (p ∷ ps) (t ∷ ts) e =
+    let parts : (instance_of theta (plain_pattern p) ≡ Some t) × (instances_of theta (plain_patterns ps) ≡ Some (forest ts)) =
+    (with_first_some (instance_of theta (plain_pattern p)) (instances_of theta (plain_patterns ps)) t (forest ts)).0 e in
+    ap suc (length-instances theta ps ts parts.1)
+
+-- What patterns from i on become is what the one at i becomes, and what the others do.
+pub rest_more : (theta : List (Option Tree)) (ps : List RulePat) (ts : List Tree) (i : ℕ) (p : RulePat) (t : Tree) → p ≡ get_or ps i p → i < length ps → slice_get ts i ≡ Some t → (instances_of theta (plain_patterns (drop i ps)) ≡ Some (forest (drop i ts))) ↔ ((instance_of theta (plain_pattern p) ≡ Some t) × (instances_of theta (plain_patterns (drop (i + 1) ps)) ≡ Some (forest (drop (i + 1) ts))))
+rest_more theta ps ts i p t e lt item =
+    let front : drop i ps ≡ p ∷ drop (i + 1) ps = drop_more ps i p lt ∙ ap (λ (q : RulePat). q ∷ drop (i + 1) ps) (sym e) in
+    let within : i < length ts = slice_get_within ts i t item in
+    let front_tree : drop i ts ≡ t ∷ drop (i + 1) ts =
+    drop_more ts i t within ∙ ap (λ (u : Tree). u ∷ drop (i + 1) ts) (get_or_from_slice_get ts i t t item) in
+    rw (front, front_tree) (with_first_some (instance_of theta (plain_pattern p)) (instances_of theta (plain_patterns (drop (i + 1) ps))) t (forest (drop (i + 1) ts)))
+
+-- a constructor becomes no term with another symbol or another number of arguments
+pub other_constructor : (theta : List (Option Tree)) (p : Pattern) (f g : ℕ) (ps : List RulePat) (t : Tree) → p ≡ application f (plain_patterns ps) → t ≡ node g (forest (children t)) → (f ≢ g) ⊎ (length ps ≢ length (children t)) → instance_of theta p ≡ Some t → ⊥
+other_constructor theta p f g ps t is root other e =
+    let both : option_map (node f) (instances_of theta (plain_patterns ps)) ≡ Some (node g (forest (children t))) =
+    sym (ap (instance_of theta) is) ∙ e ∙ ap (λ (u : Tree). Some u) root in
+    let parts : (f ≡ g) × (instances_of theta (plain_patterns ps) ≡ Some (forest (children t))) =
+    (node_some f g (instances_of theta (plain_patterns ps)) (forest (children t))).0 both in
+    ⊎_elim (λ (ne : f ≢ g). ne parts.0) (λ (ne : length ps ≢ length (children t)). ne (length-instances theta ps (children t) parts.1)) other
+
+-- an answer of false, where the fact does not hold
+pub refused : (b : Bool) (P : Type 0) → b ≡ false → (P → ⊥) → IsTrue b ↔ P
+refused b P e wrong = rw e (λ no. absurd (false≢true no), λ p. absurd (wrong p))
