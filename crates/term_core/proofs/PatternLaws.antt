@@ -1,12 +1,13 @@
 -- What a pattern becomes, taken apart.
-use Rattle.std.proofs.Common.{◌≡◌, ℕ, ◌+◌, ◌<◌, ◌≤◌, ◌≢◌, ◌↔◌, ◌⊎◌, zero, suc, max, List, [], ◌∷◌, length, get_or, slice_get, drop, Option, Some, None, refl, sym, ◌∙◌, ap, ⊎_elim, arith}
+use Rattle.std.proofs.Common.{◌≡◌, ℕ, ◌+◌, ◌<◌, ◌≤◌, ◌≢◌, ◌↔◌, ◌⊎◌, zero, suc, max, List, [], ◌∷◌, length, get_or, slice_get, drop, set, replicate, Option, Some, None, refl, sym, ◌∙◌, ap, ⊎_elim, arith}
 use Rattle.std.specs.Prelude.{option_map, Bool, false, IsTrue}
 use Rattle.std.proofs.lemmas.Bool.{false≢true}
 use Rattle.std.proofs.lemmas.List.{drop_more}
 use Rattle.std.proofs.lemmas.Option.{get_or_from_slice_get, slice_get_within}
-use Rattle.term_core.specs.Terms.{Tree, leaf, node, inj, Forest, no_tree, more_trees, forest, children, IsNoInjection}
-use Rattle.term_core.specs.Patterns.{Pattern, variable, domain_value, application, injection, call, Patterns, no_pattern, more_patterns, with_first, instance_of, instances_of}
+use Rattle.term_core.specs.Terms.{Tree, leaf, node, inj, Forest, no_tree, more_trees, forest, trees, children, height, heights, IsNoInjection, IsNormal, AreNormal, injected, norm, norms}
+use Rattle.term_core.specs.Patterns.{Pattern, variable, domain_value, application, injection, call, Patterns, no_pattern, more_patterns, patterns, binding, AreNormalBindings, with_first, substituted, all_substituted, instance_of, instances_of, IsGround, AreGround, ground_pattern, ground_patterns}
 use Rattle.term_core.specs.RulePatterns.{plain_pattern, plain_patterns}
+use Rattle.term_core.proofs.Forests.{norm-normal, injected-other}
 use Rattle.term_core.specs.declared.rule_patterns.RulePat.{RulePat}
 
 -- how deep a pattern is
@@ -99,3 +100,76 @@ other_constructor theta p f g ps t is root other e =
 -- an answer of false, where the fact does not hold
 pub refused : (b : Bool) (P : Type 0) → b ≡ false → (P → ⊥) → IsTrue b ↔ P
 refused b P e wrong = rw e (λ no. absurd (false≢true no), λ p. absurd (wrong p))
+
+-- a substitution with no variable bound has normal terms alone
+pub AreNormalBindings-replicate : (n : ℕ) → AreNormalBindings (replicate n None)
+AreNormalBindings-replicate zero = tt
+AreNormalBindings-replicate (suc n) = AreNormalBindings-replicate n
+
+pub AreNormalBindings-set : (theta : List (Option Tree)) (x : ℕ) (t : Tree) → AreNormalBindings theta → IsNormal t → AreNormalBindings (set theta x (Some t))
+AreNormalBindings-set [] x t ns n = tt
+AreNormalBindings-set (None ∷ theta) zero t ns n = (n, ns)
+AreNormalBindings-set (Some u ∷ theta) zero t ns n = (n, ns.1)
+AreNormalBindings-set (None ∷ theta) (suc x) t ns n = AreNormalBindings-set theta x t ns n
+AreNormalBindings-set (Some u ∷ theta) (suc x) t ns n = (ns.0, AreNormalBindings-set theta x t ns.1 n)
+
+pub IsNormal-binding : (theta : List (Option Tree)) (x : ℕ) (t : Tree) → AreNormalBindings theta → binding theta x ≡ Some t → IsNormal t
+IsNormal-binding [] x t ns e = let no : ⊥ = cc in absurd no
+IsNormal-binding (None ∷ theta) zero t ns e = let no : ⊥ = cc in absurd no
+IsNormal-binding (Some u ∷ theta) zero t ns e = let same : t ≡ u = cc in rw same ns.0
+IsNormal-binding (None ∷ theta) (suc x) t ns e = IsNormal-binding theta x t ns e
+IsNormal-binding (Some u ∷ theta) (suc x) t ns e = IsNormal-binding theta x t ns.1 e
+
+-- the normal forms of trees, the first one apart
+norms-with_first : (o : Option Tree) (os : Option Forest) → option_map norms (with_first o os) ≡ with_first (option_map norm o) (option_map norms os)
+norms-with_first None os = refl
+norms-with_first (Some t) None = refl
+norms-with_first (Some t) (Some ts) = refl
+
+norm-node : (f : ℕ) (os : Option Forest) → option_map norm (option_map (node f) os) ≡ option_map (node f) (option_map norms os)
+norm-node f None = refl
+norm-node f (Some ts) = refl
+
+norm-inj : (a b : ℕ) (o : Option Tree) → option_map norm (option_map (inj a b) o) ≡ option_map (injected a b) (option_map norm o)
+norm-inj a b None = refl
+norm-inj a b (Some t) = refl
+
+norm-binding : (theta : List (Option Tree)) (x : ℕ) (o : Option Tree) → AreNormalBindings theta → binding theta x ≡ o → option_map norm o ≡ o
+norm-binding theta x None ns e = refl
+norm-binding theta x (Some t) ns e = ap (λ (u : Tree). Some u) (norm-normal t (IsNormal-binding theta x t ns e))
+
+-- Under normal terms, the instance is the normal form of the pattern with the terms in their places.
+mutual
+  pub norm-substituted : (theta : List (Option Tree)) (p : Pattern) → AreNormalBindings theta → option_map norm (substituted theta p) ≡ instance_of theta p
+  norm-substituted theta (variable x) ns = norm-binding theta x (binding theta x) ns refl
+  norm-substituted theta (domain_value s v) ns = refl
+  norm-substituted theta (application f ps) ns =
+      norm-node f (all_substituted theta ps) ∙ ap (option_map (node f)) (norms-all_substituted theta ps ns)
+  norm-substituted theta (injection a b p) ns =
+      norm-inj a b (substituted theta p) ∙ ap (option_map (injected a b)) (norm-substituted theta p ns)
+  norm-substituted theta (call f ss ps) ns = refl
+  pub norms-all_substituted : (theta : List (Option Tree)) (ps : Patterns) → AreNormalBindings theta → option_map norms (all_substituted theta ps) ≡ instances_of theta ps
+  norms-all_substituted theta no_pattern ns = refl
+  norms-all_substituted theta (more_patterns p ps) ns =
+      norms-with_first (substituted theta p) (all_substituted theta ps) ∙ (ap (λ (o : Option Tree). with_first o (option_map norms (all_substituted theta ps))) (norm-substituted theta p ns) ∙ ap (with_first (instance_of theta p)) (norms-all_substituted theta ps ns))
+
+-- The pattern that stands for one term is ground and becomes that term, if the term is normal.
+mutual
+  pub instance_of-ground_pattern : (theta : List (Option Tree)) (t : Tree) → IsNormal t → instance_of theta (ground_pattern t) ≡ Some t
+  instance_of-ground_pattern theta (leaf s v) n = refl
+  instance_of-ground_pattern theta (node f ts) n = ap (option_map (node f)) (instances_of-ground_patterns theta ts n)
+  instance_of-ground_pattern theta (inj a b t) n =
+      ap (option_map (injected a b)) (instance_of-ground_pattern theta t n.1) ∙ ap (λ (u : Tree). Some u) (injected-other a b t n.0)
+  pub instances_of-ground_patterns : (theta : List (Option Tree)) (ts : Forest) → AreNormal ts → instances_of theta (ground_patterns ts) ≡ Some ts
+  instances_of-ground_patterns theta no_tree n = refl
+  instances_of-ground_patterns theta (more_trees t ts) n =
+      (with_first_some (instance_of theta (ground_pattern t)) (instances_of theta (ground_patterns ts)) t ts).1 (instance_of-ground_pattern theta t n.0, instances_of-ground_patterns theta ts n.1)
+
+mutual
+  pub IsGround-ground_pattern : (t : Tree) → IsGround (ground_pattern t)
+  IsGround-ground_pattern (leaf s v) = tt
+  IsGround-ground_pattern (node f ts) = AreGround-ground_patterns ts
+  IsGround-ground_pattern (inj a b t) = IsGround-ground_pattern t
+  pub AreGround-ground_patterns : (ts : Forest) → AreGround (ground_patterns ts)
+  AreGround-ground_patterns no_tree = tt
+  AreGround-ground_patterns (more_trees t ts) = (IsGround-ground_pattern t, AreGround-ground_patterns ts)

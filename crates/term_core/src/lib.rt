@@ -5,6 +5,7 @@ mod ids;
 mod instances;
 mod rule_patterns;
 mod steps;
+mod subst;
 mod terms;
 mod values;
 
@@ -12,5 +13,6 @@ pub use ids::{HookNo, SortId, SymId};
 pub use instances::is_instance;
 pub use rule_patterns::RulePat;
 pub use steps::Steps;
+pub use subst::Subst;
 pub use terms::{MAX_HEIGHT, Term, View};
 pub use values::{NoValue, Scalar, Value};

@@ -1,5 +1,5 @@
 // Ground terms. A term is a tree that is shared, not copied, and is always normal: no injection stands right below another.
-ghost use Rattle.std.specs.Prelude.{◌≡◌, ◌+◌, ◌<◌, ◌≤◌, ◌↔◌, length, slice_get, IfOk, IsTrue};
+ghost use Rattle.std.specs.Prelude.{ℕ, ◌≡◌, ◌+◌, ◌<◌, ◌≤◌, ◌↔◌, length, slice_get, IfOk, IsTrue};
 ghost use Rattle.term_core.specs.Terms.{leaf, node, inj, forest, children, height, heights, injected, norm, IsNormal, AreNormal};
 ghost use Rattle.term_core.specs.Values.{value_of};
 ghost use Rattle.term_core.specs.Heads.{Shows};
@@ -110,6 +110,7 @@ impl Term {
     /// The same term, shared: it costs the same for every term.
     pub fn share(&self) -> Result<Term, AllocError>
         ensures same { IfOk result (λ t. t ≡ self.now) }
+        ensures normal { IfOk result IsNormal }
     {
         let node = self.node.clone()?;
         Ok(Term {
@@ -125,6 +126,17 @@ impl Term {
         ensures normal { IsNormal self.now }
     {
         self.high
+    }
+
+    /// The height that an injection of this term has.
+    pub fn height_injected(&self) -> u32
+        ensures value { (a b : ℕ) → height (injected a b self.now) ≡ result }
+        ensures bound { result ≤ MAX_HEIGHT + 1 }
+    {
+        match &*self.node {
+            Node::Inj(..) => self.high,
+            _ => self.high + 1,
+        }
     }
 
     /// The greatest height of some terms, 0 where there is none.
@@ -158,6 +170,13 @@ impl Term {
         ensures step { steps.new ≡ steps.old + 1 }
     {
         steps.tick();
+        self.head()
+    }
+
+    // What stands at the root, where nobody counts.
+    pub(crate) fn head(&self) -> View<'_>
+        ensures { Shows self.now result }
+    {
         match &*self.node {
             Node::Leaf(sort, value) => View::Value(*sort, value),
             Node::Ctor(sym, args) => View::Ctor(*sym, args.len()),
