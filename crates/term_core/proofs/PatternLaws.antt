@@ -1,13 +1,13 @@
 -- What a pattern becomes, taken apart.
 use Rattle.std.proofs.Common.{◌≡◌, ℕ, ◌+◌, ◌<◌, ◌≤◌, ◌≢◌, ◌↔◌, ◌⊎◌, zero, suc, max, List, [], ◌∷◌, length, get_or, slice_get, drop, set, replicate, Option, Some, None, refl, sym, ◌∙◌, ap, ⊎_elim, arith}
-use Rattle.std.specs.Prelude.{option_map, Bool, false, IsTrue}
+use Rattle.std.specs.Prelude.{option_map, IsSomeAnd, Bool, false, IsTrue}
 use Rattle.std.proofs.lemmas.Bool.{false≢true}
 use Rattle.std.proofs.lemmas.List.{drop_more}
 use Rattle.std.proofs.lemmas.Option.{get_or_from_slice_get, slice_get_within}
-use Rattle.term_core.specs.Terms.{Tree, leaf, node, inj, Forest, no_tree, more_trees, forest, trees, children, height, heights, IsNoInjection, IsNormal, AreNormal, injected, norm, norms}
-use Rattle.term_core.specs.Patterns.{Pattern, variable, domain_value, application, injection, call, Patterns, no_pattern, more_patterns, patterns, binding, AreNormalBindings, with_first, substituted, all_substituted, instance_of, instances_of, IsGround, AreGround, ground_pattern, ground_patterns}
+use Rattle.term_core.specs.Terms.{Tree, leaf, node, inj, Forest, no_tree, more_trees, forest, children, height, heights, IsNoInjection, IsNormal, AreNormal, injected, norm, norms}
+use Rattle.term_core.specs.Patterns.{Pattern, variable, domain_value, application, injection, call, Patterns, no_pattern, more_patterns, binding, AreNormalBindings, with_first, substituted, all_substituted, instance_of, instances_of, FitsWithin, AllFitWithin, IsGround, AreGround, ground_pattern, ground_patterns}
 use Rattle.term_core.specs.RulePatterns.{plain_pattern, plain_patterns}
-use Rattle.term_core.proofs.Forests.{norm-normal, injected-other}
+use Rattle.term_core.proofs.Forests.{injected-injected, norm-normal, injected-other}
 use Rattle.term_core.specs.declared.rule_patterns.RulePat.{RulePat}
 
 -- how deep a pattern is
@@ -148,6 +148,7 @@ mutual
   norm-substituted theta (injection a b p) ns =
       norm-inj a b (substituted theta p) ∙ ap (option_map (injected a b)) (norm-substituted theta p ns)
   norm-substituted theta (call f ss ps) ns = refl
+
   pub norms-all_substituted : (theta : List (Option Tree)) (ps : Patterns) → AreNormalBindings theta → option_map norms (all_substituted theta ps) ≡ instances_of theta ps
   norms-all_substituted theta no_pattern ns = refl
   norms-all_substituted theta (more_patterns p ps) ns =
@@ -160,6 +161,7 @@ mutual
   instance_of-ground_pattern theta (node f ts) n = ap (option_map (node f)) (instances_of-ground_patterns theta ts n)
   instance_of-ground_pattern theta (inj a b t) n =
       ap (option_map (injected a b)) (instance_of-ground_pattern theta t n.1) ∙ ap (λ (u : Tree). Some u) (injected-other a b t n.0)
+
   pub instances_of-ground_patterns : (theta : List (Option Tree)) (ts : Forest) → AreNormal ts → instances_of theta (ground_patterns ts) ≡ Some ts
   instances_of-ground_patterns theta no_tree n = refl
   instances_of-ground_patterns theta (more_trees t ts) n =
@@ -170,6 +172,33 @@ mutual
   IsGround-ground_pattern (leaf s v) = tt
   IsGround-ground_pattern (node f ts) = AreGround-ground_patterns ts
   IsGround-ground_pattern (inj a b t) = IsGround-ground_pattern t
+
   pub AreGround-ground_patterns : (ts : Forest) → AreGround (ground_patterns ts)
   AreGround-ground_patterns no_tree = tt
   AreGround-ground_patterns (more_trees t ts) = (IsGround-ground_pattern t, AreGround-ground_patterns ts)
+
+-- Trees fit where the first one and the others do.
+with_first_fits : (n : ℕ) (o : Option Tree) (os : Option Forest) → IsSomeAnd (with_first o os) (λ (ts : Forest). heights ts ≤ n) ↔ (IsSomeAnd o (λ (t : Tree). height t ≤ n) × IsSomeAnd os (λ (ts : Forest). heights ts ≤ n))
+with_first_fits n None os = (λ h. absurd h, λ h. absurd h.0)
+with_first_fits n (Some t) None = (λ h. absurd h, λ h. absurd h.1)
+with_first_fits n (Some t) (Some ts) =
+    (λ h. (omega arith, omega arith), λ h. let a : height t ≤ n = h.0 in let b : heights ts ≤ n = h.1 in omega arith)
+
+-- Patterns from i on fit where the one at i and the others do.
+pub rest_fits : (n : ℕ) (theta : List (Option Tree)) (ps : List RulePat) (i : ℕ) (p : RulePat) → p ≡ get_or ps i p → i < length ps → AllFitWithin n theta (plain_patterns (drop i ps)) ↔ (FitsWithin n theta (plain_pattern p) × AllFitWithin n theta (plain_patterns (drop (i + 1) ps)))
+rest_fits n theta ps i p e lt =
+    let front : drop i ps ≡ p ∷ drop (i + 1) ps = drop_more ps i p lt ∙ ap (λ (q : RulePat). q ∷ drop (i + 1) ps) (sym e) in
+    rw front (with_first_fits n (instance_of theta (plain_pattern p)) (instances_of theta (plain_patterns (drop (i + 1) ps))))
+
+-- two injections in a row become one
+pub instance_of-injections : (theta : List (Option Tree)) (a b c d : ℕ) (p : Pattern) → instance_of theta (injection a b (injection c d p)) ≡ instance_of theta (injection c b p)
+instance_of-injections theta a b c d p = joined (instance_of theta p) where
+  joined : (o : Option Tree) → option_map (injected a b) (option_map (injected c d) o) ≡ option_map (injected c b) o
+  joined None = refl
+  joined (Some t) = ap (λ (u : Tree). Some u) (injected-injected a b c d t)
+
+-- the trees of the patterns from i on: that of the one at i, and those of the others
+pub rest_built : (theta : List (Option Tree)) (ps : List RulePat) (i : ℕ) (p : RulePat) (t : Tree) (ts : Forest) → p ≡ get_or ps i p → i < length ps → instance_of theta (plain_pattern p) ≡ Some t → instances_of theta (plain_patterns (drop (i + 1) ps)) ≡ Some ts → instances_of theta (plain_patterns (drop i ps)) ≡ Some (more_trees t ts)
+rest_built theta ps i p t ts e lt first others =
+    let front : drop i ps ≡ p ∷ drop (i + 1) ps = drop_more ps i p lt ∙ ap (λ (q : RulePat). q ∷ drop (i + 1) ps) (sym e) in
+    rw front ((with_first_some (instance_of theta (plain_pattern p)) (instances_of theta (plain_patterns (drop (i + 1) ps))) t ts).1 (first, others))

@@ -10,7 +10,7 @@ mod terms;
 mod values;
 
 pub use ids::{HookNo, SortId, SymId};
-pub use instances::is_instance;
+pub use instances::{fits_within, instance, is_instance};
 pub use rule_patterns::RulePat;
 pub use steps::Steps;
 pub use subst::Subst;

@@ -2,10 +2,9 @@
 ghost use Rattle.std.specs.Prelude.{◌≡◌, ◌<◌, length, replicate, slice_set, option_copied, IfOk, Some, None};
 ghost use Rattle.term_core.specs.Patterns.{binding, AreNormalBindings};
 
+use crate::terms::Term;
 use std::alloc::{AllocError, Global};
 use std::marker::Model;
-
-use crate::terms::Term;
 
 /// What stands for each variable of a rule, where something does. Contracts see it as a list, by the variables' numbers.
 #[derive(Drop)]
