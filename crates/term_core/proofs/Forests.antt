@@ -1,5 +1,5 @@
 -- Forests and lists of trees are one thing; heights and normal forms of a forest's trees.
-use Rattle.std.proofs.Common.{◌≡◌, ℕ, ◌<◌, ◌≤◌, zero, suc, max, List, [], ◌∷◌, ◌++◌, length, slice_get, Some, get_or, refl, sym, ◌∙◌, ap, arith}
+use Rattle.std.proofs.Common.{◌≡◌, ℕ, ◌<◌, ◌≤◌, zero, suc, max, List, [], ◌∷◌, ◌++◌, length, slice_get, ◌↔◌, Some, get_or, refl, sym, ◌∙◌, ap, arith}
 use Rattle.std.proofs.lemmas.Option.{slice_get_read}
 use Rattle.term_core.specs.Terms.{Tree, leaf, node, inj, Forest, no_tree, more_trees, forest, trees, children, height, heights, IsNoInjection, IsNormal, AreNormal, injected, norm, norms}
 
@@ -14,6 +14,13 @@ forest-trees (more_trees t ts) = ap (more_trees t) (forest-trees ts)
 -- lists with the same forest are the same
 pub forest_injective : (ts us : List Tree) → forest ts ≡ forest us → ts ≡ us
 forest_injective ts us e = sym (trees-forest ts) ∙ ap trees e ∙ trees-forest us
+
+-- constructors with the same symbol are the same where their lists of arguments are
+pub same_node : (P : Type 0) (t u : Tree) (f g : ℕ) (ts us : List Tree) → t ≡ node f (forest ts) → u ≡ node g (forest us) → f ≡ g → P ↔ (ts ≡ us) → P ↔ (t ≡ u)
+same_node P t u f g ts us e h fg same = (
+  λ p. let q : ts ≡ us = same.0 p in cc,
+  λ tu. let q : forest ts ≡ forest us = cc in same.1 (forest_injective ts us q),
+)
 
 -- the children of a constructor over a list
 pub children-node : (t : Tree) (f : ℕ) (ts : List Tree) → t ≡ node f (forest ts) → children t ≡ ts

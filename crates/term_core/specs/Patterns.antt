@@ -1,7 +1,7 @@
 -- Patterns of rules (Kore language document, "Patterns"): terms with variables and calls of functions. Variables are
 -- numbers too; a substitution is the list of what stands for them, by number, where something does.
-use Rattle.std.specs.Prelude.{ℕ, List, [], ◌∷◌, Option, Some, None, option_map, slice_index_or}
-use Rattle.term_core.specs.Terms.{DomainValue, Tree, leaf, node, inj, Forest, no_tree, more_trees, injected}
+use Rattle.std.specs.Prelude.{ℕ, List, [], ◌∷◌, Option, Some, None, option_map, slice_index_or, IsSomeAnd, ◌≤◌}
+use Rattle.term_core.specs.Terms.{DomainValue, Tree, leaf, node, inj, Forest, no_tree, more_trees, height, heights, IsNormal, injected}
 
 -- `call` has the symbol of a function, the sorts that it is applied at, and its arguments.
 mutual
@@ -24,6 +24,12 @@ patterns (p ∷ ps) = more_patterns p (patterns ps)
 -- what a substitution gives a variable
 abbrev pub binding : List (Option Tree) → ℕ → Option Tree
 binding theta x = slice_index_or theta x None
+
+-- each term of a substitution is normal
+abbrev pub AreNormalBindings : List (Option Tree) → Type 0
+AreNormalBindings [] = Unit {0}
+AreNormalBindings (None ∷ theta) = AreNormalBindings theta
+AreNormalBindings (Some t ∷ theta) = IsNormal t × AreNormalBindings theta
 
 -- a tree in front of trees, where both are there
 abbrev pub with_first : Option Tree → Option Forest → Option Forest
@@ -58,6 +64,14 @@ abbrev mutual
   pub instances_of : List (Option Tree) → Patterns → Option Forest
   instances_of theta no_pattern = Some no_tree
   instances_of theta (more_patterns p ps) = with_first (instance_of theta p) (instances_of theta ps)
+
+-- There is an instance, and its height is at most n.
+abbrev pub FitsWithin : ℕ → List (Option Tree) → Pattern → Type 0
+FitsWithin n theta p = IsSomeAnd (instance_of theta p) (λ (t : Tree). height t ≤ n)
+
+-- the same of each of some patterns
+abbrev pub AllFitWithin : ℕ → List (Option Tree) → Patterns → Type 0
+AllFitWithin n theta ps = IsSomeAnd (instances_of theta ps) (λ (ts : Forest). heights ts ≤ n)
 
 -- no variable stands in it and no function is called
 abbrev mutual

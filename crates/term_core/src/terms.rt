@@ -1,5 +1,5 @@
 // Ground terms. A term is a tree that is shared, not copied, and is always normal: no injection stands right below another.
-ghost use Rattle.std.specs.Prelude.{◌≡◌, ◌+◌, ◌<◌, ◌≤◌, ◌↔◌, length, slice_get, IfOk, IsTrue};
+ghost use Rattle.std.specs.Prelude.{ℕ, ◌≡◌, ◌+◌, ◌<◌, ◌≤◌, ◌↔◌, length, slice_get, IfOk, IsTrue};
 ghost use Rattle.term_core.specs.Terms.{leaf, node, inj, forest, children, height, heights, injected, norm, IsNormal, AreNormal};
 ghost use Rattle.term_core.specs.Values.{value_of};
 ghost use Rattle.term_core.specs.Heads.{Shows};
@@ -110,6 +110,7 @@ impl Term {
     /// The same term, shared: it costs the same for every term.
     pub fn share(&self) -> Result<Term, AllocError>
         ensures same { IfOk result (λ t. t ≡ self.now) }
+        ensures normal { IfOk result IsNormal }
     {
         let node = self.node.clone()?;
         Ok(Term {
@@ -125,6 +126,17 @@ impl Term {
         ensures normal { IsNormal self.now }
     {
         self.high
+    }
+
+    /// The height that an injection of this term has.
+    pub fn height_injected(&self) -> u32
+        ensures value { (a b : ℕ) → height (injected a b self.now) ≡ result }
+        ensures bound { result ≤ MAX_HEIGHT + 1 }
+    {
+        match &*self.node {
+            Node::Inj(..) => self.high,
+            _ => self.high + 1,
+        }
     }
 
     /// The greatest height of some terms, 0 where there is none.
@@ -158,10 +170,67 @@ impl Term {
         ensures step { steps.new ≡ steps.old + 1 }
     {
         steps.tick();
+        self.head()
+    }
+
+    // What stands at the root, where nobody counts.
+    pub(crate) fn head(&self) -> View<'_>
+        ensures { Shows self.now result }
+    {
         match &*self.node {
             Node::Leaf(sort, value) => View::Value(*sort, value),
             Node::Ctor(sym, args) => View::Ctor(*sym, args.len()),
             Node::Inj(from, to, _) => View::Inj(*from, *to),
         }
     }
+
+    /// Whether both are the same term. It costs the size of the smaller one at most.
+    #[cycle(same)]
+    pub fn same(&self, other: &Term) -> bool
+        ensures { IsTrue result ↔ (self.now ≡ other.now) }
+    {
+        if self.high != other.high {
+            return false;
+        }
+        match (&*self.node, &*other.node) {
+            (Node::Leaf(sort, value), Node::Leaf(other_sort, other_value)) => {
+                sort == other_sort && value.same(other_value)
+            }
+            (Node::Ctor(sym, args), Node::Ctor(other_sym, other_args)) => {
+                sym == other_sym && all_same(args, other_args)
+            }
+            (Node::Inj(from, to, below), Node::Inj(other_from, other_to, other_below)) => {
+                from == other_from && to == other_to && below.same(other_below)
+            }
+            _ => false,
+        }
+    }
+
+    /// Whether the term is the injection of `child` from `from` to `to`.
+    pub fn same_inj(&self, from: SortId, to: SortId, child: &Term) -> bool
+        ensures { IsTrue result ↔ (self.now ≡ inj from.0 to.0 child.now) }
+    {
+        match &*self.node {
+            Node::Inj(own_from, own_to, below) => *own_from == from
+                && *own_to == to
+                && below.same(child),
+            _ => false,
+        }
+    }
+}
+
+// Whether both have the same terms in the same order.
+#[cycle(same)]
+fn all_same(xs: &[Term], ys: &[Term]) -> bool
+    ensures { IsTrue result ↔ (xs.now ≡ ys.now) }
+{
+    if xs.len() != ys.len() {
+        return false;
+    }
+    for i in 0..xs.len() {
+        if !xs[i].same(&ys[i]) {
+            return false;
+        }
+    }
+    true
 }

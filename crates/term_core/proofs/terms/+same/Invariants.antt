@@ -1,0 +1,12 @@
+use Rattle.std.proofs.Common.{◌≡◌, ◌+◌, ◌*◌, take}
+use Rattle.term_core.specs.Terms.{height, heights, forest}
+use Rattle.term_core.proofs.terms.+same.Given as goal
+
+abbrev pub decreases-Term::same : goal.decreases-Term::same
+decreases-Term::same l = 2 * height l.self.now
+
+abbrev pub decreases-all_same : goal.decreases-all_same
+decreases-all_same l = 2 * heights (forest l.xs.now) + 1
+
+abbrev pub invariant-all_same-loop-i : goal.invariant-all_same-loop-i
+invariant-all_same-loop-i l = take l.i l.xs ≡ take l.i l.ys

@@ -1,0 +1,70 @@
+// Substitutions.
+ghost use Rattle.std.specs.Prelude.{◌≡◌, ◌<◌, length, replicate, slice_set, option_copied, IfOk, Some, None};
+ghost use Rattle.term_core.specs.Patterns.{binding, AreNormalBindings};
+
+use crate::terms::Term;
+use std::alloc::{AllocError, Global};
+use std::marker::Model;
+
+/// What stands for each variable of a rule, where something does. Contracts see it as a list, by the variables' numbers.
+#[derive(Drop)]
+pub struct Subst {
+    slots: Vec<Option<Term>>,
+}
+
+impl Model for Subst {
+    ghost use Rattle.std.specs.Prelude.{List, Option};
+    ghost use Rattle.std.specs.Coded.{coded_list, coded_option};
+    ghost use Rattle.term_core.specs.Terms.{Tree};
+    ghost use Rattle.term_core.specs.TermCode.{tree_code};
+    ghost use Rattle.term_core.specs.Patterns.{AreNormalBindings};
+
+    ghost Value = { List (Option Tree) };
+
+    ghost coded = { coded_list (coded_option tree_code) };
+
+    ghost view = { λ s. s.slots.items };
+
+    ghost invariant = { λ s. AreNormalBindings s.slots.items };
+}
+
+impl Subst {
+    /// A substitution for so many variables, none of which is bound.
+    pub fn new(alloc: Global, vars: usize) -> Result<Subst, AllocError>
+        ensures { IfOk result (λ s. s ≡ replicate vars None) }
+    {
+        let mut slots = Vec::with_capacity(alloc, vars)?;
+        for _ in 0..vars {
+            slots.push(None)?;
+        }
+        Ok(Subst { slots })
+    }
+
+    /// For how many variables it was made. Every term in it is normal.
+    pub fn vars(&self) -> usize
+        ensures value { result ≡ length self.now }
+        ensures normal { AreNormalBindings self.now }
+    {
+        self.slots.len()
+    }
+
+    /// Lets a variable stand for a term, in place of what it stood for.
+    pub fn bind(&mut self, var: u32, term: Term)
+        requires { var < length self.old }
+        ensures { self.new ≡ slice_set self.old var (Some term) }
+    {
+        // Each term is normal, and so the substitution stays so.
+        let _high = term.height();
+        self.slots[var as usize] = Some(term);
+    }
+
+    /// What the variable stands for: none exactly where it is not bound.
+    pub fn get(&self, var: u32) -> Option<&Term>
+        ensures { option_copied result ≡ binding self.now var }
+    {
+        match self.slots.get(var as usize) {
+            Some(Some(term)) => Some(term),
+            _ => None,
+        }
+    }
+}
