@@ -1,5 +1,5 @@
 -- Which definitions and terms are accepted, and what they mean (Kore language document, "Modules and declarations").
-use Rattle.std.specs.Prelude.{◌≡◌, ℕ, List, [], ◌∷◌, All, slice_get, Option, Some, None, codes, ◌⊎◌, false}
+use Rattle.std.specs.Prelude.{◌≡◌, ℕ, List, [], ◌∷◌, All, slice_get, Option, Some, None, option_map, codes, ◌⊎◌, false}
 use Rattle.std.specs.List.{filter_map}
 use Rattle.term_core.specs.declared.ids.SortId.{SortId}
 use Rattle.term_core.specs.Patterns.{Pattern, Patterns, application, no_pattern, more_patterns}
@@ -115,37 +115,51 @@ pub record IsSymbolEntry (sorts : List (List ℕ × SortInfo)) (d : SymbolDeclar
   pub names : NamesSort sorts d.result sort
   pub result : entry.1.result ≡ Sort (record { 0 = sort })
 
+-- the pattern is `\top{S}()` with the sort of this number
+pub record IsTopOf (sorts : List (List ℕ × SortInfo)) (tree : PatternTree) (sort : ℕ) : Type 0 where
+  pub at : ℕ
+  pub of : SortTree
+  pub spelled : tree ≡ connected at Top (sort_trees (of ∷ [])) no_patterns
+  pub names : NamesSort sorts of sort
+
 -- the pattern is `\and{S}(q,\top{S}())`
 pub record IsSide (sorts : List (List ℕ × SortInfo)) (tree : PatternTree) (sort : ℕ) (q : PatternTree) : Type 0 where
   pub at : ℕ
-  pub top_at : ℕ
-  pub outer : SortTree
-  pub inner : SortTree
-  pub spelled : tree ≡ connected at And (sort_trees (outer ∷ [])) (pattern_trees (q ∷ connected top_at Top (sort_trees (inner ∷ [])) no_patterns ∷ []))
-  pub outer_names : NamesSort sorts outer sort
-  pub inner_names : NamesSort sorts inner sort
+  pub of : SortTree
+  pub condition : PatternTree
+  pub spelled : tree ≡ connected at And (sort_trees (of ∷ [])) (pattern_trees (q ∷ condition ∷ []))
+  pub names : NamesSort sorts of sort
+  pub no_condition : IsTopOf sorts condition sort
+
+-- the pattern is `\rewrites{S}(before,after)`
+pub record IsRewriting (sorts : List (List ℕ × SortInfo)) (tree : PatternTree) (sort : ℕ) (before after : PatternTree) : Type 0 where
+  pub at : ℕ
+  pub of : SortTree
+  pub spelled : tree ≡ connected at Rewrites (sort_trees (of ∷ [])) (pattern_trees (before ∷ after ∷ []))
+  pub names : NamesSort sorts of sort
 
 -- `axiom{} \rewrites{S}(\and{S}(l,\top{S}()),\and{S}(r,\top{S}())) []` with the rules' sort S
-pub record IsRuleOf (sig : Signature) (top : Option ℕ) (axiom_of : AxiomDeclaration) (rule : RewriteRule) : Type 0 where
-  pub at : ℕ
-  pub whole : SortTree
+pub record IsRuleOf (sig : Signature) (top : Option ℕ) (stated : AxiomDeclaration) (rule : RewriteRule) : Type 0 where
   pub before : PatternTree
   pub after : PatternTree
   pub l : PatternTree
   pub r : PatternTree
   pub sort : ℕ
-  pub params : axiom_of.params ≡ []
-  pub attributes : axiom_of.attributes ≡ []
-  pub spelled : axiom_of.pattern ≡ connected at Rewrites (sort_trees (whole ∷ [])) (pattern_trees (before ∷ after ∷ []))
-  pub names : NamesSort sig.sorts whole sort
+  pub params : stated.params ≡ []
+  pub attributes : stated.attributes ≡ []
+  pub rewriting : IsRewriting sig.sorts stated.pattern sort before after
   pub left_side : IsSide sig.sorts before sort l
   pub right_side : IsSide sig.sorts after sort r
   pub left : Denotes sig l rule.left sort
   pub right : Denotes sig r rule.right sort
   pub variables : rule.variables ≡ 0
   pub priority : rule.priority ≡ 50
-  pub place : rule.place ≡ axiom_of.at
+  pub place : rule.place ≡ stated.at
   pub same_sort : top ≡ Some sort
+
+-- the number of a sort, where one is given
+abbrev pub sort_number : Option SortId → Option ℕ
+sort_number sort = option_map (λ (s : SortId). s.0) sort
 
 -- The definition has one module, whose declarations are accepted; it has this signature and, in the order of the file,
 -- these rules, all of the one sort `top`.

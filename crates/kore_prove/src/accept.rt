@@ -2,16 +2,19 @@
 ghost use Rattle.std.specs.Prelude.{◌≡◌, ℕ, List, ◌++◌, ◌∷◌, [], IfOk, IfSome, map, codes};
 ghost use Rattle.std.specs.Bool.{OnTrue};
 ghost use Rattle.std.specs.List.{filter_map};
-ghost use Rattle.kore_ast.specs.Plain.{plain_declaration, plain_sort, plain_sort_decl, plain_symbol_decl, plain_pattern};
+ghost use Rattle.kore_ast.specs.Plain.{plain_declaration, plain_sort, plain_sort_decl, plain_symbol_decl, plain_axiom_decl, plain_pattern};
 ghost use Rattle.kore_ast.specs.Trees.{symbol_applied, no_sorts, no_patterns};
+ghost use Rattle.rule_core.specs.Rules.{RewriteRule};
 ghost use Rattle.rule_core.specs.declared.signature.SymKind.TheVariants.{Ctor};
 ghost use Rattle.term_core.specs.Patterns.{application, no_pattern};
-ghost use Rattle.kore_prove.specs.Acceptance.{Each, IsSortEntry, IsSymbolEntry, sort_declared, symbol_declared, IsConstructorAlone, IsConstantOf, NamesSort, Denotes};
+ghost use Rattle.kore_prove.specs.Acceptance.{Each, IsSortEntry, IsSymbolEntry, sort_declared, symbol_declared, IsConstructorAlone, IsConstantOf, NamesSort, Denotes, axiom_declared, sort_number, IsTopOf, IsSide, IsRewriting, IsRuleOf};
+ghost use Rattle.kore_prove.specs.ProgramView.{rewrite_rule};
+ghost use Rattle.kore_prove.specs.Constants.{IsSideConstant, RewritesConstants};
 
-use kore_ast::{Decl, Pat, PatForm, Sort, SortDecl, SortForm, SymbolDecl};
-use rule_core::{Signature, SortInfo, SortKind, SortRef, SymInfo, SymKind, Table};
+use kore_ast::{AxiomDecl, Decl, Op, Pat, PatForm, Sort, SortDecl, SortForm, SymbolDecl};
+use rule_core::{Rule, Signature, SortInfo, SortKind, SortRef, SymInfo, SymKind, Table};
 use std::alloc::{AllocError, Global};
-use term_core::{SortId, SymId};
+use term_core::{RulePat, SortId, SymId};
 
 /// Why a definition or a term was not accepted.
 #[derive(Clone, Copy, PartialEq, Eq, Debug)]
@@ -21,6 +24,9 @@ pub enum Refusal {
     /// Memory was wanting.
     Memory,
 }
+
+/// The priority of a rule that states none.
+const PRIORITY: u32 = 50;
 
 /// What is not built yet is refused by this number, at the first byte.
 const NOT_BUILT: Refusal = Refusal::Refused(90, 0);
@@ -164,6 +170,137 @@ fn is_constructor(attr: &Pat) -> bool
         PatForm::App(name, sorts, args) => {
             sorts.is_empty() && args.is_empty() && name.as_str() == "constructor"
         }
+        _ => false,
+    }
+}
+
+/// The sort of the first rule.
+fn first_rule_sort(sorts: &Table<SortInfo>, decls: &[Decl]) -> Option<SortId> {
+    for decl in decls {
+        if let Decl::Axiom(axiom) = decl {
+            return rewritten(sorts, &axiom.pat).map(|r| r.0);
+        }
+    }
+    None
+}
+
+/// The rules that the declarations declare, in the order of the file. All rewrite the sort `top`.
+fn declared_rules(
+    alloc: Global,
+    sig: &Signature,
+    top: Option<SortId>,
+    decls: &[Decl],
+) -> Result<Vec<Rule>, Refusal>
+    ensures { IfOk result (λ rules. Each (IsRuleOf sig.now (sort_number top)) (filter_map axiom_declared (map plain_declaration decls.now)) (map rewrite_rule rules.items)) }
+{
+    let mut rules = Vec::new(alloc);
+    for decl in decls {
+        if let Decl::Axiom(axiom) = decl {
+            push_rule(alloc, sig, top, axiom, &mut rules)?;
+        }
+    }
+    Ok(rules)
+}
+
+/// Adds the rule that an axiom states.
+fn push_rule(
+    alloc: Global,
+    sig: &Signature,
+    top: Option<SortId>,
+    axiom: &AxiomDecl,
+    rules: &mut Vec<Rule>,
+) -> Result<(), Refusal>
+    ensures { IfOk result (λ _. (rule : RewriteRule) × (map rewrite_rule rules.new.items ≡ map rewrite_rule rules.old.items ++ rule ∷ []) × IsRuleOf sig.now (sort_number top) (plain_axiom_decl axiom.now) rule) }
+{
+    let rule = rule_of(alloc, sig, top, axiom)?;
+    rules.push(rule).map_err(AllocError::from)?;
+    Ok(())
+}
+
+/// The rule that an axiom states.
+fn rule_of(
+    alloc: Global,
+    sig: &Signature,
+    top: Option<SortId>,
+    axiom: &AxiomDecl,
+) -> Result<Rule, Refusal>
+    ensures { IfOk result (λ rule. IsRuleOf sig.now (sort_number top) (plain_axiom_decl axiom.now) (rewrite_rule rule)) }
+{
+    if !axiom.params.is_empty() || !axiom.attrs.is_empty() {
+        return Err(NOT_BUILT);
+    }
+    let Some((sort, left, right)) = rule_sides(sig, &axiom.pat) else {
+        return Err(NOT_BUILT);
+    };
+    if top != Some(sort) {
+        return Err(NOT_BUILT);
+    }
+    Ok(Rule {
+        at: axiom.at,
+        left: RulePat::Ctor(left, Vec::new(alloc)),
+        right: RulePat::Ctor(right, Vec::new(alloc)),
+        vars: Vec::new(alloc),
+        priority: PRIORITY,
+    })
+}
+
+/// The sort of `\rewrites{S}(\and{S}(l,\top{S}()),\and{S}(r,\top{S}()))`, and the symbols l and r.
+fn rule_sides(sig: &Signature, pat: &Pat) -> Option<(SortId, SymId, SymId)>
+    ensures { IfSome result (λ r. RewritesConstants sig.now (plain_pattern pat.now) r.0.0 r.1.0 r.2.0) }
+{
+    let (sort, before, after) = rewritten(&sig.sorts, pat)?;
+    let left = side_constant(sig, before, sort)?;
+    let right = side_constant(sig, after, sort)?;
+    Some((sort, left, right))
+}
+
+/// The symbol l of `\and{S}(l,\top{S}())`, of the sort S.
+fn side_constant(sig: &Signature, pat: &Pat, sort: SortId) -> Option<SymId>
+    ensures { IfSome result (λ f. IsSideConstant sig.now (plain_pattern pat.now) sort.0 f.0) }
+{
+    let (symbol, of) = constant(sig, side(&sig.sorts, pat, sort)?)?;
+    if of == sort { Some(symbol) } else { None }
+}
+
+/// The sort and the sides of `\rewrites{S}(before,after)`.
+fn rewritten<'a>(sorts: &Table<SortInfo>, pat: &'a Pat) -> Option<(SortId, &'a Pat, &'a Pat)>
+    ensures { IfSome result (λ r. IsRewriting sorts.now (plain_pattern pat.now) r.0.0 (plain_pattern r.1.now) (plain_pattern r.2.now)) }
+{
+    let PatForm::Built(Op::Rewrites, names, args) = &pat.form else {
+        return None;
+    };
+    let ([sort], [before, after]) = (names.as_slice(), args.as_slice()) else {
+        return None;
+    };
+    Some((named_sort(sorts, sort)?, before, after))
+}
+
+/// The first argument of `\and{S}(q,\top{S}())` with this sort S.
+fn side<'a>(sorts: &Table<SortInfo>, pat: &'a Pat, sort: SortId) -> Option<&'a Pat>
+    ensures { IfSome result (λ q. IsSide sorts.now (plain_pattern pat.now) sort.0 (plain_pattern q.now)) }
+{
+    let PatForm::Built(Op::And, names, args) = &pat.form else {
+        return None;
+    };
+    let ([outer], [inside, top]) = (names.as_slice(), args.as_slice()) else {
+        return None;
+    };
+    if named_sort(sorts, outer)? == sort && is_top(sorts, top, sort) {
+        Some(inside)
+    } else {
+        None
+    }
+}
+
+/// Whether the pattern is `\top{S}()` with this sort S.
+fn is_top(sorts: &Table<SortInfo>, pat: &Pat, sort: SortId) -> bool
+    ensures { OnTrue result (IsTopOf sorts.now (plain_pattern pat.now) sort.0) }
+{
+    match &pat.form {
+        PatForm::Built(Op::Top, names, args) if args.is_empty() => match names.as_slice() {
+            [name] => named_sort(sorts, name) == Some(sort),
+            _ => false,
+        },
         _ => false,
     }
 }

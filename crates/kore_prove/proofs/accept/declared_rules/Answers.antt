@@ -1,0 +1,21 @@
+use Rattle.std.proofs.Common.{rules, arith, ◌<◌, length, ap, ◌∙◌, map}
+use Rattle.kore_ast.specs.Plain.{plain_declaration, plain_axiom_decl}
+use Rattle.kore_prove.specs.Acceptance.{IsRuleOf, axiom_declared, sort_number}
+use Rattle.kore_prove.specs.ProgramView.{rewrite_rule}
+use Rattle.kore_prove.proofs.Declared.{no_axiom}
+use Rattle.kore_prove.proofs.Pairings.{Each-take_some, Each-take_none}
+use Rattle.kore_prove.proofs.accept.declared_rules.Goals as goal
+use Rattle.kore_prove.proofs.accept.declared_rules.Goals.{in-Axiom+in_ok-push_rule, in_default}
+
+pub loop-decl-preserved : goal.loop-decl-preserved
+loop-decl-preserved c =
+    let lt : c.loop-decl.decl-index < length c.args.decls.now = omega arith in
+    elim c.match-decl.branch [
+      in-Axiom+in_ok-push_rule w ↦ let a = w.in_ok-push_rule.ensures in
+          Each-take_some plain_declaration axiom_declared (IsRuleOf c.args.sig.now (sort_number c.args.top)) c.args.decls.now _ c.decl-item.result (plain_axiom_decl w.in-Axiom.axiom)
+          (map rewrite_rule c.loop-decl.rules.items) (map rewrite_rule c.match-decl.rules.items) a.0 lt c.decl-item.is
+          (ap (λ d. axiom_declared (plain_declaration d)) w.in-Axiom.is) c.loop-decl.invariant a.2 (search rules)
+      | in_default w ↦ Each-take_none plain_declaration axiom_declared (IsRuleOf c.args.sig.now (sort_number c.args.top)) c.args.decls.now _ c.decl-item.result
+          (map rewrite_rule c.loop-decl.rules.items) (map rewrite_rule c.match-decl.rules.items) lt c.decl-item.is
+          (no_axiom c.decl-item.result w.in_default.not-Axiom) c.loop-decl.invariant (search rules)
+    ]
