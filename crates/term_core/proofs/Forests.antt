@@ -1,6 +1,7 @@
 -- Forests and lists of trees are one thing; heights and normal forms of a forest's trees.
-use Rattle.std.proofs.Common.{◌≡◌, ℕ, ◌<◌, ◌≤◌, zero, suc, max, List, [], ◌∷◌, ◌++◌, length, slice_get, ◌↔◌, Some, get_or, refl, sym, ◌∙◌, ap, arith}
-use Rattle.std.proofs.lemmas.Option.{slice_get_read}
+use Rattle.std.proofs.Common.{◌≡◌, ℕ, ◌+◌, ◌<◌, ◌≤◌, zero, suc, max, List, [], ◌∷◌, ◌++◌, length, slice_get, ◌↔◌, Some, get_or, take, refl, sym, ◌∙◌, ap, arith}
+use Rattle.std.proofs.lemmas.Option.{slice_get_read, slice_get_within, get_or_from_slice_get}
+use Rattle.std.proofs.lemmas.List.{take_more}
 use Rattle.term_core.specs.Terms.{Tree, leaf, node, inj, Forest, no_tree, more_trees, forest, trees, children, height, heights, IsNoInjection, IsNormal, AreNormal, injected, norm, norms}
 
 pub trees-forest : (ts : List Tree) → trees (forest ts) ≡ ts
@@ -67,6 +68,11 @@ pub normal_of-child : (ts : List Tree) (i : ℕ) (t : Tree) → slice_get ts i �
 normal_of-child [] i t e a = let no : ⊥ = cc in absurd no
 normal_of-child (u ∷ ts) zero t e a = let same : t ≡ u = cc in rw same a.0
 normal_of-child (u ∷ ts) (suc i) t e a = normal_of-child ts i t e a.1
+
+-- the first trees of a list, with one more
+pub take_child : (ts : List Tree) (i : ℕ) (t : Tree) → slice_get ts i ≡ Some t → take (i + 1) ts ≡ take i ts ++ t ∷ []
+take_child ts i t e =
+    take_more ts i t (slice_get_within ts i t e) ∙ ap (λ (u : Tree). take i ts ++ u ∷ []) (get_or_from_slice_get ts i t t e)
 
 -- an injection of a tree of another kind is left as it is
 pub injected-other : (a b : ℕ) (t : Tree) → IsNoInjection t → injected a b t ≡ inj a b t

@@ -1,11 +1,11 @@
 -- What a pattern becomes, taken apart.
-use Rattle.std.proofs.Common.{◌≡◌, ℕ, ◌+◌, ◌<◌, ◌≤◌, ◌≢◌, ◌↔◌, ◌⊎◌, zero, suc, max, List, [], ◌∷◌, length, get_or, slice_get, drop, set, replicate, Option, Some, None, refl, sym, ◌∙◌, ap, ⊎_elim, arith}
+use Rattle.std.proofs.Common.{◌≡◌, ℕ, ◌+◌, ◌<◌, ◌≤◌, ◌≢◌, ◌↔◌, ◌⊎◌, zero, suc, max, List, [], ◌∷◌, map, length, get_or, slice_get, drop, set, replicate, Option, Some, None, refl, sym, ◌∙◌, ap, ⊎_elim, arith}
 use Rattle.std.specs.Prelude.{option_map, IsSomeAnd, Bool, false, IsTrue}
 use Rattle.std.proofs.lemmas.Bool.{false≢true}
 use Rattle.std.proofs.lemmas.List.{drop_more}
 use Rattle.std.proofs.lemmas.Option.{get_or_from_slice_get, slice_get_within}
 use Rattle.term_core.specs.Terms.{Tree, leaf, node, inj, Forest, no_tree, more_trees, forest, children, height, heights, IsNoInjection, IsNormal, AreNormal, injected, norm, norms}
-use Rattle.term_core.specs.Patterns.{Pattern, variable, domain_value, application, injection, call, Patterns, no_pattern, more_patterns, binding, AreNormalBindings, with_first, substituted, all_substituted, instance_of, instances_of, FitsWithin, AllFitWithin, IsGround, AreGround, ground_pattern, ground_patterns}
+use Rattle.term_core.specs.Patterns.{Pattern, variable, domain_value, application, injection, call, Patterns, no_pattern, more_patterns, patterns, binding, AreNormalBindings, with_first, substituted, all_substituted, instance_of, instances_of, FitsWithin, AllFitWithin, IsGround, AreGround, ground_pattern, ground_patterns}
 use Rattle.term_core.specs.RulePatterns.{plain_pattern, plain_patterns}
 use Rattle.term_core.proofs.Forests.{injected-injected, norm-normal, injected-other}
 use Rattle.term_core.specs.declared.rule_patterns.RulePat.{RulePat}
@@ -202,3 +202,8 @@ pub rest_built : (theta : List (Option Tree)) (ps : List RulePat) (i : ℕ) (p :
 rest_built theta ps i p t ts e lt first others =
     let front : drop i ps ≡ p ∷ drop (i + 1) ps = drop_more ps i p lt ∙ ap (λ (q : RulePat). q ∷ drop (i + 1) ps) (sym e) in
     rw front ((with_first_some (instance_of theta (plain_pattern p)) (instances_of theta (plain_patterns (drop (i + 1) ps))) t ts).1 (first, others))
+
+-- the patterns of a list of terms
+pub patterns-map : (ts : List Tree) → patterns (map ground_pattern ts) ≡ ground_patterns (forest ts)
+patterns-map [] = refl
+patterns-map (t ∷ ts) = ap (more_patterns (ground_pattern t)) (patterns-map ts)

@@ -11,7 +11,7 @@ mod values;
 
 pub use ids::{HookNo, SortId, SymId};
 pub use instances::{fits_within, instance, is_instance};
-pub use rule_patterns::RulePat;
+pub use rule_patterns::{RulePat, pattern_of};
 pub use steps::Steps;
 pub use subst::Subst;
 pub use terms::{MAX_HEIGHT, Term, View};
