@@ -1,6 +1,5 @@
 pub mod Words
 pub mod Acceptance
-pub mod ProgramView
 pub mod Lines
 pub mod PrintedRun
 pub mod Constants

@@ -8,7 +8,7 @@ ghost use Rattle.rule_core.specs.Rules.{RewriteRule};
 ghost use Rattle.rule_core.specs.declared.signature.SymKind.TheVariants.{Ctor};
 ghost use Rattle.term_core.specs.Patterns.{application, no_pattern};
 ghost use Rattle.kore_prove.specs.Acceptance.{Each, IsSortEntry, IsSymbolEntry, sort_declared, symbol_declared, IsConstructorAlone, IsConstantOf, NamesSort, Denotes, axiom_declared, sort_number, IsTopOf, IsSide, IsRewriting, IsRuleOf};
-ghost use Rattle.kore_prove.specs.ProgramView.{rewrite_rule};
+ghost use Rattle.rule_core.specs.ProgramView.{rewrite_rule};
 ghost use Rattle.kore_prove.specs.Constants.{IsSideConstant, RewritesConstants};
 
 use kore_ast::{AxiomDecl, Decl, Op, Pat, PatForm, Sort, SortDecl, SortForm, SymbolDecl};

@@ -4,3 +4,5 @@ pub mod Rules
 pub mod Matching
 pub mod FirstRule
 pub mod Runs
+pub mod ProgramView
+pub mod Trial

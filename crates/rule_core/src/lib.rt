@@ -5,7 +5,9 @@
 mod rules;
 mod signature;
 mod table;
+mod trial;
 
 pub use rules::{Outcome, Program, Rule, VarInfo};
 pub use signature::{Signature, SortInfo, SortKind, SortRef, SymInfo, SymKind};
 pub use table::Table;
+pub use trial::first_match;

@@ -1,7 +1,7 @@
 use Rattle.std.proofs.Common.{rules, arith, ◌<◌, length, ap, ◌∙◌, map}
 use Rattle.kore_ast.specs.Plain.{plain_declaration, plain_axiom_decl}
 use Rattle.kore_prove.specs.Acceptance.{IsRuleOf, axiom_declared, sort_number}
-use Rattle.kore_prove.specs.ProgramView.{rewrite_rule}
+use Rattle.rule_core.specs.ProgramView.{rewrite_rule}
 use Rattle.kore_prove.proofs.Declared.{no_axiom}
 use Rattle.kore_prove.proofs.Pairings.{Each-take_some, Each-take_none}
 use Rattle.kore_prove.proofs.accept.declared_rules.Goals as goal

@@ -12,3 +12,10 @@ rewrite_rule r = record {
   priority = r.priority;
   place = r.at;
 }
+
+abbrev pub rewrite_rules : List Rule → List RewriteRule
+rewrite_rules rules = map rewrite_rule rules
+
+-- the rule has no variables
+abbrev pub HasNoVariables : Rule → Type 0
+HasNoVariables r = vec_len r.vars ≡ 0
