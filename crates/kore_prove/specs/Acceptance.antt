@@ -161,19 +161,25 @@ pub record IsRuleOf (sig : Signature) (top : Option ℕ) (stated : AxiomDeclarat
 abbrev pub sort_number : Option SortId → Option ℕ
 sort_number sort = option_map (λ (s : SortId). s.0) sort
 
--- The definition has one module, whose declarations are accepted; it has this signature and, in the order of the file,
--- these rules, all of the one sort `top`.
-pub record IsAccepted (definition : DefinitionTree) (sig : Signature) (top : Option ℕ) (rules : List RewriteRule) : Type 0 where
+-- the definition has one module, without attributes and with these declarations, all of a kind that is accepted
+pub record HasDeclarations (definition : DefinitionTree) (declarations : List Declaration) : Type 0 where
   pub main : ModuleTree
   pub only_module : definition.modules ≡ main ∷ []
   pub attributes : definition.attributes ≡ []
   pub main_attributes : main.attributes ≡ []
-  pub built : All IsBuilt main.declarations
-  pub sorts : Each IsSortEntry (filter_map sort_declared main.declarations) sig.sorts
+  pub declared : main.declarations ≡ declarations
+  pub built : All IsBuilt declarations
+
+-- The definition is accepted: it declares this signature and, in the order of the file, these rules, all of the one sort
+-- `top`.
+pub record IsAccepted (definition : DefinitionTree) (sig : Signature) (top : Option ℕ) (rules : List RewriteRule) : Type 0 where
+  pub declarations : List Declaration
+  pub main : HasDeclarations definition declarations
+  pub sorts : Each IsSortEntry (filter_map sort_declared declarations) sig.sorts
   pub sorts_differ : AreDistinct (names_of sig.sorts)
-  pub symbols : Each (IsSymbolEntry sig.sorts) (filter_map symbol_declared main.declarations) sig.symbols
+  pub symbols : Each (IsSymbolEntry sig.sorts) (filter_map symbol_declared declarations) sig.symbols
   pub symbols_differ : AreDistinct (names_of sig.symbols)
-  pub rules_are : Each (IsRuleOf sig top) (filter_map axiom_declared main.declarations) rules
+  pub rules_are : Each (IsRuleOf sig top) (filter_map axiom_declared declarations) rules
 
 -- the term is a pattern of the rules' sort, or of any sort where there is no rule
 pub record IsAcceptedTerm (sig : Signature) (top : Option ℕ) (tree : PatternTree) (start : Pattern) : Type 0 where

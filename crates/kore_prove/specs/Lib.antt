@@ -3,3 +3,4 @@ pub mod Acceptance
 pub mod Lines
 pub mod PrintedRun
 pub mod Constants
+pub mod Runnable

@@ -1,18 +1,25 @@
 // Acceptance: from the tree of a definition to its program, and from the tree of a term to its pattern.
-ghost use Rattle.std.specs.Prelude.{◌≡◌, ℕ, List, ◌++◌, ◌∷◌, [], IfOk, IfSome, map, codes};
+ghost use Rattle.std.specs.Prelude.{◌≡◌, ◌<◌, ◌^◌, ◌↔◌, length, All, IsTrue, OnOk, ℕ, List, ◌++◌, ◌∷◌, [], IfOk, IfSome, map, codes};
 ghost use Rattle.std.specs.Bool.{OnTrue};
 ghost use Rattle.std.specs.List.{filter_map};
-ghost use Rattle.kore_ast.specs.Plain.{plain_declaration, plain_sort, plain_sort_decl, plain_symbol_decl, plain_axiom_decl, plain_pattern};
+ghost use Rattle.kore_ast.specs.Plain.{plain_definition, plain_declaration, plain_sort, plain_sort_decl, plain_symbol_decl, plain_axiom_decl, plain_pattern};
 ghost use Rattle.kore_ast.specs.Trees.{symbol_applied, no_sorts, no_patterns};
 ghost use Rattle.rule_core.specs.Rules.{RewriteRule};
 ghost use Rattle.rule_core.specs.declared.signature.SymKind.TheVariants.{Ctor};
 ghost use Rattle.term_core.specs.Patterns.{application, no_pattern};
-ghost use Rattle.kore_prove.specs.Acceptance.{Each, IsSortEntry, IsSymbolEntry, sort_declared, symbol_declared, IsConstructorAlone, IsConstantOf, NamesSort, Denotes, axiom_declared, sort_number, IsTopOf, IsSide, IsRewriting, IsRuleOf};
-ghost use Rattle.rule_core.specs.ProgramView.{rewrite_rule};
+ghost use Rattle.kore_prove.specs.Acceptance.{Each, IsSortEntry, IsSymbolEntry, sort_declared, symbol_declared, IsConstructorAlone, IsConstantOf, NamesSort, Denotes, HasDeclarations, IsBuilt, axiom_declared, sort_number, IsTopOf, IsSide, IsRewriting, IsRuleOf};
+ghost use Rattle.rule_core.specs.ProgramView.{rewrite_rule, rewrite_rules};
+ghost use Rattle.rule_core.specs.Trial.{IsInTrialOrder};
+ghost use Rattle.term_core.specs.RulePatterns.{plain_pattern as rule_pattern};
+ghost use Rattle.kore_prove.specs.Runnable.{IsShowable, IsRunnable, AcceptsTree, IsProgramOf, IsStartOf, HasUsualPriority};
+ghost use Rattle.std.specs.List.Sorted.{IsPermutation};
 ghost use Rattle.kore_prove.specs.Constants.{IsSideConstant, RewritesConstants};
 
-use kore_ast::{AxiomDecl, Decl, Op, Pat, PatForm, Sort, SortDecl, SortForm, SymbolDecl};
-use rule_core::{Rule, Signature, SortInfo, SortKind, SortRef, SymInfo, SymKind, Table};
+use kore_ast::{
+    AxiomDecl, Decl, Definition, Op, Pat, PatForm, ReadFault, Sort, SortDecl, SortForm, SymbolDecl,
+};
+use crate::reading::{read_definition, read_pattern};
+use rule_core::{Program, Rule, Signature, SortInfo, SortKind, SortRef, SymInfo, SymKind, Table};
 use std::alloc::{AllocError, Global};
 use term_core::{RulePat, SortId, SymId};
 
@@ -35,6 +42,90 @@ impl From<AllocError> for Refusal {
     fn from(_error: AllocError) -> Refusal {
         Refusal::Memory
     }
+}
+
+/// The program of a definition. `Refused(90, 0)` where the bytes are no definition of the form that is
+/// accepted, which `IsProgramOf` and `IsAccepted` state.
+pub fn accept(alloc: Global, bytes: &[u8]) -> Result<Program, Refusal>
+    requires { length bytes.now < 2 ^ 32 }
+    ensures { IfOk result (IsProgramOf bytes.now) }
+{
+    match read_definition(alloc, bytes) {
+        Ok(definition) => accept_definition(alloc, &definition),
+        Err(fault) => Err(refusal_of(fault)),
+    }
+}
+
+/// The pattern of a term of the program's sort, or of any sort where there is no rule.
+pub fn accept_term(alloc: Global, program: &Program, bytes: &[u8]) -> Result<RulePat, Refusal>
+    requires { length bytes.now < 2 ^ 32 }
+    ensures { IfOk result (λ start. IsStartOf bytes.now program.now (rule_pattern start)) }
+{
+    let pat = match read_pattern(alloc, bytes) {
+        Ok(pat) => pat,
+        Err(fault) => return Err(refusal_of(fault)),
+    };
+    match constant(&program.sig, &pat) {
+        Some((symbol, sort)) if program.top.is_none_or(|top| top == sort) => {
+            Ok(RulePat::Ctor(symbol, Vec::new(alloc)))
+        }
+        _ => Err(NOT_BUILT),
+    }
+}
+
+fn refusal_of(fault: ReadFault) -> Refusal {
+    match fault {
+        ReadFault::NotBuilt => NOT_BUILT,
+        ReadFault::Memory => Refusal::Memory,
+    }
+}
+
+/// The program of a definition's tree.
+fn accept_definition(alloc: Global, definition: &Definition) -> Result<Program, Refusal>
+    ensures { IfOk result (AcceptsTree (plain_definition definition.now)) }
+{
+    let decls = main_declarations(definition)?;
+    let sorts = declared_sorts(alloc, decls)?;
+    sorts.names_differ();
+    let symbols = declared_symbols(alloc, &sorts, decls)?;
+    symbols.names_differ();
+    let top = first_rule_sort(&sorts, decls);
+    let sig = Signature { sorts, symbols };
+    let mut rules = declared_rules(alloc, &sig, top, decls)?;
+    put_in_order(&mut rules)?;
+    Ok(Program { sig, top, rules })
+}
+
+/// The declarations of the only module, where all are of a kind that is accepted.
+fn main_declarations(definition: &Definition) -> Result<&[Decl], Refusal>
+    ensures { IfOk result (λ decls. HasDeclarations (plain_definition definition.now) (map plain_declaration decls.now)) }
+{
+    match definition.modules.as_slice() {
+        [main] if definition.attrs.is_empty() && main.attrs.is_empty() => {
+            if main.decls.iter().all(is_built) { Ok(main.decls.as_slice()) } else { Err(NOT_BUILT) }
+        }
+        _ => Err(NOT_BUILT),
+    }
+}
+
+/// Whether a declaration is of a kind that is accepted.
+fn is_built(decl: &Decl) -> bool
+    ensures { IsTrue result ↔ IsBuilt (plain_declaration decl.now) }
+{
+    match decl {
+        Decl::SortDecl(_) | Decl::SymbolDecl(_) | Decl::Axiom(_) => true,
+        Decl::Import(_) | Decl::Alias(_) | Decl::Claim(_) => false,
+    }
+}
+
+/// Puts rules into the order of trial: by their places, since all have the same priority.
+fn put_in_order(rules: &mut Vec<Rule>) -> Result<(), AllocError>
+    requires { All HasUsualPriority rules.old.items }
+    ensures permutation { OnOk result (IsPermutation rules.old.items rules.new.items) }
+    ensures in_order { OnOk result (IsInTrialOrder (rewrite_rules rules.new.items)) }
+{
+    rules.sort_by_key(|rule| rule.at)?;
+    Ok(())
 }
 
 /// The number of a sort that is declared and has no arguments.
@@ -191,7 +282,8 @@ fn declared_rules(
     top: Option<SortId>,
     decls: &[Decl],
 ) -> Result<Vec<Rule>, Refusal>
-    ensures { IfOk result (λ rules. Each (IsRuleOf sig.now (sort_number top)) (filter_map axiom_declared (map plain_declaration decls.now)) (map rewrite_rule rules.items)) }
+    ensures stated { IfOk result (λ rules. Each (IsRuleOf sig.now (sort_number top)) (filter_map axiom_declared (map plain_declaration decls.now)) (map rewrite_rule rules.items)) }
+    ensures runnable { IfOk result (λ rules. All (IsRunnable sig.now.symbols) rules.items) }
 {
     let mut rules = Vec::new(alloc);
     for decl in decls {
@@ -210,7 +302,8 @@ fn push_rule(
     axiom: &AxiomDecl,
     rules: &mut Vec<Rule>,
 ) -> Result<(), Refusal>
-    ensures { IfOk result (λ _. (rule : RewriteRule) × (map rewrite_rule rules.new.items ≡ map rewrite_rule rules.old.items ++ rule ∷ []) × IsRuleOf sig.now (sort_number top) (plain_axiom_decl axiom.now) rule) }
+    ensures added { IfOk result (λ _. (rule : RewriteRule) × (map rewrite_rule rules.new.items ≡ map rewrite_rule rules.old.items ++ rule ∷ []) × IsRuleOf sig.now (sort_number top) (plain_axiom_decl axiom.now) rule) }
+    ensures runnable { OnOk result (All (IsRunnable sig.now.symbols) rules.old.items → All (IsRunnable sig.now.symbols) rules.new.items) }
 {
     let rule = rule_of(alloc, sig, top, axiom)?;
     rules.push(rule).map_err(AllocError::from)?;
@@ -224,7 +317,8 @@ fn rule_of(
     top: Option<SortId>,
     axiom: &AxiomDecl,
 ) -> Result<Rule, Refusal>
-    ensures { IfOk result (λ rule. IsRuleOf sig.now (sort_number top) (plain_axiom_decl axiom.now) (rewrite_rule rule)) }
+    ensures stated { IfOk result (λ rule. IsRuleOf sig.now (sort_number top) (plain_axiom_decl axiom.now) (rewrite_rule rule)) }
+    ensures runnable { IfOk result (IsRunnable sig.now.symbols) }
 {
     if !axiom.params.is_empty() || !axiom.attrs.is_empty() {
         return Err(NOT_BUILT);

@@ -1,0 +1,52 @@
+-- Rules and terms that can be run and printed as they stand.
+use Rattle.std.specs.Prelude.{◌≡◌, ℕ, ◌≤◌, List, [], Some, IsSome, All}
+use Rattle.std.specs.List.Sorted.{IsPermutation}
+use Rattle.term_core.specs.Terms.{Tree, height}
+use Rattle.term_core.specs.Patterns.{Pattern, instance_of}
+use Rattle.term_core.specs.RulePatterns.{plain_pattern}
+use Rattle.kore_ast.specs.Trees.{PatternTree, DefinitionTree}
+use Rattle.kore_ast.specs.KoreText.{ReadsPattern, ReadsDefinition}
+use Rattle.rule_core.specs.Rules.{RewriteRule}
+use Rattle.rule_core.specs.Trial.{IsInTrialOrder}
+use Rattle.rule_core.specs.ProgramView.{rewrite_rules, HasNoVariables}
+use Rattle.rule_core.specs.declared.rules.Rule.{Rule}
+use Rattle.rule_core.specs.declared.rules.Program.{Program}
+use Rattle.rule_core.specs.declared.signature.SymInfo.{SymInfo}
+use Rattle.kore_prove.specs.Acceptance.{IsAccepted, IsAcceptedTerm, sort_number}
+use Rattle.kore_prove.specs.Lines.{text_of}
+
+-- the pattern is a term by itself, no higher than 500, and the term has a text
+pub record IsShowable (symbols : List (List ℕ × SymInfo)) (p : Pattern) : Type 0 where
+  pub term : Tree
+  pub becomes : instance_of [] p ≡ Some term
+  pub low : height term ≤ 500
+  pub text : IsSome (text_of symbols term)
+
+-- the rule has the priority of a rule that states none
+abbrev pub HasUsualPriority : Rule → Type 0
+HasUsualPriority r = r.priority ≡ 50
+
+-- the rule has no variables and the usual priority, and its right side can be shown
+pub record IsRunnable (symbols : List (List ℕ × SymInfo)) (r : Rule) : Type 0 where
+  pub no_variables : HasNoVariables r
+  pub priority : HasUsualPriority r
+  pub right : IsShowable symbols (plain_pattern r.right)
+
+-- The definition is accepted, and this is its program: the rules of the file in the order of trial.
+pub record AcceptsTree (definition : DefinitionTree) (program : Program) : Type 0 where
+  pub rules : List RewriteRule
+  pub accepted : IsAccepted definition program.sig (sort_number program.top) rules
+  pub same_rules : IsPermutation rules (rewrite_rules program.rules.items)
+  pub in_order : IsInTrialOrder (rewrite_rules program.rules.items)
+  pub runnable : All (IsRunnable program.sig.symbols) program.rules.items
+
+-- the bytes spell a definition that is accepted, and this is its program
+abbrev pub IsProgramOf : List ℕ → Program → Type 0
+IsProgramOf bytes program = (definition : DefinitionTree) × ReadsDefinition bytes definition × AcceptsTree definition program
+
+-- The bytes are accepted as a term of the program, and this is its pattern.
+pub record IsStartOf (bytes : List ℕ) (program : Program) (start : Pattern) : Type 0 where
+  pub tree : PatternTree
+  pub reads : ReadsPattern bytes tree
+  pub accepted : IsAcceptedTerm program.sig (sort_number program.top) tree start
+  pub showable : IsShowable program.sig.symbols start
