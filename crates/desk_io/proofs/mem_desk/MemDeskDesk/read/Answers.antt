@@ -12,7 +12,7 @@ invariant_of-self-2 c =
     record {
       some = c.args.self.now.some;
       there = needed;
-      within = content_of-within (named_bytes files) c.args.self.now.reading place c.pass-n.result c.args.self.now.most _ c.as_slice-content.result.now c.in-Some.is (c.as_slice-content.ensures.value ∙ content_at files place.file c.index.result.now c.index.ensures less) c.args.self.now.within c.pass-n.ensures.count
+      within = content_of-within (named_bytes files) c.args.self.now.reading place c.pass-n.result c.args.self.now.most _ c.as_slice-content.result.now c.in-Some.is (c.as_slice-content.ensures.value ∙ content_at files place.file c.index.result.now c.index.ensures less) c.args.self.now.within c.pass-n.ensures.count;
     }
 
 pub returns-clause-passed : goal.returns-clause-passed
