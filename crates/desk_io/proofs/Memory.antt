@@ -1,5 +1,5 @@
 -- A file in memory: where it stands, and reading on.
-use Rattle.std.proofs.Common.{◌≡◌, ℕ, suc, ◌+◌, ◌-◌, ◌<◌, min, Bool, true, false, List, [], ◌∷◌, ◌++◌, length, take, drop, get_or, Option, Some, None, refl, sym, ◌∙◌, ap, arith, nat_eq, String, string_bytes}
+use Rattle.std.proofs.Common.{◌≡◌, ℕ, suc, ◌+◌, ◌-◌, ◌<◌, ◌≤◌, min, Bool, true, false, List, [], ◌∷◌, ◌++◌, length, take, drop, get_or, Option, Some, None, refl, sym, ◌∙◌, ap, arith, nat_eq, String, string_bytes, length-drop}
 use Rattle.std.proofs.lemmas.List.{take-append-drop, take_rest, drop-drop, get_or-map, length-map, nil_from_length}
 use Rattle.std.specs.List.{position, position_from}
 use Rattle.std.proofs.lemmas.Iterator.Adapters.{position_from-zero}
@@ -60,6 +60,12 @@ content_of-read files reading place n content buf opened same copied =
     let whole : take n (drop place.passed content) ++ drop n (drop place.passed content) ≡ drop place.passed content = take-append-drop n (drop place.passed content) in
     let front : take n buf ≡ take n (drop place.passed content) = copied ∙ ap (λ xs. take n xs) (take_rest content place.passed) in
     rw (opened, ← same) (sym whole ∙ ap (λ xs. xs ++ drop n (drop place.passed content)) (sym front) ∙ ap (λ xs. take n buf ++ xs) (drop-drop n place.passed content))
+
+-- a read stays within the file
+pub content_of-within : (files : List (List ℕ × List ℕ)) (reading : Option Place) (place : Place) (n most room : ℕ) (content : List ℕ) → reading ≡ Some place → content ≡ content_of files (Some place) → passed_of reading ≤ length (content_of files reading) → n ≡ min most (min (length (take (length content - place.passed) (drop place.passed content))) room) → place.passed + n ≤ length (content_of files (Some place))
+content_of-within files reading place n most room content opened same within count =
+    let before : place.passed ≤ length (content_of files (Some place)) = rw opened at within in
+    omega (arith, ap length same, ap length (take_rest content place.passed), length-drop place.passed content)
 
 -- a read that passes nothing
 pub content_of-end : (files : List (List ℕ × List ℕ)) (reading : Option Place) (place : Place) (n most room : ℕ) (content : List ℕ) → reading ≡ Some place → content ≡ content_of files (Some place) → n ≡ min most (min (length (take (length content - place.passed) (drop place.passed content))) room) → 0 < most → 0 < room → n ≡ 0 → drop (passed_of reading) (content_of files reading) ≡ []

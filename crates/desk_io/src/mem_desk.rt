@@ -39,6 +39,7 @@ impl MemDesk {
         requires some { 0 < most }
         ensures files { files_of result ≡ named_bytes files.items }
         ensures unread { unread_of result ≡ [] }
+        ensures faults { ⟦<MemDesk as Desk>⟧.read_faults result ≡ 0 }
     {
         MemDesk {
             files,

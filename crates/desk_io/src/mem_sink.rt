@@ -24,7 +24,8 @@ impl MemSink {
     /// are in `fail_at` fail; the numbers stop at 2^64 - 1.
     pub fn new(alloc: Global, most: usize, fail_at: Vec<u64>) -> MemSink
         requires { 0 < most }
-        ensures { bytes_of result ≡ [] }
+        ensures bytes { bytes_of result ≡ [] }
+        ensures faults { ⟦<MemSink as Sink>⟧.faults result ≡ 0 }
     {
         MemSink {
             taken: Vec::new(alloc),

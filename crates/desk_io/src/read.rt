@@ -45,8 +45,9 @@ fn end_of(fault: DeskFault) -> ReadEnd
     }
 }
 
-/// The bytes of the named file, whole, where they are at most `limit`. Takes at most one byte more
-/// than the limit from the desk, and leaves its files as they were.
+/// The bytes of the named file, whole, where they are at most `limit`, which is at most 256 MiB.
+/// Takes at most one byte more than the limit from the desk, and leaves the desk's files as they
+/// were. `Memory` may come at any time; each other end has its cause below.
 pub fn read_file<D: Desk>(
     alloc: Global,
     desk: &mut D,

@@ -18,7 +18,9 @@ pub struct RealDesk<R: Files> {
 
 impl<R: Files> RealDesk<R> {
     /// The system's desk, with no file open and no fault counted.
-    pub fn new(files: R) -> RealDesk<R> {
+    pub fn new(files: R) -> RealDesk<R>
+        ensures { ⟦<RealDesk<R> as Desk>⟧.read_faults result ≡ 0 }
+    {
         RealDesk {
             files,
             reading: None,

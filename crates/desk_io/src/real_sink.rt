@@ -16,7 +16,9 @@ pub struct RealSink<W: Write> {
 
 impl<W: Write> RealSink<W> {
     /// A sink over this writer, with no fault counted.
-    pub fn new(writer: W) -> RealSink<W> {
+    pub fn new(writer: W) -> RealSink<W>
+        ensures { ⟦<RealSink<W> as Sink>⟧.faults result ≡ 0 }
+    {
         RealSink { writer, faults: 0 }
     }
 }

@@ -1,7 +1,19 @@
 use Rattle.std.proofs.Common.{◌+◌, ◌<◌, ◌≤◌, length, vec_len, refl, ◌∙◌, arith}
 use Rattle.desk_io.specs.Memory.{named_bytes}
-use Rattle.desk_io.proofs.Memory.{content_at, content_of-read, content_of-end}
+use Rattle.desk_io.proofs.Memory.{content_at, content_of-read, content_of-within, content_of-end}
 use Rattle.desk_io.proofs.mem_desk.MemDeskDesk.read.Goals as goal
+
+pub invariant_of-self-2 : goal.invariant_of-self-2
+invariant_of-self-2 c =
+    let files = c.args.self.now.files.items in
+    let place = c.in-Some.place in
+    let needed : place.file + 1 ≤ vec_len c.args.self.now.files = rw c.in-Some.is at c.args.self.now.there in
+    let less : place.file < length files = omega arith in
+    record {
+      some = c.args.self.now.some;
+      there = needed;
+      within = content_of-within (named_bytes files) c.args.self.now.reading place c.pass-n.result c.args.self.now.most _ c.as_slice-content.result.now c.in-Some.is (c.as_slice-content.ensures.value ∙ content_at files place.file c.index.result.now c.index.ensures less) c.args.self.now.within c.pass-n.ensures.count;
+    }
 
 pub returns-clause-passed : goal.returns-clause-passed
 returns-clause-passed c =
