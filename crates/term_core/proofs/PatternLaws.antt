@@ -207,3 +207,17 @@ rest_built theta ps i p t ts e lt first others =
 pub patterns-map : (ts : List Tree) → patterns (map ground_pattern ts) ≡ ground_patterns (forest ts)
 patterns-map [] = refl
 patterns-map (t ∷ ts) = ap (more_patterns (ground_pattern t)) (patterns-map ts)
+
+-- A ground pattern becomes the same term under every substitution.
+mutual
+  pub instance_of-ground : (theta : List (Option Tree)) (p : Pattern) → IsGround p → instance_of theta p ≡ instance_of [] p
+  instance_of-ground theta (variable x) g = absurd g
+  instance_of-ground theta (domain_value s v) g = refl
+  instance_of-ground theta (application f ps) g = ap (option_map (node f)) (instances_of-ground theta ps g)
+  instance_of-ground theta (injection a b p) g = ap (option_map (injected a b)) (instance_of-ground theta p g)
+  instance_of-ground theta (call f ss ps) g = absurd g
+
+  pub instances_of-ground : (theta : List (Option Tree)) (ps : Patterns) → AreGround ps → instances_of theta ps ≡ instances_of [] ps
+  instances_of-ground theta no_pattern g = refl
+  instances_of-ground theta (more_patterns p ps) g =
+      ap (λ (o : Option Tree). with_first o (instances_of theta ps)) (instance_of-ground theta p g.0) ∙ ap (with_first (instance_of [] p)) (instances_of-ground theta ps g.1)

@@ -74,7 +74,7 @@ impl Term {
         Ok(Term { high: 1, node })
     }
 
-    /// A constructor applied to terms.
+    /// A constructor applied to terms. `highest` is the test of what it requires.
     pub fn ctor(alloc: Global, sym: SymId, args: Vec<Term>) -> Result<Term, AllocError>
         requires { heights (forest args.items) < MAX_HEIGHT }
         ensures { IfOk result (λ t. t ≡ node sym.0 (forest args.items)) }
@@ -84,10 +84,22 @@ impl Term {
         Ok(Term { high, node })
     }
 
-    /// The injection of a term, which replaces an injection at the term's root.
+    /// The injection of a term in normal form: it replaces an injection at the term's root. `height_injected` is the height
+    /// that it will have.
     pub fn inj(alloc: Global, from: SortId, to: SortId, child: &Term) -> Result<Term, AllocError>
         requires { height (injected from.0 to.0 child.now) ≤ MAX_HEIGHT }
         ensures injected { IfOk result (λ t. t ≡ injected from.0 to.0 child.now) }
+        ensures norm { IfOk result (λ t. t ≡ norm (inj from.0 to.0 child.now)) }
+    {
+        // The child is normal, and so no other injections than these two can stand in a row.
+        let _high = child.height();
+        Term::joined(alloc, from, to, child)
+    }
+
+    // The injection of a term, joined with one at the term's root.
+    fn joined(alloc: Global, from: SortId, to: SortId, child: &Term) -> Result<Term, AllocError>
+        requires { height (injected from.0 to.0 child.now) ≤ MAX_HEIGHT }
+        ensures { IfOk result (λ t. t ≡ injected from.0 to.0 child.now) }
     {
         match &*child.node {
             Node::Inj(first, _, below) => {
