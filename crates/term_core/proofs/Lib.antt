@@ -1,3 +1,4 @@
 pub mod Forests
 pub mod PlainPatterns
 pub mod PatternLaws
+pub mod TreeTests

@@ -4,7 +4,7 @@ use Rattle.std.specs.Prelude.{option_map, IsSomeAnd, Bool, false, IsTrue}
 use Rattle.std.proofs.lemmas.Bool.{false≢true}
 use Rattle.std.proofs.lemmas.List.{drop_more}
 use Rattle.std.proofs.lemmas.Option.{get_or_from_slice_get, slice_get_within}
-use Rattle.term_core.specs.Terms.{Tree, leaf, node, inj, Forest, no_tree, more_trees, forest, children, height, heights, IsNoInjection, IsNormal, AreNormal, injected, norm, norms}
+use Rattle.term_core.specs.Terms.{Tree, leaf, node, inj, Forest, no_tree, more_trees, forest, children, height, heights, IsNormal, AreNormal, injected, norm, norms}
 use Rattle.term_core.specs.Patterns.{Pattern, variable, domain_value, application, injection, call, Patterns, no_pattern, more_patterns, patterns, binding, AreNormalBindings, with_first, substituted, all_substituted, instance_of, instances_of, FitsWithin, AllFitWithin, IsGround, AreGround, ground_pattern, ground_patterns}
 use Rattle.term_core.specs.RulePatterns.{plain_pattern, plain_patterns}
 use Rattle.term_core.proofs.Forests.{injected-injected, norm-normal, injected-other}
@@ -33,29 +33,6 @@ with_first_some (Some u) (Some us) t ts = (λ e. (cc, cc), λ e. let p : Some u 
 pub node_some : (f g : ℕ) (os : Option Forest) (ts : Forest) → (option_map (node f) os ≡ Some (node g ts)) ↔ ((f ≡ g) × (os ≡ Some ts))
 node_some f g None ts = (λ e. let no : ⊥ = cc in absurd no, λ e. let p : None ≡ Some ts = e.1 in cc)
 node_some f g (Some us) ts = (λ e. (cc, cc), λ e. let p : f ≡ g = e.0 in let q : Some us ≡ Some ts = e.1 in cc)
-
--- the pattern is no injection
-abbrev pub IsOtherPattern : Pattern → Type 0
-IsOtherPattern (variable x) = Unit {0}
-IsOtherPattern (domain_value s v) = Unit {0}
-IsOtherPattern (application f ps) = Unit {0}
-IsOtherPattern (injection a b p) = ⊥
-IsOtherPattern (call f ss ps) = Unit {0}
-
--- With no variable bound, a pattern that is no injection becomes no injection.
-pub other_instance : (p : Pattern) (t : Tree) → IsOtherPattern p → instance_of [] p ≡ Some t → IsNoInjection t
-other_instance (variable x) t other e = let no : ⊥ = cc in absurd no
-other_instance (domain_value s v) (leaf s' v') other e = tt
-other_instance (domain_value s v) (node f ts) other e = tt
-other_instance (domain_value s v) (inj a b t) other e = let no : ⊥ = cc in absurd no
-other_instance (application f ps) t other e = other_node f (instances_of [] ps) t e where
-  other_node : (f : ℕ) (os : Option Forest) (t : Tree) → option_map (node f) os ≡ Some t → IsNoInjection t
-  other_node f None t e = let no : ⊥ = cc in absurd no
-  other_node f (Some us) (leaf s v) e = tt
-  other_node f (Some us) (node g ts) e = tt
-  other_node f (Some us) (inj a b t) e = let no : ⊥ = cc in absurd no
-other_instance (injection a b p) t other e = absurd other
-other_instance (call f ss ps) t other e = let no : ⊥ = cc in absurd no
 
 -- no pattern is deeper than the deepest
 pub depth_of-item : (ps : List RulePat) (i : ℕ) (p : RulePat) → p ≡ get_or ps i p → i < length ps → depth (plain_pattern p) ≤ depths (plain_patterns ps)

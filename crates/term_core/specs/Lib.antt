@@ -1,5 +1,6 @@
 pub mod Terms
 pub mod TermCode
+pub mod TreeTest
 pub mod Values
 pub mod TermView
 pub mod TermSize

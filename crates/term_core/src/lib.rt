@@ -1,4 +1,9 @@
-// Ground terms, the patterns of rules and substitutions.
+// Ground terms, the patterns of rules, and substitutions, below every crate that matches, evaluates or rewrites.
+//
+// A `Term` is a tree that is shared and always normal, of a height of at most `MAX_HEIGHT`; contracts see it as a plain
+// `Tree` (specs/Terms.antt). A `RulePat` is seen as a plain `Pattern`, and `instance` makes the normal form of a pattern
+// with the terms of a substitution in their places (specs/Patterns.antt). Every look at the head of a term that another
+// crate makes counts one step.
 #![tactic(auto)]
 
 mod ids;
