@@ -3,3 +3,4 @@ pub mod Denoting
 pub mod Pairings
 pub mod Declared
 pub mod WordsOfCases
+pub mod Stepping

@@ -161,12 +161,16 @@ pub record IsRuleOf (sig : Signature) (top : Option ℕ) (stated : AxiomDeclarat
 abbrev pub sort_number : Option SortId → Option ℕ
 sort_number sort = option_map (λ (s : SortId). s.0) sort
 
--- the definition has one module, without attributes and with these declarations, all of a kind that is accepted
-pub record HasDeclarations (definition : DefinitionTree) (declarations : List Declaration) : Type 0 where
-  pub main : ModuleTree
-  pub only_module : definition.modules ≡ main ∷ []
+-- the definition has this module alone, and neither has attributes
+pub record IsOnlyModule (definition : DefinitionTree) (main : ModuleTree) : Type 0 where
+  pub alone : definition.modules ≡ main ∷ []
   pub attributes : definition.attributes ≡ []
   pub main_attributes : main.attributes ≡ []
+
+-- the definition has one module with these declarations, all of a kind that is accepted
+pub record HasDeclarations (definition : DefinitionTree) (declarations : List Declaration) : Type 0 where
+  pub main : ModuleTree
+  pub only : IsOnlyModule definition main
   pub declared : main.declarations ≡ declarations
   pub built : All IsBuilt declarations
 
@@ -181,8 +185,12 @@ pub record IsAccepted (definition : DefinitionTree) (sig : Signature) (top : Opt
   pub symbols_differ : AreDistinct (names_of sig.symbols)
   pub rules_are : Each (IsRuleOf sig top) (filter_map axiom_declared declarations) rules
 
--- the term is a pattern of the rules' sort, or of any sort where there is no rule
+-- a term of this sort may start a run: it is the sort of the rules, or there is no rule
+abbrev pub IsStartSort : Option ℕ → ℕ → Type 0
+IsStartSort top sort = (top ≡ None) ⊎ (top ≡ Some sort)
+
+-- the pattern means a start of a run
 pub record IsAcceptedTerm (sig : Signature) (top : Option ℕ) (tree : PatternTree) (start : Pattern) : Type 0 where
   pub sort : ℕ
   pub means : Denotes sig tree start sort
-  pub fits : (top ≡ None) ⊎ (top ≡ Some sort)
+  pub fits : IsStartSort top sort

@@ -2,6 +2,8 @@
 use Rattle.std.specs.Prelude.{ℕ, List, [], ◌∷◌, ◌++◌, Option, Some, None, option_map, slice_get, codes, decimal}
 use Rattle.term_core.specs.Terms.{Tree, leaf, node, inj, Forest, no_tree, more_trees}
 use Rattle.rule_core.specs.declared.signature.SymInfo.{SymInfo}
+use Rattle.rule_core.specs.declared.rules.Outcome.{Outcome}
+use Rattle.rule_core.specs.declared.rules.Outcome.TheVariants as outcome
 use Rattle.rule_core.specs.Runs.{Run, stuck, limited}
 
 -- the name of a symbol, by its number
@@ -44,3 +46,8 @@ two_lines word n text = option_map (λ bytes. word ++ (codes " " ++ (decimal n +
 abbrev pub lines_of : List (List ℕ × SymInfo) → Run → Option (List ℕ)
 lines_of symbols (stuck n t) = two_lines (codes "stuck") n (text_of symbols t)
 lines_of symbols (limited n t) = two_lines (codes "limit") n (text_of symbols t)
+
+-- the run with this end and this last configuration
+abbrev pub run_of : Outcome → Tree → Run
+run_of (outcome.Stuck n) t = stuck n t
+run_of (outcome.Limit n) t = limited n t

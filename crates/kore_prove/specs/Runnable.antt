@@ -1,5 +1,5 @@
 -- Rules and terms that can be run and printed as they stand.
-use Rattle.std.specs.Prelude.{◌≡◌, ℕ, ◌≤◌, List, [], Some, IsSome, All}
+use Rattle.std.specs.Prelude.{◌≡◌, ℕ, ◌≤◌, List, [], Option, Some, None, IsSome, All}
 use Rattle.std.specs.List.Sorted.{IsPermutation}
 use Rattle.term_core.specs.Terms.{Tree, height}
 use Rattle.term_core.specs.Patterns.{Pattern, instance_of}
@@ -7,6 +7,7 @@ use Rattle.term_core.specs.RulePatterns.{plain_pattern}
 use Rattle.kore_ast.specs.Trees.{PatternTree, DefinitionTree}
 use Rattle.kore_ast.specs.KoreText.{ReadsPattern, ReadsDefinition}
 use Rattle.rule_core.specs.Rules.{RewriteRule}
+use Rattle.rule_core.specs.FirstRule.{NoRuleApplies, Rewrites}
 use Rattle.rule_core.specs.Trial.{IsInTrialOrder}
 use Rattle.rule_core.specs.ProgramView.{rewrite_rules, HasNoVariables}
 use Rattle.rule_core.specs.declared.rules.Rule.{Rule}
@@ -15,12 +16,16 @@ use Rattle.rule_core.specs.declared.signature.SymInfo.{SymInfo}
 use Rattle.kore_prove.specs.Acceptance.{IsAccepted, IsAcceptedTerm, sort_number}
 use Rattle.kore_prove.specs.Lines.{text_of}
 
--- the pattern is a term by itself, no higher than 500, and the term has a text
+-- the term is no higher than 500, and has a text
+pub record IsShown (symbols : List (List ℕ × SymInfo)) (t : Tree) : Type 0 where
+  pub low : height t ≤ 500
+  pub text : IsSome (text_of symbols t)
+
+-- the pattern is a term by itself, which can be shown
 pub record IsShowable (symbols : List (List ℕ × SymInfo)) (p : Pattern) : Type 0 where
   pub term : Tree
   pub becomes : instance_of [] p ≡ Some term
-  pub low : height term ≤ 500
-  pub text : IsSome (text_of symbols term)
+  pub shown : IsShown symbols term
 
 -- the rule has the priority of a rule that states none
 abbrev pub HasUsualPriority : Rule → Type 0
@@ -44,9 +49,16 @@ pub record AcceptsTree (definition : DefinitionTree) (program : Program) : Type 
 abbrev pub IsProgramOf : List ℕ → Program → Type 0
 IsProgramOf bytes program = (definition : DefinitionTree) × ReadsDefinition bytes definition × AcceptsTree definition program
 
--- The bytes are accepted as a term of the program, and this is its pattern.
-pub record IsStartOf (bytes : List ℕ) (program : Program) (start : Pattern) : Type 0 where
-  pub tree : PatternTree
-  pub reads : ReadsPattern bytes tree
+-- the pattern is accepted as a term of the program, and means this start, which can be shown
+pub record AcceptsPattern (tree : PatternTree) (program : Program) (start : Pattern) : Type 0 where
   pub accepted : IsAcceptedTerm program.sig (sort_number program.top) tree start
   pub showable : IsShowable program.sig.symbols start
+
+-- the bytes spell a pattern that is accepted as a term of the program, and it means this start
+abbrev pub IsStartOf : List ℕ → Program → Pattern → Type 0
+IsStartOf bytes program start = (tree : PatternTree) × ReadsPattern bytes tree × AcceptsPattern tree program start
+
+-- no rule applies, or one step leads to this term, which can be shown
+abbrev pub NextBy : List RewriteRule → List (List ℕ × SymInfo) → Tree → Option Tree → Type 0
+NextBy rules symbols t None = NoRuleApplies rules t
+NextBy rules symbols t (Some u) = Rewrites rules t u × IsShown symbols u

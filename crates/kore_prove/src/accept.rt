@@ -2,21 +2,21 @@
 ghost use Rattle.std.specs.Prelude.{◌≡◌, ◌<◌, ◌^◌, ◌↔◌, length, All, IsTrue, OnOk, ℕ, List, ◌++◌, ◌∷◌, [], IfOk, IfSome, map, codes};
 ghost use Rattle.std.specs.Bool.{OnTrue};
 ghost use Rattle.std.specs.List.{filter_map};
-ghost use Rattle.kore_ast.specs.Plain.{plain_definition, plain_declaration, plain_sort, plain_sort_decl, plain_symbol_decl, plain_axiom_decl, plain_pattern};
+ghost use Rattle.kore_ast.specs.Plain.{plain_definition, plain_module, plain_declaration, plain_sort, plain_sort_decl, plain_symbol_decl, plain_axiom_decl, plain_pattern};
 ghost use Rattle.kore_ast.specs.Trees.{symbol_applied, no_sorts, no_patterns};
 ghost use Rattle.rule_core.specs.Rules.{RewriteRule};
 ghost use Rattle.rule_core.specs.declared.signature.SymKind.TheVariants.{Ctor};
 ghost use Rattle.term_core.specs.Patterns.{application, no_pattern};
-ghost use Rattle.kore_prove.specs.Acceptance.{Each, IsSortEntry, IsSymbolEntry, sort_declared, symbol_declared, IsConstructorAlone, IsConstantOf, NamesSort, Denotes, HasDeclarations, IsBuilt, axiom_declared, sort_number, IsTopOf, IsSide, IsRewriting, IsRuleOf};
+ghost use Rattle.kore_prove.specs.Acceptance.{Each, IsSortEntry, IsSymbolEntry, sort_declared, symbol_declared, IsConstructorAlone, IsConstantOf, NamesSort, Denotes, HasDeclarations, IsOnlyModule, IsStartSort, IsBuilt, axiom_declared, sort_number, IsTopOf, IsSide, IsRewriting, IsRuleOf};
 ghost use Rattle.rule_core.specs.ProgramView.{rewrite_rule, rewrite_rules};
 ghost use Rattle.rule_core.specs.Trial.{IsInTrialOrder};
 ghost use Rattle.term_core.specs.RulePatterns.{plain_pattern as rule_pattern};
-ghost use Rattle.kore_prove.specs.Runnable.{IsShowable, IsRunnable, AcceptsTree, IsProgramOf, IsStartOf, HasUsualPriority};
+ghost use Rattle.kore_prove.specs.Runnable.{IsShowable, IsRunnable, AcceptsTree, AcceptsPattern, IsProgramOf, IsStartOf, HasUsualPriority};
 ghost use Rattle.std.specs.List.Sorted.{IsPermutation};
 ghost use Rattle.kore_prove.specs.Constants.{IsSideConstant, RewritesConstants};
 
 use kore_ast::{
-    AxiomDecl, Decl, Definition, Op, Pat, PatForm, ReadFault, Sort, SortDecl, SortForm, SymbolDecl,
+    AxiomDecl, Decl, Definition, Module, Op, Pat, PatForm, ReadFault, Sort, SortDecl, SortForm, SymbolDecl,
 };
 use crate::reading::{read_definition, read_pattern};
 use rule_core::{Program, Rule, Signature, SortInfo, SortKind, SortRef, SymInfo, SymKind, Table};
@@ -61,16 +61,39 @@ pub fn accept_term(alloc: Global, program: &Program, bytes: &[u8]) -> Result<Rul
     requires { length bytes.now < 2 ^ 32 }
     ensures { IfOk result (λ start. IsStartOf bytes.now program.now (rule_pattern start)) }
 {
-    let pat = match read_pattern(alloc, bytes) {
-        Ok(pat) => pat,
-        Err(fault) => return Err(refusal_of(fault)),
-    };
-    match constant(&program.sig, &pat) {
-        Some((symbol, sort)) if program.top.is_none_or(|top| top == sort) => {
-            Ok(RulePat::Ctor(symbol, Vec::new(alloc)))
+    match read_pattern(alloc, bytes) {
+        Ok(pat) => accept_pattern(alloc, program, &pat),
+        Err(fault) => Err(refusal_of(fault)),
+    }
+}
+
+/// The pattern of a term's tree.
+fn accept_pattern(alloc: Global, program: &Program, pat: &Pat) -> Result<RulePat, Refusal>
+    ensures { IfOk result (λ start. AcceptsPattern (plain_pattern pat.now) program.now (rule_pattern start)) }
+{
+    match constant(&program.sig, pat) {
+        Some((symbol, sort)) if is_start_sort(program.top, sort) => {
+            Ok(constant_pattern(alloc, symbol))
         }
         _ => Err(NOT_BUILT),
     }
+}
+
+/// Whether a term of this sort may start a run: it is the rules' sort, or there is no rule.
+fn is_start_sort(top: Option<SortId>, sort: SortId) -> bool
+    ensures { OnTrue result (IsStartSort (sort_number top) sort.0) }
+{
+    match top {
+        Some(top) => top == sort,
+        None => true,
+    }
+}
+
+/// The pattern that is this constant.
+fn constant_pattern(alloc: Global, symbol: SymId) -> RulePat
+    ensures { rule_pattern result ≡ application symbol.0 no_pattern }
+{
+    RulePat::Ctor(symbol, Vec::new(alloc))
 }
 
 fn refusal_of(fault: ReadFault) -> Refusal {
@@ -84,7 +107,7 @@ fn refusal_of(fault: ReadFault) -> Refusal {
 fn accept_definition(alloc: Global, definition: &Definition) -> Result<Program, Refusal>
     ensures { IfOk result (AcceptsTree (plain_definition definition.now)) }
 {
-    let decls = main_declarations(definition)?;
+    let decls = main_declarations(definition).ok_or(NOT_BUILT)?;
     let sorts = declared_sorts(alloc, decls)?;
     sorts.names_differ();
     let symbols = declared_symbols(alloc, &sorts, decls)?;
@@ -97,15 +120,33 @@ fn accept_definition(alloc: Global, definition: &Definition) -> Result<Program, 
 }
 
 /// The declarations of the only module, where all are of a kind that is accepted.
-fn main_declarations(definition: &Definition) -> Result<&[Decl], Refusal>
-    ensures { IfOk result (λ decls. HasDeclarations (plain_definition definition.now) (map plain_declaration decls.now)) }
+fn main_declarations(definition: &Definition) -> Option<&[Decl]>
+    ensures { IfSome result (λ decls. HasDeclarations (plain_definition definition.now) (map plain_declaration decls.now)) }
+{
+    let main = only_module(definition)?;
+    if are_built(&main.decls) { Some(&main.decls) } else { None }
+}
+
+/// The only module of a definition, where neither has attributes.
+fn only_module(definition: &Definition) -> Option<&Module>
+    ensures { IfSome result (λ main. IsOnlyModule (plain_definition definition.now) (plain_module main.now)) }
 {
     match definition.modules.as_slice() {
-        [main] if definition.attrs.is_empty() && main.attrs.is_empty() => {
-            if main.decls.iter().all(is_built) { Ok(main.decls.as_slice()) } else { Err(NOT_BUILT) }
-        }
-        _ => Err(NOT_BUILT),
+        [main] if definition.attrs.is_empty() && main.attrs.is_empty() => Some(main),
+        _ => None,
     }
+}
+
+/// Whether all declarations are of a kind that is accepted.
+fn are_built(decls: &[Decl]) -> bool
+    ensures { OnTrue result (All IsBuilt (map plain_declaration decls.now)) }
+{
+    for decl in decls {
+        if !is_built(decl) {
+            return false;
+        }
+    }
+    true
 }
 
 /// Whether a declaration is of a kind that is accepted.
@@ -331,8 +372,8 @@ fn rule_of(
     }
     Ok(Rule {
         at: axiom.at,
-        left: RulePat::Ctor(left, Vec::new(alloc)),
-        right: RulePat::Ctor(right, Vec::new(alloc)),
+        left: constant_pattern(alloc, left),
+        right: constant_pattern(alloc, right),
         vars: Vec::new(alloc),
         priority: PRIORITY,
     })

@@ -1,5 +1,6 @@
 -- One turn of a trial, and what the order of trial makes of the first match.
 use Rattle.std.proofs.Common.{◌≡◌, ℕ, ◌+◌, ◌<◌, ◌≤◌, List, [], map, length, get_or, slice_get, Option, option_map, Some, Bool, true, false, All, IsTrue, vec_len, refl, sym, ◌∙◌, ap, subst, arith, inl, inr, ◌⊎◌, zero, suc, ◌∷◌, Contains}
+use Rattle.std.specs.List.Sorted.{IsNonDecreasingBy}
 use Rattle.std.proofs.lemmas.List.{nil_from_length}
 use Rattle.std.proofs.lemmas.Option.{slice_get-map, slice_get_read, slice_get_within}
 use Rattle.term_core.specs.Terms.{Tree}
@@ -78,5 +79,38 @@ first_rule rules t i theta order m = record {
 }
 
 -- where none matches, no rule applies
-pub no_rule_applies : (rules : List RewriteRule) (t : Tree) → NoneMatches rules 0 (length rules) t → NoRuleApplies rules t
-no_rule_applies rules t none = λ rule known. none known.0 rule (omega arith) known.1 (place_of rules rule known)
+pub no_rule_applies : (rules : List RewriteRule) (n : ℕ) (t : Tree) → length rules ≤ n → NoneMatches rules 0 n t → NoRuleApplies rules t
+no_rule_applies rules n t all none = λ rule known. none known.0 rule (omega arith) (omega (arith, known.1)) (place_of rules rule known)
+
+-- an element of a mapped list comes from the element at its place
+pub mapped : {A B : Type 0} (f : A → B) (xs : List A) (i : ℕ) (y : B) → slice_get (map f xs) i ≡ Some y → (x : A) × ((slice_get xs i ≡ Some x) × (f x ≡ y))
+mapped f [] i y h = absurd (let z : ⊥ = cc in z)
+mapped f (x ∷ xs) zero y h = (x, (refl, cc))
+mapped f (x ∷ xs) (suc i) y h = mapped f xs i y h
+
+pub get_within : {A : Type 0} (xs : List A) (i : ℕ) (x d : A) → slice_get xs i ≡ Some x → get_or xs i d ≡ x
+get_within [] i x d h = absurd (let z : ⊥ = cc in z)
+get_within (y ∷ xs) zero x d h = cc
+get_within (y ∷ xs) (suc i) x d h = get_within xs i x d h
+
+moved : (a : Rule) (earlier : RewriteRule) (b : Rule) (later : RewriteRule) → rewrite_rule a ≡ earlier → rewrite_rule b ≡ later → ComesBefore later earlier → ComesBefore (rewrite_rule b) (rewrite_rule a)
+moved a earlier b later ea eb h =
+    let P : RewriteRule → Type 0 = λ x. ComesBefore x earlier in
+    let Q : RewriteRule → Type 0 = λ y. ComesBefore (rewrite_rule b) y in
+    subst Q (sym ea) (subst P (sym eb) h)
+
+apart : (a b : Rule) (p : ℕ) → a.priority ≡ p → b.priority ≡ p → a.at ≤ b.at → ComesBefore (rewrite_rule b) (rewrite_rule a) → ⊥
+apart a b p pa pb low (inl smaller) = omega arith
+apart a b p pa pb low (inr place) = let before : b.at < a.at = place.1 in omega arith
+
+-- Rules of one priority are in the order of trial where their places do not fall.
+pub in_trial_order : (rules : List Rule) (p : ℕ) → All (λ (r : Rule). r.priority ≡ p) rules → IsNonDecreasingBy (λ (r : Rule). r.at) rules → IsInTrialOrder (rewrite_rules rules)
+in_trial_order rules p all sorted = λ i j earlier later lt at_i at_j before.
+    let a = mapped rewrite_rule rules i earlier at_i in
+    let b = mapped rewrite_rule rules j later at_j in
+    let in_i : i < length rules = slice_get_within rules i a.0 a.1.0 in
+    let in_j : j < length rules = slice_get_within rules j b.0 b.1.0 in
+    let p_i : a.0.priority ≡ p = sym (ap (λ (r : Rule). r.priority) (get_within rules i a.0 a.0 a.1.0)) ∙ all i a.0 in_i in
+    let p_j : b.0.priority ≡ p = sym (ap (λ (r : Rule). r.priority) (get_within rules j b.0 b.0 b.1.0)) ∙ all j b.0 in_j in
+    let low : a.0.at ≤ b.0.at = rw (ap (λ (r : Rule). r.at) (get_within rules i a.0 b.0 a.1.0), ap (λ (r : Rule). r.at) (get_within rules j b.0 b.0 b.1.0)) at (sorted i j b.0 (omega arith) in_j) in
+    apart a.0 b.0 p p_i p_j low (moved a.0 earlier b.0 later a.1.1 b.1.1 before)

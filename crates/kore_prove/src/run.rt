@@ -1,0 +1,51 @@
+// The run of a term by the rules of a program.
+ghost use Rattle.std.specs.Prelude.{◌≡◌, ◌≤◌, [], Some, IfOk, IsSome, All};
+ghost use Rattle.term_core.specs.Patterns.{instance_of};
+ghost use Rattle.rule_core.specs.Runs.{IsRunOf};
+ghost use Rattle.rule_core.specs.Trial.{IsInTrialOrder};
+ghost use Rattle.rule_core.specs.ProgramView.{rewrite_rules};
+ghost use Rattle.kore_prove.specs.Lines.{text_of, run_of};
+ghost use Rattle.kore_prove.specs.Runnable.{IsShown, IsRunnable, NextBy};
+
+use rule_core::{Outcome, Program, first_match};
+use std::alloc::{AllocError, Global};
+use term_core::{Term, instance};
+
+/// Runs a term to its end: how it ends, and the last configuration. Of the configurations only the
+/// present one is kept.
+pub fn run(
+    alloc: Global,
+    program: &Program,
+    start: Term,
+    limit: u32,
+) -> Result<(Outcome, Term), AllocError>
+    requires in_order { IsInTrialOrder (rewrite_rules program.now.rules.items) }
+    requires runnable { All (IsRunnable program.now.sig.symbols) program.now.rules.items }
+    requires shown { IsShown program.now.sig.symbols start }
+    ensures run { IfOk result (λ r. IsRunOf (rewrite_rules program.now.rules.items) limit start (run_of r.0 r.1)) }
+    ensures shown { IfOk result (λ r. IsShown program.now.sig.symbols r.1) }
+{
+    let mut config = start;
+    for made in 0..limit {
+        match next(alloc, program, &config)? {
+            Some(term) => config = term,
+            None => return Ok((Outcome::Stuck(made), config)),
+        }
+    }
+    Ok((Outcome::Limit(limit), config))
+}
+
+/// The next configuration, where a rule applies.
+fn next(alloc: Global, program: &Program, config: &Term) -> Result<Option<Term>, AllocError>
+    requires in_order { IsInTrialOrder (rewrite_rules program.now.rules.items) }
+    requires runnable { All (IsRunnable program.now.sig.symbols) program.now.rules.items }
+    ensures step { IfOk result (NextBy (rewrite_rules program.now.rules.items) program.now.sig.symbols config.now) }
+{
+    match first_match(alloc, &program.rules, 0, config)? {
+        Some((i, subst)) => {
+            let rule = &program.rules[i];
+            Ok(Some(instance(alloc, &rule.right, &subst)?))
+        }
+        None => Ok(None),
+    }
+}
