@@ -3,3 +3,5 @@ pub mod Denoting
 pub mod Pairings
 pub mod Declared
 pub mod WordsOfCases
+pub mod Limits
+pub mod CommandWords
