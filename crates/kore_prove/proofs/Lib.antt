@@ -4,3 +4,5 @@ pub mod Pairings
 pub mod Declared
 pub mod WordsOfCases
 pub mod Stepping
+pub mod Limits
+pub mod CommandWords

@@ -1,0 +1,57 @@
+// The words of the command line.
+ghost use Rattle.std.specs.Prelude.{ℕ, List, map, All, IfSome, IfNone, IsTrue, ◌↔◌, string_bytes};
+ghost use Rattle.kore_prove.specs.Words.{IsRunCommand, IsLimit, IsDigit};
+
+/// What a call is to run: the name of a file with a definition, the name of a file with a term, and
+/// the greatest number of steps.
+#[derive(Clone, Copy)]
+pub struct RunWords<'a> {
+    pub definition: &'a str,
+    pub term: &'a str,
+    pub limit: u32,
+}
+
+/// The greatest number of steps that words may name.
+const MAX_LIMIT: u32 = 1_000_000;
+
+/// What the words ask for, or nothing where they are no command.
+pub fn read_words(words: &[String]) -> Option<RunWords<'_>>
+    ensures command { IfSome result (λ r.
+        IsRunCommand (map string_bytes words.now) r.definition.now r.term.now r.limit) }
+    ensures bad { IfNone result ((definition term : List ℕ) (limit : ℕ) →
+        IsRunCommand (map string_bytes words.now) definition term limit → ⊥) }
+{
+    match words {
+        [run, definition, term, option, number]
+            if run.as_str() == "run" && option.as_str() == "--limit" => {
+            let limit = read_limit(number.as_str())?;
+            Some(RunWords {
+                definition: definition.as_str(),
+                term: term.as_str(),
+                limit,
+            })
+        }
+        _ => None,
+    }
+}
+
+/// The limit of steps that a word writes.
+fn read_limit(word: &str) -> Option<u32>
+    ensures limit { IfSome result (IsLimit word.now) }
+    ensures bad { IfNone result ((limit : ℕ) → IsLimit word.now limit → ⊥) }
+{
+    if word.len() > 8 || !is_number(word) {
+        return None;
+    }
+    match word.parse::<u32>() {
+        Ok(limit) if limit <= MAX_LIMIT => Some(limit),
+        _ => None,
+    }
+}
+
+/// Whether all bytes of a word are digits.
+fn is_number(word: &str) -> bool
+    ensures { IsTrue result ↔ All IsDigit word.now }
+{
+    word.as_bytes().iter().all(|c| c.is_ascii_digit())
+}
