@@ -7,23 +7,15 @@ use Rattle.kore_ast.specs.KoreText.{ReadsPattern, ReadsDefinition}
 use Rattle.desk_io.specs.Told.{Told, file_of}
 use Rattle.rule_core.specs.declared.signature.Signature.{Signature}
 use Rattle.rule_core.specs.Rules.{RewriteRule}
+use Rattle.rule_core.specs.declared.rules.Outcome.{Outcome}
 use Rattle.rule_core.specs.Runs.{Run, stuck, limited, IsRunOf}
 use Rattle.kore_prove.specs.Words.{IsRunCommand}
 use Rattle.kore_prove.specs.Acceptance.{IsAccepted, IsAcceptedTerm}
-use Rattle.kore_prove.specs.Lines.{lines_of}
+use Rattle.kore_prove.specs.Lines.{lines_of, run_of}
 
--- the exit code of a run
-abbrev pub code_of : Run → ℕ
-code_of (stuck n t) = 0
-code_of (limited n t) = 10
-
--- The words name two files and a limit; the one is accepted as a definition, the other as a term of it; and what was
--- printed are the two lines of the term's run, whose end has the exit code.
-pub record HasPrintedRun (words : List (List ℕ)) (told : Told) (printed : List ℕ) (code : ℕ) : Type 0 where
-  pub definition_name : List ℕ
-  pub term_name : List ℕ
-  pub limit : ℕ
-  pub command : IsRunCommand words definition_name term_name limit
+-- The one file is accepted as a definition, the other as a term of it; the run is that of the term up to the limit, and
+-- what was printed are its two lines.
+pub record IsPrintedRun (definition_name term_name : List ℕ) (limit : ℕ) (told : Told) (printed : List ℕ) (run : Run) : Type 0 where
   pub definition_bytes : List ℕ
   pub definition_file : file_of told.files definition_name ≡ Some definition_bytes
   pub definition : DefinitionTree
@@ -40,14 +32,27 @@ pub record HasPrintedRun (words : List (List ℕ)) (told : Told) (printed : List
   pub accepted_term : IsAcceptedTerm signature top term start_pattern
   pub start : Tree
   pub start_value : instance_of [] start_pattern ≡ Some start
-  pub run : Run
   pub is_run : IsRunOf rules limit start run
   pub lines : lines_of signature.symbols run ≡ Some printed
-  pub code_is : code ≡ code_of run
 
--- with the exit codes of a run, the output grew by the lines of the run
+-- the output grew by the lines of the run of these files, which has this end
+abbrev pub PrintsRunOf : List ℕ → List ℕ → ℕ → Option Told → Option (List ℕ) → Option (List ℕ) → Outcome → Type 0
+PrintsRunOf definition_name term_name limit None before after outcome = Unit {0}
+PrintsRunOf definition_name term_name limit (Some told) None after outcome = Unit {0}
+PrintsRunOf definition_name term_name limit (Some told) (Some before) after outcome =
+    (printed : List ℕ) × (last : Tree) × (after ≡ Some (before ++ printed)) × IsPrintedRun definition_name term_name limit told printed (run_of outcome last)
+
+-- the exit code of a run
+abbrev pub code_of : Run → ℕ
+code_of (stuck n t) = 0
+code_of (limited n t) = 10
+
+-- With the exit codes of a run, the words name two files and a limit, the output grew by the two lines of the run that
+-- they give, and the code is that of its end. Of a desk or an output that tells nothing nothing is said.
 abbrev pub PrintsRun : List (List ℕ) → Option Told → Option (List ℕ) → Option (List ℕ) → ℕ → Type 0
 PrintsRun words None before after code = Unit {0}
 PrintsRun words (Some told) None after code = Unit {0}
 PrintsRun words (Some told) (Some before) after code =
-    (code ≡ 0) ⊎ (code ≡ 10) → (printed : List ℕ) × (after ≡ Some (before ++ printed)) × HasPrintedRun words told printed code
+    (code ≡ 0) ⊎ (code ≡ 10)
+    → (definition_name : List ℕ) × (term_name : List ℕ) × (limit : ℕ) × (printed : List ℕ) × (run : Run) × IsRunCommand words definition_name term_name limit
+    × IsPrintedRun definition_name term_name limit told printed run × (after ≡ Some (before ++ printed)) × (code ≡ code_of run)

@@ -1,0 +1,53 @@
+// The files of a run: the definition and the term.
+ghost use Rattle.std.specs.Prelude.{◌≡◌, IfOk};
+ghost use Rattle.desk_io.specs.Told.{KeepsFiles};
+ghost use Rattle.term_core.specs.RulePatterns.{plain_pattern};
+ghost use Rattle.kore_prove.specs.Files.{HoldsProgram, HoldsStart};
+
+use crate::accept::{Refusal, accept, accept_term};
+use desk_io::{Desk, ReadEnd, read_file};
+use rule_core::Program;
+use std::alloc::Global;
+use term_core::RulePat;
+
+/// The greatest number of bytes of a definition.
+const DEFINITION_LIMIT: usize = 33_554_432;
+
+/// The greatest number of bytes of a term.
+const TERM_LIMIT: usize = 1_048_576;
+
+/// Why a file gave no program or no start of a run.
+#[derive(Clone, Copy, PartialEq, Eq, Debug)]
+pub enum FileEnd {
+    /// The file was not read whole.
+    Unread(ReadEnd),
+    /// What it holds was refused.
+    Refused(Refusal),
+}
+
+/// The program that the file of that name holds.
+pub fn read_program<D: Desk>(alloc: Global, desk: &mut D, name: &str) -> Result<Program, FileEnd>
+    ensures found { IfOk result (HoldsProgram (D.told desk.old) name.now) }
+    ensures files { KeepsFiles (D.told desk.old) (D.told desk.new) }
+{
+    match read_file(alloc, desk, name, DEFINITION_LIMIT) {
+        Ok(bytes) => accept(alloc, &bytes).map_err(FileEnd::Refused),
+        Err(end) => Err(FileEnd::Unread(end)),
+    }
+}
+
+/// The start of a run of the program that the file of that name holds.
+pub fn read_start<D: Desk>(
+    alloc: Global,
+    desk: &mut D,
+    name: &str,
+    program: &Program,
+) -> Result<RulePat, FileEnd>
+    ensures found { IfOk result (λ start. HoldsStart (D.told desk.old) name.now program.now (plain_pattern start)) }
+    ensures files { KeepsFiles (D.told desk.old) (D.told desk.new) }
+{
+    match read_file(alloc, desk, name, TERM_LIMIT) {
+        Ok(bytes) => accept_term(alloc, program, &bytes).map_err(FileEnd::Refused),
+        Err(end) => Err(FileEnd::Unread(end)),
+    }
+}
