@@ -6,3 +6,4 @@ pub mod WordsOfCases
 pub mod Stepping
 pub mod Limits
 pub mod CommandWords
+pub mod Printing

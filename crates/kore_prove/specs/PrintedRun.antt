@@ -7,6 +7,8 @@ use Rattle.kore_ast.specs.KoreText.{ReadsPattern, ReadsDefinition}
 use Rattle.desk_io.specs.Told.{Told, file_of}
 use Rattle.rule_core.specs.declared.signature.Signature.{Signature}
 use Rattle.rule_core.specs.Rules.{RewriteRule}
+use Rattle.rule_core.specs.ProgramView.{rewrite_rules}
+use Rattle.rule_core.specs.declared.rules.Program.{Program}
 use Rattle.rule_core.specs.declared.rules.Outcome.{Outcome}
 use Rattle.rule_core.specs.Runs.{Run, stuck, limited, IsRunOf}
 use Rattle.kore_prove.specs.Words.{IsRunCommand}
@@ -34,6 +36,14 @@ pub record IsPrintedRun (definition_name term_name : List ℕ) (limit : ℕ) (to
   pub start_value : instance_of [] start_pattern ≡ Some start
   pub is_run : IsRunOf rules limit start run
   pub lines : lines_of signature.symbols run ≡ Some printed
+
+-- these are the lines of the program's run from this start up to the limit, which has this end
+pub record HasLines (program : Program) (start_pattern : Pattern) (limit : ℕ) (outcome : Outcome) (lines : List ℕ) : Type 0 where
+  pub start : Tree
+  pub start_value : instance_of [] start_pattern ≡ Some start
+  pub last : Tree
+  pub is_run : IsRunOf (rewrite_rules program.rules.items) limit start (run_of outcome last)
+  pub lines_are : lines_of program.sig.symbols (run_of outcome last) ≡ Some lines
 
 -- the output grew by the lines of the run of these files, which has this end
 abbrev pub PrintsRunOf : List ℕ → List ℕ → ℕ → Option Told → Option (List ℕ) → Option (List ℕ) → Outcome → Type 0

@@ -1,0 +1,59 @@
+-- From the parts of a call to what it printed.
+use Rattle.std.proofs.Common.{◌≡◌, ℕ, List, ◌++◌, Option, Some, None, refl, sym, ◌∙◌, ap, subst, ◌⊎◌}
+use Rattle.desk_io.specs.Told.{Told, file_of, Holds, KeepsFiles}
+use Rattle.desk_io.specs.Sent.{Appends}
+use Rattle.term_core.specs.Terms.{Tree}
+use Rattle.term_core.specs.Patterns.{Pattern}
+use Rattle.rule_core.specs.declared.rules.Outcome.{Outcome}
+use Rattle.rule_core.specs.declared.rules.Program.{Program}
+use Rattle.rule_core.specs.ProgramView.{rewrite_rules}
+use Rattle.rule_core.proofs.Reordered.{IsRunOf-reordered}
+use Rattle.kore_prove.specs.Words.{IsRunCommand}
+use Rattle.kore_prove.specs.Lines.{run_of}
+use Rattle.kore_prove.specs.Acceptance.{sort_number}
+use Rattle.kore_prove.specs.Files.{HoldsProgram, HoldsStart}
+use Rattle.kore_prove.specs.PrintedRun.{HasLines, IsPrintedRun, PrintsRunOf, PrintsRun, code_of}
+
+-- the run of the files, printed
+printed_run : (told : Told) (definition_name term_name : List ℕ) (limit : ℕ) (program : Program) (start : Pattern) (outcome : Outcome) (lines : List ℕ) → HoldsProgram (Some told) definition_name program
+  → HoldsStart (Some told) term_name program start → (h : HasLines program start limit outcome lines) → IsPrintedRun definition_name term_name limit told lines (run_of outcome h.last)
+printed_run told definition_name term_name limit program start outcome lines p s h = record {
+  definition_bytes = p.0;
+  definition_file = p.1;
+  definition = p.2.0;
+  reads_definition = p.2.1;
+  signature = program.sig;
+  top = sort_number program.top;
+  rules = p.2.2.rules;
+  accepted = p.2.2.accepted;
+  term_bytes = s.0;
+  term_file = s.1;
+  term = s.2.0;
+  reads_term = s.2.1;
+  start_pattern = start;
+  accepted_term = s.2.2.accepted;
+  start = h.start;
+  start_value = h.start_value;
+  is_run = IsRunOf-reordered p.2.2.rules (rewrite_rules program.rules.items) p.2.2.same_rules limit h.start (run_of outcome h.last) h.is_run;
+  lines = h.lines_are;
+}
+
+-- the second file is that of the first desk too, whose files it kept
+kept_start : (told : Told) (told' : Option Told) (name : List ℕ) (program : Program) (start : Pattern) → KeepsFiles (Some told) told' → HoldsStart told' name program start → HoldsStart (Some told) name program start
+kept_start told told' name program start kept s = let P : Option Told → Type 0 = λ o. HoldsStart o name program start in
+    let q : HoldsStart (Some (record told { unread = kept.0 })) name program start = subst P kept.1 s in
+    (q.0, q.1, q.2)
+
+pub prints_run_of : (told told' : Option Told) (definition_name term_name : List ℕ) (limit : ℕ) (program : Program) (start : Pattern) (outcome : Outcome) (lines : List ℕ) (before after : Option (List ℕ))
+  → HoldsProgram told definition_name program → KeepsFiles told told' → HoldsStart told' term_name program start → HasLines program start limit outcome lines → Appends before after lines
+  → PrintsRunOf definition_name term_name limit told before after outcome
+prints_run_of None told' dn tn limit program start outcome lines before after p kept s h appended = tt
+prints_run_of (Some told) told' dn tn limit program start outcome lines None after p kept s h appended = tt
+prints_run_of (Some told) told' dn tn limit program start outcome lines (Some before) after p kept s h appended =
+    (lines, h.last, appended, printed_run told dn tn limit program start outcome lines p (kept_start told told' tn program start kept s) h)
+
+pub prints_run : (words : List (List ℕ)) (told : Option Told) (before after : Option (List ℕ)) (dn tn : List ℕ) (limit : ℕ) (outcome : Outcome) (code : ℕ) → IsRunCommand words dn tn limit
+  → PrintsRunOf dn tn limit told before after outcome → ((t : Tree) → code ≡ code_of (run_of outcome t)) → PrintsRun words told before after code
+prints_run words None before after dn tn limit outcome code command p is = tt
+prints_run words (Some told) None after dn tn limit outcome code command p is = tt
+prints_run words (Some told) (Some before) after dn tn limit outcome code command p is = λ _. (dn, tn, limit, p.0, run_of outcome p.1, command, p.3, p.2, is p.1)

@@ -1,0 +1,157 @@
+// The top call: words, files, the run and its lines.
+ghost use Rattle.std.specs.Prelude.{◌≡◌, ◌≤◌, ◌^◌, [], Some, All, IfOk, map, string_bytes, ◌≢◌};
+ghost use Rattle.term_core.specs.Patterns.{instance_of, FitsWithin};
+ghost use Rattle.term_core.specs.RulePatterns.{plain_pattern};
+ghost use Rattle.kore_prove.specs.Runnable.{IsShowable, IsRunnable};
+ghost use Rattle.rule_core.specs.Trial.{IsInTrialOrder};
+ghost use Rattle.rule_core.specs.ProgramView.{rewrite_rules};
+ghost use Rattle.kore_prove.specs.PrintedRun.{PrintsRun, PrintsRunOf, HasLines, code_of};
+ghost use Rattle.kore_prove.specs.Lines.{run_of};
+ghost use Rattle.term_core.specs.Terms.{Tree};
+
+use crate::files::{FileEnd, read_program, read_start};
+use crate::accept::Refusal;
+use crate::lines::run_lines;
+use crate::report::{End, send_report};
+use crate::run::run;
+use crate::words::{RunWords, read_words};
+use desk_io::{Desk, DeskFault, ReadEnd, Sink, send_whole};
+use rule_core::{Outcome, Program};
+use std::alloc::{AllocError, Global};
+use term_core::{RulePat, Subst, Term, instance};
+
+/// How a call ended: the exit code of the program.
+#[derive(Clone, Copy, PartialEq, Eq, Debug)]
+pub struct Status {
+    pub code: u8,
+}
+
+/// Runs the command that the words name: reads its files from the desk, runs the term, and prints
+/// the two lines of the run to `out`. Where it does not come to that, `err` gets one line that says
+/// why. The status has the exit code: 0 where the run is stuck, 10 where it reached its limit.
+pub fn kore_main<D: Desk, O: Sink, E: Sink>(
+    alloc: Global,
+    words: &[String],
+    desk: &mut D,
+    out: &mut O,
+    err: &mut E,
+) -> Status
+    ensures printed_run { PrintsRun (map string_bytes words.now) (D.told desk.old) (O.bytes out.old) (O.bytes out.new) result.code }
+{
+    match read_words(words) {
+        Some(command) => match run_command(alloc, &command, desk, out) {
+            Ok(outcome) => Status {
+                code: exit_code(outcome),
+            },
+            Err(end) => report(err, &end),
+        },
+        None => report(err, &End::BadWords),
+    }
+}
+
+/// The exit code of a run.
+fn exit_code(outcome: Outcome) -> u8
+    ensures { (last : Tree) → result ≡ code_of (run_of outcome last) }
+{
+    match outcome {
+        Outcome::Stuck(_) => 0,
+        Outcome::Limit(_) => 10,
+    }
+}
+
+/// Says on `err` why the call did not come to a run's lines. Where memory is wanting for that too,
+/// the status is that of want of memory.
+fn report<E: Sink>(err: &mut E, end: &End) -> Status
+    ensures stuck { result.code ≢ 0 }
+    ensures limited { result.code ≢ 10 }
+{
+    match send_report(err, end) {
+        Err(DeskFault::Memory) => Status {
+            code: End::OutOfMemory.code(),
+        },
+        _ => Status { code: end.code() },
+    }
+}
+
+/// Runs the term of the one file by the definition of the other, and prints the lines of the run.
+fn run_command<'a, D: Desk, O: Sink>(
+    alloc: Global,
+    command: &RunWords<'a>,
+    desk: &mut D,
+    out: &mut O,
+) -> Result<Outcome, End<'a>>
+    ensures printed { IfOk result (PrintsRunOf command.now.definition.now command.now.term.now command.now.limit (D.told desk.old) (O.bytes out.old) (O.bytes out.new)) }
+{
+    let program = match read_program(alloc, desk, command.definition) {
+        Ok(program) => program,
+        Err(end) => return Err(definition_end(end, command.definition)),
+    };
+    let start = match read_start(alloc, desk, command.term, &program) {
+        Ok(start) => start,
+        Err(end) => return Err(term_end(end, command.term)),
+    };
+    let lines = match lines_of_run(alloc, &program, &start, command.limit) {
+        Ok(lines) => lines,
+        Err(_) => return Err(End::OutOfMemory),
+    };
+    match send_whole(out, &lines.1) {
+        Ok(()) => Ok(lines.0),
+        Err(DeskFault::Failed) => Err(End::WriteFault),
+        Err(DeskFault::Memory) => Err(End::OutOfMemory),
+    }
+}
+
+/// How the run of a start ends, and its two lines.
+fn lines_of_run(
+    alloc: Global,
+    program: &Program,
+    start: &RulePat,
+    limit: u32,
+) -> Result<(Outcome, Vec<u8>), AllocError>
+    requires in_order { IsInTrialOrder (rewrite_rules program.now.rules.items) }
+    requires runnable { All (IsRunnable program.now.sig.symbols) program.now.rules.items }
+    requires showable { IsShowable program.now.sig.symbols (plain_pattern start.now) }
+    ensures run { IfOk result (λ r. HasLines program.now (plain_pattern start.now) limit r.0 r.1.items) }
+{
+    let term = start_term(alloc, start)?;
+    let (outcome, last) = run(alloc, program, term, limit)?;
+    let lines = run_lines(alloc, &program.sig.symbols, outcome, &last)?;
+    Ok((outcome, lines))
+}
+
+/// The term that a start without variables is.
+fn start_term(alloc: Global, start: &RulePat) -> Result<Term, AllocError>
+    requires { FitsWithin 500 [] (plain_pattern start.now) }
+    ensures { IfOk result (λ t. instance_of [] (plain_pattern start.now) ≡ Some t) }
+{
+    let subst = Subst::new(alloc, 0)?;
+    instance(alloc, start, &subst)
+}
+
+/// The end of a call whose definition was not read or not accepted.
+fn definition_end(end: FileEnd, name: &str) -> End<'_> {
+    match end {
+        FileEnd::Unread(end) => unread(end, name),
+        FileEnd::Refused(Refusal::Refused(number, byte)) => End::DefinitionRefused(number, byte),
+        FileEnd::Refused(Refusal::Memory) => End::OutOfMemory,
+    }
+}
+
+/// The end of a call whose term was not read or not accepted.
+fn term_end(end: FileEnd, name: &str) -> End<'_> {
+    match end {
+        FileEnd::Unread(end) => unread(end, name),
+        FileEnd::Refused(Refusal::Refused(number, byte)) => End::TermRefused(number, byte),
+        FileEnd::Refused(Refusal::Memory) => End::OutOfMemory,
+    }
+}
+
+/// The end of a call whose file of that name was not read whole.
+fn unread(end: ReadEnd, name: &str) -> End<'_> {
+    match end {
+        ReadEnd::NoFile => End::NoSuchFile(name),
+        ReadEnd::Failed => End::ReadFault,
+        ReadEnd::TooLarge => End::TooLarge(name),
+        ReadEnd::Memory => End::OutOfMemory,
+    }
+}
