@@ -6,6 +6,7 @@
 // `KoreText` says which tree bytes spell.
 #![tactic(auto)]
 
+mod bytes;
 mod text;
 mod tree;
 
