@@ -3,7 +3,7 @@
 use Rattle.std.proofs.Common.{◌≡◌, ◌≢◌, ◌≤◌, ◌<◌, ◌+◌, ◌-◌, ℕ, zero, suc, Bool, true, false, not, ◌==◌, ◌||◌, List, [], ◌∷◌, length, drop, refl, ap, sym, ◌∙◌, if◌then◌else◌, arith, inl, inr, ◌⊎◌, subst, rules}
 use Rattle.kore_ast.specs.Pieces.{Token, identifier, builtin, mark, Piece, nothing, gap, whole, bad, word, is_letter, is_space, is_mark, builtin_piece, piece}
 use Rattle.kore_ast.specs.Lexed.{Stream, end, fault, token, onward, lexed}
-use Rattle.kore_ast.specs.Heads.{begins_space, name_at, builtin_at, identifier_of, builtin_of, has_mark, is_end}
+use Rattle.kore_ast.specs.Heads.{begins_space, begins, name_at, builtin_at, identifier_of, builtin_of, has_mark, is_end}
 use Rattle.kore_ast.proofs.Lexing.{lexed-is}
 use Rattle.kore_ast.proofs.Words.{length-word}
 
@@ -12,10 +12,10 @@ true-not-not true h = cc
 true-not-not false h = cc
 
 -- a byte that equals one of these is one of these
-same_byte : (c d : ℕ) → (c == d) ≡ true → c ≡ d
+pub same_byte : (c d : ℕ) → (c == d) ≡ true → c ≡ d
 same_byte c d h = search (rules, h)
 
-either : (a b : Bool) → (a || b) ≡ true → (a ≡ true) ⊎ (b ≡ true)
+pub either : (a b : Bool) → (a || b) ≡ true → (a ≡ true) ⊎ (b ≡ true)
 either true b h = inl refl
 either false b h = inr h
 
@@ -70,10 +70,6 @@ builtin-unmarked c at bs [] = refl
 builtin-unmarked c at bs (d ∷ ds) =
     elim (is_letter d) as (λ b. has_mark c (onward lexed at bs (if b then whole (builtin (d ∷ word ds)) (length (word ds) + 2) else bad)) ≡ false)
     [ true ↦ refl | false ↦ refl ]
-
-abbrev pub begins : ℕ → List ℕ → Bool
-begins c [] = false
-begins c (d ∷ ds) = d == c
 
 apart : (f : ℕ → Bool) (c d : ℕ) (b : Bool) → f c ≡ not b → f d ≡ b → (d == c) ≡ false
 apart f c d b h k = not_same c d (λ e. true-not-not b (sym (subst (λ x. f x ≡ b) e k) ∙ h))
@@ -234,3 +230,34 @@ is_end-some at (d ∷ ds) g h =
     ap is_end (lexed-is at (d ∷ ds)) ∙ rw g
     (ended-if d (length (word ds) + 1) at (d ∷ ds) (d ∷ word ds) (is_letter d) (d == 92) (is_mark d) (builtin_piece ds)
       (unended-builtin at (d ∷ ds) ds))
+
+-- a name is not empty
+abbrev pub Named : Stream → Type 0
+Named (token (identifier n) at s) = 1 ≤ length n
+Named (token (builtin n) at s) = 1 ≤ length n
+Named _ = Unit {0}
+
+whole-named : (b : Bool) (d at : ℕ) (bs ds : List ℕ)
+    → Named (onward lexed at bs (if b then whole (builtin (d ∷ word ds)) (length (word ds) + 2) else bad))
+whole-named true d at bs ds = omega arith
+whole-named false d at bs ds = tt
+
+builtin-named : (at : ℕ) (bs cs : List ℕ) → Named (onward lexed at bs (builtin_piece cs))
+unfolding builtin_piece
+builtin-named at bs [] = tt
+builtin-named at bs (d ∷ ds) = whole-named (is_letter d) d at bs ds
+
+named : (d m at c : ℕ) (bs cs : List ℕ) (letter slash marked : Bool) (q : Piece) → Named (onward lexed at bs q)
+    → Named (onward lexed at bs (if letter then whole (identifier (c ∷ cs)) m
+        else (if slash then q else (if marked then whole (mark d) 1 else bad))))
+named d m at c bs cs true slash marked q u = omega arith
+named d m at c bs cs false true marked q u = u
+named d m at c bs cs false false true q u = tt
+named d m at c bs cs false false false q u = tt
+
+pub named-lexed : (at : ℕ) (bs : List ℕ) → begins_space bs ≡ false → Named (lexed at bs)
+unfolding piece
+named-lexed at [] g = subst Named (sym (lexed-is at [])) tt
+named-lexed at (d ∷ ds) g =
+    subst Named (sym (lexed-is at (d ∷ ds))) (rw g
+    (named d (length (word ds) + 1) at d (d ∷ ds) (word ds) (is_letter d) (d == 92) (is_mark d) (builtin_piece ds) (builtin-named at (d ∷ ds) ds)))

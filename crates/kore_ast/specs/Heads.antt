@@ -1,12 +1,17 @@
 -- What the code finds at the head of bytes and of a stream: cited by the clauses of private
 -- functions alone.
-use Rattle.std.specs.Prelude.{◌≡◌, ℕ, Bool, true, false, ◌==◌, List, [], ◌∷◌, if◌then◌else◌}
+use Rattle.std.specs.Prelude.{◌≡◌, ℕ, Bool, true, false, ◌==◌, ◌||◌, List, [], ◌∷◌, if◌then◌else◌}
 use Rattle.kore_ast.specs.Pieces.{Token, identifier, builtin, mark, is_space, is_letter, word}
 use Rattle.kore_ast.specs.Lexed.{Stream, end, fault, token}
 
 abbrev pub begins_space : List ℕ → Bool
 begins_space [] = false
 begins_space (c ∷ cs) = is_space c
+
+-- the byte stands there
+abbrev pub begins : ℕ → List ℕ → Bool
+begins c [] = false
+begins c (d ∷ ds) = d == c
 
 -- the name, or nothing
 abbrev pub name_at : List ℕ → List ℕ
@@ -35,3 +40,7 @@ has_mark c _ = false
 abbrev pub is_end : Stream → Bool
 is_end (end at) = true
 is_end _ = false
+
+-- a mark that ends a list: } ) ]
+abbrev pub is_close : ℕ → Bool
+is_close c = (c == 125) || (c == 41) || (c == 93)

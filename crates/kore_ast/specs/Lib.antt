@@ -7,3 +7,6 @@ pub mod Grammar
 pub mod KoreText
 -- cited by the clauses of private functions alone
 pub mod Heads
+pub mod Faults
+pub mod Connectives
+pub mod Reading

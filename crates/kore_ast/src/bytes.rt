@@ -1,9 +1,10 @@
 // What stands at the head of bytes: white space, words, marks.
 
-ghost use Rattle.std.specs.Prelude.{◌≡◌, ◌≤◌, ◌<◌, ◌^◌, false, length, drop};
-ghost use Rattle.kore_ast.specs.Pieces.{is_space, is_letter, is_word, word};
+ghost use Rattle.std.specs.Prelude.{◌≡◌, ◌≤◌, false, length, drop};
+ghost use Rattle.kore_ast.specs.Pieces.{mark, is_space, is_letter, is_word, word};
+ghost use Rattle.kore_ast.specs.KoreText.{opened};
 ghost use Rattle.kore_ast.specs.Lexed.{lexed};
-ghost use Rattle.kore_ast.specs.Heads.{begins_space, name_at, builtin_at};
+ghost use Rattle.kore_ast.specs.Heads.{begins_space, begins, name_at, builtin_at};
 
 /// Space, tab, CR or LF.
 fn is_space(byte: u8) -> bool
@@ -50,11 +51,18 @@ pub(crate) fn token_start(text: &[u8], from: usize) -> usize
 }
 
 /// The bytes from `from` on.
-fn behind(text: &[u8], from: usize) -> &[u8]
+pub(crate) fn behind(text: &[u8], from: usize) -> &[u8]
     requires { from ≤ length text.now }
     ensures { result.now ≡ drop from text.now }
 {
     &text[from..]
+}
+
+/// Whether this byte stands at the head of the bytes.
+pub(crate) fn begins(bytes: &[u8], byte: u8) -> bool
+    ensures { result ≡ begins byte bytes.now }
+{
+    !bytes.is_empty() && bytes[0] == byte
 }
 
 /// The length of the word at the head of the bytes.
@@ -90,5 +98,17 @@ pub(crate) fn builtin_at(bytes: &[u8]) -> &[u8]
         name_at(behind(bytes, 1))
     } else {
         &bytes[..0]
+    }
+}
+
+/// The brackets that are open behind this mark.
+pub(crate) fn opened(byte: u8, depth: usize) -> usize
+    requires { depth ≤ 500 }
+    ensures { result ≡ opened (mark byte) depth }
+{
+    match byte {
+        b'(' | b'{' => depth + 1,
+        b')' | b'}' => depth.saturating_sub(1),
+        _ => depth,
     }
 }

@@ -7,6 +7,8 @@
 #![tactic(auto)]
 
 mod bytes;
+mod connectives;
+mod reader;
 mod text;
 mod tree;
 

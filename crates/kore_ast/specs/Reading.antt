@@ -1,0 +1,42 @@
+-- What is left of a text while it is read: cited by the clauses of private functions alone.
+use Rattle.std.specs.Prelude.{◌≡◌, ◌<◌, ℕ, ◌-◌, Bool, true, false, List, [], ◌∷◌, length, drop, Result, Ok, Err}
+use Rattle.kore_ast.specs.declared.reader.Reader.{Reader}
+use Rattle.kore_ast.specs.declared.tree.ReadFault.{ReadFault}
+use Rattle.kore_ast.specs.Pieces.{Token, mark}
+use Rattle.kore_ast.specs.Lexed.{Stream, token, lexed}
+use Rattle.kore_ast.specs.Grammar.{Want, any, Spelling}
+use Rattle.kore_ast.specs.KoreText.{opened, HasTokens}
+use Rattle.kore_ast.specs.Heads.{has_mark}
+
+-- the tokens that are left
+abbrev pub left : Reader → Stream
+left r = lexed r.at (drop r.at r.text.now)
+
+-- the bytes that are left
+abbrev pub size : Reader → ℕ
+size r = length r.text.now - r.at
+
+-- what is left are these tokens
+abbrev pub Has : List Want → Reader → Type 0
+Has k r = HasTokens k r.depth (left r)
+
+-- one token was taken
+pub record Took (t : Token) (old new : Reader) : Type 0 where
+  pub is : left old ≡ token t old.at (left new)
+  pub depth : new.depth ≡ opened t old.depth
+  pub shorter : size new < size old
+
+-- no text that goes on with this token is left
+abbrev pub Refuses : Token → Reader → Type 0
+Refuses t r = (k : List Want) → Has (any t ∷ k) r → ⊥
+
+-- what completes the rest completes the whole
+abbrev pub Spells : {X : Type 0} → (X → Spelling) → Reader → Result X ReadFault → Reader → Type 0
+Spells spelled old (Ok x) new = (k : List Want) → Has k new → Has (spelled x k) old
+Spells spelled old (Err e) new = Unit {0}
+
+-- at the head of a list (first or not) with this closing mark: another item comes, or none
+abbrev pub Another : Bool → ℕ → Bool → Reader → Reader → Type 0
+Another first close false old new = Took (mark close) old new
+Another true close true old new = (new ≡ old) × (has_mark close (left old) ≡ false)
+Another false close true old new = Took (mark 44) old new × (has_mark close (left old) ≡ false)
