@@ -24,15 +24,33 @@ pub of_mark : (P : ℕ → Type 0) → P 123 → P 125 → P 40 → P 41 → P 9
     → (c : ℕ) → is_mark c ≡ true → P c
 of_mark P a b d e f g h i c m =
     let at : (n : ℕ) → P n → (c == n) ≡ true → P c = λ n p q. subst P (sym (same_byte c n q)) p in
-    elim (either _ _ m) [ inr y ↦ at 58 i y | inl m1 ↦
-    elim (either _ _ m1) [ inr y ↦ at 44 h y | inl m2 ↦
-    elim (either _ _ m2) [ inr y ↦ at 93 g y | inl m3 ↦
-    elim (either _ _ m3) [ inr y ↦ at 91 f y | inl m4 ↦
-    elim (either _ _ m4) [ inr y ↦ at 41 e y | inl m5 ↦
-    elim (either _ _ m5) [ inr y ↦ at 40 d y | inl m6 ↦
-    elim (either _ _ m6) [ inr y ↦ at 125 b y | inl y ↦ at 123 a y ] ] ] ] ] ] ]
+    elim (either _ _ m) [
+      | inr y ↦ at 58 i y
+      | inl m1 ↦
+          elim (either _ _ m1) [
+            | inr y ↦ at 44 h y
+            | inl m2 ↦
+                elim (either _ _ m2) [
+                  | inr y ↦ at 93 g y
+                  | inl m3 ↦
+                      elim (either _ _ m3) [
+                        | inr y ↦ at 91 f y
+                        | inl m4 ↦
+                            elim (either _ _ m4) [
+                              | inr y ↦ at 41 e y
+                              | inl m5 ↦
+                                  elim (either _ _ m5) [
+                                    | inr y ↦ at 40 d y
+                                    | inl m6 ↦
+                                        elim (either _ _ m6) [ inr y ↦ at 125 b y | inl y ↦ at 123 a y ]
+                                  ]
+                            ]
+                      ]
+                ]
+          ]
+    ]
 
-not_same : (c d : ℕ) → (d ≡ c → ⊥) → (d == c) ≡ false
+pub not_same : (c d : ℕ) → (d ≡ c → ⊥) → (d == c) ≡ false
 not_same c d h = search (rules, h)
 
 pub record MarkFacts (c : ℕ) : Type 0 where
@@ -58,7 +76,7 @@ mark-if : (c d n m at : ℕ) (bs cs : List ℕ) (letter slash marked : Bool) (q 
     → (letter ≡ true → (d == c) ≡ false) → has_mark c (onward lexed at bs q) ≡ false → (slash ≡ true → (d == c) ≡ false)
     → (marked ≡ false → (d == c) ≡ false)
     → has_mark c (onward lexed at bs (if letter then whole (identifier cs) m
-        else (if slash then q else (if marked then whole (mark d) 1 else bad)))) ≡ (d == c)
+    else (if slash then q else (if marked then whole (mark d) 1 else bad)))) ≡ (d == c)
 mark-if c d n m at bs cs true slash marked q l b k u = sym (l refl)
 mark-if c d n m at bs cs false true marked q l b k u = b ∙ sym (k refl)
 mark-if c d n m at bs cs false false true q l b k u = refl
@@ -82,16 +100,18 @@ has_mark-lexed c at (d ∷ ds) m g =
     let f : MarkFacts c = mark-facts c m in
     ap (has_mark c) (lexed-is at (d ∷ ds)) ∙ rw g
     (mark-if c d 0 (length (word ds) + 1) at (d ∷ ds) (d ∷ word ds) (is_letter d) (d == 92) (is_mark d) (builtin_piece ds)
-      (apart is_letter c d true f.letter) (builtin-unmarked c at (d ∷ ds) ds) (apart (λ x. x == 92) c d true f.slash) (apart is_mark c d false m))
+    (apart is_letter c d true f.letter) (builtin-unmarked c at (d ∷ ds) ds) (apart (λ x. x == 92) c d true f.slash) (apart is_mark c d false m))
 
 pub taken-mark : (c at : ℕ) (bs : List ℕ) → is_mark c ≡ true → begins_space bs ≡ false
     → has_mark c (lexed at bs) ≡ true
     → (1 ≤ length bs) × (lexed at bs ≡ token (mark c) at (lexed (at + 1) (drop 1 bs)))
 taken-mark c at [] m g h = absurd (let z : false ≡ true = sym (has_mark-lexed c at [] m g) ∙ h in let y : ⊥ = cc in y)
 taken-mark c at (d ∷ ds) m g h =
-    let e : d ≡ c = same_byte d c (sym (has_mark-lexed c at (d ∷ ds) m g) ∙ h) in
-    (omega arith, subst (λ x. lexed at (x ∷ ds) ≡ token (mark c) at (lexed (at + 1) (drop 1 (x ∷ ds)))) (sym e)
-      (lexed-is at (c ∷ ds) ∙ ap (onward lexed at (c ∷ ds)) ((mark-facts c m).one ds)))
+    let e : d ≡ c = same_byte d c (sym (has_mark-lexed c at (d ∷ ds) m g) ∙ h) in (
+      omega arith,
+      subst (λ x. lexed at (x ∷ ds) ≡ token (mark c) at (lexed (at + 1) (drop 1 (x ∷ ds)))) (sym e)
+          (lexed-is at (c ∷ ds) ∙ ap (onward lexed at (c ∷ ds)) ((mark-facts c m).one ds)),
+    )
 
 -- a name at the head
 unnamed-builtin : (at : ℕ) (bs cs : List ℕ) → identifier_of (onward lexed at bs (builtin_piece cs)) ≡ []
@@ -104,7 +124,7 @@ unnamed-builtin at bs (d ∷ ds) =
 named-if : (d m at : ℕ) (bs n : List ℕ) (letter slash marked : Bool) (q : Piece)
     → identifier_of (onward lexed at bs q) ≡ []
     → identifier_of (onward lexed at bs (if letter then whole (identifier n) m
-        else (if slash then q else (if marked then whole (mark d) 1 else bad)))) ≡ (if letter then n else [])
+    else (if slash then q else (if marked then whole (mark d) 1 else bad)))) ≡ (if letter then n else [])
 named-if d m at bs n true slash marked q u = refl
 named-if d m at bs n false true marked q u = u
 named-if d m at bs n false false true q u = refl
@@ -116,7 +136,7 @@ identifier_of-lexed at [] g = ap identifier_of (lexed-is at [])
 identifier_of-lexed at (d ∷ ds) g =
     ap identifier_of (lexed-is at (d ∷ ds)) ∙ rw g
     (named-if d (length (word ds) + 1) at (d ∷ ds) (d ∷ word ds) (is_letter d) (d == 92) (is_mark d) (builtin_piece ds)
-      (unnamed-builtin at (d ∷ ds) ds))
+    (unnamed-builtin at (d ∷ ds) ds))
 
 pub length-name_at : (bs : List ℕ) → length (name_at bs) ≤ length bs
 length-name_at [] = omega arith
@@ -132,7 +152,7 @@ name-piece [] g h = absurd (omega arith)
 name-piece (c ∷ cs) g h = rw g (pick (is_letter c) _ h) where
   pick : (b : Bool) (q : Piece) → 1 ≤ length (if b then c ∷ word cs else [])
       → (if b then whole (identifier (c ∷ word cs)) (length (word cs) + 1) else q)
-        ≡ whole (identifier (if b then c ∷ word cs else [])) (length (if b then c ∷ word cs else []))
+      ≡ whole (identifier (if b then c ∷ word cs else [])) (length (if b then c ∷ word cs else []))
   pick true q k = ap (whole (identifier (c ∷ word cs))) (omega arith)
   pick false q k = absurd (omega arith)
 
@@ -145,7 +165,7 @@ built-if : (d m at : ℕ) (bs n : List ℕ) (letter slash marked : Bool) (cs : L
     → (letter ≡ true → slash ≡ false)
     → builtin_of (onward lexed at bs (builtin_piece cs)) ≡ name_at cs
     → builtin_of (onward lexed at bs (if letter then whole (identifier n) m
-        else (if slash then builtin_piece cs else (if marked then whole (mark d) 1 else bad)))) ≡ (if slash then name_at cs else [])
+    else (if slash then builtin_piece cs else (if marked then whole (mark d) 1 else bad)))) ≡ (if slash then name_at cs else [])
 built-if d m at bs n true slash marked cs l u = rw (l refl) refl
 built-if d m at bs n false true marked cs l u = u
 built-if d m at bs n false false true cs l u = refl
@@ -156,7 +176,7 @@ unfolding builtin_piece
 built-piece at bs [] = refl
 built-piece at bs (d ∷ ds) =
     elim (is_letter d) as (λ b. builtin_of (onward lexed at bs (if b then whole (builtin (d ∷ word ds)) (length (word ds) + 2) else bad))
-      ≡ (if b then d ∷ word ds else []))
+    ≡ (if b then d ∷ word ds else []))
     [ true ↦ refl | false ↦ refl ]
 
 letter-slash : (d : ℕ) → is_letter d ≡ true → (d == 92) ≡ false
@@ -168,7 +188,7 @@ builtin_of-lexed at [] g = ap builtin_of (lexed-is at [])
 builtin_of-lexed at (d ∷ ds) g =
     ap builtin_of (lexed-is at (d ∷ ds)) ∙ rw g
     (built-if d (length (word ds) + 1) at (d ∷ ds) (d ∷ word ds) (is_letter d) (d == 92) (is_mark d) ds
-      (letter-slash d) (built-piece at (d ∷ ds) ds))
+    (letter-slash d) (built-piece at (d ∷ ds) ds))
 
 pub length-builtin_at : (bs : List ℕ) → 1 ≤ length (builtin_at bs) → length (builtin_at bs) + 1 ≤ length bs
 length-builtin_at [] h = absurd (omega arith)
@@ -184,7 +204,7 @@ named-builtin_piece [] h = absurd (omega arith)
 named-builtin_piece (c ∷ cs) h = pick (is_letter c) h where
   pick : (b : Bool) → 1 ≤ length (if b then c ∷ word cs else [])
       → (if b then whole (builtin (c ∷ word cs)) (length (word cs) + 2) else bad)
-        ≡ whole (builtin (if b then c ∷ word cs else [])) (length (if b then c ∷ word cs else []) + 1)
+      ≡ whole (builtin (if b then c ∷ word cs else [])) (length (if b then c ∷ word cs else []) + 1)
   pick true k = ap (whole (builtin (c ∷ word cs))) (omega arith)
   pick false k = absurd (omega arith)
 
@@ -213,7 +233,7 @@ unended-builtin at bs (d ∷ ds) =
 ended-if : (d m at : ℕ) (bs n : List ℕ) (letter slash marked : Bool) (q : Piece)
     → is_end (onward lexed at bs q) ≡ false
     → is_end (onward lexed at bs (if letter then whole (identifier n) m
-        else (if slash then q else (if marked then whole (mark d) 1 else bad)))) ≡ false
+    else (if slash then q else (if marked then whole (mark d) 1 else bad)))) ≡ false
 ended-if d m at bs n true slash marked q u = refl
 ended-if d m at bs n false true marked q u = u
 ended-if d m at bs n false false true q u = refl
@@ -229,7 +249,7 @@ is_end-some at [] g h = absurd (omega arith)
 is_end-some at (d ∷ ds) g h =
     ap is_end (lexed-is at (d ∷ ds)) ∙ rw g
     (ended-if d (length (word ds) + 1) at (d ∷ ds) (d ∷ word ds) (is_letter d) (d == 92) (is_mark d) (builtin_piece ds)
-      (unended-builtin at (d ∷ ds) ds))
+    (unended-builtin at (d ∷ ds) ds))
 
 -- a name is not empty
 abbrev pub Named : Stream → Type 0
@@ -249,7 +269,7 @@ builtin-named at bs (d ∷ ds) = whole-named (is_letter d) d at bs ds
 
 named : (d m at c : ℕ) (bs cs : List ℕ) (letter slash marked : Bool) (q : Piece) → Named (onward lexed at bs q)
     → Named (onward lexed at bs (if letter then whole (identifier (c ∷ cs)) m
-        else (if slash then q else (if marked then whole (mark d) 1 else bad))))
+    else (if slash then q else (if marked then whole (mark d) 1 else bad))))
 named d m at c bs cs true slash marked q u = omega arith
 named d m at c bs cs false true marked q u = u
 named d m at c bs cs false false true q u = tt

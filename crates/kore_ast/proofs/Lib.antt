@@ -4,3 +4,7 @@ pub mod HeadLaws
 pub mod FaultLaws
 pub mod ConnectiveLaws
 pub mod ReaderLaws
+pub mod Lists
+pub mod Vectors
+pub mod PlainLaws
+pub mod SortLaws

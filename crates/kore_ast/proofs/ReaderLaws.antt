@@ -26,9 +26,10 @@ is_end-left r = pick (nat_eq r.at (length r.text.now)) refl where
 pub mark-next : (c : ℕ) (r : Reader) → is_mark c ≡ true → has_mark c (left r) ≡ true
     → (r.at + 1 ≤ length r.text.now) × (left r ≡ token (mark c) r.at (lexed (r.at + 1) (drop (r.at + 1) r.text.now)))
 mark-next c r m h =
-    let t = taken-mark c r.at (drop r.at r.text.now) m r.at_token h in
-    (omega (arith, t.0, length-drop r.at r.text.now),
-    t.1 ∙ ap (λ x. token (mark c) r.at (lexed (r.at + 1) x)) (drop-drop 1 r.at r.text.now))
+    let t = taken-mark c r.at (drop r.at r.text.now) m r.at_token h in (
+      omega (arith, t.0, length-drop r.at r.text.now),
+      t.1 ∙ ap (λ x. token (mark c) r.at (lexed (r.at + 1) x)) (drop-drop 1 r.at r.text.now),
+    )
 
 -- a stream that goes on with a token
 pub record Next (t : Token) (k : List Want) (n : ℕ) (s : Stream) : Type 0 where
@@ -43,9 +44,11 @@ any-next t k n (end e) h = absurd h
 any-next t k n (fault e) h = absurd h
 any-next t k n (token u at s) h =
     record {
-      at = at; rest = s; is = ap (λ x. token x at s) h.0;
+      at = at;
+      rest = s;
+      is = ap (λ x. token x at s) h.0;
       room = subst (λ x. opened x n ≤ 500) h.0 h.1;
-      has = subst (λ x. HasTokens k (opened x n) s) h.0 h.2
+      has = subst (λ x. HasTokens k (opened x n) s) h.0 h.2;
     }
 
 pub unmarked : (c : ℕ) (r : Reader) → has_mark c (left r) ≡ false → Refuses (mark c) r
@@ -64,16 +67,17 @@ too-deep c d r e h k g =
 -- an identifier that comes next
 pub name-next : (n : List ℕ) (r : Reader) → n ≡ identifier_of (left r) → 1 ≤ length n
     → (r.at + length n ≤ length r.text.now)
-      × (left r ≡ token (identifier n) r.at (lexed (r.at + length n) (drop (r.at + length n) r.text.now)))
+    × (left r ≡ token (identifier n) r.at (lexed (r.at + length n) (drop (r.at + length n) r.text.now)))
 name-next n r e h =
     let bs : List ℕ = drop r.at r.text.now in
     let f : n ≡ name_at bs = e ∙ identifier_of-lexed r.at bs r.at_token in
     let P : List ℕ → Type 0 = λ m. (r.at + length m ≤ length r.text.now) × (left r ≡ token (identifier m) r.at (lexed (r.at + length m) (drop (r.at + length m) r.text.now))) in
     let k : 1 ≤ length (name_at bs) = subst (λ m. 1 ≤ length m) f h in
-    subst P (sym f)
-      (omega (arith, length-name_at bs, length-drop r.at r.text.now, k),
+    subst P (sym f) (
+      omega (arith, length-name_at bs, length-drop r.at r.text.now, k),
       taken-name r.at bs r.at_token k
-      ∙ ap (λ x. token (identifier (name_at bs)) r.at (lexed (r.at + length (name_at bs)) x)) (drop-drop (length (name_at bs)) r.at r.text.now))
+          ∙ ap (λ x. token (identifier (name_at bs)) r.at (lexed (r.at + length (name_at bs)) x)) (drop-drop (length (name_at bs)) r.at r.text.now),
+    )
 
 pub name-is_text : (n : List ℕ) (r : Reader) → n ≡ identifier_of (left r) → IsUtf8 n
 name-is_text n r e =
@@ -90,16 +94,17 @@ unnamed r e n k g =
 -- a built-in name that comes next
 pub builtin-next : (n : List ℕ) (r : Reader) → n ≡ builtin_of (left r) → 1 ≤ length n
     → (r.at + (length n + 1) ≤ length r.text.now)
-      × (left r ≡ token (builtin n) r.at (lexed (r.at + (length n + 1)) (drop (r.at + (length n + 1)) r.text.now)))
+    × (left r ≡ token (builtin n) r.at (lexed (r.at + (length n + 1)) (drop (r.at + (length n + 1)) r.text.now)))
 builtin-next n r e h =
     let bs : List ℕ = drop r.at r.text.now in
     let f : n ≡ builtin_at bs = e ∙ builtin_of-lexed r.at bs r.at_token in
     let P : List ℕ → Type 0 = λ m. (r.at + (length m + 1) ≤ length r.text.now) × (left r ≡ token (builtin m) r.at (lexed (r.at + (length m + 1)) (drop (r.at + (length m + 1)) r.text.now))) in
     let k : 1 ≤ length (builtin_at bs) = subst (λ m. 1 ≤ length m) f h in
-    subst P (sym f)
-      (omega (arith, length-builtin_at bs k, length-drop r.at r.text.now, k),
+    subst P (sym f) (
+      omega (arith, length-builtin_at bs k, length-drop r.at r.text.now, k),
       taken-builtin r.at bs k
-      ∙ ap (λ x. token (builtin (builtin_at bs)) r.at (lexed (r.at + (length (builtin_at bs) + 1)) x)) (drop-drop (length (builtin_at bs) + 1) r.at r.text.now))
+          ∙ ap (λ x. token (builtin (builtin_at bs)) r.at (lexed (r.at + (length (builtin_at bs) + 1)) x)) (drop-drop (length (builtin_at bs) + 1) r.at r.text.now),
+    )
 
 pub other-builtin : (n m : List ℕ) (r : Reader) → n ≡ builtin_of (left r) → (n ≡ m → ⊥) → Refuses (builtin m) r
 other-builtin n m r e d k g = d (e ∙ ap builtin_of (any-next (builtin m) k r.depth (left r) g).is)
@@ -111,13 +116,19 @@ other-word m r d k g = d (ap identifier_of (any-next (identifier m) k r.depth (l
 pub record CloseFacts (c : ℕ) : Type 0 where
   pub known : is_mark c ≡ true
   pub closes : (n : ℕ) → opened (mark c) n ≤ n
+  pub comma : c ≡ 44 → ⊥
 
 pub close-facts : (c : ℕ) → is_close c ≡ true → CloseFacts c
 close-facts c m =
     let at : (n : ℕ) → CloseFacts n → (c == n) ≡ true → CloseFacts c = λ n p q. subst CloseFacts (sym (same_byte c n q)) p in
-    elim (either _ _ m) [ inr y ↦ at 93 (record { known = refl; closes = λ n. omega arith }) y | inl m1 ↦
-    elim (either _ _ m1) [ inr y ↦ at 41 (record { known = refl; closes = λ n. omega arith }) y
-      | inl y ↦ at 125 (record { known = refl; closes = λ n. omega arith }) y ] ]
+    elim (either _ _ m) [
+      | inr y ↦ at 93 (record { known = refl; closes = λ n. omega arith; comma = λ e. omega arith }) y
+      | inl m1 ↦
+          elim (either _ _ m1) [
+            | inr y ↦ at 41 (record { known = refl; closes = λ n. omega arith; comma = λ e. omega arith }) y
+            | inl y ↦ at 125 (record { known = refl; closes = λ n. omega arith; comma = λ e. omega arith }) y
+          ]
+    ]
 
 pub not-either : (r : Reader) (c : ℕ) (b d : Bool) (n : ℕ) → b ≡ has_mark c (left r) → n ≡ opened (mark c) r.depth
     → (b ≡ false) ⊎ (500 < n) → Refuses (mark c) r

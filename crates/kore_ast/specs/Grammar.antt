@@ -76,6 +76,7 @@ abbrev mutual
   pub listed : List Spelling → ℕ → Spelling
   listed [] close k = any (mark close) ∷ k
   listed (f ∷ fs) close k = f (more_listed fs close k)
+
   -- .. from behind an item
   pub more_listed : List Spelling → ℕ → Spelling
   more_listed [] close k = any (mark close) ∷ k
@@ -94,6 +95,7 @@ abbrev mutual
   pub spell_sort : SortTree → Spelling
   spell_sort (sort_parameter at n) = λ k. given false ∷ k
   spell_sort (sort_applied at n ss) = λ k. placed at (identifier n) ∷ any (mark 123) ∷ listed (spell_sorts ss) 125 k
+
   pub spell_sorts : SortTrees → List Spelling
   spell_sorts no_sorts = []
   spell_sorts (sort_then s ss) = spell_sort s ∷ spell_sorts ss
@@ -116,6 +118,7 @@ abbrev mutual
   spell_pattern (binding at b ss x p) = λ k. given false ∷ k
   spell_pattern (domain_value at s t place) = λ k. given false ∷ k
   spell_pattern (folded at left p) = λ k. given false ∷ k
+
   pub spell_patterns : PatternTrees → List Spelling
   spell_patterns no_patterns = []
   spell_patterns (pattern_then p ps) = spell_pattern p ∷ spell_patterns ps

@@ -1,10 +1,11 @@
 -- What is left of a text while it is read: cited by the clauses of private functions alone.
-use Rattle.std.specs.Prelude.{◌≡◌, ◌<◌, ℕ, ◌-◌, Bool, true, false, List, [], ◌∷◌, length, drop, Result, Ok, Err}
+use Rattle.std.specs.Prelude.{◌≡◌, ◌<◌, ℕ, ◌-◌, Bool, true, false, List, [], ◌∷◌, map, length, drop, Result, Ok, Err}
 use Rattle.kore_ast.specs.declared.reader.Reader.{Reader}
 use Rattle.kore_ast.specs.declared.tree.ReadFault.{ReadFault}
 use Rattle.kore_ast.specs.Pieces.{Token, mark}
 use Rattle.kore_ast.specs.Lexed.{Stream, token, lexed}
-use Rattle.kore_ast.specs.Grammar.{Want, any, Spelling}
+use Rattle.kore_ast.specs.Grammar.{Want, any, Spelling, listed}
+use Rattle.kore_ast.specs.Faults.{AtNotBuilt}
 use Rattle.kore_ast.specs.KoreText.{opened, HasTokens}
 use Rattle.kore_ast.specs.Heads.{has_mark}
 
@@ -40,3 +41,12 @@ abbrev pub Another : Bool → ℕ → Bool → Reader → Reader → Type 0
 Another first close false old new = Took (mark close) old new
 Another true close true old new = (new ≡ old) × (has_mark close (left old) ≡ false)
 Another false close true old new = Took (mark 44) old new × (has_mark close (left old) ≡ false)
+
+-- whatever tree is spelled there is the one that was read
+abbrev pub Exact : {X T : Type 0} → (T → Spelling) → (X → T) → Reader → Result X ReadFault → Reader → Type 0
+Exact {X} {T} spell plain old (Ok x) new = (t : T) (k : List Want) → Has (spell t k) old → (t ≡ plain x) × Has k new
+Exact {X} {T} spell plain old (Err e) new = AtNotBuilt e ((t : T) (k : List Want) → Has (spell t k) old → ⊥)
+
+-- a list from behind its opening bracket
+abbrev pub spell_list : {T : Type 0} → (T → Spelling) → ℕ → List T → Spelling
+spell_list spell close xs k = listed (map spell xs) close k

@@ -9,6 +9,7 @@
 mod bytes;
 mod connectives;
 mod reader;
+mod terms;
 mod text;
 mod tree;
 

@@ -22,10 +22,12 @@ pub returns-clause-took : goal.returns-clause-took
 returns-clause-took c =
     let n : List ℕ = c.builtin-name.result.now in
     let e : n ≡ name_of c.in-Some.op = name_of-op_of n c.in-Some.op (sym c.of_name.ensures ∙ c.in-Some.is) in
-    let x = builtin-next n c.args.self.now c.builtin-name.ensures (subst (λ m. 1 ≤ length m) (sym e) (some-name c.in-Some.op)) in
-    (refl, record {
-      is = x.1 ∙ ap (token (builtin n) c.args.self.now.at) (sym c.advance.ensures.left)
-        ∙ ap (λ m. token (builtin m) c.args.self.now.at (left c.advance.new.self)) e;
-      depth = c.advance.ensures.depth;
-      shorter = omega arith
-    })
+    let x = builtin-next n c.args.self.now c.builtin-name.ensures (subst (λ m. 1 ≤ length m) (sym e) (some-name c.in-Some.op)) in (
+      refl,
+      record {
+        is = x.1 ∙ ap (token (builtin n) c.args.self.now.at) (sym c.advance.ensures.left)
+            ∙ ap (λ m. token (builtin m) c.args.self.now.at (left c.advance.new.self)) e;
+        depth = c.advance.ensures.depth;
+        shorter = omega arith;
+      },
+    )

@@ -11,9 +11,11 @@ advance-requires c = (name-next c.args.word.now c.args.self.now (sym (c.has_word
 
 pub returns-clause-took : goal.returns-clause-took
 returns-clause-took c =
-    let x = name-next c.args.word.now c.args.self.now (sym (c.has_word.ensures.0 c.if-not-has_word.false)) c.requires in
-    (refl, record {
-      is = x.1 ∙ ap (token (identifier c.args.word.now) c.args.self.now.at) (sym c.advance.ensures.left);
-      depth = c.advance.ensures.depth;
-      shorter = omega (arith, c.requires)
-    })
+    let x = name-next c.args.word.now c.args.self.now (sym (c.has_word.ensures.0 c.if-not-has_word.false)) c.requires in (
+      refl,
+      record {
+        is = x.1 ∙ ap (token (identifier c.args.word.now) c.args.self.now.at) (sym c.advance.ensures.left);
+        depth = c.advance.ensures.depth;
+        shorter = omega (arith, c.requires);
+      },
+    )

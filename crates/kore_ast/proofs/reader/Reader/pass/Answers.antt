@@ -9,8 +9,8 @@ advance-requires c = (mark-next c.args.byte c.args.self.now c.requires.known c.r
 
 pub returns : goal.returns
 returns c = record {
-    is = (mark-next c.args.byte c.args.self.now c.requires.known c.requires.comes).1
+  is = (mark-next c.args.byte c.args.self.now c.requires.known c.requires.comes).1
       ∙ ap (token (mark c.args.byte) c.args.self.now.at) (sym c.advance.ensures.left);
-    depth = c.opened-depth.ensures;
-    shorter = omega arith
-  }
+  depth = c.opened-depth.ensures;
+  shorter = omega arith;
+}
