@@ -8,3 +8,4 @@ pub mod Lists
 pub mod Vectors
 pub mod PlainLaws
 pub mod SortLaws
+pub mod PatternLaws

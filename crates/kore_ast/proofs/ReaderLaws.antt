@@ -118,16 +118,24 @@ pub record CloseFacts (c : ℕ) : Type 0 where
   pub closes : (n : ℕ) → opened (mark c) n ≤ n
   pub comma : c ≡ 44 → ⊥
 
+close-at : (c n : ℕ) → CloseFacts n → (c == n) ≡ true → CloseFacts c
+close-at c n p q = subst CloseFacts (sym (same_byte c n q)) p
+
+close-brace : CloseFacts 125
+close-brace = record { known = refl; closes = λ n. omega arith; comma = λ e. omega arith }
+
+close-round : CloseFacts 41
+close-round = record { known = refl; closes = λ n. omega arith; comma = λ e. omega arith }
+
+close-square : CloseFacts 93
+close-square = record { known = refl; closes = λ n. omega arith; comma = λ e. omega arith }
+
 pub close-facts : (c : ℕ) → is_close c ≡ true → CloseFacts c
 close-facts c m =
-    let at : (n : ℕ) → CloseFacts n → (c == n) ≡ true → CloseFacts c = λ n p q. subst CloseFacts (sym (same_byte c n q)) p in
     elim (either _ _ m) [
-      | inr y ↦ at 93 (record { known = refl; closes = λ n. omega arith; comma = λ e. omega arith }) y
-      | inl m1 ↦
-          elim (either _ _ m1) [
-            | inr y ↦ at 41 (record { known = refl; closes = λ n. omega arith; comma = λ e. omega arith }) y
-            | inl y ↦ at 125 (record { known = refl; closes = λ n. omega arith; comma = λ e. omega arith }) y
-          ]
+      | inr y ↦ close-at c 93 close-square y
+      | inl n ↦
+          elim (either _ _ n) [ inr y ↦ close-at c 41 close-round y | inl y ↦ close-at c 125 close-brace y ]
     ]
 
 pub not-either : (r : Reader) (c : ℕ) (b d : Bool) (n : ℕ) → b ≡ has_mark c (left r) → n ≡ opened (mark c) r.depth

@@ -1,10 +1,13 @@
 -- What is left of a text while it is read: cited by the clauses of private functions alone.
 use Rattle.std.specs.Prelude.{◌≡◌, ◌<◌, ℕ, ◌-◌, Bool, true, false, List, [], ◌∷◌, map, length, drop, Result, Ok, Err}
 use Rattle.kore_ast.specs.declared.reader.Reader.{Reader}
+use Rattle.kore_ast.specs.declared.terms.Head.{Head}
+use Rattle.kore_ast.specs.declared.terms.Head.TheVariants.{Symbol, Connective}
 use Rattle.kore_ast.specs.declared.tree.ReadFault.{ReadFault}
-use Rattle.kore_ast.specs.Pieces.{Token, mark}
+use Rattle.kore_ast.specs.Pieces.{Token, identifier, builtin, mark}
+use Rattle.kore_ast.specs.Trees.{SortTree, sort_trees, PatternTree, symbol_applied, connected, pattern_trees}
 use Rattle.kore_ast.specs.Lexed.{Stream, token, lexed}
-use Rattle.kore_ast.specs.Grammar.{Want, any, Spelling, listed}
+use Rattle.kore_ast.specs.Grammar.{Want, any, Spelling, listed, name_of, takes}
 use Rattle.kore_ast.specs.Faults.{AtNotBuilt}
 use Rattle.kore_ast.specs.KoreText.{opened, HasTokens}
 use Rattle.kore_ast.specs.Heads.{has_mark}
@@ -50,3 +53,18 @@ Exact {X} {T} spell plain old (Err e) new = AtNotBuilt e ((t : T) (k : List Want
 -- a list from behind its opening bracket
 abbrev pub spell_list : {T : Type 0} → (T → Spelling) → ℕ → List T → Spelling
 spell_list spell close xs k = listed (map spell xs) close k
+
+-- the token of a pattern's head
+abbrev pub head_token : Head → Token
+head_token (Symbol n) = identifier n
+head_token (Connective o) = builtin (name_of o)
+
+-- the pattern with this head
+abbrev pub headed : Head → ℕ → List SortTree → List PatternTree → PatternTree
+headed (Symbol n) at ss ps = symbol_applied at n (sort_trees ss) (pattern_trees ps)
+headed (Connective o) at ss ps = connected at o (sort_trees ss) (pattern_trees ps)
+
+-- a head takes so many sorts and arguments
+abbrev pub head_takes : Head → ℕ → ℕ → Bool
+head_takes (Symbol n) sorts arguments = true
+head_takes (Connective o) sorts arguments = takes o sorts arguments
