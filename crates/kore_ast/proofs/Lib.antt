@@ -5,6 +5,7 @@ pub mod FaultLaws
 pub mod ConnectiveLaws
 pub mod ReaderLaws
 pub mod Lists
+pub mod Chains
 pub mod Vectors
 pub mod PlainLaws
 pub mod SortLaws

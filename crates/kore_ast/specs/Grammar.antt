@@ -82,6 +82,11 @@ abbrev mutual
   more_listed [] close k = any (mark close) ∷ k
   more_listed (f ∷ fs) close k = any (mark 44) ∷ f (more_listed fs close k)
 
+-- one thing after the other
+abbrev pub in_order : List Spelling → Spelling
+in_order [] k = k
+in_order (f ∷ fs) k = f (in_order fs k)
+
 -- an identifier at any place
 abbrev pub spell_name : List ℕ → Spelling
 spell_name n k = any (identifier n) ∷ k
@@ -154,19 +159,11 @@ spell_declaration (alias_declaration d) k = given false ∷ k
 spell_declaration (axiom_declaration d) k = spell_axiom_declaration d k
 spell_declaration (claim_declaration d) k = given false ∷ k
 
-abbrev pub spell_declarations : List Declaration → Spelling
-spell_declarations [] k = k
-spell_declarations (d ∷ ds) k = spell_declaration d (spell_declarations ds k)
-
 -- `module` name declarations `endmodule` attributes
 abbrev pub spell_module : ModuleTree → Spelling
 spell_module m k =
     placed m.at (identifier (codes "module")) ∷ any (identifier m.name)
-    ∷ spell_declarations m.declarations (any (identifier (codes "endmodule")) ∷ spell_attributes m.attributes k)
-
-abbrev pub spell_modules : List ModuleTree → Spelling
-spell_modules [] k = k
-spell_modules (m ∷ ms) k = spell_module m (spell_modules ms k)
+    ∷ in_order (map spell_declaration m.declarations) (any (identifier (codes "endmodule")) ∷ spell_attributes m.attributes k)
 
 abbrev pub is_some_module : List ModuleTree → Bool
 is_some_module [] = false
@@ -175,4 +172,4 @@ is_some_module (m ∷ ms) = true
 -- attributes, and one module or more
 abbrev pub spell_definition : DefinitionTree → Spelling
 spell_definition d k =
-    spell_attributes d.attributes (spell_modules d.modules (given (is_some_module d.modules) ∷ k))
+    spell_attributes d.attributes (in_order (map spell_module d.modules) (given (is_some_module d.modules) ∷ k))

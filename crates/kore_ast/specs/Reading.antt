@@ -1,13 +1,13 @@
 -- What is left of a text while it is read: cited by the clauses of private functions alone.
-use Rattle.std.specs.Prelude.{◌≡◌, ◌<◌, ℕ, ◌-◌, Bool, true, false, List, [], ◌∷◌, map, length, drop, Result, Ok, Err}
+use Rattle.std.specs.Prelude.{◌≡◌, ◌<◌, ℕ, ◌-◌, Bool, true, false, List, [], ◌∷◌, map, length, drop, Result, Ok, Err, codes}
 use Rattle.kore_ast.specs.declared.reader.Reader.{Reader}
 use Rattle.kore_ast.specs.declared.terms.Head.{Head}
 use Rattle.kore_ast.specs.declared.terms.Head.TheVariants.{Symbol, Connective}
 use Rattle.kore_ast.specs.declared.tree.ReadFault.{ReadFault}
 use Rattle.kore_ast.specs.Pieces.{Token, identifier, builtin, mark}
-use Rattle.kore_ast.specs.Trees.{SortTree, sort_trees, PatternTree, symbol_applied, connected, pattern_trees}
+use Rattle.kore_ast.specs.Trees.{SortTree, sort_trees, PatternTree, symbol_applied, connected, pattern_trees, Declaration}
 use Rattle.kore_ast.specs.Lexed.{Stream, token, lexed}
-use Rattle.kore_ast.specs.Grammar.{Want, any, Spelling, listed, name_of, takes}
+use Rattle.kore_ast.specs.Grammar.{Want, placed, any, Spelling, listed, in_order, name_of, takes, spell_name, spell_names, spell_sort, spell_declaration}
 use Rattle.kore_ast.specs.Faults.{AtNotBuilt}
 use Rattle.kore_ast.specs.KoreText.{opened, HasTokens}
 use Rattle.kore_ast.specs.Heads.{has_mark}
@@ -68,3 +68,27 @@ headed (Connective o) at ss ps = connected at o (sort_trees ss) (pattern_trees p
 abbrev pub head_takes : Head → ℕ → ℕ → Bool
 head_takes (Symbol n) sorts arguments = true
 head_takes (Connective o) sorts arguments = takes o sorts arguments
+
+-- a mark
+abbrev pub spell_mark : ℕ → Unit {0} → Spelling
+spell_mark c u k = any (mark c) ∷ k
+
+-- a keyword at its place
+abbrev pub spell_word : List ℕ → ℕ → Spelling
+spell_word word at k = placed at (identifier word) ∷ k
+
+-- one thing and then another
+abbrev pub spell_then : {A B : Type 0} → (A → Spelling) → (B → Spelling) → A × B → Spelling
+spell_then f g x k = f x.0 (g x.1 k)
+
+-- a keyword, a name and names in braces
+abbrev pub spell_heading : List ℕ → ((ℕ × List ℕ) × List (List ℕ)) → Spelling
+spell_heading word = spell_then (spell_then (spell_word word) spell_name) spell_names
+
+-- sorts in parentheses, a colon and a sort
+abbrev pub spell_signature : ((Unit {0} × List SortTree) × Unit {0}) × SortTree → Spelling
+spell_signature = spell_then (spell_then (spell_then (spell_mark 40) (spell_list spell_sort 41)) (spell_mark 58)) spell_sort
+
+-- declarations, up to and with the word that ends a module
+abbrev pub spell_body : List Declaration → Spelling
+spell_body ds k = in_order (map spell_declaration ds) (any (identifier (codes "endmodule")) ∷ k)

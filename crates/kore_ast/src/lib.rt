@@ -8,6 +8,7 @@
 
 mod bytes;
 mod connectives;
+mod declarations;
 mod reader;
 mod terms;
 mod text;

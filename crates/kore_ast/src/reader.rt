@@ -30,10 +30,10 @@ impl<'a> Reader<'a> {
     ghost use Rattle.kore_ast.specs.Pieces.{is_mark, identifier, builtin, mark};
     ghost use Rattle.kore_ast.specs.Lexed.{lexed};
     ghost use Rattle.kore_ast.specs.declared.tree.Op.{Op};
-    ghost use Rattle.kore_ast.specs.Grammar.{name_of};
+    ghost use Rattle.kore_ast.specs.Grammar.{name_of, spell_name};
     ghost use Rattle.kore_ast.specs.Heads.{identifier_of, builtin_of, has_mark, is_close, is_end};
     ghost use Rattle.kore_ast.specs.KoreText.{opened};
-    ghost use Rattle.kore_ast.specs.Reading.{left, size, Took, Refuses, Another};
+    ghost use Rattle.kore_ast.specs.Reading.{left, size, Took, Refuses, Another, Spells, Exact, spell_mark, spell_word};
 
     /// The whole text.
     pub(crate) fn new(alloc: Global, text: &'a [u8]) -> Reader<'a>
@@ -113,6 +113,8 @@ impl<'a> Reader<'a> {
         requires { is_mark byte ≡ true }
         ensures took { OnOk result (Took (mark byte) self.old self.new) }
         ensures refused { OnErr result (Refuses (mark byte) self.old) }
+        ensures spells { Spells (spell_mark byte) self.old result self.new }
+        ensures exact { Exact (spell_mark byte) (λ x. x) self.old result self.new }
     {
         if !self.has_mark(byte) || bytes::opened(byte, self.depth) > MOST_OPEN {
             return Err(ReadFault::NotBuilt);
@@ -125,6 +127,8 @@ impl<'a> Reader<'a> {
     pub(crate) fn name(&mut self) -> Result<(u32, Text), ReadFault>
         ensures took { IfOk result (λ x. (x.0 ≡ self.old.at) × Took (identifier x.1) self.old self.new) }
         ensures refused { OnNotBuilt result ((n : List ℕ) → Refuses (identifier n) self.old) }
+        ensures spells { Spells (λ x. spell_name x.1) self.old result self.new }
+        ensures exact { Exact spell_name (λ x. x.1) self.old result self.new }
     {
         let at = self.at as u32;
         let name = self.own_identifier()?;
@@ -157,6 +161,8 @@ impl<'a> Reader<'a> {
         requires { 1 ≤ length word.now }
         ensures took { IfOk result (λ at. (at ≡ self.old.at) × Took (identifier word.now) self.old self.new) }
         ensures refused { OnErr result (Refuses (identifier word.now) self.old) }
+        ensures spells { Spells (spell_word word.now) self.old result self.new }
+        ensures exact { Exact (spell_word word.now) (λ at. at) self.old result self.new }
     {
         if !self.has_word(word) {
             return Err(ReadFault::NotBuilt);
