@@ -25,15 +25,27 @@ then-item {A} {B} {f} {g} {a} {b} i j = record {
       (ap (λ (v : A). let p : A × B = (v, u.1) in p) x.0 ∙ ap (λ (v : B). let p : A × B = (a, v) in p) y.0, y.1)
   }
 
-pub fail-first : {A B : Type 0} (f : A → Spelling) (g : B → Spelling) (r : Reader) (e : ReadFault)
-    → AtNotBuilt e (No f r) → AtNotBuilt e (No (spell_then f g) r)
-fail-first f g r NotBuilt n = λ u k h. n u.0 (g u.1 k) h
-fail-first f g r Memory n = tt
+-- at this fault, unless it is want of memory, no such thing is spelled here
+pub record Misses {T : Type 0} (spell : T → Spelling) (r : Reader) (e : ReadFault) : Type 0 where
+  pub none : AtNotBuilt e (No spell r)
 
-pub fail-then : {A B : Type 0} {f : A → Spelling} (g : B → Spelling) {a : A} {r0 r1 : Reader} (e : ReadFault)
+first-none : {A B : Type 0} (f : A → Spelling) (g : B → Spelling) (r : Reader) (e : ReadFault)
+    → AtNotBuilt e (No f r) → AtNotBuilt e (No (spell_then f g) r)
+first-none f g r NotBuilt n = λ u k h. n u.0 (g u.1 k) h
+first-none f g r Memory n = tt
+
+pub fail-first : {A B : Type 0} {f : A → Spelling} (g : B → Spelling) {r : Reader} {e : ReadFault}
+    → Misses f r e → Misses (spell_then f g) r e
+fail-first {A} {B} {f} g {r} {e} m = record { none = first-none f g r e m.none }
+
+then-none : {A B : Type 0} (f : A → Spelling) (g : B → Spelling) (a : A) (r0 r1 : Reader) (e : ReadFault)
     → Item f a r0 r1 → AtNotBuilt e (No g r1) → AtNotBuilt e (No (spell_then f g) r0)
-fail-then g NotBuilt i n = λ u k h. n u.1 k (i.complete u.0 (g u.1 k) h).1
-fail-then g Memory i n = tt
+then-none f g a r0 r1 NotBuilt i n = λ u k h. n u.1 k (i.complete u.0 (g u.1 k) h).1
+then-none f g a r0 r1 Memory i n = tt
+
+pub fail-then : {A B : Type 0} {f : A → Spelling} {g : B → Spelling} {a : A} {r0 r1 : Reader} {e : ReadFault}
+    → Item f a r0 r1 → Misses g r1 e → Misses (spell_then f g) r0 e
+fail-then {A} {B} {f} {g} {a} {r0} {r1} {e} i m = record { none = then-none f g a r0 r1 e i m.none }
 
 pub name-item : (n : List ℕ) (r0 r1 : Reader) → Took (identifier n) r0 r1 → Item spell_name n r0 r1
 name-item n r0 r1 t = record {

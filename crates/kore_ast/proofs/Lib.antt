@@ -10,3 +10,4 @@ pub mod Vectors
 pub mod PlainLaws
 pub mod SortLaws
 pub mod PatternLaws
+pub mod DeclarationLaws
