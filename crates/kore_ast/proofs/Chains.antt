@@ -1,13 +1,13 @@
 -- One thing that is read after the other.
-use Rattle.std.proofs.Common.{◌≡◌, ℕ, true, false, List, ◌∷◌, refl, ap, sym, ◌∙◌, subst}
+use Rattle.std.proofs.Common.{◌≡◌, ℕ, true, false, List, ◌∷◌, ap, sym, ◌∙◌, subst}
 use Rattle.kore_ast.specs.declared.reader.Reader.{Reader}
 use Rattle.kore_ast.specs.declared.tree.ReadFault.{ReadFault}
 use Rattle.kore_ast.specs.declared.tree.ReadFault.TheVariants.{NotBuilt, Memory}
-use Rattle.kore_ast.specs.Pieces.{Token, identifier, mark}
-use Rattle.kore_ast.specs.Grammar.{Want, placed, any, Spelling, spell_name}
+use Rattle.kore_ast.specs.Pieces.{identifier}
+use Rattle.kore_ast.specs.Grammar.{Want, placed, Spelling, spell_name}
 use Rattle.kore_ast.specs.Heads.{has_mark}
 use Rattle.kore_ast.specs.Faults.{AtNotBuilt}
-use Rattle.kore_ast.specs.Reading.{left, Has, Took, Refuses, spell_mark, spell_word, spell_then}
+use Rattle.kore_ast.specs.Reading.{left, Has, Took, Refuses, spell_word, spell_then}
 use Rattle.kore_ast.proofs.Lists.{took-any, took-placed, any-took, placed-took, any-placed, Begins, Item}
 use Rattle.kore_ast.proofs.ReaderLaws.{any-next}
 
@@ -18,12 +18,12 @@ No {T} spell r = (u : T) (k : List Want) → Has (spell u k) r → ⊥
 pub then-item : {A B : Type 0} {f : A → Spelling} {g : B → Spelling} {a : A} {b : B} {r0 r1 r2 : Reader}
     → Item f a r0 r1 → Item g b r1 r2 → Item (spell_then f g) (a, b) r0 r2
 then-item {A} {B} {f} {g} {a} {b} i j = record {
-    sound = λ k h. i.sound (g b k) (j.sound k h);
-    complete = λ u k h.
+  sound = λ k h. i.sound (g b k) (j.sound k h);
+  complete = λ u k h.
       let x = i.complete u.0 (g u.1 k) h in
       let y = j.complete u.1 k x.1 in
-      (ap (λ (v : A). let p : A × B = (v, u.1) in p) x.0 ∙ ap (λ (v : B). let p : A × B = (a, v) in p) y.0, y.1)
-  }
+      (ap (λ (v : A). let p : A × B = (v, u.1) in p) x.0 ∙ ap (λ (v : B). let p : A × B = (a, v) in p) y.0, y.1);
+}
 
 -- at this fault, unless it is want of memory, no such thing is spelled here
 pub record Misses {T : Type 0} (spell : T → Spelling) (r : Reader) (e : ReadFault) : Type 0 where
@@ -49,18 +49,18 @@ fail-then {A} {B} {f} {g} {a} {r0} {r1} {e} i m = record { none = then-none f g 
 
 pub name-item : (n : List ℕ) (r0 r1 : Reader) → Took (identifier n) r0 r1 → Item spell_name n r0 r1
 name-item n r0 r1 t = record {
-    sound = took-any (identifier n) r0 r1 t;
-    complete = λ u k h.
+  sound = took-any (identifier n) r0 r1 t;
+  complete = λ u k h.
       let x = any-took (identifier n) (identifier u) r0 r1 t k h in
       let e : identifier n ≡ identifier u = x.0 in
-      let f : u ≡ n = cc in (f, x.1)
-  }
+      let f : u ≡ n = cc in (f, x.1);
+}
 
 pub word-item : (w : List ℕ) (at : ℕ) (r0 r1 : Reader) → at ≡ r0.at → Took (identifier w) r0 r1 → Item (spell_word w) at r0 r1
 word-item w at r0 r1 p t = record {
-    sound = λ k h. subst (λ q. Has (placed q (identifier w) ∷ k) r0) (sym p) (took-placed (identifier w) r0 r1 t k h);
-    complete = λ q k h. let x = placed-took (identifier w) (identifier w) q r0 r1 t k h in (sym x.1 ∙ sym p, x.2)
-  }
+  sound = λ k h. subst (λ q. Has (placed q (identifier w) ∷ k) r0) (sym p) (took-placed (identifier w) r0 r1 t k h);
+  complete = λ q k h. let x = placed-took (identifier w) (identifier w) q r0 r1 t k h in (sym x.1 ∙ sym p, x.2);
+}
 
 pub no-word : (w : List ℕ) (r : Reader) → Refuses (identifier w) r → No (spell_word w) r
 no-word w r n q k h = n k (any-placed (identifier w) q k r.depth (left r) h)

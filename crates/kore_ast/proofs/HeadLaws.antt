@@ -1,8 +1,8 @@
 -- What stands at the head of bytes that do not begin with white space is what comes first in
 -- their stream.
-use Rattle.std.proofs.Common.{◌≡◌, ◌≢◌, ◌≤◌, ◌<◌, ◌+◌, ◌-◌, ℕ, zero, suc, Bool, true, false, not, ◌==◌, ◌||◌, List, [], ◌∷◌, length, drop, refl, ap, sym, ◌∙◌, if◌then◌else◌, arith, inl, inr, ◌⊎◌, subst, rules}
-use Rattle.kore_ast.specs.Pieces.{Token, identifier, builtin, mark, Piece, nothing, gap, whole, bad, word, is_letter, is_space, is_mark, builtin_piece, piece}
-use Rattle.kore_ast.specs.Lexed.{Stream, end, fault, token, onward, lexed}
+use Rattle.std.proofs.Common.{◌≡◌, ◌≤◌, ◌+◌, ℕ, suc, Bool, true, false, not, ◌==◌, ◌||◌, List, [], ◌∷◌, length, drop, refl, ap, sym, ◌∙◌, if◌then◌else◌, arith, inl, inr, ◌⊎◌, subst, rules}
+use Rattle.kore_ast.specs.Pieces.{identifier, builtin, mark, Piece, whole, bad, word, is_letter, is_space, is_mark, builtin_piece, piece}
+use Rattle.kore_ast.specs.Lexed.{Stream, token, onward, lexed}
 use Rattle.kore_ast.specs.Heads.{begins_space, begins, name_at, builtin_at, identifier_of, builtin_of, has_mark, is_end}
 use Rattle.kore_ast.proofs.Lexing.{lexed-is}
 use Rattle.kore_ast.proofs.Words.{length-word}

@@ -1,7 +1,7 @@
 -- The law of `lexed`: the piece at the head, and the stream of what is behind it.
-use Rattle.std.proofs.Common.{◌≡◌, ◌≤◌, ◌<◌, ◌+◌, ◌-◌, ℕ, zero, suc, Bool, true, false, List, [], ◌∷◌, length, drop, refl, ap, sym, ◌∙◌, if◌then◌else◌, ◌==◌, arith, length-drop}
-use Rattle.kore_ast.specs.Pieces.{Token, identifier, mark, Piece, word, nothing, gap, whole, bad, is_letter, is_space, is_mark, builtin_piece, piece}
-use Rattle.kore_ast.specs.Lexed.{Stream, end, fault, token, onward, lexed_by, lexed}
+use Rattle.std.proofs.Common.{◌≡◌, ◌≤◌, ◌+◌, ℕ, zero, suc, Bool, true, false, List, [], ◌∷◌, length, drop, refl, ap, sym, ◌∙◌, if◌then◌else◌, ◌==◌, arith, length-drop}
+use Rattle.kore_ast.specs.Pieces.{identifier, mark, Piece, word, nothing, gap, whole, bad, is_letter, is_space, is_mark, builtin_piece, piece}
+use Rattle.kore_ast.specs.Lexed.{Stream, token, onward, lexed_by, lexed}
 use Rattle.kore_ast.specs.Heads.{begins_space}
 use Rattle.std.proofs.lemmas.List.{drop-drop}
 use Rattle.kore_ast.proofs.Words.{length-word}

@@ -6,6 +6,7 @@ pub mod ConnectiveLaws
 pub mod ReaderLaws
 pub mod Lists
 pub mod Chains
+pub mod Sequences
 pub mod Vectors
 pub mod PlainLaws
 pub mod SortLaws

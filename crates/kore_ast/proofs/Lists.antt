@@ -1,14 +1,14 @@
 -- A list that is read item by item.
-use Rattle.std.proofs.Common.{◌≡◌, ◌≤◌, ◌<◌, ◌+◌, ◌-◌, ℕ, Bool, true, false, ◌==◌, List, [], ◌∷◌, ◌++◌, map, refl, ap, sym, ◌∙◌, arith, subst, append_assoc, rules}
+use Rattle.std.proofs.Common.{◌≡◌, ◌≤◌, ℕ, Bool, true, false, List, [], ◌∷◌, ◌++◌, map, refl, ap, sym, ◌∙◌, arith, subst, append_assoc, rules}
 use Rattle.std.proofs.lemmas.List.{append-nil}
 use Rattle.kore_ast.specs.declared.reader.Reader.{Reader}
-use Rattle.kore_ast.specs.Pieces.{Token, identifier, builtin, mark}
+use Rattle.kore_ast.specs.Pieces.{Token, mark}
 use Rattle.kore_ast.specs.Lexed.{Stream, end, fault, token}
-use Rattle.kore_ast.specs.Grammar.{Want, placed, any, given, Spelling, listed, more_listed}
-use Rattle.kore_ast.specs.Heads.{has_mark, is_close}
-use Rattle.kore_ast.specs.KoreText.{opened, HasTokens}
+use Rattle.kore_ast.specs.Grammar.{Want, placed, any, Spelling, listed, more_listed}
+use Rattle.kore_ast.specs.Heads.{has_mark}
+use Rattle.kore_ast.specs.KoreText.{HasTokens}
 use Rattle.kore_ast.specs.Reading.{left, size, Has, Took, Refuses, Another, spell_list}
-use Rattle.kore_ast.proofs.ReaderLaws.{Next, any-next, unmarked}
+use Rattle.kore_ast.proofs.ReaderLaws.{unmarked}
 
 -- a token that was taken, and what is left
 pub took-any : (t : Token) (old new : Reader) → Took t old new → (k : List Want) → Has k new → Has (any t ∷ k) old

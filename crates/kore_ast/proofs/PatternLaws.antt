@@ -1,5 +1,5 @@
 -- What is read at a pattern.
-use Rattle.std.proofs.Common.{◌≡◌, ℕ, Bool, true, false, List, [], ◌∷◌, map, length, refl, ap, sym, ◌∙◌, subst, Result, Ok, Err, Some}
+use Rattle.std.proofs.Common.{◌≡◌, ℕ, true, false, List, [], ◌∷◌, map, length, refl, ap, sym, ◌∙◌, subst, Result, Ok, Err, Some}
 use Rattle.std.specs.Prelude.{IfOk, OnOk, OnErr}
 use Rattle.kore_ast.specs.declared.reader.Reader.{Reader}
 use Rattle.kore_ast.specs.declared.terms.Head.{Head}
@@ -23,7 +23,7 @@ use Rattle.kore_ast.proofs.ConnectiveLaws.{op_of-name_of}
 use Rattle.kore_ast.specs.Connectives.{op_of}
 use Rattle.kore_ast.proofs.ReaderLaws.{any-next}
 use Rattle.kore_ast.proofs.Lists.{took-any, took-placed, any-took, placed-took, any-placed, Begins, Item}
-use Rattle.kore_ast.proofs.SortLaws.{spell_sorts-trees, sort_trees-listed, listed-sort_trees, spell_sorts-listed}
+use Rattle.kore_ast.proofs.SortLaws.{spell_sorts-trees, sort_trees-listed, listed-sort_trees}
 
 pub spell_patterns-trees : (ps : List PatternTree) → spell_patterns (pattern_trees ps) ≡ map spell_pattern ps
 spell_patterns-trees [] = refl

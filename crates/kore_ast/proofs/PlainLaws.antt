@@ -1,5 +1,5 @@
 -- The tree of what is made, form by form.
-use Rattle.std.proofs.Common.{◌≡◌, ℕ, List, map, refl, ap, sym, ◌∙◌, Vec, Global}
+use Rattle.std.proofs.Common.{◌≡◌, ℕ, List, map, ap, sym, ◌∙◌, Vec, Global}
 use Rattle.kore_ast.specs.declared.tree.Sort.{Sort}
 use Rattle.kore_ast.specs.declared.tree.SortForm.TheViews as sort_view
 use Rattle.kore_ast.specs.declared.tree.SortForm.TheVariants.{rolls-App}

@@ -1,15 +1,15 @@
 -- Laws of a reader's state.
-use Rattle.std.proofs.Common.{◌≡◌, ◌≤◌, ◌⊎◌, inl, inr, ◌||◌, not, ◌<◌, ◌+◌, ◌-◌, ℕ, Bool, true, false, ◌==◌, nat_eq, List, [], ◌∷◌, length, drop, refl, ap, sym, ◌∙◌, arith, length-drop, subst, rules}
+use Rattle.std.proofs.Common.{◌≡◌, ◌≤◌, ◌⊎◌, inl, inr, ◌<◌, ◌+◌, ℕ, Bool, true, false, ◌==◌, nat_eq, List, [], ◌∷◌, length, drop, refl, ap, sym, ◌∙◌, arith, length-drop, subst, rules}
 use Rattle.std.proofs.lemmas.List.{drop-drop, drop_all}
 use Rattle.kore_ast.specs.declared.reader.Reader.{Reader}
 use Rattle.kore_ast.specs.Pieces.{Token, identifier, builtin, mark, is_mark}
 use Rattle.kore_ast.specs.Lexed.{Stream, end, fault, token, lexed}
-use Rattle.kore_ast.specs.Grammar.{Want, placed, any, given}
-use Rattle.kore_ast.specs.Heads.{begins_space, is_end, has_mark, identifier_of, name_at, builtin_of, builtin_at, is_close}
+use Rattle.kore_ast.specs.Grammar.{Want, any}
+use Rattle.kore_ast.specs.Heads.{is_end, has_mark, identifier_of, name_at, builtin_of, builtin_at, is_close}
 use Rattle.std.specs.Str.{IsUtf8}
 use Rattle.kore_ast.proofs.Words.{name-text}
 use Rattle.kore_ast.specs.KoreText.{opened, HasTokens}
-use Rattle.kore_ast.specs.Reading.{left, size, Has, Took, Refuses}
+use Rattle.kore_ast.specs.Reading.{left, Has, Refuses}
 use Rattle.kore_ast.proofs.HeadLaws.{same_byte, is_end-nil, is_end-some, taken-mark, identifier_of-lexed, length-name_at, taken-name, builtin_of-lexed, length-builtin_at, taken-builtin, either, Named, named-lexed}
 
 pub is_end-left : (r : Reader) → is_end (left r) ≡ nat_eq r.at (length r.text.now)
@@ -142,3 +142,7 @@ pub not-either : (r : Reader) (c : ℕ) (b d : Bool) (n : ℕ) → b ≡ has_mar
     → (b ≡ false) ⊎ (500 < n) → Refuses (mark c) r
 not-either r c b d n e f (inl h) = unmarked c r (sym e ∙ h)
 not-either r c b d n e f (inr h) = too-deep c n r f h
+
+-- the whole text
+pub at-start : (r : Reader) (s : Stream) (k : List Want) → left r ≡ s → r.depth ≡ 0 → HasTokens k 0 s → Has k r
+at-start r s k e d h = subst (λ n. HasTokens k n (left r)) (sym d) (subst (HasTokens k 0) (sym e) h)

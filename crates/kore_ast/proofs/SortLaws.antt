@@ -1,9 +1,9 @@
 -- What is read at a sort.
-use Rattle.std.proofs.Common.{◌≡◌, ℕ, Bool, true, false, List, [], ◌∷◌, map, refl, ap, sym, ◌∙◌, subst}
+use Rattle.std.proofs.Common.{◌≡◌, ℕ, true, false, List, [], ◌∷◌, map, refl, ap, sym, ◌∙◌, subst}
 use Rattle.kore_ast.specs.declared.reader.Reader.{Reader}
-use Rattle.kore_ast.specs.Pieces.{Token, identifier, builtin, mark}
+use Rattle.kore_ast.specs.Pieces.{identifier, mark}
 use Rattle.kore_ast.specs.Trees.{SortTree, sort_parameter, sort_applied, SortTrees, no_sorts, sort_then, sort_trees, listed_sorts}
-use Rattle.kore_ast.specs.Grammar.{Want, placed, any, given, listed, spell_sort, spell_sorts}
+use Rattle.kore_ast.specs.Grammar.{Want, any, listed, spell_sort, spell_sorts}
 use Rattle.kore_ast.specs.Heads.{has_mark}
 use Rattle.kore_ast.specs.Reading.{left, Has, Took, Refuses, spell_list}
 use Rattle.kore_ast.proofs.ReaderLaws.{any-next}

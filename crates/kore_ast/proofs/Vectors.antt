@@ -1,5 +1,5 @@
 -- A vector that is filled item by item.
-use Rattle.std.proofs.Common.{◌≡◌, ℕ, Bool, true, false, ◌==◌, List, [], ◌∷◌, map, refl, ap, sym, ◌∙◌, subst, arith, rules, Vec, Global, vec_len, length}
+use Rattle.std.proofs.Common.{◌≡◌, ℕ, Bool, ◌==◌, List, [], ◌∷◌, map, ap, sym, ◌∙◌, subst, arith, Vec, Global, vec_len, length}
 use Rattle.kore_ast.specs.declared.reader.Reader.{Reader}
 use Rattle.kore_ast.specs.Reading.{Another}
 use Rattle.kore_ast.proofs.HeadLaws.{not_same}

@@ -9,7 +9,7 @@ use Rattle.kore_ast.specs.declared.tree.Op.TheVariants as op
 use Rattle.kore_ast.specs.Pieces.{Token, identifier, builtin, mark}
 use Rattle.kore_ast.specs.Trees.{SortTree, sort_parameter, sort_applied, SortTrees, no_sorts, sort_then, sort_count}
 use Rattle.kore_ast.specs.Trees.{PatternTree, element_variable, set_variable, string, symbol_applied, connected, binding, domain_value, folded}
-use Rattle.kore_ast.specs.Trees.{PatternTrees, no_patterns, pattern_then, pattern_trees, pattern_count, sort_trees}
+use Rattle.kore_ast.specs.Trees.{PatternTrees, no_patterns, pattern_then, pattern_count}
 use Rattle.kore_ast.specs.Trees.{SortDeclaration, SymbolDeclaration, AxiomDeclaration, ModuleTree, DefinitionTree}
 use Rattle.kore_ast.specs.Trees.{Declaration, import_declaration, sort_declaration, symbol_declaration, alias_declaration, axiom_declaration, claim_declaration}
 

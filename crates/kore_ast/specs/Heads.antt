@@ -1,8 +1,8 @@
 -- What the code finds at the head of bytes and of a stream: cited by the clauses of private
 -- functions alone.
-use Rattle.std.specs.Prelude.{◌≡◌, ℕ, Bool, true, false, ◌==◌, ◌||◌, List, [], ◌∷◌, if◌then◌else◌}
-use Rattle.kore_ast.specs.Pieces.{Token, identifier, builtin, mark, is_space, is_letter, word}
-use Rattle.kore_ast.specs.Lexed.{Stream, end, fault, token}
+use Rattle.std.specs.Prelude.{ℕ, Bool, true, false, ◌==◌, ◌||◌, List, [], ◌∷◌, if◌then◌else◌}
+use Rattle.kore_ast.specs.Pieces.{identifier, builtin, mark, is_space, is_letter, word}
+use Rattle.kore_ast.specs.Lexed.{Stream, end, token}
 
 abbrev pub begins_space : List ℕ → Bool
 begins_space [] = false

@@ -1,5 +1,5 @@
 -- What is left of a text while it is read: cited by the clauses of private functions alone.
-use Rattle.std.specs.Prelude.{◌≡◌, ◌<◌, ℕ, ◌-◌, Bool, true, false, List, [], ◌∷◌, map, length, drop, Result, Ok, Err, codes}
+use Rattle.std.specs.Prelude.{◌≡◌, ◌<◌, ℕ, ◌-◌, Bool, true, false, List, ◌∷◌, map, length, drop, Result, Ok, Err, codes}
 use Rattle.kore_ast.specs.declared.reader.Reader.{Reader}
 use Rattle.kore_ast.specs.declared.terms.Head.{Head}
 use Rattle.kore_ast.specs.declared.terms.Head.TheVariants.{Symbol, Connective}

@@ -12,6 +12,7 @@ use std::alloc::Global;
 const MOST_OPEN: usize = 500;
 
 /// A text from a token, or the end, on.
+#[derive(Drop)]
 pub(crate) struct Reader<'a> {
     pub(crate) alloc: Global,
     text: &'a [u8],

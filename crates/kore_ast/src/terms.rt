@@ -1,14 +1,15 @@
 // Reading sorts and patterns. Nothing recurses but for their nesting, and each level stands behind
 // a bracket that is counted.
 
-ghost use Rattle.std.specs.Prelude.{◌≡◌, ◌<◌, ℕ, List, true, false, length, map, IfOk, OnOk, OnErr};
+ghost use Rattle.std.specs.Prelude.{◌≡◌, ◌<◌, ℕ, List, [], true, false, length, map, IfOk, OnOk, OnErr};
 ghost use Rattle.kore_ast.specs.Pieces.{identifier, builtin};
+ghost use Rattle.kore_ast.specs.Trees.{PatternTree};
 ghost use Rattle.kore_ast.specs.Plain.{plain_sort, plain_pattern};
 ghost use Rattle.kore_ast.specs.Grammar.{spell_sort, spell_pattern, name_of};
 ghost use Rattle.kore_ast.specs.Heads.{is_close};
 ghost use Rattle.kore_ast.specs.Faults.{OnNotBuilt};
 ghost use Rattle.kore_ast.specs.declared.tree.Op.{Op};
-ghost use Rattle.kore_ast.specs.Reading.{size, Took, Refuses, Spells, Exact, spell_list, head_token};
+ghost use Rattle.kore_ast.specs.Reading.{size, Has, Took, Refuses, Spells, Exact, spell_list, head_token};
 
 use crate::reader::Reader;
 use crate::text::Text;
@@ -124,5 +125,18 @@ impl<'a> Reader<'a> {
             patterns.push(pattern)?;
         }
         Ok(patterns)
+    }
+
+    /// A pattern, up to the end of the text.
+    pub(crate) fn whole_pattern(&mut self) -> Result<Pat, ReadFault>
+        ensures found { IfOk result (λ p. Has (spell_pattern (plain_pattern p) []) self.old) }
+        ensures only { IfOk result (λ p. (e : PatternTree) → Has (spell_pattern e []) self.old → e ≡ plain_pattern p) }
+        ensures not_built { OnNotBuilt result ((e : PatternTree) → Has (spell_pattern e []) self.old → ⊥) }
+    {
+        let pattern = self.pattern()?;
+        if !self.at_end() {
+            return Err(ReadFault::NotBuilt);
+        }
+        Ok(pattern)
     }
 }

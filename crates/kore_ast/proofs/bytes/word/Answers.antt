@@ -1,4 +1,3 @@
-use Rattle.std.proofs.Common.{rules}
 use Rattle.kore_ast.proofs.Words.{take-word}
 use Rattle.kore_ast.proofs.bytes.word.Goals as goal
 

@@ -1,17 +1,15 @@
-use Rattle.std.proofs.Common.{arith, ◌≡◌, ℕ, List, true, false, [], ◌∷◌, ◌++◌, map, refl, ap, sym, ◌∙◌, subst, length}
+use Rattle.std.proofs.Common.{arith, ℕ, true, false, [], ◌∷◌, map, ap, sym, ◌∙◌, subst, length}
 use Rattle.std.proofs.lemmas.Result.{err_from_is_err_and}
 use Rattle.std.proofs.lemmas.List.{map-append}
-use Rattle.kore_ast.specs.declared.reader.Reader.{Reader}
-use Rattle.kore_ast.specs.Trees.{SortTree, PatternTree}
 use Rattle.kore_ast.specs.Plain.{plain_sort, plain_pattern}
-use Rattle.kore_ast.specs.Grammar.{Want, any, spell_sort, spell_pattern}
+use Rattle.kore_ast.specs.Grammar.{any, spell_sort, spell_pattern}
 use Rattle.kore_ast.specs.Pieces.{mark}
-use Rattle.kore_ast.specs.Reading.{Has, Another, spell_list}
+use Rattle.kore_ast.specs.Reading.{Another, spell_list}
 use Rattle.kore_ast.proofs.FaultLaws.{passed-on, anyway}
 use Rattle.kore_ast.proofs.ReaderLaws.{close-facts}
 use Rattle.kore_ast.proofs.Vectors.{empty-vec, another-vec}
 use Rattle.kore_ast.proofs.Lists.{Keeps, keeps-start, keeps-more, keeps-end, keeps-stop, keeps-fail, is_empty, Item, another-size}
-use Rattle.kore_ast.proofs.PatternLaws.{Applied, Shape, behind, sorts_then, behind-head, behind-brace, behind-sorts, behind-round, applied-spells, applied-exact, no-head-at, begins-pattern}
+use Rattle.kore_ast.proofs.PatternLaws.{Applied, behind, sorts_then, behind-head, behind-brace, behind-sorts, behind-round, applied-spells, applied-exact, no-head-at, begins-pattern}
 use Rattle.kore_ast.proofs.reader.Reader.+patterns.Goals as goal
 
 pub pattern-returns-in_err-at-clause-exact : goal.pattern-returns-in_err-at-clause-exact

@@ -1,8 +1,7 @@
-use Rattle.std.proofs.Common.{arith, ◌≡◌, ℕ, List, true, false, [], ◌∷◌, ◌++◌, map, refl, ap, sym, ◌∙◌, subst}
+use Rattle.std.proofs.Common.{arith, ℕ, true, false, [], ◌∷◌, map, ap, sym, ◌∙◌, subst}
 use Rattle.std.proofs.lemmas.Result.{err_from_is_err_and}
 use Rattle.std.proofs.lemmas.List.{map-append}
-use Rattle.kore_ast.specs.declared.reader.Reader.{Reader}
-use Rattle.kore_ast.specs.Trees.{SortTree, sort_applied, sort_trees}
+use Rattle.kore_ast.specs.Trees.{sort_applied, sort_trees}
 use Rattle.kore_ast.specs.Plain.{plain_sort}
 use Rattle.kore_ast.specs.Grammar.{spell_sort}
 use Rattle.kore_ast.specs.Reading.{Has, Another, spell_list}

@@ -1,4 +1,4 @@
-use Rattle.std.proofs.Common.{◌∙◌, ◌≡◌, ◌≤◌, List, ℕ, length, ap, sym, refl, arith, Some, subst}
+use Rattle.std.proofs.Common.{◌∙◌, ◌≡◌, ◌≤◌, List, ℕ, length, ap, sym, refl, arith, subst}
 use Rattle.kore_ast.specs.Pieces.{builtin}
 use Rattle.kore_ast.specs.Lexed.{token}
 use Rattle.kore_ast.specs.Grammar.{name_of}

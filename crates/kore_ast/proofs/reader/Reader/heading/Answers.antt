@@ -1,11 +1,6 @@
-use Rattle.std.proofs.Common.{◌≡◌, ℕ, List, Bool, true, false, not, map, refl, ap, sym, ◌∙◌}
-use Rattle.std.specs.Prelude.{codes}
 use Rattle.std.proofs.lemmas.Result.{err_from_is_err_and}
-use Rattle.kore_ast.specs.Trees.{SortTree, PatternTree, SortDeclaration, SymbolDeclaration, AxiomDeclaration, ModuleTree, Declaration}
-use Rattle.kore_ast.specs.Plain.{plain_sort, plain_pattern, plain_declaration, plain_sort_decl, plain_symbol_decl, plain_axiom_decl, plain_module}
-use Rattle.kore_ast.specs.Grammar.{Want, spell_name, spell_names, spell_sort, spell_pattern, spell_attributes}
-use Rattle.kore_ast.specs.Reading.{spell_list, spell_mark, spell_word, spell_then, spell_heading, spell_signature, spell_body}
-use Rattle.kore_ast.proofs.FaultLaws.{passed-on}
+use Rattle.kore_ast.specs.Grammar.{spell_name, spell_names}
+use Rattle.kore_ast.specs.Reading.{spell_word}
 use Rattle.kore_ast.proofs.Lists.{Item}
 use Rattle.kore_ast.proofs.Chains.{Misses, fail-first, fail-then, then-item}
 use Rattle.kore_ast.proofs.reader.Reader.heading.Goals as goal
@@ -20,7 +15,7 @@ pub returns-in_err-name-clause-exact : goal.returns-in_err-name-clause-exact
 returns-in_err-name-clause-exact c =
     let p = err_from_is_err_and c.from_residual-in_err-name.result c.from_residual-in_err-name.ensures.1 in
     let i0 : Item (spell_word c.args.word.now) c.in_ok-at.at c.args.self.now c.keyword.new.self =
-      record { sound = c.in_ok-at.ensures.spells; complete = c.in_ok-at.ensures.exact } in
+    record { sound = c.in_ok-at.ensures.spells; complete = c.in_ok-at.ensures.exact } in
     let m : Misses spell_name c.keyword.new.self c.in_err-name.field-0.0 = record { none = c.in_err-name.ensures.exact } in
     rw (p.1, p.2) (fail-first spell_names (fail-then i0 m)).none
 
@@ -28,18 +23,18 @@ pub returns-in_err-params-clause-exact : goal.returns-in_err-params-clause-exact
 returns-in_err-params-clause-exact c =
     let p = err_from_is_err_and c.from_residual-in_err-params.result c.from_residual-in_err-params.ensures.1 in
     let i0 : Item (spell_word c.args.word.now) c.in_ok-at.at c.args.self.now c.keyword.new.self =
-      record { sound = c.in_ok-at.ensures.spells; complete = c.in_ok-at.ensures.exact } in
+    record { sound = c.in_ok-at.ensures.spells; complete = c.in_ok-at.ensures.exact } in
     let i1 : Item spell_name c.in_ok-name.name c.keyword.new.self c.name.new.self =
-      record { sound = c.in_ok-name.ensures.spells; complete = c.in_ok-name.ensures.exact } in
+    record { sound = c.in_ok-name.ensures.spells; complete = c.in_ok-name.ensures.exact } in
     let m : Misses spell_names c.name.new.self c.in_err-params.field-0.0 = record { none = c.in_err-params.ensures.exact } in
     rw (p.1, p.2) (fail-then (then-item i0 i1) m).none
 
 pub returns-clause-exact : goal.returns-clause-exact
 returns-clause-exact c =
     let i0 : Item (spell_word c.args.word.now) c.in_ok-at.at c.args.self.now c.keyword.new.self =
-      record { sound = c.in_ok-at.ensures.spells; complete = c.in_ok-at.ensures.exact } in
+    record { sound = c.in_ok-at.ensures.spells; complete = c.in_ok-at.ensures.exact } in
     let i1 : Item spell_name c.in_ok-name.name c.keyword.new.self c.name.new.self =
-      record { sound = c.in_ok-name.ensures.spells; complete = c.in_ok-name.ensures.exact } in
+    record { sound = c.in_ok-name.ensures.spells; complete = c.in_ok-name.ensures.exact } in
     let i2 : Item spell_names c.in_ok-params.params.items c.name.new.self c.params.new.self =
-      record { sound = c.in_ok-params.ensures.spells; complete = c.in_ok-params.ensures.exact } in
+    record { sound = c.in_ok-params.ensures.spells; complete = c.in_ok-params.ensures.exact } in
     ((then-item (then-item i0 i1) i2)).complete

@@ -25,11 +25,11 @@ taken : (c : goal.After-advance) → Took (identifier c.in_ok-name.name) c.args.
 taken c =
     let x = name-next c.in_ok-name.name c.args.self.now c.in_ok-name.ensures.name c.in_ok-name.ensures.some in
     let n : length c.as_str.result.now ≡ length c.in_ok-name.name = ap length c.as_str.ensures in record {
-        is = x.1 ∙ ap (token (identifier c.in_ok-name.name) c.args.self.now.at)
-            (ap (λ m. lexed (c.args.self.now.at + m) (drop (c.args.self.now.at + m) c.args.self.now.text.now)) (sym n) ∙ sym c.advance.ensures.left);
-        depth = c.advance.ensures.depth;
-        shorter = omega (arith, n, c.in_ok-name.ensures.some);
-      }
+      is = x.1 ∙ ap (token (identifier c.in_ok-name.name) c.args.self.now.at)
+          (ap (λ m. lexed (c.args.self.now.at + m) (drop (c.args.self.now.at + m) c.args.self.now.text.now)) (sym n) ∙ sym c.advance.ensures.left);
+      depth = c.advance.ensures.depth;
+      shorter = omega (arith, n, c.in_ok-name.ensures.some);
+    }
 
 pub returns-clause-took : goal.returns-clause-took
 returns-clause-took c = (refl, taken c)

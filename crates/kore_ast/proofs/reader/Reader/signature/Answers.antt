@@ -1,11 +1,8 @@
-use Rattle.std.proofs.Common.{◌≡◌, ℕ, List, Bool, true, false, not, map, refl, ap, sym, ◌∙◌}
-use Rattle.std.specs.Prelude.{codes}
+use Rattle.std.proofs.Common.{map}
 use Rattle.std.proofs.lemmas.Result.{err_from_is_err_and}
-use Rattle.kore_ast.specs.Trees.{SortTree, PatternTree, SortDeclaration, SymbolDeclaration, AxiomDeclaration, ModuleTree, Declaration}
-use Rattle.kore_ast.specs.Plain.{plain_sort, plain_pattern, plain_declaration, plain_sort_decl, plain_symbol_decl, plain_axiom_decl, plain_module}
-use Rattle.kore_ast.specs.Grammar.{Want, spell_name, spell_names, spell_sort, spell_pattern, spell_attributes}
-use Rattle.kore_ast.specs.Reading.{spell_list, spell_mark, spell_word, spell_then, spell_heading, spell_signature, spell_body}
-use Rattle.kore_ast.proofs.FaultLaws.{passed-on}
+use Rattle.kore_ast.specs.Plain.{plain_sort}
+use Rattle.kore_ast.specs.Grammar.{spell_sort}
+use Rattle.kore_ast.specs.Reading.{spell_list, spell_mark}
 use Rattle.kore_ast.proofs.Lists.{Item}
 use Rattle.kore_ast.proofs.Chains.{Misses, fail-first, fail-then, then-item}
 use Rattle.kore_ast.proofs.reader.Reader.signature.Goals as goal
@@ -20,8 +17,8 @@ pub returns-in_err-take_mark-2-clause-exact : goal.returns-in_err-take_mark-2-cl
 returns-in_err-take_mark-2-clause-exact c =
     let p = err_from_is_err_and c.from_residual-in_err-take_mark-2.result c.from_residual-in_err-take_mark-2.ensures.1 in
     let i0 : Item (spell_mark 40) tt c.args.self.now c.take_mark.new.self =
-      record { sound = c.in_ok-take_mark.ensures.spells; complete = c.in_ok-take_mark.ensures.exact } in
+    record { sound = c.in_ok-take_mark.ensures.spells; complete = c.in_ok-take_mark.ensures.exact } in
     let i1 : Item (spell_list spell_sort 41) (map plain_sort c.in_ok-args.args.items) c.take_mark.new.self c.sorts.new.self =
-      record { sound = c.in_ok-args.ensures.spells; complete = c.in_ok-args.ensures.exact } in
+    record { sound = c.in_ok-args.ensures.spells; complete = c.in_ok-args.ensures.exact } in
     let m : Misses (spell_mark 58) c.sorts.new.self c.in_err-take_mark-2.field-0.0 = record { none = c.in_err-take_mark-2.ensures.exact } in
     rw (p.1, p.2) (fail-first spell_sort (fail-then (then-item i0 i1) m)).none
