@@ -1,15 +1,15 @@
 -- The grammar of Kore text (Kore language document, syntax), as the spelling of each tree. A
 -- spelling is a list of wishes that stands in front of the wishes for what follows it.
 --
--- Not in the grammar yet, and so spelled by no text: sort parameters as sorts, variables, strings,
+-- Not in the grammar yet, and so (by `given false`) spelled by no text: sort parameters as sorts, variables, strings,
 -- binders, domain values, folds, imports, hooked declarations, aliases and claims.
-use Rattle.std.specs.Prelude.{ℕ, ◌==◌, Bool, true, false, not, ◌&&◌, Option, Some, None, List, [], ◌∷◌, codes}
+use Rattle.std.specs.Prelude.{ℕ, ◌==◌, Bool, true, false, not, ◌&&◌, Option, Some, None, List, [], ◌∷◌, map, codes}
 use Rattle.kore_ast.specs.declared.tree.Op.{Op}
 use Rattle.kore_ast.specs.declared.tree.Op.TheVariants as op
 use Rattle.kore_ast.specs.Pieces.{Token, identifier, builtin, mark}
 use Rattle.kore_ast.specs.Trees.{SortTree, sort_parameter, sort_applied, SortTrees, no_sorts, sort_then, sort_count}
 use Rattle.kore_ast.specs.Trees.{PatternTree, element_variable, set_variable, string, symbol_applied, connected, binding, domain_value, folded}
-use Rattle.kore_ast.specs.Trees.{PatternTrees, no_patterns, pattern_then, pattern_trees, pattern_count, sort_trees}
+use Rattle.kore_ast.specs.Trees.{PatternTrees, no_patterns, pattern_then, pattern_count}
 use Rattle.kore_ast.specs.Trees.{SortDeclaration, SymbolDeclaration, AxiomDeclaration, ModuleTree, DefinitionTree}
 use Rattle.kore_ast.specs.Trees.{Declaration, import_declaration, sort_declaration, symbol_declaration, alias_declaration, axiom_declaration, claim_declaration}
 
@@ -67,84 +67,91 @@ is_count (Some m) n = n == m
 abbrev pub takes : Op → ℕ → ℕ → Bool
 takes o sorts arguments = (sorts == sorts_of o) && is_count (arguments_of o) arguments
 
--- a list of names from behind its opening bracket up to and with the closing mark
-abbrev mutual
-  pub spell_names : List (List ℕ) → ℕ → List Want → List Want
-  spell_names [] close k = any (mark close) ∷ k
-  spell_names (n ∷ ns) close k = any (identifier n) ∷ spell_more_names ns close k
+-- how a thing is spelled in front of what follows it
+abbrev pub Spelling : Type 0
+Spelling = List Want → List Want
 
-  -- .. from behind a name
-  pub spell_more_names : List (List ℕ) → ℕ → List Want → List Want
-  spell_more_names [] close k = any (mark close) ∷ k
-  spell_more_names (n ∷ ns) close k = any (mark 44) ∷ any (identifier n) ∷ spell_more_names ns close k
+-- a list from behind its opening bracket up to and with the closing mark, with commas
+abbrev mutual
+  pub listed : List Spelling → ℕ → Spelling
+  listed [] close k = any (mark close) ∷ k
+  listed (f ∷ fs) close k = f (more_listed fs close k)
+
+  -- .. from behind an item
+  pub more_listed : List Spelling → ℕ → Spelling
+  more_listed [] close k = any (mark close) ∷ k
+  more_listed (f ∷ fs) close k = any (mark 44) ∷ f (more_listed fs close k)
+
+-- one thing after the other
+abbrev pub in_order : List Spelling → Spelling
+in_order [] k = k
+in_order (f ∷ fs) k = f (in_order fs k)
+
+-- an identifier at any place
+abbrev pub spell_name : List ℕ → Spelling
+spell_name n k = any (identifier n) ∷ k
+
+-- a list of names in braces
+abbrev pub spell_names : List (List ℕ) → Spelling
+spell_names ns k = any (mark 123) ∷ listed (map spell_name ns) 125 k
 
 abbrev mutual
   -- a sort: its name, and its sorts in braces
-  pub spell_sort : SortTree → List Want → List Want
-  spell_sort (sort_parameter at n) k = given false ∷ k
-  spell_sort (sort_applied at n ss) k = placed at (identifier n) ∷ any (mark 123) ∷ spell_sorts ss 125 k
+  pub spell_sort : SortTree → Spelling
+  spell_sort (sort_parameter at n) = λ k. given false ∷ k
+  spell_sort (sort_applied at n ss) = λ k. placed at (identifier n) ∷ any (mark 123) ∷ listed (spell_sorts ss) 125 k
 
-  -- sorts from behind their opening bracket up to and with the closing mark
-  pub spell_sorts : SortTrees → ℕ → List Want → List Want
-  spell_sorts no_sorts close k = any (mark close) ∷ k
-  spell_sorts (sort_then s ss) close k = spell_sort s (spell_more_sorts ss close k)
+  pub spell_sorts : SortTrees → List Spelling
+  spell_sorts no_sorts = []
+  spell_sorts (sort_then s ss) = spell_sort s ∷ spell_sorts ss
 
-  -- .. from behind a sort
-  pub spell_more_sorts : SortTrees → ℕ → List Want → List Want
-  spell_more_sorts no_sorts close k = any (mark close) ∷ k
-  spell_more_sorts (sort_then s ss) close k = any (mark 44) ∷ spell_sort s (spell_more_sorts ss close k)
+-- a pattern's head, its sorts in braces and its arguments in parentheses
+abbrev pub spell_applied : ℕ → Token → SortTrees → List Spelling → Spelling
+spell_applied at t ss ps k =
+    placed at t ∷ any (mark 123) ∷ listed (spell_sorts ss) 125 (any (mark 40) ∷ listed ps 41 k)
 
 abbrev mutual
-  -- a pattern: a symbol's name or a connective, the sorts in braces, the arguments in parentheses
-  pub spell_pattern : PatternTree → List Want → List Want
-  spell_pattern (element_variable at n s) k = given false ∷ k
-  spell_pattern (set_variable at n s) k = given false ∷ k
-  spell_pattern (string at t) k = given false ∷ k
-  spell_pattern (symbol_applied at n ss ps) k =
-      placed at (identifier n) ∷ any (mark 123) ∷ spell_sorts ss 125 (any (mark 40) ∷ spell_patterns ps 41 k)
-  spell_pattern (connected at o ss ps) k =
-      placed at (builtin (name_of o)) ∷ any (mark 123)
-      ∷ spell_sorts ss 125 (any (mark 40)
-      ∷ spell_patterns ps 41 (given (takes o (sort_count ss) (pattern_count ps)) ∷ k))
-  spell_pattern (binding at b ss x p) k = given false ∷ k
-  spell_pattern (domain_value at s t place) k = given false ∷ k
-  spell_pattern (folded at left p) k = given false ∷ k
+  -- a pattern: a symbol's name or a connective, applied
+  pub spell_pattern : PatternTree → Spelling
+  spell_pattern (element_variable at n s) = λ k. given false ∷ k
+  spell_pattern (set_variable at n s) = λ k. given false ∷ k
+  spell_pattern (string at t) = λ k. given false ∷ k
+  spell_pattern (symbol_applied at n ss ps) = λ k. spell_applied at (identifier n) ss (spell_patterns ps) k
+  spell_pattern (connected at o ss ps) = λ k.
+      spell_applied at (builtin (name_of o)) ss (spell_patterns ps)
+      (given (takes o (sort_count ss) (pattern_count ps)) ∷ k)
+  spell_pattern (binding at b ss x p) = λ k. given false ∷ k
+  spell_pattern (domain_value at s t place) = λ k. given false ∷ k
+  spell_pattern (folded at left p) = λ k. given false ∷ k
 
-  -- patterns from behind their opening bracket up to and with the closing mark
-  pub spell_patterns : PatternTrees → ℕ → List Want → List Want
-  spell_patterns no_patterns close k = any (mark close) ∷ k
-  spell_patterns (pattern_then p ps) close k = spell_pattern p (spell_more_patterns ps close k)
-
-  -- .. from behind a pattern
-  pub spell_more_patterns : PatternTrees → ℕ → List Want → List Want
-  spell_more_patterns no_patterns close k = any (mark close) ∷ k
-  spell_more_patterns (pattern_then p ps) close k = any (mark 44) ∷ spell_pattern p (spell_more_patterns ps close k)
+  pub spell_patterns : PatternTrees → List Spelling
+  spell_patterns no_patterns = []
+  spell_patterns (pattern_then p ps) = spell_pattern p ∷ spell_patterns ps
 
 -- attributes: patterns in brackets
-abbrev pub spell_attributes : List PatternTree → List Want → List Want
-spell_attributes ps k = any (mark 91) ∷ spell_patterns (pattern_trees ps) 93 k
+abbrev pub spell_attributes : List PatternTree → Spelling
+spell_attributes ps k = any (mark 91) ∷ listed (map spell_pattern ps) 93 k
 
 -- `sort` name { names } attributes
-abbrev pub spell_sort_declaration : SortDeclaration → List Want → List Want
+abbrev pub spell_sort_declaration : SortDeclaration → Spelling
 spell_sort_declaration d k =
     given (not d.hooked) ∷ placed d.at (identifier (codes "sort")) ∷ any (identifier d.name)
-    ∷ any (mark 123) ∷ spell_names d.params 125 (spell_attributes d.attributes k)
+    ∷ spell_names d.params (spell_attributes d.attributes k)
 
 -- `symbol` name { names } ( sorts ) : sort attributes
-abbrev pub spell_symbol_declaration : SymbolDeclaration → List Want → List Want
+abbrev pub spell_symbol_declaration : SymbolDeclaration → Spelling
 spell_symbol_declaration d k =
     given (not d.hooked) ∷ placed d.at (identifier (codes "symbol")) ∷ any (identifier d.name)
-    ∷ any (mark 123) ∷ spell_names d.params 125 (any (mark 40)
-    ∷ spell_sorts (sort_trees d.args) 41 (any (mark 58)
+    ∷ spell_names d.params (any (mark 40) ∷ listed (map spell_sort d.args) 41 (any (mark 58)
     ∷ spell_sort d.result (spell_attributes d.attributes k)))
 
 -- `axiom` { names } pattern attributes
-abbrev pub spell_axiom_declaration : AxiomDeclaration → List Want → List Want
+abbrev pub spell_axiom_declaration : AxiomDeclaration → Spelling
 spell_axiom_declaration d k =
-    placed d.at (identifier (codes "axiom")) ∷ any (mark 123)
-    ∷ spell_names d.params 125 (spell_pattern d.pattern (spell_attributes d.attributes k))
+    placed d.at (identifier (codes "axiom"))
+    ∷ spell_names d.params (spell_pattern d.pattern (spell_attributes d.attributes k))
 
-abbrev pub spell_declaration : Declaration → List Want → List Want
+abbrev pub spell_declaration : Declaration → Spelling
 spell_declaration (import_declaration d) k = given false ∷ k
 spell_declaration (sort_declaration d) k = spell_sort_declaration d k
 spell_declaration (symbol_declaration d) k = spell_symbol_declaration d k
@@ -152,25 +159,17 @@ spell_declaration (alias_declaration d) k = given false ∷ k
 spell_declaration (axiom_declaration d) k = spell_axiom_declaration d k
 spell_declaration (claim_declaration d) k = given false ∷ k
 
-abbrev pub spell_declarations : List Declaration → List Want → List Want
-spell_declarations [] k = k
-spell_declarations (d ∷ ds) k = spell_declaration d (spell_declarations ds k)
-
 -- `module` name declarations `endmodule` attributes
-abbrev pub spell_module : ModuleTree → List Want → List Want
+abbrev pub spell_module : ModuleTree → Spelling
 spell_module m k =
     placed m.at (identifier (codes "module")) ∷ any (identifier m.name)
-    ∷ spell_declarations m.declarations (any (identifier (codes "endmodule")) ∷ spell_attributes m.attributes k)
-
-abbrev pub spell_modules : List ModuleTree → List Want → List Want
-spell_modules [] k = k
-spell_modules (m ∷ ms) k = spell_module m (spell_modules ms k)
+    ∷ in_order (map spell_declaration m.declarations) (any (identifier (codes "endmodule")) ∷ spell_attributes m.attributes k)
 
 abbrev pub is_some_module : List ModuleTree → Bool
 is_some_module [] = false
 is_some_module (m ∷ ms) = true
 
 -- attributes, and one module or more
-abbrev pub spell_definition : DefinitionTree → List Want → List Want
+abbrev pub spell_definition : DefinitionTree → Spelling
 spell_definition d k =
-    spell_attributes d.attributes (spell_modules d.modules (given (is_some_module d.modules) ∷ k))
+    spell_attributes d.attributes (in_order (map spell_module d.modules) (given (is_some_module d.modules) ∷ k))

@@ -6,9 +6,16 @@
 // `KoreText` says which tree bytes spell.
 #![tactic(auto)]
 
+mod bytes;
+mod connectives;
+mod declarations;
+mod read;
+mod reader;
+mod terms;
 mod text;
 mod tree;
 
+pub use read::{read_definition, read_pattern};
 pub use text::Text;
 pub use tree::{
     AliasDecl, AxiomDecl, Binder, Decl, Definition, ImportDecl, Module, Op, Pat, PatForm,

@@ -1,7 +1,11 @@
 // The type of names and texts in trees.
 
-ghost use Rattle.std.specs.Prelude.{◌≡◌, List, ℕ, string_bytes};
+ghost use Rattle.std.specs.Prelude.{◌≡◌, List, ℕ, IfOk, string_bytes};
+ghost use Rattle.std.specs.Str.{IsUtf8};
+ghost use Rattle.kore_ast.specs.Faults.{OnNotBuilt};
 
+use crate::tree::ReadFault;
+use std::alloc::Global;
 use std::marker::Model;
 
 /// A name or a text of a tree. A contract sees the list of its bytes.
@@ -29,5 +33,17 @@ impl Text {
         ensures { result.now ≡ self.now }
     {
         self.inner.as_str()
+    }
+
+    /// The text of these bytes.
+    pub(crate) fn of_bytes(alloc: Global, bytes: &[u8]) -> Result<Text, ReadFault>
+        requires { IsUtf8 bytes.now }
+        ensures same { IfOk result (λ t. t ≡ bytes.now) }
+        ensures memory { OnNotBuilt result ⊥ }
+    {
+        match str::from_utf8(bytes) {
+            Ok(text) => Ok(Text::new(String::from_str(alloc, text)?)),
+            Err(_) => unreachable!(),
+        }
     }
 }

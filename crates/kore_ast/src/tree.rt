@@ -1,7 +1,11 @@
 // The trees of Kore text. Each `at` is the byte at which the first token of the thing stands,
 // counted from 0.
 
+ghost use Rattle.std.specs.Prelude.{◌≡◌};
+ghost use Rattle.kore_ast.specs.declared.tree.ReadFault.TheVariants.{Memory};
+
 use crate::text::Text;
+use std::alloc::{AllocError, AllocFailed};
 
 /// A definition: its attributes, and its modules in the order of the text, the main one last.
 #[derive(Drop)]
@@ -163,4 +167,20 @@ pub enum ReadFault {
     NotBuilt,
     /// Memory was wanting.
     Memory,
+}
+
+impl From<AllocError> for ReadFault {
+    ghost from_gives = { λ _ fault. fault ≡ Memory };
+
+    fn from(_error: AllocError) -> ReadFault {
+        ReadFault::Memory
+    }
+}
+
+impl<T: Drop> From<AllocFailed<T>> for ReadFault {
+    ghost from_gives = { λ _ fault. fault ≡ Memory };
+
+    fn from(_error: AllocFailed<T>) -> ReadFault {
+        ReadFault::Memory
+    }
 }

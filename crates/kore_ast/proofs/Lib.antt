@@ -1,0 +1,14 @@
+pub mod Words
+pub mod Lexing
+pub mod HeadLaws
+pub mod FaultLaws
+pub mod ConnectiveLaws
+pub mod ReaderLaws
+pub mod Lists
+pub mod Chains
+pub mod Sequences
+pub mod Vectors
+pub mod PlainLaws
+pub mod SortLaws
+pub mod PatternLaws
+pub mod DeclarationLaws
