@@ -5,3 +5,4 @@ pub mod Declared
 pub mod WordsOfCases
 pub mod Limits
 pub mod CommandWords
+pub mod PrintedTerms

@@ -2,7 +2,14 @@
 use Rattle.std.specs.Prelude.{ℕ, List, [], ◌∷◌, ◌++◌, Option, Some, None, option_map, slice_get, codes, decimal}
 use Rattle.term_core.specs.Terms.{Tree, leaf, node, inj, Forest, no_tree, more_trees}
 use Rattle.rule_core.specs.declared.signature.SymInfo.{SymInfo}
+use Rattle.rule_core.specs.declared.rules.Outcome.{Outcome}
+use Rattle.rule_core.specs.declared.rules.Outcome.TheVariants.{Stuck, Limit}
 use Rattle.rule_core.specs.Runs.{Run, stuck, limited}
+
+-- a run that ended so with this configuration
+abbrev pub run_of : Outcome → Tree → Run
+run_of (Stuck n) t = stuck n t
+run_of (Limit n) t = limited n t
 
 -- the name of a symbol, by its number
 abbrev pub name_of : List (List ℕ × SymInfo) → ℕ → Option (List ℕ)
