@@ -22,12 +22,12 @@ use Rattle.kore_prove.proofs.TreesOfForms.{plain-App}
 
 -- an application of a constant means that constant
 pub constant-denotes : (sig : Signature) (pat : Pat) (name : List ℕ) (ss : Vec Sort) (ps : Vec Pat) (f : ℕ) (info : SymInfo) (sort : SortId) → pat.form ≡ App name ss ps → ss.items ≡ [] → ps.items ≡ []
-  → number_of sig.symbols name ≡ Some f → Some info ≡ option_map (λ e. e.1) (slice_get sig.symbols f) → IsConstantOf info sort → Denotes sig (plain_pattern pat) (application f no_pattern) sort.0
+    → number_of sig.symbols name ≡ Some f → Some info ≡ option_map (λ e. e.1) (slice_get sig.symbols f) → IsConstantOf info sort → Denotes sig (plain_pattern pat) (application f no_pattern) sort.0
 constant-denotes sig pat name ss ps f info sort form no_ss no_ps number value constant =
     let e : plain_pattern pat ≡ symbol_applied pat.at name no_sorts no_patterns =
-        ap (λ (shape : PatForm). plain_pattern (record { at = pat.at; form = shape })) form ∙ plain-App pat.at name ss ps
-        ∙ ap (λ ts. symbol_applied pat.at name (sort_trees (map plain_sort ts)) (pattern_trees (map plain_pattern ps.items))) no_ss
-        ∙ ap (λ qs. symbol_applied pat.at name no_sorts (pattern_trees (map plain_pattern qs))) no_ps in
+    ap (λ (shape : PatForm). plain_pattern (record { at = pat.at; form = shape })) form ∙ plain-App pat.at name ss ps
+    ∙ ap (λ ts. symbol_applied pat.at name (sort_trees (map plain_sort ts)) (pattern_trees (map plain_pattern ps.items))) no_ss
+    ∙ ap (λ qs. symbol_applied pat.at name no_sorts (pattern_trees (map plain_pattern qs))) no_ps in
     let entry = number_of-entry sig.symbols name f number in
     let both : Some info ≡ Some entry.0 = value ∙ ap (λ o. option_map (λ (e' : List ℕ × SymInfo). e'.1) o) entry.1 in
     let same : entry.0 ≡ info = cc in
@@ -46,7 +46,7 @@ constructor_alone true attrs attr e h = (attr.at, rw e (ap (λ p. p ∷ []) h))
 constructor_alone false attrs attr e h = tt
 
 shown : (symbols : List (List ℕ × SymInfo)) (f g : ℕ) (ps : Patterns) (name : List ℕ) (info : SymInfo) → application f no_pattern ≡ application g ps → slice_get symbols g ≡ Some (name, info) → IsShowable symbols (application f no_pattern)
-shown symbols f g ps name info same there = 
+shown symbols f g ps name info same there =
     let one : f ≡ g = cc in
     let named : name_of symbols f ≡ Some name = ap (λ n. name_of symbols n) one ∙ ap (λ o. option_map (λ (e : List ℕ × SymInfo). e.0) o) there in
     record {

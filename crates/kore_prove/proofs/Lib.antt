@@ -7,3 +7,4 @@ pub mod Stepping
 pub mod Limits
 pub mod CommandWords
 pub mod Printing
+pub mod PrintedTerms

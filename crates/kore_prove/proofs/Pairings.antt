@@ -17,12 +17,12 @@ front f xs i s lt item = ap (map f) (take_more xs i s lt ∙ ap (λ y. take i xs
 
 -- one turn of a loop over xs, at whose item h gives something that stands in the relation to one more element
 pub Each-take_some : {S A D B : Type 0} (f : S → A) (h : A → Option D) (R : D → B → Type 0) (xs : List S) (i : ℕ) (s : S) (d : D) (old new : List B) (e : B) → i < length xs → s ≡ get_or xs i s → h (f s) ≡ Some d
-  → Each R (filter_map h (map f (take i xs))) old → R d e → new ≡ old ++ e ∷ [] → Each R (filter_map h (map f (take (i + 1) xs))) new
+    → Each R (filter_map h (map f (take i xs))) old → R d e → new ≡ old ++ e ∷ [] → Each R (filter_map h (map f (take (i + 1) xs))) new
 Each-take_some f h R xs i s d old new e lt item gives all last grown =
     rw (front f xs i s lt item, filter_map-append h (map f (take i xs)) (f s ∷ []), gives, grown) (Each-push R _ old d e all last)
 
 -- one turn at whose item h gives nothing
 pub Each-take_none : {S A D B : Type 0} (f : S → A) (h : A → Option D) (R : D → B → Type 0) (xs : List S) (i : ℕ) (s : S) (old new : List B) → i < length xs → s ≡ get_or xs i s → h (f s) ≡ None
-  → Each R (filter_map h (map f (take i xs))) old → new ≡ old → Each R (filter_map h (map f (take (i + 1) xs))) new
+    → Each R (filter_map h (map f (take i xs))) old → new ≡ old → Each R (filter_map h (map f (take (i + 1) xs))) new
 Each-take_none f h R xs i s old new lt item gives all same =
     rw (front f xs i s lt item, filter_map-append h (map f (take i xs)) (f s ∷ []), gives, append-nil, same) all

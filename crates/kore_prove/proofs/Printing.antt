@@ -16,7 +16,7 @@ use Rattle.kore_prove.specs.PrintedRun.{HasLines, IsPrintedRun, PrintsRunOf, Pri
 
 -- the run of the files, printed
 printed_run : (told : Told) (definition_name term_name : List ℕ) (limit : ℕ) (program : Program) (start : Pattern) (outcome : Outcome) (lines : List ℕ) → HoldsProgram (Some told) definition_name program
-  → HoldsStart (Some told) term_name program start → (h : HasLines program start limit outcome lines) → IsPrintedRun definition_name term_name limit told lines (run_of outcome h.last)
+    → HoldsStart (Some told) term_name program start → (h : HasLines program start limit outcome lines) → IsPrintedRun definition_name term_name limit told lines (run_of outcome h.last)
 printed_run told definition_name term_name limit program start outcome lines p s h = record {
   definition_bytes = p.0;
   definition_file = p.1;
@@ -45,15 +45,15 @@ kept_start told told' name program start kept s = let P : Option Told → Type 0
     (q.0, q.1, q.2)
 
 pub prints_run_of : (told told' : Option Told) (definition_name term_name : List ℕ) (limit : ℕ) (program : Program) (start : Pattern) (outcome : Outcome) (lines : List ℕ) (before after : Option (List ℕ))
-  → HoldsProgram told definition_name program → KeepsFiles told told' → HoldsStart told' term_name program start → HasLines program start limit outcome lines → Appends before after lines
-  → PrintsRunOf definition_name term_name limit told before after outcome
+    → HoldsProgram told definition_name program → KeepsFiles told told' → HoldsStart told' term_name program start → HasLines program start limit outcome lines → Appends before after lines
+    → PrintsRunOf definition_name term_name limit told before after outcome
 prints_run_of None told' dn tn limit program start outcome lines before after p kept s h appended = tt
 prints_run_of (Some told) told' dn tn limit program start outcome lines None after p kept s h appended = tt
 prints_run_of (Some told) told' dn tn limit program start outcome lines (Some before) after p kept s h appended =
     (lines, h.last, appended, printed_run told dn tn limit program start outcome lines p (kept_start told told' tn program start kept s) h)
 
 pub prints_run : (words : List (List ℕ)) (told : Option Told) (before after : Option (List ℕ)) (dn tn : List ℕ) (limit : ℕ) (outcome : Outcome) (code : ℕ) → IsRunCommand words dn tn limit
-  → PrintsRunOf dn tn limit told before after outcome → ((t : Tree) → code ≡ code_of (run_of outcome t)) → PrintsRun words told before after code
+    → PrintsRunOf dn tn limit told before after outcome → ((t : Tree) → code ≡ code_of (run_of outcome t)) → PrintsRun words told before after code
 prints_run words None before after dn tn limit outcome code command p is = tt
 prints_run words (Some told) None after dn tn limit outcome code command p is = tt
 prints_run words (Some told) (Some before) after dn tn limit outcome code command p is = λ _. (dn, tn, limit, p.0, run_of outcome p.1, command, p.3, p.2, is p.1)

@@ -22,7 +22,7 @@ pub record Found (rules : List Rule) (t : Tree) (i : ℕ) (theta : List (Option 
   pub empty : theta ≡ []
 
 pub found : (rules : List Rule) (t : Tree) (i : ℕ) (theta : List (Option Tree)) (symbols : List (List ℕ × SymInfo)) (r : Rule) → IsFirstMatch (rewrite_rules rules) 0 t i theta
-  → All (IsRunnable symbols) rules → r ≡ get_or rules i r → Found rules t i theta symbols r
+    → All (IsRunnable symbols) rules → r ≡ get_or rules i r → Found rules t i theta symbols r
 found rules t i theta symbols r first all item =
     let own = mapped rewrite_rule rules i first.rule first.there in
     let lt : i < length rules = slice_get_within rules i own.0 own.1.0 in
@@ -43,7 +43,7 @@ fits theta symbols p shown empty = rw (empty, shown.becomes) shown.shown.low
 
 -- the instance of the right side is the next term
 pub steps : (rules : List Rule) (t u : Tree) (i : ℕ) (theta : List (Option Tree)) (symbols : List (List ℕ × SymInfo)) (r : Rule) → IsInTrialOrder (rewrite_rules rules) → Found rules t i theta symbols r
-  → instance_of theta (plain_pattern r.right) ≡ Some u → Rewrites (rewrite_rules rules) t u × IsShown symbols u
+    → instance_of theta (plain_pattern r.right) ≡ Some u → Rewrites (rewrite_rules rules) t u × IsShown symbols u
 steps rules t u i theta symbols r order f is =
     let both : Some f.runnable.right.term ≡ Some u = sym f.runnable.right.becomes ∙ ap (λ th. instance_of th (plain_pattern r.right)) (sym f.empty) ∙ is in
     let one : f.runnable.right.term ≡ u = cc in

@@ -11,13 +11,13 @@ use Rattle.kore_ast.specs.declared.tree.PatForm.TheVariants.{App, Built, rolls-A
 use Rattle.kore_ast.specs.declared.tree.PatForm.TheFolds.{fold-PatForm, fold-roll-Pat, fold-roll-PatForm}
 
 pub plain-App : (at : ℕ) (name : List ℕ) (ss : Vec Sort) (ps : Vec Pat)
-  → plain_pattern (record { at = at; form = App name ss ps }) ≡ symbol_applied at name (sort_trees (map plain_sort ss.items)) (pattern_trees (map plain_pattern ps.items))
+    → plain_pattern (record { at = at; form = App name ss ps }) ≡ symbol_applied at name (sort_trees (map plain_sort ss.items)) (pattern_trees (map plain_pattern ps.items))
 plain-App at name ss ps =
     fold-roll-Pat (ℕ → PatternTree) PatternTree pattern_form_step pattern_step (record { at = at; form = App name ss ps })
     ∙ ap (λ (g : ℕ → PatternTree). g at) (ap (fold-PatForm (ℕ → PatternTree) PatternTree pattern_form_step pattern_step) (sym (rolls-App name ss ps)) ∙ fold-roll-PatForm (ℕ → PatternTree) PatternTree pattern_form_step pattern_step (layer.App name ss ps))
 
 pub plain-Built : (at : ℕ) (op : Op) (ss : Vec Sort) (ps : Vec Pat)
-  → plain_pattern (record { at = at; form = Built op ss ps }) ≡ connected at op (sort_trees (map plain_sort ss.items)) (pattern_trees (map plain_pattern ps.items))
+    → plain_pattern (record { at = at; form = Built op ss ps }) ≡ connected at op (sort_trees (map plain_sort ss.items)) (pattern_trees (map plain_pattern ps.items))
 plain-Built at op ss ps =
     fold-roll-Pat (ℕ → PatternTree) PatternTree pattern_form_step pattern_step (record { at = at; form = Built op ss ps })
     ∙ ap (λ (g : ℕ → PatternTree). g at) (ap (fold-PatForm (ℕ → PatternTree) PatternTree pattern_form_step pattern_step) (sym (rolls-Built op ss ps)) ∙ fold-roll-PatForm (ℕ → PatternTree) PatternTree pattern_form_step pattern_step (layer.Built op ss ps))

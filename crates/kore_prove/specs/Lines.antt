@@ -3,8 +3,13 @@ use Rattle.std.specs.Prelude.{ℕ, List, [], ◌∷◌, ◌++◌, Option, Some, 
 use Rattle.term_core.specs.Terms.{Tree, leaf, node, inj, Forest, no_tree, more_trees}
 use Rattle.rule_core.specs.declared.signature.SymInfo.{SymInfo}
 use Rattle.rule_core.specs.declared.rules.Outcome.{Outcome}
-use Rattle.rule_core.specs.declared.rules.Outcome.TheVariants as outcome
+use Rattle.rule_core.specs.declared.rules.Outcome.TheVariants.{Stuck, Limit}
 use Rattle.rule_core.specs.Runs.{Run, stuck, limited}
+
+-- a run that ended so with this configuration
+abbrev pub run_of : Outcome → Tree → Run
+run_of (Stuck n) t = stuck n t
+run_of (Limit n) t = limited n t
 
 -- the name of a symbol, by its number
 abbrev pub name_of : List (List ℕ × SymInfo) → ℕ → Option (List ℕ)
@@ -46,8 +51,3 @@ two_lines word n text = option_map (λ bytes. word ++ (codes " " ++ (decimal n +
 abbrev pub lines_of : List (List ℕ × SymInfo) → Run → Option (List ℕ)
 lines_of symbols (stuck n t) = two_lines (codes "stuck") n (text_of symbols t)
 lines_of symbols (limited n t) = two_lines (codes "limit") n (text_of symbols t)
-
--- the run with this end and this last configuration
-abbrev pub run_of : Outcome → Tree → Run
-run_of (outcome.Stuck n) t = stuck n t
-run_of (outcome.Limit n) t = limited n t

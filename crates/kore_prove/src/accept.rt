@@ -16,9 +16,9 @@ ghost use Rattle.std.specs.List.Sorted.{IsPermutation};
 ghost use Rattle.kore_prove.specs.Constants.{IsSideConstant, RewritesConstants};
 
 use kore_ast::{
-    AxiomDecl, Decl, Definition, Module, Op, Pat, PatForm, ReadFault, Sort, SortDecl, SortForm, SymbolDecl,
+    AxiomDecl, Decl, Definition, Module, Op, Pat, PatForm, ReadFault, Sort, SortDecl, SortForm,
+    SymbolDecl, read_definition, read_pattern,
 };
-use crate::reading::{read_definition, read_pattern};
 use rule_core::{Program, Rule, Signature, SortInfo, SortKind, SortRef, SymInfo, SymKind, Table};
 use std::alloc::{AllocError, Global};
 use term_core::{RulePat, SortId, SymId};
@@ -124,7 +124,11 @@ fn main_declarations(definition: &Definition) -> Option<&[Decl]>
     ensures { IfSome result (λ decls. HasDeclarations (plain_definition definition.now) (map plain_declaration decls.now)) }
 {
     let main = only_module(definition)?;
-    if are_built(&main.decls) { Some(&main.decls) } else { None }
+    if are_built(&main.decls) {
+        Some(&main.decls)
+    } else {
+        None
+    }
 }
 
 /// The only module of a definition, where neither has attributes.
@@ -228,8 +232,14 @@ fn add_sort(alloc: Global, sorts: &mut Table<SortInfo>, sort: &SortDecl) -> Resu
         return Err(NOT_BUILT);
     }
     let name = String::from_str(alloc, sort.name.as_str())?;
-    let info = SortInfo { kind: SortKind::Other };
-    if sorts.insert(name, info)? { Ok(()) } else { Err(NOT_BUILT) }
+    let info = SortInfo {
+        kind: SortKind::Other,
+    };
+    if sorts.insert(name, info)? {
+        Ok(())
+    } else {
+        Err(NOT_BUILT)
+    }
 }
 
 /// The symbols that the declarations declare.
@@ -266,7 +276,11 @@ fn add_symbol(
     }
     let sort = named_sort(sorts, &symbol.result).ok_or(NOT_BUILT)?;
     let name = String::from_str(alloc, symbol.name.as_str())?;
-    if symbols.insert(name, constructor(alloc, sort))? { Ok(()) } else { Err(NOT_BUILT) }
+    if symbols.insert(name, constructor(alloc, sort))? {
+        Ok(())
+    } else {
+        Err(NOT_BUILT)
+    }
 }
 
 /// A constructor without arguments.

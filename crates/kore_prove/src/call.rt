@@ -9,8 +9,8 @@ ghost use Rattle.kore_prove.specs.PrintedRun.{PrintsRun, PrintsRunOf, HasLines, 
 ghost use Rattle.kore_prove.specs.Lines.{run_of};
 ghost use Rattle.term_core.specs.Terms.{Tree};
 
-use crate::files::{FileEnd, read_program, read_start};
 use crate::accept::Refusal;
+use crate::files::{FileEnd, read_program, read_start};
 use crate::lines::run_lines;
 use crate::report::{End, send_report};
 use crate::run::run;

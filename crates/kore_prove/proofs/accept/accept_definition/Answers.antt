@@ -9,18 +9,18 @@ use Rattle.kore_prove.proofs.accept.accept_definition.Goals as goal
 
 pub returns : goal.returns
 returns c = let found : c.main_declarations.result ≡ Some c.in_ok-decls.decls = search rules in
- record {
-  rules = rewrite_rules c.in_ok-rules.rules.items;
-  accepted = record {
-    declarations = map plain_declaration c.in_ok-decls.decls.now;
-    main = if_some (λ ds. HasDeclarations (plain_definition c.args.definition.now) (map plain_declaration ds.now)) c.main_declarations.result c.in_ok-decls.decls c.main_declarations.ensures found;
-    sorts = search rules;
-    sorts_differ = search rules;
-    symbols = search rules;
-    symbols_differ = search rules;
-    rules_are = search rules;
-  };
-  same_rules = IsPermutation-map rewrite_rule _ _ c.in_ok-put_in_order.ensures.permutation;
-  in_order = c.in_ok-put_in_order.ensures.in_order;
-  runnable = All-permutation (IsRunnable c.in_ok-symbols.symbols) _ _ c.in_ok-put_in_order.ensures.permutation c.in_ok-rules.ensures.runnable;
-}
+    record {
+      rules = rewrite_rules c.in_ok-rules.rules.items;
+      accepted = record {
+        declarations = map plain_declaration c.in_ok-decls.decls.now;
+        main = if_some (λ ds. HasDeclarations (plain_definition c.args.definition.now) (map plain_declaration ds.now)) c.main_declarations.result c.in_ok-decls.decls c.main_declarations.ensures found;
+        sorts = search rules;
+        sorts_differ = search rules;
+        symbols = search rules;
+        symbols_differ = search rules;
+        rules_are = search rules;
+      };
+      same_rules = IsPermutation-map rewrite_rule _ _ c.in_ok-put_in_order.ensures.permutation;
+      in_order = c.in_ok-put_in_order.ensures.in_order;
+      runnable = All-permutation (IsRunnable c.in_ok-symbols.symbols) _ _ c.in_ok-put_in_order.ensures.permutation c.in_ok-rules.ensures.runnable;
+    }

@@ -6,11 +6,14 @@ use Rattle.kore_prove.proofs.accept.add_sort.Goals as goal
 pub returns-then-branch : goal.returns-then-branch
 returns-then-branch c =
     let no_params : c.args.sort.now.params.items ≡ [] = search (rules, nil_from_length) in
-    let no_attrs : c.args.sort.now.attrs.items ≡ [] = search (rules, nil_from_length) in
-    ((string_bytes c.in_ok-name.name, record { kind = Other }), search rules, record {
-      hooked = search rules;
-      params = no_params;
-      attributes = rw no_attrs;
-      name = search rules;
-      kind = search rules;
-    })
+    let no_attrs : c.args.sort.now.attrs.items ≡ [] = search (rules, nil_from_length) in (
+      (string_bytes c.in_ok-name.name, record { kind = Other }),
+      search rules,
+      record {
+        hooked = search rules;
+        params = no_params;
+        attributes = rw no_attrs;
+        name = search rules;
+        kind = search rules;
+      },
+    )

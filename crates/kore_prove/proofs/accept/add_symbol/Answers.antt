@@ -12,16 +12,19 @@ returns-then-branch c =
     let alone : c.is_constructor_alone.result ≡ true = search rules in
     let attributes : IsConstructorAlone (map plain_pattern c.args.symbol.now.attrs.items) = rw (← c.deref.ensures.value) (on_true c.is_constructor_alone.result c.is_constructor_alone.ensures alone) in
     let found : c.named_sort.result ≡ Some c.in_ok-sort.sort = search rules in
-    let names = if_some (λ s. NamesSort c.args.sorts.now (plain_sort c.args.symbol.now.result) s.0) c.named_sort.result c.in_ok-sort.sort c.named_sort.ensures found in
-    ((string_bytes c.in_ok-name.name, c.constructor.result), search rules, record {
-      hooked = search rules;
-      params = no_params;
-      args = rw no_args;
-      attributes = attributes;
-      name = search rules;
-      kind = search rules;
-      arity = search rules;
-      sort = c.in_ok-sort.sort.0;
-      names = names;
-      result = search rules;
-    })
+    let names = if_some (λ s. NamesSort c.args.sorts.now (plain_sort c.args.symbol.now.result) s.0) c.named_sort.result c.in_ok-sort.sort c.named_sort.ensures found in (
+      (string_bytes c.in_ok-name.name, c.constructor.result),
+      search rules,
+      record {
+        hooked = search rules;
+        params = no_params;
+        args = rw no_args;
+        attributes = attributes;
+        name = search rules;
+        kind = search rules;
+        arity = search rules;
+        sort = c.in_ok-sort.sort.0;
+        names = names;
+        result = search rules;
+      },
+    )

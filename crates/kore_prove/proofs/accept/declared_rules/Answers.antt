@@ -11,17 +11,17 @@ pub loop-decl-preserved : goal.loop-decl-preserved
 loop-decl-preserved c =
     let lt : c.loop-decl.decl-index < length c.args.decls.now = omega arith in
     elim c.match-decl.branch [
-      in-Axiom+in_ok-push_rule w ↦ let a = w.in_ok-push_rule.ensures.added in
+      | in-Axiom+in_ok-push_rule w ↦ let a = w.in_ok-push_rule.ensures.added in
           record {
             stated = Each-take_some plain_declaration axiom_declared (IsRuleOf c.args.sig.now (sort_number c.args.top)) c.args.decls.now _ c.decl-item.result (plain_axiom_decl w.in-Axiom.axiom)
-              (map rewrite_rule c.loop-decl.rules.items) (map rewrite_rule c.match-decl.rules.items) a.0 lt c.decl-item.is
-              (ap (λ d. axiom_declared (plain_declaration d)) w.in-Axiom.is) c.loop-decl.invariant.stated a.2 (search rules);
+                (map rewrite_rule c.loop-decl.rules.items) (map rewrite_rule c.match-decl.rules.items) a.0 lt c.decl-item.is
+                (ap (λ d. axiom_declared (plain_declaration d)) w.in-Axiom.is) c.loop-decl.invariant.stated a.2 (search rules);
             runnable = rw w.rules-is (w.in_ok-push_rule.ensures.runnable c.loop-decl.invariant.runnable);
           }
       | in_default w ↦ record {
-          stated = Each-take_none plain_declaration axiom_declared (IsRuleOf c.args.sig.now (sort_number c.args.top)) c.args.decls.now _ c.decl-item.result
+        stated = Each-take_none plain_declaration axiom_declared (IsRuleOf c.args.sig.now (sort_number c.args.top)) c.args.decls.now _ c.decl-item.result
             (map rewrite_rule c.loop-decl.rules.items) (map rewrite_rule c.match-decl.rules.items) lt c.decl-item.is
             (no_axiom c.decl-item.result w.in_default.not-Axiom) c.loop-decl.invariant.stated (search rules);
-          runnable = rw w.rules-is c.loop-decl.invariant.runnable;
-        }
+        runnable = rw w.rules-is c.loop-decl.invariant.runnable;
+      }
     ]

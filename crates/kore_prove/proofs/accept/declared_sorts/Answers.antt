@@ -10,7 +10,7 @@ pub loop-decl-preserved : goal.loop-decl-preserved
 loop-decl-preserved c =
     let lt : c.loop-decl.decl-index < length c.args.decls.now = omega arith in
     elim c.match-decl.branch [
-      in-SortDecl+in_ok-add_sort w ↦ let a = w.in_ok-add_sort.ensures in
+      | in-SortDecl+in_ok-add_sort w ↦ let a = w.in_ok-add_sort.ensures in
           Each-take_some plain_declaration sort_declared IsSortEntry c.args.decls.now _ c.decl-item.result (plain_sort_decl w.in-SortDecl.sort) c.loop-decl.sorts c.match-decl.sorts a.0 lt c.decl-item.is
           (ap (λ d. sort_declared (plain_declaration d)) w.in-SortDecl.is) c.loop-decl.invariant a.2 (search rules)
       | in_default w ↦ Each-take_none plain_declaration sort_declared IsSortEntry c.args.decls.now _ c.decl-item.result c.loop-decl.sorts c.match-decl.sorts lt c.decl-item.is
