@@ -6,3 +6,4 @@ pub mod WordsOfCases
 pub mod Limits
 pub mod CommandWords
 pub mod PrintedTerms
+pub mod Pieces

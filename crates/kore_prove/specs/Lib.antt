@@ -4,3 +4,4 @@ pub mod Lines
 pub mod PrintedRun
 pub mod Constants
 pub mod Runnable
+pub mod Reports
