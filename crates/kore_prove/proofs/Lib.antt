@@ -8,3 +8,4 @@ pub mod Limits
 pub mod CommandWords
 pub mod Printing
 pub mod PrintedTerms
+pub mod Pieces

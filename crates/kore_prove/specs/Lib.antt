@@ -5,3 +5,4 @@ pub mod PrintedRun
 pub mod Constants
 pub mod Runnable
 pub mod Files
+pub mod Reports

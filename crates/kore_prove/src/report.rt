@@ -1,0 +1,112 @@
+// What the program says on the error stream where a call ends without a run.
+ghost use Rattle.std.specs.Prelude.{◌≡◌, ◌≤◌, ◌++◌, [], ◌∷◌, List, ℕ, OnOk, OnErr, IsErrOf};
+ghost use Rattle.std.specs.List.{flat_map};
+ghost use Rattle.std.specs.Borrow.{Bor};
+ghost use Rattle.desk_io.specs.Sent.{Appends, AppendsFront};
+ghost use Rattle.desk_io.specs.Counts.{Rose};
+ghost use Rattle.kore_prove.specs.Reports.{end_code, refusal, report_line};
+
+use desk_io::{DeskFault, Sink, send_whole};
+use itoa::Buffer;
+
+/// Why a call ended without a run.
+#[derive(Clone, Copy, Debug, PartialEq, Eq)]
+pub enum End<'a> {
+    /// Memory was wanting.
+    OutOfMemory,
+    /// The words are no command.
+    BadWords,
+    /// A file could not be read.
+    ReadFault,
+    /// The output could not be written.
+    WriteFault,
+    /// There is no file of this name.
+    NoSuchFile(&'a str),
+    /// The definition was refused: the number of the refusal, and the byte that it is at.
+    DefinitionRefused(u8, u32),
+    /// The term was refused: the number of the refusal, and the byte that it is at.
+    TermRefused(u8, u32),
+    /// The file of this name has more bytes than its limit.
+    TooLarge(&'a str),
+}
+
+impl End<'_> {
+    /// The exit code.
+    pub fn code(&self) -> u8
+        ensures { result ≡ end_code self.now }
+    {
+        match self {
+            End::OutOfMemory => 1,
+            End::BadWords => 2,
+            End::ReadFault => 3,
+            End::WriteFault => 4,
+            End::NoSuchFile(_) => 5,
+            End::DefinitionRefused(..) => 6,
+            End::TermRefused(..) => 7,
+            End::TooLarge(_) => 8,
+        }
+    }
+}
+
+/// Sends the one line that says why a call ended. After an error some bytes from its front are
+/// sent, maybe none. It fails only where the sink counted a fault.
+pub fn send_report<E: Sink>(err: &mut E, end: &End<'_>) -> Result<(), DeskFault>
+    ensures sent { OnOk result (Appends (E.bytes err.old) (E.bytes err.new) (report_line end.now)) }
+    ensures prefix { OnErr result
+        (AppendsFront (E.bytes err.old) (E.bytes err.new) (report_line end.now)) }
+    ensures failed { IsErrOf result DeskFault.Failed → Rose (E.faults err.old) (E.faults err.new) }
+    ensures counts { E.faults err.old ≤ E.faults err.new }
+{
+    match end {
+        End::OutOfMemory => send_pieces(err, &["kore_prove: out of memory\n"]),
+        End::BadWords => send_pieces(err, &["kore_prove: bad words\n"]),
+        End::ReadFault => send_pieces(err, &["kore_prove: read fault\n"]),
+        End::WriteFault => send_pieces(err, &["kore_prove: write fault\n"]),
+        End::NoSuchFile(name) => send_pieces(err, &["kore_prove: no such file ", name, "\n"]),
+        End::DefinitionRefused(number, byte) => {
+            send_refusal(err, "kore_prove: definition", *number, *byte)
+        }
+        End::TermRefused(number, byte) => send_refusal(err, "kore_prove: term", *number, *byte),
+        End::TooLarge(name) => send_pieces(err, &["kore_prove: too large ", name, "\n"]),
+    }
+}
+
+/// Sends what was refused, the number of the refusal and the byte that it is at.
+fn send_refusal<E: Sink>(err: &mut E, what: &str, number: u8, byte: u32) -> Result<(), DeskFault>
+    ensures sent { OnOk result
+        (Appends (E.bytes err.old) (E.bytes err.new) (what.now ++ refusal number byte ++ 10 ∷ [])) }
+    ensures prefix { OnErr result (AppendsFront
+        (E.bytes err.old) (E.bytes err.new) (what.now ++ refusal number byte ++ 10 ∷ [])) }
+    ensures failed { IsErrOf result DeskFault.Failed → Rose (E.faults err.old) (E.faults err.new) }
+    ensures counts { E.faults err.old ≤ E.faults err.new }
+{
+    let mut numbers = Buffer::new();
+    let mut bytes = Buffer::new();
+    let pieces = [
+        what,
+        " refused ",
+        numbers.format(number),
+        " at ",
+        bytes.format(byte),
+        "\n",
+    ];
+    send_pieces(err, &pieces)
+}
+
+/// Sends pieces one after the other.
+fn send_pieces<E: Sink>(err: &mut E, pieces: &[&str]) -> Result<(), DeskFault>
+    ensures sent { OnOk result (Appends
+        (E.bytes err.old) (E.bytes err.new) (flat_map (λ (p : Bor (List ℕ)). p.now) pieces.now)) }
+    ensures prefix { OnErr result (AppendsFront
+        (E.bytes err.old) (E.bytes err.new) (flat_map (λ (p : Bor (List ℕ)). p.now) pieces.now)) }
+    ensures failed { IsErrOf result DeskFault.Failed → Rose (E.faults err.old) (E.faults err.new) }
+    ensures counts { E.faults err.old ≤ E.faults err.new }
+{
+    for piece in pieces {
+        match send_whole(err, piece.as_bytes()) {
+            Ok(()) => {}
+            Err(fault) => return Err(fault),
+        }
+    }
+    Ok(())
+}
