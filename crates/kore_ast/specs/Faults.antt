@@ -1,4 +1,4 @@
--- Words on the two faults: cited by the clauses of private functions alone.
+-- Words on the two faults of the readers.
 use Rattle.std.specs.Prelude.{Result, Ok, Err}
 use Rattle.kore_ast.specs.declared.tree.ReadFault.{ReadFault}
 use Rattle.kore_ast.specs.declared.tree.ReadFault.TheVariants.{NotBuilt, Memory}

@@ -5,8 +5,8 @@ pub mod Pieces
 pub mod Lexed
 pub mod Grammar
 pub mod KoreText
--- cited by the clauses of private functions alone
-pub mod Heads
 pub mod Faults
+-- What only private functions cite.
+pub mod Heads
 pub mod Connectives
 pub mod Reading

@@ -21,3 +21,6 @@ pub use tree::{
     AliasDecl, AxiomDecl, Binder, Decl, Definition, ImportDecl, Module, Op, Pat, PatForm,
     ReadFault, Sort, SortDecl, SortForm, SymbolDecl,
 };
+
+#[cfg(test)]
+mod tests;
