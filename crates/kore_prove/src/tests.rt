@@ -24,6 +24,7 @@ fn constants(alloc: Global, rules: &[(&str, &str)]) -> Result<String, AllocError
 }
 
 /// One run of `run d.kore t.kore --limit N`, and what must come of it.
+#[derive(Clone, Copy)]
 struct Row {
     rules: &'static [(&'static str, &'static str)],
     term: &'static str,
@@ -94,7 +95,9 @@ fn two_files(alloc: Global, definition: &str, term: &str) -> Result<MemDesk, All
     let mut files = Vec::new(alloc);
     let definition_bytes = Vec::from_slice(alloc, definition.as_bytes())?;
     let term_bytes = Vec::from_slice(alloc, term.as_bytes())?;
-    files.push((String::from_str(alloc, "d.kore")?, definition_bytes))?;
-    files.push((String::from_str(alloc, "t.kore")?, term_bytes))?;
+    let definition_name = String::from_str(alloc, "d.kore")?;
+    let term_name = String::from_str(alloc, "t.kore")?;
+    files.push((definition_name, definition_bytes))?;
+    files.push((term_name, term_bytes))?;
     Ok(MemDesk::new(files, 100, Vec::new(alloc)))
 }
