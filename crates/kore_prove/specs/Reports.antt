@@ -1,34 +1,68 @@
 -- How a call ends that prints no run: its exit code, and the line on the error stream that says why.
-use Rattle.std.specs.Prelude.{ℕ, List, [], ◌∷◌, ◌++◌, codes, decimal}
+use Rattle.std.specs.Prelude.{◌≡◌, ℕ, ◌⊎◌, List, [], ◌∷◌, ◌++◌, Option, codes, decimal}
+use Rattle.desk_io.specs.Sent.{Appends, AppendsFront}
+use Rattle.desk_io.specs.Counts.{Rose}
 use Rattle.kore_prove.specs.declared.report.End.{End}
-use Rattle.kore_prove.specs.declared.report.End.TheVariants.{OutOfMemory, BadWords, ReadFault, WriteFault, NoSuchFile, DefinitionRefused, TermRefused, TooLarge}
+use Rattle.kore_prove.specs.declared.report.End.TheVariants as end
+
+-- why a call ended; the names are those of files, the numbers those of a refusal and of the byte that it is at
+pub data Ending : Type 0 where
+  out_of_memory : Ending
+  bad_words : Ending
+  read_fault : Ending
+  write_fault : Ending
+  no_such_file : List ℕ → Ending
+  definition_refused : ℕ → ℕ → Ending
+  term_refused : ℕ → ℕ → Ending
+  too_large : List ℕ → Ending
 
 -- the exit code
-abbrev pub end_code : End → ℕ
-end_code OutOfMemory = 1
-end_code BadWords = 2
-end_code ReadFault = 3
-end_code WriteFault = 4
-end_code (NoSuchFile name) = 5
-end_code (DefinitionRefused number byte) = 6
-end_code (TermRefused number byte) = 7
-end_code (TooLarge name) = 8
+abbrev pub end_code : Ending → ℕ
+end_code out_of_memory = 1
+end_code bad_words = 2
+end_code read_fault = 3
+end_code write_fault = 4
+end_code (no_such_file name) = 5
+end_code (definition_refused number byte) = 6
+end_code (term_refused number byte) = 7
+end_code (too_large name) = 8
 
 -- the number of a refusal, and the byte that it is at
 abbrev pub refusal : ℕ → ℕ → List ℕ
 refusal number byte = codes " refused " ++ (decimal number ++ (codes " at " ++ decimal byte))
 
--- why the call ended
-abbrev pub reason : End → List ℕ
-reason OutOfMemory = codes "out of memory"
-reason BadWords = codes "bad words"
-reason ReadFault = codes "read fault"
-reason WriteFault = codes "write fault"
-reason (NoSuchFile name) = codes "no such file " ++ name.now
-reason (DefinitionRefused number byte) = codes "definition" ++ refusal number byte
-reason (TermRefused number byte) = codes "term" ++ refusal number byte
-reason (TooLarge name) = codes "too large " ++ name.now
+-- why the call ended, in words
+abbrev pub reason : Ending → List ℕ
+reason out_of_memory = codes "out of memory"
+reason bad_words = codes "bad words"
+reason read_fault = codes "read fault"
+reason write_fault = codes "write fault"
+reason (no_such_file name) = codes "no such file " ++ name
+reason (definition_refused number byte) = codes "definition" ++ refusal number byte
+reason (term_refused number byte) = codes "term" ++ refusal number byte
+reason (too_large name) = codes "too large " ++ name
 
 -- the line, ended by a newline
-abbrev pub report_line : End → List ℕ
+abbrev pub report_line : Ending → List ℕ
 report_line e = codes "kore_prove: " ++ (reason e ++ 10 ∷ [])
+
+-- what an end of the code means
+abbrev pub plain_end : End → Ending
+plain_end end.OutOfMemory = out_of_memory
+plain_end end.BadWords = bad_words
+plain_end end.ReadFault = read_fault
+plain_end end.WriteFault = write_fault
+plain_end (end.NoSuchFile name) = no_such_file name.now
+plain_end (end.DefinitionRefused number byte) = definition_refused number byte
+plain_end (end.TermRefused number byte) = term_refused number byte
+plain_end (end.TooLarge name) = too_large name.now
+
+-- the stream got the line, whole, or a part from its front where its count of faults rose
+abbrev pub SaysLine : Ending → Option (List ℕ) → Option (List ℕ) → ℕ → ℕ → Type 0
+SaysLine e before after old new = Appends before after (report_line e) ⊎ (AppendsFront before after (report_line e) × Rose old new)
+
+-- The code is that of the end and the stream got its line; or memory was wanting for that, the code is that of want of
+-- memory, and the stream got a part of the line from its front.
+abbrev pub Reports : Ending → Option (List ℕ) → Option (List ℕ) → ℕ → ℕ → ℕ → Type 0
+Reports e before after old new code =
+    ((code ≡ end_code e) × SaysLine e before after old new) ⊎ ((code ≡ 1) × AppendsFront before after (report_line e))

@@ -2,6 +2,7 @@
 ghost use Rattle.std.specs.Prelude.{◌≡◌, ◌≤◌, ◌^◌, [], Some, All, IfOk, map, string_bytes, ◌≢◌};
 ghost use Rattle.term_core.specs.Patterns.{instance_of, FitsWithin};
 ghost use Rattle.term_core.specs.RulePatterns.{plain_pattern};
+ghost use Rattle.kore_prove.specs.Reports.{plain_end, Reports};
 ghost use Rattle.kore_prove.specs.Runnable.{IsShowable, IsRunnable};
 ghost use Rattle.rule_core.specs.Trial.{IsInTrialOrder};
 ghost use Rattle.rule_core.specs.ProgramView.{rewrite_rules};
@@ -62,8 +63,7 @@ fn exit_code(outcome: Outcome) -> u8
 /// Says on `err` why the call did not come to a run's lines. Where memory is wanting for that too,
 /// the status is that of want of memory.
 fn report<E: Sink>(err: &mut E, end: &End) -> Status
-    ensures stuck { result.code ≢ 0 }
-    ensures limited { result.code ≢ 10 }
+    ensures { Reports (plain_end end.now) (E.bytes err.old) (E.bytes err.new) (E.faults err.old) (E.faults err.new) result.code }
 {
     match send_report(err, end) {
         Err(DeskFault::Memory) => Status {

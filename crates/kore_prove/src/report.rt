@@ -4,7 +4,7 @@ ghost use Rattle.std.specs.List.{flat_map};
 ghost use Rattle.std.specs.Borrow.{Bor};
 ghost use Rattle.desk_io.specs.Sent.{Appends, AppendsFront};
 ghost use Rattle.desk_io.specs.Counts.{Rose};
-ghost use Rattle.kore_prove.specs.Reports.{end_code, refusal, report_line};
+ghost use Rattle.kore_prove.specs.Reports.{end_code, plain_end, refusal, report_line};
 
 use desk_io::{DeskFault, Sink, send_whole};
 use itoa::Buffer;
@@ -33,7 +33,7 @@ pub enum End<'a> {
 impl End<'_> {
     /// The exit code.
     pub fn code(&self) -> u8
-        ensures { result ≡ end_code self.now }
+        ensures { result ≡ end_code (plain_end self.now) }
     {
         match self {
             End::OutOfMemory => 1,
@@ -51,9 +51,9 @@ impl End<'_> {
 /// Sends the one line that says why a call ended. After an error some bytes from its front are
 /// sent, maybe none. It fails only where the sink counted a fault.
 pub fn send_report<E: Sink>(err: &mut E, end: &End<'_>) -> Result<(), DeskFault>
-    ensures sent { OnOk result (Appends (E.bytes err.old) (E.bytes err.new) (report_line end.now)) }
+    ensures sent { OnOk result (Appends (E.bytes err.old) (E.bytes err.new) (report_line (plain_end end.now))) }
     ensures prefix { OnErr result
-        (AppendsFront (E.bytes err.old) (E.bytes err.new) (report_line end.now)) }
+        (AppendsFront (E.bytes err.old) (E.bytes err.new) (report_line (plain_end end.now))) }
     ensures failed { IsErrOf result DeskFault.Failed → Rose (E.faults err.old) (E.faults err.new) }
     ensures counts { E.faults err.old ≤ E.faults err.new }
 {
