@@ -10,7 +10,8 @@ use crate::reader::Reader;
 use crate::tree::{Definition, Pat, ReadFault};
 use std::alloc::Global;
 
-/// The definition that the bytes spell, read to their end. Time is linear in the bytes.
+/// The definition that the bytes (fewer than 2^32) spell, read to their end. Time is linear in the
+/// bytes; nothing recurses but for the nesting of brackets, of which at most 500 are open at once.
 ///
 /// `NotBuilt` comes exactly where the bytes spell no definition; `Memory` where memory was wanting,
 /// which no clause says more of.
@@ -25,7 +26,8 @@ pub fn read_definition(alloc: Global, bytes: &[u8]) -> Result<Definition, ReadFa
     reader.definition()
 }
 
-/// The pattern that the bytes spell, read to their end. Time is linear in the bytes.
+/// The pattern that the bytes (fewer than 2^32) spell, read to their end. Time is linear in the
+/// bytes; nothing recurses but for the nesting of brackets, of which at most 500 are open at once.
 ///
 /// `NotBuilt` comes exactly where the bytes spell no pattern; `Memory` where memory was wanting,
 /// which no clause says more of.
