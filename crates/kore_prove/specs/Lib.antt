@@ -6,3 +6,4 @@ pub mod Constants
 pub mod Runnable
 pub mod Files
 pub mod Reports
+pub mod Causes

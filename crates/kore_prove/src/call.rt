@@ -1,7 +1,8 @@
 // The top call: words, files, the run and its lines.
-ghost use Rattle.std.specs.Prelude.{◌≡◌, ◌≤◌, ◌^◌, [], Some, All, IfOk, map, string_bytes, ◌≢◌};
+ghost use Rattle.std.specs.Prelude.{◌≡◌, List, ℕ, Option, ◌≤◌, ◌^◌, [], Some, All, IfOk, IfErr, ◌⊎◌, map, string_bytes, ◌≢◌};
 ghost use Rattle.term_core.specs.Patterns.{instance_of, FitsWithin};
 ghost use Rattle.term_core.specs.RulePatterns.{plain_pattern};
+ghost use Rattle.kore_prove.specs.Causes.{Course, definition_limit, term_limit, FileCause, Ends, IsNoCommand, RunCause, KeepsOutput};
 ghost use Rattle.kore_prove.specs.Reports.{plain_end, Reports};
 ghost use Rattle.kore_prove.specs.Runnable.{IsShowable, IsRunnable};
 ghost use Rattle.rule_core.specs.Trial.{IsInTrialOrder};
@@ -38,6 +39,21 @@ pub fn kore_main<D: Desk, O: Sink, E: Sink>(
     err: &mut E,
 ) -> Status
     ensures printed_run { PrintsRun (map string_bytes words.now) (D.told desk.old) (O.bytes out.old) (O.bytes out.new) result.code }
+    ensures ends { Ends (record {
+        words = map string_bytes words.now;
+        told = D.told desk.old;
+        reads = D.read_faults desk.old;
+        reads' = D.read_faults desk.new;
+        writes = O.faults out.old;
+        writes' = O.faults out.new;
+        output = O.bytes out.old;
+        output' = O.bytes out.new;
+        complaints = E.faults err.old;
+        complaints' = E.faults err.new;
+        errors = E.bytes err.old;
+        errors' = E.bytes err.new;
+    }) result.code }
+    ensures bad_words { IsNoCommand (map string_bytes words.now) → (result.code ≡ 2) ⊎ (result.code ≡ 1) }
 {
     match read_words(words) {
         Some(command) => match run_command(alloc, &command, desk, out) {
@@ -81,6 +97,16 @@ fn run_command<'a, D: Desk, O: Sink>(
     out: &mut O,
 ) -> Result<Outcome, End<'a>>
     ensures printed { IfOk result (PrintsRunOf command.now.definition.now command.now.term.now command.now.limit (D.told desk.old) (O.bytes out.old) (O.bytes out.new)) }
+    ensures cause { IfErr result (λ end. RunCause (record {
+        definition = command.now.definition.now;
+        term = command.now.term.now;
+        told = D.told desk.old;
+        reads = D.read_faults desk.old;
+        reads' = D.read_faults desk.new;
+        writes = O.faults out.old;
+        writes' = O.faults out.new;
+    }) (plain_end end)) }
+    ensures output { IfErr result (λ end. KeepsOutput (plain_end end) (O.bytes out.old) (O.bytes out.new)) }
 {
     let program = match read_program(alloc, desk, command.definition) {
         Ok(program) => program,
@@ -129,29 +155,31 @@ fn start_term(alloc: Global, start: &RulePat) -> Result<Term, AllocError>
 }
 
 /// The end of a call whose definition was not read or not accepted.
-fn definition_end(end: FileEnd, name: &str) -> End<'_> {
+fn definition_end(end: FileEnd, name: &str) -> End<'_>
+    ensures cause { (c : Course) → c.definition ≡ name.now
+        → FileCause c.told c.definition definition_limit c.reads c.reads' end → RunCause c (plain_end result) }
+    ensures output { (output : Option (List ℕ)) → KeepsOutput (plain_end result) output output }
+{
     match end {
-        FileEnd::Unread(end) => unread(end, name),
+        FileEnd::Unread(ReadEnd::NoFile) => End::NoSuchFile(name),
+        FileEnd::Unread(ReadEnd::Failed) => End::ReadFault,
+        FileEnd::Unread(ReadEnd::TooLarge) => End::TooLarge(name),
         FileEnd::Refused(Refusal::Refused(number, byte)) => End::DefinitionRefused(number, byte),
-        FileEnd::Refused(Refusal::Memory) => End::OutOfMemory,
+        FileEnd::Unread(ReadEnd::Memory) | FileEnd::Refused(Refusal::Memory) => End::OutOfMemory,
     }
 }
 
 /// The end of a call whose term was not read or not accepted.
-fn term_end(end: FileEnd, name: &str) -> End<'_> {
+fn term_end(end: FileEnd, name: &str) -> End<'_>
+    ensures cause { (c : Course) → c.term ≡ name.now
+        → FileCause c.told c.term term_limit c.reads c.reads' end → RunCause c (plain_end result) }
+    ensures output { (output : Option (List ℕ)) → KeepsOutput (plain_end result) output output }
+{
     match end {
-        FileEnd::Unread(end) => unread(end, name),
+        FileEnd::Unread(ReadEnd::NoFile) => End::NoSuchFile(name),
+        FileEnd::Unread(ReadEnd::Failed) => End::ReadFault,
+        FileEnd::Unread(ReadEnd::TooLarge) => End::TooLarge(name),
         FileEnd::Refused(Refusal::Refused(number, byte)) => End::TermRefused(number, byte),
-        FileEnd::Refused(Refusal::Memory) => End::OutOfMemory,
-    }
-}
-
-/// The end of a call whose file of that name was not read whole.
-fn unread(end: ReadEnd, name: &str) -> End<'_> {
-    match end {
-        ReadEnd::NoFile => End::NoSuchFile(name),
-        ReadEnd::Failed => End::ReadFault,
-        ReadEnd::TooLarge => End::TooLarge(name),
-        ReadEnd::Memory => End::OutOfMemory,
+        FileEnd::Unread(ReadEnd::Memory) | FileEnd::Refused(Refusal::Memory) => End::OutOfMemory,
     }
 }

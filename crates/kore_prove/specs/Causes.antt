@@ -1,0 +1,112 @@
+-- The cause of each end of a call that prints no run. Of a desk that tells nothing only its counts speak.
+use Rattle.std.specs.Prelude.{◌≡◌, ℕ, ◌⊎◌, List, ◌++◌, Option, None, Some}
+use Rattle.desk_io.specs.Told.{Told, Holds, Lacks, HoldsMore}
+use Rattle.desk_io.specs.Sent.{SameBytes}
+use Rattle.desk_io.specs.Counts.{Rose}
+use Rattle.desk_io.specs.declared.read.ReadEnd.TheVariants as read
+use Rattle.kore_prove.specs.declared.accept.Refusal.TheVariants as refusal
+use Rattle.kore_prove.specs.declared.files.FileEnd.{FileEnd}
+use Rattle.kore_prove.specs.declared.files.FileEnd.TheVariants as file
+use Rattle.kore_prove.specs.Words.{IsRunCommand}
+use Rattle.kore_prove.specs.Reports.{Ending, out_of_memory, bad_words, read_fault, write_fault, no_such_file, definition_refused, term_refused, too_large, Reports}
+
+-- the greatest numbers of bytes of a definition and of a term
+abbrev pub definition_limit : ℕ
+definition_limit = 33554432
+
+abbrev pub term_limit : ℕ
+term_limit = 1048576
+
+-- The file of that name was not read whole or was refused: it is not there; a fault was counted; it has more bytes than
+-- the limit; or it holds bytes that were refused.
+abbrev pub FileCause : Option Told → List ℕ → ℕ → ℕ → ℕ → FileEnd → Type 0
+FileCause told name limit reads reads' (file.Unread read.NoFile) = Lacks told name
+FileCause told name limit reads reads' (file.Unread read.Failed) = Rose reads reads'
+FileCause told name limit reads reads' (file.Unread read.TooLarge) = HoldsMore told name limit
+FileCause told name limit reads reads' (file.Unread read.Memory) = Unit {0}
+FileCause told name limit reads reads' (file.Refused (refusal.Refused number byte)) = (bytes : List ℕ) × Holds told name bytes
+FileCause told name limit reads reads' (file.Refused refusal.Memory) = Unit {0}
+
+-- What is known of a run command whose files have these names: what the desk told at first, and the counts of its faults
+-- and of the output's before and after.
+pub record Course : Type 0 where
+  pub definition : List ℕ
+  pub term : List ℕ
+  pub told : Option Told
+  pub reads : ℕ
+  pub reads' : ℕ
+  pub writes : ℕ
+  pub writes' : ℕ
+
+-- the end of such a command has its cause
+abbrev pub RunCause : Course → Ending → Type 0
+RunCause c out_of_memory = Unit {0}
+RunCause c bad_words = ⊥
+RunCause c read_fault = Rose c.reads c.reads'
+RunCause c write_fault = Rose c.writes c.writes'
+RunCause c (no_such_file name) = ((name ≡ c.definition) ⊎ (name ≡ c.term)) × Lacks c.told name
+RunCause c (definition_refused number byte) = (bytes : List ℕ) × Holds c.told c.definition bytes
+RunCause c (term_refused number byte) = (bytes : List ℕ) × Holds c.told c.term bytes
+RunCause c (too_large name) =
+    ((name ≡ c.definition) × HoldsMore c.told name definition_limit) ⊎ ((name ≡ c.term) × HoldsMore c.told name term_limit)
+
+-- what the output told grew by some bytes
+abbrev pub Grows : Option (List ℕ) → Option (List ℕ) → Type 0
+Grows None after = Unit {0}
+Grows (Some before) after = (more : List ℕ) × (after ≡ Some (before ++ more))
+
+-- The output is as before, but where it could not be written or memory was wanting: then it may have got a part.
+abbrev pub KeepsOutput : Ending → Option (List ℕ) → Option (List ℕ) → Type 0
+KeepsOutput out_of_memory before after = Grows before after
+KeepsOutput bad_words before after = SameBytes before after
+KeepsOutput read_fault before after = SameBytes before after
+KeepsOutput write_fault before after = Grows before after
+KeepsOutput (no_such_file name) before after = SameBytes before after
+KeepsOutput (definition_refused number byte) before after = SameBytes before after
+KeepsOutput (term_refused number byte) before after = SameBytes before after
+KeepsOutput (too_large name) before after = SameBytes before after
+
+-- What is known of a call: its words; what the desk told at first; the counts of faults of the desk, of the output and of
+-- the error stream before and after; and what the two streams told before and after.
+pub record Call : Type 0 where
+  pub words : List (List ℕ)
+  pub told : Option Told
+  pub reads : ℕ
+  pub reads' : ℕ
+  pub writes : ℕ
+  pub writes' : ℕ
+  pub output : Option (List ℕ)
+  pub output' : Option (List ℕ)
+  pub complaints : ℕ
+  pub complaints' : ℕ
+  pub errors : Option (List ℕ)
+  pub errors' : Option (List ℕ)
+
+-- the words are no command
+abbrev pub IsNoCommand : List (List ℕ) → Type 0
+IsNoCommand words = (definition term : List ℕ) (limit : ℕ) → IsRunCommand words definition term limit → ⊥
+
+-- the course of a call whose words name these files
+abbrev pub course_of : Call → List ℕ → List ℕ → Course
+course_of c definition term = record {
+  definition = definition;
+  term = term;
+  told = c.told;
+  reads = c.reads;
+  reads' = c.reads';
+  writes = c.writes;
+  writes' = c.writes';
+}
+
+-- the words are bad exactly at this end, or they are a run command whose end has its cause
+abbrev pub HasCause : Call → Ending → Type 0
+HasCause c e =
+    ((e ≡ bad_words) × IsNoCommand c.words)
+    ⊎ ((definition : List ℕ) × (term : List ℕ) × (limit : ℕ) × IsRunCommand c.words definition term limit × RunCause (course_of c definition term) e)
+
+-- The call printed a run and said nothing on the error stream; or it ended otherwise, by a cause, kept the output and said
+-- why.
+abbrev pub Ends : Call → ℕ → Type 0
+Ends c code =
+    (((code ≡ 0) ⊎ (code ≡ 10)) × SameBytes c.errors c.errors')
+    ⊎ ((e : Ending) × HasCause c e × KeepsOutput e c.output c.output' × Reports e c.errors c.errors' c.complaints c.complaints' code)
