@@ -9,3 +9,4 @@ pub mod CommandWords
 pub mod Printing
 pub mod PrintedTerms
 pub mod Pieces
+pub mod Ending

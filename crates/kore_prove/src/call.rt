@@ -40,18 +40,18 @@ pub fn kore_main<D: Desk, O: Sink, E: Sink>(
 ) -> Status
     ensures printed_run { PrintsRun (map string_bytes words.now) (D.told desk.old) (O.bytes out.old) (O.bytes out.new) result.code }
     ensures ends { Ends (record {
-        words = map string_bytes words.now;
-        told = D.told desk.old;
-        reads = D.read_faults desk.old;
-        reads' = D.read_faults desk.new;
-        writes = O.faults out.old;
-        writes' = O.faults out.new;
-        output = O.bytes out.old;
-        output' = O.bytes out.new;
-        complaints = E.faults err.old;
-        complaints' = E.faults err.new;
-        errors = E.bytes err.old;
-        errors' = E.bytes err.new;
+      words = map string_bytes words.now;
+      told = D.told desk.old;
+      reads = D.read_faults desk.old;
+      reads' = D.read_faults desk.new;
+      writes = O.faults out.old;
+      writes' = O.faults out.new;
+      output = O.bytes out.old;
+      output' = O.bytes out.new;
+      complaints = E.faults err.old;
+      complaints' = E.faults err.new;
+      errors = E.bytes err.old;
+      errors' = E.bytes err.new;
     }) result.code }
     ensures bad_words { IsNoCommand (map string_bytes words.now) → (result.code ≡ 2) ⊎ (result.code ≡ 1) }
 {
@@ -68,7 +68,8 @@ pub fn kore_main<D: Desk, O: Sink, E: Sink>(
 
 /// The exit code of a run.
 fn exit_code(outcome: Outcome) -> u8
-    ensures { (last : Tree) → result ≡ code_of (run_of outcome last) }
+    ensures code { (last : Tree) → result ≡ code_of (run_of outcome last) }
+    ensures ran { (result ≡ 0) ⊎ (result ≡ 10) }
 {
     match outcome {
         Outcome::Stuck(_) => 0,
@@ -98,13 +99,13 @@ fn run_command<'a, D: Desk, O: Sink>(
 ) -> Result<Outcome, End<'a>>
     ensures printed { IfOk result (PrintsRunOf command.now.definition.now command.now.term.now command.now.limit (D.told desk.old) (O.bytes out.old) (O.bytes out.new)) }
     ensures cause { IfErr result (λ end. RunCause (record {
-        definition = command.now.definition.now;
-        term = command.now.term.now;
-        told = D.told desk.old;
-        reads = D.read_faults desk.old;
-        reads' = D.read_faults desk.new;
-        writes = O.faults out.old;
-        writes' = O.faults out.new;
+      definition = command.now.definition.now;
+      term = command.now.term.now;
+      told = D.told desk.old;
+      reads = D.read_faults desk.old;
+      reads' = D.read_faults desk.new;
+      writes = O.faults out.old;
+      writes' = O.faults out.new;
     }) (plain_end end)) }
     ensures output { IfErr result (λ end. KeepsOutput (plain_end end) (O.bytes out.old) (O.bytes out.new)) }
 {

@@ -1,7 +1,14 @@
-use Rattle.std.proofs.Common.{rules, map, string_bytes}
+use Rattle.std.proofs.Common.{inl}
+use Rattle.kore_prove.proofs.Ending.{same_bytes, prints_no_run}
 use Rattle.kore_prove.proofs.Printing.{prints_run}
 use Rattle.kore_prove.proofs.call.kore_main.Goals as goal
 
 pub returns-in-Ok-clause-printed_run : goal.returns-in-Ok-clause-printed_run
 returns-in-Ok-clause-printed_run g c =
-    prints_run _ _ _ _ c.in-Some.command.definition.now c.in-Some.command.term.now c.in-Some.command.limit c.in-Ok.outcome c.exit_code.result c.in-Some.ensures.command c.in-Ok.ensures.printed c.exit_code.ensures
+    prints_run _ _ _ _ c.in-Some.command.definition.now c.in-Some.command.term.now c.in-Some.command.limit c.in-Ok.outcome c.exit_code.result c.in-Some.ensures.command c.in-Ok.ensures.printed c.exit_code.ensures.code
+
+pub returns-in-Ok-clause-ends : goal.returns-in-Ok-clause-ends
+returns-in-Ok-clause-ends g c = inl (c.exit_code.ensures.ran, same_bytes _)
+
+pub returns-in-Err-clause-printed_run : goal.returns-in-Err-clause-printed_run
+returns-in-Err-clause-printed_run g c = prints_no_run _ _ _ _ _ _ _ _ _ _ c.report.ensures

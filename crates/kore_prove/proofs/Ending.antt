@@ -1,0 +1,60 @@
+-- Ends of a call that prints no run, and their causes.
+use Rattle.std.proofs.Common.{◌≡◌, ℕ, ◌≤◌, ◌⊎◌, inl, inr, List, Option, None, Some, refl, sym, ◌∙◌, subst, arith}
+use Rattle.desk_io.specs.Told.{Told, Holds, Lacks, HoldsMore, KeepsFiles}
+use Rattle.desk_io.specs.Sent.{SameBytes}
+use Rattle.desk_io.specs.declared.read.ReadEnd.TheVariants as read
+use Rattle.desk_io.proofs.Counts.{Rose-later}
+use Rattle.kore_prove.specs.declared.accept.Refusal.TheVariants as refusal
+use Rattle.kore_prove.specs.declared.files.FileEnd.{FileEnd}
+use Rattle.kore_prove.specs.declared.files.FileEnd.TheVariants as file
+use Rattle.kore_prove.specs.PrintedRun.{PrintsRun}
+use Rattle.kore_prove.specs.Reports.{Ending, out_of_memory, bad_words, read_fault, write_fault, no_such_file, definition_refused, term_refused, too_large, end_code, Reports}
+use Rattle.kore_prove.specs.Causes.{FileCause}
+
+pub same_bytes : (told : Option (List ℕ)) → SameBytes told told
+same_bytes None = tt
+same_bytes (Some bytes) = refl
+
+-- no end has the exit code of a run
+no_run_code : (e : Ending) (code : ℕ) → code ≡ end_code e → (code ≡ 0) ⊎ (code ≡ 10) → ⊥
+no_run_code out_of_memory code is h = grind arith
+no_run_code bad_words code is h = grind arith
+no_run_code read_fault code is h = grind arith
+no_run_code write_fault code is h = grind arith
+no_run_code (no_such_file name) code is h = grind arith
+no_run_code (definition_refused number byte) code is h = grind arith
+no_run_code (term_refused number byte) code is h = grind arith
+no_run_code (too_large name) code is h = grind arith
+
+code_of_no_run : (e : Ending) (before after : Option (List ℕ)) (old new code : ℕ) → Reports e before after old new code → (code ≡ 0) ⊎ (code ≡ 10) → ⊥
+code_of_no_run e before after old new code (inl said) h = no_run_code e code said.0 h
+code_of_no_run e before after old new code (inr cut) h = no_run_code out_of_memory code cut.0 h
+
+-- a call that reports an end claims no printed run
+pub prints_no_run : (words : List (List ℕ)) (told : Option Told) (output output' : Option (List ℕ)) (e : Ending) (before after : Option (List ℕ)) (old new code : ℕ) → Reports e before after old new code → PrintsRun words told output output' code
+prints_no_run words None output output' e before after old new code r = tt
+prints_no_run words (Some told) None output' e before after old new code r = tt
+prints_no_run words (Some told) (Some bytes) output' e before after old new code r = λ h. absurd (code_of_no_run e before after old new code r h)
+
+kept_holds : (told told' : Option Told) (name bytes : List ℕ) → KeepsFiles told told' → Holds told' name bytes → Holds told name bytes
+kept_holds None told' name bytes kept h = tt
+kept_holds (Some told) told' name bytes kept h = let P : Option Told → Type 0 = λ o. Holds o name bytes in subst P kept.1 h
+
+kept_lacks : (told told' : Option Told) (name : List ℕ) → KeepsFiles told told' → Lacks told' name → Lacks told name
+kept_lacks None told' name kept h = tt
+kept_lacks (Some told) told' name kept h = let P : Option Told → Type 0 = λ o. Lacks o name in subst P kept.1 h
+
+kept_more : (told told' : Option Told) (name : List ℕ) (limit : ℕ) → KeepsFiles told told' → HoldsMore told' name limit → HoldsMore told name limit
+kept_more None told' name limit kept h = tt
+kept_more (Some told) told' name limit kept h = let P : Option Told → Type 0 = λ o. HoldsMore o name limit in
+    let q : HoldsMore (Some (record told { unread = kept.0 })) name limit = subst P kept.1 h in
+    (q.0, q.1, q.2)
+
+-- the cause of an end at the second file, seen from before the first was read
+pub FileCause-kept : (told told' : Option Told) (name : List ℕ) (limit a b c : ℕ) (end : FileEnd) → KeepsFiles told told' → a ≤ b → FileCause told' name limit b c end → FileCause told name limit a c end
+FileCause-kept told told' name limit a b c (file.Unread read.NoFile) kept le h = kept_lacks told told' name kept h
+FileCause-kept told told' name limit a b c (file.Unread read.Failed) kept le h = Rose-later a b c le h
+FileCause-kept told told' name limit a b c (file.Unread read.TooLarge) kept le h = kept_more told told' name limit kept h
+FileCause-kept told told' name limit a b c (file.Unread read.Memory) kept le h = tt
+FileCause-kept told told' name limit a b c (file.Refused (refusal.Refused number byte)) kept le h = (h.0, kept_holds told told' name h.0 kept h.1)
+FileCause-kept told told' name limit a b c (file.Refused refusal.Memory) kept le h = tt
