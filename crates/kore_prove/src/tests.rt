@@ -1,11 +1,13 @@
 // Runs of the top call over a desk and sinks in memory.
+ghost use Rattle.std.specs.Prelude.{◌<◌};
+
 use crate::call::kore_main;
 use desk_io::{MemDesk, MemSink};
 use std::alloc::{AllocError, Global};
 use std::test::Fail;
 
 /// The definition with these rules between three constants.
-fn constants(alloc: Global, rules: &[(&str, &str)]) -> Result<String, AllocError> {
+pub fn constants(alloc: Global, rules: &[(&str, &str)]) -> Result<String, AllocError> {
     let mut text = String::from_str(alloc, "[] module TWO-STEPS sort S{} [] ")?;
     for name in ["a", "b", "c"] {
         text.push_str("symbol ")?;
@@ -69,9 +71,9 @@ const ROWS: [Row; 4] = [
 fn runs_print_their_two_lines(rt: HostRuntime) -> Result<(), Fail> {
     let alloc = rt.alloc();
     for row in ROWS {
-        let words = words_of(alloc, row.limit)?;
+        let words = words_of(alloc, &["run", "d.kore", "t.kore", "--limit", row.limit])?;
         let definition = constants(alloc, row.rules)?;
-        let mut desk = two_files(alloc, definition.as_str(), row.term)?;
+        let mut desk = two_files(alloc, definition.as_str(), row.term, 1, &[])?;
         let mut out = MemSink::new(alloc, 100, Vec::new(alloc));
         let mut err = MemSink::new(alloc, 100, Vec::new(alloc));
         let status = kore_main(alloc, &words, &mut desk, &mut out, &mut err);
@@ -82,16 +84,29 @@ fn runs_print_their_two_lines(rt: HostRuntime) -> Result<(), Fail> {
     Ok(())
 }
 
-fn words_of(alloc: Global, limit: &str) -> Result<Vec<String>, AllocError> {
+/// The words as the program is given them.
+pub fn words_of(alloc: Global, given: &[&str]) -> Result<Vec<String>, AllocError> {
     let mut words = Vec::new(alloc);
-    for word in ["run", "d.kore", "t.kore", "--limit", limit] {
+    for word in given {
         words.push(String::from_str(alloc, word)?)?;
     }
     Ok(words)
 }
 
-/// A desk with a definition and a term.
-fn two_files(alloc: Global, definition: &str, term: &str) -> Result<MemDesk, AllocError> {
+/// The rules `a => b` and `b => c`.
+pub const TWO_STEPS: [(&str, &str); 2] = [("a", "b"), ("b", "c")];
+
+/// A desk with a definition and a term, which passes at most so many bytes a call and fails the calls
+/// with these numbers.
+pub fn two_files(
+    alloc: Global,
+    definition: &str,
+    term: &str,
+    most: usize,
+    fail_at: &[u64],
+) -> Result<MemDesk, AllocError>
+    requires { 0 < most }
+{
     let mut files = Vec::new(alloc);
     let definition_bytes = Vec::from_slice(alloc, definition.as_bytes())?;
     let term_bytes = Vec::from_slice(alloc, term.as_bytes())?;
@@ -99,5 +114,6 @@ fn two_files(alloc: Global, definition: &str, term: &str) -> Result<MemDesk, All
     let term_name = String::from_str(alloc, "t.kore")?;
     files.push((definition_name, definition_bytes))?;
     files.push((term_name, term_bytes))?;
-    Ok(MemDesk::new(files, 100, Vec::new(alloc)))
+    let faults = Vec::from_slice(alloc, fail_at)?;
+    Ok(MemDesk::new(files, most, faults))
 }
