@@ -38,7 +38,8 @@ pub fn kore_main<D: Desk, O: Sink, E: Sink>(
     out: &mut O,
     err: &mut E,
 ) -> Status
-    ensures printed_run { PrintsRun (map string_bytes words.now) (D.told desk.old) (O.bytes out.old) (O.bytes out.new) result.code }
+    ensures printed_run { PrintsRun
+        (map string_bytes words.now) (D.told desk.old) (O.bytes out.old) (O.bytes out.new) result.code }
     ensures ends { Ends (record {
       words = map string_bytes words.now;
       told = D.told desk.old;
@@ -53,7 +54,8 @@ pub fn kore_main<D: Desk, O: Sink, E: Sink>(
       errors = E.bytes err.old;
       errors' = E.bytes err.new;
     }) result.code }
-    ensures bad_words { IsNoCommand (map string_bytes words.now) → (result.code ≡ 2) ⊎ (result.code ≡ 1) }
+    ensures bad_words {
+        IsNoCommand (map string_bytes words.now) → (result.code ≡ 2) ⊎ (result.code ≡ 1) }
 {
     match read_words(words) {
         Some(command) => match run_command(alloc, &command, desk, out) {
@@ -80,7 +82,8 @@ fn exit_code(outcome: Outcome) -> u8
 /// Says on `err` why the call did not come to a run's lines. Where memory is wanting for that too,
 /// the status is that of want of memory.
 fn report<E: Sink>(err: &mut E, end: &End) -> Status
-    ensures { Reports (plain_end end.now) (E.bytes err.old) (E.bytes err.new) (E.faults err.old) (E.faults err.new) result.code }
+    ensures { Reports (plain_end end.now)
+        (E.bytes err.old) (E.bytes err.new) (E.faults err.old) (E.faults err.new) result.code }
 {
     match send_report(err, end) {
         Err(DeskFault::Memory) => Status {
@@ -97,7 +100,9 @@ fn run_command<'a, D: Desk, O: Sink>(
     desk: &mut D,
     out: &mut O,
 ) -> Result<Outcome, End<'a>>
-    ensures printed { IfOk result (PrintsRunOf command.now.definition.now command.now.term.now command.now.limit (D.told desk.old) (O.bytes out.old) (O.bytes out.new)) }
+    ensures printed { IfOk result (PrintsRunOf
+        command.now.definition.now command.now.term.now command.now.limit
+        (D.told desk.old) (O.bytes out.old) (O.bytes out.new)) }
     ensures cause { IfErr result (λ end. RunCause (record {
       definition = command.now.definition.now;
       term = command.now.term.now;
@@ -107,7 +112,8 @@ fn run_command<'a, D: Desk, O: Sink>(
       writes = O.faults out.old;
       writes' = O.faults out.new;
     }) (plain_end end)) }
-    ensures output { IfErr result (λ end. KeepsOutput (plain_end end) (O.bytes out.old) (O.bytes out.new)) }
+    ensures output { IfErr result (λ end.
+        KeepsOutput (plain_end end) (O.bytes out.old) (O.bytes out.new)) }
 {
     let program = match read_program(alloc, desk, command.definition) {
         Ok(program) => program,
@@ -138,7 +144,8 @@ fn lines_of_run(
     requires in_order { IsInTrialOrder (rewrite_rules program.now.rules.items) }
     requires runnable { All (IsRunnable program.now.sig.symbols) program.now.rules.items }
     requires showable { IsShowable program.now.sig.symbols (plain_pattern start.now) }
-    ensures run { IfOk result (λ r. HasLines program.now (plain_pattern start.now) limit r.0 r.1.items) }
+    ensures run { IfOk result (λ r.
+        HasLines program.now (plain_pattern start.now) limit r.0 r.1.items) }
 {
     let term = start_term(alloc, start)?;
     let (outcome, last) = run(alloc, program, term, limit)?;
