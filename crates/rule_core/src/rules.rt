@@ -15,7 +15,8 @@ pub struct VarInfo {
 /// `rewrite_rule`.
 #[derive(Drop)]
 pub struct Rule {
-    /// The byte of its keyword in the definition. Of two rules of one priority, the one that stands earlier is tried first.
+    /// The byte of its keyword in the definition. Of two rules of one priority, the one that stands earlier is tried
+    /// first.
     pub at: u32,
     /// What it matches.
     pub left: RulePat,
@@ -27,7 +28,8 @@ pub struct Rule {
     pub priority: u32,
 }
 
-/// An accepted definition. The type itself asks nothing of its fields: who needs the rules in the order of trial requires it.
+/// An accepted definition. The type itself asks nothing of its fields: who needs the rules in the order of trial
+/// requires it.
 #[derive(Drop)]
 pub struct Program {
     /// The sorts and symbols, whose numbers the rules use.

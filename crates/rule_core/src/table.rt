@@ -6,8 +6,9 @@ use std::alloc::{AllocError, Global};
 use std::collections::BTreeMap;
 use std::marker::Model;
 
-/// Values under names. Each name has a number, from 0 on without a gap, in the order in which the names came, and no name
-/// stands twice. Contracts see a table as the list of its names, each beside its value: an entry's place is its number.
+/// Values under names. Each name has a number, from 0 on without a gap, in the order in which the names came, and no
+/// name stands twice. Contracts see a table as the list of its names, each beside its value: an entry's place is its
+/// number.
 #[derive(Drop)]
 pub struct Table<V> {
     entries: Vec<(String, V)>,
@@ -58,8 +59,8 @@ impl<V: Drop> Table<V> {
         self.entries.is_empty()
     }
 
-    /// The number of a name: none exactly where the table lacks it. It compares the name with as many others as the logarithm
-    /// of the number of names, up to a factor.
+    /// The number of a name: none exactly where the table lacks it. It compares the name with as many others as the
+    /// logarithm of the number of names, up to a factor.
     pub fn number(&self, name: &str) -> Option<usize>
         ensures { result ≡ number_of self.now name.now }
     {
@@ -82,9 +83,9 @@ impl<V: Drop> Table<V> {
         Some(&entry.1)
     }
 
-    /// Gives a new name the next number and a value, and answers true. Where the table has the name already, it answers false
-    /// and changes nothing. `AllocError` says that memory was wanting, and then nothing is changed either. It costs what a
-    /// look-up does and a copy of the name, and now and then a move of all entries to a larger room.
+    /// Gives a new name the next number and a value, and answers true. Where the table has the name already, it answers
+    /// false and changes nothing. `AllocError` says that memory was wanting, and then nothing is changed either. It
+    /// costs what a look-up does and a copy of the name, and now and then a move of all entries to a larger room.
     pub fn insert(&mut self, name: String, value: V) -> Result<bool, AllocError>
         ensures fresh { IfOk result (λ added. added ≡ is_none (number_of self.old (string_bytes name))) }
         ensures entries { IfOk result (λ added. self.new ≡ (if added then self.old ++ (string_bytes name, value) ∷ [] else self.old)) }

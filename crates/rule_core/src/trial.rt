@@ -9,10 +9,11 @@ use std::marker::Brand;
 use std::sync::ledger::{Blank, Ledger};
 use term_core::{Steps, Subst, Term, is_instance};
 
-/// The first of `rules` from the place `from` on that matches the term: its place, and the substitution that makes its left
-/// side the term. None comes exactly where no rule from there matches, so also where `from` is past the end. The rules have
-/// no variables, and so the substitution is empty. `AllocError` says that there was no memory for it. Each rule is tried by
-/// itself, up to the first that matches, at the cost of at most a look at each position that its left side shares with the term.
+/// The first of `rules` from the place `from` on that matches the term: its place, and the substitution that makes its
+/// left side the term. None comes exactly where no rule from there matches, so also where `from` is past the end. The
+/// rules have no variables, and so the substitution is empty. `AllocError` says that there was no memory for it. Each
+/// rule is tried by itself, up to the first that matches, at the cost of at most a look at each position that its left
+/// side shares with the term.
 pub fn first_match(
     alloc: Global,
     rules: &[Rule],
