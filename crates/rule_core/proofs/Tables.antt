@@ -1,3 +1,4 @@
+-- The numbers and the names of a table after a new name has come, and the entry that a number names.
 use Rattle.std.proofs.Common.{◌≡◌, ℕ, ◌+◌, List, [], ◌∷◌, ◌++◌, length, Bool, true, false, cond, is_some, Option, Some, None, refl, sym, slice_get, suc, ◌∙◌, ap, ◌≢◌, arith, add-zero}
 use Rattle.std.specs.List.{position_from}
 use Rattle.std.specs.Str.{bytes_eq}
@@ -66,7 +67,7 @@ pub AreDistinct-push : {V : Type 0} (es : List (List ℕ × V)) (k : List ℕ) (
 AreDistinct-push es k v had absent = rw map-append (differ es 0 k v had (none_is _ absent))
 
 found_at : {V : Type 0} (e : List ℕ × V) (es : List (List ℕ × V)) (i : ℕ) (k : List ℕ) (j : ℕ) (b : Bool) → bytes_eq k e.0 ≡ b → cond b (Some i) (position_from (λ (e' : List ℕ × V). bytes_eq k e'.0) (i + 1) es) ≡ Some j
-  → (position_from (λ (e' : List ℕ × V). bytes_eq k e'.0) (i + 1) es ≡ Some j → (n : ℕ) × ((j ≡ i + 1 + n) × ((v : V) × (slice_get es n ≡ Some (k, v))))) → (n : ℕ) × ((j ≡ i + n) × ((v : V) × (slice_get (e ∷ es) n ≡ Some (k, v))))
+    → (position_from (λ (e' : List ℕ × V). bytes_eq k e'.0) (i + 1) es ≡ Some j → (n : ℕ) × ((j ≡ i + 1 + n) × ((v : V) × (slice_get es n ≡ Some (k, v))))) → (n : ℕ) × ((j ≡ i + n) × ((v : V) × (slice_get (e ∷ es) n ≡ Some (k, v))))
 found_at e es i k j true eb h further =
     let same : i ≡ j = cc in
     let name : k ≡ e.0 = (bytes_eq-Decides k e.0).0 eb in

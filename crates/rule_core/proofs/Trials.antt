@@ -1,5 +1,5 @@
 -- One turn of a trial, and what the order of trial makes of the first match.
-use Rattle.std.proofs.Common.{◌≡◌, ℕ, ◌+◌, ◌<◌, ◌≤◌, List, [], map, length, get_or, slice_get, Option, option_map, Some, Bool, true, false, All, IsTrue, vec_len, refl, sym, ◌∙◌, ap, subst, arith, inl, inr, ◌⊎◌, zero, suc, ◌∷◌, Contains}
+use Rattle.std.proofs.Common.{◌≡◌, ℕ, ◌+◌, ◌<◌, ◌≤◌, List, [], map, length, get_or, slice_get, Option, option_map, Some, Bool, true, false, All, vec_len, refl, sym, ◌∙◌, ap, subst, arith, inl, inr, ◌⊎◌, zero, suc, ◌∷◌, Contains}
 use Rattle.std.specs.List.Sorted.{IsNonDecreasingBy}
 use Rattle.std.proofs.lemmas.List.{nil_from_length}
 use Rattle.std.proofs.lemmas.Option.{slice_get-map, slice_get_read, slice_get_within}
@@ -16,6 +16,7 @@ use Rattle.rule_core.specs.Trial.{NoneMatches, IsFirstMatch, IsInTrialOrder}
 pub rule_at : (rules : List Rule) (i : ℕ) (r : Rule) → i < length rules → r ≡ get_or rules i r → slice_get (rewrite_rules rules) i ≡ Some (rewrite_rule r)
 rule_at rules i r lt item = slice_get-map rewrite_rule rules i ∙ ap (λ o. option_map rewrite_rule o) (slice_get_read rules (length rules) i r refl lt item)
 
+-- the rule at a place has no variables where none has
 pub no_variables_at : (rules : List Rule) (i : ℕ) (r : Rule) → All HasNoVariables rules → i < length rules → r ≡ get_or rules i r → vec_len r.vars ≡ 0
 no_variables_at rules i r all lt item = let P : Rule → Type 0 = HasNoVariables in subst P (sym item) (all i r lt)
 
@@ -29,7 +30,7 @@ below_or_at : (j i : ℕ) → j < i + 1 → (j < i) ⊎ (j ≡ i)
 below_or_at j i h = grind arith
 
 more : (rules : List RewriteRule) (from i : ℕ) (t : Tree) (r : RewriteRule) → NoneMatches rules from i t → slice_get rules i ≡ Some r → IsUnmatched r.variables r.left t
-  → (j : ℕ) (rule : RewriteRule) → from ≤ j → slice_get rules j ≡ Some rule → (j < i) ⊎ (j ≡ i) → IsUnmatched rule.variables rule.left t
+    → (j : ℕ) (rule : RewriteRule) → from ≤ j → slice_get rules j ≡ Some rule → (j < i) ⊎ (j ≡ i) → IsUnmatched rule.variables rule.left t
 more rules from i t r before there last j rule low at (inl below) = before j rule low below at
 more rules from i t r before there last j rule low at (inr same) =
     let both : Some r ≡ Some rule = sym there ∙ ap (λ k. slice_get rules k) (sym same) ∙ at in
@@ -40,6 +41,7 @@ more rules from i t r before there last j rule low at (inr same) =
 pub NoneMatches-more : (rules : List RewriteRule) (from i : ℕ) (t : Tree) (r : RewriteRule) → NoneMatches rules from i t → slice_get rules i ≡ Some r → IsUnmatched r.variables r.left t → NoneMatches rules from (i + 1) t
 NoneMatches-more rules from i t r before there last = λ j rule low high at. more rules from i t r before there last j rule low at (below_or_at j i high)
 
+-- a term that a pattern without variables stands for is matched by the empty substitution
 pub matched : (theta : List (Option Tree)) (n : ℕ) (p : Pattern) (t : Tree) → n ≡ 0 → theta ≡ [] → instance_of [] p ≡ Some t → Matches n p t theta
 matched theta n p t none empty is = (ap length empty ∙ sym none, ap (λ th. instance_of th p) empty ∙ is)
 
@@ -61,7 +63,7 @@ not_before_itself r (inl smaller) = omega arith
 not_before_itself r (inr place) = let later : r.place < r.place = place.1 in omega arith
 
 elsewhere : (rules : List RewriteRule) (t : Tree) (i : ℕ) (theta : List (Option Tree)) → IsInTrialOrder rules → (m : IsFirstMatch rules 0 t i theta) (other : RewriteRule) (j : ℕ) → slice_get rules j ≡ Some other
-  → ComesBefore other m.rule → (j < i) ⊎ ((j ≡ i) ⊎ (i < j)) → IsUnmatched other.variables other.left t
+    → ComesBefore other m.rule → (j < i) ⊎ ((j ≡ i) ⊎ (i < j)) → IsUnmatched other.variables other.left t
 elsewhere rules t i theta order m other j at before (inl below) = m.earlier j other (omega arith) below at
 elsewhere rules t i theta order m other j at before (inr (inl same)) =
     let both : Some other ≡ Some m.rule = sym at ∙ ap (λ k. slice_get rules k) same ∙ m.there in
@@ -88,6 +90,7 @@ mapped f [] i y h = absurd (let z : ⊥ = cc in z)
 mapped f (x ∷ xs) zero y h = (x, (refl, cc))
 mapped f (x ∷ xs) (suc i) y h = mapped f xs i y h
 
+-- what stands at a place is also read there, whatever the default
 pub get_within : {A : Type 0} (xs : List A) (i : ℕ) (x d : A) → slice_get xs i ≡ Some x → get_or xs i d ≡ x
 get_within [] i x d h = absurd (let z : ⊥ = cc in z)
 get_within (y ∷ xs) zero x d h = cc

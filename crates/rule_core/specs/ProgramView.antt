@@ -1,9 +1,10 @@
--- The rewrite rules of a program of the code, without memory.
-use Rattle.std.specs.Prelude.{◌≡◌, ℕ, List, map, vec_len}
+-- The rules of the code as plain values.
+use Rattle.std.specs.Prelude.{◌≡◌, List, map, vec_len}
 use Rattle.term_core.specs.RulePatterns.{plain_pattern}
 use Rattle.rule_core.specs.Rules.{RewriteRule}
 use Rattle.rule_core.specs.declared.rules.Rule.{Rule}
 
+-- the plain rule: its sides as plain patterns, how many variables it has, its priority, and the byte where it stands
 abbrev pub rewrite_rule : Rule → RewriteRule
 rewrite_rule r = record {
   left = plain_pattern r.left;
@@ -13,6 +14,7 @@ rewrite_rule r = record {
   place = r.at;
 }
 
+-- the plain rules, in the same order
 abbrev pub rewrite_rules : List Rule → List RewriteRule
 rewrite_rules rules = map rewrite_rule rules
 

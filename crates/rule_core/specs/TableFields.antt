@@ -1,3 +1,4 @@
+-- What contracts see of a table, and how its two fields agree.
 use Rattle.std.specs.Prelude.{◌≡◌, ℕ, List, map, string_bytes}
 use Rattle.std.specs.BTreeMap.{get_by_text}
 use Rattle.rule_core.specs.Named.{number_of, names_of, AreDistinct}

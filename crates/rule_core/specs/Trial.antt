@@ -1,5 +1,5 @@
 -- The trial of rules one by one.
-use Rattle.std.specs.Prelude.{◌≡◌, ℕ, ◌<◌, ◌≤◌, List, length, slice_get, Option, Some}
+use Rattle.std.specs.Prelude.{◌≡◌, ℕ, ◌<◌, ◌≤◌, List, slice_get, Option, Some}
 use Rattle.term_core.specs.Terms.{Tree}
 use Rattle.rule_core.specs.Rules.{RewriteRule, ComesBefore}
 use Rattle.rule_core.specs.Matching.{Matches, IsUnmatched}

@@ -1,10 +1,19 @@
-// Rewrite rules over a signature, matching, the order of trial and runs. The contract used above: the plain trial of
-// rules finds the first that matches by substitution.
+// Accepted definitions: their sorts and symbols by number, their rewrite rules, and the plain trial of the rules.
+//
+// `first_match` gives the first rule from a place on that matches a term, with its substitution, and none exactly where
+// no rule from there matches; so far it takes rules without variables alone. A `Table` numbers names from 0 on without a
+// gap, and no name stands in it twice.
+//
+// The definitions that other crates cite stand here too: matching by substitution (specs/Matching.antt), the order in
+// which rules are tried (specs/Rules.antt, specs/Trial.antt), the step by the first rule that applies
+// (specs/FirstRule.antt), and runs (specs/Runs.antt).
 #![tactic(auto)]
 
 mod rules;
 mod signature;
 mod table;
+#[cfg(test)]
+mod tests;
 mod trial;
 
 pub use rules::{Outcome, Program, Rule, VarInfo};

@@ -9,9 +9,11 @@ use std::marker::Brand;
 use std::sync::ledger::{Blank, Ledger};
 use term_core::{Steps, Subst, Term, is_instance};
 
-/// The first rule from `from` on that matches the term, by its place, with the substitution that
-/// makes its left side the term; none exactly where no rule from there matches. The rules have no
-/// variables. It costs a look at each position that the tried rules share with the term.
+/// The first of `rules` from the place `from` on that matches the term: its place, and the substitution that makes its
+/// left side the term. None comes exactly where no rule from there matches, so also where `from` is past the end. The
+/// rules have no variables, and so the substitution is empty. `AllocError` says that there was no memory for it. Each
+/// rule is tried by itself, up to the first that matches, at the cost of at most a look at each position that its left
+/// side shares with the term.
 pub fn first_match(
     alloc: Global,
     rules: &[Rule],
@@ -26,6 +28,7 @@ pub fn first_match(
     counted_match::<Brand>(alloc, rules, from, term, Blank::new(1))
 }
 
+// The same, with a blank for a counter of the looks at the term, whose count nobody reads.
 fn counted_match<L: Ledger>(
     alloc: Global,
     rules: &[Rule],

@@ -1,4 +1,4 @@
-use Rattle.std.proofs.Common.{rules, arith, length, ◌≡◌, ◌<◌}
+use Rattle.std.proofs.Common.{rules, arith, length, ◌<◌}
 use Rattle.term_core.specs.RulePatterns.{plain_pattern}
 use Rattle.rule_core.specs.ProgramView.{rewrite_rule, rewrite_rules}
 use Rattle.rule_core.proofs.Trials.{rule_at, no_variables_at, unmatched, matched, NoneMatches-more}

@@ -1,4 +1,4 @@
-use Rattle.std.proofs.Common.{◌≡◌, map, ap, ◌∙◌, string_bytes, arith, rules, false, is_some, cond, Some, ◌++◌, ◌∷◌, []}
+use Rattle.std.proofs.Common.{◌≡◌, ap, ◌∙◌, string_bytes, arith, rules, false, is_some, cond, Some, ◌++◌, ◌∷◌, []}
 use Rattle.std.specs.BTreeMap.{get_by_text}
 use Rattle.std.specs.Str.{bytes_eq}
 use Rattle.std.proofs.lemmas.List.{map-append}
