@@ -1,7 +1,11 @@
 pub mod TreesOfForms
-pub mod Denoting
+pub mod Attributes
+pub mod Meanings
+pub mod OpenBrackets
+pub mod MainModule
+pub mod Sides
 pub mod Pairings
-pub mod Declared
+pub mod NotDeclared
 pub mod WordsOfCases
 pub mod Stepping
 pub mod Limits

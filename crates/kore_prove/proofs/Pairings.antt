@@ -1,8 +1,8 @@
 -- Lists whose items stand in a relation, one item further.
-use Rattle.std.proofs.Common.{◌≡◌, ℕ, ◌+◌, ◌<◌, List, [], ◌∷◌, ◌++◌, map, take, length, get_or, Option, Some, None, refl, sym, ◌∙◌, ap, subst}
+use Rattle.std.proofs.Common.{◌≡◌, ℕ, ◌+◌, ◌<◌, List, [], ◌∷◌, ◌++◌, map, take, length, get_or, All, Option, Some, None, sym, ◌∙◌, ap, subst}
 use Rattle.std.specs.List.{filter_map}
-use Rattle.std.proofs.lemmas.List.{map-append, take_more, append-nil}
-use Rattle.std.proofs.lemmas.List.Elements.{filter_map-append}
+use Rattle.std.proofs.lemmas.List.{map-append, take_more, append-nil, length-map, get_or-map}
+use Rattle.std.proofs.lemmas.List.Elements.{filter_map-append, All-get_or}
 use Rattle.kore_prove.specs.Acceptance.{Each}
 
 pub Each-push : {A B : Type 0} (R : A → B → Type 0) (xs : List A) (ys : List B) (x : A) (y : B) → Each R xs ys → R x y → Each R (xs ++ x ∷ []) (ys ++ y ∷ [])
@@ -12,7 +12,7 @@ Each-push R (a ∷ xs) [] x y all last = absurd all
 Each-push R (a ∷ xs) (b ∷ ys) x y all last = (all.0, Each-push R xs ys x y all.1 last)
 
 -- the first i + 1 items are the first i and the one at i
-front : {S A : Type 0} (f : S → A) (xs : List S) (i : ℕ) (s : S) → i < length xs → s ≡ get_or xs i s → map f (take (i + 1) xs) ≡ map f (take i xs) ++ f s ∷ []
+pub front : {S A : Type 0} (f : S → A) (xs : List S) (i : ℕ) (s : S) → i < length xs → s ≡ get_or xs i s → map f (take (i + 1) xs) ≡ map f (take i xs) ++ f s ∷ []
 front f xs i s lt item = ap (map f) (take_more xs i s lt ∙ ap (λ y. take i xs ++ y ∷ []) (sym item)) ∙ map-append f (take i xs) (s ∷ [])
 
 -- one turn of a loop over xs, at whose item h gives something that stands in the relation to one more element
@@ -26,3 +26,16 @@ pub Each-take_none : {S A D B : Type 0} (f : S → A) (h : A → Option D) (R : 
     → Each R (filter_map h (map f (take i xs))) old → new ≡ old → Each R (filter_map h (map f (take (i + 1) xs))) new
 Each-take_none f h R xs i s old new lt item gives all same =
     rw (front f xs i s lt item, filter_map-append h (map f (take i xs)) (f s ∷ []), gives, append-nil, same) all
+
+-- one turn of a loop over xs that adds an element for each item
+pub Each-take : {S A B : Type 0} (f : S → A) (R : A → B → Type 0) (xs : List S) (i : ℕ) (s : S) (old new : List B) (e : B) → i < length xs → s ≡ get_or xs i s → Each R (map f (take i xs)) old → R (f s) e → new ≡ old ++ e ∷ [] → Each R (map f (take (i + 1) xs)) new
+Each-take f R xs i s old new e lt item all last grown =
+    rw (front f xs i s lt item, grown) (Each-push R _ old (f s) e all last)
+
+-- what holds of each image holds of the one at an index
+pub All-item : {S A : Type 0} (f : S → A) (P : A → Type 0) (xs : List S) (i : ℕ) (s : S) → All P (map f xs) → i < length xs → s ≡ get_or xs i s → P (f s)
+All-item {S = S} {A = A} f P xs i s all lt item =
+    let here : P (get_or (map f xs) i (f s)) = All-get_or P (map f xs) i (f s) (rw length-map lt) all in
+    let e : get_or (map f xs) i (f s) ≡ f s = get_or-map f xs i s (f s) lt ∙ ap f (sym item) in
+    let Q : A → Type 0 = P in
+    subst Q e here

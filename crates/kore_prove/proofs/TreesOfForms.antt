@@ -6,6 +6,7 @@ use Rattle.kore_ast.specs.Plain.{plain_sort, plain_pattern, pattern_form_step, p
 use Rattle.kore_ast.specs.declared.tree.Op.{Op}
 use Rattle.kore_ast.specs.declared.tree.Sort.{Sort}
 use Rattle.kore_ast.specs.declared.tree.Pat.{Pat}
+use Rattle.kore_ast.specs.declared.tree.PatForm.{PatForm}
 use Rattle.kore_ast.specs.declared.tree.PatForm.TheOpen as layer
 use Rattle.kore_ast.specs.declared.tree.PatForm.TheVariants.{App, Built, rolls-App, rolls-Built}
 use Rattle.kore_ast.specs.declared.tree.PatForm.TheFolds.{fold-PatForm, fold-roll-Pat, fold-roll-PatForm}
@@ -21,3 +22,12 @@ pub plain-Built : (at : ℕ) (op : Op) (ss : Vec Sort) (ps : Vec Pat)
 plain-Built at op ss ps =
     fold-roll-Pat (ℕ → PatternTree) PatternTree pattern_form_step pattern_step (record { at = at; form = Built op ss ps })
     ∙ ap (λ (g : ℕ → PatternTree). g at) (ap (fold-PatForm (ℕ → PatternTree) PatternTree pattern_form_step pattern_step) (sym (rolls-Built op ss ps)) ∙ fold-roll-PatForm (ℕ → PatternTree) PatternTree pattern_form_step pattern_step (layer.Built op ss ps))
+
+-- the same of a pattern whose form is known
+pub tree-App : (pat : Pat) (name : List ℕ) (ss : Vec Sort) (ps : Vec Pat) → pat.form ≡ App name ss ps → plain_pattern pat ≡ symbol_applied pat.at name (sort_trees (map plain_sort ss.items)) (pattern_trees (map plain_pattern ps.items))
+tree-App pat name ss ps form =
+    ap (λ (shape : PatForm). plain_pattern (record { at = pat.at; form = shape })) form ∙ plain-App pat.at name ss ps
+
+pub tree-Built : (pat : Pat) (op : Op) (ss : Vec Sort) (ps : Vec Pat) → pat.form ≡ Built op ss ps → plain_pattern pat ≡ connected pat.at op (sort_trees (map plain_sort ss.items)) (pattern_trees (map plain_pattern ps.items))
+tree-Built pat op ss ps form =
+    ap (λ (shape : PatForm). plain_pattern (record { at = pat.at; form = shape })) form ∙ plain-Built pat.at op ss ps

@@ -1,5 +1,5 @@
 -- Which definitions and terms are accepted, and what they mean (Kore language document, "Modules and declarations").
-use Rattle.std.specs.Prelude.{◌≡◌, ℕ, List, [], ◌∷◌, All, slice_get, Option, Some, None, option_map, codes, ◌⊎◌, false}
+use Rattle.std.specs.Prelude.{◌≡◌, ◌≤◌, ℕ, List, [], ◌∷◌, length, All, slice_get, Option, Some, None, option_map, codes, ◌⊎◌, false}
 use Rattle.std.specs.List.{filter_map}
 use Rattle.term_core.specs.declared.ids.SortId.{SortId}
 use Rattle.term_core.specs.Patterns.{Pattern, Patterns, application, no_pattern, more_patterns}
@@ -31,9 +31,9 @@ pub record NamesSort (sorts : List (List ℕ × SortInfo)) (tree : SortTree) (so
   pub spelled : tree ≡ sort_applied at name no_sorts
   pub declared : number_of sorts name ≡ Some sort
 
--- the symbol takes no arguments and makes this sort
-abbrev pub IsConstantOf : SymInfo → SortId → Type 0
-IsConstantOf info sort = (info.args.items ≡ []) × (info.result ≡ Sort sort)
+-- .. as a sort of a symbol's declaration
+abbrev pub NamesSortOf : List (List ℕ × SortInfo) → SortTree → SortRef → Type 0
+NamesSortOf sorts tree of = (sort : ℕ) × NamesSort sorts tree sort × (of ≡ Sort (record { 0 = sort }))
 
 -- The pattern of the text means this pattern, of this sort: each symbol is declared, and has no sort arguments and
 -- as many arguments as its declaration says, each of the sort that stands there.
@@ -102,18 +102,16 @@ abbrev pub IsConstructorAlone : List PatternTree → Type 0
 IsConstructorAlone attributes =
     (at : ℕ) × (attributes ≡ symbol_applied at (codes "constructor") no_sorts no_patterns ∷ [])
 
--- `symbol f{}() : S{} [constructor{}()]`
+-- `symbol f{}(S1{},..,Sn{}) : S{} [constructor{}()]` with declared sorts and at most 64 arguments
 pub record IsSymbolEntry (sorts : List (List ℕ × SortInfo)) (d : SymbolDeclaration) (entry : List ℕ × SymInfo) : Type 0 where
   pub hooked : d.hooked ≡ false
   pub params : d.params ≡ []
-  pub args : d.args ≡ []
+  pub few : length d.args ≤ 64
   pub attributes : IsConstructorAlone d.attributes
   pub name : entry.0 ≡ d.name
   pub kind : entry.1.kind ≡ Ctor
-  pub arity : entry.1.args.items ≡ []
-  pub sort : ℕ
-  pub names : NamesSort sorts d.result sort
-  pub result : entry.1.result ≡ Sort (record { 0 = sort })
+  pub args : Each (NamesSortOf sorts) d.args entry.1.args.items
+  pub result : NamesSortOf sorts d.result entry.1.result
 
 -- the pattern is `\top{S}()` with the sort of this number
 pub record IsTopOf (sorts : List (List ℕ × SortInfo)) (tree : PatternTree) (sort : ℕ) : Type 0 where
@@ -131,6 +129,12 @@ pub record IsSide (sorts : List (List ℕ × SortInfo)) (tree : PatternTree) (so
   pub names : NamesSort sorts of sort
   pub no_condition : IsTopOf sorts condition sort
 
+-- the pattern is such a side, and q means this pattern, of the same sort
+pub record IsSideOf (sig : Signature) (tree : PatternTree) (sort : ℕ) (p : Pattern) : Type 0 where
+  pub q : PatternTree
+  pub side : IsSide sig.sorts tree sort q
+  pub means : Denotes sig q p sort
+
 -- the pattern is `\rewrites{S}(before,after)`
 pub record IsRewriting (sorts : List (List ℕ × SortInfo)) (tree : PatternTree) (sort : ℕ) (before after : PatternTree) : Type 0 where
   pub at : ℕ
@@ -142,16 +146,12 @@ pub record IsRewriting (sorts : List (List ℕ × SortInfo)) (tree : PatternTree
 pub record IsRuleOf (sig : Signature) (top : Option ℕ) (stated : AxiomDeclaration) (rule : RewriteRule) : Type 0 where
   pub before : PatternTree
   pub after : PatternTree
-  pub l : PatternTree
-  pub r : PatternTree
   pub sort : ℕ
   pub params : stated.params ≡ []
   pub attributes : stated.attributes ≡ []
   pub rewriting : IsRewriting sig.sorts stated.pattern sort before after
-  pub left_side : IsSide sig.sorts before sort l
-  pub right_side : IsSide sig.sorts after sort r
-  pub left : Denotes sig l rule.left sort
-  pub right : Denotes sig r rule.right sort
+  pub left : IsSideOf sig before sort rule.left
+  pub right : IsSideOf sig after sort rule.right
   pub variables : rule.variables ≡ 0
   pub priority : rule.priority ≡ 50
   pub place : rule.place ≡ stated.at

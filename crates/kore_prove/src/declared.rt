@@ -1,0 +1,159 @@
+// The sorts and the symbols that a module declares.
+ghost use Rattle.std.specs.Prelude.{◌≡◌, ◌≤◌, length, ℕ, List, ◌++◌, ◌∷◌, [], IfOk, IfSome, map, codes};
+ghost use Rattle.std.specs.Bool.{OnTrue};
+ghost use Rattle.std.specs.List.{filter_map};
+ghost use Rattle.kore_ast.specs.Plain.{plain_declaration, plain_sort, plain_sort_decl, plain_symbol_decl, plain_pattern};
+ghost use Rattle.kore_ast.specs.Trees.{symbol_applied, no_sorts, no_patterns};
+ghost use Rattle.rule_core.specs.declared.signature.SymKind.TheVariants.{Ctor};
+ghost use Rattle.rule_core.specs.declared.signature.SortRef.TheVariants.{Sort as of_sort};
+ghost use Rattle.kore_prove.specs.Acceptance.{Each, IsSortEntry, IsSymbolEntry, sort_declared, symbol_declared, IsConstructorAlone, NamesSort, NamesSortOf};
+
+use crate::accept::{NOT_BUILT, Refusal};
+use kore_ast::{Decl, Pat, PatForm, Sort, SortDecl, SortForm, SymbolDecl};
+use rule_core::{SortInfo, SortKind, SortRef, SymInfo, SymKind, Table};
+use std::alloc::Global;
+use term_core::SortId;
+
+/// The most arguments of a symbol.
+const MAX_ARGUMENTS: usize = 64;
+
+/// The number of a sort that is declared and has no arguments.
+pub(crate) fn named_sort(sorts: &Table<SortInfo>, sort: &Sort) -> Option<SortId>
+    ensures { IfSome result (λ s. NamesSort sorts.now (plain_sort sort.now) s.0) }
+{
+    match &sort.form {
+        SortForm::App(name, args) if args.is_empty() => {
+            let number = sorts.number(name.as_str())?;
+            Some(SortId(u32::try_from(number).ok()?))
+        }
+        _ => None,
+    }
+}
+
+/// The sorts that the declarations declare.
+pub(crate) fn declared_sorts(alloc: Global, decls: &[Decl]) -> Result<Table<SortInfo>, Refusal>
+    ensures { IfOk result (Each IsSortEntry (filter_map sort_declared (map plain_declaration decls.now))) }
+{
+    let mut sorts = Table::new(alloc);
+    for decl in decls {
+        if let Decl::SortDecl(sort) = decl {
+            add_sort(alloc, &mut sorts, sort)?;
+        }
+    }
+    Ok(sorts)
+}
+
+/// Adds a sort, in the next place of the table.
+fn add_sort(alloc: Global, sorts: &mut Table<SortInfo>, sort: &SortDecl) -> Result<(), Refusal>
+    ensures { IfOk result (λ _. (entry : List ℕ × SortInfo) × (sorts.new ≡ sorts.old ++ entry ∷ []) × IsSortEntry (plain_sort_decl sort.now) entry) }
+{
+    if sort.hooked || !sort.params.is_empty() || !sort.attrs.is_empty() {
+        return Err(NOT_BUILT);
+    }
+    let name = String::from_str(alloc, sort.name.as_str())?;
+    let info = SortInfo {
+        kind: SortKind::Other,
+    };
+    if sorts.insert(name, info)? {
+        Ok(())
+    } else {
+        Err(NOT_BUILT)
+    }
+}
+
+/// The symbols that the declarations declare.
+pub(crate) fn declared_symbols(
+    alloc: Global,
+    sorts: &Table<SortInfo>,
+    decls: &[Decl],
+) -> Result<Table<SymInfo>, Refusal>
+    ensures { IfOk result (Each (IsSymbolEntry sorts.now) (filter_map symbol_declared (map plain_declaration decls.now))) }
+{
+    let mut symbols = Table::new(alloc);
+    for decl in decls {
+        if let Decl::SymbolDecl(symbol) = decl {
+            add_symbol(alloc, sorts, &mut symbols, symbol)?;
+        }
+    }
+    Ok(symbols)
+}
+
+/// Adds a symbol, in the next place of the table.
+fn add_symbol(
+    alloc: Global,
+    sorts: &Table<SortInfo>,
+    symbols: &mut Table<SymInfo>,
+    symbol: &SymbolDecl,
+) -> Result<(), Refusal>
+    ensures { IfOk result (λ _. (entry : List ℕ × SymInfo) × (symbols.new ≡ symbols.old ++ entry ∷ []) × IsSymbolEntry sorts.now (plain_symbol_decl symbol.now) entry) }
+{
+    if symbol.hooked || !symbol.params.is_empty() || !is_constructor_alone(&symbol.attrs) {
+        return Err(NOT_BUILT);
+    }
+    let args = named_sorts(alloc, sorts, &symbol.args)?;
+    let sort = named_sort(sorts, &symbol.result).ok_or(NOT_BUILT)?;
+    let name = String::from_str(alloc, symbol.name.as_str())?;
+    if symbols.insert(name, constructor(args, sort))? {
+        Ok(())
+    } else {
+        Err(NOT_BUILT)
+    }
+}
+
+/// The sorts of a symbol's arguments, of which there are at most 64.
+fn named_sorts(
+    alloc: Global,
+    sorts: &Table<SortInfo>,
+    args: &[Sort],
+) -> Result<Vec<SortRef>, Refusal>
+    ensures few { IfOk result (λ refs. length args.now ≤ 64) }
+    ensures named { IfOk result (λ refs. Each (NamesSortOf sorts.now) (map plain_sort args.now) refs.items) }
+{
+    if args.len() > MAX_ARGUMENTS {
+        return Err(NOT_BUILT);
+    }
+    let mut refs = Vec::new(alloc);
+    for arg in args {
+        let sort = named_sort(sorts, arg).ok_or(NOT_BUILT)?;
+        refs.push(SortRef::Sort(sort))?;
+    }
+    Ok(refs)
+}
+
+/// A constructor with arguments of these sorts.
+fn constructor(args: Vec<SortRef>, sort: SortId) -> SymInfo
+    ensures args { result.args.items ≡ args.items }
+    ensures sort { result.result ≡ of_sort sort }
+    ensures kind { result.kind ≡ Ctor }
+{
+    SymInfo {
+        kind: SymKind::Ctor,
+        params: 0,
+        args,
+        result: SortRef::Sort(sort),
+        hook: None,
+        ac: false,
+    }
+}
+
+/// Whether the attributes are `[constructor{}()]`.
+fn is_constructor_alone(attrs: &[Pat]) -> bool
+    ensures { OnTrue result (IsConstructorAlone (map plain_pattern attrs.now)) }
+{
+    match attrs {
+        [attr] => is_constructor(attr),
+        _ => false,
+    }
+}
+
+/// Whether the attribute is `constructor{}()`.
+fn is_constructor(attr: &Pat) -> bool
+    ensures { OnTrue result (plain_pattern attr.now ≡ symbol_applied attr.now.at (codes "constructor") no_sorts no_patterns) }
+{
+    match &attr.form {
+        PatForm::App(name, sorts, args) => {
+            sorts.is_empty() && args.is_empty() && name.as_str() == "constructor"
+        }
+        _ => false,
+    }
+}
