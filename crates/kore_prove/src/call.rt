@@ -54,8 +54,7 @@ pub fn kore_main<D: Desk, O: Sink, E: Sink>(
       errors = E.bytes err.old;
       errors' = E.bytes err.new;
     }) result.code }
-    ensures bad_words {
-        IsNoCommand (map string_bytes words.now) → (result.code ≡ 2) ⊎ (result.code ≡ 1) }
+    ensures bad_words { IsNoCommand (map string_bytes words.now) → (result.code ≡ 2) ⊎ (result.code ≡ 1) }
 {
     match read_words(words) {
         Some(command) => match run_command(alloc, &command, desk, out) {
