@@ -1,0 +1,7 @@
+pub mod FaultKinds
+pub mod Bytes
+pub mod Tokens
+pub mod Statements
+pub mod Labels
+pub mod Compressed
+pub mod TextLaws

@@ -1,0 +1,10 @@
+//! Metamath texts: bytes to tokens, tokens to statements, and the letters of compressed proofs.
+//!
+//! The definitions stand in `specs/`: `Tokens` and `Statements` say what the tokens and the
+//! statements of a text are and where it breaks, `Labels` what a label is spelled with, and
+//! `Compressed` what the letters of a compressed proof say.
+#![tactic(auto)]
+
+mod fault;
+
+pub use fault::MmFault;
