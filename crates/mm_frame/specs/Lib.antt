@@ -6,3 +6,4 @@ pub mod Expansion
 pub mod Stack
 pub mod Validity
 pub mod Cases
+pub mod FrameLaws

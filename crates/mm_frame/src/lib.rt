@@ -8,4 +8,4 @@
 
 mod laws;
 
-pub use laws::tried;
+pub use laws::{frame_laws, tried};

@@ -1,0 +1,5 @@
+pub mod Tests
+pub mod Applying
+pub mod Forests
+pub mod Stacks
+pub mod Faults
