@@ -3,3 +3,5 @@ pub mod Applying
 pub mod Forests
 pub mod Stacks
 pub mod Faults
+pub mod Texts
+pub mod Saved

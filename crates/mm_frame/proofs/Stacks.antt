@@ -12,7 +12,7 @@ use Rattle.mm_frame.proofs.Applying.{step_result-complete, step_result-sound}
 use Rattle.mm_frame.proofs.Forests.{first_trees, last_trees, with_trees, postorder-cut, postorder-joined, AllProve-first, AllProve-last, AllProve-joined}
 
 -- a label leads from as many expressions as its arity is
-arity-Leads : {c : Context} {label : Token} {given : List Expression} {result : Expression} → Leads c label given result → length given ≡ arity c label
+pub arity-Leads : {c : Context} {label : Token} {given : List Expression} {result : Expression} → Leads c label given result → length given ≡ arity c label
 arity-Leads {c = c} {label = label} (by_hypothesis h is) = sym (ap (λ o. label_arity o (c.frames label)) is)
 arity-Leads {c = c} {label = label} (by_assertion f sigma given result none is applies) =
     ap length applies.hypotheses ∙ length-map f.hypotheses (instance_of sigma) ∙ sym (ap (λ o. label_arity o (c.frames label)) none ∙ ap frame_arity is)

@@ -1,11 +1,11 @@
 -- A proof computed on a stack, whose top is the last of the list.
-use Rattle.std.specs.Prelude.{ℕ, ◌-◌, Bool, ◌&&◌, nat_le, if◌then◌else◌, List, [], ◌∷◌, ◌++◌, map, length, take, drop, Option, Some, None, option_map, option_and_then, bytes_eq}
+use Rattle.std.specs.Prelude.{ℕ, ◌-◌, Bool, ◌&&◌, nat_le, if◌then◌else◌, List, [], ◌∷◌, ◌++◌, map, length, take, drop, Option, Some, None, option_map, option_and_then, slice_get, bytes_eq}
 use Rattle.std.specs.Cmp.Lexicographic.{pointwise}
 use Rattle.mm_text.specs.Bytes.{Token}
 use Rattle.mm_frame.specs.Frames.{Hypothesis, floating, essential, statement_of, Frame}
 use Rattle.mm_frame.specs.Database.{Context}
 use Rattle.mm_frame.specs.Proofs.{Expression, substituted, instance_of, keeps_apart, active_hypothesis}
-use Rattle.mm_frame.specs.Expansion.{arity}
+use Rattle.mm_frame.specs.Expansion.{arity, Step, cites, saves, repeats}
 
 abbrev pub same_expression : Expression → Expression → Bool
 same_expression = pointwise bytes_eq
@@ -66,3 +66,25 @@ stack_after_step c label n stack = if nat_le n (length stack) then option_map (�
 abbrev pub stack_after : Context → List Token → List Expression → Option (List Expression)
 stack_after c [] stack = Some stack
 stack_after c (label ∷ labels) stack = option_and_then (stack_after c labels) (stack_after_step c label (arity c label) stack)
+
+-- A compressed proof computed without its expansion: the stack, and the entries that are saved.
+pub record Saving : Type 0 where
+  pub stack : List Expression
+  pub saved : List Expression
+
+abbrev pub saving : List Expression → List Expression → Saving
+saving stack saved = record { stack = stack; saved = saved }
+
+-- a step saves the last entry, or puts a saved one on the stack again
+abbrev pub saving_after_step : Context → Step → Saving → Option Saving
+saving_after_step c (cites label) w = option_map (λ s. saving s w.saved) (stack_after_step c label (arity c label) w.stack)
+saving_after_step c saves w = option_map (λ e. saving w.stack (w.saved ++ e ∷ [])) (slice_get w.stack (length w.stack - 1))
+saving_after_step c (repeats n) w = option_map (λ e. saving (w.stack ++ e ∷ []) w.saved) (slice_get w.saved n)
+
+abbrev pub saving_after : Context → List Step → Saving → Option Saving
+saving_after c [] w = Some w
+saving_after c (step ∷ steps) w = option_and_then (saving_after c steps) (saving_after_step c step w)
+
+-- the stack behind the steps of a compressed proof
+abbrev pub compressed_stack : Context → List Step → Option (List Expression)
+compressed_stack c steps = option_map (λ w. w.stack) (saving_after c steps (saving [] []))

@@ -1,6 +1,6 @@
 // Laws on the definitions, and the definitions tried on small texts.
 ghost use Rattle.mm_frame.specs.Cases.{TriedCases};
-ghost use Rattle.mm_frame.specs.FrameLaws.{FirstFaultIsComputed, StacksAreForests, ValidIsFaultless};
+ghost use Rattle.mm_frame.specs.FrameLaws.{AppendedIsFine, FirstFaultIsComputed, SavingIsExpanding, StacksAreForests, ValidIsFaultless, WrittenIsFine};
 
 /// The definitions say of some small texts what the Metamath book says of them: which are valid, and
 /// the first fault of the others, one or more of each kind.
@@ -8,10 +8,18 @@ pub fn tried()
     ensures cases { TriedCases }
 {}
 
-/// A stack accepts just the proofs that the definitions call proofs, and the first fault can be
-/// computed with it.
-pub fn frame_laws()
+/// A stack accepts just the proofs that the definitions call proofs, also with saved entries in the
+/// place of an expansion, and the first fault can be computed with it.
+pub fn proof_laws()
     ensures stacks { StacksAreForests }
+    ensures saving { SavingIsExpanding }
     ensures valid { ValidIsFaultless }
     ensures first_fault { FirstFaultIsComputed }
+{}
+
+/// A valid text stays valid with statements behind it that are without fault in what it declares, and
+/// written statements are read as they are.
+pub fn database_laws()
+    ensures appended { AppendedIsFine }
+    ensures written { WrittenIsFine }
 {}

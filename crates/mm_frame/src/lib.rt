@@ -8,4 +8,4 @@
 
 mod laws;
 
-pub use laws::{frame_laws, tried};
+pub use laws::{database_laws, proof_laws, tried};
