@@ -5,3 +5,4 @@ pub mod Statements
 pub mod Labels
 pub mod Compressed
 pub mod TextLaws
+pub mod Cases
