@@ -5,3 +5,5 @@ pub mod Stacks
 pub mod Faults
 pub mod Texts
 pub mod Saved
+pub mod Stated
+pub mod WrittenForms

@@ -1,13 +1,15 @@
 -- Laws on databases and proofs.
-use Rattle.std.specs.Prelude.{◌+◌, true, ◌∷◌, ◌++◌, length, flat_map, ◌≡◌, ◌↔◌, ℕ, List, [], Some, None}
-use Rattle.mm_text.specs.Bytes.{Token}
+use Rattle.std.specs.Prelude.{◌≡◌, ◌↔◌, ℕ, ◌+◌, Bool, true, false, not, List, [], ◌∷◌, ◌++◌, length, flat_map, Some, None, codes}
 use Rattle.std.specs.List.{list_all}
+use Rattle.mm_text.specs.Bytes.{Token}
 use Rattle.mm_text.specs.Statements.{statement, statements_from, statements_of}
 use Rattle.mm_text.specs.TextLaws.{ends_white, is_plain_token, is_one_statement, written}
 use Rattle.mm_text.specs.declared.fault.MmFault.{MmFault}
-use Rattle.mm_frame.specs.Database.{Context, empty_context, context_after}
-use Rattle.mm_frame.specs.Proofs.{Expression, Forms}
+use Rattle.mm_frame.specs.Forms.{Keyword, declares_constants, declares_variables, types_variable, assumes, separates, asserts, proves, plain, form_of, has_dollar}
 use Rattle.mm_frame.specs.Frames.{Frame}
+use Rattle.mm_frame.specs.Database.{Context, empty_context, context_after}
+use Rattle.mm_frame.specs.Assertions.{assertions_in, assertions_of, typings_in, typings_of}
+use Rattle.mm_frame.specs.Proofs.{Expression, Forms}
 use Rattle.mm_frame.specs.Expansion.{Step, arity, compressed_steps, expansion}
 use Rattle.mm_frame.specs.Stack.{stack_after, compressed_stack}
 use Rattle.mm_frame.specs.Validity.{IsFine, AreFine, IsValid, IsFirstFault, first_fault}
@@ -44,3 +46,38 @@ Adds c at (tokens ∷ statements) left = (list_all is_plain_token tokens ≡ tru
 -- the text of such statements is read as them
 abbrev pub WrittenIsFine : Type 0
 WrittenIsFine = (c : Context) (at : ℕ) (statements : List (List Token)) (left : Context) → Adds c at statements left → AreFine c (statements_from at (written_statements statements)) left
+
+-- what is appended to a text adds its assertions, with the frames that they have in the context that
+-- the text leaves, and its typings
+abbrev pub AppendedStates : Type 0
+AppendedStates = (text more : List ℕ) (left : Context) → ends_white text ≡ true → AreFine empty_context (statements_of text) left → (assertions_of (text ++ more) ≡ assertions_of text ++ assertions_in left (statements_from (length text) more)) × (typings_of (text ++ more) ≡ typings_of text ++ typings_in (statements_from (length text) more))
+
+abbrev pub are_clean : List Token → Bool
+are_clean tokens = list_all (λ t. not (has_dollar t)) tokens
+
+abbrev pub keyword_token : Keyword → Token
+keyword_token declares_constants = codes "$c"
+keyword_token declares_variables = codes "$v"
+keyword_token types_variable = codes "$f"
+keyword_token assumes = codes "$e"
+keyword_token separates = codes "$d"
+keyword_token asserts = codes "$a"
+keyword_token proves = codes "$p"
+
+abbrev pub has_proof : Keyword → Bool
+has_proof proves = true
+has_proof keyword = false
+
+-- the tokens of a statement with these labels, keyword and symbols, and of one with a proof
+abbrev pub plain_tokens : List Token → Keyword → List Token → List Token
+plain_tokens labels keyword symbols = labels ++ (keyword_token keyword ∷ (symbols ++ codes "$." ∷ []))
+
+abbrev pub proof_tokens : List Token → List Token → List Token → List Token
+proof_tokens labels symbols proof = labels ++ (codes "$p" ∷ (symbols ++ (codes "$=" ∷ (proof ++ codes "$." ∷ []))))
+
+-- such tokens say what was written
+abbrev pub PlainTokensSay : Type 0
+PlainTokensSay = (labels : List Token) (keyword : Keyword) (symbol : Token) (symbols : List Token) → are_clean labels ≡ true → are_clean (symbol ∷ symbols) ≡ true → has_proof keyword ≡ false → form_of (plain_tokens labels keyword (symbol ∷ symbols)) ≡ Some (plain labels keyword (symbol ∷ symbols) [])
+
+abbrev pub ProofTokensSay : Type 0
+ProofTokensSay = (labels symbols proof : List Token) → are_clean labels ≡ true → are_clean symbols ≡ true → are_clean proof ≡ true → form_of (proof_tokens labels symbols proof) ≡ Some (plain labels proves symbols proof)

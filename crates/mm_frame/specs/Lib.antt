@@ -7,3 +7,4 @@ pub mod Stack
 pub mod Validity
 pub mod Cases
 pub mod FrameLaws
+pub mod Assertions

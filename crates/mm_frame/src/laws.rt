@@ -1,6 +1,6 @@
 // Laws on the definitions, and the definitions tried on small texts.
 ghost use Rattle.mm_frame.specs.Cases.{TriedCases};
-ghost use Rattle.mm_frame.specs.FrameLaws.{AppendedIsFine, FirstFaultIsComputed, SavingIsExpanding, StacksAreForests, ValidIsFaultless, WrittenIsFine};
+ghost use Rattle.mm_frame.specs.FrameLaws.{AppendedIsFine, AppendedStates, FirstFaultIsComputed, PlainTokensSay, ProofTokensSay, SavingIsExpanding, StacksAreForests, ValidIsFaultless, WrittenIsFine};
 
 /// The definitions say of some small texts what the Metamath book says of them: which are valid, and
 /// the first fault of the others, one or more of each kind.
@@ -18,8 +18,11 @@ pub fn proof_laws()
 {}
 
 /// A valid text stays valid with statements behind it that are without fault in what it declares, and
-/// written statements are read as they are.
+/// has gained what they state. Written statements are read as they are.
 pub fn database_laws()
     ensures appended { AppendedIsFine }
+    ensures states { AppendedStates }
     ensures written { WrittenIsFine }
+    ensures plain { PlainTokensSay }
+    ensures proof { ProofTokensSay }
 {}
