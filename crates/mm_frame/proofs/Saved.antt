@@ -270,9 +270,6 @@ begins_with_number [] = Unit {0}
 begins_with_number (numbered n ∷ steps) = Unit {0}
 begins_with_number (save ∷ steps) = ⊥
 
-begins-some : (steps : List CompressedStep) (o : Option (List CompressedStep)) → o ≡ Some steps → ((s : List CompressedStep) → o ≡ Some s → begins_with_number s) → begins_with_number steps
-begins-some steps o h all = all steps h
-
 joined_numbered : (n : ℕ) (rest : Option (List CompressedStep)) (steps : List CompressedStep) → joined_steps (Some (numbered n ∷ [])) rest ≡ Some steps → begins_with_number steps
 joined_numbered n None steps h = absurd (cc)
 joined_numbered n (Some others) steps h =

@@ -24,7 +24,8 @@ abbrev pub form_assertion : Context → Option Form → Option Assertion
 form_assertion c None = None
 form_assertion c (Some block_start) = None
 form_assertion c (Some block_end) = None
-form_assertion c (Some (plain labels keyword symbols proof)) = keyword_assertion c labels symbols keyword
+form_assertion c (Some (plain labels keyword symbols proof)) =
+    keyword_assertion c labels symbols keyword
 
 abbrev pub with_assertion_first : Option Assertion → List Assertion → List Assertion
 with_assertion_first None others = others
@@ -35,7 +36,8 @@ abbrev pub assertions_in : Context → Statements → List Assertion
 assertions_in c no_statement = []
 assertions_in c (unended at) = []
 assertions_in c (bad_statement f) = []
-assertions_in c (next_statement s statements) = with_assertion_first (form_assertion c (form_of s.tokens)) (assertions_in (context_after c s) statements)
+assertions_in c (next_statement s statements) =
+    with_assertion_first (form_assertion c (form_of s.tokens)) (assertions_in (context_after c s) statements)
 
 abbrev pub assertions_of : List ℕ → List Assertion
 assertions_of bytes = assertions_in empty_context (statements_of bytes)
@@ -67,7 +69,8 @@ abbrev pub typings_in : Statements → List Hypothesis
 typings_in no_statement = []
 typings_in (unended at) = []
 typings_in (bad_statement f) = []
-typings_in (next_statement s statements) = with_typing_first (form_typing (form_of s.tokens)) (typings_in statements)
+typings_in (next_statement s statements) =
+    with_typing_first (form_typing (form_of s.tokens)) (typings_in statements)
 
 abbrev pub typings_of : List ℕ → List Hypothesis
 typings_of bytes = typings_in (statements_of bytes)

@@ -1,6 +1,6 @@
 // Laws on the definitions, and the definitions tried on small texts.
 ghost use Rattle.mm_frame.specs.Cases.{TriedCases};
-ghost use Rattle.mm_frame.specs.FrameLaws.{AppendedIsFine, AppendedStates, FirstFaultIsComputed, PlainTokensSay, ProofTokensSay, SavingIsExpanding, StacksAreForests, ValidIsFaultless, WrittenIsFine};
+ghost use Rattle.mm_frame.specs.FrameLaws.{AppendedIsFine, AppendedStates, FineWhereActive, FirstFaultIsComputed, PlainTokensSay, ProofTokensSay, SavingIsExpanding, StacksAreForests, ValidIsFaultless, WrittenIsFine};
 
 /// The definitions say of some small texts what the Metamath book says of them: which are valid, and
 /// the first fault of the others, one or more of each kind.
@@ -14,6 +14,7 @@ pub fn proof_laws()
     ensures stacks { StacksAreForests }
     ensures saving { SavingIsExpanding }
     ensures valid { ValidIsFaultless }
+    ensures active { FineWhereActive }
     ensures first_fault { FirstFaultIsComputed }
 {}
 

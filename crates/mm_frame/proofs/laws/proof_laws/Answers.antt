@@ -1,6 +1,6 @@
 use Rattle.mm_text.specs.Statements.{statements_of}
 use Rattle.mm_frame.specs.Database.{empty_context}
-use Rattle.mm_frame.proofs.Faults.{faultless_valid, valid_faultless, IsFirstFaultIn-computed, computed-IsFirstFaultIn}
+use Rattle.mm_frame.proofs.Faults.{fine_where_active, faultless_valid, valid_faultless, IsFirstFaultIn-computed, computed-IsFirstFaultIn}
 use Rattle.mm_frame.proofs.Saved.{saving_is_expanding}
 use Rattle.mm_frame.proofs.Stacks.{stack_after-complete, stack_after-sound}
 use Rattle.mm_frame.proofs.laws.proof_laws.Goals as goal
@@ -17,3 +17,6 @@ returns-clause-first_fault a bytes f =
 
 pub returns-clause-saving : goal.returns-clause-saving
 returns-clause-saving a = saving_is_expanding
+
+pub returns-clause-active : goal.returns-clause-active
+returns-clause-active a = fine_where_active
