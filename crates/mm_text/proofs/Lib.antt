@@ -1,0 +1,3 @@
+pub mod Truths
+pub mod Appending
+pub mod Writing

@@ -1,0 +1,87 @@
+-- The letters of a compressed proof (Metamath book, "Compressed Proof Format"). `A` to `T` are last
+-- digits, 1 to 20, and `U` to `Y` are digits before it, 1 to 5 in base 5 without a zero: `A` is 1, `T`
+-- 20, `UA` 21, `YT` 120 and `UUA` 121. `Z` saves the step that the number before it made.
+use Rattle.std.specs.Prelude.{ℕ, ◌+◌, ◌-◌, ◌*◌, ◌&&◌, ◌==◌, nat_le, if◌then◌else◌, List, [], ◌∷◌, ◌++◌, Option, Some, None}
+
+pub data Letter : Type 0 where
+  last_digit : ℕ → Letter
+  digit : ℕ → Letter
+  saves : Letter
+  no_letter : Letter
+
+abbrev pub letter_of : ℕ → Letter
+letter_of b =
+    if nat_le 65 b && nat_le b 84 then last_digit (b - 64) else
+    if nat_le 85 b && nat_le b 89 then digit (b - 84) else
+    if b == 90 then saves else no_letter
+
+-- what stands before a letter: nothing, digits with this value, a number's last digit, or a `Z`
+pub data Before : Type 0 where
+  beginning : Before
+  digits : ℕ → Before
+  a_number : Before
+  a_save : Before
+
+-- the value of the digits before
+abbrev pub value_before : Before → ℕ
+value_before beginning = 0
+value_before (digits n) = n
+value_before a_number = 0
+value_before a_save = 0
+
+abbrev pub before_next : Before → Letter → Before
+before_next before (last_digit d) = a_number
+before_next before (digit d) = digits (5 * value_before before + d)
+before_next before saves = a_save
+before_next before no_letter = a_save
+
+-- a step of a compressed proof: the one that has this number, or 'save the last one'
+pub data CompressedStep : Type 0 where
+  numbered : ℕ → CompressedStep
+  save : CompressedStep
+
+-- a `Z` stands right after a number
+abbrev pub save_after : Before → Option (List CompressedStep)
+save_after beginning = None
+save_after (digits n) = None
+save_after a_number = Some (save ∷ [])
+save_after a_save = None
+
+-- the steps that a letter completes, where it may stand
+abbrev pub steps_of_letter : Before → Letter → Option (List CompressedStep)
+steps_of_letter before (last_digit d) = Some (numbered (20 * value_before before + d) ∷ [])
+steps_of_letter before (digit d) = Some []
+steps_of_letter before saves = save_after before
+steps_of_letter before no_letter = None
+
+-- letters end behind a number or a `Z`
+abbrev pub steps_at_end : Before → Option (List CompressedStep)
+steps_at_end beginning = None
+steps_at_end (digits n) = None
+steps_at_end a_number = Some []
+steps_at_end a_save = Some []
+
+-- two lists in a row, where both are there
+abbrev pub joined_steps : Option (List CompressedStep) → Option (List CompressedStep) → Option (List CompressedStep)
+joined_steps None steps = None
+joined_steps (Some first) None = None
+joined_steps (Some first) (Some rest) = Some (first ++ rest)
+
+abbrev pub steps_from : Before → List ℕ → Option (List CompressedStep)
+steps_from before [] = steps_at_end before
+steps_from before (b ∷ bytes) = joined_steps (steps_of_letter before (letter_of b)) (steps_from (before_next before (letter_of b)) bytes)
+
+-- the steps that the letters of a compressed proof say, if they say any
+abbrev pub steps_of : List ℕ → Option (List CompressedStep)
+steps_of letters = steps_from beginning letters
+
+-- the number that these letters are
+abbrev pub number_of_steps : Option (List CompressedStep) → Option ℕ
+number_of_steps None = None
+number_of_steps (Some []) = None
+number_of_steps (Some (save ∷ steps)) = None
+number_of_steps (Some (numbered n ∷ [])) = Some n
+number_of_steps (Some (numbered n ∷ (step ∷ steps))) = None
+
+abbrev pub number_of : List ℕ → Option ℕ
+number_of letters = number_of_steps (steps_of letters)

@@ -1,0 +1,62 @@
+-- Laws on Metamath texts: what is appended, and what is written.
+use Rattle.std.specs.Prelude.{◌≡◌, ℕ, ◌+◌, Bool, true, false, not, ◌&&◌, List, [], ◌∷◌, ◌++◌, length, flat_map}
+use Rattle.std.specs.List.{list_all}
+use Rattle.mm_text.specs.Bytes.{Token, is_white, class_of, is_printable_class}
+use Rattle.mm_text.specs.Tokens.{opens_comment, closes_comment}
+use Rattle.mm_text.specs.Statements.{Statements, no_statement, unended, bad_statement, next_statement, statement, ends_statement, is_whole, statements_from}
+
+-- a text is empty or ends with white space
+abbrev pub ends_white : List ℕ → Bool
+ends_white [] = true
+ends_white (b ∷ []) = is_white b
+ends_white (b ∷ (c ∷ bytes)) = ends_white (c ∷ bytes)
+
+-- a text ends between statements
+abbrev pub end_well : Statements → Bool
+end_well no_statement = true
+end_well (unended at) = false
+end_well (bad_statement f) = false
+end_well (next_statement s statements) = end_well statements
+
+-- statements, and others in the place of their end
+abbrev pub followed_by : Statements → Statements → Statements
+followed_by no_statement more = more
+followed_by (unended at) more = more
+followed_by (bad_statement f) more = more
+followed_by (next_statement s statements) more = next_statement s (followed_by statements more)
+
+-- what is appended to a text that ends between statements, with white space, is read as it is read
+-- alone, from its place on
+abbrev pub AppendedText : Type 0
+AppendedText =
+    (at : ℕ) (text more : List ℕ) → ends_white text ≡ true →
+    end_well (statements_from at text) ≡ true →
+    statements_from at (text ++ more) ≡ followed_by (statements_from at text) (statements_from (at + length text) more)
+
+-- a token that opens or closes no comment
+abbrev pub is_plain_token : Token → Bool
+is_plain_token [] = false
+is_plain_token (b ∷ bytes) = list_all (λ c. is_printable_class (class_of c)) (b ∷ bytes) && (not (opens_comment (b ∷ bytes)) && not (closes_comment (b ∷ bytes)))
+
+-- the only `$.` of some tokens is the last
+abbrev pub ends_once : List Token → Bool
+ends_once [] = false
+ends_once (token ∷ []) = ends_statement token
+ends_once (token ∷ (next ∷ tokens)) = not (ends_statement token) && ends_once (next ∷ tokens)
+
+-- tokens that make one statement
+abbrev pub is_one_statement : List Token → Bool
+is_one_statement [] = false
+is_one_statement (token ∷ []) = is_whole token
+is_one_statement (token ∷ (next ∷ tokens)) = not (is_whole token) && ends_once (next ∷ tokens)
+
+-- the text of tokens, with a space behind each
+abbrev pub written : List Token → List ℕ
+written tokens = flat_map (λ token. token ++ 32 ∷ []) tokens
+
+-- a written statement is read back, and then what follows it
+abbrev pub WrittenStatement : Type 0
+WrittenStatement =
+    (at : ℕ) (tokens : List Token) (more : List ℕ) → list_all is_plain_token tokens ≡ true →
+    is_one_statement tokens ≡ true →
+    statements_from at (written tokens ++ more) ≡ next_statement (statement at tokens) (statements_from (at + length (written tokens)) more)

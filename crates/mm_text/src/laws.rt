@@ -1,0 +1,16 @@
+// Laws on the definitions, for the proofs of the reader and the writer, and the definitions tried on
+// small texts.
+ghost use Rattle.mm_text.specs.Cases.{TriedCases};
+ghost use Rattle.mm_text.specs.TextLaws.{AppendedText, WrittenStatement};
+
+/// The definitions say of some small texts what the Metamath book says of them.
+pub fn tried()
+    ensures cases { TriedCases }
+{}
+
+/// What is appended to a text that ends well is read as it is read alone, and a written statement
+/// is read back.
+pub fn text_laws()
+    ensures appended { AppendedText }
+    ensures written { WrittenStatement }
+{}

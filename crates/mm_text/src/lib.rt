@@ -1,0 +1,13 @@
+//! Metamath texts: bytes to tokens, tokens to statements, and the letters of compressed proofs.
+//!
+//! The definitions stand in `specs/`: `Tokens` and `Statements` say what the tokens and the
+//! statements of a text are and where it breaks, `Labels` what a label is spelled with, and
+//! `Compressed` what the letters of a compressed proof say. The laws on them are the contract of
+//! `text_laws`.
+#![tactic(auto)]
+
+mod fault;
+mod laws;
+
+pub use fault::MmFault;
+pub use laws::{text_laws, tried};
