@@ -1,0 +1,5 @@
+pub mod Patterns
+pub mod PatternCode
+pub mod PatternView
+pub mod PatternSize
+pub mod Judgements
