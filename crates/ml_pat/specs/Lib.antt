@@ -3,3 +3,5 @@ pub mod PatternCode
 pub mod PatternView
 pub mod PatternSize
 pub mod Judgements
+pub mod Named
+pub mod NamesView

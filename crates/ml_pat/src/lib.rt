@@ -5,8 +5,10 @@
 // specs/Judgements.antt. `Names` gives each token one number.
 #![tactic(auto)]
 
+mod names;
 mod numbers;
 mod patterns;
 
+pub use names::Names;
 pub use numbers::{ConstNo, MSort, VarNo};
 pub use patterns::{MForm, MPat};

@@ -245,9 +245,8 @@ impl MPat {
             (MForm::Fun(p, s), MForm::Fun(r, v)) | (MForm::At(p, s), MForm::At(r, v)) => {
                 s == v && p.same(r)
             }
-            (MForm::Ex(x, s, p), MForm::Ex(y, v, r)) | (MForm::All(x, s, p), MForm::All(y, v, r)) => {
-                x == y && s == v && p.same(r)
-            }
+            (MForm::Ex(x, s, p), MForm::Ex(y, v, r)) | (MForm::All(x, s, p), MForm::All(y, v, r)) =>
+                { x == y && s == v && p.same(r) }
             (MForm::Var(x), MForm::Var(y)) => x == y,
             (MForm::Meta(i), MForm::Meta(j)) => i == j,
             (MForm::Const(c), MForm::Const(d)) => c == d,
