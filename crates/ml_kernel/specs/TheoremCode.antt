@@ -34,7 +34,7 @@ Token = (Unit {0} ⊎ (Pattern ⊎ (ℕ × Pattern))) ⊎ ((ℕ × List Instance
 abbrev token_code : Coded Token
 token_code =
     coded⊎ (coded⊎ coded_unit (coded⊎ pattern_code (coded× coded_ℕ pattern_code)))
-      (coded⊎ (coded× coded_ℕ (coded_list instance_code)) (coded× (coded_list pattern_code) (coded× pattern_code (coded_list pattern_code))))
+    (coded⊎ (coded× coded_ℕ (coded_list instance_code)) (coded× (coded_list pattern_code) (coded× pattern_code (coded_list pattern_code))))
 
 -- the tokens of a derivation, and of derivations from the last one on, in front of others
 abbrev mutual
@@ -97,6 +97,6 @@ derivation_code =
 abbrev pub theorem_code : Coded Theorem
 theorem_code =
     code_by (List Pattern × (Pattern × Derivation)) (coded× (coded_list pattern_code) (coded× pattern_code derivation_code))
-      (λ t. (t.hypotheses, (t.conclusion, t.derivation)))
-      (λ k. record { hypotheses = k.0; conclusion = k.1.0; derivation = k.1.1 })
-      (λ _. refl)
+    (λ t. (t.hypotheses, (t.conclusion, t.derivation)))
+    (λ k. record { hypotheses = k.0; conclusion = k.1.0; derivation = k.1.1 })
+    (λ _. refl)
