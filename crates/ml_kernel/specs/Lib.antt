@@ -8,3 +8,5 @@ pub mod TheoremCode
 pub mod Levels
 pub mod StepView
 pub mod DerivationSize
+pub mod TheoremView
+pub mod Premises

@@ -50,9 +50,9 @@ pub enum DerivStep {
 #[cycle(derivation)]
 #[derive(Drop)]
 pub struct Lemma {
-    hypotheses: Vec<MPat>,
-    conclusion: MPat,
-    derivation: Deriv,
+    pub(crate) hypotheses: Vec<MPat>,
+    pub(crate) conclusion: MPat,
+    pub(crate) derivation: Deriv,
 }
 
 impl Model for Deriv {

@@ -7,5 +7,8 @@
 #![tactic(auto)]
 
 mod derivations;
+mod rows;
+mod theorems;
 
 pub use derivations::{AxiomNo, Deriv, DerivStep, Inst, Lemma};
+pub use theorems::Thm;
