@@ -1,12 +1,11 @@
 -- Derivations under more hypotheses and axioms, under instances, and from trees as they are kept.
-use Rattle.std.proofs.Common.{◌≡◌, ℕ, ◌<◌, List, [], ◌∷◌, ◌++◌, ◌⊎◌, Option, Some, option_map, slice_index_or, refl, sym, ◌∙◌, ap, subst, inl, inr, arith, suc, zero, length, IsTrue}
+use Rattle.std.proofs.Common.{◌≡◌, ℕ, ◌<◌, List, [], ◌∷◌, ◌++◌, option_map, slice_index_or, refl, sym, ◌∙◌, ap, subst, inl, inr, arith, suc, zero, length}
 use Rattle.std.specs.Prelude.{Contains}
 use Rattle.std.proofs.lemmas.List.Elements.{Contains-append_left, Contains-append_right, Contains-append_cases}
-use Rattle.ml_pat.specs.Patterns.{Pattern, bot, top, imp, not, and, or, equal, member, fun, ex, all, app, at_sort, next, ev, var, meta, constant}
-use Rattle.ml_pat.specs.Judgements.{substituted}
+use Rattle.ml_pat.specs.Patterns.{Pattern}
 use Rattle.ml_kernel.specs.ProofRows as rows
 use Rattle.ml_kernel.specs.ProofRows.{Instance, pattern, variable, sort, ProofRow}
-use Rattle.ml_kernel.specs.Renamings.{renamed, IsRenaming}
+use Rattle.ml_kernel.specs.Renamings.{IsRenaming}
 use Rattle.ml_kernel.specs.Derivability.{Derives, AllDerive, by_hypothesis, by_axiom, by_renaming, by_row, none_left, one_more}
 use Rattle.ml_kernel.specs.Lemmas.{instance, instances, HasNoMeta, HaveNoVariables}
 use Rattle.ml_kernel.specs.Theorems.{Derivation, Derivations, hypothesis, own_axiom, row, cited, no_derivation, more_derivations, axioms_of, all_axioms}

@@ -1,10 +1,10 @@
 -- What the judgements on patterns say of instances.
-use Rattle.std.proofs.Common.{◌≡◌, ◌==◌, ◌||◌, ◌&&◌, ℕ, ◌+◌, ◌<◌, List, [], ◌∷◌, Bool, true, false, cond, Option, Some, None, option_map, slice_index_or, refl, sym, ◌∙◌, ap, arith, suc, zero}
+use Rattle.std.proofs.Common.{◌≡◌, ◌==◌, ◌||◌, ◌&&◌, ℕ, ◌+◌, ◌<◌, List, [], ◌∷◌, Bool, true, false, cond, Option, Some, None, option_map, slice_index_or, refl, sym, ◌∙◌, ap, arith, suc, zero, length, subst, slice_get, ◌++◌}
 use Rattle.std.proofs.Common as std
 use Rattle.std.proofs.lemmas.Bool.{false≢true}
 use Rattle.ml_pat.specs.Patterns.{Pattern, bot, top, imp, not, and, or, equal, member, fun, ex, all, app, at_sort, next, ev, var, meta, constant}
 use Rattle.ml_pat.specs.Judgements.{fresh, absent, substituted, predicate, both_parts, under_quantifier}
-use Rattle.ml_kernel.specs.Lemmas.{instance, instances, IsMetaBelow, HasNoMeta, HasNoVariable, HaveNoVariables}
+use Rattle.ml_kernel.specs.Lemmas.{instance, IsMetaBelow, HasNoMeta, HasNoVariable, HaveNoVariables, HaveNoMetas}
 use Rattle.ml_kernel.specs.Renamings.{renamed}
 
 both : (a b c d : Bool) → a ≡ c → b ≡ d → (a && b) ≡ (c && d)
@@ -241,3 +241,16 @@ HasNoMeta-renamed f (ev p) h = HasNoMeta-renamed f p h
 HasNoMeta-renamed f (var x) h = tt
 HasNoMeta-renamed f (meta i) h = h
 HasNoMeta-renamed f (constant c) h = tt
+
+-- where nothing stands for pattern variables, a pattern is its own instance
+pub instance-empty : (ms : List Pattern) (p : Pattern) → length ms ≡ 0 → IsMetaBelow (length ms) p → instance ms p ≡ p
+instance-empty ms p e h = instance-without ms p (subst (λ n. IsMetaBelow n p) e h)
+
+pub HasNoMeta-at : (ps : List Pattern) (i : ℕ) (p : Pattern) → HaveNoMetas ps → slice_get ps i ≡ Some p → HasNoMeta p
+HasNoMeta-at [] i p h e = absurd (let z : ⊥ = cc in z)
+HasNoMeta-at (q ∷ ps) zero p h e = let same : q ≡ p = cc in subst (λ (r : Pattern). HasNoMeta r) same h.0
+HasNoMeta-at (q ∷ ps) (suc i) p h e = HasNoMeta-at ps i p h.1 e
+
+pub HaveNoMetas-push : (ps : List Pattern) (p : Pattern) → HaveNoMetas ps → HasNoMeta p → HaveNoMetas (ps ++ p ∷ [])
+HaveNoMetas-push [] p h k = (k, tt)
+HaveNoMetas-push (q ∷ ps) p h k = (h.0, HaveNoMetas-push ps p h.1 k)

@@ -17,9 +17,10 @@ use Rattle.ml_kernel.specs.declared.theorems.Part.{Part}
 pub AddsNew-append : (old xs mid ys new : List Pattern) → AddsNew old xs mid → AddsNew mid ys new → AddsNew old (xs ++ ys) new
 AddsNew-append old [] mid ys new h k = subst (λ (o : List Pattern). AddsNew o ys new) h k
 AddsNew-append old (x ∷ xs) mid ys new h k =
-    elim h as (λ _. AddsNew old (x ∷ xs ++ ys) new)
-    [ inl a ↦ inl (a.0, AddsNew-append old xs mid ys new a.1 k)
-    | inr b ↦ inr (b.0, AddsNew-append (old ++ x ∷ []) xs mid ys new b.1 k) ]
+    elim h as (λ _. AddsNew old (x ∷ xs ++ ys) new) [
+      | inl a ↦ inl (a.0, AddsNew-append old xs mid ys new a.1 k)
+      | inr b ↦ inr (b.0, AddsNew-append (old ++ x ∷ []) xs mid ys new b.1 k)
+    ]
 
 -- one more pattern that is there already
 pub AddsNew-there : (old xs new : List Pattern) (p : Pattern) → AddsNew old xs new → Contains new p → AddsNew old (xs ++ p ∷ []) new
@@ -33,9 +34,10 @@ AddsNew-new old xs new p h k = AddsNew-append old xs new (p ∷ []) (new ++ p �
 pub Contains-AddsNew_old : (old xs new : List Pattern) (p : Pattern) → AddsNew old xs new → Contains old p → Contains new p
 Contains-AddsNew_old old [] new p h k = subst (λ (o : List Pattern). Contains o p) (sym h) k
 Contains-AddsNew_old old (x ∷ xs) new p h k =
-    elim h as (λ _. Contains new p)
-    [ inl a ↦ Contains-AddsNew_old old xs new p a.1 k
-    | inr b ↦ Contains-AddsNew_old (old ++ x ∷ []) xs new p b.1 (Contains-append_left old (x ∷ []) p k) ]
+    elim h as (λ _. Contains new p) [
+      | inl a ↦ Contains-AddsNew_old old xs new p a.1 k
+      | inr b ↦ Contains-AddsNew_old (old ++ x ∷ []) xs new p b.1 (Contains-append_left old (x ∷ []) p k)
+    ]
 
 only : (x p : Pattern) (k : ℕ) → k < length (x ∷ []) → get_or (x ∷ []) k p ≡ p → x ≡ p
 only x p zero lt e = e
@@ -49,9 +51,10 @@ first_or_later x xs p k =
 pub Contains-AddsNew : (old xs new : List Pattern) (p : Pattern) → AddsNew old xs new → Contains xs p → Contains new p
 Contains-AddsNew old [] new p h k = absurd (omega (arith, k.1))
 Contains-AddsNew old (x ∷ xs) new p h k =
-    elim h as (λ _. Contains new p)
-    [ inl a ↦ elim (first_or_later x xs p k) [ inl e ↦ Contains-AddsNew_old old xs new p a.1 (subst (λ (t : Pattern). Contains old t) e a.0) | inr c ↦ Contains-AddsNew old xs new p a.1 c ]
-    | inr b ↦ elim (first_or_later x xs p k) [ inl e ↦ Contains-AddsNew_old (old ++ x ∷ []) xs new p b.1 (subst (λ (t : Pattern). Contains (old ++ x ∷ []) t) e (Contains-push old x)) | inr c ↦ Contains-AddsNew (old ++ x ∷ []) xs new p b.1 c ] ]
+    elim h as (λ _. Contains new p) [
+      | inl a ↦ elim (first_or_later x xs p k) [ inl e ↦ Contains-AddsNew_old old xs new p a.1 (subst (λ (t : Pattern). Contains old t) e a.0) | inr c ↦ Contains-AddsNew old xs new p a.1 c ]
+      | inr b ↦ elim (first_or_later x xs p k) [ inl e ↦ Contains-AddsNew_old (old ++ x ∷ []) xs new p b.1 (subst (λ (t : Pattern). Contains (old ++ x ∷ []) t) e (Contains-push old x)) | inr c ↦ Contains-AddsNew (old ++ x ∷ []) xs new p b.1 c ]
+    ]
 
 -- the hypotheses of one more theorem
 pub all_hypotheses-push : (ts : List Theorem) (t : Theorem) → all_hypotheses (ts ++ t ∷ []) ≡ all_hypotheses ts ++ t.hypotheses
@@ -83,7 +86,8 @@ pub derivations-push : (ds : List Derivation) (ts : List Theorem) (t : Theorem) 
 derivations-push ds ts t e =
     derivations-append ds t.derivation ∙ ap (λ rest. with_last rest t.derivation) e ∙ sym (all_derivations-append ts t)
 
-next_taken : {X : Type 0} (xs : List X) (i : ℕ) (x : X) → i < length xs → x ≡ get_or xs i x → take (i + 1) xs ≡ take i xs ++ x ∷ []
+-- the items up to one more
+pub next_taken : {X : Type 0} (xs : List X) (i : ℕ) (x : X) → i < length xs → x ≡ get_or xs i x → take (i + 1) xs ≡ take i xs ++ x ∷ []
 next_taken xs i x lt is = take_more xs i x lt ∙ ap (λ y. take i xs ++ y ∷ []) (sym is)
 
 -- one more of the patterns of a list is added
@@ -95,7 +99,7 @@ pub AddsNew-next_new : (old from mid new : List Pattern) (i : ℕ) (p : Pattern)
     → AddsNew old (take (i + 1) from) new
 AddsNew-next_new old from mid new i p h lt is k e =
     subst (λ (ps : List Pattern). AddsNew old ps new) (sym (next_taken from i p lt is))
-      (subst (λ (o : List Pattern). AddsNew old (take i from ++ p ∷ []) o) (sym e) (AddsNew-new old (take i from) mid p h k))
+    (subst (λ (o : List Pattern). AddsNew old (take i from ++ p ∷ []) o) (sym e) (AddsNew-new old (take i from) mid p h k))
 
 -- the theorems behind the references up to one more
 pub theorems_of-next : (xs : List (Bor Theorem)) (i : ℕ) (x : Bor Theorem) → i < length xs → x ≡ get_or xs i x → theorems_of (take (i + 1) xs) ≡ theorems_of (take i xs) ++ x.now ∷ []
@@ -106,8 +110,8 @@ pub merged-next : (xs : List (Bor Theorem)) (i : ℕ) (x : Bor Theorem) (mid new
     → AddsNew mid (x.now).hypotheses new → AddsNew [] (all_hypotheses (theorems_of (take (i + 1) xs))) new
 merged-next xs i x mid new h lt is k =
     subst (λ (hs : List Pattern). AddsNew [] hs new)
-      (sym (ap all_hypotheses (theorems_of-next xs i x lt is) ∙ all_hypotheses-push (theorems_of (take i xs)) x.now))
-      (AddsNew-append [] (all_hypotheses (theorems_of (take i xs))) mid x.now.hypotheses new h k)
+    (sym (ap all_hypotheses (theorems_of-next xs i x lt is) ∙ all_hypotheses-push (theorems_of (take i xs)) x.now))
+    (AddsNew-append [] (all_hypotheses (theorems_of (take i xs))) mid x.now.hypotheses new h k)
 
 pub AreKept-next : (xs : List (Bor Theorem)) (i : ℕ) (x : Bor Theorem) → AreKept (theorems_of (take i xs)) → i < length xs → x ≡ get_or xs i x → IsKept x.now → AreKept (theorems_of (take (i + 1) xs))
 AreKept-next xs i x h lt is k =
@@ -150,9 +154,10 @@ mutual
 -- theorems whose hypotheses are all there conclude their conclusions
 pub AllConclude-kept : (ts : List Theorem) (hs : List Pattern) → AreKept ts → ((p : Pattern) → Contains (all_hypotheses ts) p → Contains hs p) → AllConclude hs (all_derivations ts) (conclusions ts)
 AllConclude-kept [] hs k f = tt
-AllConclude-kept (t ∷ ts) hs k f =
-    (Concludes-more t.hypotheses hs t.derivation t.conclusion (λ p c. f p (Contains-append_left t.hypotheses (all_hypotheses ts) p c)) k.0,
-      AllConclude-kept ts hs k.1 (λ p c. f p (Contains-append_right t.hypotheses (all_hypotheses ts) p c)))
+AllConclude-kept (t ∷ ts) hs k f = (
+  Concludes-more t.hypotheses hs t.derivation t.conclusion (λ p c. f p (Contains-append_left t.hypotheses (all_hypotheses ts) p c)) k.0,
+  AllConclude-kept ts hs k.1 (λ p c. f p (Contains-append_right t.hypotheses (all_hypotheses ts) p c)),
+)
 
 -- a theorem by a rule is kept
 pub row-kept : (n : ℕ) (is held : List Instance) (ts : List Theorem) (hs : List Pattern) (ds : List Derivation) (d : Derivation) (q : Pattern)
@@ -160,7 +165,7 @@ pub row-kept : (n : ℕ) (is held : List Instance) (ts : List Theorem) (hs : Lis
 row-kept n is held ts hs ds d q r k a e g last =
     let below : AllConclude hs (all_derivations ts) (conclusions ts) = AllConclude-kept ts hs k (λ p c. Contains-AddsNew [] (all_hypotheses ts) hs p a c) in
     subst (λ (o : Derivation). Concludes hs o q) (sym (last ∙ ap (λ is'. row n is' (derivations ds)) e ∙ ap (λ ds'. row n is ds') g))
-      (let whole : Concludes hs (row n is (all_derivations ts)) q = (conclusions ts, (r, below)) in whole)
+    (let whole : Concludes hs (row n is (all_derivations ts)) q = (conclusions ts, (r, below)) in whole)
 
 -- a theorem by a lemma is kept
 pub cited-kept : (lemma : Theorem) (ms held : List Pattern) (ts : List Theorem) (hs : List Pattern) (ds : List Derivation) (d : Derivation) (q : Pattern)
@@ -169,6 +174,6 @@ pub cited-kept : (lemma : Theorem) (ms held : List Pattern) (ts : List Theorem) 
 cited-kept lemma ms held ts hs ds d q l v c i k a e g last =
     let below : AllConclude hs (all_derivations ts) (conclusions ts) = AllConclude-kept ts hs k (λ p c'. Contains-AddsNew [] (all_hypotheses ts) hs p a c') in
     subst (λ (o : Derivation). Concludes hs o q)
-      (sym (last ∙ ap (λ ms'. cited lemma.hypotheses lemma.conclusion lemma.derivation ms' (derivations ds)) e ∙ ap (λ ds'. cited lemma.hypotheses lemma.conclusion lemma.derivation ms ds') g))
-      (let whole : Concludes hs (cited lemma.hypotheses lemma.conclusion lemma.derivation ms (all_derivations ts)) q =
-          (l, (v, (c, subst (λ (ps : List Pattern). AllConclude hs (all_derivations ts) ps) i below))) in whole)
+    (sym (last ∙ ap (λ ms'. cited lemma.hypotheses lemma.conclusion lemma.derivation ms' (derivations ds)) e ∙ ap (λ ds'. cited lemma.hypotheses lemma.conclusion lemma.derivation ms ds') g))
+    (let whole : Concludes hs (cited lemma.hypotheses lemma.conclusion lemma.derivation ms (all_derivations ts)) q =
+    (l, (v, (c, subst (λ (ps : List Pattern). AllConclude hs (all_derivations ts) ps) i below))) in whole)

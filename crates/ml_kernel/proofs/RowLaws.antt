@@ -14,7 +14,7 @@ from_one n is a p c q e f r = concluding n is (a ∷ []) c q f (subst (λ (o : P
 from_two : (n : ℕ) (is : List Instance) (a p b r c q : Pattern) → a ≡ p → b ≡ r → c ≡ q → ProofRow n is (p ∷ r ∷ []) q → ProofRow n is (a ∷ b ∷ []) c
 from_two n is a p b r c q e f g row =
     concluding n is (a ∷ b ∷ []) c q g
-      (subst (λ (o : Pattern). ProofRow n is (o ∷ b ∷ []) q) (sym e) (subst (λ (o : Pattern). ProofRow n is (p ∷ o ∷ []) q) (sym f) row))
+    (subst (λ (o : Pattern). ProofRow n is (o ∷ b ∷ []) q) (sym e) (subst (λ (o : Pattern). ProofRow n is (p ∷ o ∷ []) q) (sym f) row))
 
 pub row_p_1 : (p q c : Pattern) → c ≡ imp p (imp q p) → ProofRow 0 (pattern p ∷ pattern q ∷ []) [] c
 row_p_1 p q c e = concluding _ _ _ _ _ e (rows.p_1 p q)

@@ -1,8 +1,8 @@
 -- The parts of a derivation are lower than the derivation.
-use Rattle.std.specs.Prelude.{ℕ, ◌+◌, ◌≤◌, max, List, [], ◌∷◌}
+use Rattle.std.specs.Prelude.{◌+◌, ◌≤◌, List, [], ◌∷◌}
 use Rattle.std.proofs.Common.{arith}
 use denote.Param.Weighed.{most}
-use Rattle.ml_kernel.specs.Theorems.{Derivation, Derivations, hypothesis, own_axiom, row, cited, no_derivation, more_derivations, derivations, Theorem}
+use Rattle.ml_kernel.specs.Theorems.{Derivation, derivations}
 use Rattle.ml_kernel.specs.Levels.{levels, all_levels}
 use Rattle.ml_kernel.specs.StepView.{derivation_of}
 use Rattle.ml_kernel.specs.declared.derivations.DerivStep.{DerivStep}

@@ -1,9 +1,8 @@
 -- Theorems: a conclusion, the hypotheses that it rests on, and a derivation tree as it is kept, in which a step may cite a
 -- lemma at instances of its pattern variables.
-use Rattle.std.specs.Prelude.{◌≡◌, ℕ, ◌+◌, max, List, [], ◌∷◌, ◌++◌, ◌⊎◌, Contains}
+use Rattle.std.specs.Prelude.{◌≡◌, ℕ, List, [], ◌∷◌, ◌++◌, ◌⊎◌, Contains}
 use Rattle.ml_pat.specs.Patterns.{Pattern}
-use Rattle.ml_kernel.specs.ProofRows.{Instance, ProofRow}
-use Rattle.ml_kernel.specs.Lemmas.{instance, instances, HasNoMeta, HaveNoVariables}
+use Rattle.ml_kernel.specs.ProofRows.{Instance}
 use Rattle.ml_kernel.specs.Derivability.{Derives}
 
 -- An axiom has its number in its theory. A citation has the lemma's hypotheses, conclusion and derivation, what stands for

@@ -133,6 +133,17 @@ impl Lemma {
         &self.hypotheses
     }
 
+    /// The same lemma, its patterns and its derivation shared.
+    pub fn share(&self, alloc: Global) -> Result<Lemma, AllocError>
+        ensures { IfOk result (λ shared. shared ≡ self.now) }
+    {
+        Ok(Lemma {
+            hypotheses: all_shared(alloc, &self.hypotheses)?,
+            conclusion: self.conclusion.share()?,
+            derivation: self.derivation.share()?,
+        })
+    }
+
     /// What it concludes.
     pub fn conclusion(&self) -> &MPat
         ensures { result.now ≡ self.now.conclusion }
@@ -146,4 +157,15 @@ impl Lemma {
     {
         &self.derivation
     }
+}
+
+/// The same patterns, each shared.
+pub(crate) fn all_shared(alloc: Global, patterns: &[MPat]) -> Result<Vec<MPat>, AllocError>
+    ensures { IfOk result (λ v. v.items ≡ patterns.now) }
+{
+    let mut shared = Vec::with_capacity(alloc, patterns.len())?;
+    for pattern in patterns {
+        shared.push(pattern.share()?)?;
+    }
+    Ok(shared)
 }

@@ -7,8 +7,11 @@
 #![tactic(auto)]
 
 mod derivations;
+mod instances;
 mod rows;
 mod theorems;
+mod theory;
 
 pub use derivations::{AxiomNo, Deriv, DerivStep, Inst, Lemma};
 pub use theorems::Thm;
+pub use theory::Theory;

@@ -1,4 +1,6 @@
 // The rules, one call each. A call's conditions are the rule's: what its theorems conclude, and what it asks of patterns.
+#![tactic(auto, using(crate::proofs::RowLaws::row_laws))]
+
 ghost use Rattle.std.specs.Prelude.{◌≡◌, [], ◌∷◌, IfOk};
 ghost use Rattle.ml_pat.specs.Patterns.{top, imp, and, next, ev};
 ghost use Rattle.ml_kernel.specs.ProofRows.{pattern};
@@ -100,6 +102,12 @@ impl Thm {
         ensures row { IfOk result (λ t. IsByRow 29 (pattern p.now ∷ pattern q.now ∷ []) (a.now ∷ b.now ∷ []) t) }
     {
         let conclusion = MPat::imp(alloc, &MPat::ev(alloc, p)?, q)?;
-        Thm::by_row(alloc, 29, &[Part::Pat(p), Part::Pat(q)], &[a, b], conclusion)
+        Thm::by_row(
+            alloc,
+            29,
+            &[Part::Pat(p), Part::Pat(q)],
+            &[a, b],
+            conclusion,
+        )
     }
 }

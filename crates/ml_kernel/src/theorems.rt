@@ -1,12 +1,14 @@
 // Theorems, and the private call by which each rule makes one.
-ghost use Rattle.std.specs.Prelude.{◌≡◌, ◌↔◌, [], ◌∷◌, IfOk, OnOk, IsTrue, Contains};
+ghost use Rattle.std.specs.Prelude.{◌≡◌, ◌↔◌, [], ◌∷◌, length, IfOk, OnOk, IsTrue, Contains};
 ghost use Rattle.ml_kernel.specs.ProofRows.{ProofRow};
-ghost use Rattle.ml_kernel.specs.Theorems.{Theorem, hypothesis, AddsNew, all_hypotheses, conclusions, all_derivations, derivations, IsByRow, IsDerived};
+ghost use Rattle.ml_kernel.specs.Theorems.{Theorem, hypothesis, own_axiom, cited, AddsNew, all_hypotheses, conclusions, all_derivations, derivations, IsByRow, IsByLemma, IsDerived};
+ghost use Rattle.ml_kernel.specs.Lemmas.{instance, instances, IsMetaBelow, AreMetasBelow, HasNoMeta, HaveNoVariables};
 ghost use Rattle.ml_kernel.specs.Concluding.{IsKept, AreKept};
 ghost use Rattle.ml_kernel.specs.StepView.{instance_of, instances_of};
 ghost use Rattle.ml_kernel.specs.Premises.{part_of, parts_of, theorems_of};
 
-use crate::derivations::{Deriv, DerivStep, Inst, Lemma};
+use crate::derivations::{AxiomNo, Deriv, DerivStep, Inst, Lemma, all_shared};
+use crate::instances::instance;
 use ml_pat::{MPat, MSort, VarNo};
 use std::alloc::{AllocError, Global};
 use std::marker::Model;
@@ -36,6 +38,7 @@ impl Model for Thm {
 
     ghost coded = { theorem_code };
 
+    ghost use Rattle.ml_kernel.specs.Lemmas.{instance, instances, IsMetaBelow, AreMetasBelow, HasNoMeta, HaveNoVariables};
     ghost use Rattle.ml_kernel.specs.Concluding.{IsKept};
     ghost use Rattle.ml_kernel.specs.TheoremView.{theorem_of};
 
@@ -90,6 +93,48 @@ impl Thm {
         &self.derivation
     }
 
+    /// The conclusion of a lemma with these patterns in the place of its pattern variables, from proofs of its hypotheses
+    /// with the same in their places. It keeps the axioms of the lemma and of the proofs.
+    pub fn use_lemma(
+        alloc: Global,
+        lemma: &Lemma,
+        metas: &[MPat],
+        proofs: &[Thm],
+    ) -> Result<Thm, AllocError>
+        requires hypotheses_metas { AreMetasBelow (length metas.now) lemma.now.hypotheses }
+        requires conclusion_metas { IsMetaBelow (length metas.now) lemma.now.conclusion }
+        requires no_variables { HaveNoVariables metas.now }
+        requires proofs { conclusions proofs.now ≡ instances metas.now lemma.now.hypotheses }
+        ensures conclusion { IfOk result (λ t. t.conclusion ≡ instance metas.now lemma.now.conclusion) }
+        ensures lemma { IfOk result (λ t. IsByLemma lemma.now metas.now proofs.now t) }
+    {
+        let premises = references(alloc, proofs)?;
+        let hypotheses = merged(alloc, &premises)?;
+        let below = kept_derivations(alloc, &premises)?;
+        let conclusion = instance(alloc, metas, lemma.conclusion())?;
+        let derivation = citation(alloc, lemma, metas, below)?;
+        Ok(Thm {
+            hypotheses,
+            conclusion,
+            derivation,
+        })
+    }
+
+    // The theorem of an axiom.
+    pub(crate) fn of_axiom(alloc: Global, no: AxiomNo, pattern: MPat) -> Result<Thm, AllocError>
+        requires { HasNoMeta pattern }
+        ensures hypotheses { IfOk result (λ t. t.hypotheses ≡ []) }
+        ensures conclusion { IfOk result (λ t. t.conclusion ≡ pattern) }
+        ensures derivation { IfOk result (λ t. t.derivation ≡ own_axiom no.0 pattern) }
+    {
+        let derivation = Deriv::of(alloc, DerivStep::Axiom(no, pattern.share()?))?;
+        Ok(Thm {
+            hypotheses: Vec::new(alloc),
+            conclusion: pattern,
+            derivation,
+        })
+    }
+
     // The theorem that a rule concludes from theorems.
     pub(crate) fn by_row(
         alloc: Global,
@@ -125,6 +170,33 @@ impl Lemma {
             derivation: thm.derivation,
         })
     }
+}
+
+// The step that cites a lemma.
+fn citation(
+    alloc: Global,
+    lemma: &Lemma,
+    metas: &[MPat],
+    below: Vec<Deriv>,
+) -> Result<Deriv, AllocError>
+    ensures citation { IfOk result (λ d. d ≡ cited lemma.now.hypotheses lemma.now.conclusion lemma.now.derivation metas.now (derivations below.items)) }
+    ensures kept { OnOk result (IsKept lemma.now) }
+{
+    let _hypotheses = lemma.hypotheses();
+    let lemma = lemma.share(alloc)?;
+    let metas = all_shared(alloc, metas)?;
+    Deriv::of(alloc, DerivStep::Cited(lemma, metas, below))
+}
+
+// The theorems of a list, by reference.
+fn references(alloc: Global, proofs: &[Thm]) -> Result<Vec<&Thm>, AllocError>
+    ensures { IfOk result (λ v. theorems_of v.items ≡ proofs.now) }
+{
+    let mut all = Vec::with_capacity(alloc, proofs.len())?;
+    for thm in proofs {
+        all.push(thm)?;
+    }
+    Ok(all)
 }
 
 // What stands for a rule's variables, to be kept.

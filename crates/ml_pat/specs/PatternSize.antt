@@ -1,5 +1,5 @@
 -- The parts of a pattern are smaller than the pattern.
-use Rattle.std.specs.Prelude.{◌+◌, ◌≤◌}
+use Rattle.std.specs.Prelude.{◌≤◌}
 use Rattle.std.proofs.Common.{arith}
 use Rattle.ml_pat.specs.Patterns.{forms_in}
 use Rattle.ml_pat.specs.PatternView.{pattern_of}

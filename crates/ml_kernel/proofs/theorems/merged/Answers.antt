@@ -1,4 +1,4 @@
-use Rattle.std.proofs.Common.{◌≡◌, ◌<◌, length, subst, sym, List, arith, rules}
+use Rattle.std.proofs.Common.{◌<◌, length, subst, List, arith}
 use Rattle.ml_pat.specs.Patterns.{Pattern}
 use Rattle.ml_kernel.specs.Theorems.{AddsNew}
 use Rattle.ml_kernel.proofs.Merging.{merged-next, AreKept-next}
