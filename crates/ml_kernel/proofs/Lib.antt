@@ -1,0 +1,4 @@
+pub mod InstanceLaws
+pub mod DerivationLaws
+pub mod Merging
+pub mod RowLaws

@@ -1,0 +1,12 @@
+pub mod ProofRows
+pub mod Renamings
+pub mod Derivability
+pub mod Lemmas
+pub mod Theorems
+pub mod Concluding
+pub mod TheoremCode
+pub mod Levels
+pub mod StepView
+pub mod DerivationSize
+pub mod TheoremView
+pub mod Premises

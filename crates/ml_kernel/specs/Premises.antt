@@ -1,0 +1,21 @@
+-- What the code gives a rule: what stands for its variables, and theorems.
+use Rattle.std.specs.Prelude.{List, [], ◌∷◌}
+use Rattle.std.specs.Borrow.{Bor}
+use Rattle.ml_kernel.specs.ProofRows.{Instance, pattern, variable, sort}
+use Rattle.ml_kernel.specs.Theorems.{Theorem}
+use Rattle.ml_kernel.specs.declared.theorems.Part.{Part}
+use Rattle.ml_kernel.specs.declared.theorems.Part.TheVariants as part
+
+abbrev pub part_of : Part → Instance
+part_of (part.Pat p) = pattern p.now
+part_of (part.Var x) = variable x.0
+part_of (part.Sort s) = sort s.0
+
+abbrev pub parts_of : List Part → List Instance
+parts_of [] = []
+parts_of (p ∷ ps) = part_of p ∷ parts_of ps
+
+-- the theorems behind references
+abbrev pub theorems_of : List (Bor Theorem) → List Theorem
+theorems_of [] = []
+theorems_of (t ∷ ts) = t.now ∷ theorems_of ts

@@ -1,0 +1,76 @@
+-- Theorems: a conclusion, the hypotheses that it rests on, and a derivation tree as it is kept, in which a step may cite a
+-- lemma at instances of its pattern variables.
+use Rattle.std.specs.Prelude.{◌≡◌, ℕ, List, [], ◌∷◌, ◌++◌, ◌⊎◌, Contains}
+use Rattle.ml_pat.specs.Patterns.{Pattern}
+use Rattle.ml_kernel.specs.ProofRows.{Instance}
+use Rattle.ml_kernel.specs.Derivability.{Derives}
+
+-- An axiom has its number in its theory. A citation has the lemma's hypotheses, conclusion and derivation, what stands for
+-- its pattern variables, and the derivations of its hypotheses.
+mutual
+  pub data Derivation : Type 0 where
+    hypothesis : Pattern → Derivation
+    own_axiom : ℕ → Pattern → Derivation
+    row : ℕ → List Instance → Derivations → Derivation
+    cited : List Pattern → Pattern → Derivation → List Pattern → Derivations → Derivation
+
+  pub data Derivations : Type 0 where
+    no_derivation : Derivations
+    more_derivations : Derivation → Derivations → Derivations
+
+-- the derivations of a list, in its order
+abbrev pub derivations : List Derivation → Derivations
+derivations [] = no_derivation
+derivations (d ∷ ds) = more_derivations d (derivations ds)
+
+pub record Theorem : Type 0 where
+  pub hypotheses : List Pattern
+  pub conclusion : Pattern
+  pub derivation : Derivation
+
+-- the hypotheses of some theorems, one theorem after another
+abbrev pub all_hypotheses : List Theorem → List Pattern
+all_hypotheses [] = []
+all_hypotheses (t ∷ ts) = t.hypotheses ++ all_hypotheses ts
+
+abbrev pub conclusions : List Theorem → List Pattern
+conclusions [] = []
+conclusions (t ∷ ts) = t.conclusion ∷ conclusions ts
+
+abbrev pub all_derivations : List Theorem → Derivations
+all_derivations [] = no_derivation
+all_derivations (t ∷ ts) = more_derivations t.derivation (all_derivations ts)
+
+-- The axioms that a derivation keeps: those of its steps, and of the lemmas that they cite.
+abbrev mutual
+  pub axioms_of : Derivation → List Pattern
+  axioms_of (hypothesis p) = []
+  axioms_of (own_axiom n p) = p ∷ []
+  axioms_of (row n is ds) = all_axioms ds
+  axioms_of (cited hyps q d ms ds) = axioms_of d ++ all_axioms ds
+
+  pub all_axioms : Derivations → List Pattern
+  all_axioms no_derivation = []
+  all_axioms (more_derivations d ds) = axioms_of d ++ all_axioms ds
+
+-- Old hypotheses and others make new ones: the old, and then each of the others that is not there yet, at its first place.
+abbrev pub AddsNew : List Pattern → List Pattern → List Pattern → Type 0
+AddsNew old [] new = new ≡ old
+AddsNew old (p ∷ ps) new =
+    (Contains old p × AddsNew old ps new) ⊎ ((Contains old p → ⊥) × AddsNew (old ++ p ∷ []) ps new)
+
+-- The theorem has just the hypotheses of these theorems, in order, each once, and its last step is the row at these
+-- instances over their derivations.
+pub record IsByRow (n : ℕ) (is : List Instance) (ts : List Theorem) (t : Theorem) : Type 0 where
+  pub kept_hypotheses : AddsNew [] (all_hypotheses ts) t.hypotheses
+  pub last_step : t.derivation ≡ row n is (all_derivations ts)
+
+-- The theorem has just the hypotheses of these theorems, and its last step cites the lemma at these instances over their
+-- derivations.
+pub record IsByLemma (lemma : Theorem) (ms : List Pattern) (ts : List Theorem) (t : Theorem) : Type 0 where
+  pub kept_hypotheses : AddsNew [] (all_hypotheses ts) t.hypotheses
+  pub last_step : t.derivation ≡ cited lemma.hypotheses lemma.conclusion lemma.derivation ms (all_derivations ts)
+
+-- the theorem's conclusion has a derivation from its own hypotheses and the axioms that it keeps
+abbrev pub IsDerived : Theorem → Type 0
+IsDerived t = Derives t.hypotheses (axioms_of t.derivation) t.conclusion

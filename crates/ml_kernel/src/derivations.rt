@@ -1,0 +1,171 @@
+// Derivations as they are kept, and lemmas, which they cite.
+ghost use Rattle.std.specs.Prelude.{◌≡◌, IfOk};
+ghost use Rattle.ml_kernel.specs.StepView.{derivation_of};
+ghost use Rattle.ml_kernel.specs.Concluding.{IsKept};
+
+use ml_pat::{MPat, MSort, VarNo};
+use std::alloc::{AllocError, Global};
+use std::marker::Model;
+use std::rc::Rc;
+
+/// The number of an axiom in its theory.
+#[derive(Clone, Copy, PartialEq, Eq, PartialOrd, Ord, Hash, Debug)]
+pub struct AxiomNo(pub u64);
+
+/// What stands for a variable of a rule.
+#[derive(Drop)]
+pub enum Inst {
+    /// A pattern.
+    Pat(MPat),
+    /// An object variable.
+    Var(VarNo),
+    /// A sort.
+    Sort(MSort),
+}
+
+/// A derivation, shared and not copied. Contracts see it as a plain `Derivation`.
+#[cycle(derivation)]
+#[derive(Drop)]
+pub struct Deriv {
+    node: Rc<DerivStep>,
+}
+
+/// The last step of a derivation.
+#[cycle(derivation)]
+#[derive(Drop)]
+pub enum DerivStep {
+    /// A hypothesis.
+    Hyp(MPat),
+    /// An axiom, by its number in its theory.
+    Axiom(AxiomNo, MPat),
+    /// A rule by its number, from 0 on in the order of the rules; what stands for its variables, in the order of its call;
+    /// and the derivations of what it asks.
+    Row(u8, Vec<Inst>, Vec<Deriv>),
+    /// A lemma, what stands for its pattern variables, and the derivations of its hypotheses.
+    Cited(Lemma, Vec<MPat>, Vec<Deriv>),
+}
+
+/// A theorem that may be cited with other patterns in the place of its pattern variables. Contracts see it as a plain
+/// `Theorem`.
+#[cycle(derivation)]
+#[derive(Drop)]
+pub struct Lemma {
+    pub(crate) hypotheses: Vec<MPat>,
+    pub(crate) conclusion: MPat,
+    pub(crate) derivation: Deriv,
+}
+
+impl Model for Deriv {
+    ghost use Rattle.ml_kernel.specs.Theorems.{Derivation};
+    ghost use Rattle.ml_kernel.specs.TheoremCode.{derivation_code};
+
+    ghost Value = { Derivation };
+
+    ghost coded = { derivation_code };
+
+    ghost use Rattle.ml_kernel.specs.Levels.{levels};
+    ghost use Rattle.ml_kernel.specs.StepView.{whole_derivation};
+
+    ghost view = { whole_derivation };
+
+    ghost size = { levels };
+
+    ghost use Rattle.std.proofs.Common.{arith};
+    ghost use Rattle.ml_kernel.specs.DerivationSize.{deep-levels};
+
+    ghost size_decreases = { λ a h. Prim.omega (arith, deep-levels a.node.value) };
+}
+
+impl Model for Lemma {
+    ghost use Rattle.ml_kernel.specs.Theorems.{Theorem};
+    ghost use Rattle.ml_kernel.specs.TheoremCode.{theorem_code};
+
+    ghost Value = { Theorem };
+
+    ghost coded = { theorem_code };
+
+    ghost use Rattle.ml_kernel.specs.Levels.{theorem_levels};
+    ghost use Rattle.ml_kernel.specs.Concluding.{IsKept};
+    ghost use Rattle.ml_kernel.specs.StepView.{lemma_theorem};
+
+    ghost view = { lemma_theorem };
+
+    ghost invariant = { λ a. IsKept (lemma_theorem a) };
+
+    ghost size = { theorem_levels };
+
+    ghost use Rattle.std.proofs.Common.{arith};
+
+    ghost size_decreases = { λ a h. Prim.omega arith };
+}
+
+impl Deriv {
+    /// The derivation with this last step.
+    pub(crate) fn of(alloc: Global, step: DerivStep) -> Result<Deriv, AllocError>
+        ensures { IfOk result (λ d. d ≡ derivation_of step) }
+    {
+        let node = Rc::new(alloc, step)?;
+        Ok(Deriv { node })
+    }
+
+    /// The last step.
+    pub fn step(&self) -> &DerivStep
+        ensures { derivation_of result.now ≡ self.now }
+    {
+        &self.node
+    }
+
+    /// The same derivation, shared.
+    pub fn share(&self) -> Result<Deriv, AllocError>
+        ensures { IfOk result (λ shared. shared ≡ self.now) }
+    {
+        let node = self.node.clone()?;
+        Ok(Deriv { node })
+    }
+}
+
+impl Lemma {
+    /// What it rests on.
+    pub fn hypotheses(&self) -> &[MPat]
+        ensures value { result.now ≡ self.now.hypotheses }
+        ensures kept { IsKept self.now }
+    {
+        &self.hypotheses
+    }
+
+    /// The same lemma, its patterns and its derivation shared.
+    pub fn share(&self, alloc: Global) -> Result<Lemma, AllocError>
+        ensures { IfOk result (λ shared. shared ≡ self.now) }
+    {
+        Ok(Lemma {
+            hypotheses: all_shared(alloc, &self.hypotheses)?,
+            conclusion: self.conclusion.share()?,
+            derivation: self.derivation.share()?,
+        })
+    }
+
+    /// What it concludes.
+    pub fn conclusion(&self) -> &MPat
+        ensures { result.now ≡ self.now.conclusion }
+    {
+        &self.conclusion
+    }
+
+    /// How its conclusion follows.
+    pub fn derivation(&self) -> &Deriv
+        ensures { result.now ≡ self.now.derivation }
+    {
+        &self.derivation
+    }
+}
+
+/// The same patterns, each shared.
+pub(crate) fn all_shared(alloc: Global, patterns: &[MPat]) -> Result<Vec<MPat>, AllocError>
+    ensures { IfOk result (λ v. v.items ≡ patterns.now) }
+{
+    let mut shared = Vec::with_capacity(alloc, patterns.len())?;
+    for pattern in patterns {
+        shared.push(pattern.share()?)?;
+    }
+    Ok(shared)
+}

@@ -1,0 +1,263 @@
+// Theorems, and the private call by which each rule makes one.
+ghost use Rattle.std.specs.Prelude.{◌≡◌, ◌↔◌, [], ◌∷◌, length, IfOk, OnOk, IsTrue, Contains};
+ghost use Rattle.ml_kernel.specs.ProofRows.{ProofRow};
+ghost use Rattle.ml_kernel.specs.Theorems.{Theorem, hypothesis, own_axiom, cited, AddsNew, all_hypotheses, conclusions, all_derivations, derivations, IsByRow, IsByLemma, IsDerived};
+ghost use Rattle.ml_kernel.specs.Lemmas.{instance, instances, IsMetaBelow, AreMetasBelow, HasNoMeta, HaveNoVariables};
+ghost use Rattle.ml_kernel.specs.Concluding.{IsKept, AreKept};
+ghost use Rattle.ml_kernel.specs.StepView.{instance_of, instances_of};
+ghost use Rattle.ml_kernel.specs.Premises.{part_of, parts_of, theorems_of};
+
+use crate::derivations::{AxiomNo, Deriv, DerivStep, Inst, Lemma, all_shared};
+use crate::instances::instance;
+use ml_pat::{MPat, MSort, VarNo};
+use std::alloc::{AllocError, Global};
+use std::marker::Model;
+
+/// A theorem: a conclusion with the hypotheses that it rests on, each once, and a derivation. Contracts see it as a plain
+/// `Theorem`.
+#[derive(Drop)]
+pub struct Thm {
+    hypotheses: Vec<MPat>,
+    conclusion: MPat,
+    derivation: Deriv,
+}
+
+/// What a call gives for a variable of its rule.
+#[derive(Clone, Copy)]
+pub(crate) enum Part<'a> {
+    Pat(&'a MPat),
+    Var(VarNo),
+    Sort(MSort),
+}
+
+impl Model for Thm {
+    ghost use Rattle.ml_kernel.specs.Theorems.{Theorem};
+    ghost use Rattle.ml_kernel.specs.TheoremCode.{theorem_code};
+
+    ghost Value = { Theorem };
+
+    ghost coded = { theorem_code };
+
+    ghost use Rattle.ml_kernel.specs.Lemmas.{instance, instances, IsMetaBelow, AreMetasBelow, HasNoMeta, HaveNoVariables};
+    ghost use Rattle.ml_kernel.specs.Concluding.{IsKept};
+    ghost use Rattle.ml_kernel.specs.TheoremView.{theorem_of};
+
+    ghost view = { theorem_of };
+
+    ghost invariant = { λ a. IsKept (theorem_of a) };
+}
+
+impl Thm {
+    /// A pattern follows from itself: the theorem's only hypothesis is its conclusion, and it keeps no axiom.
+    pub fn assume(alloc: Global, hyp: MPat) -> Result<Thm, AllocError>
+        ensures hypotheses { IfOk result (λ t. t.hypotheses ≡ hyp ∷ []) }
+        ensures conclusion { IfOk result (λ t. t.conclusion ≡ hyp) }
+        ensures derivation { IfOk result (λ t. t.derivation ≡ hypothesis hyp) }
+    {
+        let mut hypotheses = Vec::new(alloc);
+        hypotheses.push(hyp.share()?)?;
+        let derivation = Deriv::of(alloc, DerivStep::Hyp(hyp.share()?))?;
+        Ok(Thm {
+            hypotheses,
+            conclusion: hyp,
+            derivation,
+        })
+    }
+
+    /// The conclusion has a derivation in matching logic from the hypotheses and the axioms that the derivation keeps.
+    pub fn law(&self)
+        ensures { IsDerived self.now }
+    {
+        let _conclusion = &self.conclusion;
+    }
+
+    /// What it rests on.
+    pub fn hypotheses(&self) -> &[MPat]
+        ensures value { result.now ≡ self.now.hypotheses }
+        ensures kept { IsKept self.now }
+    {
+        &self.hypotheses
+    }
+
+    /// What it concludes.
+    pub fn conclusion(&self) -> &MPat
+        ensures { result.now ≡ self.now.conclusion }
+    {
+        &self.conclusion
+    }
+
+    /// How its conclusion follows.
+    pub fn derivation(&self) -> &Deriv
+        ensures { result.now ≡ self.now.derivation }
+    {
+        &self.derivation
+    }
+
+    /// The conclusion of a lemma with these patterns in the place of its pattern variables, from proofs of its hypotheses
+    /// with the same in their places. It keeps the axioms of the lemma and of the proofs.
+    pub fn use_lemma(
+        alloc: Global,
+        lemma: &Lemma,
+        metas: &[MPat],
+        proofs: &[Thm],
+    ) -> Result<Thm, AllocError>
+        requires hypotheses_metas { AreMetasBelow (length metas.now) lemma.now.hypotheses }
+        requires conclusion_metas { IsMetaBelow (length metas.now) lemma.now.conclusion }
+        requires no_variables { HaveNoVariables metas.now }
+        requires proofs { conclusions proofs.now ≡ instances metas.now lemma.now.hypotheses }
+        ensures conclusion { IfOk result (λ t. t.conclusion ≡ instance metas.now lemma.now.conclusion) }
+        ensures lemma { IfOk result (λ t. IsByLemma lemma.now metas.now proofs.now t) }
+    {
+        let premises = references(alloc, proofs)?;
+        let hypotheses = merged(alloc, &premises)?;
+        let below = kept_derivations(alloc, &premises)?;
+        let conclusion = instance(alloc, metas, lemma.conclusion())?;
+        let derivation = citation(alloc, lemma, metas, below)?;
+        Ok(Thm {
+            hypotheses,
+            conclusion,
+            derivation,
+        })
+    }
+
+    // The theorem of an axiom.
+    pub(crate) fn of_axiom(alloc: Global, no: AxiomNo, pattern: MPat) -> Result<Thm, AllocError>
+        requires { HasNoMeta pattern }
+        ensures hypotheses { IfOk result (λ t. t.hypotheses ≡ []) }
+        ensures conclusion { IfOk result (λ t. t.conclusion ≡ pattern) }
+        ensures derivation { IfOk result (λ t. t.derivation ≡ own_axiom no.0 pattern) }
+    {
+        let derivation = Deriv::of(alloc, DerivStep::Axiom(no, pattern.share()?))?;
+        Ok(Thm {
+            hypotheses: Vec::new(alloc),
+            conclusion: pattern,
+            derivation,
+        })
+    }
+
+    // The theorem that a rule concludes from theorems.
+    pub(crate) fn by_row(
+        alloc: Global,
+        number: u8,
+        parts: &[Part<'_>],
+        premises: &[&Thm],
+        conclusion: MPat,
+    ) -> Result<Thm, AllocError>
+        requires { ProofRow number (parts_of parts.now) (conclusions (theorems_of premises.now)) conclusion }
+        ensures conclusion { IfOk result (λ t. t.conclusion ≡ conclusion) }
+        ensures row { IfOk result (λ t. IsByRow number (parts_of parts.now) (theorems_of premises.now) t) }
+    {
+        let instances = kept_parts(alloc, parts)?;
+        let hypotheses = merged(alloc, premises)?;
+        let below = kept_derivations(alloc, premises)?;
+        let derivation = Deriv::of(alloc, DerivStep::Row(number, instances, below))?;
+        Ok(Thm {
+            hypotheses,
+            conclusion,
+            derivation,
+        })
+    }
+}
+
+impl Lemma {
+    /// The theorem as a lemma, which may be cited with other patterns in the place of its pattern variables.
+    pub fn close(thm: Thm) -> Result<Lemma, AllocError>
+        ensures { IfOk result (λ lemma. lemma ≡ thm) }
+    {
+        Ok(Lemma {
+            hypotheses: thm.hypotheses,
+            conclusion: thm.conclusion,
+            derivation: thm.derivation,
+        })
+    }
+}
+
+// The step that cites a lemma.
+fn citation(
+    alloc: Global,
+    lemma: &Lemma,
+    metas: &[MPat],
+    below: Vec<Deriv>,
+) -> Result<Deriv, AllocError>
+    ensures citation { IfOk result (λ d. d ≡ cited lemma.now.hypotheses lemma.now.conclusion lemma.now.derivation metas.now (derivations below.items)) }
+    ensures kept { OnOk result (IsKept lemma.now) }
+{
+    let _hypotheses = lemma.hypotheses();
+    let lemma = lemma.share(alloc)?;
+    let metas = all_shared(alloc, metas)?;
+    Deriv::of(alloc, DerivStep::Cited(lemma, metas, below))
+}
+
+// The theorems of a list, by reference.
+fn references(alloc: Global, proofs: &[Thm]) -> Result<Vec<&Thm>, AllocError>
+    ensures { IfOk result (λ v. theorems_of v.items ≡ proofs.now) }
+{
+    let mut all = Vec::with_capacity(alloc, proofs.len())?;
+    for thm in proofs {
+        all.push(thm)?;
+    }
+    Ok(all)
+}
+
+// What stands for a rule's variables, to be kept.
+fn kept_parts(alloc: Global, parts: &[Part<'_>]) -> Result<Vec<Inst>, AllocError>
+    ensures { IfOk result (λ v. instances_of v.items ≡ parts_of parts.now) }
+{
+    let mut kept = Vec::with_capacity(alloc, parts.len())?;
+    for part in parts {
+        kept.push(kept_part(part)?)?;
+    }
+    Ok(kept)
+}
+
+fn kept_part(part: &Part<'_>) -> Result<Inst, AllocError>
+    ensures { IfOk result (λ kept. instance_of kept ≡ part_of part.now) }
+{
+    match part {
+        Part::Pat(p) => Ok(Inst::Pat(p.share()?)),
+        Part::Var(x) => Ok(Inst::Var(*x)),
+        Part::Sort(s) => Ok(Inst::Sort(*s)),
+    }
+}
+
+// Whether the pattern is one of these.
+fn contains(items: &[MPat], p: &MPat) -> bool
+    ensures { IsTrue result ↔ Contains items.now p.now }
+{
+    items.iter().any(|item| item.same(p))
+}
+
+// Adds each of the patterns that is not there yet.
+fn add_new(old: &mut Vec<MPat>, from: &[MPat]) -> Result<(), AllocError>
+    ensures { OnOk result (AddsNew old.old.items from.now old.new.items) }
+{
+    for p in from {
+        if !contains(old, p) {
+            old.push(p.share()?)?;
+        }
+    }
+    Ok(())
+}
+
+// The hypotheses of the theorems, in order, each once.
+fn merged(alloc: Global, premises: &[&Thm]) -> Result<Vec<MPat>, AllocError>
+    ensures merged { IfOk result (λ v. AddsNew [] (all_hypotheses (theorems_of premises.now)) v.items) }
+    ensures kept { OnOk result (AreKept (theorems_of premises.now)) }
+{
+    let mut all = Vec::new(alloc);
+    for thm in premises {
+        add_new(&mut all, thm.hypotheses())?;
+    }
+    Ok(all)
+}
+
+// The derivations of the theorems, in order.
+fn kept_derivations(alloc: Global, premises: &[&Thm]) -> Result<Vec<Deriv>, AllocError>
+    ensures { IfOk result (λ v. derivations v.items ≡ all_derivations (theorems_of premises.now)) }
+{
+    let mut below = Vec::with_capacity(alloc, premises.len())?;
+    for thm in premises {
+        below.push(thm.derivation().share()?)?;
+    }
+    Ok(below)
+}

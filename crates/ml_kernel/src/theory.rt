@@ -1,0 +1,75 @@
+// Theories: lists of axioms.
+ghost use Rattle.std.specs.Prelude.{◌≡◌, ◌<◌, [], ◌∷◌, ◌++◌, length, slice_get, IfOk, OnOk, OnErr, Some};
+ghost use Rattle.ml_kernel.specs.Lemmas.{HasNoMeta, HaveNoMetas};
+ghost use Rattle.ml_kernel.specs.Theorems.{own_axiom};
+
+use crate::derivations::AxiomNo;
+use crate::theorems::Thm;
+use ml_pat::MPat;
+use std::alloc::{AllocError, Global};
+use std::marker::Model;
+
+/// The axioms that theorems may rest on, each with the number of its place. No pattern variable stands in them.
+#[derive(Drop)]
+pub struct Theory {
+    axioms: Vec<MPat>,
+}
+
+impl Model for Theory {
+    ghost use Rattle.std.specs.Prelude.{List};
+    ghost use Rattle.std.specs.Coded.{coded_list};
+    ghost use Rattle.ml_pat.specs.Patterns.{Pattern};
+    ghost use Rattle.ml_pat.specs.PatternCode.{pattern_code};
+    ghost use Rattle.ml_kernel.specs.Lemmas.{HaveNoMetas};
+
+    ghost Value = { List Pattern };
+
+    ghost coded = { coded_list pattern_code };
+
+    ghost view = { λ t. t.axioms.items };
+
+    ghost invariant = { λ t. HaveNoMetas t.axioms.items };
+}
+
+impl Theory {
+    /// No axioms.
+    pub fn new(alloc: Global) -> Self
+        ensures { result ≡ [] }
+    {
+        Theory {
+            axioms: Vec::new(alloc),
+        }
+    }
+
+    /// Adds a pattern as an axiom, and gives its number. Where memory is wanting, nothing changes.
+    pub fn add(&mut self, pattern: MPat) -> Result<AxiomNo, AllocError>
+        requires { HasNoMeta pattern }
+        ensures number { IfOk result (λ no. no.0 ≡ length self.old) }
+        ensures axioms { OnOk result (self.new ≡ self.old ++ pattern ∷ []) }
+        ensures err { OnErr result (self.new ≡ self.old) }
+    {
+        let number = AxiomNo(self.axioms.len() as u64);
+        self.axioms.push(pattern)?;
+        Ok(number)
+    }
+
+    /// The axiom as a theorem: it has no hypotheses, and keeps this axiom alone.
+    pub fn axiom(&self, alloc: Global, no: AxiomNo) -> Result<Thm, AllocError>
+        requires { no.0 < length self.now }
+        ensures conclusion { IfOk result (λ t. slice_get self.now no.0 ≡ Some t.conclusion) }
+        ensures hypotheses { IfOk result (λ t. t.hypotheses ≡ []) }
+        ensures derivation { IfOk result (λ t. t.derivation ≡ own_axiom no.0 t.conclusion) }
+    {
+        let pattern = self.at(no).share()?;
+        Thm::of_axiom(alloc, no, pattern)
+    }
+
+    // The axiom with this number.
+    fn at(&self, no: AxiomNo) -> &MPat
+        requires { no.0 < length self.now }
+        ensures axiom { slice_get self.now no.0 ≡ Some result.now }
+        ensures no_meta { HasNoMeta result.now }
+    {
+        &self.axioms[no.0 as usize]
+    }
+}

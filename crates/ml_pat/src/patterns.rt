@@ -1,0 +1,256 @@
+// Patterns of matching logic, shared and not copied.
+ghost use Rattle.std.specs.Prelude.{◌≡◌, ◌↔◌, IfOk, IsTrue};
+ghost use Rattle.ml_pat.specs.Patterns.{bot, top, imp, not, and, or, equal, member, fun, ex, all, app, at_sort, next, ev, var, meta, constant};
+ghost use Rattle.ml_pat.specs.PatternView.{pattern_of};
+
+use crate::numbers::{ConstNo, MSort, VarNo};
+use std::alloc::{AllocError, Global};
+use std::marker::Model;
+use std::rc::Rc;
+
+/// A pattern. Contracts see it as a plain `Pattern`.
+#[cycle(pattern)]
+#[derive(Drop)]
+pub struct MPat {
+    node: Rc<MForm>,
+}
+
+/// The form at the root of a pattern, with its parts.
+#[cycle(pattern)]
+#[derive(Drop)]
+pub enum MForm {
+    /// Nothing.
+    Bot,
+    /// Everything.
+    Top,
+    /// An implication.
+    Imp(MPat, MPat),
+    /// A negation.
+    Not(MPat),
+    /// A conjunction.
+    And(MPat, MPat),
+    /// A disjunction.
+    Or(MPat, MPat),
+    /// The two are equal.
+    Equal(MPat, MPat),
+    /// The first is an element of the second.
+    Member(MPat, MPat),
+    /// The pattern is one element of the sort.
+    Fun(MPat, MSort),
+    /// For some element of the sort.
+    Ex(VarNo, MSort, MPat),
+    /// For each element of the sort.
+    All(VarNo, MSort, MPat),
+    /// The first applied to the second.
+    App(MPat, MPat),
+    /// The pattern at a sort argument.
+    At(MPat, MSort),
+    /// What makes a step to the pattern.
+    Next(MPat),
+    /// What comes to the pattern in steps, or is in it.
+    Ev(MPat),
+    /// An object variable.
+    Var(VarNo),
+    /// A pattern variable of a lemma.
+    Meta(u32),
+    /// A symbol or a value.
+    Const(ConstNo),
+}
+
+impl Model for MPat {
+    ghost use Rattle.ml_pat.specs.Patterns.{Pattern, forms_in};
+    ghost use Rattle.ml_pat.specs.PatternCode.{pattern_code};
+
+    ghost Value = { Pattern };
+
+    ghost coded = { pattern_code };
+
+    ghost use Rattle.ml_pat.specs.PatternView.{whole_pattern};
+
+    ghost view = { whole_pattern };
+
+    ghost size = { forms_in };
+
+    ghost use Rattle.std.proofs.Common.{arith};
+    ghost use Rattle.ml_pat.specs.PatternSize.{deep-forms_in};
+
+    ghost size_decreases = { λ a h. Prim.omega (arith, deep-forms_in a.node.value) };
+}
+
+impl MPat {
+    // The pattern of a form.
+    fn of(alloc: Global, form: MForm) -> Result<MPat, AllocError>
+        ensures { IfOk result (λ made. made ≡ pattern_of form) }
+    {
+        let node = Rc::new(alloc, form)?;
+        Ok(MPat { node })
+    }
+
+    /// Nothing.
+    pub fn bot(alloc: Global) -> Result<MPat, AllocError>
+        ensures { IfOk result (λ made. made ≡ bot) }
+    {
+        MPat::of(alloc, MForm::Bot)
+    }
+
+    /// Everything.
+    pub fn top(alloc: Global) -> Result<MPat, AllocError>
+        ensures { IfOk result (λ made. made ≡ top) }
+    {
+        MPat::of(alloc, MForm::Top)
+    }
+
+    /// The implication from p to q.
+    pub fn imp(alloc: Global, p: &MPat, q: &MPat) -> Result<MPat, AllocError>
+        ensures { IfOk result (λ made. made ≡ imp p.now q.now) }
+    {
+        MPat::of(alloc, MForm::Imp(p.share()?, q.share()?))
+    }
+
+    /// The negation.
+    pub fn not(alloc: Global, p: &MPat) -> Result<MPat, AllocError>
+        ensures { IfOk result (λ made. made ≡ not p.now) }
+    {
+        MPat::of(alloc, MForm::Not(p.share()?))
+    }
+
+    /// The conjunction of p and q.
+    pub fn and(alloc: Global, p: &MPat, q: &MPat) -> Result<MPat, AllocError>
+        ensures { IfOk result (λ made. made ≡ and p.now q.now) }
+    {
+        MPat::of(alloc, MForm::And(p.share()?, q.share()?))
+    }
+
+    /// The disjunction of p and q.
+    pub fn or(alloc: Global, p: &MPat, q: &MPat) -> Result<MPat, AllocError>
+        ensures { IfOk result (λ made. made ≡ or p.now q.now) }
+    {
+        MPat::of(alloc, MForm::Or(p.share()?, q.share()?))
+    }
+
+    /// That p and q are equal.
+    pub fn equal(alloc: Global, p: &MPat, q: &MPat) -> Result<MPat, AllocError>
+        ensures { IfOk result (λ made. made ≡ equal p.now q.now) }
+    {
+        MPat::of(alloc, MForm::Equal(p.share()?, q.share()?))
+    }
+
+    /// That p is an element of q.
+    pub fn member(alloc: Global, p: &MPat, q: &MPat) -> Result<MPat, AllocError>
+        ensures { IfOk result (λ made. made ≡ member p.now q.now) }
+    {
+        MPat::of(alloc, MForm::Member(p.share()?, q.share()?))
+    }
+
+    /// That p is one element of the sort s.
+    pub fn fun(alloc: Global, p: &MPat, s: MSort) -> Result<MPat, AllocError>
+        ensures { IfOk result (λ made. made ≡ fun p.now s.0) }
+    {
+        MPat::of(alloc, MForm::Fun(p.share()?, s))
+    }
+
+    /// That p holds for some x of the sort s.
+    pub fn ex(alloc: Global, x: VarNo, s: MSort, p: &MPat) -> Result<MPat, AllocError>
+        ensures { IfOk result (λ made. made ≡ ex x.0 s.0 p.now) }
+    {
+        MPat::of(alloc, MForm::Ex(x, s, p.share()?))
+    }
+
+    /// That p holds for each x of the sort s.
+    pub fn all(alloc: Global, x: VarNo, s: MSort, p: &MPat) -> Result<MPat, AllocError>
+        ensures { IfOk result (λ made. made ≡ all x.0 s.0 p.now) }
+    {
+        MPat::of(alloc, MForm::All(x, s, p.share()?))
+    }
+
+    /// p applied to q.
+    pub fn app(alloc: Global, p: &MPat, q: &MPat) -> Result<MPat, AllocError>
+        ensures { IfOk result (λ made. made ≡ app p.now q.now) }
+    {
+        MPat::of(alloc, MForm::App(p.share()?, q.share()?))
+    }
+
+    /// p at the sort argument s.
+    pub fn at(alloc: Global, p: &MPat, s: MSort) -> Result<MPat, AllocError>
+        ensures { IfOk result (λ made. made ≡ at_sort p.now s.0) }
+    {
+        MPat::of(alloc, MForm::At(p.share()?, s))
+    }
+
+    /// What makes a step to p.
+    pub fn next(alloc: Global, p: &MPat) -> Result<MPat, AllocError>
+        ensures { IfOk result (λ made. made ≡ next p.now) }
+    {
+        MPat::of(alloc, MForm::Next(p.share()?))
+    }
+
+    /// What comes to p in steps, or is in p.
+    pub fn ev(alloc: Global, p: &MPat) -> Result<MPat, AllocError>
+        ensures { IfOk result (λ made. made ≡ ev p.now) }
+    {
+        MPat::of(alloc, MForm::Ev(p.share()?))
+    }
+
+    /// The object variable x.
+    pub fn var(alloc: Global, x: VarNo) -> Result<MPat, AllocError>
+        ensures { IfOk result (λ made. made ≡ var x.0) }
+    {
+        MPat::of(alloc, MForm::Var(x))
+    }
+
+    /// The pattern variable with this number.
+    pub fn meta(alloc: Global, i: u32) -> Result<MPat, AllocError>
+        ensures { IfOk result (λ made. made ≡ meta i) }
+    {
+        MPat::of(alloc, MForm::Meta(i))
+    }
+
+    /// The symbol or value with this number.
+    pub fn constant(alloc: Global, c: ConstNo) -> Result<MPat, AllocError>
+        ensures { IfOk result (λ made. made ≡ constant c.0) }
+    {
+        MPat::of(alloc, MForm::Const(c))
+    }
+
+    /// The form at the root, with its parts.
+    pub fn form(&self) -> &MForm
+        ensures { pattern_of result.now ≡ self.now }
+    {
+        &self.node
+    }
+
+    /// The same pattern, shared: it costs the same for every pattern.
+    pub fn share(&self) -> Result<MPat, AllocError>
+        ensures { IfOk result (λ shared. shared ≡ self.now) }
+    {
+        let node = self.node.clone()?;
+        Ok(MPat { node })
+    }
+
+    /// Whether both are the same pattern, with the same variables at the same places.
+    pub fn same(&self, other: &MPat) -> bool
+        ensures { IsTrue result ↔ (self.now ≡ other.now) }
+    {
+        match (self.form(), other.form()) {
+            (MForm::Bot, MForm::Bot) | (MForm::Top, MForm::Top) => true,
+            (MForm::Imp(p, q), MForm::Imp(r, t))
+            | (MForm::And(p, q), MForm::And(r, t))
+            | (MForm::Or(p, q), MForm::Or(r, t))
+            | (MForm::Equal(p, q), MForm::Equal(r, t))
+            | (MForm::Member(p, q), MForm::Member(r, t))
+            | (MForm::App(p, q), MForm::App(r, t)) => p.same(r) && q.same(t),
+            (MForm::Not(p), MForm::Not(r))
+            | (MForm::Next(p), MForm::Next(r))
+            | (MForm::Ev(p), MForm::Ev(r)) => p.same(r),
+            (MForm::Fun(p, s), MForm::Fun(r, v)) | (MForm::At(p, s), MForm::At(r, v)) => {
+                s == v && p.same(r)
+            }
+            (MForm::Ex(x, s, p), MForm::Ex(y, v, r)) | (MForm::All(x, s, p), MForm::All(y, v, r)) =>
+                { x == y && s == v && p.same(r) }
+            (MForm::Var(x), MForm::Var(y)) => x == y,
+            (MForm::Meta(i), MForm::Meta(j)) => i == j,
+            (MForm::Const(c), MForm::Const(d)) => c == d,
+            _ => false,
+        }
+    }
+}
