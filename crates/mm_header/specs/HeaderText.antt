@@ -1,0 +1,76 @@
+-- The text of the header: the declarations of its constants and variables, the `$f` of each variable,
+-- and row after row a statement `$a`. A row with pairs or hypotheses stands in a block with its `$d`s
+-- and its `$e`s, which are labelled `LABEL.1` and `LABEL.2`.
+use Rattle.std.specs.Prelude.{ℕ, Bool, true, false, not, ◌&&◌, ◌==◌, if◌then◌else◌, List, [], ◌∷◌, ◌++◌, codes}
+use Rattle.std.specs.List.{flat_map, zip}
+use Rattle.mm_header.specs.Header.{Row, header_rows}
+
+abbrev pub constants_text : List ℕ
+constants_text = codes "( ) \\bot \\top \\imp \\not \\and \\or \\eq \\mem \\fun \\ex \\all \\app \\at \\next \\ev #Pattern #Sort #Var #Sub #Fresh #Pred |-"
+
+abbrev pub variables_text : List ℕ
+variables_text = codes "p q r t u x y s v"
+
+-- a label, a typecode and a variable
+abbrev pub types_texts : List (List ℕ × List ℕ × List ℕ)
+types_texts =
+    (codes "fp", codes "#Pattern", codes "p") ∷
+    (codes "fq", codes "#Pattern", codes "q") ∷
+    (codes "fr", codes "#Pattern", codes "r") ∷
+    (codes "ft", codes "#Pattern", codes "t") ∷
+    (codes "fu", codes "#Pattern", codes "u") ∷
+    (codes "fx", codes "#Var", codes "x") ∷
+    (codes "fy", codes "#Var", codes "y") ∷
+    (codes "fs", codes "#Sort", codes "s") ∷
+    (codes "fv", codes "#Sort", codes "v") ∷
+    []
+
+-- ` $.` and the line's end
+abbrev pub line_end : List ℕ
+line_end = codes " $.\n"
+
+-- `#` stands for itself, and a pattern behind `|-`
+abbrev pub turnstile_text : List ℕ → List ℕ
+turnstile_text [] = codes "|- "
+turnstile_text (b ∷ bytes) = if b == 35 then [] else codes "|- "
+
+abbrev pub expression_text : List ℕ → List ℕ
+expression_text text = turnstile_text text ++ text
+
+abbrev pub endings : List (List ℕ)
+endings = codes ".1" ∷ codes ".2" ∷ []
+
+-- the hypotheses with the ends of their labels
+abbrev pub labelled : Row → List (List ℕ × List ℕ)
+labelled r = zip endings r.hypotheses
+
+abbrev pub apart_line : List ℕ × List ℕ → List ℕ
+apart_line (x, y) = codes "$d " ++ x ++ codes " " ++ y ++ line_end
+
+abbrev pub hypothesis_line : List ℕ → List ℕ × List ℕ → List ℕ
+hypothesis_line label (ending, text) = label ++ ending ++ codes " $e " ++ expression_text text ++ line_end
+
+abbrev pub statement_line : Row → List ℕ
+statement_line r = r.label ++ codes " $a " ++ expression_text r.statement ++ line_end
+
+abbrev pub scope_lines : Row → List ℕ
+scope_lines r = flat_map apart_line r.apart ++ flat_map (hypothesis_line r.label) (labelled r)
+
+abbrev pub is_nil : {A : Type 0} → List A → Bool
+is_nil [] = true
+is_nil (x ∷ xs) = false
+
+abbrev pub is_single : Row → Bool
+is_single r = is_nil r.apart && is_nil r.hypotheses
+
+abbrev pub row_text : Row → List ℕ
+row_text r = if is_single r then statement_line r else codes "${\n" ++ scope_lines r ++ statement_line r ++ codes "$}\n"
+
+abbrev pub type_line : List ℕ × List ℕ × List ℕ → List ℕ
+type_line (label, typecode, variable) = label ++ codes " $f " ++ typecode ++ codes " " ++ variable ++ line_end
+
+abbrev pub declarations_text : List ℕ
+declarations_text = codes "$c " ++ constants_text ++ line_end ++ codes "$v " ++ variables_text ++ line_end ++ flat_map type_line types_texts
+
+unfoldable pub header_bytes : List ℕ
+header_bytes = declarations_text ++ flat_map row_text header_rows
