@@ -1,5 +1,6 @@
 pub mod Counts
 pub mod End
+pub mod FirstFile
 pub mod MemDesk
 pub mod MemSink
 pub mod Memory

@@ -1,7 +1,7 @@
 -- What a desk in memory tells.
-use Rattle.std.specs.Prelude.{ℕ, List, drop, Option, Some}
+use Rattle.std.specs.Prelude.{ℕ, List, Option, Some}
 use Rattle.desk_io.specs.Told.{Told}
-use Rattle.desk_io.specs.Memory.{named_bytes, content_of, passed_of}
+use Rattle.desk_io.specs.Memory.{named_bytes, unread_part, created_name}
 use Rattle.desk_io.specs.declared.mem_desk.MemDesk.{MemDesk}
 
 -- its files, each by the bytes of its name and its content
@@ -10,7 +10,11 @@ files_of desk = named_bytes desk.files.items
 
 -- what is unread of the opened file
 abbrev pub unread_of : MemDesk → List ℕ
-unread_of desk = drop (passed_of desk.reading) (content_of (files_of desk) desk.reading)
+unread_of desk = unread_part (files_of desk) desk.reading
+
+-- the name of the created file
+abbrev pub created_of : MemDesk → Option (List ℕ)
+created_of desk = created_name desk.created (files_of desk)
 
 abbrev pub told_of : MemDesk → Option Told
-told_of desk = Some (record { files = files_of desk; unread = unread_of desk })
+told_of desk = Some (record { files = files_of desk; unread = unread_of desk; created = created_of desk })

@@ -1,5 +1,6 @@
--- Files in memory, and how far one of them is read.
-use Rattle.std.specs.Prelude.{ℕ, ◌+◌, List, [], map, slice_index_or, Option, Some, None, String, string_bytes}
+-- Files in memory: how far one of them is read, and which is created. The created file is the first.
+use Rattle.std.specs.Prelude.{ℕ, ◌+◌, ◌-◌, Bool, true, false, if◌then◌else◌, List, [], ◌∷◌, ◌++◌, take, drop, map, nat_eq, slice_index_or, Option, Some, None, String, string_bytes}
+use Rattle.std.specs.Cmp.Lexicographic.{pointwise}
 use Rattle.std.specs.Global.{Vec, Global}
 use Rattle.desk_io.specs.declared.mem_desk.Place.{Place}
 
@@ -21,3 +22,28 @@ passed_of (Some place) = place.passed
 abbrev pub files_needed : Option Place → ℕ
 files_needed None = 0
 files_needed (Some place) = place.file + 1
+
+-- how many bytes the opened file had when it was opened, for a write may add to it
+abbrev pub end_of : Option Place → ℕ
+end_of None = 0
+end_of (Some place) = place.end
+
+-- what is unread of the opened file
+abbrev pub unread_part : List (List ℕ × List ℕ) → Option Place → List ℕ
+unread_part files reading = take (end_of reading - passed_of reading) (drop (passed_of reading) (content_of files reading))
+
+-- the name of the created file, where one is created
+abbrev pub created_name : Bool → List (List ℕ × List ℕ) → Option (List ℕ)
+created_name false files = None
+created_name true [] = None
+created_name true (file ∷ files) = Some file.0
+
+-- the files without the first one of that name
+abbrev pub without : List (List ℕ × List ℕ) → List ℕ → List (List ℕ × List ℕ)
+without [] name = []
+without (file ∷ files) name = if pointwise nat_eq file.0 name then files else file ∷ without files name
+
+-- the files, where the first one has these bytes more
+abbrev pub grown : List (List ℕ × List ℕ) → List ℕ → List (List ℕ × List ℕ)
+grown [] bytes = []
+grown (file ∷ files) bytes = (file.0, file.1 ++ bytes) ∷ files

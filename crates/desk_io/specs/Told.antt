@@ -1,14 +1,16 @@
 -- What a desk tells of itself, and what its calls do to that. A clause on a desk that tells nothing
 -- says nothing.
-use Rattle.std.specs.Prelude.{◌≡◌, ℕ, ◌<◌, ◌≤◌, Bool, true, false, if◌then◌else◌, List, [], ◌∷◌, ◌++◌, length, drop, Option, Some, None, Result, Ok, Err, nat_eq}
+use Rattle.std.specs.Prelude.{◌≡◌, ◌≢◌, ℕ, ◌<◌, ◌≤◌, Bool, true, false, if◌then◌else◌, List, [], ◌∷◌, ◌++◌, length, drop, Option, Some, None, Result, Ok, Err, nat_eq}
 use Rattle.std.specs.Cmp.Lexicographic.{pointwise}
 use Rattle.desk_io.specs.declared.desk.DeskFault.{DeskFault}
 
--- the files, each by the bytes of its name and its content, and what is unread of the opened file,
--- which is nothing where none is opened
+-- the files, each by the bytes of its name and its content; what is unread of the opened file, which
+-- is nothing where none is opened; and the name of the created file, where one is created, whose
+-- bytes are those of the file of that name
 pub record Told : Type 0 where
   pub files : List (List ℕ × List ℕ)
   pub unread : List ℕ
+  pub created : Option (List ℕ)
 
 -- the content of the first file of that name
 abbrev pub file_of : List (List ℕ × List ℕ) → List ℕ → Option (List ℕ)
@@ -25,7 +27,7 @@ abbrev pub Same : Option Told → Option Told → Type 0
 Same None new = Unit {0}
 Same (Some old) new = new ≡ Some old
 
--- it tells the same files as before
+-- it tells all as before but what is unread
 abbrev pub KeepsFiles : Option Told → Option Told → Type 0
 KeepsFiles None new = Unit {0}
 KeepsFiles (Some old) new = (unread : List ℕ) × (new ≡ Some (record old { unread = unread }))
@@ -81,3 +83,34 @@ PassedMany (Some old) new n = (n ≤ length old.unread) × (new ≡ Some (record
 -- a list grew by bytes that were the first unread ones, and are unread no longer
 abbrev pub PassedTo : Option Told → Option Told → List ℕ → List ℕ → Type 0
 PassedTo told told' list list' = (bytes : List ℕ) × (list' ≡ list ++ bytes) × Passed told told' bytes
+
+-- it tells a created file, by the name of a file that is there, exactly where one is created
+abbrev pub TellsCreated : Bool → Option Told → Type 0
+TellsCreated created None = Unit {0}
+TellsCreated false (Some told) = told.created ≡ None
+TellsCreated true (Some told) = (name : List ℕ) × (content : List ℕ) × (told.created ≡ Some name) × (file_of told.files name ≡ Some content)
+
+-- the file of that name has this content now, and each other file is as before
+abbrev pub PutsFile : List (List ℕ × List ℕ) → List (List ℕ × List ℕ) → List ℕ → List ℕ → Type 0
+PutsFile old new name content = (file_of new name ≡ Some content) × ((other : List ℕ) → other ≢ name → file_of new other ≡ file_of old other)
+
+-- the file of that name is empty now and the created one, and nothing is unread
+abbrev pub Creates : Option Told → Option Told → List ℕ → Type 0
+Creates None new name = Unit {0}
+Creates (Some old) new name = (files : List (List ℕ × List ℕ)) × PutsFile old.files files name [] × (new ≡ Some (record { files = files; unread = []; created = Some name }))
+
+-- the created file grew by these bytes
+abbrev pub Writes : Option Told → Option Told → List ℕ → Type 0
+Writes None new bytes = Unit {0}
+Writes (Some old) new bytes = (name : List ℕ) × (content : List ℕ) × (files : List (List ℕ × List ℕ)) × (old.created ≡ Some name) × (file_of old.files name ≡ Some content)
+    × PutsFile old.files files name (content ++ bytes) × (new ≡ Some (record old { files = files }))
+
+-- the created file grew by some of these bytes, from their front
+abbrev pub WritesFront : Option Told → Option Told → List ℕ → Type 0
+WritesFront None new bytes = Unit {0}
+WritesFront (Some old) new bytes = (front : List ℕ) × (rest : List ℕ) × (bytes ≡ front ++ rest) × Writes (Some old) new front
+
+-- no file is the created one any longer
+abbrev pub Closes : Option Told → Option Told → Type 0
+Closes None new = Unit {0}
+Closes (Some old) new = new ≡ Some (record old { created = None })

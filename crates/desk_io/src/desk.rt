@@ -1,6 +1,6 @@
-// Where files come from.
-ghost use Rattle.std.specs.Prelude.{◌≡◌, ℕ, ◌<◌, ◌≤◌, Option, length, take, IfOk, OnErr, IsErrOf};
-ghost use Rattle.desk_io.specs.Told.{Told, Opens, Passed, AtEnd, Same};
+// Where files come from and go to.
+ghost use Rattle.std.specs.Prelude.{◌≡◌, ℕ, Bool, true, false, ◌<◌, ◌≤◌, Option, length, take, is_ok, IsTrue, IsFalse, IfOk, OnOk, OnErr, IsErrOf};
+ghost use Rattle.desk_io.specs.Told.{Told, Opens, Passed, AtEnd, Same, TellsCreated, Creates, Writes, Closes};
 ghost use Rattle.desk_io.specs.Counts.{Rose};
 
 /// Why a call on a desk or a sink did nothing.
@@ -13,20 +13,29 @@ pub enum DeskFault {
     Memory,
 }
 
-/// A place with named files, of which one at a time is read.
+/// A place with named files. One at a time is read, and one at a time is created and written. Each
+/// call leaves as it was all that its entry does not name.
 pub trait Desk {
-    // Its files and what is unread of the opened one, where it tells them.
+    // Its files, what is unread of the opened one and the name of the created one, where it tells them.
     ghost told: { Self → Option Told };
+
+    // Whether a file is created.
+    ghost created: { Self → Bool };
 
     // How many faults `open_file` and `read` have had. It stands still at 2^64 - 1.
     ghost read_faults: { Self → ℕ };
 
+    // How many faults `create_file`, `write` and `close_file` have had. It stands still at 2^64 - 1.
+    ghost write_faults: { Self → ℕ };
+
     /// Opens the named file at its first byte, and answers whether there is such a file.
-    /// After `false` or a fault no file is open.
+    /// After `false` or a fault no file is open. The created file may be opened too.
     fn open_file(&mut self, name: &str) -> Result<bool, DeskFault>
         ensures opens { Opens (told self.old) (told self.new) name.now result }
         ensures failed { IsErrOf result DeskFault.Failed → Rose (read_faults self.old) (read_faults self.new) }
-        ensures counts { read_faults self.old ≤ read_faults self.new };
+        ensures counts { read_faults self.old ≤ read_faults self.new }
+        ensures writes { write_faults self.new ≡ write_faults self.old }
+        ensures created { created self.new ≡ created self.old };
 
     /// Reads the next bytes of the opened file to the front of `buf`, and answers how many: 0 only
     /// where none is left or no file is open. After a fault what is unread is as before.
@@ -37,5 +46,44 @@ pub trait Desk {
         ensures end { IfOk result (λ n. n ≡ 0 → AtEnd (told self.old)) }
         ensures fault { OnErr result (Same (told self.old) (told self.new)) }
         ensures failed { IsErrOf result DeskFault.Failed → Rose (read_faults self.old) (read_faults self.new) }
-        ensures counts { read_faults self.old ≤ read_faults self.new };
+        ensures counts { read_faults self.old ≤ read_faults self.new }
+        ensures writes { write_faults self.new ≡ write_faults self.old }
+        ensures created { created self.new ≡ created self.old };
+
+    /// Makes the named file empty, whether or not there was one, and makes it the created one. No file
+    /// is open then. After a fault no file is created, and all is as before.
+    fn create_file(&mut self, name: &str) -> Result<(), DeskFault>
+        requires { IsFalse (created self.old) }
+        ensures creates { OnOk result (Creates (told self.old) (told self.new) name.now) }
+        ensures fault { OnErr result (Same (told self.old) (told self.new)) }
+        ensures created { created self.new ≡ is_ok result }
+        ensures failed { IsErrOf result DeskFault.Failed → Rose (write_faults self.old) (write_faults self.new) }
+        ensures counts { write_faults self.old ≤ write_faults self.new }
+        ensures reads { read_faults self.new ≡ read_faults self.old };
+
+    /// Appends the first bytes of `piece` to the created file, and answers how many: 0 only where the
+    /// piece is empty. After a fault the file is as before.
+    fn write(&mut self, piece: &[u8]) -> Result<usize, DeskFault>
+        requires { IsTrue (created self.old) }
+        ensures within { IfOk result (λ n. n ≤ length piece.now) }
+        ensures some { IfOk result (λ n. 0 < length piece.now → 0 < n) }
+        ensures writes { IfOk result (λ n. Writes (told self.old) (told self.new) (take n piece.now)) }
+        ensures fault { OnErr result (Same (told self.old) (told self.new)) }
+        ensures created { IsTrue (created self.new) }
+        ensures failed { IsErrOf result DeskFault.Failed → Rose (write_faults self.old) (write_faults self.new) }
+        ensures counts { write_faults self.old ≤ write_faults self.new }
+        ensures reads { read_faults self.new ≡ read_faults self.old };
+
+    /// Ends the writing of the created file, which keeps its bytes. No file is created then, after a
+    /// fault neither.
+    fn close_file(&mut self) -> Result<(), DeskFault>
+        requires { IsTrue (created self.old) }
+        ensures closes { Closes (told self.old) (told self.new) }
+        ensures created { IsFalse (created self.new) }
+        ensures failed { IsErrOf result DeskFault.Failed → Rose (write_faults self.old) (write_faults self.new) }
+        ensures counts { write_faults self.old ≤ write_faults self.new }
+        ensures reads { read_faults self.new ≡ read_faults self.old };
+
+    // Where it tells its files, the created one is among them.
+    ghost tells_created: { (desk : Self) → TellsCreated (created desk) (told desk) };
 }

@@ -1,52 +1,65 @@
 // A desk in memory.
-ghost use Rattle.std.specs.Prelude.{◌≡◌, ◌<◌, ◌≤◌, [], length, take, min, vec_len, string_bytes, option_copied, nat_eq};
+ghost use Rattle.std.specs.Prelude.{◌≡◌, ◌∷◌, ◌<◌, ◌≤◌, [], false, length, take, min, vec_len, string_bytes, option_copied, nat_eq, IsTrue, IsFalse, OnOk, OnErr};
 ghost use Rattle.std.specs.List.{position};
 ghost use Rattle.std.specs.Cmp.Lexicographic.{pointwise};
 ghost use Rattle.desk_io.specs.Told.{file_of, NamesDiffer};
-ghost use Rattle.desk_io.specs.Memory.{named_bytes, content_of, passed_of, files_needed};
+ghost use Rattle.desk_io.specs.Memory.{named_bytes, content_of, passed_of, end_of, files_needed, without, grown};
+ghost use Rattle.desk_io.specs.FirstFile.{tells_first};
 
 use crate::desk::{Desk, DeskFault};
 use crate::faults::{FaultPlan, raised};
+use std::alloc::AllocError;
 
-/// How far a file is read: its place among the files, and how many of its bytes are passed.
+/// How far a file is read: its place among the files, how many of its bytes are passed, and how many
+/// it had when it was opened.
 #[derive(Clone, Copy)]
 struct Place {
     file: usize,
     passed: usize,
+    end: usize,
 }
 
-/// A desk over files in memory, for tests. It tells its files, passes a few bytes a call, and fails
-/// the calls that it is asked to fail.
+/// A desk over files in memory, for tests. It tells its files, passes and takes a few bytes a call,
+/// and fails the calls that it is asked to fail. The created file stands first.
 #[derive(Drop)]
 pub struct MemDesk {
     files: Vec<(String, Vec<u8>)>,
     most: usize,
     plan: FaultPlan,
     reading: Option<Place>,
+    created: bool,
     read_faults: u64,
+    write_faults: u64,
     ghost some: { 0 < most },
     ghost there: { files_needed reading ≤ vec_len files },
-    ghost within: { passed_of reading ≤ length (content_of (named_bytes files.items) reading) },
+    ghost within: { passed_of reading ≤ end_of reading },
+    ghost ended: { end_of reading ≤ length (content_of (named_bytes files.items) reading) },
+    ghost first: { IsTrue created → 0 < vec_len files },
 }
 
 impl MemDesk {
     ghost use Rattle.desk_io.specs.MemDesk.{files_of, unread_of};
 
-    /// A desk with these files, none of them open. A call of `read` passes at most `most` bytes. The
-    /// calls whose numbers, from 0, are in `fail_at` fail; the numbers stop at 2^64 - 1.
+    /// A desk with these files, none of them open or created. A call of `read` passes at most `most`
+    /// bytes, and one of `write` takes at most as many. The calls whose numbers, from 0, are in
+    /// `fail_at` fail; the numbers stop at 2^64 - 1.
     pub fn new(files: Vec<(String, Vec<u8>)>, most: usize, fail_at: Vec<u64>) -> MemDesk
         requires names { NamesDiffer (named_bytes files.items) }
         requires some { 0 < most }
         ensures files { files_of result ≡ named_bytes files.items }
         ensures unread { unread_of result ≡ [] }
+        ensures created { IsFalse (⟦<MemDesk as Desk>⟧.created result) }
         ensures faults { ⟦<MemDesk as Desk>⟧.read_faults result ≡ 0 }
+        ensures write_faults { ⟦<MemDesk as Desk>⟧.write_faults result ≡ 0 }
     {
         MemDesk {
             files,
             most,
             plan: FaultPlan::new(fail_at),
             reading: None,
+            created: false,
             read_faults: 0,
+            write_faults: 0,
         }
     }
 
@@ -62,11 +75,17 @@ impl MemDesk {
 }
 
 impl Desk for MemDesk {
-    ghost use Rattle.desk_io.specs.MemDesk.{told_of};
+    ghost use Rattle.desk_io.specs.MemDesk.{told_of, files_of, unread_of};
 
     ghost told = { told_of };
 
+    ghost created = { λ desk. desk.created };
+
     ghost read_faults = { λ desk. desk.read_faults };
+
+    ghost write_faults = { λ desk. desk.write_faults };
+
+    ghost tells_created = { λ desk. tells_first desk.files (unread_of desk) desk.created desk.first };
 
     fn open_file(&mut self, name: &str) -> Result<bool, DeskFault> {
         self.reading = None;
@@ -76,7 +95,12 @@ impl Desk for MemDesk {
         }
         match position_of(&self.files, name) {
             Some(file) => {
-                self.reading = Some(Place { file, passed: 0 });
+                let end = self.files[file].1.len();
+                self.reading = Some(Place {
+                    file,
+                    passed: 0,
+                    end,
+                });
                 Ok(true)
             }
             None => Ok(false),
@@ -92,12 +116,49 @@ impl Desk for MemDesk {
             return Ok(0);
         };
         let content = self.files[place.file].1.as_slice();
-        let n = pass(&content[place.passed..], buf, self.most);
+        let n = pass(&content[place.passed..place.end], buf, self.most);
         self.reading = Some(Place {
             file: place.file,
             passed: place.passed + n,
+            end: place.end,
         });
         Ok(n)
+    }
+
+    fn create_file(&mut self, name: &str) -> Result<(), DeskFault> {
+        if self.plan.is_to_fail() {
+            self.write_faults = raised(self.write_faults);
+            return Err(DeskFault::Failed);
+        }
+        match put_empty(&mut self.files, name) {
+            Ok(()) => {
+                self.reading = None;
+                self.created = true;
+                Ok(())
+            }
+            Err(_) => Err(DeskFault::Memory),
+        }
+    }
+
+    fn write(&mut self, piece: &[u8]) -> Result<usize, DeskFault> {
+        if self.plan.is_to_fail() {
+            self.write_faults = raised(self.write_faults);
+            return Err(DeskFault::Failed);
+        }
+        let n = piece.len().min(self.most);
+        match append_to_first(&mut self.files, &piece[..n]) {
+            Ok(()) => Ok(n),
+            Err(_) => Err(DeskFault::Memory),
+        }
+    }
+
+    fn close_file(&mut self) -> Result<(), DeskFault> {
+        self.created = false;
+        if self.plan.is_to_fail() {
+            self.write_faults = raised(self.write_faults);
+            return Err(DeskFault::Failed);
+        }
+        Ok(())
     }
 }
 
@@ -117,4 +178,29 @@ fn pass(from: &[u8], to: &mut [u8], most: usize) -> usize
     let n = most.min(from.len().min(to.len()));
     to[..n].copy_from_slice(&from[..n]);
     n
+}
+
+/// Puts an empty file of that name before the others, in place of the one that has the name.
+fn put_empty(files: &mut Vec<(String, Vec<u8>)>, name: &str) -> Result<(), AllocError>
+    ensures put { OnOk result (named_bytes files.new.items ≡ (name.now, []) ∷ without (named_bytes files.old.items) name.now) }
+    ensures fault { OnErr result (files.new.items ≡ files.old.items) }
+{
+    let alloc = *files.allocator();
+    let replaced = position_of(files, name);
+    let file = (String::from_str(alloc, name)?, Vec::new(alloc));
+    files.insert(0, file)?;
+    if let Some(at) = replaced {
+        files.remove(at + 1);
+    }
+    Ok(())
+}
+
+/// Appends the bytes to the first file.
+fn append_to_first(files: &mut Vec<(String, Vec<u8>)>, piece: &[u8]) -> Result<(), AllocError>
+    requires { 0 < vec_len files.old }
+    ensures grown { OnOk result (named_bytes files.new.items ≡ grown (named_bytes files.old.items) piece.now) }
+    ensures fault { OnErr result (named_bytes files.new.items ≡ named_bytes files.old.items) }
+    ensures count { vec_len files.new ≡ vec_len files.old }
+{
+    files[0].1.extend_from_slice(piece)
 }

@@ -66,6 +66,8 @@ pub fn read_file<D: Desk>(
     ensures taken_more { IsErrOf result ReadEnd.TooLarge → Leaves (D.told desk.old) (D.told desk.new) name.now (limit + 1) }
     ensures files { KeepsFiles (D.told desk.old) (D.told desk.new) }
     ensures counts { D.read_faults desk.old ≤ D.read_faults desk.new }
+    ensures writes { D.write_faults desk.new ≡ D.write_faults desk.old }
+    ensures created { D.created desk.new ≡ D.created desk.old }
 {
     match desk.open_file(name) {
         Ok(true) => read_rest(alloc, desk, limit),
@@ -84,6 +86,8 @@ fn read_rest<D: Desk>(alloc: Global, desk: &mut D, limit: usize) -> Result<Vec<u
     ensures failed { IsErrOf result ReadEnd.Failed → Rose (D.read_faults desk.old) (D.read_faults desk.new) }
     ensures files { KeepsFiles (D.told desk.old) (D.told desk.new) }
     ensures counts { D.read_faults desk.old ≤ D.read_faults desk.new }
+    ensures writes { D.write_faults desk.new ≡ D.write_faults desk.old }
+    ensures created { D.created desk.new ≡ D.created desk.old }
 {
     let mut bytes = Vec::new(alloc);
     let mut buffer = [0u8; BUFFER];
@@ -113,6 +117,8 @@ fn read_more<D: Desk>(
     ensures failed { IsErrOf result ReadEnd.Failed → Rose (D.read_faults desk.old) (D.read_faults desk.new) }
     ensures files { KeepsFiles (D.told desk.old) (D.told desk.new) }
     ensures counts { D.read_faults desk.old ≤ D.read_faults desk.new }
+    ensures writes { D.write_faults desk.new ≡ D.write_faults desk.old }
+    ensures created { D.created desk.new ≡ D.created desk.old }
 {
     match desk.read(buffer) {
         Ok(n) => {

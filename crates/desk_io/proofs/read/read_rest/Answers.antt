@@ -1,4 +1,4 @@
-use Rattle.std.proofs.Common.{arith}
+use Rattle.std.proofs.Common.{arith, refl}
 use Rattle.desk_io.proofs.Told.{Passed-nil}
 use Rattle.desk_io.proofs.read.read_rest.Goals as goal
 
@@ -7,4 +7,6 @@ loop-buffer-init g c = record {
   within = omega arith;
   passed = rw c.new-bytes.ensures.items (Passed-nil _);
   counts = omega arith;
+  writes = refl;
+  created = refl;
 }

@@ -1,0 +1,28 @@
+// Writing all bytes to the created file.
+ghost use Rattle.std.specs.Prelude.{◌≡◌, ◌≤◌, IsTrue, OnOk, OnErr, IsErrOf};
+ghost use Rattle.desk_io.specs.Told.{Writes, WritesFront};
+ghost use Rattle.desk_io.specs.Counts.{Rose};
+
+use crate::desk::{Desk, DeskFault};
+
+/// Appends all of `bytes` to the created file, in as many writes as the desk needs. After an error
+/// some bytes from the front of `bytes` are appended, maybe none. The other files, what is unread and
+/// which file is created stay as they were.
+pub fn write_whole<D: Desk>(desk: &mut D, bytes: &[u8]) -> Result<(), DeskFault>
+    requires { IsTrue (D.created desk.old) }
+    ensures written { OnOk result (Writes (D.told desk.old) (D.told desk.new) bytes.now) }
+    ensures prefix { OnErr result (WritesFront (D.told desk.old) (D.told desk.new) bytes.now) }
+    ensures created { IsTrue (D.created desk.new) }
+    ensures failed { IsErrOf result DeskFault.Failed → Rose (D.write_faults desk.old) (D.write_faults desk.new) }
+    ensures counts { D.write_faults desk.old ≤ D.write_faults desk.new }
+    ensures reads { D.read_faults desk.new ≡ D.read_faults desk.old }
+{
+    let mut at = 0;
+    while at < bytes.len() {
+        match desk.write(&bytes[at..]) {
+            Ok(n) => at += n,
+            Err(fault) => return Err(fault),
+        }
+    }
+    Ok(())
+}
