@@ -7,3 +7,4 @@ pub mod Texts
 pub mod Saved
 pub mod Stated
 pub mod WrittenForms
+pub mod Named

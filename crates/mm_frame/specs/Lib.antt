@@ -8,3 +8,4 @@ pub mod Validity
 pub mod Cases
 pub mod FrameLaws
 pub mod Assertions
+pub mod Numbered

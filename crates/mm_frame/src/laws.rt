@@ -1,5 +1,6 @@
 // Laws on the definitions, and the definitions tried on small texts.
 ghost use Rattle.mm_frame.specs.Cases.{TriedCases};
+ghost use Rattle.mm_frame.specs.Numbered.{AppliedIsNamed};
 ghost use Rattle.mm_frame.specs.FrameLaws.{AppendedIsFine, AppendedStates, FineWhereActive, FirstFaultIsComputed, PlainTokensSay, ProofTokensSay, SavingIsExpanding, StacksAreForests, ValidIsFaultless, WrittenIsFine};
 
 /// The definitions say of some small texts what the Metamath book says of them: which are valid, and
@@ -15,6 +16,7 @@ pub fn proof_laws()
     ensures saving { SavingIsExpanding }
     ensures valid { ValidIsFaultless }
     ensures active { FineWhereActive }
+    ensures named { AppliedIsNamed }
     ensures first_fault { FirstFaultIsComputed }
 {}
 

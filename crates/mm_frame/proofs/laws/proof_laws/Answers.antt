@@ -1,6 +1,7 @@
 use Rattle.mm_text.specs.Statements.{statements_of}
 use Rattle.mm_frame.specs.Database.{empty_context}
 use Rattle.mm_frame.proofs.Faults.{fine_where_active, faultless_valid, valid_faultless, IsFirstFaultIn-computed, computed-IsFirstFaultIn}
+use Rattle.mm_frame.proofs.Named.{applied_is_named}
 use Rattle.mm_frame.proofs.Saved.{saving_is_expanding}
 use Rattle.mm_frame.proofs.Stacks.{stack_after-complete, stack_after-sound}
 use Rattle.mm_frame.proofs.laws.proof_laws.Goals as goal
@@ -20,3 +21,6 @@ returns-clause-saving a = saving_is_expanding
 
 pub returns-clause-active : goal.returns-clause-active
 returns-clause-active a = fine_where_active
+
+pub returns-clause-named : goal.returns-clause-named
+returns-clause-named a = applied_is_named
