@@ -8,3 +8,4 @@ pub mod Saved
 pub mod Stated
 pub mod WrittenForms
 pub mod Named
+pub mod Continued

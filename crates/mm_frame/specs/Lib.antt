@@ -9,3 +9,4 @@ pub mod Cases
 pub mod FrameLaws
 pub mod Assertions
 pub mod Numbered
+pub mod Writing

@@ -2,6 +2,7 @@
 ghost use Rattle.mm_frame.specs.Cases.{TriedCases};
 ghost use Rattle.mm_frame.specs.Numbered.{AppliedIsNamed};
 ghost use Rattle.mm_frame.specs.FrameLaws.{AppendedIsFine, AppendedStates, FineWhereActive, FirstFaultIsComputed, PlainTokensSay, ProofTokensSay, SavingIsExpanding, StacksAreForests, ValidIsFaultless, WrittenIsFine};
+ghost use Rattle.mm_frame.specs.Writing.{AxiomIsFine, ContinuedLeaves, LeavesIsValid, TheoremIsFine};
 
 /// The definitions say of some small texts what the Metamath book says of them: which are valid, and
 /// the first fault of the others, one or more of each kind.
@@ -28,4 +29,8 @@ pub fn database_laws()
     ensures written { WrittenIsFine }
     ensures plain { PlainTokensSay }
     ensures proof { ProofTokensSay }
+    ensures valid { LeavesIsValid }
+    ensures continued { ContinuedLeaves }
+    ensures axiom { AxiomIsFine }
+    ensures theorem { TheoremIsFine }
 {}
