@@ -9,3 +9,4 @@ pub mod Stated
 pub mod WrittenForms
 pub mod Named
 pub mod Continued
+pub mod TypedOnce

@@ -1,5 +1,5 @@
 -- A step over numbers gives what the step over their tokens gives.
-use Rattle.std.proofs.Common.{◌≡◌, ℕ, Bool, true, false, List, [], ◌∷◌, ◌++◌, refl, ap, ◌∙◌, sym}
+use Rattle.std.proofs.Common.{subst, ◌≡◌, ℕ, Bool, true, false, List, [], ◌∷◌, ◌++◌, refl, ap, ◌∙◌, sym}
 use Rattle.std.proofs.lemmas.List.{map-append}
 use Rattle.std.proofs.Math.Bool.{and-true}
 use Rattle.std.specs.Cmp.{nat_eq_equiv}
@@ -7,11 +7,12 @@ use Rattle.std.specs.Prelude.{not, ◌&&◌, ◌||◌, nat_eq, if◌then◌else�
 use Rattle.std.specs.List.{list_any, list_all}
 use Rattle.std.specs.Cmp.Lexicographic.{pointwise}
 use Rattle.mm_text.specs.Bytes.{Token}
-use Rattle.mm_frame.specs.Frames.{Hypothesis, Frame}
+use Rattle.mm_frame.specs.Frames.{Hypothesis, Frame, types}
 use Rattle.mm_frame.specs.Database.{Context}
 use Rattle.mm_frame.specs.Proofs.{Expression, substituted, instance_of, typed_variables, symbols_apart, texts_apart, pair_apart, keeps_apart}
 use Rattle.mm_frame.specs.Stack.{same_expression, same_expressions, behind_first, bindings_of, text_of}
-use Rattle.mm_frame.specs.Numbered.{NumberedHypothesis, numbered_floating, numbered_essential, NumberedFrame, NumberedPlace, IsNaming, named, named_hypothesis, IsNamedFrame, IsNamedPlace, NumberedBinding, numbers_behind_first, numbered_bindings, numbered_text, numbers_substituted, same_numbers, begins_with, all_agree, numbered_variables, numbers_apart, numbered_texts_apart, numbered_pair_apart, keeps_numbers_apart, types_number, TypeOnce, AppliedIsNamed}
+use Rattle.mm_frame.specs.Orderly.{TypeOnce}
+use Rattle.mm_frame.specs.Numbered.{NumberedHypothesis, numbered_floating, numbered_essential, NumberedFrame, NumberedPlace, IsNaming, named, named_hypothesis, IsNamedFrame, IsNamedPlace, NumberedBinding, numbers_behind_first, numbered_bindings, numbered_text, numbers_substituted, same_numbers, begins_with, all_agree, numbered_variables, numbers_apart, numbered_texts_apart, numbered_pair_apart, keeps_numbers_apart, AppliedIsNamed}
 
 -- what hypotheses ask for, over numbers
 abbrev numbered_instance : (ℕ → List ℕ) → NumberedHypothesis → List ℕ
@@ -28,6 +29,30 @@ Binds sigma (numbered_floating label typecode variable ∷ hypotheses) (entry �
     (sigma variable ≡ numbers_behind_first entry) × Binds sigma hypotheses entries
 Binds sigma (numbered_essential label statement ∷ hypotheses) (entry ∷ entries) = Binds sigma hypotheses entries
 
+abbrev types_number : ℕ → NumberedHypothesis → Bool
+types_number symbol (numbered_floating label typecode variable) = nat_eq variable symbol
+types_number symbol (numbered_essential label statement) = false
+
+-- no two hypotheses of numbers type one variable
+abbrev NumbersTypeOnce : List NumberedHypothesis → Type 0
+NumbersTypeOnce [] = Unit {0}
+NumbersTypeOnce (numbered_floating label typecode variable ∷ hypotheses) =
+    (list_any (types_number variable) hypotheses ≡ false) × NumbersTypeOnce hypotheses
+NumbersTypeOnce (numbered_essential label statement ∷ hypotheses) = NumbersTypeOnce hypotheses
+
+types-named : (name : ℕ → Token) → IsNaming name → (v : ℕ) (hypotheses : List NumberedHypothesis) → list_any (types (name v)) (map (named_hypothesis name) hypotheses) ≡ list_any (types_number v) hypotheses
+types-named name naming v [] = refl
+types-named name naming v (numbered_floating label typecode variable ∷ hypotheses) =
+    ap (λ b. b || list_any (types (name v)) (map (named_hypothesis name) hypotheses)) (naming variable v)
+    ∙ ap (λ b. nat_eq variable v || b) (types-named name naming v hypotheses)
+types-named name naming v (numbered_essential label statement ∷ hypotheses) = types-named name naming v hypotheses
+
+TypeOnce-named : (name : ℕ → Token) → IsNaming name → (hypotheses : List NumberedHypothesis) → TypeOnce (map (named_hypothesis name) hypotheses) → NumbersTypeOnce hypotheses
+TypeOnce-named name naming [] once = tt
+TypeOnce-named name naming (numbered_floating label typecode variable ∷ hypotheses) once =
+    (sym (types-named name naming variable hypotheses) ∙ once.0, TypeOnce-named name naming hypotheses once.1)
+TypeOnce-named name naming (numbered_essential label statement ∷ hypotheses) once = TypeOnce-named name naming hypotheses once
+
 neither : (a b : Bool) → (a || b) ≡ false → (a ≡ false) × (b ≡ false)
 neither true b h = absurd (cc)
 neither false b h = (refl, h)
@@ -41,7 +66,7 @@ Binds-more b bindings (numbered_floating label typecode variable ∷ hypotheses)
     (rw differs binds.0, Binds-more b bindings hypotheses entries parts.1 binds.1)
 Binds-more b bindings (numbered_essential label statement ∷ hypotheses) (entry ∷ entries) other binds = Binds-more b bindings hypotheses entries other binds
 
-Binds-bindings : (hypotheses : List NumberedHypothesis) (entries : List (List ℕ)) → TypeOnce hypotheses → Binds (numbered_text (numbered_bindings hypotheses entries)) hypotheses entries
+Binds-bindings : (hypotheses : List NumberedHypothesis) (entries : List (List ℕ)) → NumbersTypeOnce hypotheses → Binds (numbered_text (numbered_bindings hypotheses entries)) hypotheses entries
 Binds-bindings [] entries once = tt
 Binds-bindings (h ∷ hypotheses) [] once = tt
 Binds-bindings (numbered_floating label typecode variable ∷ hypotheses) (entry ∷ entries) once =
@@ -157,7 +182,8 @@ option_map-if name true xs = refl
 option_map-if name false xs = refl
 
 pub applied_is_named : AppliedIsNamed
-applied_is_named name p n c f entries naming place frame once =
+applied_is_named name p n c f entries naming place frame types_once =
+    let once : NumbersTypeOnce n.hypotheses = TypeOnce-named name naming n.hypotheses (subst (λ (hs : List Hypothesis). TypeOnce hs) frame.hypotheses types_once) in
     let sigma : Token → Expression = text_of (bindings_of f.hypotheses (map (named name) entries)) in
     let tau : ℕ → List ℕ = numbered_text (numbered_bindings n.hypotheses entries) in
     let same : (v : ℕ) → sigma (name v) ≡ named name (tau v) = λ v. ap (λ (hs : List Hypothesis). text_of (bindings_of hs (map (named name) entries)) (name v)) frame.hypotheses ∙ text_of-named name naming n.hypotheses entries v in

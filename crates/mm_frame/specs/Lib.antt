@@ -10,3 +10,4 @@ pub mod FrameLaws
 pub mod Assertions
 pub mod Numbered
 pub mod Writing
+pub mod Orderly

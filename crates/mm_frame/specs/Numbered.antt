@@ -1,11 +1,12 @@
 -- Frames whose symbols are numbers, and what a step gives from entries of numbers. A naming gives each
 -- number a token of its own; under it these are the frames and the steps of tokens.
 use Rattle.std.specs.Prelude.{◌≡◌, ℕ, Bool, true, false, not, ◌&&◌, ◌||◌, nat_eq, if◌then◌else◌, List, [], ◌∷◌, map, flat_map, Option, Some, None, option_map, bytes_eq}
-use Rattle.std.specs.List.{list_any, list_all}
+use Rattle.std.specs.List.{list_all}
 use Rattle.std.specs.Cmp.Lexicographic.{pointwise}
 use Rattle.mm_text.specs.Bytes.{Token}
 use Rattle.mm_frame.specs.Frames.{Hypothesis, floating, essential, Frame}
 use Rattle.mm_frame.specs.Database.{Context}
+use Rattle.mm_frame.specs.Orderly.{TypeOnce}
 use Rattle.mm_frame.specs.Stack.{applied}
 
 -- a `$f` with its label, typecode and variable, or a `$e` with its label and statement
@@ -119,20 +120,9 @@ abbrev pub numbered_applied : NumberedPlace → NumberedFrame → List (List ℕ
 numbered_applied p f entries =
     numbered_applied_under p f (numbered_text (numbered_bindings f.hypotheses entries)) entries
 
-abbrev pub types_number : ℕ → NumberedHypothesis → Bool
-types_number symbol (numbered_floating label typecode variable) = nat_eq variable symbol
-types_number symbol (numbered_essential label statement) = false
-
--- no two hypotheses type one variable
-abbrev pub TypeOnce : List NumberedHypothesis → Type 0
-TypeOnce [] = Unit {0}
-TypeOnce (numbered_floating label typecode variable ∷ hypotheses) =
-    (list_any (types_number variable) hypotheses ≡ false) × TypeOnce hypotheses
-TypeOnce (numbered_essential label statement ∷ hypotheses) = TypeOnce hypotheses
-
 -- a step over numbers gives what the step over their tokens gives
 abbrev pub AppliedIsNamed : Type 0
 AppliedIsNamed =
     (name : ℕ → Token) (p : NumberedPlace) (n : NumberedFrame) (c : Context) (f : Frame) (entries : List (List ℕ)) →
-    IsNaming name → IsNamedPlace name p c → IsNamedFrame name n f → TypeOnce n.hypotheses →
+    IsNaming name → IsNamedPlace name p c → IsNamedFrame name n f → TypeOnce f.hypotheses →
     applied c f (map (named name) entries) ≡ option_map (named name) (numbered_applied p n entries)

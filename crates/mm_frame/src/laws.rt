@@ -2,6 +2,7 @@
 ghost use Rattle.mm_frame.specs.Cases.{TriedCases};
 ghost use Rattle.mm_frame.specs.Numbered.{AppliedIsNamed};
 ghost use Rattle.mm_frame.specs.FrameLaws.{AppendedIsFine, AppendedStates, FineWhereActive, FirstFaultIsComputed, PlainTokensSay, ProofTokensSay, SavingIsExpanding, StacksAreForests, ValidIsFaultless, WrittenIsFine};
+ghost use Rattle.mm_frame.specs.Orderly.{EmptyIsOrderly, OrderlyAfter};
 ghost use Rattle.mm_frame.specs.Writing.{AxiomIsFine, ContinuedLeaves, LeavesIsValid, TheoremIsFine};
 
 /// The definitions say of some small texts what the Metamath book says of them: which are valid, and
@@ -17,6 +18,8 @@ pub fn proof_laws()
     ensures saving { SavingIsExpanding }
     ensures valid { ValidIsFaultless }
     ensures active { FineWhereActive }
+    ensures empty { EmptyIsOrderly }
+    ensures orderly { OrderlyAfter }
     ensures named { AppliedIsNamed }
     ensures first_fault { FirstFaultIsComputed }
 {}

@@ -3,6 +3,7 @@ use Rattle.mm_frame.specs.Database.{empty_context}
 use Rattle.mm_frame.proofs.Faults.{fine_where_active, faultless_valid, valid_faultless, IsFirstFaultIn-computed, computed-IsFirstFaultIn}
 use Rattle.mm_frame.proofs.Named.{applied_is_named}
 use Rattle.mm_frame.proofs.Saved.{saving_is_expanding}
+use Rattle.mm_frame.proofs.TypedOnce.{empty_is_orderly, orderly_after}
 use Rattle.mm_frame.proofs.Stacks.{stack_after-complete, stack_after-sound}
 use Rattle.mm_frame.proofs.laws.proof_laws.Goals as goal
 
@@ -24,3 +25,9 @@ returns-clause-active a = fine_where_active
 
 pub returns-clause-named : goal.returns-clause-named
 returns-clause-named a = applied_is_named
+
+pub returns-clause-empty : goal.returns-clause-empty
+returns-clause-empty a = empty_is_orderly
+
+pub returns-clause-orderly : goal.returns-clause-orderly
+returns-clause-orderly a = orderly_after
