@@ -10,3 +10,4 @@ pub mod WrittenForms
 pub mod Named
 pub mod Continued
 pub mod TypedOnce
+pub mod NamedSteps

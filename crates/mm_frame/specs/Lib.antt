@@ -11,3 +11,4 @@ pub mod Assertions
 pub mod Numbered
 pub mod Writing
 pub mod Orderly
+pub mod NumberedSteps

@@ -2,6 +2,7 @@
 ghost use Rattle.mm_frame.specs.Cases.{TriedCases};
 ghost use Rattle.mm_frame.specs.Numbered.{AppliedIsNamed};
 ghost use Rattle.mm_frame.specs.FrameLaws.{AppendedIsFine, AppendedStates, FineWhereActive, FirstFaultIsComputed, PlainTokensSay, ProofTokensSay, SavingIsExpanding, StacksAreForests, ValidIsFaultless, WrittenIsFine};
+ghost use Rattle.mm_frame.specs.NumberedSteps.{StepIsNamed};
 ghost use Rattle.mm_frame.specs.Orderly.{EmptyIsOrderly, OrderlyAfter};
 ghost use Rattle.mm_frame.specs.Writing.{AxiomIsFine, ContinuedLeaves, LeavesIsValid, TheoremIsFine};
 
@@ -21,6 +22,7 @@ pub fn proof_laws()
     ensures empty { EmptyIsOrderly }
     ensures orderly { OrderlyAfter }
     ensures named { AppliedIsNamed }
+    ensures step { StepIsNamed }
     ensures first_fault { FirstFaultIsComputed }
 {}
 

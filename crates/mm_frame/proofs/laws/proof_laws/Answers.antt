@@ -2,6 +2,7 @@ use Rattle.mm_text.specs.Statements.{statements_of}
 use Rattle.mm_frame.specs.Database.{empty_context}
 use Rattle.mm_frame.proofs.Faults.{fine_where_active, faultless_valid, valid_faultless, IsFirstFaultIn-computed, computed-IsFirstFaultIn}
 use Rattle.mm_frame.proofs.Named.{applied_is_named}
+use Rattle.mm_frame.proofs.NamedSteps.{step_is_named}
 use Rattle.mm_frame.proofs.Saved.{saving_is_expanding}
 use Rattle.mm_frame.proofs.TypedOnce.{empty_is_orderly, orderly_after}
 use Rattle.mm_frame.proofs.Stacks.{stack_after-complete, stack_after-sound}
@@ -31,3 +32,6 @@ returns-clause-empty a = empty_is_orderly
 
 pub returns-clause-orderly : goal.returns-clause-orderly
 returns-clause-orderly a = orderly_after
+
+pub returns-clause-step : goal.returns-clause-step
+returns-clause-step a = step_is_named
