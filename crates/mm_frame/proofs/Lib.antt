@@ -7,3 +7,7 @@ pub mod Texts
 pub mod Saved
 pub mod Stated
 pub mod WrittenForms
+pub mod Named
+pub mod Continued
+pub mod TypedOnce
+pub mod NamedSteps

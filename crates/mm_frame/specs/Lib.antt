@@ -8,3 +8,7 @@ pub mod Validity
 pub mod Cases
 pub mod FrameLaws
 pub mod Assertions
+pub mod Numbered
+pub mod Writing
+pub mod Orderly
+pub mod NumberedSteps

@@ -1,6 +1,10 @@
 // Laws on the definitions, and the definitions tried on small texts.
 ghost use Rattle.mm_frame.specs.Cases.{TriedCases};
+ghost use Rattle.mm_frame.specs.Numbered.{AppliedIsNamed};
 ghost use Rattle.mm_frame.specs.FrameLaws.{AppendedIsFine, AppendedStates, FineWhereActive, FirstFaultIsComputed, PlainTokensSay, ProofTokensSay, SavingIsExpanding, StacksAreForests, ValidIsFaultless, WrittenIsFine};
+ghost use Rattle.mm_frame.specs.NumberedSteps.{StepIsNamed};
+ghost use Rattle.mm_frame.specs.Orderly.{EmptyIsOrderly, OrderlyAfter};
+ghost use Rattle.mm_frame.specs.Writing.{AxiomIsFine, ContinuedLeaves, LeavesIsValid, TheoremIsFine};
 
 /// The definitions say of some small texts what the Metamath book says of them: which are valid, and
 /// the first fault of the others, one or more of each kind.
@@ -15,6 +19,10 @@ pub fn proof_laws()
     ensures saving { SavingIsExpanding }
     ensures valid { ValidIsFaultless }
     ensures active { FineWhereActive }
+    ensures empty { EmptyIsOrderly }
+    ensures orderly { OrderlyAfter }
+    ensures named { AppliedIsNamed }
+    ensures step { StepIsNamed }
     ensures first_fault { FirstFaultIsComputed }
 {}
 
@@ -26,4 +34,8 @@ pub fn database_laws()
     ensures written { WrittenIsFine }
     ensures plain { PlainTokensSay }
     ensures proof { ProofTokensSay }
+    ensures valid { LeavesIsValid }
+    ensures continued { ContinuedLeaves }
+    ensures axiom { AxiomIsFine }
+    ensures theorem { TheoremIsFine }
 {}

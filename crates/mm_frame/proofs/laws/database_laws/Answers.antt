@@ -1,3 +1,4 @@
+use Rattle.mm_frame.proofs.Continued.{leaves_is_valid, continued_leaves, axiom_is_fine, theorem_is_fine}
 use Rattle.mm_frame.proofs.Texts.{appended_is_fine, written_is_fine}
 use Rattle.mm_frame.proofs.Stated.{appended_states}
 use Rattle.mm_frame.proofs.WrittenForms.{plain_tokens_say, proof_tokens_say}
@@ -17,3 +18,15 @@ returns-clause-plain a = plain_tokens_say
 
 pub returns-clause-proof : goal.returns-clause-proof
 returns-clause-proof a = proof_tokens_say
+
+pub returns-clause-valid : goal.returns-clause-valid
+returns-clause-valid a = leaves_is_valid
+
+pub returns-clause-continued : goal.returns-clause-continued
+returns-clause-continued a = continued_leaves
+
+pub returns-clause-axiom : goal.returns-clause-axiom
+returns-clause-axiom a = axiom_is_fine
+
+pub returns-clause-theorem : goal.returns-clause-theorem
+returns-clause-theorem a = theorem_is_fine
