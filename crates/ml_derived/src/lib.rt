@@ -9,3 +9,6 @@ mod reaching;
 
 pub use implications::chain;
 pub use reaching::{reach_here, reach_step};
+
+#[cfg(test)]
+mod tests;

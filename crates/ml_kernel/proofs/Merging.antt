@@ -186,9 +186,10 @@ later old x xs p (inr b) = inr (Contains-append_right (x ∷ []) xs p b)
 pub AddsNew-sources : (old xs new : List Pattern) (p : Pattern) → AddsNew old xs new → Contains new p → Contains old p ⊎ Contains xs p
 AddsNew-sources old [] new p h k = inl (subst (λ (o : List Pattern). Contains o p) h k)
 AddsNew-sources old (x ∷ xs) new p h k =
-    elim h as (λ _. Contains old p ⊎ Contains (x ∷ xs) p)
-    [ inl a ↦ later old x xs p (AddsNew-sources old xs new p a.1 k)
-    | inr b ↦ elim (AddsNew-sources (old ++ x ∷ []) xs new p b.1 k) [ inl c ↦ elim (Contains-append_cases old (x ∷ []) p c) [ inl d ↦ inl d | inr e ↦ inr (Contains-append_left (x ∷ []) xs p e) ] | inr c ↦ inr (Contains-append_right (x ∷ []) xs p c) ] ]
+    elim h as (λ _. Contains old p ⊎ Contains (x ∷ xs) p) [
+      | inl a ↦ later old x xs p (AddsNew-sources old xs new p a.1 k)
+      | inr b ↦ elim (AddsNew-sources (old ++ x ∷ []) xs new p b.1 k) [ inl c ↦ elim (Contains-append_cases old (x ∷ []) p c) [ inl d ↦ inl d | inr e ↦ inr (Contains-append_left (x ∷ []) xs p e) ] | inr c ↦ inr (Contains-append_right (x ∷ []) xs p c) ]
+    ]
 
 pub Contains-AddsNew_only : (xs new : List Pattern) (p : Pattern) → AddsNew [] xs new → Contains new p → Contains xs p
 Contains-AddsNew_only xs new p h k =
