@@ -177,3 +177,20 @@ cited-kept lemma ms held ts hs ds d q l v c i k a e g last =
     (sym (last ∙ ap (λ ms'. cited lemma.hypotheses lemma.conclusion lemma.derivation ms' (derivations ds)) e ∙ ap (λ ds'. cited lemma.hypotheses lemma.conclusion lemma.derivation ms ds') g))
     (let whole : Concludes hs (cited lemma.hypotheses lemma.conclusion lemma.derivation ms (all_derivations ts)) q =
     (l, (v, (c, subst (λ (ps : List Pattern). AllConclude hs (all_derivations ts) ps) i below))) in whole)
+
+later : (old : List Pattern) (x : Pattern) (xs : List Pattern) (p : Pattern) → Contains old p ⊎ Contains xs p → Contains old p ⊎ Contains (x ∷ xs) p
+later old x xs p (inl a) = inl a
+later old x xs p (inr b) = inr (Contains-append_right (x ∷ []) xs p b)
+
+-- nothing is there but what was and what came
+pub AddsNew-sources : (old xs new : List Pattern) (p : Pattern) → AddsNew old xs new → Contains new p → Contains old p ⊎ Contains xs p
+AddsNew-sources old [] new p h k = inl (subst (λ (o : List Pattern). Contains o p) h k)
+AddsNew-sources old (x ∷ xs) new p h k =
+    elim h as (λ _. Contains old p ⊎ Contains (x ∷ xs) p) [
+      | inl a ↦ later old x xs p (AddsNew-sources old xs new p a.1 k)
+      | inr b ↦ elim (AddsNew-sources (old ++ x ∷ []) xs new p b.1 k) [ inl c ↦ elim (Contains-append_cases old (x ∷ []) p c) [ inl d ↦ inl d | inr e ↦ inr (Contains-append_left (x ∷ []) xs p e) ] | inr c ↦ inr (Contains-append_right (x ∷ []) xs p c) ]
+    ]
+
+pub Contains-AddsNew_only : (xs new : List Pattern) (p : Pattern) → AddsNew [] xs new → Contains new p → Contains xs p
+Contains-AddsNew_only xs new p h k =
+    elim (AddsNew-sources [] xs new p h k) [ inl a ↦ absurd (omega (arith, a.1)) | inr b ↦ b ]

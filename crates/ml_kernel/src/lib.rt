@@ -15,3 +15,6 @@ mod theory;
 pub use derivations::{AxiomNo, Deriv, DerivStep, Inst, Lemma};
 pub use theorems::Thm;
 pub use theory::Theory;
+
+#[cfg(test)]
+mod tests;

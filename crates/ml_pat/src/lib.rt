@@ -12,3 +12,6 @@ mod patterns;
 pub use names::Names;
 pub use numbers::{ConstNo, MSort, VarNo};
 pub use patterns::{MForm, MPat};
+
+#[cfg(test)]
+mod tests;

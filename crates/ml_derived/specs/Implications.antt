@@ -1,0 +1,25 @@
+-- The forms of implications that derived rules take and give.
+use Rattle.std.specs.Prelude.{◌≡◌}
+use Rattle.ml_pat.specs.Patterns.{Pattern, imp, next, ev}
+
+abbrev pub IsImplication : Pattern → Type 0
+IsImplication t = (p : Pattern) × ((q : Pattern) × (t ≡ imp p q))
+
+abbrev pub IsNext : Pattern → Type 0
+IsNext t = (p : Pattern) × (t ≡ next p)
+
+-- two implications, the first to what the second is from
+abbrev pub AreLinked : Pattern → Pattern → Type 0
+AreLinked first second = (p : Pattern) × ((q : Pattern) × ((r : Pattern) × ((first ≡ imp p q) × (second ≡ imp q r))))
+
+-- the implication from what the first is from to what the second is to
+abbrev pub IsChain : Pattern → Pattern → Pattern → Type 0
+IsChain first second whole = (p q r : Pattern) → first ≡ imp p q → second ≡ imp q r → whole ≡ imp p r
+
+-- `a -> ev b` and `b -> next c`
+abbrev pub IsOneStepOn : Pattern → Pattern → Type 0
+IsOneStepOn sofar step = (a : Pattern) × ((b : Pattern) × ((c : Pattern) × ((sofar ≡ imp a (ev b)) × (step ≡ imp b (next c)))))
+
+-- `a -> ev c`, from `a -> ev b` and `b -> next c`
+abbrev pub ReachesOneFurther : Pattern → Pattern → Pattern → Type 0
+ReachesOneFurther sofar step whole = (a b c : Pattern) → sofar ≡ imp a (ev b) → step ≡ imp b (next c) → whole ≡ imp a (ev c)

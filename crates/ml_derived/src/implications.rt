@@ -1,0 +1,101 @@
+// Small rules of implication.
+ghost use Rattle.std.specs.Prelude.{◌≡◌, [], ◌∷◌, IfOk};
+ghost use Rattle.ml_pat.specs.Patterns.{imp};
+ghost use Rattle.ml_derived.specs.Implications.{IsImplication, AreLinked, IsChain};
+ghost use Rattle.ml_derived.specs.Resting.{RestsOn};
+
+use ml_kernel::Thm;
+use ml_pat::{MForm, MPat};
+use std::alloc::{AllocError, Global};
+
+/// `p -> r`, from `p -> q` and `q -> r`.
+pub fn chain(alloc: Global, ab: &Thm, bc: &Thm) -> Result<Thm, AllocError>
+    requires { AreLinked ab.now.conclusion bc.now.conclusion }
+    ensures conclusion { IfOk result (λ t. IsChain ab.now.conclusion bc.now.conclusion t.conclusion) }
+    ensures rests { IfOk result (λ t. RestsOn (ab.now ∷ bc.now ∷ []) t) }
+{
+    let (p, q) = sides(ab.conclusion());
+    let (_, r) = sides(bc.conclusion());
+    chained(alloc, ab, bc, p, q, r)
+}
+
+// `p -> r`, from `p -> q` and `q -> r`.
+pub(crate) fn chained(
+    alloc: Global,
+    ab: &Thm,
+    bc: &Thm,
+    p: &MPat,
+    q: &MPat,
+    r: &MPat,
+) -> Result<Thm, AllocError>
+    requires ab { ab.now.conclusion ≡ imp p.now q.now }
+    requires bc { bc.now.conclusion ≡ imp q.now r.now }
+    ensures conclusion { IfOk result (λ t. t.conclusion ≡ imp p.now r.now) }
+    ensures rests { IfOk result (λ t. RestsOn (ab.now ∷ bc.now ∷ []) t) }
+{
+    let lifted = lift(alloc, p, bc)?;
+    under(alloc, ab, &lifted, p, q, r)
+}
+
+// `h -> q`, from q.
+pub(crate) fn lift(alloc: Global, h: &MPat, a: &Thm) -> Result<Thm, AllocError>
+    ensures conclusion { IfOk result (λ t. t.conclusion ≡ imp h.now a.now.conclusion) }
+    ensures rests { IfOk result (λ t. RestsOn (a.now ∷ []) t) }
+{
+    let q = a.conclusion();
+    let weaken = Thm::p_1(alloc, q, h)?;
+    let weaker = MPat::imp(alloc, h, q)?;
+    Thm::mp(alloc, a, &weaken, q, &weaker)
+}
+
+// `h -> q`, from `h -> p` and `h -> p -> q`.
+pub(crate) fn under(
+    alloc: Global,
+    a: &Thm,
+    b: &Thm,
+    h: &MPat,
+    p: &MPat,
+    q: &MPat,
+) -> Result<Thm, AllocError>
+    requires a { a.now.conclusion ≡ imp h.now p.now }
+    requires b { b.now.conclusion ≡ imp h.now (imp p.now q.now) }
+    ensures conclusion { IfOk result (λ t. t.conclusion ≡ imp h.now q.now) }
+    ensures rests { IfOk result (λ t. RestsOn (a.now ∷ b.now ∷ []) t) }
+{
+    let left = MPat::imp(alloc, h, p)?;
+    let right = MPat::imp(alloc, h, q)?;
+    let both = distributed(alloc, b, h, p, q, &left, &right)?;
+    Thm::mp(alloc, a, &both, &left, &right)
+}
+
+// `(h -> p) -> h -> q`, from `h -> p -> q`; left and right are its sides.
+fn distributed(
+    alloc: Global,
+    b: &Thm,
+    h: &MPat,
+    p: &MPat,
+    q: &MPat,
+    left: &MPat,
+    right: &MPat,
+) -> Result<Thm, AllocError>
+    requires b { b.now.conclusion ≡ imp h.now (imp p.now q.now) }
+    requires left { left.now ≡ imp h.now p.now }
+    requires right { right.now ≡ imp h.now q.now }
+    ensures conclusion { IfOk result (λ t. t.conclusion ≡ imp left.now right.now) }
+    ensures rests { IfOk result (λ t. RestsOn (b.now ∷ []) t) }
+{
+    let rule = Thm::p_2(alloc, h, p, q)?;
+    let sides = MPat::imp(alloc, left, right)?;
+    Thm::mp(alloc, b, &rule, b.conclusion(), &sides)
+}
+
+// The sides of an implication.
+pub(crate) fn sides(p: &MPat) -> (&MPat, &MPat)
+    requires { IsImplication p.now }
+    ensures { p.now ≡ imp result.0.now result.1.now }
+{
+    match p.form() {
+        MForm::Imp(left, right) => (left, right),
+        _ => unreachable!(),
+    }
+}

@@ -1,0 +1,82 @@
+// Worked examples, and one happy call of each function that allocates.
+use crate::derivations::{DerivStep, Lemma};
+use crate::theorems::Thm;
+use crate::theory::Theory;
+use ml_pat::{ConstNo, MPat};
+use std::alloc::{AllocError, Global};
+use std::test::Fail;
+
+// The constants a and b.
+fn ends(alloc: Global) -> Result<(MPat, MPat), AllocError> {
+    Ok((
+        MPat::constant(alloc, ConstNo(0))?,
+        MPat::constant(alloc, ConstNo(1))?,
+    ))
+}
+
+// q follows from p and `p -> q`, which the theorem has as its hypotheses in this order.
+#[test]
+fn detaches(rt: HostRuntime) -> Result<(), Fail> {
+    let alloc = rt.alloc();
+    let (p, q) = ends(alloc)?;
+    let minor = Thm::assume(alloc, p.share()?)?;
+    let major = Thm::assume(alloc, MPat::imp(alloc, &p, &q)?)?;
+    let thm = Thm::mp(alloc, &minor, &major, &p, &q)?;
+    assert!(rt; thm.conclusion().same(&q));
+    assert_eq!(rt; thm.hypotheses().len(), 2);
+    assert!(rt; thm.hypotheses()[0].same(&p));
+    assert!(rt; matches!(thm.derivation().step(), DerivStep::Row(3, _, _)));
+    Ok(())
+}
+
+// One step from a to b, by the rules of reaching alone: `ev a -> ev b`.
+#[test]
+fn makes_one_step(rt: HostRuntime) -> Result<(), Fail> {
+    let alloc = rt.alloc();
+    let (_, b) = ends(alloc)?;
+    let reached = MPat::ev(alloc, &b)?;
+    let here = Thm::ev_1(alloc, &b)?;
+    let moved = Thm::next_in(alloc, &here, &b, &reached)?;
+    assert!(rt; moved.hypotheses().is_empty());
+    let closing = Thm::ev_2(alloc, &b)?;
+    let kept = Thm::ev_kt(alloc, &here, &closing, &b, &reached)?;
+    let wanted = MPat::imp(alloc, &reached, &reached)?;
+    assert!(rt; kept.conclusion().same(&wanted));
+    Ok(())
+}
+
+// An axiom has its place as its number, and a lemma is cited at instances of its pattern variables.
+#[test]
+fn cites_a_lemma(rt: HostRuntime) -> Result<(), Fail> {
+    let alloc = rt.alloc();
+    let (a, b) = ends(alloc)?;
+    let mut theory = Theory::new(alloc);
+    let _first = theory.add(MPat::imp(alloc, &a, &a)?)?;
+    let second = theory.add(b.share()?)?;
+    assert_eq!(rt; second.0, 1);
+    let fact = theory.axiom(alloc, second)?;
+    assert!(rt; fact.conclusion().same(&b));
+    let p = MPat::meta(alloc, 0)?;
+    let lemma = Lemma::close(Thm::assume(alloc, p.share()?)?)?;
+    let metas = vec![in alloc; b.share()?]?;
+    let proofs = vec![in alloc; fact]?;
+    let thm = Thm::use_lemma(alloc, &lemma, &metas, &proofs)?;
+    assert!(rt; thm.conclusion().same(&b));
+    assert!(rt; thm.hypotheses().is_empty());
+    Ok(())
+}
+
+#[test]
+fn calls_the_other_rules(rt: HostRuntime) -> Result<(), Fail> {
+    let alloc = rt.alloc();
+    let (a, b) = ends(alloc)?;
+    let first = Thm::p_1(alloc, &a, &b)?;
+    let second = Thm::p_2(alloc, &a, &b, &a)?;
+    let both = Thm::and_3(alloc, &a, &b)?;
+    let top = Thm::top(alloc)?;
+    assert!(rt; top.conclusion().same(&MPat::top(alloc)?));
+    for thm in [&first, &second, &both] {
+        assert!(rt; thm.hypotheses().is_empty());
+    }
+    Ok(())
+}

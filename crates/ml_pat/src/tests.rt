@@ -1,0 +1,54 @@
+// Worked examples, and one happy call of each function that allocates.
+use crate::names::Names;
+use crate::numbers::{ConstNo, MSort, VarNo};
+use crate::patterns::{MForm, MPat};
+use std::test::Fail;
+
+const INT: MSort = MSort(3);
+
+// Tokens are numbered in the order in which they come, and one that is there keeps its number.
+#[test]
+fn numbers_tokens(rt: HostRuntime) -> Result<(), Fail> {
+    let mut names = Names::new(rt.alloc());
+    assert_eq!(rt; names.number("s:SortInt")?, 0);
+    assert_eq!(rt; names.number("f:foo")?, 1);
+    assert_eq!(rt; names.number("s:SortInt")?, 0);
+    assert!(rt; names.token(1) == Some("f:foo"));
+    assert!(rt; names.token(2).is_none());
+    Ok(())
+}
+
+// ( \all x:0 s ( \imp ( \app f x:0 ) ( \next f ) ) ) differs from the same of x:1, and is its shared copy.
+#[test]
+fn compares_patterns(rt: HostRuntime) -> Result<(), Fail> {
+    let alloc = rt.alloc();
+    let symbol = MPat::constant(alloc, ConstNo(7))?;
+    let end = MPat::next(alloc, &symbol)?;
+    let mut made = Vec::new(alloc);
+    for x in [VarNo(0), VarNo(1)] {
+        let applied = MPat::app(alloc, &symbol, &MPat::var(alloc, x)?)?;
+        let body = MPat::imp(alloc, &applied, &end)?;
+        made.push(MPat::all(alloc, x, INT, &body)?)?;
+    }
+    assert!(rt; made[0].same(&made[0].share()?));
+    assert!(rt; !made[0].same(&made[1]));
+    Ok(())
+}
+
+#[test]
+fn makes_each_form(rt: HostRuntime) -> Result<(), Fail> {
+    let alloc = rt.alloc();
+    let p = MPat::meta(alloc, 0)?;
+    let q = MPat::top(alloc)?;
+    assert!(rt; matches!(MPat::bot(alloc)?.form(), MForm::Bot));
+    assert!(rt; matches!(MPat::not(alloc, &p)?.form(), MForm::Not(_)));
+    assert!(rt; matches!(MPat::and(alloc, &p, &q)?.form(), MForm::And(..)));
+    assert!(rt; matches!(MPat::or(alloc, &p, &q)?.form(), MForm::Or(..)));
+    assert!(rt; matches!(MPat::equal(alloc, &p, &q)?.form(), MForm::Equal(..)));
+    assert!(rt; matches!(MPat::member(alloc, &p, &q)?.form(), MForm::Member(..)));
+    assert!(rt; matches!(MPat::fun(alloc, &p, INT)?.form(), MForm::Fun(..)));
+    assert!(rt; matches!(MPat::ex(alloc, VarNo(0), INT, &p)?.form(), MForm::Ex(..)));
+    assert!(rt; matches!(MPat::at(alloc, &p, INT)?.form(), MForm::At(..)));
+    assert!(rt; matches!(MPat::ev(alloc, &p)?.form(), MForm::Ev(_)));
+    Ok(())
+}
