@@ -1,1 +1,3 @@
 pub mod HeaderValid
+pub mod Pairs
+pub mod HeaderFrames

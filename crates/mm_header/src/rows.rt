@@ -1,5 +1,9 @@
 // The rows of the header.
 
+ghost use Rattle.std.specs.Prelude.{◌≡◌, map};
+ghost use Rattle.mm_header.specs.Header.{header_rows};
+ghost use Rattle.mm_header.specs.HeaderTable.{row_of};
+
 /// A row: its label, the pairs of variables that have to stay apart, its hypotheses and its
 /// statement. A hypothesis or statement that begins with no `#` says that a pattern holds.
 #[derive(Clone, Copy)]
@@ -545,3 +549,10 @@ pub static HEADER: [HeaderRow; 88] = [
         statement: "( \\imp ( \\ev p ) q )",
     },
 ];
+
+/// The rows of the header, in order.
+pub fn table() -> &'static [HeaderRow; 88]
+    ensures { map row_of result.now ≡ header_rows }
+{
+    &HEADER
+}
