@@ -1,18 +1,12 @@
 // The text of the header.
 ghost use Rattle.std.specs.Prelude.{◌≡◌, ◌++◌, map, IfOk, OnOk, OnErr};
-ghost use Rattle.std.specs.List.{flat_map};
-ghost use Rattle.mm_header.specs.HeaderTable.{pair_of, row_of};
-ghost use Rattle.mm_header.specs.HeaderText.{apart_line, declarations_text, header_bytes, hypothesis_line, labelled, row_text, statement_line, turnstile_text};
+ghost use Rattle.std.specs.List.{flat_map, zip};
+ghost use Rattle.mm_header.specs.HeaderTable.{pair_of, row_of, type_texts};
+ghost use Rattle.mm_header.specs.HeaderText.{apart_line, declarations_text, endings, header_bytes, hypothesis_line, row_text, statement_line, turnstile_text, type_line};
 
-use crate::rows::{table, HeaderRow};
+use crate::declarations::{CONSTANTS, HeaderVariable, NAMES, variables};
+use crate::rows::{HeaderRow, table};
 use std::alloc::{AllocError, Global};
-
-const CONSTANTS: &str = "( ) \\bot \\top \\imp \\not \\and \\or \\eq \\mem \\fun \\ex \\all \\app \\at \\next \\ev #Pattern #Sort #Var #Sub #Fresh #Pred |-";
-
-const VARIABLES: &str = "p q r t u x y s v";
-
-/// What is added to a row's label for its hypotheses, which are two at most.
-const ENDINGS: [&str; 2] = [".1", ".2"];
 
 /// Adds the text of the header, 5,968 bytes, to a text. Where memory is wanting, the text stays as it
 /// was.
@@ -44,14 +38,23 @@ fn push(to: &mut Vec<u8>, pieces: &[&str]) -> Result<(), AllocError>
     Ok(())
 }
 
-/// Adds the constants and the variables with their types.
+/// Adds the constants, and the variables with their types.
 fn push_declarations(to: &mut Vec<u8>) -> Result<(), AllocError>
     ensures text { OnOk result (to.new.items ≡ to.old.items ++ declarations_text) }
 {
-    push(to, &["$c ", CONSTANTS, " $.\n$v ", VARIABLES, " $.\n"])?;
-    push(to, &["fp $f #Pattern p $.\nfq $f #Pattern q $.\nfr $f #Pattern r $.\n"])?;
-    push(to, &["ft $f #Pattern t $.\nfu $f #Pattern u $.\n"])?;
-    push(to, &["fx $f #Var x $.\nfy $f #Var y $.\nfs $f #Sort s $.\nfv $f #Sort v $.\n"])
+    push(to, &["$c ", CONSTANTS, " $.\n$v ", NAMES, " $.\n"])?;
+    push_types(to, variables())
+}
+
+/// Adds the `$f` of each variable.
+fn push_types(to: &mut Vec<u8>, types: &[HeaderVariable]) -> Result<(), AllocError>
+    ensures text { OnOk result
+        (to.new.items ≡ to.old.items ++ flat_map type_line (map type_texts types.now)) }
+{
+    for typed in types {
+        push(to, &[typed.label, " $f ", typed.typecode, " ", typed.name, " $.\n"])?;
+    }
+    Ok(())
 }
 
 /// Adds rows.
@@ -73,32 +76,52 @@ fn push_row(to: &mut Vec<u8>, row: &HeaderRow) -> Result<(), AllocError>
         return push_statement(to, row);
     }
     push(to, &["${\n"])?;
-    push_pairs(to, row)?;
-    push_hypotheses(to, row)?;
+    push_pairs(to, row.apart)?;
+    push_hypotheses(to, row.label, row.hyps)?;
     push_statement(to, row)?;
     push(to, &["$}\n"])
 }
 
-/// Adds the `$d` of each pair of a row.
-fn push_pairs(to: &mut Vec<u8>, row: &HeaderRow) -> Result<(), AllocError>
+/// Adds a `$d` for each pair.
+fn push_pairs(to: &mut Vec<u8>, pairs: &[(&str, &str)]) -> Result<(), AllocError>
     ensures text { OnOk result
-        (to.new.items ≡ to.old.items ++ flat_map apart_line (row_of row.now).apart) }
+        (to.new.items ≡ to.old.items ++ flat_map apart_line (map pair_of pairs.now)) }
 {
-    for pair in row.apart {
+    for pair in pairs {
         push(to, &["$d ", pair.0, " ", pair.1, " $.\n"])?;
     }
     Ok(())
 }
 
-/// Adds the hypotheses of a row.
-fn push_hypotheses(to: &mut Vec<u8>, row: &HeaderRow) -> Result<(), AllocError>
+/// Adds the hypotheses of the row with this label, the first two.
+fn push_hypotheses(
+    to: &mut Vec<u8>,
+    label: &'static str,
+    hyps: &[&'static str],
+) -> Result<(), AllocError>
     ensures text { OnOk result (to.new.items
-        ≡ to.old.items ++ flat_map (hypothesis_line row.now.label.now) (labelled (row_of row.now))) }
+        ≡ to.old.items ++ flat_map (hypothesis_line label.now) (zip endings (map (λ h. h.now) hyps.now))) }
 {
-    for (ending, hyp) in ENDINGS.iter().zip(row.hyps) {
-        push(to, &[row.label, ending, " $e ", turnstile(hyp), hyp, " $.\n"])?;
+    if let Some(first) = hyps.first() {
+        push_hypothesis(to, label, ".1", first)?;
+    }
+    if let Some(second) = hyps.get(1) {
+        push_hypothesis(to, label, ".2", second)?;
     }
     Ok(())
+}
+
+/// Adds a hypothesis of the row with this label, whose own label ends as given.
+fn push_hypothesis(
+    to: &mut Vec<u8>,
+    label: &'static str,
+    ending: &'static str,
+    hyp: &'static str,
+) -> Result<(), AllocError>
+    ensures text { OnOk result
+        (to.new.items ≡ to.old.items ++ hypothesis_line label.now (ending.now, hyp.now)) }
+{
+    push(to, &[label, ending, " $e ", turnstile(hyp), hyp, " $.\n"])
 }
 
 /// Adds the `$a` of a row.
