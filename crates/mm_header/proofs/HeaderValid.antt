@@ -2,6 +2,7 @@
 use Rattle.std.proofs.Common.{◌≡◌, ℕ, ◌∙◌, refl, subst, false, true, map, ap}
 use Rattle.std.specs.Prelude.{Option, Some, None}
 use Rattle.mm_text.specs.Statements.{Statements, no_statement, unended, bad_statement, next_statement, statements_of}
+use Rattle.mm_text.specs.TextLaws.{ends_white}
 use Rattle.mm_frame.specs.Database.{Context, empty_context, context_after}
 use Rattle.mm_frame.specs.Validity.{AreFine, IsValid, statement_fault, fault_or, first_fault, first_fault_in}
 use Rattle.mm_frame.specs.Expansion.{has_repeated}
@@ -45,3 +46,7 @@ header_fine = subst (λ (c : Context). AreFine empty_context (statements_of head
 pub labels_differ : has_repeated header_labels ≡ false
 unfolding header_labels header_rows
 labels_differ = refl
+
+pub header_ends : ends_white header_bytes ≡ true
+unfolding header_bytes header_rows
+header_ends = refl

@@ -37,12 +37,12 @@ pair_tests false false xb yb false xx yy xy xy' d d' = refl
 different_pair : (x y a b : Token) → bytes_eq x y ≡ false → are_different_tokens (x ∷ (y ∷ [])) a b ≡ list_any (is_pair a b) ((x, y) ∷ [])
 different_pair x y a b differ =
     pair_tests (bytes_eq x a) (bytes_eq y a) (bytes_eq x b) (bytes_eq y b) (bytes_eq a b)
-      (λ p q. token_same a b (sym (same_token x a p) ∙ same_token x b q))
-      (λ p q. token_same a b (sym (same_token y a p) ∙ same_token y b q))
-      (λ p q. no (same_token x a p ∙ sym (same_token y a q)))
-      (λ p q. no (same_token x b p ∙ sym (same_token y b q)))
-      (λ p q r. no (same_token x a p ∙ same_token a b r ∙ sym (same_token y b q)))
-      (λ p q r. no (same_token x b q ∙ sym (same_token a b r) ∙ sym (same_token y a p)))
+    (λ p q. token_same a b (sym (same_token x a p) ∙ same_token x b q))
+    (λ p q. token_same a b (sym (same_token y a p) ∙ same_token y b q))
+    (λ p q. no (same_token x a p ∙ sym (same_token y a q)))
+    (λ p q. no (same_token x b p ∙ sym (same_token y b q)))
+    (λ p q r. no (same_token x a p ∙ same_token a b r ∙ sym (same_token y b q)))
+    (λ p q r. no (same_token x b q ∙ sym (same_token a b r) ∙ sym (same_token y a p)))
   where
     no : x ≡ y → ⊥
     no same = let yes : bytes_eq x y ≡ true = token_same x y same in cc

@@ -13,10 +13,11 @@ pub struct HeaderVariable {
 }
 
 /// The constants of the header, parted by spaces.
-pub const CONSTANTS: &str = "( ) \\bot \\top \\imp \\not \\and \\or \\eq \\mem \\fun \\ex \\all \\app \\at \\next \\ev #Pattern #Sort #Var #Sub #Fresh #Pred |-";
+pub const CONSTANTS: &str =
+    "( ) \\bot \\top \\imp \\not \\and \\or \\eq \\mem \\fun \\ex \\all \\app \\at \\next \\ev #Pattern #Sort #Var #Sub #Fresh #Pred |-";
 
 /// The names of the variables, parted by spaces.
-pub const NAMES: &str = "p q r t u x y s v";
+pub const VARIABLE_NAMES: &str = "p q r t u x y s v";
 
 /// The variables of the header, in the order of their `$f`s.
 pub static VARIABLES: [HeaderVariable; 9] = [

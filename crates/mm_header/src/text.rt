@@ -4,7 +4,7 @@ ghost use Rattle.std.specs.List.{flat_map, zip};
 ghost use Rattle.mm_header.specs.HeaderTable.{pair_of, row_of, type_texts};
 ghost use Rattle.mm_header.specs.HeaderText.{apart_line, declarations_text, endings, header_bytes, hypothesis_line, row_text, statement_line, turnstile_text, type_line};
 
-use crate::declarations::{CONSTANTS, HeaderVariable, NAMES, variables};
+use crate::declarations::{CONSTANTS, HeaderVariable, VARIABLE_NAMES, variables};
 use crate::rows::{HeaderRow, table};
 use std::alloc::{AllocError, Global};
 
@@ -42,7 +42,7 @@ fn push(to: &mut Vec<u8>, pieces: &[&str]) -> Result<(), AllocError>
 fn push_declarations(to: &mut Vec<u8>) -> Result<(), AllocError>
     ensures text { OnOk result (to.new.items ≡ to.old.items ++ declarations_text) }
 {
-    push(to, &["$c ", CONSTANTS, " $.\n$v ", NAMES, " $.\n"])?;
+    push(to, &["$c ", CONSTANTS, " $.\n$v ", VARIABLE_NAMES, " $.\n"])?;
     push_types(to, variables())
 }
 
@@ -52,7 +52,17 @@ fn push_types(to: &mut Vec<u8>, types: &[HeaderVariable]) -> Result<(), AllocErr
         (to.new.items ≡ to.old.items ++ flat_map type_line (map type_texts types.now)) }
 {
     for typed in types {
-        push(to, &[typed.label, " $f ", typed.typecode, " ", typed.name, " $.\n"])?;
+        push(
+            to,
+            &[
+                typed.label,
+                " $f ",
+                typed.typecode,
+                " ",
+                typed.name,
+                " $.\n",
+            ],
+        )?;
     }
     Ok(())
 }
@@ -128,7 +138,16 @@ fn push_hypothesis(
 fn push_statement(to: &mut Vec<u8>, row: &HeaderRow) -> Result<(), AllocError>
     ensures text { OnOk result (to.new.items ≡ to.old.items ++ statement_line (row_of row.now)) }
 {
-    push(to, &[row.label, " $a ", turnstile(row.statement), row.statement, " $.\n"])
+    push(
+        to,
+        &[
+            row.label,
+            " $a ",
+            turnstile(row.statement),
+            row.statement,
+            " $.\n",
+        ],
+    )
 }
 
 /// What stands before a statement: nothing where it begins with `#`, and else `|-` and a space.

@@ -1,5 +1,5 @@
 use Rattle.mm_header.proofs.HeaderFrames.{header_frames, header_only}
-use Rattle.mm_header.proofs.HeaderValid.{header_valid, header_fine, labels_differ}
+use Rattle.mm_header.proofs.HeaderValid.{header_valid, header_ends, header_fine, labels_differ}
 use Rattle.mm_header.proofs.laws.header_laws.Goals as goal
 
 pub returns-clause-valid : goal.returns-clause-valid
@@ -16,3 +16,6 @@ returns-clause-labels c = labels_differ
 
 pub returns-clause-only : goal.returns-clause-only
 returns-clause-only c = header_only
+
+pub returns-clause-ends : goal.returns-clause-ends
+returns-clause-ends c = header_ends
