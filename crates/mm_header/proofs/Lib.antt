@@ -1,1 +1,4 @@
 pub mod HeaderValid
+pub mod Pairs
+pub mod HeaderFrames
+pub mod Appended

@@ -42,7 +42,7 @@ is_in_row r (essential label statement) = false
 
 -- the two variables of a pair, in either order
 abbrev pub is_pair : Token → Token → List ℕ × List ℕ → Bool
-is_pair a b (x, y) = (bytes_eq a x && bytes_eq b y) || (bytes_eq a y && bytes_eq b x)
+is_pair a b (x, y) = (bytes_eq x a && bytes_eq y b) || (bytes_eq y a && bytes_eq x b)
 
 -- a frame is that of a row: the `$f`s of its variables, in the order of the header, then its own
 -- hypotheses, just its pairs of variables, and its statement
@@ -91,6 +91,6 @@ pub record HasRow (c : Context) (r : Row) : Type 0 where
   pub kept : c.frames r.label ≡ Some frame
   pub fits : IsFrameOfRow r frame
 
--- each frame of a context is that of one of the rows
+-- no label has a frame but those of the rows
 abbrev pub HasOnlyRows : Context → List Row → Type 0
-HasOnlyRows c rows = (label : Token) → IsSome (c.frames label) → Contains (map (λ r. r.label) rows) label
+HasOnlyRows c rows = (label : Token) → has_token (map (λ r. r.label) rows) label ≡ false → c.frames label ≡ None

@@ -69,8 +69,11 @@ row_text r = if is_single r then statement_line r else codes "${\n" ++ scope_lin
 abbrev pub type_line : List ℕ × List ℕ × List ℕ → List ℕ
 type_line (label, typecode, variable) = label ++ codes " $f " ++ typecode ++ codes " " ++ variable ++ line_end
 
+abbrev pub symbols_text : List ℕ
+symbols_text = codes "$c " ++ constants_text ++ line_end ++ codes "$v " ++ variables_text ++ line_end
+
 abbrev pub declarations_text : List ℕ
-declarations_text = codes "$c " ++ constants_text ++ line_end ++ codes "$v " ++ variables_text ++ line_end ++ flat_map type_line types_texts
+declarations_text = symbols_text ++ flat_map type_line types_texts
 
 unfoldable pub header_bytes : List ℕ
 header_bytes = declarations_text ++ flat_map row_text header_rows

@@ -1,3 +1,4 @@
 pub mod Header
 pub mod HeaderText
 pub mod HeaderContext
+pub mod HeaderTable

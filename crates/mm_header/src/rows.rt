@@ -1,15 +1,25 @@
 // The rows of the header.
 
-/// A row: its label, the pairs of variables that have to stay apart, its hypotheses and its
-/// statement. A hypothesis or statement that begins with no `#` says that a pattern holds.
+ghost use Rattle.std.specs.Prelude.{◌≡◌, map};
+ghost use Rattle.mm_header.specs.Header.{header_rows};
+ghost use Rattle.mm_header.specs.HeaderTable.{row_of};
+
+/// A row of the header. What begins with no `#` says of a pattern that it holds. Words are parted by
+/// one space.
 #[derive(Clone, Copy)]
 pub struct HeaderRow {
+    /// The label of the row's `$a`.
     pub label: &'static str,
+    /// The pairs of variables that have to stay apart: one at most.
     pub apart: &'static [(&'static str, &'static str)],
+    /// The hypotheses, in order: two at most.
     pub hyps: &'static [&'static str],
+    /// What the row says.
     pub statement: &'static str,
 }
 
+/// The rows of the header, in order: 16 of syntax, 16 of freshness, 15 of substitution, 11 of
+/// predicates and 30 of proof.
 pub static HEADER: [HeaderRow; 88] = [
     // syntax
     HeaderRow {
@@ -545,3 +555,10 @@ pub static HEADER: [HeaderRow; 88] = [
         statement: "( \\imp ( \\ev p ) q )",
     },
 ];
+
+/// The rows of the header, in order.
+pub fn table() -> &'static [HeaderRow; 88]
+    ensures { map row_of result.now ≡ header_rows }
+{
+    &HEADER
+}

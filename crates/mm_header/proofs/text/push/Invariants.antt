@@ -1,0 +1,6 @@
+use Rattle.std.proofs.Common.{◌≡◌, ◌++◌, map, take}
+use Rattle.std.specs.List.{flat_map}
+use Rattle.mm_header.proofs.text.push.Given as goal
+
+abbrev pub invariant-loop-piece : goal.invariant-loop-piece
+invariant-loop-piece l = l.to.items ≡ l.initial.to.items ++ flat_map (λ p. p.now) (take l.piece-index l.pieces)
