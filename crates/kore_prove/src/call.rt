@@ -1,7 +1,8 @@
 // The top call: words, files, the run and its lines.
-ghost use Rattle.std.specs.Prelude.{◌≡◌, List, ℕ, Option, ◌≤◌, ◌^◌, [], Some, All, IfOk, IfErr, ◌⊎◌, map, string_bytes, ◌≢◌};
+ghost use Rattle.std.specs.Prelude.{◌≡◌, IsFalse, List, ℕ, Option, ◌≤◌, ◌^◌, [], Some, All, IfOk, IfErr, ◌⊎◌, map, string_bytes, ◌≢◌};
 ghost use Rattle.term_core.specs.Patterns.{instance_of, FitsWithin};
 ghost use Rattle.term_core.specs.RulePatterns.{plain_pattern};
+ghost use Rattle.desk_io.specs.Told.{KeepsFiles};
 ghost use Rattle.kore_prove.specs.Causes.{Course, definition_limit, term_limit, FileCause, Ends, IsNoCommand, RunCause, KeepsOutput};
 ghost use Rattle.kore_prove.specs.Reports.{plain_end, Reports};
 ghost use Rattle.kore_prove.specs.Runnable.{IsShowable, IsRunnable};
@@ -38,6 +39,7 @@ pub fn kore_main<D: Desk, O: Sink, E: Sink>(
     out: &mut O,
     err: &mut E,
 ) -> Status
+    requires none_created { IsFalse (D.created desk.old) }
     ensures printed_run { PrintsRun
         (map string_bytes words.now) (D.told desk.old) (O.bytes out.old) (O.bytes out.new) result.code }
     ensures ends { Ends (record {
@@ -113,6 +115,8 @@ fn run_command<'a, D: Desk, O: Sink>(
     }) (plain_end end)) }
     ensures output { IfErr result (λ end.
         KeepsOutput (plain_end end) (O.bytes out.old) (O.bytes out.new)) }
+    ensures files { KeepsFiles (D.told desk.old) (D.told desk.new) }
+    ensures created { D.created desk.new ≡ D.created desk.old }
 {
     let program = match read_program(alloc, desk, command.definition) {
         Ok(program) => program,

@@ -33,6 +33,7 @@ pub fn read_program<D: Desk>(alloc: Global, desk: &mut D, name: &str) -> Result<
         (D.told desk.old) name.now DEFINITION_LIMIT (D.read_faults desk.old) (D.read_faults desk.new)) }
     ensures counts { D.read_faults desk.old ≤ D.read_faults desk.new }
     ensures files { KeepsFiles (D.told desk.old) (D.told desk.new) }
+    ensures created { D.created desk.new ≡ D.created desk.old }
 {
     match read_file(alloc, desk, name, DEFINITION_LIMIT) {
         Ok(bytes) => accept(alloc, &bytes).map_err(FileEnd::Refused),
@@ -52,6 +53,7 @@ pub fn read_start<D: Desk>(
         (D.told desk.old) name.now TERM_LIMIT (D.read_faults desk.old) (D.read_faults desk.new)) }
     ensures counts { D.read_faults desk.old ≤ D.read_faults desk.new }
     ensures files { KeepsFiles (D.told desk.old) (D.told desk.new) }
+    ensures created { D.created desk.new ≡ D.created desk.old }
 {
     match read_file(alloc, desk, name, TERM_LIMIT) {
         Ok(bytes) => accept_term(alloc, program, &bytes).map_err(FileEnd::Refused),
