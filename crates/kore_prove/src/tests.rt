@@ -1,8 +1,8 @@
 // Runs of the top call over a desk and sinks in memory.
-ghost use Rattle.std.specs.Prelude.{◌<◌};
+ghost use Rattle.std.specs.Prelude.{◌<◌, IfOk, IsFalse};
 
 use crate::call::kore_main;
-use desk_io::{MemDesk, MemSink};
+use desk_io::{Desk, MemDesk, MemSink};
 use std::alloc::{AllocError, Global};
 use std::test::Fail;
 
@@ -106,6 +106,7 @@ pub fn two_files(
     fail_at: &[u64],
 ) -> Result<MemDesk, AllocError>
     requires { 0 < most }
+    ensures { IfOk result (λ desk. IsFalse (⟦<MemDesk as Desk>⟧.created desk)) }
 {
     let mut files = Vec::new(alloc);
     let definition_bytes = Vec::from_slice(alloc, definition.as_bytes())?;
