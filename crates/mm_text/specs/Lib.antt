@@ -7,3 +7,4 @@ pub mod Compressed
 pub mod TextLaws
 pub mod Cases
 pub mod Places
+pub mod Letters
