@@ -5,11 +5,12 @@ use Rattle.std.specs.Prelude.{◌&&◌, ◌||◌, Option, Some, None, map, if◌
 use Rattle.std.specs.List.{list_any}
 use Rattle.std.proofs.lemmas.Slice.Eq.{bytes_eq-Decides}
 use Rattle.mm_text.specs.Bytes.{Token}
+use Rattle.mm_text.proofs.Truths.{both_true}
 use Rattle.mm_frame.specs.Frames.{Hypothesis, floating, essential, statement_of, Frame, types}
 use Rattle.mm_frame.specs.Database.{Context}
 use Rattle.mm_frame.specs.Proofs.{Expression, substituted, instance_of, keeps_apart, Applies, active_hypothesis, Leads, by_hypothesis, by_assertion}
 use Rattle.mm_frame.specs.Stack.{same_expressions, behind_first, bindings_of, text_of, applied_under, applied, assertion_result, hypothesis_result, label_result, step_result}
-use Rattle.mm_frame.proofs.Tests.{both_true, same_expressions-Decides, if_some}
+use Rattle.mm_frame.proofs.Tests.{same_expressions-Decides, if_some}
 
 -- the bindings that instances give are the substitution
 text_of-instances : (sigma : Token → Expression) (hypotheses : List Hypothesis) (t : Token) → (list_any (types t) hypotheses ≡ false → sigma t ≡ t ∷ []) → text_of (bindings_of hypotheses (map (instance_of sigma) hypotheses)) t ≡ sigma t

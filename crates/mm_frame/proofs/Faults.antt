@@ -3,13 +3,14 @@ use Rattle.std.proofs.Common.{◌≡◌, ℕ, Bool, true, false, List, [], ◌�
 use Rattle.std.specs.Prelude.{Option, Some, None, IfSome, if◌then◌else◌, option_map}
 use Rattle.mm_text.specs.Bytes.{Token}
 use Rattle.mm_text.specs.FaultKinds.{bad_scope, bad_step, bad_conclusion, fault}
-use Rattle.mm_text.specs.Statements.{Statements, no_statement, unended, bad_statement, next_statement, statements_of}
+use Rattle.mm_text.specs.Statements.{Statement, Statements, no_statement, unended, bad_statement, next_statement, statements_of}
 use Rattle.mm_text.specs.declared.fault.MmFault.{MmFault}
 use Rattle.mm_frame.specs.Forms.{form_of}
-use Rattle.mm_frame.specs.Database.{Block, Context, empty_context, context_after}
+use Rattle.mm_frame.specs.Database.{Block, Context, empty_context, context_after, context_behind}
 use Rattle.mm_frame.specs.Proofs.{Expression, Forms, IsProof}
 use Rattle.mm_frame.specs.Stack.{same_expressions, stack_after}
 use Rattle.mm_frame.specs.Validity.{Task, task, form_fault, HasBadStep, HasBadConclusion, IsFaulty, by_form, by_step, by_conclusion, IsFine, AreFine, IsValid, first_open, IsFirstFaultIn, stack_fault, task_fault, or_else, statement_fault, fault_or, first_fault_in, first_fault}
+use Rattle.mm_frame.specs.FrameLaws.{in_front, FineWhereActive}
 use Rattle.mm_frame.proofs.Tests.{same_expressions-Decides}
 use Rattle.mm_frame.proofs.Stacks.{stack_after-complete, stack_after-sound, IsProof-Forms, Forms-IsProof}
 
@@ -180,3 +181,12 @@ faultless_valid bytes none =
 
 pub valid_faultless : (bytes : List ℕ) → IsValid bytes → first_fault bytes ≡ None
 valid_faultless bytes w = faultless-AreFine empty_context w.left (statements_of bytes) w.fine w.closed
+
+-- each statement of a valid text is fine where it stands
+IsFine-in_front : (c left : Context) (before : List Statement) (s : Statement) (rest : Statements) → AreFine c (in_front before (next_statement s rest)) left → IsFine (context_behind c before) s.tokens
+IsFine-in_front c left [] s rest fine = fine.0
+IsFine-in_front c left (t ∷ before) s rest fine = IsFine-in_front (context_after c t) left before s rest fine.1
+
+pub fine_where_active : FineWhereActive
+fine_where_active bytes before s rest valid is =
+    IsFine-in_front empty_context valid.left before s rest (subst (λ (ss : Statements). AreFine empty_context ss valid.left) is valid.fine)

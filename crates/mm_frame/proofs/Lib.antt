@@ -5,3 +5,10 @@ pub mod Stacks
 pub mod Faults
 pub mod Texts
 pub mod Saved
+pub mod Stated
+pub mod WrittenForms
+pub mod Named
+pub mod Continued
+pub mod TypedOnce
+pub mod NamedSteps
+pub mod Shared

@@ -17,7 +17,7 @@ arity-Leads {c = c} {label = label} (by_hypothesis h is) = sym (ap (λ o. label_
 arity-Leads {c = c} {label = label} (by_assertion f sigma given result none is applies) =
     ap length applies.hypotheses ∙ length-map f.hypotheses (instance_of sigma) ∙ sym (ap (λ o. label_arity o (c.frames label)) none ∙ ap frame_arity is)
 
-le_true : (m n : ℕ) → m ≤ n → nat_le m n ≡ true
+pub le_true : (m n : ℕ) → m ≤ n → nat_le m n ≡ true
 le_true m n h = search rules
 
 drop-append_seam : (xs ys : List Expression) → drop (length xs) (xs ++ ys) ≡ ys

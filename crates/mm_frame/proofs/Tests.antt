@@ -1,14 +1,10 @@
 -- What tests on tokens and expressions say.
 use Rattle.std.proofs.Common.{◌≡◌, Bool, true, false, List, refl}
-use Rattle.std.specs.Prelude.{◌&&◌, Some, None, if◌then◌else◌}
+use Rattle.std.specs.Prelude.{Some, None, if◌then◌else◌}
 use Rattle.std.specs.Bool.{Decides}
 use Rattle.std.proofs.lemmas.Slice.Eq.{slice_eq-Decides, bytes_eq-Decides}
 use Rattle.mm_frame.specs.Proofs.{Expression}
 use Rattle.mm_frame.specs.Stack.{same_expression, same_expressions}
-
-pub both_true : (a b : Bool) → (a && b) ≡ true → (a ≡ true) × (b ≡ true)
-both_true true b h = (refl, h)
-both_true false b h = absurd (cc)
 
 pub same_expression-Decides : (xs ys : Expression) → Decides (same_expression xs ys) (xs ≡ ys)
 same_expression-Decides xs ys = slice_eq-Decides bytes_eq-Decides xs ys (same_expression xs ys) refl

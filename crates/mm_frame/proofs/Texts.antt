@@ -8,7 +8,7 @@ use Rattle.mm_frame.specs.Database.{Context, empty_context, context_after}
 use Rattle.mm_frame.specs.Validity.{AreFine}
 use Rattle.mm_frame.specs.FrameLaws.{AppendedIsFine, WrittenIsFine, written_statements}
 
-end_well-AreFine : (c left : Context) (statements : Statements) → AreFine c statements left → end_well statements ≡ true
+pub end_well-AreFine : (c left : Context) (statements : Statements) → AreFine c statements left → end_well statements ≡ true
 end_well-AreFine c left no_statement h = refl
 end_well-AreFine c left (unended at) h = absurd h
 end_well-AreFine c left (bad_statement f) h = absurd h

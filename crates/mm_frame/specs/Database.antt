@@ -64,20 +64,35 @@ floating_of label (typecode ∷ (variable ∷ [])) = floating label typecode var
 floating_of label (typecode ∷ (variable ∷ (other ∷ symbols))) = essential label (typecode ∷ (variable ∷ (other ∷ symbols)))
 
 abbrev pub with_hypothesis : Context → Token → Hypothesis → Context
-with_hypothesis c label h = record c { labels = with_token c.labels label; scope = record c.scope { hypotheses = c.scope.hypotheses ++ h ∷ [] } }
+with_hypothesis c label h = record c {
+  labels = with_token c.labels label;
+  scope = record c.scope { hypotheses = c.scope.hypotheses ++ h ∷ [] };
+}
 
 abbrev pub with_assertion : Context → Token → List Token → Context
-with_assertion c label symbols = record c { labels = with_token c.labels label; frames = with_frame c.frames label (frame_of c.scope label symbols) }
+with_assertion c label symbols = record c {
+  labels = with_token c.labels label;
+  frames = with_frame c.frames label (frame_of c.scope label symbols);
+}
 
 -- the context behind a statement with these labels, this keyword and these symbols
 abbrev pub with_declared : Context → List Token → Keyword → List Token → Context
-with_declared c labels declares_constants symbols = record c { constants = with_tokens c.constants symbols }
-with_declared c labels declares_variables symbols = record c { variables = with_tokens c.variables symbols; scope = record c.scope { variables = with_tokens c.scope.variables symbols } }
-with_declared c labels types_variable symbols = with_hypothesis c (first_label labels) (floating_of (first_label labels) symbols)
-with_declared c labels assumes symbols = with_hypothesis c (first_label labels) (essential (first_label labels) symbols)
-with_declared c labels separates symbols = record c { scope = record c.scope { apart = with_apart c.scope.apart symbols } }
-with_declared c labels asserts symbols = with_assertion c (first_label labels) symbols
-with_declared c labels proves symbols = with_assertion c (first_label labels) symbols
+with_declared c labels declares_constants symbols =
+    record c { constants = with_tokens c.constants symbols }
+with_declared c labels declares_variables symbols = record c {
+  variables = with_tokens c.variables symbols;
+  scope = record c.scope { variables = with_tokens c.scope.variables symbols };
+}
+with_declared c labels types_variable symbols =
+    with_hypothesis c (first_label labels) (floating_of (first_label labels) symbols)
+with_declared c labels assumes symbols =
+    with_hypothesis c (first_label labels) (essential (first_label labels) symbols)
+with_declared c labels separates symbols =
+    record c { scope = record c.scope { apart = with_apart c.scope.apart symbols } }
+with_declared c labels asserts symbols =
+    with_assertion c (first_label labels) symbols
+with_declared c labels proves symbols =
+    with_assertion c (first_label labels) symbols
 
 -- the end of a block takes back all that became active in it
 abbrev pub with_block_closed : Context → List Block → Context

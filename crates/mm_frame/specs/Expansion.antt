@@ -55,7 +55,8 @@ saved_after saved save = saved + 1
 -- what steps stand for, where a number names only what is saved before it
 abbrev pub meanings : List Token → ℕ → List CompressedStep → Option (List Step)
 meanings table saved [] = Some []
-meanings table saved (step ∷ steps) = with_step (meaning_of table saved step) (meanings table (saved_after saved step) steps)
+meanings table saved (step ∷ steps) =
+    with_step (meaning_of table saved step) (meanings table (saved_after saved step) steps)
 
 -- of labels backwards, the front that makes n trees
 abbrev pub trees_back : (Token → ℕ) → ℕ → List Token → List Token
@@ -80,7 +81,8 @@ trees_after takes (repeats n) back saved = saved
 -- the labels that steps stand for, backwards
 abbrev pub expanded_back : (Token → ℕ) → List Step → List Token → List (List Token) → List Token
 expanded_back takes [] back saved = back
-expanded_back takes (step ∷ steps) back saved = expanded_back takes steps (back_after step back saved) (trees_after takes step back saved)
+expanded_back takes (step ∷ steps) back saved =
+    expanded_back takes steps (back_after step back saved) (trees_after takes step back saved)
 
 abbrev pub expansion : (Token → ℕ) → List Step → List Token
 expansion takes steps = reverse (expanded_back takes steps [] [])
@@ -101,7 +103,8 @@ behind_close (token ∷ tokens) = if bytes_eq token (codes ")") then tokens else
 
 -- a compressed proof lists labels that may be cited, each once, and none of a mandatory hypothesis
 abbrev pub are_listed : Context → List Token → List Token → Bool
-are_listed c mandatory listed = list_all (is_citable c) listed && (not (has_repeated listed) && not (list_any (has_token mandatory) listed))
+are_listed c mandatory listed =
+    list_all (is_citable c) listed && (not (has_repeated listed) && not (list_any (has_token mandatory) listed))
 
 abbrev pub mandatory_labels : Frame → List Token
 mandatory_labels f = map label_of f.hypotheses
@@ -112,9 +115,14 @@ compressed_steps f listed letters = option_and_then (meanings (mandatory_labels 
 
 -- the tokens behind the `(` of a compressed proof, as labels
 abbrev pub compressed_labels : Context → Frame → List Token → Option (List Token)
-compressed_labels c f tokens = if has_token tokens (codes ")") && are_listed c (mandatory_labels f) (before_close tokens) then option_map (expansion (arity c)) (compressed_steps f (before_close tokens) (flat_map (λ t. t) (behind_close tokens))) else None
+compressed_labels c f tokens =
+    if has_token tokens (codes ")") && are_listed c (mandatory_labels f) (before_close tokens)
+    then option_map (expansion (arity c)) (compressed_steps f (before_close tokens) (flat_map (λ t. t) (behind_close tokens)))
+    else None
 
 -- a proof's labels, if its text names some: a compressed proof begins with `(`
 abbrev pub labels_of : Context → Frame → List Token → Option (List Token)
 labels_of c f [] = None
-labels_of c f (token ∷ tokens) = if bytes_eq token (codes "(") then compressed_labels c f tokens else if list_all (is_citable c) (token ∷ tokens) then Some (token ∷ tokens) else None
+labels_of c f (token ∷ tokens) =
+    if bytes_eq token (codes "(") then compressed_labels c f tokens else
+    if list_all (is_citable c) (token ∷ tokens) then Some (token ∷ tokens) else None

@@ -35,7 +35,14 @@ from_dollar [] = []
 from_dollar (token ∷ tokens) = if has_dollar token then token ∷ tokens else from_dollar tokens
 
 abbrev pub keyword_of : Token → Option Keyword
-keyword_of token = if bytes_eq token (codes "$c") then Some declares_constants else if bytes_eq token (codes "$v") then Some declares_variables else if bytes_eq token (codes "$f") then Some types_variable else if bytes_eq token (codes "$e") then Some assumes else if bytes_eq token (codes "$d") then Some separates else if bytes_eq token (codes "$a") then Some asserts else if bytes_eq token (codes "$p") then Some proves else None
+keyword_of token =
+    if bytes_eq token (codes "$c") then Some declares_constants else
+    if bytes_eq token (codes "$v") then Some declares_variables else
+    if bytes_eq token (codes "$f") then Some types_variable else
+    if bytes_eq token (codes "$e") then Some assumes else
+    if bytes_eq token (codes "$d") then Some separates else
+    if bytes_eq token (codes "$a") then Some asserts else
+    if bytes_eq token (codes "$p") then Some proves else None
 
 -- `$.` is all that is left
 abbrev pub is_end : List Token → Bool
@@ -57,7 +64,8 @@ declaration_form labels keyword (symbol ∷ symbols) rest = form_if (is_end rest
 
 abbrev pub proof_form : List Token → List Token → List Token → Option Form
 proof_form labels symbols [] = None
-proof_form labels symbols (token ∷ rest) = form_if (bytes_eq token (codes "$=") && is_end (from_dollar rest)) (plain labels proves symbols (before_dollar rest))
+proof_form labels symbols (token ∷ rest) =
+    form_if (bytes_eq token (codes "$=") && is_end (from_dollar rest)) (plain labels proves symbols (before_dollar rest))
 
 abbrev pub keyword_form : List Token → List Token → List Token → Keyword → Option Form
 keyword_form labels symbols rest declares_constants = declaration_form labels declares_constants symbols rest
@@ -71,13 +79,17 @@ keyword_form labels symbols rest proves = proof_form labels symbols rest
 -- the form of labels and of the tokens from a keyword on
 abbrev pub labelled_form : List Token → List Token → Option Form
 labelled_form labels [] = None
-labelled_form labels (token ∷ rest) = option_and_then (keyword_form labels (before_dollar rest) (from_dollar rest)) (keyword_of token)
+labelled_form labels (token ∷ rest) =
+    option_and_then (keyword_form labels (before_dollar rest) (from_dollar rest)) (keyword_of token)
 
 abbrev pub block_form : Token → Option Form
-block_form token = if bytes_eq token (codes "${") then Some block_start else if bytes_eq token (codes "$}") then Some block_end else None
+block_form token =
+    if bytes_eq token (codes "${") then Some block_start else
+    if bytes_eq token (codes "$}") then Some block_end else None
 
 -- the form of a statement, if its keywords are well placed
 abbrev pub form_of : List Token → Option Form
 form_of [] = None
 form_of (token ∷ []) = block_form token
-form_of (token ∷ (next ∷ tokens)) = labelled_form (before_dollar (token ∷ (next ∷ tokens))) (from_dollar (token ∷ (next ∷ tokens)))
+form_of (token ∷ (next ∷ tokens)) =
+    labelled_form (before_dollar (token ∷ (next ∷ tokens))) (from_dollar (token ∷ (next ∷ tokens)))

@@ -7,3 +7,9 @@ pub mod Stack
 pub mod Validity
 pub mod Cases
 pub mod FrameLaws
+pub mod Assertions
+pub mod Numbered
+pub mod Writing
+pub mod Orderly
+pub mod NumberedSteps
+pub mod Sharing

@@ -39,7 +39,8 @@ abbrev pub pair_apart : Context → Frame → (Token → Expression) → Token �
 pair_apart c f sigma a b = not (f.apart a b) || texts_apart c (sigma a) (sigma b)
 
 abbrev pub keeps_apart : Context → Frame → (Token → Expression) → Bool
-keeps_apart c f sigma = list_all (λ a. list_all (pair_apart c f sigma a) (typed_variables f.hypotheses)) (typed_variables f.hypotheses)
+keeps_apart c f sigma =
+    list_all (λ a. list_all (pair_apart c f sigma a) (typed_variables f.hypotheses)) (typed_variables f.hypotheses)
 
 -- An assertion leads from expressions to one under a substitution, which changes only the variables
 -- that the assertion's mandatory hypotheses type.
@@ -52,7 +53,8 @@ pub record Applies (c : Context) (f : Frame) (sigma : Token → Expression) (giv
 -- the hypothesis of a label among some
 abbrev pub hypothesis_of : List Hypothesis → Token → Option Hypothesis
 hypothesis_of [] label = None
-hypothesis_of (h ∷ hypotheses) label = if bytes_eq (label_of h) label then Some h else hypothesis_of hypotheses label
+hypothesis_of (h ∷ hypotheses) label =
+    if bytes_eq (label_of h) label then Some h else hypothesis_of hypotheses label
 
 abbrev pub active_hypothesis : Context → Token → Option Hypothesis
 active_hypothesis c label = hypothesis_of c.scope.hypotheses label
@@ -78,7 +80,8 @@ abbrev mutual
 
   pub AllProve : Context → ProofForest → List Expression → Type 0
   AllProve c no_proof results = results ≡ []
-  AllProve c (more_proofs tree trees) results = (first : Expression) × (rest : List Expression) × (results ≡ first ∷ rest) × Proves c tree first × AllProve c trees rest
+  AllProve c (more_proofs tree trees) results =
+      (first : Expression) × (rest : List Expression) × (results ≡ first ∷ rest) × Proves c tree first × AllProve c trees rest
 
 -- the labels of a tree in postorder
 abbrev mutual

@@ -26,7 +26,8 @@ behind_first (symbol ∷ symbols) = symbols
 abbrev pub bindings_of : List Hypothesis → List Expression → List Binding
 bindings_of [] entries = []
 bindings_of (h ∷ hypotheses) [] = []
-bindings_of (floating label typecode variable ∷ hypotheses) (entry ∷ entries) = record { variable = variable; text = behind_first entry } ∷ bindings_of hypotheses entries
+bindings_of (floating label typecode variable ∷ hypotheses) (entry ∷ entries) =
+    record { variable = variable; text = behind_first entry } ∷ bindings_of hypotheses entries
 bindings_of (essential label statement ∷ hypotheses) (entry ∷ entries) = bindings_of hypotheses entries
 
 -- the text of a symbol, which is itself where it is not bound
@@ -36,7 +37,10 @@ text_of (b ∷ bindings) symbol = if bytes_eq b.variable symbol then b.text else
 
 -- what an assertion gives from entries under a substitution
 abbrev pub applied_under : Context → Frame → (Token → Expression) → List Expression → Option Expression
-applied_under c f sigma entries = if same_expressions entries (map (instance_of sigma) f.hypotheses) && keeps_apart c f sigma then Some (substituted sigma f.statement) else None
+applied_under c f sigma entries =
+    if same_expressions entries (map (instance_of sigma) f.hypotheses) && keeps_apart c f sigma
+    then Some (substituted sigma f.statement)
+    else None
 
 abbrev pub applied : Context → Frame → List Expression → Option Expression
 applied c f entries = applied_under c f (text_of (bindings_of f.hypotheses entries)) entries
@@ -60,12 +64,16 @@ step_result c label entries = label_result c (active_hypothesis c label) (c.fram
 
 -- the n last entries give way to what the label gives from them
 abbrev pub stack_after_step : Context → Token → ℕ → List Expression → Option (List Expression)
-stack_after_step c label n stack = if nat_le n (length stack) then option_map (λ e. take (length stack - n) stack ++ e ∷ []) (step_result c label (drop (length stack - n) stack)) else None
+stack_after_step c label n stack =
+    if nat_le n (length stack)
+    then option_map (λ e. take (length stack - n) stack ++ e ∷ []) (step_result c label (drop (length stack - n) stack))
+    else None
 
 -- the stack behind some labels, where each step fits
 abbrev pub stack_after : Context → List Token → List Expression → Option (List Expression)
 stack_after c [] stack = Some stack
-stack_after c (label ∷ labels) stack = option_and_then (stack_after c labels) (stack_after_step c label (arity c label) stack)
+stack_after c (label ∷ labels) stack =
+    option_and_then (stack_after c labels) (stack_after_step c label (arity c label) stack)
 
 -- A compressed proof computed without its expansion: the stack, and the entries that are saved.
 pub record Saving : Type 0 where
@@ -77,9 +85,12 @@ saving stack saved = record { stack = stack; saved = saved }
 
 -- a step saves the last entry, or puts a saved one on the stack again
 abbrev pub saving_after_step : Context → Step → Saving → Option Saving
-saving_after_step c (cites label) w = option_map (λ s. saving s w.saved) (stack_after_step c label (arity c label) w.stack)
-saving_after_step c saves w = option_map (λ e. saving w.stack (w.saved ++ e ∷ [])) (slice_get w.stack (length w.stack - 1))
-saving_after_step c (repeats n) w = option_map (λ e. saving (w.stack ++ e ∷ []) w.saved) (slice_get w.saved n)
+saving_after_step c (cites label) w =
+    option_map (λ s. saving s w.saved) (stack_after_step c label (arity c label) w.stack)
+saving_after_step c saves w =
+    option_map (λ e. saving w.stack (w.saved ++ e ∷ [])) (slice_get w.stack (length w.stack - 1))
+saving_after_step c (repeats n) w =
+    option_map (λ e. saving (w.stack ++ e ∷ []) w.saved) (slice_get w.saved n)
 
 abbrev pub saving_after : Context → List Step → Saving → Option Saving
 saving_after c [] w = Some w

@@ -36,8 +36,10 @@ is_inner_constant c declares_constants = is_open c.blocks
 is_inner_constant c keyword = false
 
 abbrev pub declares_again : Context → Keyword → List Token → Bool
-declares_again c declares_constants symbols = list_any (λ t. c.constants t || (c.variables t || c.labels t)) symbols || has_repeated symbols
-declares_again c declares_variables symbols = list_any (λ t. c.constants t || (c.scope.variables t || c.labels t)) symbols || has_repeated symbols
+declares_again c declares_constants symbols =
+    list_any (λ t. c.constants t || (c.variables t || c.labels t)) symbols || has_repeated symbols
+declares_again c declares_variables symbols =
+    list_any (λ t. c.constants t || (c.scope.variables t || c.labels t)) symbols || has_repeated symbols
 declares_again c keyword symbols = false
 
 -- a symbol is not active, or is a variable without a type where it has to have one
@@ -87,7 +89,8 @@ is_bad_disjoint keyword symbols = false
 
 -- no label of an earlier statement, and no symbol
 abbrev pub is_new_label : Context → Token → Bool
-is_new_label c label = is_label label && (not (c.labels label) && (not (c.constants label) && not (c.variables label)))
+is_new_label c label =
+    is_label label && (not (c.labels label) && (not (c.constants label) && not (c.variables label)))
 
 abbrev pub has_one_label : Context → List Token → Bool
 has_one_label c [] = false
@@ -107,7 +110,8 @@ pub record Task : Type 0 where
   pub steps : List Token
 
 abbrev pub task_of : Context → Frame → List Token → Option Task
-task_of c f proof = option_map (λ labels. record { conclusion = f.statement; steps = labels }) (labels_of c f proof)
+task_of c f proof =
+    option_map (λ labels. record { conclusion = f.statement; steps = labels }) (labels_of c f proof)
 
 abbrev pub theorem_task : Context → List Token → List Token → List Token → Option Task
 theorem_task c labels symbols proof = task_of c (frame_of c.scope (first_label labels) symbols) proof
@@ -132,20 +136,34 @@ abbrev pub first_found : List Tested → Option ℕ
 first_found [] = None
 first_found (t ∷ tests) = if t.found then Some t.kind else first_found tests
 
--- the smallest kind of fault of a statement, but for those of a proof's steps
-abbrev pub form_fault : Context → Option Form → Option ℕ
-form_fault c None = Some bad_keyword
-form_fault c (Some block_start) = None
-form_fault c (Some block_end) = if is_open c.blocks then None else Some bad_scope
-form_fault c (Some (plain labels keyword symbols proof)) = first_found (
+-- the smallest kind of fault of a statement, but for those of its proof
+abbrev pub declaration_fault : Context → Option Form → Option ℕ
+declaration_fault c None = Some bad_keyword
+declaration_fault c (Some block_start) = None
+declaration_fault c (Some block_end) = if is_open c.blocks then None else Some bad_scope
+declaration_fault c (Some (plain labels keyword symbols proof)) = first_found (
     tested inner_constant (is_inner_constant c keyword) ∷
     tested redeclared (declares_again c keyword symbols) ∷
     tested not_active (names_inactive c keyword symbols) ∷
     tested bad_typecode (is_mistyped c keyword symbols) ∷
     tested second_float (types_again c keyword symbols) ∷
     tested bad_disjoint (is_bad_disjoint keyword symbols) ∷
-    tested bad_label (is_mislabelled c keyword labels) ∷
-    tested bad_proof_text (has_bad_proof_text c labels keyword symbols proof) ∷ [])
+    tested bad_label (is_mislabelled c keyword labels) ∷ [])
+
+abbrev pub proof_text_fault : Context → Option Form → Option ℕ
+proof_text_fault c None = None
+proof_text_fault c (Some block_start) = None
+proof_text_fault c (Some block_end) = None
+proof_text_fault c (Some (plain labels keyword symbols proof)) =
+    if has_bad_proof_text c labels keyword symbols proof then Some bad_proof_text else None
+
+abbrev pub or_else : Option ℕ → Option ℕ → Option ℕ
+or_else None other = other
+or_else (Some kind) other = Some kind
+
+-- the smallest kind of fault of a statement, but for those of a proof's steps
+abbrev pub form_fault : Context → Option Form → Option ℕ
+form_fault c form = or_else (declaration_fault c form) (proof_text_fault c form)
 
 -- the labels are the postorder of no forest
 abbrev pub HasBadStep : Context → Task → Type 0
@@ -173,7 +191,8 @@ abbrev pub AreFine : Context → Statements → Context → Type 0
 AreFine c no_statement left = left ≡ c
 AreFine c (unended at) left = ⊥
 AreFine c (bad_statement f) left = ⊥
-AreFine c (next_statement s statements) left = IsFine c s.tokens × AreFine (context_after c s) statements left
+AreFine c (next_statement s statements) left =
+    IsFine c s.tokens × AreFine (context_after c s) statements left
 
 -- each statement of the text is without fault, and each block is closed
 pub record IsValid (bytes : List ℕ) : Type 0 where
@@ -192,7 +211,8 @@ abbrev pub IsFirstFaultIn : Context → Statements → MmFault → Type 0
 IsFirstFaultIn c no_statement f = (at : ℕ) × (first_open c.blocks ≡ Some at) × (f ≡ fault bad_scope at)
 IsFirstFaultIn c (unended at) f = f ≡ fault bad_keyword at
 IsFirstFaultIn c (bad_statement g) f = f ≡ g
-IsFirstFaultIn c (next_statement s statements) f = ((kind : ℕ) × IsFaulty c s.tokens kind × (f ≡ fault kind s.at)) ⊎ (IsFine c s.tokens × IsFirstFaultIn (context_after c s) statements f)
+IsFirstFaultIn c (next_statement s statements) f =
+    ((kind : ℕ) × IsFaulty c s.tokens kind × (f ≡ fault kind s.at)) ⊎ (IsFine c s.tokens × IsFirstFaultIn (context_after c s) statements f)
 
 abbrev pub IsFirstFault : List ℕ → MmFault → Type 0
 IsFirstFault bytes f = IsFirstFaultIn empty_context (statements_of bytes) f
@@ -201,18 +221,16 @@ IsFirstFault bytes f = IsFirstFaultIn empty_context (statements_of bytes) f
 
 abbrev pub stack_fault : Expression → Option (List Expression) → Option ℕ
 stack_fault conclusion None = Some bad_step
-stack_fault conclusion (Some stack) = if same_expressions stack (conclusion ∷ []) then None else Some bad_conclusion
+stack_fault conclusion (Some stack) =
+    if same_expressions stack (conclusion ∷ []) then None else Some bad_conclusion
 
 abbrev pub task_fault : Context → Option Task → Option ℕ
 task_fault c None = None
 task_fault c (Some t) = stack_fault t.conclusion (stack_after c t.steps [])
 
-abbrev pub or_else : Option ℕ → Option ℕ → Option ℕ
-or_else None other = other
-or_else (Some kind) other = Some kind
-
 abbrev pub statement_fault : Context → List Token → Option ℕ
-statement_fault c tokens = or_else (form_fault c (form_of tokens)) (task_fault c (task c (form_of tokens)))
+statement_fault c tokens =
+    or_else (form_fault c (form_of tokens)) (task_fault c (task c (form_of tokens)))
 
 abbrev pub fault_or : Option ℕ → ℕ → Option MmFault → Option MmFault
 fault_or None at other = other
@@ -222,7 +240,8 @@ abbrev pub first_fault_in : Context → Statements → Option MmFault
 first_fault_in c no_statement = option_map (fault bad_scope) (first_open c.blocks)
 first_fault_in c (unended at) = Some (fault bad_keyword at)
 first_fault_in c (bad_statement f) = Some f
-first_fault_in c (next_statement s statements) = fault_or (statement_fault c s.tokens) s.at (first_fault_in (context_after c s) statements)
+first_fault_in c (next_statement s statements) =
+    fault_or (statement_fault c s.tokens) s.at (first_fault_in (context_after c s) statements)
 
 abbrev pub first_fault : List ℕ → Option MmFault
 first_fault bytes = first_fault_in empty_context (statements_of bytes)

@@ -1,6 +1,11 @@
 // Laws on the definitions, and the definitions tried on small texts.
 ghost use Rattle.mm_frame.specs.Cases.{TriedCases};
-ghost use Rattle.mm_frame.specs.FrameLaws.{AppendedIsFine, FirstFaultIsComputed, SavingIsExpanding, StacksAreForests, ValidIsFaultless, WrittenIsFine};
+ghost use Rattle.mm_frame.specs.Numbered.{AppliedIsNamed};
+ghost use Rattle.mm_frame.specs.FrameLaws.{AppendedIsFine, AppendedStates, FineWhereActive, FirstFaultIsComputed, PlainTokensSay, ProofTokensSay, SavingIsExpanding, StacksAreForests, ValidIsFaultless, WrittenIsFine};
+ghost use Rattle.mm_frame.specs.NumberedSteps.{StepIsNamed};
+ghost use Rattle.mm_frame.specs.Orderly.{EmptyIsOrderly, OrderlyAfter};
+ghost use Rattle.mm_frame.specs.Sharing.{SharingIsExact};
+ghost use Rattle.mm_frame.specs.Writing.{AxiomIsFine, ContinuedLeaves, LeavesIsValid, TheoremIsFine};
 
 /// The definitions say of some small texts what the Metamath book says of them: which are valid, and
 /// the first fault of the others, one or more of each kind.
@@ -13,13 +18,26 @@ pub fn tried()
 pub fn proof_laws()
     ensures stacks { StacksAreForests }
     ensures saving { SavingIsExpanding }
+    ensures sharing { SharingIsExact }
     ensures valid { ValidIsFaultless }
+    ensures active { FineWhereActive }
+    ensures empty { EmptyIsOrderly }
+    ensures orderly { OrderlyAfter }
+    ensures named { AppliedIsNamed }
+    ensures step { StepIsNamed }
     ensures first_fault { FirstFaultIsComputed }
 {}
 
 /// A valid text stays valid with statements behind it that are without fault in what it declares, and
-/// written statements are read as they are.
+/// has gained what they state. Written statements are read as they are.
 pub fn database_laws()
     ensures appended { AppendedIsFine }
+    ensures states { AppendedStates }
     ensures written { WrittenIsFine }
+    ensures plain { PlainTokensSay }
+    ensures proof { ProofTokensSay }
+    ensures valid { LeavesIsValid }
+    ensures continued { ContinuedLeaves }
+    ensures axiom { AxiomIsFine }
+    ensures theorem { TheoremIsFine }
 {}

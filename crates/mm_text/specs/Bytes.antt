@@ -20,16 +20,14 @@ pub data Class : Type 0 where
   foreign : Class
 
 abbrev pub class_of : ℕ → Class
-class_of b = if is_white b then white else if is_printable b then printable else foreign
+class_of b =
+    if is_white b then white else
+    if is_printable b then printable else foreign
 
 abbrev pub is_printable_class : Class → Bool
 is_printable_class printable = true
 is_printable_class white = false
 is_printable_class foreign = false
-
--- the token is this text
-abbrev pub is_token : Token → List ℕ → Bool
-is_token token text = bytes_eq token text
 
 -- one of the tokens is this one
 abbrev pub has_token : List Token → Token → Bool

@@ -10,7 +10,10 @@ pub data Letter : Type 0 where
   no_letter : Letter
 
 abbrev pub letter_of : ℕ → Letter
-letter_of b = if nat_le 65 b && nat_le b 84 then last_digit (b - 64) else if nat_le 85 b && nat_le b 89 then digit (b - 84) else if b == 90 then saves else no_letter
+letter_of b =
+    if nat_le 65 b && nat_le b 84 then last_digit (b - 64) else
+    if nat_le 85 b && nat_le b 89 then digit (b - 84) else
+    if b == 90 then saves else no_letter
 
 -- what stands before a letter: nothing, digits with this value, a number's last digit, or a `Z`
 pub data Before : Type 0 where

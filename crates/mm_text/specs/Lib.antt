@@ -5,3 +5,6 @@ pub mod Statements
 pub mod Labels
 pub mod Compressed
 pub mod TextLaws
+pub mod Cases
+pub mod Places
+pub mod Letters

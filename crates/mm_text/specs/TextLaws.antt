@@ -28,7 +28,10 @@ followed_by (next_statement s statements) more = next_statement s (followed_by s
 -- what is appended to a text that ends between statements, with white space, is read as it is read
 -- alone, from its place on
 abbrev pub AppendedText : Type 0
-AppendedText = (at : ℕ) (text more : List ℕ) → ends_white text ≡ true → end_well (statements_from at text) ≡ true → statements_from at (text ++ more) ≡ followed_by (statements_from at text) (statements_from (at + length text) more)
+AppendedText =
+    (at : ℕ) (text more : List ℕ) → ends_white text ≡ true →
+    end_well (statements_from at text) ≡ true →
+    statements_from at (text ++ more) ≡ followed_by (statements_from at text) (statements_from (at + length text) more)
 
 -- a token that opens or closes no comment
 abbrev pub is_plain_token : Token → Bool
@@ -53,4 +56,7 @@ written tokens = flat_map (λ token. token ++ 32 ∷ []) tokens
 
 -- a written statement is read back, and then what follows it
 abbrev pub WrittenStatement : Type 0
-WrittenStatement = (at : ℕ) (tokens : List Token) (more : List ℕ) → list_all is_plain_token tokens ≡ true → is_one_statement tokens ≡ true → statements_from at (written tokens ++ more) ≡ next_statement (statement at tokens) (statements_from (at + length (written tokens)) more)
+WrittenStatement =
+    (at : ℕ) (tokens : List Token) (more : List ℕ) → list_all is_plain_token tokens ≡ true →
+    is_one_statement tokens ≡ true →
+    statements_from at (written tokens ++ more) ≡ next_statement (statement at tokens) (statements_from (at + length (written tokens)) more)

@@ -80,9 +80,13 @@ comment_end (Some at) = a_fault (fault bad_byte at)
 
 abbrev pub given : Place → Piece → Given
 given outside (stray at) = a_fault (fault bad_byte at)
-given outside (run at token) = if opens_comment token then nothing else if closes_comment token then a_fault (fault bad_comment at) else a_token at token
+given outside (run at token) =
+    if opens_comment token then nothing else
+    if closes_comment token then a_fault (fault bad_comment at) else a_token at token
 given (in_comment opened bad) (stray at) = nothing
-given (in_comment opened bad) (run at token) = if closes_comment token then comment_end bad else if has_comment_mark token then a_fault (fault bad_comment opened) else nothing
+given (in_comment opened bad) (run at token) =
+    if closes_comment token then comment_end bad else
+    if has_comment_mark token then a_fault (fault bad_comment opened) else nothing
 
 -- The tokens of a text, each with the byte at which it begins, up to the text's end or its first
 -- fault.

@@ -1,7 +1,11 @@
 use Rattle.mm_text.specs.Statements.{statements_of}
 use Rattle.mm_frame.specs.Database.{empty_context}
-use Rattle.mm_frame.proofs.Faults.{faultless_valid, valid_faultless, IsFirstFaultIn-computed, computed-IsFirstFaultIn}
+use Rattle.mm_frame.proofs.Faults.{fine_where_active, faultless_valid, valid_faultless, IsFirstFaultIn-computed, computed-IsFirstFaultIn}
+use Rattle.mm_frame.proofs.Named.{applied_is_named}
+use Rattle.mm_frame.proofs.NamedSteps.{step_is_named}
 use Rattle.mm_frame.proofs.Saved.{saving_is_expanding}
+use Rattle.mm_frame.proofs.TypedOnce.{empty_is_orderly, orderly_after}
+use Rattle.mm_frame.proofs.Shared.{sharing_is_exact}
 use Rattle.mm_frame.proofs.Stacks.{stack_after-complete, stack_after-sound}
 use Rattle.mm_frame.proofs.laws.proof_laws.Goals as goal
 
@@ -17,3 +21,21 @@ returns-clause-first_fault a bytes f =
 
 pub returns-clause-saving : goal.returns-clause-saving
 returns-clause-saving a = saving_is_expanding
+
+pub returns-clause-active : goal.returns-clause-active
+returns-clause-active a = fine_where_active
+
+pub returns-clause-named : goal.returns-clause-named
+returns-clause-named a = applied_is_named
+
+pub returns-clause-empty : goal.returns-clause-empty
+returns-clause-empty a = empty_is_orderly
+
+pub returns-clause-orderly : goal.returns-clause-orderly
+returns-clause-orderly a = orderly_after
+
+pub returns-clause-step : goal.returns-clause-step
+returns-clause-step a = step_is_named
+
+pub returns-clause-sharing : goal.returns-clause-sharing
+returns-clause-sharing a = sharing_is_exact
