@@ -11,3 +11,4 @@ pub mod Named
 pub mod Continued
 pub mod TypedOnce
 pub mod NamedSteps
+pub mod Shared

@@ -57,12 +57,12 @@ AllPush-more c (b ∷ trees) (d ∷ entries) back e all p = (all.0, AllPush-more
 trees_back-cons : (takes : Token → ℕ) (n : ℕ) (label : Token) (labels : List Token) → trees_back takes (n + 1) (label ∷ labels) ≡ label ∷ trees_back takes (n + takes label) labels
 trees_back-cons takes n label labels = rw add-one refl
 
-trees_back-zero : (takes : Token → ℕ) (labels : List Token) → trees_back takes 0 labels ≡ []
+pub trees_back-zero : (takes : Token → ℕ) (labels : List Token) → trees_back takes 0 labels ≡ []
 trees_back-zero takes [] = refl
 trees_back-zero takes (label ∷ labels) = refl
 
 mutual
-  trees_back-tree : (c : Context) (tree : ProofTree) (result : Expression) (n : ℕ) (rest : List Token) → Proves c tree result → trees_back (arity c) (n + 1) (reverse (postorder tree) ++ rest) ≡ reverse (postorder tree) ++ trees_back (arity c) n rest
+  pub trees_back-tree : (c : Context) (tree : ProofTree) (result : Expression) (n : ℕ) (rest : List Token) → Proves c tree result → trees_back (arity c) (n + 1) (reverse (postorder tree) ++ rest) ≡ reverse (postorder tree) ++ trees_back (arity c) n rest
   trees_back-tree c (proof_node label trees) result n rest (given, leads, all) =
       let turned : reverse (all_postorder trees ++ label ∷ []) ≡ label ∷ reverse (all_postorder trees) = reverse-append (all_postorder trees) (label ∷ []) in
       let takes : n + arity c label ≡ n + length given = ap (λ (k : ℕ). n + k) (sym (arity-Leads leads)) in

@@ -4,11 +4,11 @@ use Rattle.std.specs.Prelude.{◌||◌, if◌then◌else◌, filter, Option, Som
 use Rattle.std.specs.List.{list_any}
 use Rattle.std.proofs.lemmas.Slice.Eq.{bytes_eq-Decides}
 use Rattle.mm_text.specs.Bytes.{Token}
-use Rattle.mm_text.specs.FaultKinds.{inner_constant, redeclared, not_active, bad_typecode, second_float, bad_disjoint, bad_label, bad_proof_text}
+use Rattle.mm_text.specs.FaultKinds.{inner_constant, redeclared, not_active, bad_typecode, second_float, bad_disjoint, bad_label}
 use Rattle.mm_frame.specs.Forms.{Keyword, declares_constants, declares_variables, types_variable, assumes, separates, asserts, proves, Form, block_start, block_end, plain, form_of}
 use Rattle.mm_frame.specs.Frames.{Hypothesis, floating, essential, Frame, frame_of, is_mandatory, types}
 use Rattle.mm_frame.specs.Database.{Block, Context, first_label, floating_of, with_hypothesis, with_assertion, with_declared, with_block_closed, after_form}
-use Rattle.mm_frame.specs.Validity.{is_inner_constant, declares_again, names_inactive, is_mistyped, types_again, is_bad_disjoint, is_mislabelled, has_bad_proof_text, Tested, tested, first_found, form_fault}
+use Rattle.mm_frame.specs.Validity.{is_inner_constant, declares_again, names_inactive, is_mistyped, types_again, is_bad_disjoint, is_mislabelled, Tested, tested, first_found, declaration_fault, proof_text_fault, or_else, form_fault}
 use Rattle.mm_frame.specs.Orderly.{TypeOnce, BlocksTypeOnce, IsOrderly, EmptyIsOrderly, OrderlyAfter}
 
 bytes_eq-turned : (xs ys : Token) → bytes_eq xs ys ≡ false → bytes_eq ys xs ≡ false
@@ -79,6 +79,10 @@ none_found t tests h = go t.found refl h
     go true is k = absurd (cc)
     go false is k = (is, k)
 
+first_none : (kind other : Option ℕ) → or_else kind other ≡ None → kind ≡ None
+first_none None other h = refl
+first_none (Some kind) other h = absurd (cc)
+
 fifth_found : (a b c d e : Tested) (tests : List Tested) → first_found (a ∷ (b ∷ (c ∷ (d ∷ (e ∷ tests))))) ≡ None → e.found ≡ false
 fifth_found a b c d e tests h =
     let one : first_found (b ∷ (c ∷ (d ∷ (e ∷ tests)))) ≡ None = (none_found a (b ∷ (c ∷ (d ∷ (e ∷ tests)))) h).1 in
@@ -88,7 +92,7 @@ fifth_found a b c d e tests h =
 
 types_again-none : (c : Context) (labels : List Token) (keyword : Keyword) (symbols proof : List Token) → form_fault c (Some (plain labels keyword symbols proof)) ≡ None → types_again c keyword symbols ≡ false
 types_again-none c labels keyword symbols proof h =
-    fifth_found (tested inner_constant (is_inner_constant c keyword)) (tested redeclared (declares_again c keyword symbols)) (tested not_active (names_inactive c keyword symbols)) (tested bad_typecode (is_mistyped c keyword symbols)) (tested second_float (types_again c keyword symbols)) (tested bad_disjoint (is_bad_disjoint keyword symbols) ∷ tested bad_label (is_mislabelled c keyword labels) ∷ tested bad_proof_text (has_bad_proof_text c labels keyword symbols proof) ∷ []) h
+    fifth_found (tested inner_constant (is_inner_constant c keyword)) (tested redeclared (declares_again c keyword symbols)) (tested not_active (names_inactive c keyword symbols)) (tested bad_typecode (is_mistyped c keyword symbols)) (tested second_float (types_again c keyword symbols)) (tested bad_disjoint (is_bad_disjoint keyword symbols) ∷ tested bad_label (is_mislabelled c keyword labels) ∷ []) (first_none (declaration_fault c (Some (plain labels keyword symbols proof))) (proof_text_fault c (Some (plain labels keyword symbols proof))) h)
 
 -- one declaration
 

@@ -12,3 +12,4 @@ pub mod Numbered
 pub mod Writing
 pub mod Orderly
 pub mod NumberedSteps
+pub mod Sharing

@@ -136,20 +136,34 @@ abbrev pub first_found : List Tested → Option ℕ
 first_found [] = None
 first_found (t ∷ tests) = if t.found then Some t.kind else first_found tests
 
--- the smallest kind of fault of a statement, but for those of a proof's steps
-abbrev pub form_fault : Context → Option Form → Option ℕ
-form_fault c None = Some bad_keyword
-form_fault c (Some block_start) = None
-form_fault c (Some block_end) = if is_open c.blocks then None else Some bad_scope
-form_fault c (Some (plain labels keyword symbols proof)) = first_found (
+-- the smallest kind of fault of a statement, but for those of its proof
+abbrev pub declaration_fault : Context → Option Form → Option ℕ
+declaration_fault c None = Some bad_keyword
+declaration_fault c (Some block_start) = None
+declaration_fault c (Some block_end) = if is_open c.blocks then None else Some bad_scope
+declaration_fault c (Some (plain labels keyword symbols proof)) = first_found (
     tested inner_constant (is_inner_constant c keyword) ∷
     tested redeclared (declares_again c keyword symbols) ∷
     tested not_active (names_inactive c keyword symbols) ∷
     tested bad_typecode (is_mistyped c keyword symbols) ∷
     tested second_float (types_again c keyword symbols) ∷
     tested bad_disjoint (is_bad_disjoint keyword symbols) ∷
-    tested bad_label (is_mislabelled c keyword labels) ∷
-    tested bad_proof_text (has_bad_proof_text c labels keyword symbols proof) ∷ [])
+    tested bad_label (is_mislabelled c keyword labels) ∷ [])
+
+abbrev pub proof_text_fault : Context → Option Form → Option ℕ
+proof_text_fault c None = None
+proof_text_fault c (Some block_start) = None
+proof_text_fault c (Some block_end) = None
+proof_text_fault c (Some (plain labels keyword symbols proof)) =
+    if has_bad_proof_text c labels keyword symbols proof then Some bad_proof_text else None
+
+abbrev pub or_else : Option ℕ → Option ℕ → Option ℕ
+or_else None other = other
+or_else (Some kind) other = Some kind
+
+-- the smallest kind of fault of a statement, but for those of a proof's steps
+abbrev pub form_fault : Context → Option Form → Option ℕ
+form_fault c form = or_else (declaration_fault c form) (proof_text_fault c form)
 
 -- the labels are the postorder of no forest
 abbrev pub HasBadStep : Context → Task → Type 0
@@ -213,10 +227,6 @@ stack_fault conclusion (Some stack) =
 abbrev pub task_fault : Context → Option Task → Option ℕ
 task_fault c None = None
 task_fault c (Some t) = stack_fault t.conclusion (stack_after c t.steps [])
-
-abbrev pub or_else : Option ℕ → Option ℕ → Option ℕ
-or_else None other = other
-or_else (Some kind) other = Some kind
 
 abbrev pub statement_fault : Context → List Token → Option ℕ
 statement_fault c tokens =

@@ -4,6 +4,7 @@ ghost use Rattle.mm_frame.specs.Numbered.{AppliedIsNamed};
 ghost use Rattle.mm_frame.specs.FrameLaws.{AppendedIsFine, AppendedStates, FineWhereActive, FirstFaultIsComputed, PlainTokensSay, ProofTokensSay, SavingIsExpanding, StacksAreForests, ValidIsFaultless, WrittenIsFine};
 ghost use Rattle.mm_frame.specs.NumberedSteps.{StepIsNamed};
 ghost use Rattle.mm_frame.specs.Orderly.{EmptyIsOrderly, OrderlyAfter};
+ghost use Rattle.mm_frame.specs.Sharing.{SharingIsExact};
 ghost use Rattle.mm_frame.specs.Writing.{AxiomIsFine, ContinuedLeaves, LeavesIsValid, TheoremIsFine};
 
 /// The definitions say of some small texts what the Metamath book says of them: which are valid, and
@@ -17,6 +18,7 @@ pub fn tried()
 pub fn proof_laws()
     ensures stacks { StacksAreForests }
     ensures saving { SavingIsExpanding }
+    ensures sharing { SharingIsExact }
     ensures valid { ValidIsFaultless }
     ensures active { FineWhereActive }
     ensures empty { EmptyIsOrderly }

@@ -1,5 +1,5 @@
 -- The header is valid, by computation.
-use Rattle.std.proofs.Common.{◌≡◌, ℕ, ◌∙◌, refl, subst, false, true, map, ap}
+use Rattle.std.proofs.Common.{◌≡◌, ℕ, refl, subst, false, true}
 use Rattle.std.specs.Prelude.{Option, Some, None}
 use Rattle.mm_text.specs.Statements.{Statements, no_statement, unended, bad_statement, next_statement, statements_of}
 use Rattle.mm_text.specs.TextLaws.{ends_white}

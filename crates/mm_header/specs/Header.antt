@@ -15,9 +15,11 @@ pub record Row : Type 0 where
   pub hypotheses : List (List ℕ)
   pub statement : List ℕ
 
+-- a row without hypotheses
 abbrev pub schema : List ℕ → List ℕ → Row
 schema name what = record { label = name; apart = []; hypotheses = []; statement = what }
 
+-- a row with hypotheses
 abbrev pub rule : List ℕ → List (List ℕ) → List ℕ → Row
 rule name given what = record { label = name; apart = []; hypotheses = given; statement = what }
 
@@ -148,8 +150,10 @@ reachability_rows =
     rule (codes "ev.kt") (codes "( \\imp p q )" ∷ codes "( \\imp ( \\next q ) q )" ∷ []) (codes "( \\imp ( \\ev p ) q )") ∷
     []
 
+-- what proves a pattern
 abbrev pub proof_rows : List Row
 proof_rows = propositional_rows ++ top_row ++ first_order_rows ++ equality_rows ++ membership_rows ++ application_rows ++ reachability_rows
 
+-- the 88 rows, in order
 unfoldable pub header_rows : List Row
 header_rows = syntax_rows ++ fresh_rows ++ substitution_rows ++ predicate_rows ++ proof_rows

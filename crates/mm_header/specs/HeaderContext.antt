@@ -1,11 +1,11 @@
 -- What the header declares, and the frames of its rows.
-use Rattle.std.specs.Prelude.{◌≡◌, ℕ, Bool, false, ◌&&◌, ◌||◌, ◌==◌, if◌then◌else◌, List, [], ◌∷◌, ◌++◌, map, filter, fold, Option, Some, None, codes, bytes_eq, Contains, IsSome}
+use Rattle.std.specs.Prelude.{◌≡◌, ℕ, Bool, false, ◌&&◌, ◌||◌, ◌==◌, if◌then◌else◌, List, [], ◌∷◌, ◌++◌, map, filter, fold, Some, None, bytes_eq}
 use Rattle.std.specs.List.{flat_map, list_any}
 use Rattle.mm_text.specs.Bytes.{Token, has_token}
 use Rattle.mm_frame.specs.Frames.{Hypothesis, floating, essential, label_of, Scope, Frame, frame_of}
 use Rattle.mm_frame.specs.Database.{Context, with_tokens, with_token, with_apart, with_frame}
 use Rattle.mm_header.specs.Header.{Row, header_rows}
-use Rattle.mm_header.specs.HeaderText.{constants_text, variables_text, types_texts, turnstile_text, expression_text, labelled}
+use Rattle.mm_header.specs.HeaderText.{constants_text, variables_text, types_texts, expression_text, labelled}
 
 -- a byte in front of the first word
 abbrev pub in_first : ℕ → List Token → List Token

@@ -1,7 +1,7 @@
 -- The text of the header: the declarations of its constants and variables, the `$f` of each variable,
 -- and row after row a statement `$a`. A row with pairs or hypotheses stands in a block with its `$d`s
 -- and its `$e`s, which are labelled `LABEL.1` and `LABEL.2`.
-use Rattle.std.specs.Prelude.{ℕ, Bool, true, false, not, ◌&&◌, ◌==◌, if◌then◌else◌, List, [], ◌∷◌, ◌++◌, codes}
+use Rattle.std.specs.Prelude.{ℕ, Bool, true, false, ◌&&◌, ◌==◌, if◌then◌else◌, List, [], ◌∷◌, ◌++◌, codes}
 use Rattle.std.specs.List.{flat_map, zip}
 use Rattle.mm_header.specs.Header.{Row, header_rows}
 
@@ -29,7 +29,7 @@ types_texts =
 abbrev pub line_end : List ℕ
 line_end = codes " $.\n"
 
--- `#` stands for itself, and a pattern behind `|-`
+-- what stands before a statement: nothing where it begins with `#`, and else `|-` and a space
 abbrev pub turnstile_text : List ℕ → List ℕ
 turnstile_text [] = codes "|- "
 turnstile_text (b ∷ bytes) = if b == 35 then [] else codes "|- "
@@ -37,6 +37,7 @@ turnstile_text (b ∷ bytes) = if b == 35 then [] else codes "|- "
 abbrev pub expression_text : List ℕ → List ℕ
 expression_text text = turnstile_text text ++ text
 
+-- the ends of the labels of the first and the second hypothesis
 abbrev pub endings : List (List ℕ)
 endings = codes ".1" ∷ codes ".2" ∷ []
 
@@ -60,15 +61,18 @@ abbrev pub is_nil : {A : Type 0} → List A → Bool
 is_nil [] = true
 is_nil (x ∷ xs) = false
 
+-- a row with no pairs and no hypotheses
 abbrev pub is_single : Row → Bool
 is_single r = is_nil r.apart && is_nil r.hypotheses
 
+-- the text of a row
 abbrev pub row_text : Row → List ℕ
 row_text r = if is_single r then statement_line r else codes "${\n" ++ scope_lines r ++ statement_line r ++ codes "$}\n"
 
 abbrev pub type_line : List ℕ × List ℕ × List ℕ → List ℕ
 type_line (label, typecode, variable) = label ++ codes " $f " ++ typecode ++ codes " " ++ variable ++ line_end
 
+-- the constants and the variables
 abbrev pub symbols_text : List ℕ
 symbols_text = codes "$c " ++ constants_text ++ line_end ++ codes "$v " ++ variables_text ++ line_end
 

@@ -21,7 +21,7 @@ with_byte-append printable foreign begins at b later c ps qs = refl
 with_byte-append white l begins at b later c ps qs = refl
 with_byte-append foreign l begins at b later c ps qs = refl
 
-white_class : (b : ℕ) → is_white b ≡ true → class_of b ≡ white
+pub white_class : (b : ℕ) → is_white b ≡ true → class_of b ≡ white
 white_class b h = rw h refl
 
 pub pieces_from-append : (at : ℕ) (xs ys : List ℕ) → ends_white xs ≡ true → pieces_from at (xs ++ ys) ≡ pieces_from at xs ++ pieces_from (at + length xs) ys

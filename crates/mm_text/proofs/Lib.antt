@@ -1,3 +1,5 @@
 pub mod Truths
 pub mod Appending
 pub mod Writing
+pub mod Pieces
+pub mod Numbers

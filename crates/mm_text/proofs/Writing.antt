@@ -8,7 +8,7 @@ use Rattle.mm_text.specs.Statements.{next_statement, between, within, statement,
 use Rattle.mm_text.specs.TextLaws.{is_plain_token, ends_once, written, WrittenStatement}
 use Rattle.mm_text.proofs.Truths.{both_true, not_true}
 
-printable_class : (k : Class) → is_printable_class k ≡ true → k ≡ printable
+pub printable_class : (k : Class) → is_printable_class k ≡ true → k ≡ printable
 printable_class printable h = refl
 printable_class white h = absurd (cc)
 printable_class foreign h = absurd (cc)

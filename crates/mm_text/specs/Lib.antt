@@ -6,3 +6,5 @@ pub mod Labels
 pub mod Compressed
 pub mod TextLaws
 pub mod Cases
+pub mod Places
+pub mod Letters

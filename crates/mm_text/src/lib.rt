@@ -10,4 +10,4 @@ mod fault;
 mod laws;
 
 pub use fault::MmFault;
-pub use laws::{text_laws, tried};
+pub use laws::{letter_laws, place_laws, text_laws, tried};

@@ -5,6 +5,7 @@ use Rattle.mm_frame.proofs.Named.{applied_is_named}
 use Rattle.mm_frame.proofs.NamedSteps.{step_is_named}
 use Rattle.mm_frame.proofs.Saved.{saving_is_expanding}
 use Rattle.mm_frame.proofs.TypedOnce.{empty_is_orderly, orderly_after}
+use Rattle.mm_frame.proofs.Shared.{sharing_is_exact}
 use Rattle.mm_frame.proofs.Stacks.{stack_after-complete, stack_after-sound}
 use Rattle.mm_frame.proofs.laws.proof_laws.Goals as goal
 
@@ -35,3 +36,6 @@ returns-clause-orderly a = orderly_after
 
 pub returns-clause-step : goal.returns-clause-step
 returns-clause-step a = step_is_named
+
+pub returns-clause-sharing : goal.returns-clause-sharing
+returns-clause-sharing a = sharing_is_exact
