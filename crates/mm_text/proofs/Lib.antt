@@ -3,3 +3,4 @@ pub mod Appending
 pub mod Writing
 pub mod Pieces
 pub mod Numbers
+pub mod Spelling
