@@ -5,7 +5,7 @@ use Rattle.std.specs.Prelude.{◌&&◌, ◌==◌, nat_le, if◌then◌else◌, S
 use Rattle.mm_text.specs.Compressed.{Letter, last_digit, digit, saves, no_letter, letter_of, Before, beginning, digits, a_number, a_save, value_before, before_next, numbered, steps_of_letter, joined_steps, steps_from, steps_of}
 use Rattle.mm_text.specs.Letters.{NumberIsSpelledOnce}
 use Rattle.mm_text.proofs.Truths.{both_true}
-use Rattle.mm_text.proofs.Numbers.{Alone, alone, ends_here, behind_nothing, no_number_at_end, no_save, steps_of-number}
+use Rattle.mm_text.proofs.LettersRead.{Alone, alone, ends_here, behind_nothing, no_number_at_end, no_save, steps_of-number}
 
 -- the byte of a letter, and what it is worth
 record Worth (b base d most : ℕ) : Type 0 where

@@ -1,4 +1,4 @@
-use Rattle.mm_text.proofs.Numbers.{number_in_front, save_in_front}
+use Rattle.mm_text.proofs.LettersRead.{number_in_front, save_in_front}
 use Rattle.mm_text.proofs.Spelling.{number_is_spelled_once}
 use Rattle.mm_text.proofs.laws.letter_laws.Goals as goal
 
