@@ -1,5 +1,6 @@
 pub mod Truths
 pub mod Appending
 pub mod Writing
-pub mod Pieces
-pub mod Numbers
+pub mod AtPlaces
+pub mod LettersRead
+pub mod Spelling

@@ -1,4 +1,4 @@
-use Rattle.mm_text.proofs.Pieces.{end_at, white_at, stray_at, run_at}
+use Rattle.mm_text.proofs.AtPlaces.{end_at, white_at, stray_at, run_at}
 use Rattle.mm_text.proofs.laws.place_laws.Goals as goal
 
 pub returns-clause-end : goal.returns-clause-end

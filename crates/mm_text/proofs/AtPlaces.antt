@@ -6,8 +6,7 @@ use Rattle.std.specs.Prelude.{slice_index, nat_lt}
 use Rattle.mm_text.specs.Bytes.{Class, printable, class_of}
 use Rattle.mm_text.specs.Tokens.{run, begins_printable, grown, with_byte, pieces_from}
 use Rattle.mm_text.specs.Places.{pieces_at, prints, EndAt, WhiteAt, StrayAt, RunAt}
-use Rattle.mm_text.proofs.Writing.{printable_class}
-use Rattle.mm_text.proofs.Appending.{white_class}
+use Rattle.mm_text.proofs.Truths.{printable_class, white_class}
 
 pub end_at : EndAt
 end_at bytes at h = ap (pieces_from at) (drop_all at bytes h)

@@ -8,7 +8,7 @@ not_empty : (step : CompressedStep) (o : Option (List CompressedStep)) → joine
 not_empty step None h = cc
 not_empty step (Some steps) h = cc
 
-behind_nothing : (o : Option (List CompressedStep)) (steps : List CompressedStep) → joined_steps (Some []) o ≡ Some steps → o ≡ Some steps
+pub behind_nothing : (o : Option (List CompressedStep)) (steps : List CompressedStep) → joined_steps (Some []) o ≡ Some steps → o ≡ Some steps
 behind_nothing None steps h = absurd (cc)
 behind_nothing (Some others) steps h = h
 
@@ -28,7 +28,7 @@ digits_go_on v (b ∷ letters) h = go (letter_of b) h (λ w. digits_go_on w lett
     go no_letter is behind = cc
 
 -- behind a number no letter says nothing
-ends_here : (letters : List ℕ) → steps_from a_number letters ≡ Some [] → letters ≡ []
+pub ends_here : (letters : List ℕ) → steps_from a_number letters ≡ Some [] → letters ≡ []
 ends_here [] h = refl
 ends_here (b ∷ letters) h = absurd (go (letter_of b) h)
   where
@@ -39,22 +39,22 @@ ends_here (b ∷ letters) h = absurd (go (letter_of b) h)
     go no_letter is = cc
 
 -- a number alone
-record Alone (m : ℕ) (o : Option (List CompressedStep)) (n : ℕ) : Type 0 where
-  same : m ≡ n
-  rest : o ≡ Some []
+pub record Alone (m : ℕ) (o : Option (List CompressedStep)) (n : ℕ) : Type 0 where
+  pub same : m ≡ n
+  pub rest : o ≡ Some []
 
-alone : (m : ℕ) (o : Option (List CompressedStep)) (n : ℕ) → joined_steps (Some (numbered m ∷ [])) o ≡ Some (numbered n ∷ []) → Alone m o n
+pub alone : (m : ℕ) (o : Option (List CompressedStep)) (n : ℕ) → joined_steps (Some (numbered m ∷ [])) o ≡ Some (numbered n ∷ []) → Alone m o n
 alone m None n h = absurd (cc)
 alone m (Some []) n h = record { same = cc; rest = refl }
 alone m (Some (step ∷ steps)) n h = absurd (cc)
 
-no_number_at_end : (before : Before) (n : ℕ) → steps_at_end before ≡ Some (numbered n ∷ []) → ⊥
+pub no_number_at_end : (before : Before) (n : ℕ) → steps_at_end before ≡ Some (numbered n ∷ []) → ⊥
 no_number_at_end beginning n h = cc
 no_number_at_end (digits v) n h = cc
 no_number_at_end a_number n h = cc
 no_number_at_end a_save n h = cc
 
-no_save : (before : Before) (o : Option (List CompressedStep)) (n : ℕ) → joined_steps (save_after before) o ≡ Some (numbered n ∷ []) → ⊥
+pub no_save : (before : Before) (o : Option (List CompressedStep)) (n : ℕ) → joined_steps (save_after before) o ≡ Some (numbered n ∷ []) → ⊥
 no_save beginning o n h = cc
 no_save (digits v) o n h = cc
 no_save a_number None n h = cc
@@ -79,7 +79,7 @@ in_front (b ∷ letters) more n before other same h = go (letter_of b) h (λ d i
     go saves is behind = absurd (no_save before (steps_from a_save letters) n is)
     go no_letter is behind = absurd (cc)
 
-steps_of-number : (o : Option (List CompressedStep)) (n : ℕ) → number_of_steps o ≡ Some n → o ≡ Some (numbered n ∷ [])
+pub steps_of-number : (o : Option (List CompressedStep)) (n : ℕ) → number_of_steps o ≡ Some n → o ≡ Some (numbered n ∷ [])
 steps_of-number None n h = absurd (cc)
 steps_of-number (Some []) n h = absurd (cc)
 steps_of-number (Some (save ∷ steps)) n h = absurd (cc)
