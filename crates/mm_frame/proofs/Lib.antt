@@ -12,3 +12,4 @@ pub mod Continued
 pub mod TypedOnce
 pub mod NamedSteps
 pub mod Shared
+pub mod ClosedFrames

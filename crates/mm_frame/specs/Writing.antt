@@ -2,10 +2,11 @@
 -- follow.
 use Rattle.std.specs.Prelude.{◌≡◌, ℕ, Bool, true, false, List, [], ◌∷◌, ◌++◌, length, codes, bytes_eq}
 use Rattle.std.specs.List.{list_all}
-use Rattle.mm_text.specs.Bytes.{Token}
+use Rattle.mm_text.specs.Bytes.{Token, has_token}
 use Rattle.mm_text.specs.Statements.{statements_of}
 use Rattle.mm_text.specs.TextLaws.{ends_white}
 use Rattle.mm_frame.specs.Forms.{asserts}
+use Rattle.mm_frame.specs.Frames.{Hypothesis, floating, essential, Scope, frame_of}
 use Rattle.mm_frame.specs.Database.{Context, empty_context}
 use Rattle.mm_frame.specs.Proofs.{ProofTree, Proves, postorder}
 use Rattle.mm_frame.specs.Validity.{is_typed, is_new_label, IsFine, AreFine, IsValid}
@@ -54,3 +55,16 @@ TheoremIsFine =
     MayBeStated c label typecode symbols → Proves c tree (typecode ∷ symbols) →
     are_clean (postorder tree) ≡ true → begins_compressed (postorder tree) ≡ false →
     IsFine c (proof_tokens (label ∷ []) (typecode ∷ symbols) (postorder tree))
+
+-- each of these hypotheses is a `$f` of a variable that does not stand among the symbols
+abbrev pub AreUnneeded : List Token → List Hypothesis → Type 0
+AreUnneeded symbols [] = Unit {0}
+AreUnneeded symbols (floating label typecode variable ∷ hypotheses) =
+    (has_token symbols variable ≡ false) × AreUnneeded symbols hypotheses
+AreUnneeded symbols (essential label statement ∷ hypotheses) = ⊥
+
+-- where all that is active is so, an assertion has no mandatory hypothesis
+abbrev pub ClosedHasNone : Type 0
+ClosedHasNone =
+    (scope : Scope) (label : Token) (symbols : List Token) → AreUnneeded symbols scope.hypotheses →
+    (frame_of scope label symbols).hypotheses ≡ []

@@ -5,7 +5,7 @@ ghost use Rattle.mm_frame.specs.FrameLaws.{AppendedIsFine, AppendedStates, FineW
 ghost use Rattle.mm_frame.specs.NumberedSteps.{StepIsNamed};
 ghost use Rattle.mm_frame.specs.Orderly.{EmptyIsOrderly, OrderlyAfter};
 ghost use Rattle.mm_frame.specs.Sharing.{SharingIsExact};
-ghost use Rattle.mm_frame.specs.Writing.{AxiomIsFine, ContinuedLeaves, LeavesIsValid, TheoremIsFine};
+ghost use Rattle.mm_frame.specs.Writing.{AxiomIsFine, ClosedHasNone, ContinuedLeaves, LeavesIsValid, TheoremIsFine};
 
 /// The definitions say of some small texts what the Metamath book says of them: which are valid, and
 /// the first fault of the others, one or more of each kind.
@@ -40,4 +40,5 @@ pub fn database_laws()
     ensures continued { ContinuedLeaves }
     ensures axiom { AxiomIsFine }
     ensures theorem { TheoremIsFine }
+    ensures closed { ClosedHasNone }
 {}

@@ -1,3 +1,4 @@
+use Rattle.mm_frame.proofs.ClosedFrames.{closed_has_none}
 use Rattle.mm_frame.proofs.Continued.{leaves_is_valid, continued_leaves, axiom_is_fine, theorem_is_fine}
 use Rattle.mm_frame.proofs.Texts.{appended_is_fine, written_is_fine}
 use Rattle.mm_frame.proofs.Stated.{appended_states}
@@ -30,3 +31,6 @@ returns-clause-axiom a = axiom_is_fine
 
 pub returns-clause-theorem : goal.returns-clause-theorem
 returns-clause-theorem a = theorem_is_fine
+
+pub returns-clause-closed : goal.returns-clause-closed
+returns-clause-closed a = closed_has_none
