@@ -1,6 +1,5 @@
 use Rattle.std.proofs.Common.{ℕ, ◌∙◌, arith, length-drop, refl}
 use Rattle.std.proofs.lemmas.List.{length-take}
-use Rattle.desk_io.specs.Told.{TellsCreated}
 use Rattle.desk_io.proofs.Told.{Writes-nil, Writes-more, Writes-fault}
 use Rattle.desk_io.proofs.write.write_whole.Goals as goal
 

@@ -1,5 +1,5 @@
 use Rattle.std.proofs.Common.{◌+◌, ◌<◌, ◌≤◌, length, vec_len, refl, ◌∙◌, arith}
-use Rattle.desk_io.specs.Memory.{named_bytes, content_of}
+use Rattle.desk_io.specs.Memory.{named_bytes}
 use Rattle.desk_io.proofs.Memory.{content_at, unread_part-read, unread_part-end, passed-read}
 use Rattle.desk_io.proofs.mem_desk.MemDeskDesk.read.Goals as goal
 
