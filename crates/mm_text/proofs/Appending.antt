@@ -5,6 +5,7 @@ use Rattle.mm_text.specs.Bytes.{Class, printable, white, foreign, class_of, is_p
 use Rattle.mm_text.specs.Tokens.{Piece, run, stray, begins_printable, grown, with_byte, pieces_from, Place, outside, in_comment, place_after, Given, nothing, a_token, a_fault, given, Tokens, no_token, bad_text, next_token, with_given, tokens_in, tokens_from}
 use Rattle.mm_text.specs.Statements.{Statement, Statements, Reading, between, within, reading_after, ended_by, with_ended, statements_in}
 use Rattle.mm_text.specs.TextLaws.{ends_white, end_well, followed_by, AppendedText}
+use Rattle.mm_text.proofs.Truths.{white_class}
 
 grown-append : (at b : ℕ) (p : Piece) (ps qs : List Piece) → grown at b ((p ∷ ps) ++ qs) ≡ grown at b (p ∷ ps) ++ qs
 grown-append at b (run later token) ps qs = refl
@@ -20,9 +21,6 @@ with_byte-append printable white begins at b later c ps qs = refl
 with_byte-append printable foreign begins at b later c ps qs = refl
 with_byte-append white l begins at b later c ps qs = refl
 with_byte-append foreign l begins at b later c ps qs = refl
-
-white_class : (b : ℕ) → is_white b ≡ true → class_of b ≡ white
-white_class b h = rw h refl
 
 pub pieces_from-append : (at : ℕ) (xs ys : List ℕ) → ends_white xs ≡ true → pieces_from at (xs ++ ys) ≡ pieces_from at xs ++ pieces_from (at + length xs) ys
 pieces_from-append at [] ys h = ap (λ n. pieces_from n ys) (omega arith)

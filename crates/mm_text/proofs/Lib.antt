@@ -1,3 +1,4 @@
 pub mod Truths
 pub mod Appending
 pub mod Writing
+pub mod Runs

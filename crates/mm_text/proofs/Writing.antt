@@ -6,12 +6,7 @@ use Rattle.mm_text.specs.Bytes.{Token, Class, printable, white, foreign, class_o
 use Rattle.mm_text.specs.Tokens.{Piece, run, with_byte, pieces_from, outside, opens_comment, closes_comment, Tokens, next_token, tokens_in, tokens_from}
 use Rattle.mm_text.specs.Statements.{next_statement, between, within, statement, ends_statement, is_whole, statements_in, statements_from}
 use Rattle.mm_text.specs.TextLaws.{is_plain_token, ends_once, written, WrittenStatement}
-use Rattle.mm_text.proofs.Truths.{both_true, not_true}
-
-printable_class : (k : Class) → is_printable_class k ≡ true → k ≡ printable
-printable_class printable h = refl
-printable_class white h = absurd (cc)
-printable_class foreign h = absurd (cc)
+use Rattle.mm_text.proofs.Truths.{both_true, not_true, printable_class}
 
 abbrev are_printable : List ℕ → Bool
 are_printable bytes = list_all (λ c. is_printable_class (class_of c)) bytes

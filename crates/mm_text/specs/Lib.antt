@@ -1,6 +1,8 @@
 pub mod FaultKinds
 pub mod Bytes
 pub mod Tokens
+pub mod Next
+pub mod Ahead
 pub mod Statements
 pub mod Labels
 pub mod Compressed

@@ -8,6 +8,9 @@
 
 mod fault;
 mod laws;
+mod pieces;
+mod tokens;
 
 pub use fault::MmFault;
 pub use laws::{text_laws, tried};
+pub use tokens::{MmToken, MmTokens};
