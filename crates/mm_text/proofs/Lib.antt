@@ -2,3 +2,4 @@ pub mod Truths
 pub mod Appending
 pub mod Writing
 pub mod Runs
+pub mod Digits

@@ -6,5 +6,6 @@ pub mod Ahead
 pub mod Statements
 pub mod Labels
 pub mod Compressed
+pub mod Numbers
 pub mod TextLaws
 pub mod Cases

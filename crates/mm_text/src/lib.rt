@@ -8,9 +8,11 @@
 
 mod fault;
 mod laws;
+mod numbers;
 mod pieces;
 mod tokens;
 
 pub use fault::MmFault;
 pub use laws::{text_laws, tried};
+pub use numbers::{push_number, read_number};
 pub use tokens::{MmToken, MmTokens};

@@ -43,7 +43,7 @@ fn run_len(bytes: &[u8]) -> usize
 }
 
 /// The bytes from `from` on.
-fn behind(bytes: &[u8], from: usize) -> &[u8]
+pub(crate) fn behind(bytes: &[u8], from: usize) -> &[u8]
     requires { from ≤ length bytes.now }
     ensures { result.now ≡ drop from bytes.now }
 {
