@@ -16,7 +16,7 @@ pub begin : (bs : List ℕ) → number_of bs ≡ number_of_steps (steps_from (di
 begin [] = refl
 begin (b ∷ bs) = ap number_of_steps (begin_letter (letter_of b) bs)
 
-joined-nil : (s : Option (List CompressedStep)) → joined_steps (Some []) s ≡ s
+pub joined-nil : (s : Option (List CompressedStep)) → joined_steps (Some []) s ≡ s
 joined-nil None = refl
 joined-nil (Some rest) = refl
 
@@ -66,7 +66,7 @@ pub number-one : (v b : ℕ) → leading_value (letter_of b) ≡ None → number
 number-one v b h = left-one v (letter_of b) h
 
 -- several, of which the first leads not
-left-more : (v c : ℕ) (cs : List ℕ) (l : Letter) → leading_value l ≡ None → number_of_steps (joined_steps (steps_of_letter (digits v) l) (steps_from (before_next (digits v) l) (c ∷ cs))) ≡ None
+pub left-more : (v c : ℕ) (cs : List ℕ) (l : Letter) → leading_value l ≡ None → number_of_steps (joined_steps (steps_of_letter (digits v) l) (steps_from (before_next (digits v) l) (c ∷ cs))) ≡ None
 left-more v c cs (last_digit d) h = no_more (20 * v + d) (steps_from a_number (c ∷ cs)) (goes_on-letter a_number (letter_of c) cs (goes_on-digits cs))
 left-more v c cs (digit d) h = absurd (cc)
 left-more v c cs saves h = refl

@@ -3,3 +3,4 @@ pub mod Appending
 pub mod Writing
 pub mod Runs
 pub mod Digits
+pub mod Spelling

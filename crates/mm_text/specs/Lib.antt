@@ -7,5 +7,6 @@ pub mod Statements
 pub mod Labels
 pub mod Compressed
 pub mod Numbers
+pub mod NumberLaws
 pub mod TextLaws
 pub mod Cases

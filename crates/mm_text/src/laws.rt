@@ -1,6 +1,7 @@
 // Laws on the definitions, for the proofs of the reader and the writer, and the definitions tried on
 // small texts.
 ghost use Rattle.mm_text.specs.Cases.{TriedCases};
+ghost use Rattle.mm_text.specs.NumberLaws.{OneSpelling, ReadBack};
 ghost use Rattle.mm_text.specs.TextLaws.{AppendedText, WrittenStatement};
 
 /// The definitions say of some small texts what the Metamath book says of them.
@@ -13,4 +14,11 @@ pub fn tried()
 pub fn text_laws()
     ensures appended { AppendedText }
     ensures written { WrittenStatement }
+{}
+
+/// A number of a compressed proof has one spelling, and letters that were appended for it are read
+/// as that number.
+pub fn number_laws()
+    ensures one { OneSpelling }
+    ensures back { ReadBack }
 {}

@@ -3,7 +3,8 @@
 //! The definitions stand in `specs/`: `Tokens` and `Statements` say what the tokens and the
 //! statements of a text are and where it breaks, `Labels` what a label is spelled with, and
 //! `Compressed` what the letters of a compressed proof say. The laws on them are the contract of
-//! `text_laws`.
+//! `text_laws` and `number_laws`. `MmTokens` reads the tokens of a text, and `read_number` and `push_number` read and
+//! write the numbers of compressed proofs.
 #![tactic(auto)]
 
 mod fault;
@@ -13,6 +14,9 @@ mod pieces;
 mod tokens;
 
 pub use fault::MmFault;
-pub use laws::{text_laws, tried};
+pub use laws::{number_laws, text_laws, tried};
 pub use numbers::{push_number, read_number};
 pub use tokens::{MmToken, MmTokens};
+
+#[cfg(test)]
+mod tests;
