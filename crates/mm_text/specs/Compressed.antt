@@ -1,7 +1,7 @@
 -- The letters of a compressed proof (Metamath book, "Compressed Proof Format"). `A` to `T` are last
 -- digits, 1 to 20, and `U` to `Y` are digits before it, 1 to 5 in base 5 without a zero: `A` is 1, `T`
 -- 20, `UA` 21, `YT` 120 and `UUA` 121. `Z` saves the step that the number before it made.
-use Rattle.std.specs.Prelude.{ℕ, ◌+◌, ◌-◌, ◌*◌, ◌&&◌, ◌==◌, nat_le, if◌then◌else◌, List, [], ◌∷◌, ◌++◌, Option, Some, None}
+use Rattle.std.specs.Prelude.{ℕ, ◌+◌, ◌-◌, ◌*◌, ◌^◌, ◌&&◌, ◌==◌, nat_le, if◌then◌else◌, List, [], ◌∷◌, ◌++◌, Option, Some, None}
 
 pub data Letter : Type 0 where
   last_digit : ℕ → Letter
@@ -85,3 +85,8 @@ number_of_steps (Some (numbered n ∷ (step ∷ steps))) = None
 
 abbrev pub number_of : List ℕ → Option ℕ
 number_of letters = number_of_steps (steps_of letters)
+
+-- a number that is at most 2 ^ 63
+abbrev pub within_limit : Option ℕ → Option ℕ
+within_limit None = None
+within_limit (Some n) = if nat_le n (2 ^ 63) then Some n else None

@@ -1,9 +1,13 @@
 pub mod FaultKinds
 pub mod Bytes
 pub mod Tokens
+pub mod Next
+pub mod Ahead
 pub mod Statements
 pub mod Labels
 pub mod Compressed
+pub mod Numbers
+pub mod NumberLaws
 pub mod TextLaws
 pub mod Cases
 pub mod Places

@@ -3,6 +3,8 @@
 ghost use Rattle.mm_text.specs.Cases.{TriedCases};
 ghost use Rattle.mm_text.specs.Letters.{NumberInFront, NumberIsSpelledOnce, SaveInFront};
 ghost use Rattle.mm_text.specs.Places.{EndAt, RunAt, StrayAt, WhiteAt};
+
+ghost use Rattle.mm_text.specs.NumberLaws.{OneSpelling, ReadBack};
 ghost use Rattle.mm_text.specs.TextLaws.{AppendedText, WrittenStatement};
 
 /// The definitions say of some small texts what the Metamath book says of them.
@@ -31,4 +33,11 @@ pub fn letter_laws()
     ensures number { NumberInFront }
     ensures save { SaveInFront }
     ensures spelled_once { NumberIsSpelledOnce }
+{}
+
+/// A number of a compressed proof has one spelling, and letters that were appended for it are read
+/// as that number.
+pub fn number_laws()
+    ensures one { OneSpelling }
+    ensures back { ReadBack }
 {}

@@ -1,0 +1,116 @@
+// The pieces of a text: runs of printable bytes, and bytes that may not stand.
+
+ghost use Rattle.std.specs.Prelude.{◌≡◌, ◌≤◌, false, length, drop};
+ghost use Rattle.mm_text.specs.Bytes.{is_white};
+ghost use Rattle.mm_text.specs.Tokens.{opens_comment, closes_comment, has_comment_mark};
+ghost use Rattle.mm_text.specs.Ahead.{pieces_at, in_run, white, printed, begins_white, mark_ahead, Shows};
+
+use crate::tokens::MmToken;
+
+/// What comes next in a text, white space left out.
+pub(crate) enum Ahead {
+    End,
+    Stray(usize),
+    Run(MmToken),
+}
+
+/// Space, tab, line feed, form feed or carriage return.
+fn is_white(byte: u8) -> bool
+    ensures { result ≡ is_white byte }
+{
+    byte == b' ' || byte == b'\t' || byte == b'\n' || byte == 0x0c || byte == b'\r'
+}
+
+/// Printable ASCII but for the space.
+fn is_printable(byte: u8) -> bool
+    ensures { result ≡ in_run byte }
+{
+    b'!' <= byte && byte <= b'~'
+}
+
+/// How many bytes of white space stand at the head of the bytes.
+fn white_len(bytes: &[u8]) -> usize
+    ensures { result ≡ length (white bytes.now) }
+{
+    bytes.iter().take_while(|byte| is_white(**byte)).count()
+}
+
+/// How many printable bytes stand at the head of the bytes.
+fn run_len(bytes: &[u8]) -> usize
+    ensures { result ≡ length (printed bytes.now) }
+{
+    bytes.iter().take_while(|byte| is_printable(**byte)).count()
+}
+
+/// The bytes from `from` on.
+pub(crate) fn behind(bytes: &[u8], from: usize) -> &[u8]
+    requires { from ≤ length bytes.now }
+    ensures { result.now ≡ drop from bytes.now }
+{
+    &bytes[from..]
+}
+
+/// The first place from `from` on without white space, at most the length.
+fn skip_white(bytes: &[u8], from: usize) -> usize
+    requires { from ≤ length bytes.now }
+    ensures after { from ≤ result }
+    ensures within { result ≤ length bytes.now }
+    ensures pieces { pieces_at bytes.now result ≡ pieces_at bytes.now from }
+    ensures at_piece { begins_white (drop result bytes.now) ≡ false }
+{
+    from + white_len(behind(bytes, from))
+}
+
+/// What comes at or behind `from`.
+pub(crate) fn next_piece(bytes: &[u8], from: usize) -> Ahead
+    requires { from ≤ length bytes.now }
+    ensures { Shows bytes.now from result }
+{
+    let at = skip_white(bytes, from);
+    if at == bytes.len() {
+        return Ahead::End;
+    }
+    let len = run_len(behind(bytes, at));
+    if len == 0 {
+        return Ahead::Stray(at);
+    }
+    Ahead::Run(MmToken {
+        from: at,
+        to: at + len,
+    })
+}
+
+/// Whether the token is `$(`.
+pub(crate) fn opens_comment(token: &[u8]) -> bool
+    ensures { result ≡ opens_comment token.now }
+{
+    token == b"$(".as_slice()
+}
+
+/// Whether the token is `$)`.
+pub(crate) fn closes_comment(token: &[u8]) -> bool
+    ensures { result ≡ closes_comment token.now }
+{
+    token == b"$)".as_slice()
+}
+
+/// Whether a comment's mark, `$(` or `$)`, stands at the head of the bytes.
+fn begins_with_mark(bytes: &[u8]) -> bool
+    ensures { result ≡ mark_ahead bytes.now }
+{
+    bytes.len() >= 2 && bytes[0] == b'$' && (bytes[1] == b'(' || bytes[1] == b')')
+}
+
+/// Whether a comment's mark stands somewhere in the token.
+pub(crate) fn has_comment_mark(token: &[u8]) -> bool
+    ensures { result ≡ has_comment_mark token.now }
+{
+    let mut at = 0;
+    while at < token.len() {
+        if begins_with_mark(behind(token, at)) {
+            return true;
+        }
+        at += 1;
+    }
+    false
+}
