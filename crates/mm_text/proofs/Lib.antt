@@ -6,4 +6,3 @@ pub mod LettersRead
 pub mod Runs
 pub mod Digits
 pub mod Spelling
-pub mod NumberSpelling

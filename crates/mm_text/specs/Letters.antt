@@ -15,8 +15,3 @@ NumberInFront =
 abbrev pub SaveInFront : Type 0
 SaveInFront =
     (more : List ℕ) → steps_from a_number (90 ∷ more) ≡ joined_steps (Some (save ∷ [])) (steps_from a_save more)
-
--- a number has one text of letters
-abbrev pub NumberIsSpelledOnce : Type 0
-NumberIsSpelledOnce =
-    (xs ys : List ℕ) (n : ℕ) → number_of xs ≡ Some n → number_of ys ≡ Some n → xs ≡ ys

@@ -1,9 +1,8 @@
 // Laws on the definitions, for the proofs of the reader and the writer, and the definitions tried on
 // small texts.
 ghost use Rattle.mm_text.specs.Cases.{TriedCases};
-ghost use Rattle.mm_text.specs.Letters.{NumberInFront, NumberIsSpelledOnce, SaveInFront};
+ghost use Rattle.mm_text.specs.Letters.{NumberInFront, SaveInFront};
 ghost use Rattle.mm_text.specs.Places.{EndAt, RunAt, StrayAt, WhiteAt};
-
 ghost use Rattle.mm_text.specs.NumberLaws.{OneSpelling, ReadBack};
 ghost use Rattle.mm_text.specs.TextLaws.{AppendedText, WrittenStatement};
 
@@ -27,12 +26,10 @@ pub fn place_laws()
     ensures run { RunAt }
 {}
 
-/// The letters of a compressed proof that are written one number after another are read so, and
-/// a number has one text of letters.
+/// The letters of a compressed proof that are written one number after another are read so.
 pub fn letter_laws()
     ensures number { NumberInFront }
     ensures save { SaveInFront }
-    ensures spelled_once { NumberIsSpelledOnce }
 {}
 
 /// A number of a compressed proof has one spelling, and letters that were appended for it are read

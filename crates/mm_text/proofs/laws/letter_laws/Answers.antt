@@ -1,5 +1,4 @@
 use Rattle.mm_text.proofs.LettersRead.{number_in_front, save_in_front}
-use Rattle.mm_text.proofs.Spelling.{number_is_spelled_once}
 use Rattle.mm_text.proofs.laws.letter_laws.Goals as goal
 
 pub returns-clause-number : goal.returns-clause-number
@@ -7,6 +6,3 @@ returns-clause-number a = number_in_front
 
 pub returns-clause-save : goal.returns-clause-save
 returns-clause-save a = save_in_front
-
-pub returns-clause-spelled_once : goal.returns-clause-spelled_once
-returns-clause-spelled_once a = number_is_spelled_once

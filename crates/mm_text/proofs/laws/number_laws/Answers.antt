@@ -1,4 +1,4 @@
-use Rattle.mm_text.proofs.NumberSpelling.{one_spelling, read_back}
+use Rattle.mm_text.proofs.Spelling.{one_spelling, read_back}
 use Rattle.mm_text.proofs.laws.number_laws.Goals as goal
 
 pub returns-clause-one : goal.returns-clause-one
