@@ -1,0 +1,4 @@
+pub mod Runs
+pub mod EscapeLaws
+pub mod Lexing
+pub mod ValueLaws
