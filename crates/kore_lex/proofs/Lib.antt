@@ -2,3 +2,4 @@ pub mod Runs
 pub mod EscapeLaws
 pub mod Lexing
 pub mod ValueLaws
+pub mod StringLaws

@@ -1,26 +1,20 @@
 -- The inner part of a string: what its escapes and its runs of plain bytes stand for.
-use Rattle.std.proofs.Common.{◌≡◌, ◌≤◌, ◌<◌, ◌+◌, ◌*◌, ◌-◌, ℕ, zero, suc, Bool, true, false, List, [], ◌∷◌, ◌++◌, length, take, drop, get_or, refl, ap, sym, ◌∙◌, subst, arith, append_assoc, ◌==◌, if◌then◌else◌, not, Option, Some, None, cond}
-use Rattle.std.proofs.lemmas.List.{append-nil, length-take-le}
+use Rattle.std.proofs.Common.{◌≡◌, ◌≤◌, ◌<◌, ◌+◌, ◌*◌, ℕ, zero, suc, Bool, true, false, List, [], ◌∷◌, ◌++◌, length, take, drop, get_or, refl, ap, sym, ◌∙◌, subst, arith, append_assoc, ◌==◌, if◌then◌else◌, not, Option, Some, None, cond}
+use Rattle.std.proofs.lemmas.List.{append-nil}
 use Rattle.std.proofs.lemmas.List.Sums.{take_while-cons}
 use Rattle.std.proofs.lemmas.Bool.Decides.{nat_tests}
-use Rattle.std.proofs.lemmas.Str.{IsUtf8-from_is_utf8, IsUtf8-take, IsUtf8-drop, IsCharBoundary-after_ascii}
+use Rattle.std.proofs.lemmas.Str.{IsUtf8-take, IsUtf8-drop, IsCharBoundary-after_ascii}
 use Rattle.std.specs.Char.{encode_utf8}
-use Rattle.std.specs.Str.{IsUtf8, is_utf8, IsCharBoundary}
+use Rattle.std.specs.Str.{IsUtf8, IsCharBoundary}
 use Rattle.std.specs.List.{take_while}
 use Rattle.std.specs.Option.{IfSome}
 use lib.Utf8.{scalar}
 use Rattle.kore_lex.specs.declared.escape.Escape.{Escape}
-use Rattle.kore_lex.specs.declared.lexer.TokenKind.{TokenKind}
-use Rattle.kore_lex.specs.declared.lexer.TokenKind.TheVariants.{Ident, SetIdent, Builtin, Text, Punct, Assign}
-use Rattle.kore_lex.specs.declared.piece.Piece.{Piece}
-use Rattle.kore_lex.specs.declared.piece.Piece.TheVariants.{Gap, Whole, Bad}
 use Rattle.kore_lex.specs.Escapes.{hex_digit, bind, hex_number, by_number, escape, further, bad_at, unit_len}
-use Rattle.kore_lex.specs.Pieces.{is_space, is_letter, is_mark, word_len, line_len, block_len, quote_len, block, comment, by_escapes, by_end, string, named, colon, piece}
-use Rattle.kore_lex.specs.Value.{IsString, plain}
+use Rattle.kore_lex.specs.Value.{plain}
 use Rattle.kore_lex.specs.Steps.{IsInner, run_len, Took}
 use Rattle.kore_lex.proofs.Runs.{drop-past}
 use Rattle.kore_lex.proofs.EscapeLaws.{unit-bad, none-bad}
-use Rattle.kore_lex.proofs.Lexing.{quote-within}
 
 -- so many bytes at the head, all of ASCII
 abbrev pub Ascii : ℕ → List ℕ → Type 0
@@ -209,67 +203,6 @@ run-took bs old new l b h n =
       };
       grown = ap (λ t. t ++ plain 0 (drop m bs)) n ∙ append_assoc old (take m bs) _ ∙ ap (λ t. old ++ t) (sym (plain-run m bs r.plain));
     }
-
--- a whole string has quotes and an inner part
-
-piece-if : (b : Bool) (p q : Piece) (n : ℕ) (G : Type 0) → (p ≡ Whole Text n → G) → (q ≡ Whole Text n → G) → (if b then p else q) ≡ Whole Text n → G
-piece-if true p q n G h k e = h e
-piece-if false p q n G h k e = k e
-
-abbrev Inside : List ℕ → Type 0
-Inside bs = (2 ≤ length bs) × IsInner (take (length bs - 2) (drop 1 bs))
-
-inside-utf8 : (c : ℕ) (cs : List ℕ) (i : ℕ) (b : Bool) (x : Option ℕ) → 1 ≤ i → i ≤ length cs
-    → is_utf8 (take (i - 1) cs) ≡ b → bad_at 0 (take (i - 1) cs) ≡ x
-    → (if b then by_escapes (take (i - 1) cs) x else Bad 0) ≡ Whole Text (suc (length cs)) → Inside (c ∷ cs)
-inside-utf8 c cs i false x l m u a e = absurd (let z : ⊥ = cc in z)
-inside-utf8 c cs i true (Some n) l m u a e = absurd (let z : ⊥ = cc in z)
-inside-utf8 c cs i true None l m u a e =
-    let k : length (take (i - 1) cs) + 2 ≡ suc (length cs) = cc in
-    let j : length (take (i - 1) cs) ≡ i - 1 = length-take-le (i - 1) cs (omega arith) in
-    let q : i - 1 ≡ suc (length cs) - 2 = omega arith in
-    (omega arith, subst (λ n. IsInner (take n cs)) q (record { utf8 = IsUtf8-from_is_utf8 (take (i - 1) cs) u; escapes = a }))
-
-inside-end : (c : ℕ) (cs : List ℕ) (x : Option ℕ) → IfSome x (λ i. (1 ≤ i) × (i ≤ length cs)) → by_end cs x ≡ Whole Text (suc (length cs)) → Inside (c ∷ cs)
-inside-end c cs None h e = absurd (let z : ⊥ = cc in z)
-inside-end c cs (Some i) h e = inside-utf8 c cs i (is_utf8 (take (i - 1) cs)) (bad_at 0 (take (i - 1) cs)) h.0 h.1 refl refl e
-
-no-named : (k : TokenKind) (cs : List ℕ) (n : ℕ) (G : Type 0) → (k ≡ Text → ⊥) → named k cs ≡ Whole Text n → G
-no-named k [] n G h e = absurd (let z : ⊥ = cc in z)
-no-named k (c ∷ cs) n G h e =
-    piece-if (is_letter c) (Whole k (word_len cs + 2)) (Bad 0) n G
-    (λ e. absurd (h (let q : k ≡ Text = cc in q))) (λ e. absurd (let z : ⊥ = cc in z)) e
-
-no-colon : (cs : List ℕ) (n : ℕ) (G : Type 0) → colon cs ≡ Whole Text n → G
-no-colon [] n G e = absurd (let z : ⊥ = cc in z)
-no-colon (c ∷ cs) n G e =
-    piece-if (c == 61) (Whole Assign 2) (Whole (Punct 58) 1) n G (λ e. absurd (let z : ⊥ = cc in z)) (λ e. absurd (let z : ⊥ = cc in z)) e
-
-no-block : (x : Option ℕ) (n : ℕ) (G : Type 0) → block x ≡ Whole Text n → G
-no-block None n G e = absurd (let z : ⊥ = cc in z)
-no-block (Some m) n G e = absurd (let z : ⊥ = cc in z)
-
-no-comment : (cs : List ℕ) (n : ℕ) (G : Type 0) → comment cs ≡ Whole Text n → G
-no-comment [] n G e = absurd (let z : ⊥ = cc in z)
-no-comment (c ∷ cs) n G e =
-    piece-if (c == 47) (Gap (line_len cs + 2)) _ n G (λ e. absurd (let z : ⊥ = cc in z))
-    (piece-if (c == 42) (block (block_len cs)) (Bad 0) n G (no-block (block_len cs) n G) (λ e. absurd (let z : ⊥ = cc in z))) e
-
-pub string-inside : (bs : List ℕ) → IsString bs → Inside bs
-unfolding piece
-string-inside [] e = absurd (let z : ⊥ = cc in z)
-string-inside (c ∷ cs) e =
-    let n : ℕ = suc (length cs) in
-    let G : Type 0 = Inside (c ∷ cs) in
-    piece-if (is_space c) (Gap 1) _ n G (λ e. absurd (let z : ⊥ = cc in z))
-    (piece-if (is_letter c) (Whole Ident (word_len cs + 1)) _ n G (λ e. absurd (let z : ⊥ = cc in z))
-    (piece-if (c == 47) (comment cs) _ n G (no-comment cs n G)
-    (piece-if (c == 34) (string cs) _ n G (inside-end c cs (quote_len 0 cs) (quote-within 0 cs))
-    (piece-if (c == 64) (named SetIdent cs) _ n G (no-named SetIdent cs n G (λ e. cc))
-    (piece-if (c == 92) (named Builtin cs) _ n G (no-named Builtin cs n G (λ e. cc))
-    (piece-if (c == 58) (colon cs) _ n G (no-colon cs n G)
-    (piece-if (is_mark c) (Whole (Punct c) 1) (Bad 0) n G (λ e. absurd (let z : ⊥ = cc in z)) (λ e. absurd (let z : ⊥ = cc in z)))))))))
-    e
 
 -- nothing is left
 pub plain-past : (t : List ℕ) (at : ℕ) (bs : List ℕ) → length bs ≤ at → t ≡ t ++ plain 0 (drop at bs)

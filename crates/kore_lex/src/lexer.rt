@@ -1,13 +1,15 @@
 // The lexer: the tokens of a text, one after the other.
 
-ghost use Rattle.std.specs.Prelude.{◌≡◌, ◌≤◌, ◌<◌, ◌+◌, ◌^◌, length, drop};
+ghost use Rattle.std.specs.Prelude.{◌≡◌, ◌≤◌, ◌<◌, ◌+◌, ◌-◌, ◌^◌, length, take, drop, IfOk};
 ghost use Rattle.kore_lex.specs.Lexed.{lexed, head, tail};
+ghost use Rattle.kore_lex.specs.Value.{IsString};
+ghost use Rattle.kore_lex.specs.declared.lexer.TokenKind.TheVariants.{Text};
 
 use crate::bytes::behind;
 use crate::piece::{Piece, piece_at};
 
 /// The kind of a token.
-#[derive(Clone, Copy)]
+#[derive(Clone, Copy, PartialEq, Eq)]
 pub enum TokenKind {
     /// An identifier.
     Ident,
@@ -27,7 +29,7 @@ pub enum TokenKind {
 
 /// A token and where it stands: the byte of its first byte, and the byte behind its last. At the
 /// end both are the length of the text.
-#[derive(Clone, Copy)]
+#[derive(Clone, Copy, PartialEq, Eq)]
 pub struct Token {
     pub kind: TokenKind,
     pub from: u32,
@@ -37,12 +39,12 @@ pub struct Token {
 /// What is no token: the byte at which no token starts, the first byte of a comment or string
 /// without an end, or of a string with bytes that are no UTF-8, or, in any other string, the
 /// first backslash that begins no escape.
-#[derive(Clone, Copy)]
+#[derive(Clone, Copy, PartialEq, Eq)]
 pub struct LexFault {
     pub at: u32,
 }
 
-/// A text of which some tokens are taken.
+/// A text of which some tokens are taken. A copy goes on from the same place by itself.
 #[derive(Clone, Copy)]
 pub struct Lexer<'a> {
     text: &'a [u8],
@@ -67,6 +69,8 @@ impl<'a> Lexer<'a> {
         ensures token { result ≡ head (lexed self.old.at (drop self.old.at self.old.text.now)) }
         ensures rest { lexed self.new.at (drop self.new.at self.new.text.now) ≡ tail (lexed self.old.at (drop self.old.at self.old.text.now)) }
         ensures text { self.new.text.now ≡ self.old.text.now }
+        ensures within { IfOk result (λ t. (t.from ≤ t.to) × (t.to ≤ length self.old.text.now)) }
+        ensures string { IfOk result (λ t. t.kind ≡ Text → IsString (take (t.to - t.from) (drop t.from self.old.text.now))) }
     {
         loop {
             match piece_at(behind(self.text, self.at)) {

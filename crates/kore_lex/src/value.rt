@@ -8,7 +8,8 @@ use crate::bytes::{behind, first};
 use crate::escape::escape_at;
 use std::alloc::{AllocError, Global};
 
-/// The text of a whole string token, of fewer than 2^32 bytes: each escape is its character.
+/// The text of a whole string token, without its quotes: each escape is its character. It takes
+/// a time linear in the length of the token.
 pub fn text_value(alloc: Global, token: &[u8]) -> Result<String, AllocError>
     requires whole { IsString token.now }
     ensures { IfOk result (λ text. string_bytes text ≡ value token.now) }

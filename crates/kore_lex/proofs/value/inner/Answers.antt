@@ -1,6 +1,6 @@
 use Rattle.std.proofs.Common.{◌-◌, length, take, sym, ap, ◌∙◌, subst, arith}
 use Rattle.kore_lex.specs.Steps.{IsInner}
-use Rattle.kore_lex.proofs.ValueLaws.{string-inside}
+use Rattle.kore_lex.proofs.StringLaws.{string-inside}
 use Rattle.kore_lex.proofs.value.inner.Goals as goal
 
 pub behind-requires : goal.behind-requires

@@ -3,6 +3,7 @@ use Rattle.kore_lex.specs.Lexed.{head, tail}
 use Rattle.kore_lex.specs.Pieces.{piece}
 use Rattle.kore_lex.proofs.Lexing.{end-step, gap-step, whole-step, bad-step, is-token}
 use Rattle.kore_lex.specs.declared.lexer.TokenKind.TheVariants.{End}
+use Rattle.kore_lex.proofs.StringLaws.{token-string}
 use Rattle.kore_lex.proofs.lexer.Lexer.next.Goals as goal
 
 pub returns-in-Nothing-clause-token : goal.returns-in-Nothing-clause-token
@@ -69,3 +70,8 @@ pub returns-in-Bad-clause-rest : goal.returns-in-Bad-clause-rest
 returns-in-Bad-clause-rest c =
     let s = bad-step _ _ _ c.loop-self.self.within (c.in-Bad.ensures ∙ ap piece c.behind.ensures) in
     s.1 ∙ ap tail (sym s.1 ∙ c.loop-self.invariant.same)
+
+pub returns-in-Whole-clause-string : goal.returns-in-Whole-clause-string
+returns-in-Whole-clause-string c =
+    token-string _ _ _ _ _ c.token-token.result (c.in-Whole.ensures ∙ ap piece c.behind.ensures) c.loop-self.invariant.text
+    c.token-token.ensures.kind c.token-token.ensures.from c.token-token.ensures.to
