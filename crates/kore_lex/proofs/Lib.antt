@@ -3,3 +3,4 @@ pub mod EscapeLaws
 pub mod Lexing
 pub mod ValueLaws
 pub mod StringLaws
+pub mod Longest

@@ -51,15 +51,15 @@ no-colon [] n G e = absurd (let z : ⊥ = cc in z)
 no-colon (c ∷ cs) n G e =
     piece-if (c == 61) (Whole Assign 2) (Whole (Punct 58) 1) n G (λ e. absurd (let z : ⊥ = cc in z)) (λ e. absurd (let z : ⊥ = cc in z)) e
 
-no-block : (x : Option ℕ) (n : ℕ) (G : Type 0) → block x ≡ Whole Text n → G
-no-block None n G e = absurd (let z : ⊥ = cc in z)
-no-block (Some m) n G e = absurd (let z : ⊥ = cc in z)
+pub no-block : (x : Option ℕ) (k : TokenKind) (n : ℕ) (G : Type 0) → block x ≡ Whole k n → G
+no-block None k n G e = absurd (let z : ⊥ = cc in z)
+no-block (Some m) k n G e = absurd (let z : ⊥ = cc in z)
 
 no-comment : (cs : List ℕ) (n : ℕ) (G : Type 0) → comment cs ≡ Whole Text n → G
 no-comment [] n G e = absurd (let z : ⊥ = cc in z)
 no-comment (c ∷ cs) n G e =
     piece-if (c == 47) (Gap (line_len cs + 2)) _ n G (λ e. absurd (let z : ⊥ = cc in z))
-    (piece-if (c == 42) (block (block_len cs)) (Bad 0) n G (no-block (block_len cs) n G) (λ e. absurd (let z : ⊥ = cc in z))) e
+    (piece-if (c == 42) (block (block_len cs)) (Bad 0) n G (no-block (block_len cs) Text n G) (λ e. absurd (let z : ⊥ = cc in z))) e
 
 piece-when : (b : Bool) (p q : Piece) (n : ℕ) (G : Type 0) → (b ≡ true → p ≡ Whole Text n → G) → (q ≡ Whole Text n → G)
     → (if b then p else q) ≡ Whole Text n → G
@@ -106,7 +106,7 @@ quote-first c i cs false e h g =
     subst (λ i. quote_len 0 (take i (c ∷ cs)) ≡ Some i) (sym m.1.0)
     (rw e (ap (further 1) m.1.1 ∙ ap Some (let q : 1 + m.0 ≡ suc m.0 = omega arith in q)))
 
-quote-take : (n i : ℕ) (cs : List ℕ) → quote_len n cs ≡ Some i → quote_len n (take i cs) ≡ Some i
+pub quote-take : (n i : ℕ) (cs : List ℕ) → quote_len n cs ≡ Some i → quote_len n (take i cs) ≡ Some i
 unfolding quote_len
 quote-take zero i [] e = absurd (let z : ⊥ = cc in z)
 quote-take (suc n) i [] e = absurd (let z : ⊥ = cc in z)

@@ -5,3 +5,4 @@ pub mod Lexed
 pub mod Value
 -- What only private functions cite.
 pub mod Steps
+pub mod Tokens

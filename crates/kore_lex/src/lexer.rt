@@ -1,9 +1,10 @@
 // The lexer: the tokens of a text, one after the other.
 
-ghost use Rattle.std.specs.Prelude.{◌≡◌, ◌≤◌, ◌<◌, ◌+◌, ◌-◌, ◌^◌, length, take, drop, IfOk};
+ghost use Rattle.std.specs.Prelude.{◌≡◌, ◌≢◌, ◌≤◌, ◌<◌, ◌+◌, ◌-◌, ◌^◌, length, take, drop, IfOk};
 ghost use Rattle.kore_lex.specs.Lexed.{lexed, head, tail};
 ghost use Rattle.kore_lex.specs.Value.{IsString};
-ghost use Rattle.kore_lex.specs.declared.lexer.TokenKind.TheVariants.{Text};
+ghost use Rattle.kore_lex.specs.Tokens.{IsLongest};
+ghost use Rattle.kore_lex.specs.declared.lexer.TokenKind.TheVariants.{Text, End};
 
 use crate::bytes::behind;
 use crate::piece::{Piece, piece_at};
@@ -70,6 +71,7 @@ impl<'a> Lexer<'a> {
         ensures rest { lexed self.new.at (drop self.new.at self.new.text.now) ≡ tail (lexed self.old.at (drop self.old.at self.old.text.now)) }
         ensures text { self.new.text.now ≡ self.old.text.now }
         ensures within { IfOk result (λ t. (t.from ≤ t.to) × (t.to ≤ length self.old.text.now)) }
+        ensures longest { IfOk result (λ t. t.kind ≢ End → IsLongest t.kind (t.to - t.from) (drop t.from self.old.text.now)) }
         ensures string { IfOk result (λ t. t.kind ≡ Text → IsString (take (t.to - t.from) (drop t.from self.old.text.now))) }
     {
         loop {

@@ -3,6 +3,7 @@ use Rattle.kore_lex.specs.Lexed.{head, tail}
 use Rattle.kore_lex.specs.Pieces.{piece}
 use Rattle.kore_lex.proofs.Lexing.{end-step, gap-step, whole-step, bad-step, is-token}
 use Rattle.kore_lex.specs.declared.lexer.TokenKind.TheVariants.{End}
+use Rattle.kore_lex.proofs.Longest.{token-longest}
 use Rattle.kore_lex.proofs.StringLaws.{token-string}
 use Rattle.kore_lex.proofs.lexer.Lexer.next.Goals as goal
 
@@ -74,4 +75,12 @@ returns-in-Bad-clause-rest c =
 pub returns-in-Whole-clause-string : goal.returns-in-Whole-clause-string
 returns-in-Whole-clause-string c =
     token-string _ _ _ _ _ c.token-token.result (c.in-Whole.ensures ∙ ap piece c.behind.ensures) c.loop-self.invariant.text
+    c.token-token.ensures.kind c.token-token.ensures.from c.token-token.ensures.to
+
+pub returns-in-Nothing-clause-longest : goal.returns-in-Nothing-clause-longest
+returns-in-Nothing-clause-longest c = λ h. absurd (h c.token.ensures.kind)
+
+pub returns-in-Whole-clause-longest : goal.returns-in-Whole-clause-longest
+returns-in-Whole-clause-longest c = λ h.
+    token-longest _ _ _ _ _ c.token-token.result (c.in-Whole.ensures ∙ ap piece c.behind.ensures) c.loop-self.invariant.text
     c.token-token.ensures.kind c.token-token.ensures.from c.token-token.ensures.to
