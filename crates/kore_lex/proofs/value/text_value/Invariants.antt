@@ -1,0 +1,14 @@
+use Rattle.std.proofs.Common.{◌≡◌, ◌≤◌, ◌-◌, ◌++◌, length, drop, string_bytes}
+use Rattle.kore_lex.specs.Value.{plain}
+use Rattle.kore_lex.specs.Steps.{IsInner}
+use Rattle.kore_lex.proofs.value.text_value.Given as goal
+
+abbrev pub invariant-loop-at : goal.invariant-loop-at
+invariant-loop-at l = record {
+  within : l.at ≤ length l.inner;
+  inner : IsInner (drop l.at l.inner);
+  read : string_bytes l.text ++ plain 0 (drop l.at l.inner) ≡ plain 0 l.inner;
+}
+
+abbrev pub decreases-loop-at : goal.decreases-loop-at
+decreases-loop-at l = length l.inner - l.at

@@ -1,0 +1,8 @@
+-- What a reader of the contracts has to believe, lowest first.
+pub mod Escapes
+pub mod Pieces
+pub mod Lexed
+pub mod Value
+-- What only private functions cite.
+pub mod Steps
+pub mod Tokens

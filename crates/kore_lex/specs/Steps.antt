@@ -1,0 +1,21 @@
+-- What the private functions that read a string say of its inner part.
+use Rattle.std.specs.Prelude.{◌≡◌, ◌≤◌, ℕ, not, List, ◌++◌, length, drop, take_while, ◌==◌, None}
+use Rattle.std.specs.Str.{IsUtf8}
+use Rattle.kore_lex.specs.Escapes.{bad_at}
+use Rattle.kore_lex.specs.Value.{plain}
+
+-- the bytes may stand between quotes: UTF-8, and each backslash begins an escape
+pub record IsInner (bs : List ℕ) : Type 0 where
+  pub utf8 : IsUtf8 bs
+  pub escapes : bad_at 0 bs ≡ None
+
+-- the bytes before the first backslash
+abbrev pub run_len : List ℕ → ℕ
+run_len bs = length (take_while (λ c. not (c == 92)) bs)
+
+-- so many bytes were taken from the head, a byte at least, and the text grew by what they stand for
+pub record Took (bs old new : List ℕ) (n : ℕ) : Type 0 where
+  pub some : 1 ≤ n
+  pub within : n ≤ length bs
+  pub inner : IsInner (drop n bs)
+  pub grown : new ++ plain 0 (drop n bs) ≡ old ++ plain 0 bs

@@ -1,0 +1,28 @@
+-- The text that a string stands for.
+use Rattle.std.specs.Prelude.{◌≡◌, ℕ, zero, suc, ◌-◌, List, [], ◌∷◌, ◌++◌, length, take, drop, ◌==◌, if◌then◌else◌, Option, Some, None}
+use Rattle.std.specs.Char.{encode_utf8}
+use Rattle.kore_lex.specs.declared.escape.Escape.{Escape}
+use Rattle.kore_lex.specs.declared.lexer.TokenKind.TheVariants.{Text}
+use Rattle.kore_lex.specs.declared.piece.Piece.TheVariants.{Whole}
+use Rattle.kore_lex.specs.Escapes.{escape}
+use Rattle.kore_lex.specs.Pieces.{piece}
+
+-- the bytes are one whole string
+abbrev pub IsString : List ℕ → Type 0
+IsString bs = piece bs ≡ Whole Text (length bs)
+
+-- what an escape stands for, and then the rest; a bad escape is left out
+abbrev pub unescaped : (ℕ → List ℕ) → Option Escape → List ℕ
+unescaped more None = more 0
+unescaped more (Some e) = encode_utf8 e.character ++ more e.len
+
+-- the text of the bytes between the quotes, where so many bytes at the head belong to an escape
+-- that has been read: each escape is its character in UTF-8, and each other byte is itself
+unfoldable pub plain : ℕ → List ℕ → List ℕ
+plain n [] = []
+plain (suc n) (c ∷ cs) = plain n cs
+plain zero (c ∷ cs) = if c == 92 then unescaped (λ n. plain n cs) (escape cs) else c ∷ plain 0 cs
+
+-- the text of a whole string, without its quotes
+abbrev pub value : List ℕ → List ℕ
+value bs = plain 0 (take (length bs - 2) (drop 1 bs))

@@ -1,0 +1,126 @@
+// The escapes of strings.
+
+ghost use Rattle.std.specs.Prelude.{◌≡◌, ◌+◌, ◌<◌, ◌^◌, ◌≤◌, length, IfSome, OnSome};
+ghost use Rattle.kore_lex.specs.Escapes.{hex_digit, hex_number, escape, single, numbered, unit_len, bad_at};
+
+use crate::bytes::behind;
+
+/// The greatest scalar value of Unicode.
+const LAST_CHAR: u32 = 0x10_FFFF;
+
+/// An escape, without its backslash.
+#[derive(Clone, Copy)]
+pub(crate) struct Escape {
+    /// The character that it stands for.
+    pub(crate) character: char,
+    /// Its bytes behind the backslash.
+    pub(crate) len: usize,
+}
+
+/// The value of a hexadecimal digit of either case.
+fn hex_digit(byte: u8) -> Option<u32>
+    ensures { result ≡ hex_digit byte }
+{
+    if b'0' <= byte && byte <= b'9' {
+        Some(u32::from(byte - b'0'))
+    } else if b'a' <= byte && byte <= b'f' {
+        Some(u32::from(byte - b'a') + 10)
+    } else if b'A' <= byte && byte <= b'F' {
+        Some(u32::from(byte - b'A') + 10)
+    } else {
+        None
+    }
+}
+
+/// The character whose number stands at the head in so many hexadecimal digits.
+fn hex_number(digits: usize, bytes: &[u8]) -> Option<char>
+    ensures value { result ≡ hex_number digits 0 bytes.now }
+    ensures within { OnSome result (digits ≤ length bytes.now) }
+{
+    let mut number = 0;
+    for i in 0..digits {
+        if i >= bytes.len() || number > LAST_CHAR {
+            return None;
+        }
+        number = 16 * number + hex_digit(bytes[i])?;
+    }
+    char::from_u32(number)
+}
+
+/// The escape by a number of so many digits, behind its letter.
+fn numbered(digits: usize, bytes: &[u8]) -> Option<Escape>
+    requires { digits < 2 ^ 32 }
+    ensures value { result ≡ numbered digits bytes.now }
+    ensures within { IfSome result (λ e. e.len ≤ length bytes.now + 1) }
+{
+    match hex_number(digits, bytes) {
+        Some(character) => Some(Escape {
+            character,
+            len: digits + 1,
+        }),
+        None => None,
+    }
+}
+
+/// The escape of one letter.
+fn single(character: char) -> Option<Escape>
+    ensures { result ≡ single character }
+{
+    Some(Escape { character, len: 1 })
+}
+
+/// The escape that begins here, behind a backslash.
+#[tactic(auto, unfolding(crate::specs::Escapes::escape))]
+pub(crate) fn escape_at(bytes: &[u8]) -> Option<Escape>
+    ensures value { result ≡ escape bytes.now }
+    ensures within { IfSome result (λ e. (1 ≤ e.len) × (e.len ≤ length bytes.now)) }
+{
+    if bytes.is_empty() {
+        return None;
+    }
+    match bytes[0] {
+        b'n' => single('\n'),
+        b'r' => single('\r'),
+        b't' => single('\t'),
+        b'f' => single('\x0c'),
+        b'"' => single('"'),
+        b'\\' => single('\\'),
+        b'x' => numbered(2, behind(bytes, 1)),
+        b'u' => numbered(4, behind(bytes, 1)),
+        b'U' => numbered(8, behind(bytes, 1)),
+        _ => None,
+    }
+}
+
+/// The bytes of what stands at the head of a string's inner part: a byte or an escape; nothing
+/// where a backslash begins no escape.
+fn unit_len(bytes: &[u8]) -> Option<usize>
+    requires some { 0 < length bytes.now }
+    requires small { length bytes.now < 2 ^ 32 }
+    ensures value { result ≡ unit_len bytes.now }
+    ensures within { IfSome result (λ n. (1 ≤ n) × (n ≤ length bytes.now)) }
+{
+    if bytes[0] != b'\\' {
+        return Some(1);
+    }
+    match escape_at(behind(bytes, 1)) {
+        Some(escape) => Some(escape.len + 1),
+        None => None,
+    }
+}
+
+/// The byte of the first backslash that begins no escape.
+pub(crate) fn bad_at(body: &[u8]) -> Option<usize>
+    requires { length body.now < 2 ^ 32 }
+    ensures value { result ≡ bad_at 0 body.now }
+    ensures within { IfSome result (λ n. n < length body.now) }
+{
+    let mut at = 0;
+    while at < body.len() {
+        match unit_len(behind(body, at)) {
+            Some(len) => at += len,
+            None => return Some(at),
+        }
+    }
+    None
+}

@@ -1,0 +1,19 @@
+// The tokens of Kore text.
+//
+// `Lexer` cuts bytes into the tokens of the Kore language document, and `text_value` gives the
+// text that a string token stands for. The definitions stand in `specs/`: `Escapes` and `Pieces`
+// say what stands at the head of bytes, `Lexed` gives the tokens of a text, and `Value` the text
+// of a string.
+#![tactic(auto)]
+
+mod bytes;
+mod escape;
+mod lexer;
+mod piece;
+mod value;
+
+pub use lexer::{LexFault, Lexer, Token, TokenKind};
+pub use value::text_value;
+
+#[cfg(test)]
+mod tests;

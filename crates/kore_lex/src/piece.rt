@@ -1,0 +1,160 @@
+// What stands at the head of bytes: white space, a comment, a token, or what begins none.
+
+ghost use Rattle.std.specs.Prelude.{◌≡◌, ◌<◌, ◌^◌, ◌+◌, ◌≤◌, length, IfSome};
+ghost use Rattle.kore_lex.specs.Pieces.{ends_block, block_len, passed, quote_len, body_piece, comment, string, named, colon, piece};
+
+use crate::bytes::{behind, first, is_letter, is_mark, is_space, line_len, word_len};
+use crate::escape::bad_at;
+use crate::lexer::TokenKind;
+
+/// What stands at the head of bytes.
+#[derive(Clone, Copy)]
+pub(crate) enum Piece {
+    /// There are no bytes.
+    Nothing,
+    /// White space or a comment, of so many bytes.
+    Gap(usize),
+    /// A token of so many bytes.
+    Whole(TokenKind, usize),
+    /// A fault, so many bytes on.
+    Bad(usize),
+}
+
+/// Whether these two bytes end a block comment.
+fn ends_block(first: u8, second: u8) -> bool
+    ensures { result ≡ ends_block first second }
+{
+    first == b'*' && second == b'/'
+}
+
+/// The bytes up to and with the first `*/`.
+fn block_len(bytes: &[u8]) -> Option<usize>
+    requires { length bytes.now < 2 ^ 32 }
+    ensures value { result ≡ block_len bytes.now }
+    ensures within { IfSome result (λ n. n ≤ length bytes.now) }
+{
+    let mut n = 0;
+    while n + 1 < bytes.len() {
+        if ends_block(bytes[n], bytes[n + 1]) {
+            return Some(n + 2);
+        }
+        n += 1;
+    }
+    None
+}
+
+/// The bytes that stand together with this one in a string: one behind a backslash.
+fn passed(byte: u8) -> usize
+    ensures { result ≡ passed byte }
+{
+    if byte == b'\\' { 1 } else { 0 }
+}
+
+/// The bytes up to and with the quote that ends a string.
+fn quote_len(bytes: &[u8]) -> Option<usize>
+    requires { length bytes.now < 2 ^ 32 }
+    ensures value { result ≡ quote_len 0 bytes.now }
+    ensures within { IfSome result (λ n. (1 ≤ n) × (n ≤ length bytes.now)) }
+{
+    let mut n = 0;
+    while n < bytes.len() {
+        if bytes[n] == b'"' {
+            return Some(n + 1);
+        }
+        n += passed(bytes[n]) + 1;
+    }
+    None
+}
+
+/// Behind a slash.
+fn comment(bytes: &[u8]) -> Piece
+    requires { length bytes.now < 2 ^ 32 }
+    ensures { result ≡ comment bytes.now }
+{
+    if bytes.is_empty() {
+        return Piece::Bad(0);
+    }
+    match bytes[0] {
+        b'/' => Piece::Gap(line_len(behind(bytes, 1)) + 2),
+        b'*' => match block_len(behind(bytes, 1)) {
+            Some(len) => Piece::Gap(len + 2),
+            None => Piece::Bad(0),
+        },
+        _ => Piece::Bad(0),
+    }
+}
+
+/// A string of which this stands between the quotes.
+fn body_piece(body: &[u8]) -> Piece
+    requires { length body.now < 2 ^ 32 }
+    ensures { result ≡ body_piece body.now }
+{
+    match str::from_utf8(body) {
+        Ok(_) => match bad_at(body) {
+            Some(at) => Piece::Bad(at + 1),
+            None => Piece::Whole(TokenKind::Text, body.len() + 2),
+        },
+        Err(_) => Piece::Bad(0),
+    }
+}
+
+/// Behind a quote.
+fn string(bytes: &[u8]) -> Piece
+    requires { length bytes.now < 2 ^ 32 }
+    ensures { result ≡ string bytes.now }
+{
+    match quote_len(bytes) {
+        Some(len) => body_piece(first(bytes, len - 1)),
+        None => Piece::Bad(0),
+    }
+}
+
+/// A name of this kind, behind its first byte.
+fn named(kind: TokenKind, bytes: &[u8]) -> Piece
+    requires { length bytes.now < 2 ^ 32 }
+    ensures { result ≡ named kind bytes.now }
+{
+    if bytes.is_empty() || !is_letter(bytes[0]) {
+        return Piece::Bad(0);
+    }
+    Piece::Whole(kind, word_len(behind(bytes, 1)) + 2)
+}
+
+/// Behind a colon.
+fn colon(bytes: &[u8]) -> Piece
+    ensures { result ≡ colon bytes.now }
+{
+    if !bytes.is_empty() && bytes[0] == b'=' {
+        Piece::Whole(TokenKind::Assign, 2)
+    } else {
+        Piece::Whole(TokenKind::Punct(b':'), 1)
+    }
+}
+
+/// What stands at the head of these bytes.
+#[tactic(auto, unfolding(crate::specs::Pieces::piece))]
+pub(crate) fn piece_at(bytes: &[u8]) -> Piece
+    requires { length bytes.now < 2 ^ 32 }
+    ensures { result ≡ piece bytes.now }
+{
+    if bytes.is_empty() {
+        return Piece::Nothing;
+    }
+    let byte = bytes[0];
+    let rest = behind(bytes, 1);
+    if is_space(byte) {
+        return Piece::Gap(1);
+    }
+    if is_letter(byte) {
+        return Piece::Whole(TokenKind::Ident, word_len(rest) + 1);
+    }
+    match byte {
+        b'/' => comment(rest),
+        b'"' => string(rest),
+        b'@' => named(TokenKind::SetIdent, rest),
+        b'\\' => named(TokenKind::Builtin, rest),
+        b':' => colon(rest),
+        _ if is_mark(byte) => Piece::Whole(TokenKind::Punct(byte), 1),
+        _ => Piece::Bad(0),
+    }
+}
