@@ -1,3 +1,4 @@
+use Rattle.std.proofs.Common.{rules, map, string_bytes}
 use Rattle.kore_prove.proofs.Printing.{prints_run}
 use Rattle.kore_prove.proofs.call.kore_main.Goals as goal
 

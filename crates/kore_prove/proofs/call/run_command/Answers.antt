@@ -1,3 +1,4 @@
+use Rattle.std.proofs.Common.{rules}
 use Rattle.term_core.specs.RulePatterns.{plain_pattern}
 use Rattle.kore_prove.proofs.Printing.{prints_run_of}
 use Rattle.kore_prove.proofs.call.run_command.Goals as goal
