@@ -3,6 +3,10 @@ pub mod Attributes
 pub mod Meanings
 pub mod OpenBrackets
 pub mod MainModule
+pub mod Forms
+pub mod Determined
+pub mod Taken
+pub mod OneDefinition
 pub mod Sides
 pub mod Pairings
 pub mod NotDeclared

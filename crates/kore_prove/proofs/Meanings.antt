@@ -1,5 +1,5 @@
 -- What a text means, by its parts, and that it can be shown.
-use Rattle.std.proofs.Common.{◌≡◌, ℕ, ◌+◌, ◌≤◌, ◌<◌, List, [], ◌∷◌, ◌++◌, length, take, get_or, map, Option, Some, None, option_map, slice_get, refl, ◌∙◌, ap, arith}
+use Rattle.std.proofs.Common.{◌≡◌, ℕ, ◌+◌, ◌≤◌, ◌<◌, List, [], ◌∷◌, ◌++◌, length, take, get_or, map, Option, Some, None, option_map, slice_get, refl, ◌∙◌, ap, arith, subst, sym, zero, suc}
 use Rattle.std.specs.Prelude.{IsSome}
 use Rattle.std.specs.Global.{Vec}
 use Rattle.std.proofs.lemmas.List.{map-append, take_more}
@@ -25,6 +25,7 @@ use Rattle.kore_prove.specs.Nesting.{nesting, nestings}
 use Rattle.kore_prove.specs.Runnable.{IsShowable}
 use Rattle.kore_prove.proofs.Pairings.{front}
 use Rattle.kore_prove.proofs.TreesOfForms.{tree-App}
+use Rattle.kore_prove.proofs.Forms.{no-sort-trees}
 
 -- the pattern is a term by itself, of at most this height, and it has a text
 record Shows (symbols : List (List ℕ × SymInfo)) (p : Pattern) (n : ℕ) : Type 0 where
@@ -143,3 +144,33 @@ entry-of {V = V} entries name f value number found =
     let both : Some value ≡ Some entry.0 = found ∙ ap (λ o. option_map (λ (e : List ℕ × V). e.1) o) entry.1 in
     let same : entry.0 ≡ value = cc in
     entry.1 ∙ ap (λ v. Some (name, v)) same
+
+-- what it takes for an application to mean something
+pub record Denoted (sig : Signature) (name : List ℕ) (ss : List Sort) (args : List Pat) (sort : ℕ) : Type 0 where
+  pub no_sorts : ss ≡ []
+  pub number : ℕ
+  pub info : SymInfo
+  pub means : Patterns
+  pub numbered : number_of sig.symbols name ≡ Some number
+  pub entry : slice_get sig.symbols number ≡ Some (name, info)
+  pub result : info.result ≡ sort_ref.Sort (record { 0 = sort })
+  pub arguments : AllDenote sig (pattern_trees (map plain_pattern args)) means info.args.items
+
+pub denoted : (sig : Signature) (pat : Pat) (name : List ℕ) (ss : Vec Sort) (args : Vec Pat) (p : Pattern) (sort : ℕ) → pat.form ≡ App name ss args → Denotes sig (plain_pattern pat) p sort → Denoted sig name ss.items args.items sort
+denoted sig pat name ss args p sort form h =
+    let d = subst (λ (t : PatternTree). Denotes sig t p sort) (tree-App pat name ss args form) h in
+    record { no_sorts = no-sort-trees ss.items d.3; number = d.0; info = d.1; means = d.2; numbered = d.4; entry = d.5; result = d.6; arguments = d.8 }
+
+pub same_count : (sig : Signature) (args : List Pat) (ps : Patterns) (sorts : List SortRef) → AllDenote sig (pattern_trees (map plain_pattern args)) ps sorts → length args ≡ length sorts
+same_count sig [] ps sorts d = sym (ap length d.1)
+same_count sig (a ∷ args) ps sorts d = let n = same_count sig args d.1 d.3 d.7 in let e = ap length d.5 in omega arith
+
+-- an argument means something, of the sort that stands at its place
+pub meaning_at : (sig : Signature) (args : List Pat) (ps : Patterns) (sorts : List SortRef) (i : ℕ) (a : Pat) (r : SortRef) → AllDenote sig (pattern_trees (map plain_pattern args)) ps sorts → i < length args → a ≡ get_or args i a
+    → (p : Pattern) × (s : ℕ) × (get_or sorts i r ≡ sort_ref.Sort (record { 0 = s })) × Denotes sig (plain_pattern a) p s
+meaning_at sig [] ps sorts i a r d lt item = absurd (omega arith)
+meaning_at sig (x ∷ args) ps sorts zero a r d lt item =
+    (d.0, d.2, ap (λ (ss : List SortRef). get_or ss 0 r) d.5, subst (λ (y : Pat). Denotes sig (plain_pattern y) d.0 d.2) (sym item) d.6)
+meaning_at sig (x ∷ args) ps sorts (suc i) a r d lt item =
+    let further = meaning_at sig args d.1 d.3 i a r d.7 (omega arith) item in
+    (further.0, further.1, ap (λ (ss : List SortRef). get_or ss (suc i) r) d.5 ∙ further.2, further.3)

@@ -1,5 +1,5 @@
 -- Lists whose items stand in a relation, one item further.
-use Rattle.std.proofs.Common.{◌≡◌, ℕ, ◌+◌, ◌<◌, List, [], ◌∷◌, ◌++◌, map, take, length, get_or, All, Option, Some, None, sym, ◌∙◌, ap, subst}
+use Rattle.std.proofs.Common.{◌≡◌, ℕ, ◌+◌, ◌<◌, List, [], ◌∷◌, ◌++◌, map, take, length, get_or, All, Option, Some, None, sym, ◌∙◌, ap, subst, refl}
 use Rattle.std.specs.List.{filter_map}
 use Rattle.std.proofs.lemmas.List.{map-append, take_more, append-nil, length-map, get_or-map}
 use Rattle.std.proofs.lemmas.List.Elements.{filter_map-append, All-get_or}
@@ -39,3 +39,13 @@ All-item {S = S} {A = A} f P xs i s all lt item =
     let e : get_or (map f xs) i (f s) ≡ f s = get_or-map f xs i s (f s) lt ∙ ap f (sym item) in
     let Q : A → Type 0 = P in
     subst Q e here
+
+-- one turn over items of which none gives anything
+pub none-take : {S A D : Type 0} (f : S → A) (h : A → Option D) (xs : List S) (i : ℕ) (s : S) → i < length xs → s ≡ get_or xs i s → h (f s) ≡ None → filter_map h (map f (take i xs)) ≡ [] → filter_map h (map f (take (i + 1) xs)) ≡ []
+none-take f h xs i s lt item gives none =
+    rw (front f xs i s lt item, filter_map-append h (map f (take i xs)) (f s ∷ []), gives, append-nil) none
+
+pub Each-none : {D B : Type 0} (R : D → B → Type 0) (ds : List D) (ys : List B) → ds ≡ [] → Each R ds ys → ys ≡ []
+Each-none R [] [] e all = refl
+Each-none R [] (y ∷ ys) e all = absurd all
+Each-none R (d ∷ ds) ys e all = absurd (let never : ⊥ = cc in never)

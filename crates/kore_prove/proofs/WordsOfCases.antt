@@ -1,6 +1,10 @@
 -- What a fact for one case says where that case is known.
-use Rattle.std.proofs.Common.{◌≡◌, Bool, true, false, Option, Some, None, IfSome, subst}
+use Rattle.std.proofs.Common.{◌≡◌, Bool, true, false, Option, Some, None, IfSome, IfNone, subst, refl}
 use Rattle.std.specs.Bool.{OnTrue}
+use Rattle.std.specs.Prelude.{Result, Ok, Err}
+use Rattle.kore_prove.specs.declared.accept.Refusal.{Refusal}
+use Rattle.kore_prove.specs.declared.accept.Refusal.TheVariants.{Refused, Memory}
+use Rattle.kore_prove.specs.Refusals.{AtRefusal, OnRefused}
 
 pub on_true : {P : Type 0} (b : Bool) → OnTrue b P → b ≡ true → P
 on_true true h e = h
@@ -9,3 +13,16 @@ on_true false h e = absurd (let z : ⊥ = cc in z)
 pub if_some : {X : Type 0} (P : X → Type 0) (o : Option X) (x : X) → IfSome o P → o ≡ Some x → P x
 if_some {X = X} P (Some y) x h e = let same : y ≡ x = cc in let Q : X → Type 0 = P in subst Q same h
 if_some P None x h e = absurd (let z : ⊥ = cc in z)
+
+pub if_none : {X P : Type 0} (o : Option X) → IfNone o P → ((x : X) → o ≡ Some x → ⊥) → P
+if_none None h never = h
+if_none (Some x) h never = absurd (never x refl)
+
+-- a refusal that is passed on
+pub passed_on : {P Q : Type 0} (e : Refusal) → AtRefusal e P → (P → Q) → AtRefusal e Q
+passed_on (Refused number byte) h f = (h.0, h.1, f h.2)
+passed_on Memory h f = tt
+
+pub weaker_refusal : {X P Q : Type 0} (r : Result X Refusal) → OnRefused r P → (P → Q) → OnRefused r Q
+weaker_refusal (Ok x) h f = tt
+weaker_refusal (Err e) h f = passed_on e h f

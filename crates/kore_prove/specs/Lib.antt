@@ -3,6 +3,7 @@ pub mod Acceptance
 pub mod Lines
 pub mod PrintedRun
 pub mod Nesting
+pub mod Refusals
 pub mod Runnable
 pub mod Files
 pub mod Reports

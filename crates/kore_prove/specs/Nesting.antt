@@ -3,6 +3,7 @@
 use Rattle.std.specs.Prelude.{ℕ, ◌+◌, ◌<◌, ◌≤◌, ◌^◌, length, max, All}
 use Rattle.kore_ast.specs.Trees.{PatternTree, PatternTrees, element_variable, set_variable, string, symbol_applied, connected, binding, domain_value, folded, no_patterns, pattern_then}
 use Rattle.kore_ast.specs.Trees.{Declaration, import_declaration, sort_declaration, symbol_declaration, alias_declaration, axiom_declaration, claim_declaration, ModuleTree}
+use Rattle.rule_core.specs.declared.signature.Signature.{Signature}
 
 -- the most applications of which each stands among the arguments of the one before it
 abbrev mutual
@@ -33,3 +34,8 @@ IsShallow (claim_declaration d) = Unit {0}
 pub record IsWithinLimits (m : ModuleTree) : Type 0 where
   pub shallow : All IsShallow m.declarations
   pub few : length m.declarations < 2 ^ 32
+
+-- 32 bits are enough to number the names of a signature
+pub record HasFewNames (sig : Signature) : Type 0 where
+  pub sorts : length sig.sorts < 2 ^ 32
+  pub symbols : length sig.symbols < 2 ^ 32

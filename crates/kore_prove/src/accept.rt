@@ -1,14 +1,19 @@
 // Acceptance: from the tree of a definition to its program, and from the tree of a term to its pattern.
-ghost use Rattle.kore_prove.specs.declared.accept.Refusal.TheVariants.{Memory};
-ghost use Rattle.std.specs.Prelude.{◌≡◌, ◌<◌, ◌≤◌, ◌^◌, ◌↔◌, length, All, IsTrue, OnOk, IfOk, IfSome, map};
-ghost use Rattle.std.specs.Bool.{OnTrue};
+ghost use Rattle.kore_prove.specs.declared.accept.Refusal.TheVariants.{Refused, Memory};
+ghost use Rattle.kore_ast.specs.declared.tree.ReadFault.TheVariants.{NotBuilt, Memory as OutOfMemory};
+ghost use Rattle.std.specs.Prelude.{◌≡◌, ◌<◌, ◌≤◌, ◌^◌, ◌↔◌, ℕ, List, Option, length, All, IsTrue, OnOk, IfOk, IfSome, IfNone, map};
 ghost use Rattle.std.specs.List.Sorted.{IsPermutation};
 ghost use Rattle.kore_ast.specs.Plain.{plain_definition, plain_module, plain_declaration, plain_pattern};
 ghost use Rattle.rule_core.specs.ProgramView.{rewrite_rules};
 ghost use Rattle.rule_core.specs.Trial.{IsInTrialOrder};
 ghost use Rattle.term_core.specs.RulePatterns.{plain_pattern as rule_pattern};
-ghost use Rattle.kore_prove.specs.Acceptance.{HasDeclarations, IsOnlyModule, IsStartSort, IsBuilt, sort_number};
-ghost use Rattle.kore_prove.specs.Nesting.{nesting, IsWithinLimits};
+ghost use Rattle.kore_ast.specs.Trees.{Declaration, ModuleTree, DefinitionTree, PatternTree};
+ghost use Rattle.kore_ast.specs.KoreText.{ReadsDefinition, ReadsPattern};
+ghost use Rattle.rule_core.specs.Rules.{RewriteRule};
+ghost use Rattle.term_core.specs.Patterns.{Pattern};
+ghost use Rattle.kore_prove.specs.Refusals.{OnRefused};
+ghost use Rattle.kore_prove.specs.Acceptance.{IsAccepted, IsAcceptedTerm, HasDeclarations, IsOnlyModule, IsStartSort, IsBuilt, sort_number};
+ghost use Rattle.kore_prove.specs.Nesting.{nesting, IsWithinLimits, HasFewNames};
 ghost use Rattle.kore_prove.specs.Runnable.{AcceptsTree, AcceptsPattern, IsProgramOf, IsStartOf, HasUsualPriority};
 
 use crate::axioms::{declared_rules, first_rule_sort};
@@ -51,7 +56,9 @@ impl<T: Drop> From<AllocFailed<T>> for Refusal {
 /// accepted, which `IsProgramOf` and `IsAccepted` state.
 pub fn accept(alloc: Global, bytes: &[u8]) -> Result<Program, Refusal>
     requires { length bytes.now < 2 ^ 32 }
-    ensures { IfOk result (IsProgramOf bytes.now) }
+    ensures program { IfOk result (IsProgramOf bytes.now) }
+    ensures few { IfOk result (λ program. HasFewNames program.sig) }
+    ensures refused { OnRefused result ((definition : DefinitionTree) (sig : Signature) (top : Option ℕ) (rules : List RewriteRule) → ReadsDefinition bytes.now definition → IsAccepted definition sig top rules → ⊥) }
 {
     match read_definition(alloc, bytes) {
         Ok(definition) => accept_definition(alloc, &definition),
@@ -62,7 +69,8 @@ pub fn accept(alloc: Global, bytes: &[u8]) -> Result<Program, Refusal>
 /// The pattern of a term of the program's sort, or of any sort where there is no rule.
 pub fn accept_term(alloc: Global, program: &Program, bytes: &[u8]) -> Result<RulePat, Refusal>
     requires { length bytes.now < 2 ^ 32 }
-    ensures { IfOk result (λ start. IsStartOf bytes.now program.now (rule_pattern start)) }
+    ensures start { IfOk result (λ start. IsStartOf bytes.now program.now (rule_pattern start)) }
+    ensures refused { OnRefused result (length program.now.sig.symbols < 2 ^ 32 → (tree : PatternTree) (start : Pattern) → ReadsPattern bytes.now tree → IsAcceptedTerm program.now.sig (sort_number program.now.top) tree start → ⊥) }
 {
     match read_pattern(alloc, bytes) {
         Ok(pat) => accept_pattern(alloc, program, &pat),
@@ -73,7 +81,8 @@ pub fn accept_term(alloc: Global, program: &Program, bytes: &[u8]) -> Result<Rul
 /// The pattern of a term's tree.
 fn accept_pattern(alloc: Global, program: &Program, pat: &Pat) -> Result<RulePat, Refusal>
     requires { nesting (plain_pattern pat.now) ≤ 500 }
-    ensures { IfOk result (λ start. AcceptsPattern (plain_pattern pat.now) program.now (rule_pattern start)) }
+    ensures accepted { IfOk result (λ start. AcceptsPattern (plain_pattern pat.now) program.now (rule_pattern start)) }
+    ensures refused { OnRefused result (length program.now.sig.symbols < 2 ^ 32 → (start : Pattern) → IsAcceptedTerm program.now.sig (sort_number program.now.top) (plain_pattern pat.now) start → ⊥) }
 {
     let (start, sort) = meaning(alloc, &program.sig, pat)?;
     if is_start_sort(program.top, sort) {
@@ -85,7 +94,7 @@ fn accept_pattern(alloc: Global, program: &Program, pat: &Pat) -> Result<RulePat
 
 /// Whether a term of this sort may start a run: it is the rules' sort, or there is no rule.
 fn is_start_sort(top: Option<SortId>, sort: SortId) -> bool
-    ensures { OnTrue result (IsStartSort (sort_number top) sort.0) }
+    ensures { IsTrue result ↔ IsStartSort (sort_number top) sort.0 }
 {
     match top {
         Some(top) => top == sort,
@@ -93,7 +102,11 @@ fn is_start_sort(top: Option<SortId>, sort: SortId) -> bool
     }
 }
 
-fn refusal_of(fault: ReadFault) -> Refusal {
+/// The refusal of what was not read.
+fn refusal_of(fault: ReadFault) -> Refusal
+    ensures not_built { fault ≡ NotBuilt → result ≡ Refused 90 0 }
+    ensures memory { fault ≡ OutOfMemory → result ≡ Memory }
+{
     match fault {
         ReadFault::NotBuilt => NOT_BUILT,
         ReadFault::Memory => Refusal::Memory,
@@ -103,9 +116,13 @@ fn refusal_of(fault: ReadFault) -> Refusal {
 /// The program of a definition's tree.
 fn accept_definition(alloc: Global, definition: &Definition) -> Result<Program, Refusal>
     requires { All IsWithinLimits (plain_definition definition.now).modules }
-    ensures { IfOk result (AcceptsTree (plain_definition definition.now)) }
+    ensures accepted { IfOk result (AcceptsTree (plain_definition definition.now)) }
+    ensures few { IfOk result (λ program. HasFewNames program.sig) }
+    ensures refused { OnRefused result ((sig : Signature) (top : Option ℕ) (rules : List RewriteRule) → IsAccepted (plain_definition definition.now) sig top rules → ⊥) }
 {
-    let decls = main_declarations(definition).ok_or(NOT_BUILT)?;
+    let Some(decls) = main_declarations(definition) else {
+        return Err(NOT_BUILT);
+    };
     let sorts = declared_sorts(alloc, decls)?;
     sorts.names_differ();
     let symbols = declared_symbols(alloc, &sorts, decls)?;
@@ -119,7 +136,8 @@ fn accept_definition(alloc: Global, definition: &Definition) -> Result<Program, 
 
 /// The declarations of the only module, where all are of a kind that is accepted.
 fn main_declarations(definition: &Definition) -> Option<&[Decl]>
-    ensures { IfSome result (λ decls. HasDeclarations (plain_definition definition.now) (map plain_declaration decls.now)) }
+    ensures found { IfSome result (λ decls. HasDeclarations (plain_definition definition.now) (map plain_declaration decls.now)) }
+    ensures none { IfNone result ((declarations : List Declaration) → HasDeclarations (plain_definition definition.now) declarations → ⊥) }
 {
     let main = only_module(definition)?;
     if are_built(&main.decls) {
@@ -131,7 +149,8 @@ fn main_declarations(definition: &Definition) -> Option<&[Decl]>
 
 /// The only module of a definition, where neither has attributes.
 fn only_module(definition: &Definition) -> Option<&Module>
-    ensures { IfSome result (λ main. IsOnlyModule (plain_definition definition.now) (plain_module main.now)) }
+    ensures found { IfSome result (λ main. IsOnlyModule (plain_definition definition.now) (plain_module main.now)) }
+    ensures none { IfNone result ((main : ModuleTree) → IsOnlyModule (plain_definition definition.now) main → ⊥) }
 {
     match definition.modules.as_slice() {
         [main] if definition.attrs.is_empty() && main.attrs.is_empty() => Some(main),
@@ -141,7 +160,7 @@ fn only_module(definition: &Definition) -> Option<&Module>
 
 /// Whether all declarations are of a kind that is accepted.
 fn are_built(decls: &[Decl]) -> bool
-    ensures { OnTrue result (All IsBuilt (map plain_declaration decls.now)) }
+    ensures { IsTrue result ↔ All IsBuilt (map plain_declaration decls.now) }
 {
     for decl in decls {
         if !is_built(decl) {

@@ -1,19 +1,21 @@
 // The rules that the axioms of a module state.
-ghost use Rattle.std.specs.Prelude.{◌≡◌, ◌≤◌, All, OnOk, ◌++◌, ◌∷◌, [], IfOk, IfSome, map};
-ghost use Rattle.std.specs.Bool.{OnTrue};
+ghost use Rattle.std.specs.Prelude.{◌≡◌, ◌<◌, ◌≤◌, ◌^◌, ◌↔◌, ◌⊎◌, ℕ, List, Option, Some, All, OnOk, ◌++◌, ◌∷◌, [], length, IfOk, IfSome, IfNone, IsTrue, map};
 ghost use Rattle.std.specs.List.{filter_map};
-ghost use Rattle.kore_ast.specs.Plain.{plain_declaration, plain_axiom_decl, plain_pattern};
+ghost use Rattle.kore_ast.specs.Plain.{plain_declaration, plain_axiom_decl, plain_pattern, plain_sort};
+ghost use Rattle.kore_ast.specs.Trees.{SortTree, sort_trees, PatternTree, connected, pattern_trees};
 ghost use Rattle.rule_core.specs.Rules.{RewriteRule};
 ghost use Rattle.rule_core.specs.ProgramView.{rewrite_rule};
+ghost use Rattle.term_core.specs.Patterns.{Pattern};
 ghost use Rattle.term_core.specs.RulePatterns.{plain_pattern as rule_pattern};
-ghost use Rattle.kore_prove.specs.Acceptance.{Each, axiom_declared, sort_number, IsTopOf, IsSide, IsSideOf, IsRewriting, IsRuleOf};
-ghost use Rattle.kore_prove.specs.Nesting.{nesting, IsShallow};
+ghost use Rattle.kore_prove.specs.Acceptance.{Each, NamesSort, axiom_declared, sort_number, IsTopOf, IsSide, IsSideOf, IsRewriting, IsRuleOf};
+ghost use Rattle.kore_prove.specs.Nesting.{nesting, IsShallow, HasFewNames};
+ghost use Rattle.kore_prove.specs.Refusals.{OnRefused};
 ghost use Rattle.kore_prove.specs.Runnable.{IsRunnable};
 
 use crate::accept::{NOT_BUILT, Refusal};
 use crate::declared::named_sort;
 use crate::meaning::meaning;
-use kore_ast::{AxiomDecl, Decl, Op, Pat, PatForm};
+use kore_ast::{AxiomDecl, Decl, Op, Pat, PatForm, Sort};
 use rule_core::{Rule, Signature, SortInfo, Table};
 use std::alloc::Global;
 use term_core::{RulePat, SortId};
@@ -22,13 +24,27 @@ use term_core::{RulePat, SortId};
 const PRIORITY: u32 = 50;
 
 /// The sort of the first rule.
-pub(crate) fn first_rule_sort(sorts: &Table<SortInfo>, decls: &[Decl]) -> Option<SortId> {
+pub(crate) fn first_rule_sort(sorts: &Table<SortInfo>, decls: &[Decl]) -> Option<SortId>
+    requires { length sorts.now < 2 ^ 32 }
+    ensures only { (sig : Signature) (top : Option ℕ) (rules : List RewriteRule) → sig.sorts ≡ sorts.now → Each (IsRuleOf sig top) (filter_map axiom_declared (map plain_declaration decls.now)) rules → (rules ≡ []) ⊎ (top ≡ sort_number result) }
+{
     for decl in decls {
         if let Decl::Axiom(axiom) = decl {
-            return rewritten(sorts, &axiom.pat).map(|r| r.0);
+            return rewritten_sort(sorts, &axiom.pat);
         }
     }
     None
+}
+
+/// The sort that a pattern rewrites.
+fn rewritten_sort(sorts: &Table<SortInfo>, pat: &Pat) -> Option<SortId>
+    requires { length sorts.now < 2 ^ 32 }
+    ensures { (sort : ℕ) (before after : PatternTree) → IsRewriting sorts.now (plain_pattern pat.now) sort before after → Some sort ≡ sort_number result }
+{
+    match rewritten(sorts, pat) {
+        Some((sort, _, _)) => Some(sort),
+        None => None,
+    }
 }
 
 /// The rules that the declarations declare, in the order of the file. All rewrite the sort `top`.
@@ -38,7 +54,9 @@ pub(crate) fn declared_rules(
     top: Option<SortId>,
     decls: &[Decl],
 ) -> Result<Vec<Rule>, Refusal>
-    requires { All IsShallow (map plain_declaration decls.now) }
+    requires few { HasFewNames sig.now }
+    requires shallow { All IsShallow (map plain_declaration decls.now) }
+    ensures refused { OnRefused result ((rules : List RewriteRule) → Each (IsRuleOf sig.now (sort_number top)) (filter_map axiom_declared (map plain_declaration decls.now)) rules → ⊥) }
     ensures stated { IfOk result (λ rules. Each (IsRuleOf sig.now (sort_number top)) (filter_map axiom_declared (map plain_declaration decls.now)) (map rewrite_rule rules.items)) }
     ensures runnable { IfOk result (λ rules. All (IsRunnable sig.now.symbols) rules.items) }
 {
@@ -59,7 +77,9 @@ fn push_rule(
     stated: &AxiomDecl,
     rules: &mut Vec<Rule>,
 ) -> Result<(), Refusal>
-    requires { nesting (plain_pattern stated.now.pat) ≤ 500 }
+    requires few { HasFewNames sig.now }
+    requires shallow { nesting (plain_pattern stated.now.pat) ≤ 500 }
+    ensures refused { OnRefused result ((rule : RewriteRule) → IsRuleOf sig.now (sort_number top) (plain_axiom_decl stated.now) rule → ⊥) }
     ensures added { IfOk result (λ _. (rule : RewriteRule) × (map rewrite_rule rules.new.items ≡ map rewrite_rule rules.old.items ++ rule ∷ []) × IsRuleOf sig.now (sort_number top) (plain_axiom_decl stated.now) rule) }
     ensures runnable { OnOk result (All (IsRunnable sig.now.symbols) rules.old.items → All (IsRunnable sig.now.symbols) rules.new.items) }
 {
@@ -75,15 +95,19 @@ fn rule_of(
     top: Option<SortId>,
     stated: &AxiomDecl,
 ) -> Result<Rule, Refusal>
-    requires { nesting (plain_pattern stated.now.pat) ≤ 500 }
+    requires few { HasFewNames sig.now }
+    requires shallow { nesting (plain_pattern stated.now.pat) ≤ 500 }
+    ensures refused { OnRefused result ((rule : RewriteRule) → IsRuleOf sig.now (sort_number top) (plain_axiom_decl stated.now) rule → ⊥) }
     ensures stated { IfOk result (λ rule. IsRuleOf sig.now (sort_number top) (plain_axiom_decl stated.now) (rewrite_rule rule)) }
     ensures runnable { IfOk result (IsRunnable sig.now.symbols) }
 {
     if !stated.params.is_empty() || !stated.attrs.is_empty() {
         return Err(NOT_BUILT);
     }
-    let (sort, before, after) = rewritten(&sig.sorts, &stated.pat).ok_or(NOT_BUILT)?;
-    if top != Some(sort) {
+    let Some((sort, before, after)) = rewritten(&sig.sorts, &stated.pat) else {
+        return Err(NOT_BUILT);
+    };
+    if !is_rules_sort(top, sort) {
         return Err(NOT_BUILT);
     }
     Ok(Rule {
@@ -95,11 +119,25 @@ fn rule_of(
     })
 }
 
+/// Whether the rules' sort is this one.
+fn is_rules_sort(top: Option<SortId>, sort: SortId) -> bool
+    ensures { IsTrue result ↔ (sort_number top ≡ Some sort.0) }
+{
+    match top {
+        Some(top) => top == sort,
+        None => false,
+    }
+}
+
 /// What q of `\and{S}(q,\top{S}())` means, of the sort S.
 fn side_meaning(alloc: Global, sig: &Signature, pat: &Pat, sort: SortId) -> Result<RulePat, Refusal>
+    requires { HasFewNames sig.now }
+    ensures refused { OnRefused result ((p : Pattern) → IsSideOf sig.now (plain_pattern pat.now) sort.0 p → ⊥) }
     ensures means { IfOk result (λ p. IsSideOf sig.now (plain_pattern pat.now) sort.0 (rule_pattern p)) }
 {
-    let inside = side(&sig.sorts, pat, sort).ok_or(NOT_BUILT)?;
+    let Some(inside) = side(&sig.sorts, pat, sort) else {
+        return Err(NOT_BUILT);
+    };
     let (means, of) = meaning(alloc, sig, inside)?;
     if of == sort {
         Ok(means)
@@ -110,28 +148,29 @@ fn side_meaning(alloc: Global, sig: &Signature, pat: &Pat, sort: SortId) -> Resu
 
 /// The sort and the sides of `\rewrites{S}(before,after)`.
 fn rewritten<'a>(sorts: &Table<SortInfo>, pat: &'a Pat) -> Option<(SortId, &'a Pat, &'a Pat)>
-    ensures { IfSome result (λ r. IsRewriting sorts.now (plain_pattern pat.now) r.0.0 (plain_pattern r.1.now) (plain_pattern r.2.now)) }
+    requires { length sorts.now < 2 ^ 32 }
+    ensures found { IfSome result (λ r. IsRewriting sorts.now (plain_pattern pat.now) r.0.0 (plain_pattern r.1.now) (plain_pattern r.2.now)) }
+    ensures none { IfNone result ((sort : ℕ) (before after : PatternTree) → IsRewriting sorts.now (plain_pattern pat.now) sort before after → ⊥) }
 {
-    let PatForm::Built(Op::Rewrites, names, args) = &pat.form else {
+    let (of, sides) = connective(pat, Op::Rewrites)?;
+    let [before, after] = sides else {
         return None;
     };
-    let ([sort], [before, after]) = (names.as_slice(), args.as_slice()) else {
-        return None;
-    };
-    Some((named_sort(sorts, sort)?, before, after))
+    let sort = named_sort(sorts, of)?;
+    Some((sort, before, after))
 }
 
 /// The first argument of `\and{S}(q,\top{S}())` with this sort S.
 fn side<'a>(sorts: &Table<SortInfo>, pat: &'a Pat, sort: SortId) -> Option<&'a Pat>
-    ensures { IfSome result (λ q. IsSide sorts.now (plain_pattern pat.now) sort.0 (plain_pattern q.now)) }
+    requires { length sorts.now < 2 ^ 32 }
+    ensures found { IfSome result (λ q. IsSide sorts.now (plain_pattern pat.now) sort.0 (plain_pattern q.now)) }
+    ensures none { IfNone result ((q : PatternTree) → IsSide sorts.now (plain_pattern pat.now) sort.0 q → ⊥) }
 {
-    let PatForm::Built(Op::And, names, args) = &pat.form else {
+    let (of, args) = connective(pat, Op::And)?;
+    let [inside, condition] = args else {
         return None;
     };
-    let ([outer], [inside, top]) = (names.as_slice(), args.as_slice()) else {
-        return None;
-    };
-    if named_sort(sorts, outer)? == sort && is_top(sorts, top, sort) {
+    if is_named(sorts, of, sort) && is_top(sorts, condition, sort) {
         Some(inside)
     } else {
         None
@@ -140,13 +179,39 @@ fn side<'a>(sorts: &Table<SortInfo>, pat: &'a Pat, sort: SortId) -> Option<&'a P
 
 /// Whether the pattern is `\top{S}()` with this sort S.
 fn is_top(sorts: &Table<SortInfo>, pat: &Pat, sort: SortId) -> bool
-    ensures { OnTrue result (IsTopOf sorts.now (plain_pattern pat.now) sort.0) }
+    requires { length sorts.now < 2 ^ 32 }
+    ensures { IsTrue result ↔ IsTopOf sorts.now (plain_pattern pat.now) sort.0 }
 {
-    match &pat.form {
-        PatForm::Built(Op::Top, names, args) if args.is_empty() => match names.as_slice() {
-            [name] => named_sort(sorts, name) == Some(sort),
-            _ => false,
-        },
-        _ => false,
+    let Some((of, args)) = connective(pat, Op::Top) else {
+        return false;
+    };
+    args.is_empty() && is_named(sorts, of, sort)
+}
+
+/// Whether a sort has this number.
+fn is_named(sorts: &Table<SortInfo>, of: &Sort, sort: SortId) -> bool
+    requires { length sorts.now < 2 ^ 32 }
+    ensures { IsTrue result ↔ NamesSort sorts.now (plain_sort of.now) sort.0 }
+{
+    match named_sort(sorts, of) {
+        Some(own) => own == sort,
+        None => false,
     }
+}
+
+/// The sort and the arguments of this connective, where it is applied at one sort.
+fn connective<'a>(pat: &'a Pat, op: Op) -> Option<(&'a Sort, &'a [Pat])>
+    ensures found { IfSome result (λ r. plain_pattern pat.now ≡ connected pat.now.at op (sort_trees (plain_sort r.0.now ∷ [])) (pattern_trees (map plain_pattern r.1.now))) }
+    ensures none { IfNone result ((at : ℕ) (of : SortTree) (args : List PatternTree) → plain_pattern pat.now ≡ connected at op (sort_trees (of ∷ [])) (pattern_trees args) → ⊥) }
+{
+    let PatForm::Built(own, names, args) = &pat.form else {
+        return None;
+    };
+    if *own != op {
+        return None;
+    }
+    let [sort] = names.as_slice() else {
+        return None;
+    };
+    Some((sort, args))
 }

@@ -1,6 +1,7 @@
 // The sorts and the symbols that a module declares.
-ghost use Rattle.std.specs.Prelude.{◌≡◌, ◌≤◌, length, ℕ, List, ◌++◌, ◌∷◌, [], IfOk, IfSome, map, codes};
-ghost use Rattle.std.specs.Bool.{OnTrue};
+ghost use Rattle.std.specs.Prelude.{◌≡◌, ◌<◌, ◌≤◌, ◌^◌, ◌↔◌, length, ℕ, List, ◌++◌, ◌∷◌, [], IfOk, OnOk, IfSome, IfNone, IsTrue, is_none, false, map, codes};
+ghost use Rattle.rule_core.specs.Named.{number_of, names_of, AreDistinct};
+ghost use Rattle.kore_prove.specs.Refusals.{OnRefused};
 ghost use Rattle.std.specs.List.{filter_map};
 ghost use Rattle.kore_ast.specs.Plain.{plain_declaration, plain_sort, plain_sort_decl, plain_symbol_decl, plain_pattern};
 ghost use Rattle.kore_ast.specs.Trees.{symbol_applied, no_sorts, no_patterns};
@@ -19,20 +20,24 @@ const MAX_ARGUMENTS: usize = 64;
 
 /// The number of a sort that is declared and has no arguments.
 pub(crate) fn named_sort(sorts: &Table<SortInfo>, sort: &Sort) -> Option<SortId>
-    ensures { IfSome result (λ s. NamesSort sorts.now (plain_sort sort.now) s.0) }
+    requires { length sorts.now < 2 ^ 32 }
+    ensures found { IfSome result (λ s. NamesSort sorts.now (plain_sort sort.now) s.0) }
+    ensures none { IfNone result ((s : ℕ) → NamesSort sorts.now (plain_sort sort.now) s → ⊥) }
 {
-    match &sort.form {
-        SortForm::App(name, args) if args.is_empty() => {
-            let number = sorts.number(name.as_str())?;
-            Some(SortId(u32::try_from(number).ok()?))
-        }
-        _ => None,
+    let SortForm::App(name, args) = &sort.form else {
+        return None;
+    };
+    if !args.is_empty() {
+        return None;
     }
+    let number = sorts.number(name.as_str())?;
+    Some(SortId(number as u32))
 }
 
 /// The sorts that the declarations declare.
 pub(crate) fn declared_sorts(alloc: Global, decls: &[Decl]) -> Result<Table<SortInfo>, Refusal>
-    ensures { IfOk result (Each IsSortEntry (filter_map sort_declared (map plain_declaration decls.now))) }
+    ensures declared { IfOk result (Each IsSortEntry (filter_map sort_declared (map plain_declaration decls.now))) }
+    ensures refused { OnRefused result ((entries : List (List ℕ × SortInfo)) → Each IsSortEntry (filter_map sort_declared (map plain_declaration decls.now)) entries → AreDistinct (names_of entries) → ⊥) }
 {
     let mut sorts = Table::new(alloc);
     for decl in decls {
@@ -45,7 +50,8 @@ pub(crate) fn declared_sorts(alloc: Global, decls: &[Decl]) -> Result<Table<Sort
 
 /// Adds a sort, in the next place of the table.
 fn add_sort(alloc: Global, sorts: &mut Table<SortInfo>, sort: &SortDecl) -> Result<(), Refusal>
-    ensures { IfOk result (λ _. (entry : List ℕ × SortInfo) × (sorts.new ≡ sorts.old ++ entry ∷ []) × IsSortEntry (plain_sort_decl sort.now) entry) }
+    ensures added { IfOk result (λ _. (entry : List ℕ × SortInfo) × (sorts.new ≡ sorts.old ++ entry ∷ []) × IsSortEntry (plain_sort_decl sort.now) entry) }
+    ensures refused { OnRefused result ((entry : List ℕ × SortInfo) → IsSortEntry (plain_sort_decl sort.now) entry → is_none (number_of sorts.old entry.0) ≡ false) }
 {
     if sort.hooked || !sort.params.is_empty() || !sort.attrs.is_empty() {
         return Err(NOT_BUILT);
@@ -67,7 +73,9 @@ pub(crate) fn declared_symbols(
     sorts: &Table<SortInfo>,
     decls: &[Decl],
 ) -> Result<Table<SymInfo>, Refusal>
-    ensures { IfOk result (Each (IsSymbolEntry sorts.now) (filter_map symbol_declared (map plain_declaration decls.now))) }
+    requires { length sorts.now < 2 ^ 32 }
+    ensures declared { IfOk result (Each (IsSymbolEntry sorts.now) (filter_map symbol_declared (map plain_declaration decls.now))) }
+    ensures refused { OnRefused result ((entries : List (List ℕ × SymInfo)) → Each (IsSymbolEntry sorts.now) (filter_map symbol_declared (map plain_declaration decls.now)) entries → AreDistinct (names_of entries) → ⊥) }
 {
     let mut symbols = Table::new(alloc);
     for decl in decls {
@@ -85,13 +93,17 @@ fn add_symbol(
     symbols: &mut Table<SymInfo>,
     symbol: &SymbolDecl,
 ) -> Result<(), Refusal>
-    ensures { IfOk result (λ _. (entry : List ℕ × SymInfo) × (symbols.new ≡ symbols.old ++ entry ∷ []) × IsSymbolEntry sorts.now (plain_symbol_decl symbol.now) entry) }
+    requires { length sorts.now < 2 ^ 32 }
+    ensures added { IfOk result (λ _. (entry : List ℕ × SymInfo) × (symbols.new ≡ symbols.old ++ entry ∷ []) × IsSymbolEntry sorts.now (plain_symbol_decl symbol.now) entry) }
+    ensures refused { OnRefused result ((entry : List ℕ × SymInfo) → IsSymbolEntry sorts.now (plain_symbol_decl symbol.now) entry → is_none (number_of symbols.old entry.0) ≡ false) }
 {
     if symbol.hooked || !symbol.params.is_empty() || !is_constructor_alone(&symbol.attrs) {
         return Err(NOT_BUILT);
     }
     let args = named_sorts(alloc, sorts, &symbol.args)?;
-    let sort = named_sort(sorts, &symbol.result).ok_or(NOT_BUILT)?;
+    let Some(sort) = named_sort(sorts, &symbol.result) else {
+        return Err(NOT_BUILT);
+    };
     let name = String::from_str(alloc, symbol.name.as_str())?;
     if symbols.insert(name, constructor(args, sort))? {
         Ok(())
@@ -106,15 +118,19 @@ fn named_sorts(
     sorts: &Table<SortInfo>,
     args: &[Sort],
 ) -> Result<Vec<SortRef>, Refusal>
-    ensures few { IfOk result (λ refs. length args.now ≤ 64) }
+    requires { length sorts.now < 2 ^ 32 }
+    ensures few { OnOk result (length args.now ≤ 64) }
     ensures named { IfOk result (λ refs. Each (NamesSortOf sorts.now) (map plain_sort args.now) refs.items) }
+    ensures refused { OnRefused result (length args.now ≤ 64 → (refs : List SortRef) → Each (NamesSortOf sorts.now) (map plain_sort args.now) refs → ⊥) }
 {
     if args.len() > MAX_ARGUMENTS {
         return Err(NOT_BUILT);
     }
     let mut refs = Vec::new(alloc);
     for arg in args {
-        let sort = named_sort(sorts, arg).ok_or(NOT_BUILT)?;
+        let Some(sort) = named_sort(sorts, arg) else {
+            return Err(NOT_BUILT);
+        };
         refs.push(SortRef::Sort(sort))?;
     }
     Ok(refs)
@@ -138,7 +154,7 @@ fn constructor(args: Vec<SortRef>, sort: SortId) -> SymInfo
 
 /// Whether the attributes are `[constructor{}()]`.
 fn is_constructor_alone(attrs: &[Pat]) -> bool
-    ensures { OnTrue result (IsConstructorAlone (map plain_pattern attrs.now)) }
+    ensures { IsTrue result ↔ IsConstructorAlone (map plain_pattern attrs.now) }
 {
     match attrs {
         [attr] => is_constructor(attr),
@@ -148,12 +164,13 @@ fn is_constructor_alone(attrs: &[Pat]) -> bool
 
 /// Whether the attribute is `constructor{}()`.
 fn is_constructor(attr: &Pat) -> bool
-    ensures { OnTrue result (plain_pattern attr.now ≡ symbol_applied attr.now.at (codes "constructor") no_sorts no_patterns) }
+    ensures { IsTrue result ↔ ((at : ℕ) × (plain_pattern attr.now ≡ symbol_applied at (codes "constructor") no_sorts no_patterns)) }
 {
-    match &attr.form {
-        PatForm::App(name, sorts, args) => {
-            sorts.is_empty() && args.is_empty() && name.as_str() == "constructor"
-        }
-        _ => false,
+    let PatForm::App(name, sorts, args) = &attr.form else {
+        return false;
+    };
+    if !sorts.is_empty() || !args.is_empty() {
+        return false;
     }
+    name.as_str() == "constructor"
 }

@@ -1,11 +1,13 @@
 // What a pattern of applications alone means: a pattern of rules, and its sort.
-ghost use Rattle.std.specs.Prelude.{◌≡◌, ℕ, List, IfOk, IfSome, map, Some, slice_get, IsTrue, ◌↔◌};
+ghost use Rattle.std.specs.Prelude.{◌≡◌, ◌<◌, ◌^◌, ◌↔◌, ℕ, length, IfOk, IfSome, IfNone, map, Some, None, slice_get, IsTrue};
 ghost use Rattle.kore_ast.specs.Plain.{plain_pattern};
 ghost use Rattle.kore_ast.specs.Trees.{pattern_trees};
 ghost use Rattle.rule_core.specs.Named.{number_of};
 ghost use Rattle.rule_core.specs.declared.signature.SortRef.TheVariants.{Sort};
+ghost use Rattle.term_core.specs.Patterns.{Pattern, Patterns};
 ghost use Rattle.term_core.specs.RulePatterns.{plain_pattern as rule_pattern, plain_patterns as rule_patterns};
 ghost use Rattle.kore_prove.specs.Acceptance.{Denotes, AllDenote};
+ghost use Rattle.kore_prove.specs.Refusals.{OnRefused};
 
 use crate::accept::{NOT_BUILT, Refusal};
 use kore_ast::{Pat, PatForm};
@@ -22,6 +24,7 @@ pub(crate) fn meaning(
     pat: &Pat,
 ) -> Result<(RulePat, SortId), Refusal>
     ensures means { IfOk result (λ r. Denotes sig.now (plain_pattern pat.now) (rule_pattern r.0) r.1.0) }
+    ensures refused { OnRefused result (length sig.now.symbols < 2 ^ 32 → (p : Pattern) (s : ℕ) → Denotes sig.now (plain_pattern pat.now) p s → ⊥) }
 {
     let PatForm::App(name, sorts, args) = &pat.form else {
         return Err(NOT_BUILT);
@@ -29,7 +32,9 @@ pub(crate) fn meaning(
     if !sorts.is_empty() {
         return Err(NOT_BUILT);
     }
-    let (symbol, info) = named_symbol(sig, name.as_str()).ok_or(NOT_BUILT)?;
+    let Some((symbol, info)) = named_symbol(sig, name.as_str()) else {
+        return Err(NOT_BUILT);
+    };
     let SortRef::Sort(sort) = info.result else {
         return Err(NOT_BUILT);
     };
@@ -46,6 +51,7 @@ fn meanings(
     sorts: &[SortRef],
 ) -> Result<Vec<RulePat>, Refusal>
     ensures means { IfOk result (λ ps. AllDenote sig.now (pattern_trees (map plain_pattern args.now)) (rule_patterns ps.items) sorts.now) }
+    ensures refused { OnRefused result (length sig.now.symbols < 2 ^ 32 → (ps : Patterns) → AllDenote sig.now (pattern_trees (map plain_pattern args.now)) ps sorts.now → ⊥) }
 {
     if args.len() != sorts.len() {
         return Err(NOT_BUILT);
@@ -64,6 +70,7 @@ fn meanings(
 /// The symbol of this name, and what is declared of it.
 fn named_symbol<'a>(sig: &'a Signature, name: &str) -> Option<(SymId, &'a SymInfo)>
     ensures number { IfSome result (λ r. number_of sig.now.symbols name.now ≡ Some r.0.0) }
+    ensures none { IfNone result (length sig.now.symbols < 2 ^ 32 → number_of sig.now.symbols name.now ≡ None) }
     ensures entry { IfSome result (λ r. slice_get sig.now.symbols r.0.0 ≡ Some (name.now, r.1.now)) }
 {
     let number = sig.symbols.number(name)?;

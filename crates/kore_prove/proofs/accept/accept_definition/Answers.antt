@@ -1,33 +1,84 @@
-use Rattle.std.proofs.Common.{rules, map, ◌≡◌, Some}
+use Rattle.std.proofs.Common.{rules, map, ◌≡◌, ◌<◌, ◌^◌, refl, length}
+use Rattle.std.specs.List.{filter_map}
 use Rattle.std.proofs.lemmas.List.Sorted.{IsPermutation-map, All-permutation}
+use Rattle.std.proofs.lemmas.Result.{err_from_is_err_and}
 use Rattle.kore_ast.specs.Plain.{plain_definition, plain_declaration}
 use Rattle.rule_core.specs.ProgramView.{rewrite_rule, rewrite_rules}
-use Rattle.kore_prove.specs.Acceptance.{HasDeclarations}
+use Rattle.rule_core.specs.declared.signature.Signature.{Signature}
+use Rattle.kore_prove.specs.Acceptance.{IsSortEntry, IsSymbolEntry, sort_declared, symbol_declared, sort_number}
 use Rattle.kore_prove.specs.Runnable.{IsRunnable}
-use Rattle.kore_prove.proofs.WordsOfCases.{if_some}
 use Rattle.kore_prove.proofs.MainModule.{main-within}
+use Rattle.kore_prove.proofs.OneDefinition.{few_entries, no_sorts_left, same_sorts, same_symbols, same_signature, same_rules}
+use Rattle.kore_prove.proofs.Determined.{SameSignature}
+use Rattle.kore_prove.proofs.WordsOfCases.{if_none, passed_on}
 use Rattle.kore_prove.proofs.accept.accept_definition.Goals as goal
 
-pub returns : goal.returns
-returns c = let found : c.main_declarations.result ≡ Some c.in_ok-decls.decls = search rules in
+pub returns-clause-accepted : goal.returns-clause-accepted
+returns-clause-accepted c = record {
+  rules = rewrite_rules c.in_ok-rules.rules.items;
+  accepted = record {
+    declarations = map plain_declaration c.in-Some.decls.now;
+    main = c.in-Some.ensures.found;
+    sorts = c.in_ok-sorts.ensures.declared;
+    sorts_differ = search rules;
+    symbols = c.in_ok-symbols.ensures.declared;
+    symbols_differ = search rules;
+    rules_are = c.in_ok-rules.ensures.stated;
+  };
+  same_rules = IsPermutation-map rewrite_rule _ _ c.in_ok-put_in_order.ensures.permutation;
+  in_order = c.in_ok-put_in_order.ensures.in_order;
+  runnable = All-permutation (IsRunnable c.in_ok-symbols.symbols) _ _ c.in_ok-put_in_order.ensures.permutation c.in_ok-rules.ensures.runnable;
+}
+
+pub returns-clause-few : goal.returns-clause-few
+returns-clause-few c =
+    let within = main-within (plain_definition c.args.definition.now) _ c.in-Some.ensures.found c.requires in
     record {
-      rules = rewrite_rules c.in_ok-rules.rules.items;
-      accepted = record {
-        declarations = map plain_declaration c.in_ok-decls.decls.now;
-        main = if_some (λ ds. HasDeclarations (plain_definition c.args.definition.now) (map plain_declaration ds.now)) c.main_declarations.result c.in_ok-decls.decls c.main_declarations.ensures found;
-        sorts = search rules;
-        sorts_differ = search rules;
-        symbols = search rules;
-        symbols_differ = search rules;
-        rules_are = search rules;
-      };
-      same_rules = IsPermutation-map rewrite_rule _ _ c.in_ok-put_in_order.ensures.permutation;
-      in_order = c.in_ok-put_in_order.ensures.in_order;
-      runnable = All-permutation (IsRunnable c.in_ok-symbols.symbols) _ _ c.in_ok-put_in_order.ensures.permutation c.in_ok-rules.ensures.runnable;
+      sorts = few_entries sort_declared IsSortEntry (map plain_declaration c.in-Some.decls.now) c.in_ok-sorts.sorts c.in_ok-sorts.ensures.declared within.few;
+      symbols = few_entries symbol_declared (IsSymbolEntry c.in_ok-sorts.sorts) (map plain_declaration c.in-Some.decls.now) c.in_ok-symbols.symbols c.in_ok-symbols.ensures.declared within.few;
     }
+
+pub declared_symbols-requires : goal.declared_symbols-requires
+declared_symbols-requires c =
+    few_entries sort_declared IsSortEntry (map plain_declaration c.in-Some.decls.now) c.in_ok-sorts.sorts c.in_ok-sorts.ensures.declared (main-within (plain_definition c.args.definition.now) _ c.in-Some.ensures.found c.requires).few
+
+pub first_rule_sort-top-requires : goal.first_rule_sort-top-requires
+first_rule_sort-top-requires c =
+    few_entries sort_declared IsSortEntry (map plain_declaration c.in-Some.decls.now) c.in_ok-sorts.sorts c.in_ok-sorts.ensures.declared (main-within (plain_definition c.args.definition.now) _ c.in-Some.ensures.found c.requires).few
 
 pub declared_rules-requires : goal.declared_rules-requires
 declared_rules-requires c =
-    let found : c.main_declarations.result ≡ Some c.in_ok-decls.decls = search rules in
-    let has = if_some (λ ds. HasDeclarations (plain_definition c.args.definition.now) (map plain_declaration ds.now)) c.main_declarations.result c.in_ok-decls.decls c.main_declarations.ensures found in
-    (main-within (plain_definition c.args.definition.now) _ has c.requires).shallow
+    let within = main-within (plain_definition c.args.definition.now) _ c.in-Some.ensures.found c.requires in
+    record {
+      few = record {
+        sorts = few_entries sort_declared IsSortEntry (map plain_declaration c.in-Some.decls.now) c.in_ok-sorts.sorts c.in_ok-sorts.ensures.declared within.few;
+        symbols = few_entries symbol_declared (IsSymbolEntry c.in_ok-sorts.sorts) (map plain_declaration c.in-Some.decls.now) c.in_ok-symbols.symbols c.in_ok-symbols.ensures.declared within.few;
+      };
+      shallow = within.shallow;
+    }
+
+pub returns-in_default-clause-refused : goal.returns-in_default-clause-refused
+returns-in_default-clause-refused c =
+    let none = if_none c.main_declarations.result c.main_declarations.ensures.none c.in_default.not-Some in
+    (refl, refl, λ sig top stated is. none is.declarations is.main)
+
+pub returns-in_err-sorts-clause-refused : goal.returns-in_err-sorts-clause-refused
+returns-in_err-sorts-clause-refused c =
+    let p = err_from_is_err_and c.from_residual.result c.from_residual.ensures.1 in
+    rw (p.1, p.2) (passed_on c.in_err-sorts.field-0.0 c.in_err-sorts.ensures.refused (λ none sig top stated is.
+    none sig.sorts (no_sorts_left (plain_definition c.args.definition.now) (map plain_declaration c.in-Some.decls.now) sig top stated c.in-Some.ensures.found is) is.sorts_differ))
+
+pub returns-in_err-symbols-clause-refused : goal.returns-in_err-symbols-clause-refused
+returns-in_err-symbols-clause-refused c =
+    let p = err_from_is_err_and c.from_residual-in_err-symbols.result c.from_residual-in_err-symbols.ensures.1 in
+    rw (p.1, p.2) (passed_on c.in_err-symbols.field-0.0 c.in_err-symbols.ensures.refused (λ none sig top stated is.
+    none sig.symbols (same_symbols (plain_definition c.args.definition.now) (map plain_declaration c.in-Some.decls.now) c.in_ok-sorts.sorts sig top stated c.in-Some.ensures.found c.in_ok-sorts.ensures.declared is) is.symbols_differ))
+
+pub returns-in_err-rules-clause-refused : goal.returns-in_err-rules-clause-refused
+returns-in_err-rules-clause-refused c =
+    let found : Signature = record { sorts = c.in_ok-sorts.sorts; symbols = c.in_ok-symbols.symbols } in
+    let p = err_from_is_err_and c.from_residual-in_err-rules.result c.from_residual-in_err-rules.ensures.1 in
+    rw (p.1, p.2) (passed_on c.in_err-rules.field-0.0 c.in_err-rules.ensures.refused (λ none sig top stated is.
+    let same = same_sorts (plain_definition c.args.definition.now) (map plain_declaration c.in-Some.decls.now) c.in_ok-sorts.sorts sig top stated c.in-Some.ensures.found c.in_ok-sorts.ensures.declared is in
+    none stated (same_rules (plain_definition c.args.definition.now) (map plain_declaration c.in-Some.decls.now) found (sort_number c.first_rule_sort-top.result) sig top stated c.in-Some.ensures.found c.in_ok-sorts.ensures.declared
+    c.in_ok-symbols.ensures.declared (c.first_rule_sort-top.ensures.only sig top stated same) is)))

@@ -1,3 +1,6 @@
+use Rattle.kore_prove.proofs.Taken.{Each-given}
+use Rattle.kore_prove.proofs.WordsOfCases.{passed_on}
+use Rattle.std.proofs.lemmas.Result.{err_from_is_err_and}
 use Rattle.std.proofs.Common.{rules, arith, ◌<◌, length, ap, map, subst}
 use Rattle.kore_ast.specs.Plain.{plain_declaration, plain_axiom_decl}
 use Rattle.kore_prove.specs.Acceptance.{IsRuleOf, axiom_declared, sort_number}
@@ -28,8 +31,17 @@ loop-decl-preserved c =
       }
     ]
 
-pub push_rule-requires : goal.push_rule-requires
-push_rule-requires c =
-    let shallow = All-item plain_declaration IsShallow c.args.decls.now c.loop-decl.decl-index c.decl-item.result c.requires (omega arith) c.decl-item.is in
+pub push_rule-requires-clause-shallow : goal.push_rule-requires-clause-shallow
+push_rule-requires-clause-shallow c =
+    let shallow = All-item plain_declaration IsShallow c.args.decls.now c.loop-decl.decl-index c.decl-item.result c.requires.shallow (omega arith) c.decl-item.is in
     let P : Decl → Type 0 = λ d. IsShallow (plain_declaration d) in
     subst P c.in-Axiom.is shallow
+
+pub returns-in_err-push_rule-clause-refused : goal.returns-in_err-push_rule-clause-refused
+returns-in_err-push_rule-clause-refused c =
+    let lt : c.loop-decl.decl-index < length c.args.decls.now = omega arith in
+    let p = err_from_is_err_and c.from_residual.result c.from_residual.ensures.1 in
+    rw (p.1, p.2) (passed_on c.in_err-push_rule.field-0.0 c.in_err-push_rule.ensures.refused (λ none all each.
+    let y = Each-given plain_declaration axiom_declared (IsRuleOf c.args.sig.now (sort_number c.args.top)) c.args.decls.now c.loop-decl.decl-index c.decl-item.result (plain_axiom_decl c.in-Axiom.axiom) all lt c.decl-item.is
+    (ap (λ d. axiom_declared (plain_declaration d)) c.in-Axiom.is) each in
+    none y.0 y.1))
