@@ -1,12 +1,20 @@
 -- The cause of each end of a call that prints no run. Of a desk that tells nothing only its counts speak.
-use Rattle.std.specs.Prelude.{◌≡◌, ℕ, ◌⊎◌, List, ◌++◌, Option, None, Some}
+use Rattle.std.specs.Prelude.{◌≡◌, ℕ, ◌<◌, ◌^◌, length, ◌⊎◌, List, ◌++◌, Option, None, Some}
 use Rattle.desk_io.specs.Told.{Told, Holds, Lacks, HoldsMore}
 use Rattle.desk_io.specs.Sent.{SameBytes}
 use Rattle.desk_io.specs.Counts.{Rose}
 use Rattle.desk_io.specs.declared.read.ReadEnd.TheVariants as read
+use Rattle.term_core.specs.Patterns.{Pattern}
+use Rattle.kore_ast.specs.Trees.{PatternTree, DefinitionTree}
+use Rattle.kore_ast.specs.KoreText.{ReadsPattern, ReadsDefinition}
+use Rattle.rule_core.specs.Rules.{RewriteRule}
+use Rattle.rule_core.specs.declared.rules.Program.{Program}
+use Rattle.rule_core.specs.declared.signature.Signature.{Signature}
 use Rattle.kore_prove.specs.declared.accept.Refusal.TheVariants as refusal
 use Rattle.kore_prove.specs.declared.files.FileEnd.{FileEnd}
 use Rattle.kore_prove.specs.declared.files.FileEnd.TheVariants as file
+use Rattle.kore_prove.specs.Acceptance.{IsAccepted, IsAcceptedTerm, sort_number}
+use Rattle.kore_prove.specs.Files.{HoldsProgram}
 use Rattle.kore_prove.specs.Words.{IsRunCommand}
 use Rattle.kore_prove.specs.Reports.{Ending, out_of_memory, bad_words, read_fault, write_fault, no_such_file, definition_refused, term_refused, too_large, Reports}
 
@@ -17,15 +25,26 @@ definition_limit = 33554432
 abbrev pub term_limit : ℕ
 term_limit = 1048576
 
+-- no definition that the bytes spell is accepted
+abbrev pub IsNoDefinition : List ℕ → Type 0
+IsNoDefinition bytes =
+    (definition : DefinitionTree) (sig : Signature) (top : Option ℕ) (rules : List RewriteRule) → ReadsDefinition bytes definition → IsAccepted definition sig top rules → ⊥
+
+-- no pattern that the bytes spell is accepted as a term of the program, which has fewer than 2^32 symbols
+abbrev pub IsNoTermOf : Program → List ℕ → Type 0
+IsNoTermOf program bytes =
+    length program.sig.symbols < 2 ^ 32 → (tree : PatternTree) (start : Pattern) → ReadsPattern bytes tree → IsAcceptedTerm program.sig (sort_number program.top) tree start → ⊥
+
 -- The file of that name was not read whole or was refused: it is not there; a fault was counted; it has more bytes than
--- the limit; or it holds bytes that were refused.
-abbrev pub FileCause : Option Told → List ℕ → ℕ → ℕ → ℕ → FileEnd → Type 0
-FileCause told name limit reads reads' (file.Unread read.NoFile) = Lacks told name
-FileCause told name limit reads reads' (file.Unread read.Failed) = Rose reads reads'
-FileCause told name limit reads reads' (file.Unread read.TooLarge) = HoldsMore told name limit
-FileCause told name limit reads reads' (file.Unread read.Memory) = Unit {0}
-FileCause told name limit reads reads' (file.Refused (refusal.Refused number byte)) = (bytes : List ℕ) × Holds told name bytes
-FileCause told name limit reads reads' (file.Refused refusal.Memory) = Unit {0}
+-- the limit; or it holds bytes that are refused, as what they are not, with number 90 at the first byte.
+abbrev pub FileCause : (List ℕ → Type 0) → Option Told → List ℕ → ℕ → ℕ → ℕ → FileEnd → Type 0
+FileCause IsNone told name limit reads reads' (file.Unread read.NoFile) = Lacks told name
+FileCause IsNone told name limit reads reads' (file.Unread read.Failed) = Rose reads reads'
+FileCause IsNone told name limit reads reads' (file.Unread read.TooLarge) = HoldsMore told name limit
+FileCause IsNone told name limit reads reads' (file.Unread read.Memory) = Unit {0}
+FileCause IsNone told name limit reads reads' (file.Refused (refusal.Refused number byte)) =
+    (bytes : List ℕ) × Holds told name bytes × (number ≡ 90) × (byte ≡ 0) × IsNone bytes
+FileCause IsNone told name limit reads reads' (file.Refused refusal.Memory) = Unit {0}
 
 -- What is known of a run command whose files have these names: what the desk told at first, and the counts of its faults
 -- and of the output's before and after.
@@ -45,8 +64,10 @@ RunCause c bad_words = ⊥
 RunCause c read_fault = Rose c.reads c.reads'
 RunCause c write_fault = Rose c.writes c.writes'
 RunCause c (no_such_file name) = ((name ≡ c.definition) ⊎ (name ≡ c.term)) × Lacks c.told name
-RunCause c (definition_refused number byte) = (bytes : List ℕ) × Holds c.told c.definition bytes
-RunCause c (term_refused number byte) = (bytes : List ℕ) × Holds c.told c.term bytes
+RunCause c (definition_refused number byte) =
+    (bytes : List ℕ) × Holds c.told c.definition bytes × (number ≡ 90) × (byte ≡ 0) × IsNoDefinition bytes
+RunCause c (term_refused number byte) =
+    (program : Program) × HoldsProgram c.told c.definition program × (bytes : List ℕ) × Holds c.told c.term bytes × (number ≡ 90) × (byte ≡ 0) × IsNoTermOf program bytes
 RunCause c (too_large name) =
     ((name ≡ c.definition) × HoldsMore c.told name definition_limit) ⊎ ((name ≡ c.term) × HoldsMore c.told name term_limit)
 

@@ -3,7 +3,9 @@ ghost use Rattle.std.specs.Prelude.{◌≡◌, IsFalse, List, ℕ, Option, ◌�
 ghost use Rattle.term_core.specs.Patterns.{instance_of, FitsWithin};
 ghost use Rattle.term_core.specs.RulePatterns.{plain_pattern};
 ghost use Rattle.desk_io.specs.Told.{KeepsFiles};
-ghost use Rattle.kore_prove.specs.Causes.{Course, definition_limit, term_limit, FileCause, Ends, IsNoCommand, RunCause, KeepsOutput};
+ghost use Rattle.kore_prove.specs.Causes.{Course, definition_limit, term_limit, FileCause, IsNoDefinition, IsNoTermOf, Ends, IsNoCommand, RunCause, KeepsOutput};
+ghost use Rattle.kore_prove.specs.Files.{HoldsProgram};
+ghost use Rattle.rule_core.specs.declared.rules.Program.{Program};
 ghost use Rattle.kore_prove.specs.Reports.{plain_end, Reports};
 ghost use Rattle.kore_prove.specs.Runnable.{IsShowable, IsRunnable};
 ghost use Rattle.rule_core.specs.Trial.{IsInTrialOrder};
@@ -168,7 +170,8 @@ fn start_term(alloc: Global, start: &RulePat) -> Result<Term, AllocError>
 /// The end of a call whose definition was not read or not accepted.
 fn definition_end(end: FileEnd, name: &str) -> End<'_>
     ensures cause { (c : Course) → c.definition ≡ name.now
-        → FileCause c.told c.definition definition_limit c.reads c.reads' end → RunCause c (plain_end result) }
+        → FileCause IsNoDefinition c.told c.definition definition_limit c.reads c.reads' end
+        → RunCause c (plain_end result) }
     ensures output { (output : Option (List ℕ)) → KeepsOutput (plain_end result) output output }
 {
     match end {
@@ -182,15 +185,20 @@ fn definition_end(end: FileEnd, name: &str) -> End<'_>
 
 /// The end of a call whose term was not read or not accepted.
 fn term_end(end: FileEnd, name: &str) -> End<'_>
-    ensures cause { (c : Course) → c.term ≡ name.now
-        → FileCause c.told c.term term_limit c.reads c.reads' end → RunCause c (plain_end result) }
+    ensures cause { (c : Course) (program : Program) → c.term ≡ name.now
+        → HoldsProgram c.told c.definition program
+        → FileCause (IsNoTermOf program) c.told c.term term_limit c.reads c.reads' end
+        → RunCause c (plain_end result) }
     ensures output { (output : Option (List ℕ)) → KeepsOutput (plain_end result) output output }
 {
     match end {
         FileEnd::Unread(ReadEnd::NoFile) => End::NoSuchFile(name),
         FileEnd::Unread(ReadEnd::Failed) => End::ReadFault,
         FileEnd::Unread(ReadEnd::TooLarge) => End::TooLarge(name),
-        FileEnd::Refused(Refusal::Refused(number, byte)) => End::TermRefused(number, byte),
-        FileEnd::Unread(ReadEnd::Memory) | FileEnd::Refused(Refusal::Memory) => End::OutOfMemory,
+        FileEnd::Unread(ReadEnd::Memory) => End::OutOfMemory,
+        FileEnd::Refused(refusal) => match refusal {
+            Refusal::Refused(number, byte) => End::TermRefused(number, byte),
+            Refusal::Memory => End::OutOfMemory,
+        },
     }
 }

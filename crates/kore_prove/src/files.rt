@@ -2,7 +2,7 @@
 ghost use Rattle.std.specs.Prelude.{◌≡◌, ◌≤◌, IfOk, IfErr};
 ghost use Rattle.desk_io.specs.Told.{KeepsFiles};
 ghost use Rattle.term_core.specs.RulePatterns.{plain_pattern};
-ghost use Rattle.kore_prove.specs.Causes.{FileCause};
+ghost use Rattle.kore_prove.specs.Causes.{FileCause, IsNoDefinition, IsNoTermOf};
 ghost use Rattle.kore_prove.specs.Files.{HoldsProgram, HoldsStart};
 
 use crate::accept::{Refusal, accept, accept_term};
@@ -29,14 +29,17 @@ pub enum FileEnd {
 /// The program that the file of that name holds.
 pub fn read_program<D: Desk>(alloc: Global, desk: &mut D, name: &str) -> Result<Program, FileEnd>
     ensures found { IfOk result (HoldsProgram (D.told desk.old) name.now) }
-    ensures cause { IfErr result (FileCause
+    ensures cause { IfErr result (FileCause IsNoDefinition
         (D.told desk.old) name.now DEFINITION_LIMIT (D.read_faults desk.old) (D.read_faults desk.new)) }
     ensures counts { D.read_faults desk.old ≤ D.read_faults desk.new }
     ensures files { KeepsFiles (D.told desk.old) (D.told desk.new) }
     ensures created { D.created desk.new ≡ D.created desk.old }
 {
     match read_file(alloc, desk, name, DEFINITION_LIMIT) {
-        Ok(bytes) => accept(alloc, &bytes).map_err(FileEnd::Refused),
+        Ok(bytes) => match accept(alloc, &bytes) {
+            Ok(program) => Ok(program),
+            Err(refusal) => Err(FileEnd::Refused(refusal)),
+        },
         Err(end) => Err(FileEnd::Unread(end)),
     }
 }
@@ -49,14 +52,17 @@ pub fn read_start<D: Desk>(
     program: &Program,
 ) -> Result<RulePat, FileEnd>
     ensures found { IfOk result (λ start. HoldsStart (D.told desk.old) name.now program.now (plain_pattern start)) }
-    ensures cause { IfErr result (FileCause
+    ensures cause { IfErr result (FileCause (IsNoTermOf program.now)
         (D.told desk.old) name.now TERM_LIMIT (D.read_faults desk.old) (D.read_faults desk.new)) }
     ensures counts { D.read_faults desk.old ≤ D.read_faults desk.new }
     ensures files { KeepsFiles (D.told desk.old) (D.told desk.new) }
     ensures created { D.created desk.new ≡ D.created desk.old }
 {
     match read_file(alloc, desk, name, TERM_LIMIT) {
-        Ok(bytes) => accept_term(alloc, program, &bytes).map_err(FileEnd::Refused),
+        Ok(bytes) => match accept_term(alloc, program, &bytes) {
+            Ok(start) => Ok(start),
+            Err(refusal) => Err(FileEnd::Refused(refusal)),
+        },
         Err(end) => Err(FileEnd::Unread(end)),
     }
 }
