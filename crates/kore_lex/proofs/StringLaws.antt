@@ -13,7 +13,7 @@ use Rattle.kore_lex.specs.declared.piece.Piece.TheVariants.{Gap, Whole, Bad}
 use Rattle.kore_lex.specs.Escapes.{further, bad_at}
 use Rattle.kore_lex.specs.Pieces.{is_space, is_letter, is_mark, word_len, line_len, block_len, passed, quote_len, block, comment, by_escapes, body_piece, by_end, string, named, colon, piece}
 use Rattle.kore_lex.specs.Value.{IsString}
-use Rattle.kore_lex.specs.Steps.{IsInner}
+use Rattle.kore_lex.specs.Escapes.{IsInner}
 use Rattle.kore_lex.proofs.Lexing.{quote-within}
 
 -- a whole string has quotes and an inner part

@@ -2,7 +2,7 @@
 pub mod Escapes
 pub mod Pieces
 pub mod Lexed
+pub mod Tokens
 pub mod Value
 -- What only private functions cite.
 pub mod Steps
-pub mod Tokens

@@ -1,13 +1,7 @@
 -- What the private functions that read a string say of its inner part.
-use Rattle.std.specs.Prelude.{◌≡◌, ◌≤◌, ℕ, not, List, ◌++◌, length, drop, take_while, ◌==◌, None}
-use Rattle.std.specs.Str.{IsUtf8}
-use Rattle.kore_lex.specs.Escapes.{bad_at}
+use Rattle.std.specs.Prelude.{◌≡◌, ◌≤◌, ℕ, not, List, ◌++◌, length, drop, take_while, ◌==◌}
+use Rattle.kore_lex.specs.Escapes.{IsInner}
 use Rattle.kore_lex.specs.Value.{plain}
-
--- the bytes may stand between quotes: UTF-8, and each backslash begins an escape
-pub record IsInner (bs : List ℕ) : Type 0 where
-  pub utf8 : IsUtf8 bs
-  pub escapes : bad_at 0 bs ≡ None
 
 -- the bytes before the first backslash
 abbrev pub run_len : List ℕ → ℕ

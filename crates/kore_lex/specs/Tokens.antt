@@ -4,7 +4,7 @@ use Rattle.std.specs.Prelude.{◌≡◌, ◌≤◌, ◌-◌, ℕ, true, List, []
 use Rattle.kore_lex.specs.declared.lexer.TokenKind.{TokenKind}
 use Rattle.kore_lex.specs.declared.lexer.TokenKind.TheVariants.{Ident, SetIdent, Builtin, Text, Punct, Assign, End}
 use Rattle.kore_lex.specs.Pieces.{is_letter, is_word, is_mark, quote_len}
-use Rattle.kore_lex.specs.Steps.{IsInner}
+use Rattle.kore_lex.specs.Escapes.{IsInner}
 
 -- letters, digits, `'` and `-`
 abbrev pub AllWord : List ℕ → Type 0

@@ -2,7 +2,8 @@
 
 ghost use Rattle.std.specs.Prelude.{◌≡◌, ◌≢◌, ◌<◌, ◌-◌, length, take, drop, slice_index, IfOk, string_bytes};
 ghost use Rattle.kore_lex.specs.Value.{IsString, value};
-ghost use Rattle.kore_lex.specs.Steps.{IsInner, Took, run_len};
+ghost use Rattle.kore_lex.specs.Steps.{Took, run_len};
+ghost use Rattle.kore_lex.specs.Escapes.{IsInner};
 
 use crate::bytes::{behind, first};
 use crate::escape::escape_at;

@@ -52,8 +52,8 @@ impl<T: Drop> From<AllocFailed<T>> for Refusal {
     }
 }
 
-/// The program of a definition. `Refused(90, 0)` where the bytes are no definition of the form that is
-/// accepted, which `IsProgramOf` and `IsAccepted` state.
+/// The program of a definition. `Refused(90, 0)` comes exactly where the bytes spell no definition that
+/// is accepted, which `ReadsDefinition` and `IsAccepted` state; `Memory` where memory was wanting.
 pub fn accept(alloc: Global, bytes: &[u8]) -> Result<Program, Refusal>
     requires { length bytes.now < 2 ^ 32 }
     ensures program { IfOk result (IsProgramOf bytes.now) }
@@ -66,7 +66,9 @@ pub fn accept(alloc: Global, bytes: &[u8]) -> Result<Program, Refusal>
     }
 }
 
-/// The pattern of a term of the program's sort, or of any sort where there is no rule.
+/// The pattern of a term of the program's sort, or of any sort where there is no rule. `Refused(90, 0)`
+/// comes exactly where the bytes spell no such term, for a program that `accept` gave; `Memory` where
+/// memory was wanting.
 pub fn accept_term(alloc: Global, program: &Program, bytes: &[u8]) -> Result<RulePat, Refusal>
     requires { length bytes.now < 2 ^ 32 }
     ensures start { IfOk result (λ start. IsStartOf bytes.now program.now (rule_pattern start)) }

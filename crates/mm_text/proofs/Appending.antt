@@ -1,7 +1,7 @@
 -- What is appended to a text that ends well is read as it is read alone.
 use Rattle.std.proofs.Common.{◌≡◌, ℕ, ◌+◌, Bool, true, false, List, [], ◌∷◌, ◌++◌, length, refl, ap, ◌∙◌, arith}
 use Rattle.std.specs.Prelude.{Option, Some, None}
-use Rattle.mm_text.specs.Bytes.{Class, printable, white, foreign, class_of, is_printable_class, is_white}
+use Rattle.mm_text.specs.Bytes.{Class, printable, white, foreign, class_of, is_printable_class}
 use Rattle.mm_text.specs.Tokens.{Piece, run, stray, begins_printable, grown, with_byte, pieces_from, Place, outside, in_comment, place_after, Given, nothing, a_token, a_fault, given, Tokens, no_token, bad_text, next_token, with_given, tokens_in, tokens_from}
 use Rattle.mm_text.specs.Statements.{Statement, Statements, Reading, between, within, reading_after, ended_by, with_ended, statements_in}
 use Rattle.mm_text.specs.TextLaws.{ends_white, end_well, followed_by, AppendedText}

@@ -1,7 +1,7 @@
 -- What stands at the head of bytes: white space, a run, or a byte that may not stand.
-use Rattle.std.proofs.Common.{◌≡◌, ℕ, ◌+◌, ◌-◌, ◌<◌, ◌≤◌, Bool, true, false, List, [], ◌∷◌, length, take, drop, refl, ap, sym, ◌∙◌, arith, cond, if◌then◌else◌}
+use Rattle.std.proofs.Common.{◌≡◌, ℕ, ◌+◌, ◌<◌, ◌≤◌, Bool, true, false, List, [], ◌∷◌, length, take, drop, refl, ap, sym, ◌∙◌, arith, cond, if◌then◌else◌}
 use Rattle.std.proofs.Math.Numerals.{one-add}
-use Rattle.std.proofs.lemmas.List.{drop-drop, drop_all, length-drop}
+use Rattle.std.proofs.lemmas.List.{drop-drop, length-drop}
 use Rattle.std.proofs.lemmas.List.Sums.{prefix_len-le-length}
 use Rattle.std.proofs.lemmas.List.Folds.{length-prefix_len}
 use Rattle.std.specs.Prelude.{◌||◌}
@@ -147,9 +147,3 @@ mark-pass bytes at h =
     ap has_comment_mark (sym (drop-drop 1 at bytes))
     ∙ ap (λ b. b || has_comment_mark (drop 1 (drop at bytes))) (sym h)
     ∙ sym (mark-split (drop at bytes))
-
-pub mark-here : (bytes : List ℕ) (at : ℕ) → mark_ahead (drop at bytes) ≡ true → has_comment_mark (drop at bytes) ≡ true
-mark-here bytes at h = mark-split (drop at bytes) ∙ ap (λ b. b || has_comment_mark (drop 1 (drop at bytes))) h
-
-pub mark-end : (bytes : List ℕ) (at : ℕ) → length bytes ≤ at → has_comment_mark (drop at bytes) ≡ false
-mark-end bytes at h = ap has_comment_mark (drop_all at bytes h)

@@ -2,7 +2,7 @@
 use Rattle.std.proofs.Common.{◌≡◌, ℕ, ◌+◌, Bool, true, false, List, [], ◌∷◌, ◌++◌, length, refl, ap, ◌∙◌, arith, append_assoc, length-append}
 use Rattle.std.specs.Prelude.{not, ◌&&◌}
 use Rattle.std.specs.List.{list_all}
-use Rattle.mm_text.specs.Bytes.{Token, Class, printable, white, foreign, class_of, is_printable_class}
+use Rattle.mm_text.specs.Bytes.{Token, printable, class_of, is_printable_class}
 use Rattle.mm_text.specs.Tokens.{Piece, run, with_byte, pieces_from, outside, opens_comment, closes_comment, Tokens, next_token, tokens_in, tokens_from}
 use Rattle.mm_text.specs.Statements.{next_statement, between, within, statement, ends_statement, is_whole, statements_in, statements_from}
 use Rattle.mm_text.specs.TextLaws.{is_plain_token, ends_once, written, WrittenStatement}

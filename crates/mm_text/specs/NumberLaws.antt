@@ -1,5 +1,5 @@
 -- Laws on the numbers of compressed proofs.
-use Rattle.std.specs.Prelude.{◌≡◌, ◌≤◌, ℕ, ◌^◌, List, ◌++◌, Option, Some}
+use Rattle.std.specs.Prelude.{◌≡◌, ◌≤◌, ℕ, ◌^◌, List, ◌++◌, Some}
 use Rattle.mm_text.specs.Compressed.{number_of, within_limit}
 use Rattle.mm_text.specs.Numbers.{Spells}
 

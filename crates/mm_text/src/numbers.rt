@@ -33,6 +33,25 @@ pub fn read_number(letters: &[u8]) -> Option<u64>
     None
 }
 
+/// Appends the one spelling of a number from 1 to 2^63. Without memory nothing is appended.
+pub fn push_number(n: u64, to: &mut Vec<u8>) -> Result<(), AllocError>
+    requires some { 1 ≤ n }
+    requires within { n ≤ 2 ^ 63 }
+    ensures spelled { IfOk result (λ _. Spells n to.old.items to.new.items) }
+    ensures kept { IsErr result → to.new.items ≡ to.old.items }
+{
+    let mut letters = [0u8; MOST_LETTERS];
+    let mut at = MOST_LETTERS - 1;
+    letters[at] = b'A' + ((n - 1) % 20) as u8;
+    let mut before = (n - 1) / 20;
+    while before > 0 {
+        at -= 1;
+        letters[at] = b'U' + ((before - 1) % 5) as u8;
+        before = (before - 1) / 5;
+    }
+    to.extend_from_slice(behind(&letters, at))
+}
+
 /// The number whose leading digits have this value, and whose other letters are these.
 fn last_number(before: u64, letters: &[u8]) -> Option<u64>
     requires small { 20 * before ≤ 2 ^ 63 }
@@ -66,23 +85,4 @@ fn last_digit(letter: u8) -> Option<u64>
     } else {
         None
     }
-}
-
-/// Appends the one spelling of a number from 1 to 2^63. Without memory nothing is appended.
-pub fn push_number(n: u64, to: &mut Vec<u8>) -> Result<(), AllocError>
-    requires some { 1 ≤ n }
-    requires within { n ≤ 2 ^ 63 }
-    ensures spelled { IfOk result (λ _. Spells n to.old.items to.new.items) }
-    ensures kept { IsErr result → to.new.items ≡ to.old.items }
-{
-    let mut letters = [0u8; MOST_LETTERS];
-    let mut at = MOST_LETTERS - 1;
-    letters[at] = b'A' + ((n - 1) % 20) as u8;
-    let mut before = (n - 1) / 20;
-    while before > 0 {
-        at -= 1;
-        letters[at] = b'U' + ((before - 1) % 5) as u8;
-        before = (before - 1) / 5;
-    }
-    to.extend_from_slice(behind(&letters, at))
 }

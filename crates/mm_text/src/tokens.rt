@@ -33,6 +33,7 @@ impl<'a> MmTokens<'a> {
     {
         MmTokens { bytes, at: 0 }
     }
+
     /// The next token, or none exactly at the end; takes no memory. A fault is a byte that may not
     /// stand (1, at the byte), or a comment without an end or with a comment's mark in it, or one
     /// that is closed and was not opened (2, at its `$(` or `$)`). At the end and at a fault nothing

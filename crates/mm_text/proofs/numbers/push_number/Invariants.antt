@@ -1,4 +1,4 @@
-use Rattle.std.proofs.Common.{◌≡◌, ◌≤◌, ◌<◌, ◌^◌, length, drop}
+use Rattle.std.proofs.Common.{◌≡◌, ◌≤◌, ◌<◌, ◌^◌, drop}
 use Rattle.std.specs.Prelude.{Some}
 use Rattle.mm_text.specs.Compressed.{digits, steps_from, number_of_steps}
 use Rattle.mm_text.proofs.numbers.push_number.Given as goal
