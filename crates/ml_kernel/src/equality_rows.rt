@@ -171,7 +171,13 @@ impl Thm {
     }
 
     /// `fun p s -> fun q v -> ~(p = q) -> ~(p & q)`.
-    pub fn apart<'a>(alloc: Global, p: &'a MPat, q: &'a MPat, s: MSort, v: MSort) -> Result<Thm, AllocError>
+    pub fn apart<'a>(
+        alloc: Global,
+        p: &'a MPat,
+        q: &'a MPat,
+        s: MSort,
+        v: MSort,
+    ) -> Result<Thm, AllocError>
         ensures conclusion { IfOk result (λ thm. thm.conclusion ≡ imp (fun p.now s.0) (imp (fun q.now v.0) (imp (not (equal p.now q.now)) (not (and p.now q.now))))) }
         ensures row { IfOk result (λ thm. IsByRow 21 (pattern p.now ∷ pattern q.now ∷ sort s.0 ∷ sort v.0 ∷ []) [] thm) }
     {
