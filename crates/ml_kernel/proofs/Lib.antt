@@ -2,3 +2,4 @@ pub mod InstanceLaws
 pub mod DerivationLaws
 pub mod Merging
 pub mod RowLaws
+pub mod OtherRowLaws

@@ -5,13 +5,13 @@ use Rattle.ml_kernel.specs.ProofRows as rows
 use Rattle.ml_kernel.specs.ProofRows.{ProofRow, Instance, pattern}
 use Rattle.std.specs.Prelude.{ℕ}
 
-concluding : (n : ℕ) (is : List Instance) (ps : List Pattern) (c q : Pattern) → c ≡ q → ProofRow n is ps q → ProofRow n is ps c
+pub concluding : (n : ℕ) (is : List Instance) (ps : List Pattern) (c q : Pattern) → c ≡ q → ProofRow n is ps q → ProofRow n is ps c
 concluding n is ps c q e r = subst (λ (p : Pattern). ProofRow n is ps p) (sym e) r
 
-from_one : (n : ℕ) (is : List Instance) (a p c q : Pattern) → a ≡ p → c ≡ q → ProofRow n is (p ∷ []) q → ProofRow n is (a ∷ []) c
+pub from_one : (n : ℕ) (is : List Instance) (a p c q : Pattern) → a ≡ p → c ≡ q → ProofRow n is (p ∷ []) q → ProofRow n is (a ∷ []) c
 from_one n is a p c q e f r = concluding n is (a ∷ []) c q f (subst (λ (o : Pattern). ProofRow n is (o ∷ []) q) (sym e) r)
 
-from_two : (n : ℕ) (is : List Instance) (a p b r c q : Pattern) → a ≡ p → b ≡ r → c ≡ q → ProofRow n is (p ∷ r ∷ []) q → ProofRow n is (a ∷ b ∷ []) c
+pub from_two : (n : ℕ) (is : List Instance) (a p b r c q : Pattern) → a ≡ p → b ≡ r → c ≡ q → ProofRow n is (p ∷ r ∷ []) q → ProofRow n is (a ∷ b ∷ []) c
 from_two n is a p b r c q e f g row =
     concluding n is (a ∷ b ∷ []) c q g
     (subst (λ (o : Pattern). ProofRow n is (o ∷ b ∷ []) q) (sym e) (subst (λ (o : Pattern). ProofRow n is (p ∷ o ∷ []) q) (sym f) row))

@@ -7,7 +7,9 @@
 #![tactic(auto)]
 
 mod derivations;
+mod equality_rows;
 mod instances;
+mod proposition_rows;
 mod rows;
 mod theorems;
 mod theory;

@@ -2,7 +2,7 @@
 use crate::derivations::{DerivStep, Lemma};
 use crate::theorems::Thm;
 use crate::theory::Theory;
-use ml_pat::{ConstNo, MPat};
+use ml_pat::{ConstNo, MPat, MSort};
 use std::alloc::{AllocError, Global};
 use std::test::Fail;
 
@@ -78,5 +78,46 @@ fn calls_the_other_rules(rt: HostRuntime) -> Result<(), Fail> {
     for thm in [&first, &second, &both] {
         assert!(rt; thm.hypotheses().is_empty());
     }
+    Ok(())
+}
+
+#[test]
+fn calls_the_rules_without_conditions(rt: HostRuntime) -> Result<(), Fail> {
+    let alloc = rt.alloc();
+    let (a, b) = ends(alloc)?;
+    let negations = [
+        Thm::p_3(alloc, &a)?,
+        Thm::not_1(alloc, &a)?,
+        Thm::not_2(alloc, &a)?,
+    ];
+    for thm in &negations {
+        assert!(rt; thm.hypotheses().is_empty());
+    }
+    let pairs = [
+        Thm::and_1(alloc, &a, &b)?,
+        Thm::and_2(alloc, &a, &b)?,
+        Thm::or_1(alloc, &a, &b)?,
+    ];
+    for thm in &pairs {
+        assert!(rt; thm.hypotheses().is_empty());
+    }
+    let second = Thm::or_2(alloc, &a, &b)?;
+    let cases = Thm::or_3(alloc, &a, &b, &a)?;
+    assert!(rt; !second.conclusion().same(cases.conclusion()));
+    let same = Thm::eq_refl(alloc, &a)?;
+    assert!(rt; same.conclusion().same(&MPat::equal(alloc, &a, &a)?));
+    let left = Thm::bot_l(alloc, &a)?;
+    let right = Thm::bot_r(alloc, &a)?;
+    assert!(rt; !left.conclusion().same(right.conclusion()));
+    Ok(())
+}
+
+#[test]
+fn calls_the_rules_of_sorts(rt: HostRuntime) -> Result<(), Fail> {
+    let alloc = rt.alloc();
+    let (a, b) = ends(alloc)?;
+    let element = Thm::mem_in(alloc, &a, MSort(0))?;
+    let apart = Thm::apart(alloc, &a, &b, MSort(0), MSort(0))?;
+    assert!(rt; !element.conclusion().same(apart.conclusion()));
     Ok(())
 }

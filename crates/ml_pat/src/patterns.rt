@@ -1,6 +1,6 @@
 // Patterns of matching logic, shared and not copied.
-ghost use Rattle.std.specs.Prelude.{◌≡◌, ◌↔◌, IfOk, IsTrue};
-ghost use Rattle.ml_pat.specs.Patterns.{bot, top, imp, not, and, or, equal, member, fun, ex, all, app, at_sort, next, ev, var, meta, constant};
+ghost use Rattle.std.specs.Prelude.{◌≡◌, ◌↔◌, ◌<◌, IfOk, IfSome, IsTrue};
+ghost use Rattle.ml_pat.specs.Patterns.{forms_in, bot, top, imp, not, and, or, equal, member, fun, ex, all, app, at_sort, next, ev, var, meta, constant};
 ghost use Rattle.ml_pat.specs.PatternView.{pattern_of};
 
 use crate::numbers::{ConstNo, MSort, VarNo};
@@ -10,7 +10,6 @@ use std::rc::Rc;
 
 /// A pattern. Contracts see it as a plain `Pattern`.
 #[cycle(pattern)]
-#[derive(Drop)]
 pub struct MPat {
     node: Rc<MForm>,
 }
@@ -75,6 +74,53 @@ impl Model for MPat {
     ghost use Rattle.ml_pat.specs.PatternSize.{deep-forms_in};
 
     ghost size_decreases = { λ a h. Prim.omega (arith, deep-forms_in a.node.value) };
+}
+
+// A loop along first parts, where patterns are deep: the image of an application has one level more for each argument.
+// Other parts are dropped one level further down.
+impl Drop for MPat {
+    #[cycle(pattern_drop)]
+    fn drop(mut self) {
+        loop {
+            let MPat { node } = self;
+            match Rc::into_inner(node) {
+                None => return,
+                Some(form) => match form.into_first() {
+                    None => return,
+                    Some(first) => self = first,
+                },
+            }
+        }
+    }
+}
+
+impl MForm {
+    // The first part, where there is one.
+    #[cycle(pattern_drop)]
+    fn into_first(self) -> Option<MPat>
+        ensures { IfSome result (λ p. forms_in p < forms_in (pattern_of self)) }
+    {
+        match self {
+            MForm::Imp(p, _q) => Some(p),
+            MForm::And(p, _q) => Some(p),
+            MForm::Or(p, _q) => Some(p),
+            MForm::Equal(p, _q) => Some(p),
+            MForm::Member(p, _q) => Some(p),
+            MForm::App(p, _q) => Some(p),
+            MForm::Not(p) => Some(p),
+            MForm::Fun(p, _s) => Some(p),
+            MForm::Ex(_x, _s, p) => Some(p),
+            MForm::All(_x, _s, p) => Some(p),
+            MForm::At(p, _s) => Some(p),
+            MForm::Next(p) => Some(p),
+            MForm::Ev(p) => Some(p),
+            MForm::Bot => None,
+            MForm::Top => None,
+            MForm::Var(_x) => None,
+            MForm::Meta(_i) => None,
+            MForm::Const(_c) => None,
+        }
+    }
 }
 
 impl MPat {

@@ -52,3 +52,16 @@ fn makes_each_form(rt: HostRuntime) -> Result<(), Fail> {
     assert!(rt; matches!(MPat::ev(alloc, &p)?.form(), MForm::Ev(_)));
     Ok(())
 }
+
+// A pattern that is 100,000 applications deep is dropped in a loop.
+#[test]
+fn drops_deep_patterns(rt: HostRuntime) -> Result<(), Fail> {
+    let alloc = rt.alloc();
+    let argument = MPat::constant(alloc, ConstNo(1))?;
+    let mut deep = MPat::constant(alloc, ConstNo(0))?;
+    for _ in 0..100_000 {
+        deep = MPat::app(alloc, &deep, &argument)?;
+    }
+    assert!(rt; matches!(deep.form(), MForm::App(..)));
+    Ok(())
+}
