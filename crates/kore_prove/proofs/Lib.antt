@@ -18,3 +18,4 @@ pub mod Printing
 pub mod PrintedTerms
 pub mod Pieces
 pub mod Ending
+pub mod Completing

@@ -49,3 +49,12 @@ pub Each-none : {D B : Type 0} (R : D → B → Type 0) (ds : List D) (ys : List
 Each-none R [] [] e all = refl
 Each-none R [] (y ∷ ys) e all = absurd all
 Each-none R (d ∷ ds) ys e all = absurd (let never : ⊥ = cc in never)
+
+pub none_each_empty : {D B : Type 0} (R : D → B → Type 0) (ds : List D) → ds ≡ [] → Each R ds []
+none_each_empty R [] e = tt
+none_each_empty R (d ∷ ds) e = absurd (let never : ⊥ = cc in never)
+
+pub Each-empty : {D B : Type 0} (R : D → B → Type 0) (ds : List D) (ys : List B) → Each R ds ys → ys ≡ [] → ds ≡ []
+Each-empty R [] ys all e = refl
+Each-empty R (d ∷ ds) [] all e = absurd all
+Each-empty R (d ∷ ds) (y ∷ ys) all e = absurd (let never : ⊥ = cc in never)

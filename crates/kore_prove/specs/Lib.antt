@@ -8,3 +8,4 @@ pub mod Runnable
 pub mod Files
 pub mod Reports
 pub mod Causes
+pub mod Readiness

@@ -37,17 +37,23 @@ pub record IsRunnable (symbols : List (List ℕ × SymInfo)) (r : Rule) : Type 0
   pub priority : HasUsualPriority r
   pub right : IsShowable symbols (plain_pattern r.right)
 
--- The definition is accepted, and this is its program: the rules of the file in the order of trial.
+-- The definition is accepted, and this is its program: the rules of the file in the order of trial, and no sort of rules
+-- where there is no rule.
 pub record AcceptsTree (definition : DefinitionTree) (program : Program) : Type 0 where
   pub rules : List RewriteRule
   pub accepted : IsAccepted definition program.sig (sort_number program.top) rules
   pub same_rules : IsPermutation rules (rewrite_rules program.rules.items)
   pub in_order : IsInTrialOrder (rewrite_rules program.rules.items)
   pub runnable : All (IsRunnable program.sig.symbols) program.rules.items
+  pub no_sort : rules ≡ [] → sort_number program.top ≡ None
 
--- the bytes spell a definition that is accepted, and this is its program
+-- the bytes spell this definition alone
+abbrev pub IsOnlyReading : List ℕ → DefinitionTree → Type 0
+IsOnlyReading bytes definition = (other : DefinitionTree) → ReadsDefinition bytes other → other ≡ definition
+
+-- the bytes spell one definition, which is accepted, and this is its program
 abbrev pub IsProgramOf : List ℕ → Program → Type 0
-IsProgramOf bytes program = (definition : DefinitionTree) × ReadsDefinition bytes definition × AcceptsTree definition program
+IsProgramOf bytes program = (definition : DefinitionTree) × ReadsDefinition bytes definition × AcceptsTree definition program × IsOnlyReading bytes definition
 
 -- the pattern is accepted as a term of the program, and means this start, which can be shown
 pub record AcceptsPattern (tree : PatternTree) (program : Program) (start : Pattern) : Type 0 where

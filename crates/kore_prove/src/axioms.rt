@@ -1,5 +1,5 @@
 // The rules that the axioms of a module state.
-ghost use Rattle.std.specs.Prelude.{◌≡◌, ◌<◌, ◌≤◌, ◌^◌, ◌↔◌, ◌⊎◌, ℕ, List, Option, Some, All, OnOk, ◌++◌, ◌∷◌, [], length, IfOk, IfSome, IfNone, IsTrue, map};
+ghost use Rattle.std.specs.Prelude.{◌≡◌, ◌<◌, ◌≤◌, ◌^◌, ◌↔◌, ◌⊎◌, ℕ, List, Option, Some, None, All, OnOk, ◌++◌, ◌∷◌, [], length, IfOk, IfSome, IfNone, IsTrue, map};
 ghost use Rattle.std.specs.List.{filter_map};
 ghost use Rattle.kore_ast.specs.Plain.{plain_declaration, plain_axiom_decl, plain_pattern, plain_sort};
 ghost use Rattle.kore_ast.specs.Trees.{SortTree, sort_trees, PatternTree, connected, pattern_trees};
@@ -27,6 +27,7 @@ const PRIORITY: u32 = 50;
 pub(crate) fn first_rule_sort(sorts: &Table<SortInfo>, decls: &[Decl]) -> Option<SortId>
     requires { length sorts.now < 2 ^ 32 }
     ensures only { (sig : Signature) (top : Option ℕ) (rules : List RewriteRule) → sig.sorts ≡ sorts.now → Each (IsRuleOf sig top) (filter_map axiom_declared (map plain_declaration decls.now)) rules → (rules ≡ []) ⊎ (top ≡ sort_number result) }
+    ensures none { filter_map axiom_declared (map plain_declaration decls.now) ≡ [] → sort_number result ≡ None }
 {
     for decl in decls {
         if let Decl::Axiom(axiom) = decl {

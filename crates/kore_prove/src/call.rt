@@ -2,10 +2,12 @@
 ghost use Rattle.std.specs.Prelude.{◌≡◌, IsFalse, List, ℕ, Option, ◌≤◌, ◌^◌, [], Some, All, IfOk, IfErr, ◌⊎◌, map, string_bytes, ◌≢◌};
 ghost use Rattle.term_core.specs.Patterns.{instance_of, FitsWithin};
 ghost use Rattle.term_core.specs.RulePatterns.{plain_pattern};
+ghost use Rattle.desk_io.specs.Counts.{Rose};
 ghost use Rattle.desk_io.specs.Told.{KeepsFiles};
 ghost use Rattle.kore_prove.specs.Causes.{Course, definition_limit, term_limit, FileCause, IsNoDefinition, IsNoTermOf, Ends, IsNoCommand, RunCause, KeepsOutput};
 ghost use Rattle.kore_prove.specs.Files.{HoldsProgram};
 ghost use Rattle.rule_core.specs.declared.rules.Program.{Program};
+ghost use Rattle.kore_prove.specs.Readiness.{IsReady};
 ghost use Rattle.kore_prove.specs.Reports.{plain_end, Reports};
 ghost use Rattle.kore_prove.specs.Runnable.{IsShowable, IsRunnable};
 ghost use Rattle.rule_core.specs.Trial.{IsInTrialOrder};
@@ -58,6 +60,10 @@ pub fn kore_main<D: Desk, O: Sink, E: Sink>(
       errors = E.bytes err.old;
       errors' = E.bytes err.new;
     }) result.code }
+    ensures complete { IsReady (map string_bytes words.now) (D.told desk.old)
+        → (Rose (D.read_faults desk.old) (D.read_faults desk.new) → ⊥)
+        → (Rose (O.faults out.old) (O.faults out.new) → ⊥)
+        → (result.code ≡ 0) ⊎ (result.code ≡ 10) ⊎ (result.code ≡ 1) }
     ensures bad_words { IsNoCommand (map string_bytes words.now) → (result.code ≡ 2) ⊎ (result.code ≡ 1) }
 {
     match read_words(words) {

@@ -10,6 +10,7 @@ use Rattle.kore_prove.specs.Runnable.{IsRunnable}
 use Rattle.kore_prove.proofs.MainModule.{main-within}
 use Rattle.kore_prove.proofs.OneDefinition.{few_entries, no_sorts_left, same_sorts, same_symbols, same_signature, same_rules}
 use Rattle.kore_prove.proofs.Determined.{SameSignature}
+use Rattle.kore_prove.proofs.Pairings.{Each-empty}
 use Rattle.kore_prove.proofs.WordsOfCases.{if_none, passed_on}
 use Rattle.kore_prove.proofs.accept.accept_definition.Goals as goal
 
@@ -28,6 +29,7 @@ returns-clause-accepted c = record {
   same_rules = IsPermutation-map rewrite_rule _ _ c.in_ok-put_in_order.ensures.permutation;
   in_order = c.in_ok-put_in_order.ensures.in_order;
   runnable = All-permutation (IsRunnable c.in_ok-symbols.symbols) _ _ c.in_ok-put_in_order.ensures.permutation c.in_ok-rules.ensures.runnable;
+  no_sort = λ none. c.first_rule_sort-top.ensures.none (Each-empty _ _ _ c.in_ok-rules.ensures.stated none);
 }
 
 pub returns-clause-few : goal.returns-clause-few

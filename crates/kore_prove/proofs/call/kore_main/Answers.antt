@@ -1,5 +1,6 @@
 use Rattle.std.proofs.Common.{inl}
 use Rattle.kore_prove.proofs.Ending.{same_bytes, prints_no_run}
+use Rattle.kore_prove.proofs.Completing.{ends_without_memory, ready_command}
 use Rattle.kore_prove.proofs.Printing.{prints_run}
 use Rattle.kore_prove.proofs.call.kore_main.Goals as goal
 
@@ -12,3 +13,10 @@ returns-in-Ok-clause-ends g c = inl (c.exit_code.ensures.ran, same_bytes _)
 
 pub returns-in-Err-clause-printed_run : goal.returns-in-Err-clause-printed_run
 returns-in-Err-clause-printed_run g c = prints_no_run _ _ _ _ _ _ _ _ _ _ c.report.ensures
+
+pub returns-in-Err-clause-complete : goal.returns-in-Err-clause-complete
+returns-in-Err-clause-complete g c = λ ready reads writes.
+    ends_without_memory _ _ c.in-Some.command.limit _ _ _ _ _ _ c.in-Some.ensures.command c.in-Err.ensures.cause c.report.ensures ready reads writes
+
+pub returns-in-None-clause-complete : goal.returns-in-None-clause-complete
+returns-in-None-clause-complete g c = λ ready reads writes. absurd (ready_command _ _ ready c.in-None.ensures.bad)
