@@ -2,6 +2,7 @@
 use crate::names::Names;
 use crate::numbers::{ConstNo, MSort, VarNo};
 use crate::patterns::{MForm, MPat};
+use std::alloc::{AllocError, Global};
 use std::test::Fail;
 
 const INT: MSort = MSort(3);
@@ -18,20 +19,23 @@ fn numbers_tokens(rt: HostRuntime) -> Result<(), Fail> {
     Ok(())
 }
 
-// ( \all x:0 s ( \imp ( \app f x:0 ) ( \next f ) ) ) differs from the same of x:1, and is its shared copy.
+/// `( \all x s ( \imp ( \app f x ) ( \next f ) ) )`.
+fn quantified(alloc: Global, x: VarNo) -> Result<MPat, AllocError> {
+    let symbol = MPat::constant(alloc, ConstNo(7))?;
+    let end = MPat::next(alloc, &symbol)?;
+    let applied = MPat::app(alloc, &symbol, &MPat::var(alloc, x)?)?;
+    let body = MPat::imp(alloc, &applied, &end)?;
+    MPat::all(alloc, x, INT, &body)
+}
+
+// The pattern of one variable differs from that of another, and is its shared copy.
 #[test]
 fn compares_patterns(rt: HostRuntime) -> Result<(), Fail> {
     let alloc = rt.alloc();
-    let symbol = MPat::constant(alloc, ConstNo(7))?;
-    let end = MPat::next(alloc, &symbol)?;
-    let mut made = Vec::new(alloc);
-    for x in [VarNo(0), VarNo(1)] {
-        let applied = MPat::app(alloc, &symbol, &MPat::var(alloc, x)?)?;
-        let body = MPat::imp(alloc, &applied, &end)?;
-        made.push(MPat::all(alloc, x, INT, &body)?)?;
-    }
-    assert!(rt; made[0].same(&made[0].share()?));
-    assert!(rt; !made[0].same(&made[1]));
+    let first = quantified(alloc, VarNo(0))?;
+    let second = quantified(alloc, VarNo(1))?;
+    assert!(rt; first.same(&first.share()?));
+    assert!(rt; !first.same(&second));
     Ok(())
 }
 
