@@ -82,33 +82,61 @@ fn calls_the_other_rules(rt: HostRuntime) -> Result<(), Fail> {
 }
 
 #[test]
-fn calls_the_rules_without_conditions(rt: HostRuntime) -> Result<(), Fail> {
+fn calls_the_rules_of_negation(rt: HostRuntime) -> Result<(), Fail> {
     let alloc = rt.alloc();
     let (a, b) = ends(alloc)?;
-    let negations = [
-        Thm::p_3(alloc, &a)?,
-        Thm::not_1(alloc, &a)?,
-        Thm::not_2(alloc, &a)?,
-    ];
-    for thm in &negations {
-        assert!(rt; thm.hypotheses().is_empty());
-    }
-    let pairs = [
-        Thm::and_1(alloc, &a, &b)?,
-        Thm::and_2(alloc, &a, &b)?,
-        Thm::or_1(alloc, &a, &b)?,
-    ];
-    for thm in &pairs {
-        assert!(rt; thm.hypotheses().is_empty());
-    }
+    let first = Thm::not_1(alloc, &a)?;
+    let second = Thm::not_2(alloc, &b)?;
+    assert!(rt; !first.conclusion().same(second.conclusion()));
+    Ok(())
+}
+
+#[test]
+fn calls_the_rules_of_conjunction(rt: HostRuntime) -> Result<(), Fail> {
+    let alloc = rt.alloc();
+    let (a, b) = ends(alloc)?;
+    let first = Thm::and_1(alloc, &a, &b)?;
+    let second = Thm::and_2(alloc, &a, &b)?;
+    assert!(rt; !first.conclusion().same(second.conclusion()));
+    Ok(())
+}
+
+#[test]
+fn calls_the_rules_of_disjunction(rt: HostRuntime) -> Result<(), Fail> {
+    let alloc = rt.alloc();
+    let (a, b) = ends(alloc)?;
+    let first = Thm::or_1(alloc, &a, &b)?;
     let second = Thm::or_2(alloc, &a, &b)?;
-    let cases = Thm::or_3(alloc, &a, &b, &a)?;
-    assert!(rt; !second.conclusion().same(cases.conclusion()));
-    let same = Thm::eq_refl(alloc, &a)?;
-    assert!(rt; same.conclusion().same(&MPat::equal(alloc, &a, &a)?));
-    let left = Thm::bot_l(alloc, &a)?;
-    let right = Thm::bot_r(alloc, &a)?;
-    assert!(rt; !left.conclusion().same(right.conclusion()));
+    assert!(rt; !first.conclusion().same(second.conclusion()));
+    Ok(())
+}
+
+#[test]
+fn calls_the_rules_of_cases(rt: HostRuntime) -> Result<(), Fail> {
+    let alloc = rt.alloc();
+    let (a, b) = ends(alloc)?;
+    let first = Thm::p_3(alloc, &a)?;
+    let second = Thm::or_3(alloc, &a, &b, &a)?;
+    assert!(rt; !first.conclusion().same(second.conclusion()));
+    Ok(())
+}
+
+#[test]
+fn calls_the_rules_of_bottom(rt: HostRuntime) -> Result<(), Fail> {
+    let alloc = rt.alloc();
+    let (a, b) = ends(alloc)?;
+    let first = Thm::bot_l(alloc, &a)?;
+    let second = Thm::bot_r(alloc, &b)?;
+    assert!(rt; !first.conclusion().same(second.conclusion()));
+    Ok(())
+}
+
+#[test]
+fn calls_the_rule_of_equality(rt: HostRuntime) -> Result<(), Fail> {
+    let alloc = rt.alloc();
+    let (a, _) = ends(alloc)?;
+    let thm = Thm::eq_refl(alloc, &a)?;
+    assert!(rt; thm.hypotheses().is_empty());
     Ok(())
 }
 
