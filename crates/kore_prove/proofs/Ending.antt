@@ -17,6 +17,10 @@ pub same_bytes : (told : Option (List ℕ)) → SameBytes told told
 same_bytes None = tt
 same_bytes (Some bytes) = refl
 
+pub same_files : (told : Option Told) → KeepsFiles told told
+same_files None = tt
+same_files (Some told) = (told.unread, refl)
+
 -- no end has the exit code of a run
 no_run_code : (e : Ending) (code : ℕ) → code ≡ end_code e → (code ≡ 0) ⊎ (code ≡ 10) → ⊥
 no_run_code out_of_memory code is h = grind arith

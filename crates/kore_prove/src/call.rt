@@ -65,6 +65,8 @@ pub fn kore_main<D: Desk, O: Sink, E: Sink>(
         → (Rose (O.faults out.old) (O.faults out.new) → ⊥)
         → (result.code ≡ 0) ⊎ (result.code ≡ 10) ⊎ (result.code ≡ 1) }
     ensures bad_words { IsNoCommand (map string_bytes words.now) → (result.code ≡ 2) ⊎ (result.code ≡ 1) }
+    ensures files { KeepsFiles (D.told desk.old) (D.told desk.new) }
+    ensures created { D.created desk.new ≡ D.created desk.old }
 {
     match read_words(words) {
         Some(command) => match run_command(alloc, &command, desk, out) {

@@ -1,5 +1,5 @@
 use Rattle.std.proofs.Common.{inl}
-use Rattle.kore_prove.proofs.Ending.{same_bytes, prints_no_run}
+use Rattle.kore_prove.proofs.Ending.{same_bytes, same_files, prints_no_run}
 use Rattle.kore_prove.proofs.Completing.{ends_without_memory, ready_command}
 use Rattle.kore_prove.proofs.Printing.{prints_run}
 use Rattle.kore_prove.proofs.call.kore_main.Goals as goal
@@ -20,3 +20,6 @@ returns-in-Err-clause-complete g c = λ ready reads writes.
 
 pub returns-in-None-clause-complete : goal.returns-in-None-clause-complete
 returns-in-None-clause-complete g c = λ ready reads writes. absurd (ready_command _ _ ready c.in-None.ensures.bad)
+
+pub returns-in-None-clause-files : goal.returns-in-None-clause-files
+returns-in-None-clause-files g c = same_files _
