@@ -7,7 +7,7 @@ use std::alloc::{AllocError, Global};
 use std::test::Fail;
 
 /// The definition with these rules between three constants.
-pub fn constants(alloc: Global, rules: &[(&str, &str)]) -> Result<String, AllocError> {
+pub(crate) fn constants(alloc: Global, rules: &[(&str, &str)]) -> Result<String, AllocError> {
     let mut text = String::from_str(alloc, "[] module TWO-STEPS sort S{} [] ")?;
     for name in ["a", "b", "c"] {
         text.push_str("symbol ")?;
@@ -218,7 +218,7 @@ fn nested(alloc: Global, count: usize) -> Result<String, AllocError> {
 }
 
 /// The words as the program is given them.
-pub fn words_of(alloc: Global, given: &[&str]) -> Result<Vec<String>, AllocError> {
+pub(crate) fn words_of(alloc: Global, given: &[&str]) -> Result<Vec<String>, AllocError> {
     let mut words = Vec::new(alloc);
     for word in given {
         words.push(String::from_str(alloc, word)?)?;
@@ -227,11 +227,11 @@ pub fn words_of(alloc: Global, given: &[&str]) -> Result<Vec<String>, AllocError
 }
 
 /// The rules `a => b` and `b => c`.
-pub const TWO_STEPS: [(&str, &str); 2] = [("a", "b"), ("b", "c")];
+pub(crate) const TWO_STEPS: [(&str, &str); 2] = [("a", "b"), ("b", "c")];
 
 /// A desk with a definition and a term, which passes at most so many bytes a call and fails the calls
 /// with these numbers.
-pub fn two_files(
+pub(crate) fn two_files(
     alloc: Global,
     definition: &str,
     term: &str,
