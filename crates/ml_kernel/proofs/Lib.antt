@@ -3,3 +3,4 @@ pub mod DerivationLaws
 pub mod Merging
 pub mod RowLaws
 pub mod OtherRowLaws
+pub mod StepLaws

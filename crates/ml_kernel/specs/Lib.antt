@@ -5,7 +5,7 @@ pub mod Lemmas
 pub mod Theorems
 pub mod Concluding
 pub mod TheoremCode
-pub mod Levels
+pub mod StepsIn
 pub mod StepView
 pub mod DerivationSize
 pub mod TheoremView

@@ -1,6 +1,8 @@
 // Derivations as they are kept, and lemmas, which they cite.
-ghost use Rattle.std.specs.Prelude.{◌≡◌, IfOk};
+ghost use Rattle.std.specs.Prelude.{◌≡◌, ◌<◌, IfOk, IfSome};
 ghost use Rattle.ml_kernel.specs.StepView.{derivation_of};
+ghost use Rattle.ml_kernel.specs.Theorems.{derivations};
+ghost use Rattle.ml_kernel.specs.StepsIn.{steps_in, all_steps};
 ghost use Rattle.ml_kernel.specs.Concluding.{IsKept};
 
 use ml_pat::{MPat, MSort, VarNo};
@@ -25,7 +27,6 @@ pub enum Inst {
 
 /// A derivation, shared and not copied. Contracts see it as a plain `Derivation`.
 #[cycle(derivation)]
-#[derive(Drop)]
 pub struct Deriv {
     node: Rc<DerivStep>,
 }
@@ -63,17 +64,17 @@ impl Model for Deriv {
 
     ghost coded = { derivation_code };
 
-    ghost use Rattle.ml_kernel.specs.Levels.{levels};
+    ghost use Rattle.ml_kernel.specs.StepsIn.{steps_in};
     ghost use Rattle.ml_kernel.specs.StepView.{whole_derivation};
 
     ghost view = { whole_derivation };
 
-    ghost size = { levels };
+    ghost size = { steps_in };
 
     ghost use Rattle.std.proofs.Common.{arith};
-    ghost use Rattle.ml_kernel.specs.DerivationSize.{deep-levels};
+    ghost use Rattle.ml_kernel.specs.DerivationSize.{deep-steps};
 
-    ghost size_decreases = { λ a h. Prim.omega (arith, deep-levels a.node.value) };
+    ghost size_decreases = { λ a h. Prim.omega (arith, deep-steps a.node.value) };
 }
 
 impl Model for Lemma {
@@ -84,7 +85,7 @@ impl Model for Lemma {
 
     ghost coded = { theorem_code };
 
-    ghost use Rattle.ml_kernel.specs.Levels.{theorem_levels};
+    ghost use Rattle.ml_kernel.specs.StepsIn.{theorem_steps};
     ghost use Rattle.ml_kernel.specs.Concluding.{IsKept};
     ghost use Rattle.ml_kernel.specs.StepView.{lemma_theorem};
 
@@ -92,11 +93,62 @@ impl Model for Lemma {
 
     ghost invariant = { λ a. IsKept (lemma_theorem a) };
 
-    ghost size = { theorem_levels };
+    ghost size = { theorem_steps };
 
     ghost use Rattle.std.proofs.Common.{arith};
 
     ghost size_decreases = { λ a h. Prim.omega arith };
+}
+
+// A loop over a list of what is still to be dropped: a chain of lemmas that cite one another is as long as a run. Where
+// memory for the list is refused, the parts are dropped one level further down.
+impl Drop for Deriv {
+    #[cycle(derivation_drop)]
+    fn drop(self) {
+        let Some(mut pending) = self.into_parts() else {
+            return;
+        };
+        while let Some(part) = pending.pop() {
+            let Some(mut parts) = part.into_parts() else {
+                continue;
+            };
+            let _appended = pending.append(&mut parts);
+        }
+    }
+}
+
+impl Deriv {
+    // The derivations right below, where nothing else shares this one and there are some.
+    #[cycle(derivation_drop)]
+    fn into_parts(self) -> Option<Vec<Deriv>>
+        ensures { IfSome result (λ parts. all_steps (derivations parts.items) < steps_in self) }
+    {
+        let Deriv { node } = self;
+        Rc::into_inner(node)?.into_parts()
+    }
+}
+
+impl DerivStep {
+    // The derivations right below, that of a cited lemma last.
+    #[cycle(derivation_drop)]
+    fn into_parts(self) -> Option<Vec<Deriv>>
+        ensures { IfSome result (λ parts. all_steps (derivations parts.items) < steps_in (derivation_of self)) }
+    {
+        match self {
+            DerivStep::Hyp(_p) => None,
+            DerivStep::Axiom(_no, _p) => None,
+            DerivStep::Row(_no, _instances, parts) => Some(parts),
+            DerivStep::Cited(lemma, _metas, mut parts) => {
+                let Lemma {
+                    hypotheses: _hypotheses,
+                    conclusion: _conclusion,
+                    derivation,
+                } = lemma;
+                let _pushed = parts.push(derivation);
+                Some(parts)
+            }
+        }
+    }
 }
 
 impl Deriv {

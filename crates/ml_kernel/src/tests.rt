@@ -1,10 +1,15 @@
 // Worked examples, and one happy call of each function that allocates.
+ghost use Rattle.std.specs.Prelude.{◌≡◌, [], IfOk};
+ghost use Rattle.ml_pat.specs.Patterns.{top};
+
 use crate::derivations::{DerivStep, Lemma};
 use crate::theorems::Thm;
 use crate::theory::Theory;
 use ml_pat::{ConstNo, MPat, MSort};
 use std::alloc::{AllocError, Global};
 use std::test::Fail;
+
+const RUN: u32 = 1_000_000;
 
 // The constants a and b.
 fn ends(alloc: Global) -> Result<(MPat, MPat), AllocError> {
@@ -152,5 +157,40 @@ fn calls_the_rules_of_sorts(rt: HostRuntime) -> Result<(), Fail> {
     let element = Thm::mem_in(alloc, &a, MSort(0))?;
     let apart = Thm::apart(alloc, &a, &b, MSort(0), MSort(0))?;
     assert!(rt; !element.conclusion().same(apart.conclusion()));
+    Ok(())
+}
+
+// The theorem as a lemma, and cited.
+pub(crate) fn cited_again(alloc: Global, thm: Thm) -> Result<Thm, AllocError>
+    requires hypotheses { thm.hypotheses ≡ [] }
+    requires conclusion { thm.conclusion ≡ top }
+    ensures hypotheses { IfOk result (λ t. t.hypotheses ≡ []) }
+    ensures conclusion { IfOk result (λ t. t.conclusion ≡ top) }
+{
+    let lemma = Lemma::close(thm)?;
+    Thm::use_lemma(alloc, &lemma, &[], &[])
+}
+
+// A chain of lemmas that cite one another is dropped without recursion, however long it is.
+#[test]
+fn drops_a_long_chain_of_citations(rt: HostRuntime) -> Result<(), Fail> {
+    let mut thm = Thm::top(rt.alloc())?;
+    for _ in 0..RUN {
+        thm = cited_again(rt.alloc(), thm)?;
+    }
+    Ok(())
+}
+
+// The same of a chain of rules.
+#[test]
+fn drops_a_long_chain_of_rules(rt: HostRuntime) -> Result<(), Fail> {
+    let alloc = rt.alloc();
+    let all = MPat::top(alloc)?;
+    let again = Thm::assume(alloc, MPat::imp(alloc, &all, &all)?)?;
+    let mut thm = Thm::top(alloc)?;
+    for _ in 0..RUN {
+        thm = Thm::mp(alloc, &thm, &again, &all, &all)?;
+    }
+    assert_eq!(rt; thm.hypotheses().len(), 1);
     Ok(())
 }
