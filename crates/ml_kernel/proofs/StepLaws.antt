@@ -1,4 +1,4 @@
-use Rattle.std.proofs.Common.{◌≡◌, ◌≤◌, ◌<◌, ◌*◌, Bool, true, false, if◌then◌else◌, ℕ, ◌+◌, List, [], ◌∷◌, ◌++◌, refl, ap, ◌∙◌, arith, add-zero}
+use Rattle.std.proofs.Common.{◌≡◌, ◌≤◌, ◌<◌, ◌*◌, Bool, true, false, if◌then◌else◌, ◌+◌, List, [], ◌∷◌, ◌++◌, ap, ◌∙◌, arith}
 use Rattle.ml_kernel.specs.Theorems.{Derivation, hypothesis, own_axiom, row, cited, derivations}
 use denote.Param.Weighed.{most, w_this}
 use Rattle.ml_kernel.specs.declared.derivations.Deriv.{Deriv}
@@ -31,7 +31,7 @@ all_steps-grown false all ds es same =
 
 -- what is left of a list that may have been moved has no more steps than the list
 pub all_steps-left : (b : Bool) (all ds : List Derivation) → all ≡ (if b then [] else ds) → all_steps (derivations all) ≤ all_steps (derivations ds)
-all_steps-left true all ds same = 
+all_steps-left true all ds same =
     let none : all_steps (derivations all) ≡ 0 = ap (λ (fs : List Derivation). all_steps (derivations fs)) same in
     omega (arith, none)
 all_steps-left false all ds same =

@@ -1,4 +1,5 @@
-use Rattle.std.proofs.Common.{rules, ◌≡◌, ◌<◌, ℕ, ◌+◌, ◌*◌, ◌≤◌, [], ◌∷◌, ◌++◌, ap, ◌∙◌, arith}
+use Rattle.std.proofs.Common.{rules, ◌≡◌, ◌+◌, ◌*◌, ◌≤◌, [], ◌∷◌, arith}
+use Rattle.std.specs.Result.{is_ok}
 use denote.Param.Weighed.{most, w_this}
 use Rattle.ml_kernel.specs.declared.derivations.Deriv.{Deriv}
 use Rattle.ml_kernel.specs.declared.derivations.Deriv.TheDeep.{size-Deriv}
@@ -11,51 +12,51 @@ use Rattle.ml_kernel.proofs.derivations.+derivation_drop.Goals as goal
 pub Deriv::drop-into_parts-requires-in-Some-pop : goal.Deriv::drop-into_parts-requires-in-Some-pop
 Deriv::drop-into_parts-requires-in-Some-pop t c =
     let left : all_steps (derivations c.loop-part.pending.items) ≡ all_steps (derivations c.pop.new.self.items) + steps_in c.in-Some-pop.part =
-        all_steps-push _ _ _ c.in-Some-pop.ensures.items in
+    all_steps-push _ _ _ c.in-Some-pop.ensures.items in
     (omega (arith, left, c.loop-part.invariant, c.decreases), tt)
 
 pub Deriv::drop-loop-part-smaller-in_default-into_parts :
     goal.Deriv::drop-loop-part-smaller-in_default-into_parts
 Deriv::drop-loop-part-smaller-in_default-into_parts t c =
     let left : all_steps (derivations c.loop-part.pending.items) ≡ all_steps (derivations c.pop.new.self.items) + steps_in c.in-Some-pop.part =
-        all_steps-push _ _ _ c.in-Some-pop.ensures.items in
+    all_steps-push _ _ _ c.in-Some-pop.ensures.items in
     omega (arith, left, steps_in-positive c.in-Some-pop.part)
 
 pub Deriv::drop-loop-part-preserved-in_default-into_parts :
     goal.Deriv::drop-loop-part-preserved-in_default-into_parts
 Deriv::drop-loop-part-preserved-in_default-into_parts t c =
     let left : all_steps (derivations c.loop-part.pending.items) ≡ all_steps (derivations c.pop.new.self.items) + steps_in c.in-Some-pop.part =
-        all_steps-push _ _ _ c.in-Some-pop.ensures.items in
+    all_steps-push _ _ _ c.in-Some-pop.ensures.items in
     omega (arith, left, c.loop-part.invariant)
 
 pub Deriv::drop-drop-parts-requires : goal.Deriv::drop-drop-parts-requires
 Deriv::drop-drop-parts-requires t c κs =
     let left : all_steps (derivations c.loop-part.pending.items) ≡ all_steps (derivations c.pop.new.self.items) + steps_in c.in-Some-pop.part =
-        all_steps-push _ _ _ c.in-Some-pop.ensures.items in
+    all_steps-push _ _ _ c.in-Some-pop.ensures.items in
     let rest : all_steps (derivations c.append-appended.new.other.items) ≤ all_steps (derivations c.in-Some-into_parts.parts.items) =
-        all_steps-left _ _ _ c.append-appended.ensures.other_items in
+    all_steps-left (is_ok c.append-appended.result) _ _ c.append-appended.ensures.other_items in
     let most : most (w_this.weight Deriv size-Deriv) c.append-appended.new.other.items ≤ all_steps (derivations c.append-appended.new.other.items) * 2 + 2 = most-weights c.append-appended.new.other.items in
     (((omega (arith, left, rest, most, c.loop-part.invariant, c.in-Some-into_parts.ensures, c.decreases), tt), tt), (λ a m. search rules, λ a m. search rules))
 
 pub Deriv::drop-loop-part-smaller : goal.Deriv::drop-loop-part-smaller
 Deriv::drop-loop-part-smaller t c =
     let left : all_steps (derivations c.loop-part.pending.items) ≡ all_steps (derivations c.pop.new.self.items) + steps_in c.in-Some-pop.part =
-        all_steps-push _ _ _ c.in-Some-pop.ensures.items in
+    all_steps-push _ _ _ c.in-Some-pop.ensures.items in
     let grown : all_steps (derivations c.append-appended.new.self.items) ≤ all_steps (derivations c.pop.new.self.items) + all_steps (derivations c.in-Some-into_parts.parts.items) =
-        all_steps-grown _ _ _ _ c.append-appended.ensures.items in
+    all_steps-grown (is_ok c.append-appended.result) _ _ _ c.append-appended.ensures.items in
     omega (arith, left, grown, c.in-Some-into_parts.ensures)
 
 pub Deriv::drop-loop-part-preserved : goal.Deriv::drop-loop-part-preserved
 Deriv::drop-loop-part-preserved t c =
     let left : all_steps (derivations c.loop-part.pending.items) ≡ all_steps (derivations c.pop.new.self.items) + steps_in c.in-Some-pop.part =
-        all_steps-push _ _ _ c.in-Some-pop.ensures.items in
+    all_steps-push _ _ _ c.in-Some-pop.ensures.items in
     let grown : all_steps (derivations c.append-appended.new.self.items) ≤ all_steps (derivations c.pop.new.self.items) + all_steps (derivations c.in-Some-into_parts.parts.items) =
-        all_steps-grown _ _ _ _ c.append-appended.ensures.items in
+    all_steps-grown (is_ok c.append-appended.result) _ _ _ c.append-appended.ensures.items in
     omega (arith, left, grown, c.in-Some-into_parts.ensures, c.loop-part.invariant)
 
 pub DerivStep::into_parts-returns-in-Cited : goal.DerivStep::into_parts-returns-in-Cited
 DerivStep::into_parts-returns-in-Cited t c =
     let grown : all_steps (derivations c.push-pushed.new.self.items) ≤ all_steps (derivations c.in-Cited.parts.items) + all_steps (derivations (c.lemma.inside.derivation ∷ [])) =
-        all_steps-grown _ _ _ _ c.push-pushed.ensures.items in
+    all_steps-grown (is_ok c.push-pushed.result) _ _ _ c.push-pushed.ensures.items in
     let whole : steps_in (derivation_of c.args.self) ≡ steps_in c.lemma.inside.derivation + all_steps (derivations c.in-Cited.parts.items) + 2 = search rules in
     omega (arith, grown, whole)

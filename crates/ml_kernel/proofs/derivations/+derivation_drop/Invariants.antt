@@ -1,11 +1,13 @@
 use Rattle.std.proofs.Common.{◌+◌, ◌*◌, ◌<◌}
+use Rattle.ml_kernel.specs.declared.derivations.Deriv.TheDeep.{size-Deriv}
 use Rattle.ml_kernel.specs.StepView.{derivation_of}
 use Rattle.ml_kernel.specs.Theorems.{derivations}
 use Rattle.ml_kernel.specs.StepsIn.{steps_in, all_steps}
 use Rattle.ml_kernel.proofs.derivations.+derivation_drop.Given as goal
 
+-- by this measure the drop of a list calls the drop of each of its derivations
 abbrev pub decreases-Deriv::drop : goal.decreases-Deriv::drop
-decreases-Deriv::drop l = 2 * (steps_in l.self + 1)
+decreases-Deriv::drop l = size-Deriv l.self
 
 abbrev pub decreases-Deriv::into_parts : goal.decreases-Deriv::into_parts
 decreases-Deriv::into_parts l = 2 * steps_in l.self + 1
