@@ -4,3 +4,4 @@ pub mod Merging
 pub mod RowLaws
 pub mod OtherRowLaws
 pub mod StepLaws
+pub mod SpineLaws

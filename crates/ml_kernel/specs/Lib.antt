@@ -2,6 +2,7 @@ pub mod ProofRows
 pub mod Renamings
 pub mod Derivability
 pub mod Lemmas
+pub mod Spines
 pub mod Theorems
 pub mod Concluding
 pub mod TheoremCode

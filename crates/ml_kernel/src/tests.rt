@@ -3,13 +3,12 @@ ghost use Rattle.std.specs.Prelude.{◌≡◌, [], IfOk};
 ghost use Rattle.ml_pat.specs.Patterns.{top};
 
 use crate::derivations::{DerivStep, Lemma};
+use crate::instances::instance;
 use crate::theorems::Thm;
 use crate::theory::Theory;
 use ml_pat::{ConstNo, MPat, MSort};
 use std::alloc::{AllocError, Global};
 use std::test::Fail;
-
-const RUN: u32 = 1_000_000;
 
 // The constants a and b.
 fn ends(alloc: Global) -> Result<(MPat, MPat), AllocError> {
@@ -171,26 +170,40 @@ pub(crate) fn cited_again(alloc: Global, thm: Thm) -> Result<Thm, AllocError>
     Thm::use_lemma(alloc, &lemma, &[], &[])
 }
 
-// A chain of lemmas that cite one another is dropped without recursion, however long it is.
+// A chain of 1,000,000 lemmas that cite one another is dropped in a loop.
 #[test]
 fn drops_a_long_chain_of_citations(rt: HostRuntime) -> Result<(), Fail> {
     let mut thm = Thm::top(rt.alloc())?;
-    for _ in 0..RUN {
+    for _ in 0..1_000_000 {
         thm = cited_again(rt.alloc(), thm)?;
     }
     Ok(())
 }
 
-// The same of a chain of rules.
+// The same of a chain of rules, 100,000 long.
 #[test]
 fn drops_a_long_chain_of_rules(rt: HostRuntime) -> Result<(), Fail> {
     let alloc = rt.alloc();
     let all = MPat::top(alloc)?;
     let again = Thm::assume(alloc, MPat::imp(alloc, &all, &all)?)?;
     let mut thm = Thm::top(alloc)?;
-    for _ in 0..RUN {
+    for _ in 0..100_000 {
         thm = Thm::mp(alloc, &thm, &again, &all, &all)?;
     }
     assert_eq!(rt; thm.hypotheses().len(), 1);
+    Ok(())
+}
+
+// The instance of a pattern that is 100,000 applications deep is made in a loop.
+#[test]
+fn fills_a_deep_pattern(rt: HostRuntime) -> Result<(), Fail> {
+    let alloc = rt.alloc();
+    let a = MPat::constant(alloc, ConstNo(0))?;
+    let mut deep = MPat::meta(alloc, 0)?;
+    for _ in 0..100_000 {
+        deep = MPat::app(alloc, &deep, &a)?;
+    }
+    let filled = instance(alloc, &[a], &deep)?;
+    assert!(rt; !filled.same(&deep));
     Ok(())
 }

@@ -5,3 +5,4 @@ pub mod PatternSize
 pub mod Judgements
 pub mod Named
 pub mod NamesView
+pub mod Comparing

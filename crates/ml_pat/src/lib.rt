@@ -8,6 +8,7 @@
 mod names;
 mod numbers;
 mod patterns;
+mod same;
 
 pub use names::Names;
 pub use numbers::{ConstNo, MSort, VarNo};

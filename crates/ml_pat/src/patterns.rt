@@ -1,5 +1,5 @@
 // Patterns of matching logic, shared and not copied.
-ghost use Rattle.std.specs.Prelude.{◌≡◌, ◌↔◌, ◌<◌, IfOk, IfSome, IsTrue};
+ghost use Rattle.std.specs.Prelude.{◌≡◌, ◌<◌, IfOk, IfSome};
 ghost use Rattle.ml_pat.specs.Patterns.{forms_in, bot, top, imp, not, and, or, equal, member, fun, ex, all, app, at_sort, next, ev, var, meta, constant};
 ghost use Rattle.ml_pat.specs.PatternView.{pattern_of};
 
@@ -271,32 +271,5 @@ impl MPat {
     {
         let node = self.node.clone()?;
         Ok(MPat { node })
-    }
-
-    /// Whether both are the same pattern, with the same variables at the same places.
-    pub fn same(&self, other: &MPat) -> bool
-        ensures { IsTrue result ↔ (self.now ≡ other.now) }
-    {
-        match (self.form(), other.form()) {
-            (MForm::Bot, MForm::Bot) | (MForm::Top, MForm::Top) => true,
-            (MForm::Imp(p, q), MForm::Imp(r, t))
-            | (MForm::And(p, q), MForm::And(r, t))
-            | (MForm::Or(p, q), MForm::Or(r, t))
-            | (MForm::Equal(p, q), MForm::Equal(r, t))
-            | (MForm::Member(p, q), MForm::Member(r, t))
-            | (MForm::App(p, q), MForm::App(r, t)) => p.same(r) && q.same(t),
-            (MForm::Not(p), MForm::Not(r))
-            | (MForm::Next(p), MForm::Next(r))
-            | (MForm::Ev(p), MForm::Ev(r)) => p.same(r),
-            (MForm::Fun(p, s), MForm::Fun(r, v)) | (MForm::At(p, s), MForm::At(r, v)) => {
-                s == v && p.same(r)
-            }
-            (MForm::Ex(x, s, p), MForm::Ex(y, v, r)) | (MForm::All(x, s, p), MForm::All(y, v, r)) =>
-                { x == y && s == v && p.same(r) }
-            (MForm::Var(x), MForm::Var(y)) => x == y,
-            (MForm::Meta(i), MForm::Meta(j)) => i == j,
-            (MForm::Const(c), MForm::Const(d)) => c == d,
-            _ => false,
-        }
     }
 }

@@ -57,15 +57,15 @@ fn makes_each_form(rt: HostRuntime) -> Result<(), Fail> {
     Ok(())
 }
 
-// A pattern that is 100,000 applications deep is dropped in a loop.
+// A pattern that is 100,000 applications deep is compared and dropped in a loop.
 #[test]
-fn drops_deep_patterns(rt: HostRuntime) -> Result<(), Fail> {
+fn compares_and_drops_deep_patterns(rt: HostRuntime) -> Result<(), Fail> {
     let alloc = rt.alloc();
     let argument = MPat::constant(alloc, ConstNo(1))?;
     let mut deep = MPat::constant(alloc, ConstNo(0))?;
     for _ in 0..100_000 {
         deep = MPat::app(alloc, &deep, &argument)?;
     }
-    assert!(rt; matches!(deep.form(), MForm::App(..)));
+    assert!(rt; deep.same(&deep.share()?));
     Ok(())
 }

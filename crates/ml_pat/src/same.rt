@@ -1,0 +1,77 @@
+// The comparison of patterns.
+ghost use Rattle.std.specs.Prelude.{◌≡◌, ◌↔◌, IsTrue};
+ghost use Rattle.ml_pat.specs.PatternView.{pattern_of};
+ghost use Rattle.ml_pat.specs.Comparing.{Compares, ByFirstParts};
+
+use crate::patterns::{MForm, MPat};
+
+// How two forms compare.
+#[derive(Clone, Copy)]
+pub(crate) enum Comparison<'a> {
+    // Whether they are the same.
+    Known(bool),
+    // They are the same where these two are.
+    AsFirstParts(&'a MPat, &'a MPat),
+}
+
+impl MPat {
+    /// Whether both are the same pattern, with the same variables at the same places. It is a loop along first parts, where
+    /// patterns are deep; other parts are compared one level further down. It costs the size of the smaller one at most.
+    #[cycle(same)]
+    pub fn same(&self, other: &MPat) -> bool
+        ensures { IsTrue result ↔ (self.now ≡ other.now) }
+    {
+        let mut p = self;
+        let mut q = other;
+        loop {
+            match compared(p.form(), q.form()) {
+                Comparison::Known(same) => return same,
+                Comparison::AsFirstParts(first, other_first) => {
+                    p = first;
+                    q = other_first;
+                }
+            }
+        }
+    }
+}
+
+// Compares all but the first parts.
+#[cycle(same)]
+fn compared<'a>(form: &'a MForm, other: &'a MForm) -> Comparison<'a>
+    ensures { Compares (pattern_of form.now) (pattern_of other.now) result }
+{
+    match (form, other) {
+        (MForm::Bot, MForm::Bot) | (MForm::Top, MForm::Top) => Comparison::Known(true),
+        (MForm::Imp(p, q), MForm::Imp(r, t))
+        | (MForm::And(p, q), MForm::And(r, t))
+        | (MForm::Or(p, q), MForm::Or(r, t))
+        | (MForm::Equal(p, q), MForm::Equal(r, t))
+        | (MForm::Member(p, q), MForm::Member(r, t))
+        | (MForm::App(p, q), MForm::App(r, t)) => as_first_parts(q.same(t), p, r),
+        (MForm::Not(p), MForm::Not(r))
+        | (MForm::Next(p), MForm::Next(r))
+        | (MForm::Ev(p), MForm::Ev(r)) => Comparison::AsFirstParts(p, r),
+        (MForm::Fun(p, s), MForm::Fun(r, v)) | (MForm::At(p, s), MForm::At(r, v)) => as_first_parts(
+            s == v,
+            p,
+            r,
+        ),
+        (MForm::Ex(x, s, p), MForm::Ex(y, v, r)) | (MForm::All(x, s, p), MForm::All(y, v, r)) =>
+            as_first_parts(x == y && s == v, p, r),
+        (MForm::Var(x), MForm::Var(y)) => Comparison::Known(x == y),
+        (MForm::Meta(i), MForm::Meta(j)) => Comparison::Known(i == j),
+        (MForm::Const(c), MForm::Const(d)) => Comparison::Known(c == d),
+        _ => Comparison::Known(false),
+    }
+}
+
+// The first parts decide, where the others are the same.
+fn as_first_parts<'a>(others: bool, p: &'a MPat, q: &'a MPat) -> Comparison<'a>
+    ensures { ByFirstParts others p.now q.now result }
+{
+    if others {
+        Comparison::AsFirstParts(p, q)
+    } else {
+        Comparison::Known(false)
+    }
+}
