@@ -1,0 +1,117 @@
+// Worked examples: the images of a term and of a rule.
+ghost use Rattle.std.specs.Prelude.{◌≡◌, ◌≤◌, length, IfOk, IfSome};
+ghost use Rattle.term_core.specs.Patterns.{application, no_pattern, more_patterns};
+ghost use Rattle.term_core.specs.RulePatterns.{plain_pattern};
+ghost use Rattle.ml_image.specs.Images.{HasImageAt};
+
+use crate::images::{rule_image, term_image};
+use ml_pat::{ConstNo, MPat, Names};
+use rule_core::{Program, Rule, Signature, SortInfo, SortKind, SortRef, SymInfo, SymKind, Table};
+use std::alloc::{AllocError, Global};
+use std::test::Fail;
+use term_core::{RulePat, SortId, SymId};
+
+const F: SymId = SymId(0);
+
+const A: SymId = SymId(1);
+
+const B: SymId = SymId(2);
+
+// A constructor without arguments.
+pub(crate) fn alone(alloc: Global, symbol: SymId) -> RulePat
+    ensures { plain_pattern result ≡ application symbol.0 no_pattern }
+{
+    RulePat::Ctor(symbol, Vec::new(alloc))
+}
+
+// f(a, b).
+pub(crate) fn pair(alloc: Global) -> Result<RulePat, AllocError>
+    ensures { IfOk result (λ p. plain_pattern p ≡ application 0 (more_patterns (application 1 no_pattern) (more_patterns (application 2 no_pattern) no_pattern))) }
+{
+    let args = vec![in alloc; alone(alloc, A), alone(alloc, B)]?;
+    Ok(RulePat::Ctor(F, args))
+}
+
+// The constructors f, a and b of the only sort.
+pub(crate) fn symbols(alloc: Global) -> Result<Table<SymInfo>, AllocError> {
+    let mut symbols = Table::new(alloc);
+    for (name, count) in [("f", 2), ("a", 0), ("b", 0)] {
+        let mut args = Vec::new(alloc);
+        for _ in 0..count {
+            args.push(SortRef::Sort(SortId(0)))?;
+        }
+        let info = SymInfo {
+            kind: SymKind::Ctor,
+            params: 0,
+            args,
+            result: SortRef::Sort(SortId(0)),
+            hook: None,
+            ac: false,
+        };
+        symbols.insert(String::from_str(alloc, name)?, info)?;
+    }
+    Ok(symbols)
+}
+
+// The rule f(a, b) => a over these symbols.
+pub(crate) fn small(alloc: Global) -> Result<Option<Program>, AllocError>
+    ensures symbols { IfOk result (λ found. IfSome found (λ program. 3 ≤ length program.sig.symbols)) }
+    ensures rule { IfOk result (λ found. IfSome found (λ program. HasImageAt program 0)) }
+{
+    let mut sorts = Table::new(alloc);
+    let info = SortInfo {
+        kind: SortKind::Other,
+    };
+    sorts.insert(String::from_str(alloc, "S")?, info)?;
+    let symbols = symbols(alloc)?;
+    if symbols.len() < 3 {
+        return Ok(None);
+    }
+    let rule = Rule {
+        at: 0,
+        left: pair(alloc)?,
+        right: alone(alloc, A),
+        vars: Vec::new(alloc),
+        priority: 50,
+    };
+    let rules = vec![in alloc; rule]?;
+    Ok(Some(Program {
+        sig: Signature { sorts, symbols },
+        top: Some(SortId(0)),
+        rules,
+    }))
+}
+
+fn constant(alloc: Global, number: u64) -> Result<MPat, AllocError> {
+    MPat::constant(alloc, ConstNo(number))
+}
+
+// f(a, b) is `( \app ( \app f:f f:a ) f:b )`.
+#[test]
+fn makes_the_image_of_a_term(rt: HostRuntime) -> Result<(), Fail> {
+    let alloc = rt.alloc();
+    let program = small(alloc)?.ok_or("a program")?;
+    let mut names = Names::new(alloc);
+    let image = term_image(alloc, &program, &mut names, &pair(alloc)?)?;
+    for (number, token) in [(0, "f:f"), (1, "f:a"), (2, "f:b")] {
+        assert!(rt; names.token(number) == Some(token), "{token}");
+    }
+    let applied = MPat::app(alloc, &constant(alloc, 0)?, &constant(alloc, 1)?)?;
+    assert!(rt; image.same(&MPat::app(alloc, &applied, &constant(alloc, 2)?)?));
+    Ok(())
+}
+
+// f(a, b) => a is `( \imp ( \and ( \app ( \app f:f f:a ) f:b ) \top ) ( \next f:a ) )`.
+#[test]
+fn makes_the_image_of_a_rule(rt: HostRuntime) -> Result<(), Fail> {
+    let alloc = rt.alloc();
+    let program = small(alloc)?.ok_or("a program")?;
+    let mut names = Names::new(alloc);
+    let image = rule_image(alloc, &program, &mut names, 0)?;
+    let applied = MPat::app(alloc, &constant(alloc, 0)?, &constant(alloc, 1)?)?;
+    let left = MPat::app(alloc, &applied, &constant(alloc, 2)?)?;
+    let from = MPat::and(alloc, &left, &MPat::top(alloc)?)?;
+    let to = MPat::next(alloc, &constant(alloc, 1)?)?;
+    assert!(rt; image.same(&MPat::imp(alloc, &from, &to)?));
+    Ok(())
+}
