@@ -8,7 +8,7 @@ use Rattle.rule_core.specs.Rules.{RewriteRule}
 use Rattle.ml_pat.specs.Named.{number_of, IsNumbered}
 use Rattle.term_core.specs.Patterns.{Pattern as RulePattern, Patterns as RulePatterns, variable, domain_value, application, injection, call, no_pattern, more_patterns}
 use Rattle.rule_core.specs.declared.signature.Signature.{Signature}
-use Rattle.ml_image.specs.Tokens.{token_of_sort, token_of_symbol, numbered}
+use Rattle.ml_image.specs.Tokens.{token_of_sort, token_of_symbol, token_of_value, numbered}
 use Rattle.ml_image.specs.Images.{both, symbol_image, at_sorts, image_of, applied, rule_image_of}
 use Rattle.ml_image.specs.Gained.{IsOwnToken, AreOwnTokens, HasGained}
 
@@ -54,7 +54,7 @@ at_sorts-keeps sig names more (s ∷ ss) head head' k =
 mutual
   pub image-keeps : (sig : Signature) (names more : List (List ℕ)) (p : RulePattern) → Keeps (image_of sig names p) (image_of sig (names ++ more) p)
   image-keeps sig names more (variable x) m h = h
-  image-keeps sig names more (domain_value s v) m h = h
+  image-keeps sig names more (domain_value s v) m h = map-keeps constant _ _ (numbered-keeps names more (token_of_value sig s v)) m h
   image-keeps sig names more (injection a b p) m h = h
   image-keeps sig names more (application f ps) m h = applied-keeps sig names more ps _ _ (symbol-keeps sig names more f) m h
   image-keeps sig names more (call f ss ps) m h =

@@ -8,7 +8,7 @@ use Rattle.rule_core.specs.declared.rules.Rule.{Rule}
 use Rattle.rule_core.specs.declared.rules.Program.{Program}
 use Rattle.rule_core.specs.Rules.{RewriteRule}
 use Rattle.rule_core.specs.ProgramView.{rewrite_rule}
-use Rattle.ml_image.specs.Tokens.{token_of_sort, token_of_symbol, numbered}
+use Rattle.ml_image.specs.Tokens.{token_of_sort, token_of_symbol, token_of_value, numbered}
 
 -- what two things make, where both are there
 abbrev pub both : {A B C : Type 0} → (A → B → C) → Option A → Option B → Option C
@@ -25,12 +25,13 @@ abbrev pub at_sorts : Signature → List (List ℕ) → Option Pattern → List 
 at_sorts sig names head [] = head
 at_sorts sig names head (s ∷ ss) = at_sorts sig names (both at_sort head (numbered names (token_of_sort sig s))) ss
 
--- A variable is the object variable of its number. A symbol is applied to its sort arguments and then to its arguments,
--- one after another from the first on. There are no images of domain values and injections yet.
+-- A variable is the object variable of its number. A domain value is the constant of
+-- its token. A symbol is applied to its sort arguments and then to its arguments,
+-- one after another from the first on. There are no images of injections yet.
 abbrev mutual
   pub image_of : Signature → List (List ℕ) → RulePattern → Option Pattern
   image_of sig names (variable x) = Some (var x)
-  image_of sig names (domain_value s v) = None
+  image_of sig names (domain_value s v) = option_map constant (numbered names (token_of_value sig s v))
   image_of sig names (application f ps) = applied sig names (symbol_image sig names f) ps
   image_of sig names (injection a b p) = None
   image_of sig names (call f ss ps) = applied sig names (at_sorts sig names (symbol_image sig names f) ss) ps
@@ -54,7 +55,7 @@ AreSorts sig (s ∷ ss) = (s < length sig.sorts) × AreSorts sig ss
 abbrev mutual
   pub HasImage : Signature → RulePattern → Type 0
   HasImage sig (variable x) = Unit {0}
-  HasImage sig (domain_value s v) = ⊥
+  HasImage sig (domain_value s v) = s < length sig.sorts
   HasImage sig (application f ps) = (f < length sig.symbols) × HaveImages sig ps
   HasImage sig (injection a b p) = ⊥
   HasImage sig (call f ss ps) = (f < length sig.symbols) × (AreSorts sig ss × HaveImages sig ps)

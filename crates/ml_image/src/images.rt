@@ -5,7 +5,7 @@ ghost use Rattle.term_core.specs.RulePatterns.{plain_pattern, plain_patterns, so
 ghost use Rattle.ml_image.specs.Images.{image_of, applied, at_sorts, symbol_image, HasImage, HaveImages, AreSorts, HasImageAt, IsImageAt};
 ghost use Rattle.ml_image.specs.Gained.{HasGained};
 
-use crate::tokens::{sort_number, symbol_number};
+use crate::tokens::{sort_number, symbol_number, value_number};
 use ml_pat::{MPat, Names, VarNo};
 use rule_core::{Program, Signature};
 use std::alloc::{AllocError, Global};
@@ -75,7 +75,11 @@ fn image(
             let head = at_sorts(alloc, sig, names, head, sorts)?;
             applied(alloc, sig, names, head, args)
         }
-        RulePat::Value(..) | RulePat::Inj(..) => unreachable!(),
+        RulePat::Value(sort, value) => {
+            let number = value_number(alloc, sig, names, *sort, value)?;
+            MPat::constant(alloc, number)
+        }
+        RulePat::Inj(..) => unreachable!(),
     }
 }
 
