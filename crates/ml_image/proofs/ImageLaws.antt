@@ -1,6 +1,9 @@
 -- Numbers and images under names that have gained tokens.
-use Rattle.std.proofs.Common.{◌≡◌, ℕ, ◌+◌, get_or, subst, append-nil, MatchOption, IfOk, Result, Ok, Err, slice_get, zero, suc, List, [], ◌∷◌, ◌++◌, Bool, true, false, cond, Option, Some, None, option_map, refl, sym, ◌∙◌, ap, length, append_assoc}
+use Rattle.std.proofs.Common.{◌≡◌, ℕ, ◌+◌, ◌<◌, get_or, subst, append-nil, MatchOption, IfOk, Result, Ok, Err, slice_get, zero, suc, drop, arith, List, [], ◌∷◌, ◌++◌, Bool, true, false, cond, Option, Some, None, option_map, refl, sym, ◌∙◌, ap, length, append_assoc}
 use Rattle.std.specs.List.{position_from}
+use Rattle.std.proofs.lemmas.Option.{slice_get_within, get_or_from_slice_get}
+use Rattle.std.proofs.lemmas.List.{drop_more}
+use Rattle.rule_core.specs.declared.signature.SymInfo.{SymInfo}
 use Rattle.std.proofs.lemmas.Slice.Eq.{bytes_eq-Decides}
 use Rattle.ml_pat.proofs.NamedLaws.{number_of-push}
 use Rattle.ml_pat.specs.Patterns.{Pattern, top, imp, and, app, at_sort, next, constant}
@@ -9,7 +12,7 @@ use Rattle.ml_pat.specs.Named.{number_of, IsNumbered}
 use Rattle.term_core.specs.Patterns.{Pattern as RulePattern, Patterns as RulePatterns, variable, domain_value, application, injection, call, no_pattern, more_patterns}
 use Rattle.rule_core.specs.declared.signature.Signature.{Signature}
 use Rattle.ml_image.specs.Tokens.{token_of_sort, token_of_symbol, token_of_value, numbered}
-use Rattle.ml_image.specs.Images.{both, symbol_image, at_sorts, image_of, applied, rule_image_of}
+use Rattle.ml_image.specs.Images.{both, symbol_image, at_sorts, image_of, applied, rule_image_of, some_symbol_image, injection_symbol, injection_image, is_injection, IsInjectionAt}
 use Rattle.ml_image.specs.Gained.{IsOwnToken, AreOwnTokens, HasGained}
 
 -- what is there stays the same
@@ -51,11 +54,18 @@ at_sorts-keeps sig names more [] head head' k = k
 at_sorts-keeps sig names more (s ∷ ss) head head' k =
     at_sorts-keeps sig names more ss _ _ (both-keeps at_sort _ _ _ _ k (numbered-keeps names more (token_of_sort sig s)))
 
+some_symbol-keeps : (sig : Signature) (names more : List (List ℕ)) (o : Option ℕ) → Keeps (some_symbol_image sig names o) (some_symbol_image sig (names ++ more) o)
+some_symbol-keeps sig names more None m h = absurd (none_some m h)
+some_symbol-keeps sig names more (Some f) m h = symbol-keeps sig names more f m h
+
+pub injection-keeps : (sig : Signature) (names more : List (List ℕ)) (a b : ℕ) → Keeps (injection_image sig names a b) (injection_image sig (names ++ more) a b)
+injection-keeps sig names more a b = at_sorts-keeps sig names more (a ∷ b ∷ []) _ _ (some_symbol-keeps sig names more (injection_symbol sig))
+
 mutual
   pub image-keeps : (sig : Signature) (names more : List (List ℕ)) (p : RulePattern) → Keeps (image_of sig names p) (image_of sig (names ++ more) p)
   image-keeps sig names more (variable x) m h = h
   image-keeps sig names more (domain_value s v) m h = map-keeps constant _ _ (numbered-keeps names more (token_of_value sig s v)) m h
-  image-keeps sig names more (injection a b p) m h = h
+  image-keeps sig names more (injection a b p) m h = both-keeps app _ _ _ _ (injection-keeps sig names more a b) (image-keeps sig names more p) m h
   image-keeps sig names more (application f ps) m h = applied-keeps sig names more ps _ _ (symbol-keeps sig names more f) m h
   image-keeps sig names more (call f ss ps) m h =
       applied-keeps sig names more ps _ _ (at_sorts-keeps sig names more ss _ _ (symbol-keeps sig names more f)) m h
@@ -123,3 +133,26 @@ pub item_there : {X : Type 0} (xs : List X) (i : ℕ) (x y : X) → x ≡ get_or
 item_there [] i x y read there = absurd (none_some y there)
 item_there (z ∷ zs) zero x y read there = some_same _ _ (sym there) ∙ sym read
 item_there (z ∷ zs) (suc i) x y read there = item_there zs i x y read there
+
+pub gained-injection : (sig : Signature) (old new : List (List ℕ)) (a b : ℕ) → HasGained sig old new → Keeps (injection_image sig old a b) (injection_image sig new a b)
+gained-injection sig old new a b g = subst (λ (ns : List (List ℕ)). Keeps (injection_image sig old a b) (injection_image sig ns a b)) (sym g.all) (injection-keeps sig old g.gained a b)
+
+-- the first injection symbol from a place on, one place further
+pub injection-next : (f : List ℕ × SymInfo → Bool) (es : List (List ℕ × SymInfo)) (i : ℕ) (e : List ℕ × SymInfo) → slice_get es i ≡ Some e → position_from f i (drop i es) ≡ cond (f e) (Some i) (position_from f (i + 1) (drop (i + 1) es))
+injection-next f es i e there =
+    let lt : i < length es = slice_get_within es i e there in
+    let front : drop i es ≡ e ∷ drop (i + 1) es = drop_more es i e lt ∙ ap (λ (x : List ℕ × SymInfo). x ∷ drop (i + 1) es) (get_or_from_slice_get es i e e there) in
+    ap (λ (xs : List (List ℕ × SymInfo)). position_from f i xs) front
+
+pub injection-step : (sig : Signature) (i : ℕ) (injects : Bool) → i < length sig.symbols → IsInjectionAt sig i injects
+    → position_from (λ (e : List ℕ × SymInfo). is_injection e.1.kind) i (drop i sig.symbols) ≡ cond injects (Some i) (position_from (λ (e : List ℕ × SymInfo). is_injection e.1.kind) (i + 1) (drop (i + 1) sig.symbols))
+injection-step sig i injects lt h =
+    let e : List ℕ × SymInfo = (item sig.symbols i lt).0 in
+    let there : slice_get sig.symbols i ≡ Some e = (item sig.symbols i lt).1 in
+    injection-next (λ (d : List ℕ × SymInfo). is_injection d.1.kind) sig.symbols i e there
+    ∙ ap (λ (b : Bool). cond b (Some i) (position_from (λ (d : List ℕ × SymInfo). is_injection d.1.kind) (i + 1) (drop (i + 1) sig.symbols))) (sym (h e there))
+  where
+    item : {X : Type 0} (xs : List X) (k : ℕ) → k < length xs → (x : X) × (slice_get xs k ≡ Some x)
+    item [] k low = absurd (omega (arith, low))
+    item (x ∷ xs) zero low = (x, refl)
+    item (x ∷ xs) (suc k) low = item xs k (omega (arith, low))

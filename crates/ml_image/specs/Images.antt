@@ -1,9 +1,13 @@
 -- The images of rules' patterns and of rules as patterns of matching logic (Chen and Rosu 2019). A constant or a sort of
 -- an image is the number of its token among names; where the names lack a token there is no image.
-use Rattle.std.specs.Prelude.{◌≡◌, ◌<◌, ℕ, List, [], ◌∷◌, length, slice_get, Option, Some, None, option_map}
+use Rattle.std.specs.Prelude.{◌≡◌, ◌<◌, ℕ, Bool, true, false, IsSome, List, [], ◌∷◌, length, slice_get, Option, Some, None, option_map}
+use Rattle.std.specs.List.{position_from}
 use Rattle.ml_pat.specs.Patterns.{Pattern, top, imp, and, app, at_sort, next, var, constant}
 use Rattle.term_core.specs.Patterns.{Pattern as RulePattern, Patterns as RulePatterns, variable, domain_value, application, injection, call, no_pattern, more_patterns}
 use Rattle.rule_core.specs.declared.signature.Signature.{Signature}
+use Rattle.rule_core.specs.declared.signature.SymInfo.{SymInfo}
+use Rattle.rule_core.specs.declared.signature.SymKind.{SymKind}
+use Rattle.rule_core.specs.declared.signature.SymKind.TheVariants as kind
 use Rattle.rule_core.specs.declared.rules.Rule.{Rule}
 use Rattle.rule_core.specs.declared.rules.Program.{Program}
 use Rattle.rule_core.specs.Rules.{RewriteRule}
@@ -16,6 +20,22 @@ both f None b = None
 both f (Some a) None = None
 both f (Some a) (Some b) = Some (f a b)
 
+-- the injection symbol: the first of that kind
+abbrev pub is_injection : SymKind → Bool
+is_injection kind.Injection = true
+is_injection kind.Ctor = false
+is_injection kind.Equations = false
+is_injection (kind.Hooked n) = false
+is_injection kind.Closed = false
+is_injection kind.NoKind = false
+
+-- whether the symbol with this number injects
+abbrev pub IsInjectionAt : Signature → ℕ → Bool → Type 0
+IsInjectionAt sig i injects = (e : List ℕ × SymInfo) → slice_get sig.symbols i ≡ Some e → injects ≡ is_injection e.1.kind
+
+abbrev pub injection_symbol : Signature → Option ℕ
+injection_symbol sig = position_from (λ (e : List ℕ × SymInfo). is_injection e.1.kind) 0 sig.symbols
+
 -- the constant of a symbol
 abbrev pub symbol_image : Signature → List (List ℕ) → ℕ → Option Pattern
 symbol_image sig names f = option_map constant (numbered names (token_of_symbol sig f))
@@ -25,15 +45,23 @@ abbrev pub at_sorts : Signature → List (List ℕ) → Option Pattern → List 
 at_sorts sig names head [] = head
 at_sorts sig names head (s ∷ ss) = at_sorts sig names (both at_sort head (numbered names (token_of_sort sig s))) ss
 
+-- the injection symbol, where there is one, at the sort that an injection comes from and the one that it goes to
+abbrev pub some_symbol_image : Signature → List (List ℕ) → Option ℕ → Option Pattern
+some_symbol_image sig names None = None
+some_symbol_image sig names (Some f) = symbol_image sig names f
+
+abbrev pub injection_image : Signature → List (List ℕ) → ℕ → ℕ → Option Pattern
+injection_image sig names a b = at_sorts sig names (some_symbol_image sig names (injection_symbol sig)) (a ∷ b ∷ [])
+
 -- A variable is the object variable of its number. A domain value is the constant of
 -- its token. A symbol is applied to its sort arguments and then to its arguments,
--- one after another from the first on. There are no images of injections yet.
+-- one after another from the first on.
 abbrev mutual
   pub image_of : Signature → List (List ℕ) → RulePattern → Option Pattern
   image_of sig names (variable x) = Some (var x)
   image_of sig names (domain_value s v) = option_map constant (numbered names (token_of_value sig s v))
   image_of sig names (application f ps) = applied sig names (symbol_image sig names f) ps
-  image_of sig names (injection a b p) = None
+  image_of sig names (injection a b p) = both app (injection_image sig names a b) (image_of sig names p)
   image_of sig names (call f ss ps) = applied sig names (at_sorts sig names (symbol_image sig names f) ss) ps
 
   -- the pattern applied to the images of arguments, from the first on
@@ -57,7 +85,7 @@ abbrev mutual
   HasImage sig (variable x) = Unit {0}
   HasImage sig (domain_value s v) = s < length sig.sorts
   HasImage sig (application f ps) = (f < length sig.symbols) × HaveImages sig ps
-  HasImage sig (injection a b p) = ⊥
+  HasImage sig (injection a b p) = IsSome (injection_symbol sig) × (AreSorts sig (a ∷ b ∷ []) × HasImage sig p)
   HasImage sig (call f ss ps) = (f < length sig.symbols) × (AreSorts sig ss × HaveImages sig ps)
 
   pub HaveImages : Signature → RulePatterns → Type 0

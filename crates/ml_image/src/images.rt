@@ -1,15 +1,15 @@
 // The images of patterns and rules.
-ghost use Rattle.std.specs.Prelude.{◌≡◌, ◌<◌, length, IfOk, Some, map};
+ghost use Rattle.std.specs.Prelude.{◌≡◌, ◌<◌, [], ◌∷◌, length, slice_get, IfOk, IfSome, IsSome, Some};
 ghost use Rattle.ml_pat.specs.Patterns.{Pattern, top, imp, and, next};
 ghost use Rattle.term_core.specs.RulePatterns.{plain_pattern, plain_patterns, sort_numbers};
-ghost use Rattle.ml_image.specs.Images.{image_of, applied, at_sorts, symbol_image, HasImage, HaveImages, AreSorts, HasImageAt, IsImageAt};
+ghost use Rattle.ml_image.specs.Images.{image_of, applied, at_sorts, symbol_image, HasImage, HaveImages, AreSorts, HasImageAt, IsImageAt, IsInjectionAt, injection_symbol, injection_image};
 ghost use Rattle.ml_image.specs.Gained.{HasGained};
 
 use crate::tokens::{sort_number, symbol_number, value_number};
 use ml_pat::{MPat, Names, VarNo};
-use rule_core::{Program, Signature};
+use rule_core::{Program, Signature, SymKind};
 use std::alloc::{AllocError, Global};
-use term_core::{RulePat, SortId, SymId};
+use term_core::{RulePat, SortId};
 
 /// The image of a pattern whose sorts and symbols are the program's: a symbol's token, applied to the sorts' tokens and to
 /// the images of the arguments, one after another. Where memory is wanting, the names may have gained tokens too.
@@ -67,11 +67,11 @@ fn image(
     match pat {
         RulePat::Var(x) => MPat::var(alloc, VarNo(*x)),
         RulePat::Ctor(symbol, args) => {
-            let head = head_image(alloc, sig, names, *symbol)?;
+            let head = head_image(alloc, sig, names, symbol.0 as usize)?;
             applied(alloc, sig, names, head, args)
         }
         RulePat::Call(symbol, sorts, args) => {
-            let head = head_image(alloc, sig, names, *symbol)?;
+            let head = head_image(alloc, sig, names, symbol.0 as usize)?;
             let head = at_sorts(alloc, sig, names, head, sorts)?;
             applied(alloc, sig, names, head, args)
         }
@@ -79,7 +79,11 @@ fn image(
             let number = value_number(alloc, sig, names, *sort, value)?;
             MPat::constant(alloc, number)
         }
-        RulePat::Inj(..) => unreachable!(),
+        RulePat::Inj(from, to, below) => {
+            let head = injection_image(alloc, sig, names, *from, *to)?;
+            let below = image(alloc, sig, names, below)?;
+            MPat::app(alloc, &head, &below)
+        }
     }
 }
 
@@ -109,10 +113,10 @@ fn head_image(
     alloc: Global,
     sig: &Signature,
     names: &mut Names,
-    symbol: SymId,
+    symbol: usize,
 ) -> Result<MPat, AllocError>
-    requires { symbol.0 < length sig.now.symbols }
-    ensures image { IfOk result (λ p. symbol_image sig.now names.new symbol.0 ≡ Some p) }
+    requires { symbol < length sig.now.symbols }
+    ensures image { IfOk result (λ p. symbol_image sig.now names.new symbol ≡ Some p) }
     ensures names { HasGained sig.now names.old names.new }
 {
     let number = symbol_number(alloc, sig, names, symbol)?;
@@ -137,4 +141,57 @@ fn at_sorts(
         made = MPat::at(alloc, &made, number)?;
     }
     Ok(made)
+}
+
+// The injection symbol at two sorts.
+fn injection_image(
+    alloc: Global,
+    sig: &Signature,
+    names: &mut Names,
+    from: SortId,
+    to: SortId,
+) -> Result<MPat, AllocError>
+    requires symbol { IsSome (injection_symbol sig.now) }
+    requires sorts { AreSorts sig.now (from.0 ∷ to.0 ∷ []) }
+    ensures image { IfOk result (λ p. injection_image sig.now names.new from.0 to.0 ≡ Some p) }
+    ensures names { HasGained sig.now names.old names.new }
+{
+    match injection_symbol(sig) {
+        Some(symbol) => {
+            let head = head_image(alloc, sig, names, symbol)?;
+            at_sorts(alloc, sig, names, head, &[from, to])
+        }
+        None => unreachable!(),
+    }
+}
+
+// The number of the injection symbol. It looks at the symbols up to this one, which definitions declare early.
+fn injection_symbol(sig: &Signature) -> Option<usize>
+    ensures symbol { result ≡ injection_symbol sig.now }
+    ensures within { IfSome result (λ symbol. symbol < length sig.now.symbols) }
+{
+    for symbol in 0..sig.symbols.len() {
+        if is_injection(sig, symbol) {
+            return Some(symbol);
+        }
+    }
+    None
+}
+
+// Whether the symbol with this number injects.
+fn is_injection(sig: &Signature, symbol: usize) -> bool
+    requires { symbol < length sig.now.symbols }
+    ensures { IsInjectionAt sig.now symbol result }
+{
+    match sig.symbols.value(symbol) {
+        Some(info) => match info.kind {
+            SymKind::Injection => true,
+            SymKind::Ctor
+            | SymKind::Equations
+            | SymKind::Hooked(_)
+            | SymKind::Closed
+            | SymKind::NoKind => false,
+        },
+        None => unreachable!(),
+    }
 }

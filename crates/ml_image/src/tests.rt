@@ -9,7 +9,7 @@ use ml_pat::{ConstNo, MPat, Names};
 use rule_core::{Program, Rule, Signature, SortInfo, SortKind, SortRef, SymInfo, SymKind, Table};
 use std::alloc::{AllocError, Global};
 use std::test::Fail;
-use term_core::{RulePat, SortId, SymId};
+use term_core::{RulePat, SortId, SymId, Value};
 
 const F: SymId = SymId(0);
 
@@ -55,6 +55,7 @@ pub(crate) fn symbols(alloc: Global) -> Result<Table<SymInfo>, AllocError> {
 
 // The rule f(a, b) => a over these symbols.
 pub(crate) fn small(alloc: Global) -> Result<Option<Program>, AllocError>
+    ensures sorts { IfOk result (λ found. IfSome found (λ program. 1 ≤ length program.sig.sorts)) }
     ensures symbols { IfOk result (λ found. IfSome found (λ program. 3 ≤ length program.sig.symbols)) }
     ensures rule { IfOk result (λ found. IfSome found (λ program. HasImageAt program 0)) }
 {
@@ -64,7 +65,7 @@ pub(crate) fn small(alloc: Global) -> Result<Option<Program>, AllocError>
     };
     sorts.insert(String::from_str(alloc, "S")?, info)?;
     let symbols = symbols(alloc)?;
-    if symbols.len() < 3 {
+    if sorts.len() < 1 || symbols.len() < 3 {
         return Ok(None);
     }
     let rule = Rule {
@@ -98,6 +99,22 @@ fn makes_the_image_of_a_term(rt: HostRuntime) -> Result<(), Fail> {
     }
     let applied = MPat::app(alloc, &constant(alloc, 0)?, &constant(alloc, 1)?)?;
     assert!(rt; image.same(&MPat::app(alloc, &applied, &constant(alloc, 2)?)?));
+    Ok(())
+}
+
+// -12 of the sort S is `d:S:2d3132`, and true `d:S:74727565`.
+#[test]
+fn makes_the_images_of_values(rt: HostRuntime) -> Result<(), Fail> {
+    let alloc = rt.alloc();
+    let program = small(alloc)?.ok_or("a program")?;
+    let mut names = Names::new(alloc);
+    let number = RulePat::Value(SortId(0), Value::Int(-12));
+    let yes = RulePat::Value(SortId(0), Value::Bool(true));
+    term_image(alloc, &program, &mut names, &number)?;
+    let image = term_image(alloc, &program, &mut names, &yes)?;
+    assert!(rt; names.token(0) == Some("d:S:2d3132"));
+    assert!(rt; names.token(1) == Some("d:S:74727565"));
+    assert!(rt; image.same(&constant(alloc, 1)?));
     Ok(())
 }
 

@@ -10,7 +10,7 @@ use itoa::Buffer;
 use ml_pat::{ConstNo, MPat, MSort, Names};
 use rule_core::Signature;
 use std::alloc::{AllocError, Global};
-use term_core::{SortId, SymId, Value};
+use term_core::{SortId, Value};
 
 // The number of a sort's token.
 pub(crate) fn sort_number(
@@ -37,13 +37,13 @@ pub(crate) fn symbol_number(
     alloc: Global,
     sig: &Signature,
     names: &mut Names,
-    symbol: SymId,
+    symbol: usize,
 ) -> Result<ConstNo, AllocError>
-    requires { symbol.0 < length sig.now.symbols }
-    ensures number { IfOk result (λ c. numbered names.new (token_of_symbol sig.now symbol.0) ≡ Some c.0) }
+    requires { symbol < length sig.now.symbols }
+    ensures number { IfOk result (λ c. numbered names.new (token_of_symbol sig.now symbol) ≡ Some c.0) }
     ensures names { HasGained sig.now names.old names.new }
 {
-    match sig.symbols.name(symbol.0 as usize) {
+    match sig.symbols.name(symbol) {
         Some(name) => {
             let token = prefixed(alloc, "f:", name)?;
             Ok(ConstNo(names.number(token.as_str())?))

@@ -1,13 +1,13 @@
 use Rattle.std.proofs.Common.{◌≡◌, Some, List, Option, IfOk, ap, sym, ◌∙◌, subst, ◌+◌, ◌≤◌, arith}
-use Rattle.ml_pat.specs.Patterns.{Pattern}
-use Rattle.term_core.specs.Patterns.{Pattern as RulePattern, application, call}
+use Rattle.ml_pat.specs.Patterns.{Pattern, app}
+use Rattle.term_core.specs.Patterns.{Pattern as RulePattern, application, injection, call}
 use Rattle.term_core.specs.RulePatterns.{plain_pattern, plain_patterns, sort_numbers}
 use Rattle.term_core.specs.declared.ids.SortId.{SortId}
 use Rattle.term_core.specs.declared.rule_patterns.RulePat.{RulePat}
 use Rattle.term_core.proofs.PatternLaws.{depth, depths, depth_of-item}
-use Rattle.term_core.proofs.PlainPatterns.{plain-Ctor, plain-Call}
-use Rattle.ml_image.specs.Images.{image_of, applied, at_sorts, symbol_image, HasImage}
-use Rattle.ml_image.proofs.ImageLaws.{gained-twice, gained-symbol, gained-at_sorts}
+use Rattle.term_core.proofs.PlainPatterns.{plain-Ctor, plain-Inj, plain-Call}
+use Rattle.ml_image.specs.Images.{both, injection_image, image_of, applied, at_sorts, symbol_image, HasImage}
+use Rattle.ml_image.proofs.ImageLaws.{gained-twice, gained-symbol, gained-at_sorts, gained-injection, if_ok}
 use Rattle.ml_image.proofs.LoopLaws.{applied-next, image-item}
 use Rattle.ml_image.proofs.images.+image.Goals as goal
 
@@ -79,3 +79,22 @@ image-returns-in_ok-head-in-Call-2-clause-image t c =
 pub image-returns-in_ok-head-in-Call-2-clause-names : goal.image-returns-in_ok-head-in-Call-2-clause-names
 image-returns-in_ok-head-in-Call-2-clause-names t c =
     gained-twice _ _ _ _ c.head_image-in-Call.ensures.names (gained-twice _ _ _ _ c.at_sorts.ensures.names c.applied-in-Call.ensures.names)
+
+pub image-returns-in_err-below-in-Inj-clause-names : goal.image-returns-in_err-below-in-Inj-clause-names
+image-returns-in_err-below-in-Inj-clause-names t c = gained-twice _ _ _ _ c.injection_image.ensures.names c.image.ensures.names
+
+pub image-returns-in_ok-below-in-Inj-clause-image : goal.image-returns-in_ok-below-in-Inj-clause-image
+image-returns-in_ok-below-in-Inj-clause-image t c =
+    let is : plain_pattern c.args.pat.now ≡ injection c.in-Inj.from.0 c.in-Inj.to.0 (plain_pattern c.in-Inj.below.value) = ap plain_pattern c.in-Inj.is ∙ plain-Inj _ _ _ in
+    let head : injection_image c.args.sig.now c.image.new.names c.in-Inj.from.0 c.in-Inj.to.0 ≡ Some c.in_ok-head-in-Inj.head =
+    gained-injection c.args.sig.now c.injection_image.new.names c.image.new.names c.in-Inj.from.0 c.in-Inj.to.0 c.image.ensures.names c.in_ok-head-in-Inj.head c.in_ok-head-in-Inj.ensures.image in
+    let below : image_of c.args.sig.now c.image.new.names (plain_pattern c.in-Inj.below.value) ≡ Some c.in_ok-below-in-Inj.below =
+    ap (λ (p : RulePat). image_of c.args.sig.now c.image.new.names (plain_pattern p)) (sym c.deref-in-Inj.ensures) ∙ c.in_ok-below-in-Inj.ensures.image in
+    let whole : image_of c.args.sig.now c.image.new.names (plain_pattern c.args.pat.now) ≡ Some (app c.in_ok-head-in-Inj.head c.in_ok-below-in-Inj.below) =
+    ap (image_of c.args.sig.now c.image.new.names) is ∙ ap (λ (o : Option Pattern). both app o (image_of c.args.sig.now c.image.new.names (plain_pattern c.in-Inj.below.value))) head
+    ∙ ap (λ (o : Option Pattern). both app (Some c.in_ok-head-in-Inj.head) o) below in
+    if_ok _ (λ p. image_of c.args.sig.now c.image.new.names (plain_pattern c.args.pat.now) ≡ Some p) c.app.result
+    (λ (p : Pattern) (made : p ≡ app c.in_ok-head-in-Inj.head c.in_ok-below-in-Inj.below). whole ∙ ap (λ (q : Pattern). Some q) (sym made)) c.app.ensures
+
+pub image-returns-in_ok-below-in-Inj-clause-names : goal.image-returns-in_ok-below-in-Inj-clause-names
+image-returns-in_ok-below-in-Inj-clause-names t c = gained-twice _ _ _ _ c.injection_image.ensures.names c.image.ensures.names
