@@ -1,4 +1,4 @@
-use Rattle.std.proofs.Common.{◌≡◌, ℕ, Option, Some, IfOk, List, [], ◌∷◌, sym, ◌∙◌, ap, subst, rules}
+use Rattle.std.proofs.Common.{◌≡◌, ℕ, Option, Some, IfOk, [], ◌∷◌, sym, ◌∙◌, ap, subst, rules}
 use Rattle.ml_pat.specs.Patterns.{Pattern}
 use Rattle.ml_image.specs.Images.{at_sorts, symbol_image, some_symbol_image, injection_symbol, injection_image}
 use Rattle.ml_image.proofs.ImageLaws.{gained-twice, gained-symbol}

@@ -1,7 +1,6 @@
-use Rattle.std.proofs.Common.{◌≡◌, ◌<◌, ◌/◌, ◌%◌, ◌+◌, ◌++◌, ◌∷◌, [], string_bytes, get_or, ap, sym, ◌∙◌, List, ℕ, refl, take, rules}
+use Rattle.std.proofs.Common.{◌≡◌, ◌/◌, ◌%◌, ◌++◌, ◌∷◌, [], string_bytes, get_or, ap, ◌∙◌, List, ℕ}
 use Rattle.std.specs.Char.{digit_char}
 use Rattle.std.proofs.lemmas.List.{get_or_default}
-use Rattle.ml_image.specs.Tokens.{hexadecimal}
 use Rattle.ml_image.proofs.HexLaws.{hexadecimal-next}
 use Rattle.ml_image.proofs.tokens.push_hexadecimal.Goals as goal
 

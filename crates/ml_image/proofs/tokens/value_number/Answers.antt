@@ -1,4 +1,4 @@
-use Rattle.std.proofs.Common.{◌≡◌, List, ℕ, Some, Option, ap, ◌∙◌, rules, inl, inr}
+use Rattle.std.proofs.Common.{◌≡◌, List, ℕ, Some, Option, ap, ◌∙◌, rules, inr}
 use Rattle.term_core.specs.Values.{value_of}
 use Rattle.ml_image.specs.Tokens.{token_of_value, numbered}
 use Rattle.ml_image.proofs.ImageLaws.{number_of-numbered, gained-numbered}
