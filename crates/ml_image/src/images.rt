@@ -166,7 +166,7 @@ fn injection_image(
 }
 
 // The number of the injection symbol. It looks at the symbols up to this one, which definitions declare early.
-fn injection_symbol(sig: &Signature) -> Option<usize>
+pub(crate) fn injection_symbol(sig: &Signature) -> Option<usize>
     ensures symbol { result ≡ injection_symbol sig.now }
     ensures within { IfSome result (λ symbol. symbol < length sig.now.symbols) }
 {

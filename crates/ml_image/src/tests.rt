@@ -1,11 +1,11 @@
 // Worked examples: the images of a term and of a rule.
-ghost use Rattle.std.specs.Prelude.{◌≡◌, ◌≤◌, length, IfOk, IfSome};
+ghost use Rattle.std.specs.Prelude.{◌≡◌, ◌≤◌, length, IfOk, IfSome, IsSome};
 ghost use Rattle.term_core.specs.Patterns.{application, no_pattern, more_patterns};
 ghost use Rattle.term_core.specs.RulePatterns.{plain_pattern};
-ghost use Rattle.ml_image.specs.Images.{HasImageAt};
+ghost use Rattle.ml_image.specs.Images.{HasImageAt, injection_symbol};
 
-use crate::images::{rule_image, term_image};
-use ml_pat::{ConstNo, MPat, Names};
+use crate::images::{injection_symbol, rule_image, term_image};
+use ml_pat::{ConstNo, MPat, MSort, Names};
 use rule_core::{Program, Rule, Signature, SortInfo, SortKind, SortRef, SymInfo, SymKind, Table};
 use std::alloc::{AllocError, Global};
 use std::test::Fail;
@@ -32,16 +32,21 @@ pub(crate) fn pair(alloc: Global) -> Result<RulePat, AllocError>
     Ok(RulePat::Ctor(F, args))
 }
 
-// The constructors f, a and b of the only sort.
+// The constructors f, a and b of the only sort, and the injection symbol.
 pub(crate) fn symbols(alloc: Global) -> Result<Table<SymInfo>, AllocError> {
     let mut symbols = Table::new(alloc);
-    for (name, count) in [("f", 2), ("a", 0), ("b", 0)] {
+    for (name, count, kind) in [
+        ("f", 2, SymKind::Ctor),
+        ("a", 0, SymKind::Ctor),
+        ("b", 0, SymKind::Ctor),
+        ("inj", 1, SymKind::Injection),
+    ] {
         let mut args = Vec::new(alloc);
         for _ in 0..count {
             args.push(SortRef::Sort(SortId(0)))?;
         }
         let info = SymInfo {
-            kind: SymKind::Ctor,
+            kind,
             params: 0,
             args,
             result: SortRef::Sort(SortId(0)),
@@ -57,6 +62,7 @@ pub(crate) fn symbols(alloc: Global) -> Result<Table<SymInfo>, AllocError> {
 pub(crate) fn small(alloc: Global) -> Result<Option<Program>, AllocError>
     ensures sorts { IfOk result (λ found. IfSome found (λ program. 1 ≤ length program.sig.sorts)) }
     ensures symbols { IfOk result (λ found. IfSome found (λ program. 3 ≤ length program.sig.symbols)) }
+    ensures injection { IfOk result (λ found. IfSome found (λ program. IsSome (injection_symbol program.sig))) }
     ensures rule { IfOk result (λ found. IfSome found (λ program. HasImageAt program 0)) }
 {
     let mut sorts = Table::new(alloc);
@@ -68,6 +74,10 @@ pub(crate) fn small(alloc: Global) -> Result<Option<Program>, AllocError>
     if sorts.len() < 1 || symbols.len() < 3 {
         return Ok(None);
     }
+    let sig = Signature { sorts, symbols };
+    if injection_symbol(&sig).is_none() {
+        return Ok(None);
+    }
     let rule = Rule {
         at: 0,
         left: pair(alloc)?,
@@ -77,7 +87,7 @@ pub(crate) fn small(alloc: Global) -> Result<Option<Program>, AllocError>
     };
     let rules = vec![in alloc; rule]?;
     Ok(Some(Program {
-        sig: Signature { sorts, symbols },
+        sig,
         top: Some(SortId(0)),
         rules,
     }))
@@ -99,6 +109,25 @@ fn makes_the_image_of_a_term(rt: HostRuntime) -> Result<(), Fail> {
     }
     let applied = MPat::app(alloc, &constant(alloc, 0)?, &constant(alloc, 1)?)?;
     assert!(rt; image.same(&MPat::app(alloc, &applied, &constant(alloc, 2)?)?));
+    Ok(())
+}
+
+// inj{S,S}(a) is `( \app ( \at ( \at f:inj s:S ) s:S ) f:a )`.
+#[test]
+fn makes_the_image_of_an_injection(rt: HostRuntime) -> Result<(), Fail> {
+    let alloc = rt.alloc();
+    let program = small(alloc)?.ok_or("a program")?;
+    let mut names = Names::new(alloc);
+    let below = Box::new(alloc, alone(alloc, A))?;
+    let image = term_image(
+        alloc,
+        &program,
+        &mut names,
+        &RulePat::Inj(SortId(0), SortId(0), below),
+    )?;
+    let once = MPat::at(alloc, &constant(alloc, 0)?, MSort(1))?;
+    let head = MPat::at(alloc, &once, MSort(1))?;
+    assert!(rt; image.same(&MPat::app(alloc, &head, &constant(alloc, 2)?)?));
     Ok(())
 }
 

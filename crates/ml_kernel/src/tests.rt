@@ -1,12 +1,12 @@
 // Worked examples, and one happy call of each function that allocates.
 ghost use Rattle.std.specs.Prelude.{◌≡◌, [], IfOk};
-ghost use Rattle.ml_pat.specs.Patterns.{top};
+ghost use Rattle.ml_pat.specs.Patterns.{top, imp};
 
 use crate::derivations::{DerivStep, Lemma};
 use crate::instances::instance;
 use crate::theorems::Thm;
 use crate::theory::Theory;
-use ml_pat::{ConstNo, MPat, MSort};
+use ml_pat::{ConstNo, MPat, MSort, VarNo};
 use std::alloc::{AllocError, Global};
 use std::test::Fail;
 
@@ -205,5 +205,100 @@ fn fills_a_deep_pattern(rt: HostRuntime) -> Result<(), Fail> {
     }
     let filled = instance(alloc, &[a], &deep)?;
     assert!(rt; !filled.same(&deep));
+    Ok(())
+}
+
+// In a constant nothing is substituted: `(all x s a) -> fun a s -> a`.
+#[test]
+fn calls_the_rule_of_instances(rt: HostRuntime) -> Result<(), Fail> {
+    let alloc = rt.alloc();
+    let a = MPat::constant(alloc, ConstNo(0))?;
+    let thm = Thm::inst(alloc, &a, &a, &a, VarNo(0), MSort(0))?;
+    assert!(rt; thm.hypotheses().is_empty());
+    Ok(())
+}
+
+#[test]
+fn calls_the_rule_of_being_functional(rt: HostRuntime) -> Result<(), Fail> {
+    let alloc = rt.alloc();
+    let a = MPat::constant(alloc, ConstNo(0))?;
+    let thm = Thm::fun_ex(alloc, &a, VarNo(0), MSort(0))?;
+    assert!(rt; thm.hypotheses().is_empty());
+    Ok(())
+}
+
+// From `fun x s -> top -> top` follows `(ex x s top) -> top`.
+#[test]
+fn calls_the_rule_of_existence(rt: HostRuntime) -> Result<(), Fail> {
+    let alloc = rt.alloc();
+    let all = MPat::top(alloc)?;
+    let element = MPat::fun(alloc, &MPat::var(alloc, VarNo(0))?, MSort(0))?;
+    let given = always(alloc, &element, &all, &all)?;
+    let thm = Thm::ex_el(alloc, &given, &all, &all, VarNo(0), MSort(0))?;
+    assert!(rt; !thm.conclusion().same(given.conclusion()));
+    Ok(())
+}
+
+#[test]
+fn calls_the_rule_of_equals(rt: HostRuntime) -> Result<(), Fail> {
+    let alloc = rt.alloc();
+    let (a, b) = ends(alloc)?;
+    let x = MPat::var(alloc, VarNo(0))?;
+    let thm = Thm::eq_el(alloc, &a, &b, &x, &a, &b, VarNo(0))?;
+    assert!(rt; thm.hypotheses().is_empty());
+    Ok(())
+}
+
+// Two patterns that imply each other are equal.
+#[test]
+fn calls_the_rule_of_equal_patterns(rt: HostRuntime) -> Result<(), Fail> {
+    let alloc = rt.alloc();
+    let (a, b) = ends(alloc)?;
+    let there = Thm::assume(alloc, MPat::imp(alloc, &a, &b)?)?;
+    let back = Thm::assume(alloc, MPat::imp(alloc, &b, &a)?)?;
+    let thm = Thm::eq_in(alloc, &there, &back, &a, &b)?;
+    assert_eq!(rt; thm.hypotheses().len(), 2);
+    Ok(())
+}
+
+// From `top -> ~(a & b)` follows `top -> ~(a in b)`.
+#[test]
+fn calls_the_rule_of_no_element(rt: HostRuntime) -> Result<(), Fail> {
+    let alloc = rt.alloc();
+    let (a, b) = ends(alloc)?;
+    let always = MPat::top(alloc)?;
+    let disjoint = MPat::not(alloc, &MPat::and(alloc, &a, &b)?)?;
+    let given = Thm::assume(alloc, MPat::imp(alloc, &always, &disjoint)?)?;
+    let thm = Thm::mem_no(alloc, &given, &a, &b, &always)?;
+    assert!(rt; !thm.conclusion().same(given.conclusion()));
+    Ok(())
+}
+
+// `r -> a -> b`, as a hypothesis.
+pub(crate) fn always(alloc: Global, r: &MPat, a: &MPat, b: &MPat) -> Result<Thm, AllocError>
+    ensures { IfOk result (λ thm. thm.conclusion ≡ imp r.now (imp a.now b.now)) }
+{
+    Thm::assume(alloc, MPat::imp(alloc, r, &MPat::imp(alloc, a, b)?)?)
+}
+
+#[test]
+fn calls_the_rule_of_left_sides(rt: HostRuntime) -> Result<(), Fail> {
+    let alloc = rt.alloc();
+    let (a, b) = ends(alloc)?;
+    let top = MPat::top(alloc)?;
+    let given = always(alloc, &top, &a, &b)?;
+    let thm = Thm::app_l(alloc, &given, &a, &b, &top, &a)?;
+    assert!(rt; !thm.conclusion().same(given.conclusion()));
+    Ok(())
+}
+
+#[test]
+fn calls_the_rule_of_right_sides(rt: HostRuntime) -> Result<(), Fail> {
+    let alloc = rt.alloc();
+    let (a, b) = ends(alloc)?;
+    let top = MPat::top(alloc)?;
+    let given = always(alloc, &top, &a, &b)?;
+    let thm = Thm::app_r(alloc, &given, &a, &b, &top, &a)?;
+    assert!(rt; !thm.conclusion().same(given.conclusion()));
     Ok(())
 }
