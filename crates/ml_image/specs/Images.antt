@@ -20,7 +20,6 @@ both f None b = None
 both f (Some a) None = None
 both f (Some a) (Some b) = Some (f a b)
 
--- the injection symbol: the first of that kind
 abbrev pub is_injection : SymKind → Bool
 is_injection kind.Injection = true
 is_injection kind.Ctor = false
@@ -33,6 +32,7 @@ is_injection kind.NoKind = false
 abbrev pub IsInjectionAt : Signature → ℕ → Bool → Type 0
 IsInjectionAt sig i injects = (e : List ℕ × SymInfo) → slice_get sig.symbols i ≡ Some e → injects ≡ is_injection e.1.kind
 
+-- the injection symbol: the first of that kind
 abbrev pub injection_symbol : Signature → Option ℕ
 injection_symbol sig = position_from (λ (e : List ℕ × SymInfo). is_injection e.1.kind) 0 sig.symbols
 
@@ -53,9 +53,8 @@ some_symbol_image sig names (Some f) = symbol_image sig names f
 abbrev pub injection_image : Signature → List (List ℕ) → ℕ → ℕ → Option Pattern
 injection_image sig names a b = at_sorts sig names (some_symbol_image sig names (injection_symbol sig)) (a ∷ b ∷ [])
 
--- A variable is the object variable of its number. A domain value is the constant of
--- its token. A symbol is applied to its sort arguments and then to its arguments,
--- one after another from the first on.
+-- A variable is the object variable of its number, a domain value the constant of its token. A symbol is applied to its
+-- sort arguments and then to its arguments, one after another from the first on.
 abbrev mutual
   pub image_of : Signature → List (List ℕ) → RulePattern → Option Pattern
   image_of sig names (variable x) = Some (var x)

@@ -1,6 +1,6 @@
 // Worked examples: the images of a term and of a rule.
-ghost use Rattle.std.specs.Prelude.{◌≡◌, ◌≤◌, length, IfOk, IfSome, IsSome};
-ghost use Rattle.term_core.specs.Patterns.{application, no_pattern, more_patterns};
+ghost use Rattle.std.specs.Prelude.{◌≡◌, ◌≤◌, [], ◌∷◌, length, IfOk, IfSome, IsSome};
+ghost use Rattle.term_core.specs.Patterns.{application, call, no_pattern, more_patterns};
 ghost use Rattle.term_core.specs.RulePatterns.{plain_pattern};
 ghost use Rattle.ml_image.specs.Images.{HasImageAt, injection_symbol};
 
@@ -30,6 +30,15 @@ pub(crate) fn pair(alloc: Global) -> Result<RulePat, AllocError>
 {
     let args = vec![in alloc; alone(alloc, A), alone(alloc, B)]?;
     Ok(RulePat::Ctor(F, args))
+}
+
+// f{S}(a).
+pub(crate) fn called(alloc: Global) -> Result<RulePat, AllocError>
+    ensures { IfOk result (λ p. plain_pattern p ≡ call 0 (0 ∷ []) (more_patterns (application 1 no_pattern) no_pattern)) }
+{
+    let sorts = vec![in alloc; SortId(0)]?;
+    let args = vec![in alloc; alone(alloc, A)]?;
+    Ok(RulePat::Call(F, sorts, args))
 }
 
 // The constructors f, a and b of the only sort, and the injection symbol.
@@ -109,6 +118,18 @@ fn makes_the_image_of_a_term(rt: HostRuntime) -> Result<(), Fail> {
     }
     let applied = MPat::app(alloc, &constant(alloc, 0)?, &constant(alloc, 1)?)?;
     assert!(rt; image.same(&MPat::app(alloc, &applied, &constant(alloc, 2)?)?));
+    Ok(())
+}
+
+// f{S}(a) is `( \app ( \at f:f s:S ) f:a )`.
+#[test]
+fn makes_the_image_of_a_call(rt: HostRuntime) -> Result<(), Fail> {
+    let alloc = rt.alloc();
+    let program = small(alloc)?.ok_or("a program")?;
+    let mut names = Names::new(alloc);
+    let image = term_image(alloc, &program, &mut names, &called(alloc)?)?;
+    let head = MPat::at(alloc, &constant(alloc, 0)?, MSort(1))?;
+    assert!(rt; image.same(&MPat::app(alloc, &head, &constant(alloc, 2)?)?));
     Ok(())
 }
 
