@@ -1,5 +1,5 @@
 -- What the other rule calls owe, one line for each rule.
-use Rattle.std.proofs.Common.{◌≡◌, List, [], ◌∷◌}
+use Rattle.std.proofs.Common.{◌≡◌, [], ◌∷◌}
 use Rattle.std.specs.Prelude.{ℕ, Some}
 use Rattle.ml_pat.specs.Patterns.{Pattern, bot, imp, not, and, or, equal, member, fun, ex, all, app, var}
 use Rattle.ml_pat.specs.Judgements.{IsFresh, IsAbsent, IsPredicate, substituted}

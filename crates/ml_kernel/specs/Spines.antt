@@ -1,5 +1,5 @@
 -- A pattern along its first parts, where patterns are deep, and how an instance is built around that of a first part.
-use Rattle.std.specs.Prelude.{◌≡◌, ℕ, List, [], ◌∷◌, Option, Some, None, slice_index_or}
+use Rattle.std.specs.Prelude.{◌≡◌, List, [], ◌∷◌, Option, Some, None, slice_index_or}
 use Rattle.std.specs.Borrow.{Bor}
 use Rattle.ml_pat.specs.Patterns.{Pattern, bot, top, imp, not, and, or, equal, member, fun, ex, all, app, at_sort, next, ev, var, meta, constant}
 use Rattle.ml_kernel.specs.Lemmas.{instance}

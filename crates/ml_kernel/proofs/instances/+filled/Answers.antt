@@ -1,6 +1,5 @@
-use Rattle.std.proofs.Common.{◌≡◌, ◌≤◌, ◌++◌, ◌∷◌, [], List, Bor, Some, ◌∙◌, ap, sym, subst, arith, rules}
-use Rattle.ml_pat.specs.Patterns.{Pattern, forms_in}
-use Rattle.ml_kernel.specs.Lemmas.{instance}
+use Rattle.std.proofs.Common.{◌≡◌, ◌++◌, ◌∷◌, [], List, Bor, Some, ◌∙◌, ap, sym, subst, arith, rules}
+use Rattle.ml_pat.specs.Patterns.{Pattern}
 use Rattle.ml_kernel.specs.Spines.{first_part, around, LeadsTo}
 use Rattle.ml_kernel.proofs.SpineLaws.{around-instance, LeadsTo-push, LeadsTo-pop, LeadsTo-smaller}
 use Rattle.ml_kernel.proofs.instances.+filled.Goals as goal
