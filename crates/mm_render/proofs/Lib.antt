@@ -1,0 +1,10 @@
+pub mod Schemes
+pub mod Rows
+pub mod ProofRowFrames
+pub mod RowProofs
+pub mod SyntaxLaws
+pub mod LeafLaws
+pub mod ApartLaws
+pub mod FreshLaws
+pub mod PredicateLaws
+pub mod SubstitutionLaws

@@ -1,0 +1,6 @@
+use Rattle.std.proofs.Common.{refl}
+use Rattle.mm_render.proofs.laws.tried.Goals as goal
+
+-- by computation
+pub returns : goal.returns
+returns c = record { cases = record { application = refl; universal = refl } }

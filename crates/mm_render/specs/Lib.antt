@@ -1,0 +1,5 @@
+pub mod Tokens
+pub mod Trees
+pub mod Leaves
+pub mod Serving
+pub mod Cases
