@@ -8,3 +8,5 @@ pub mod ApartLaws
 pub mod FreshLaws
 pub mod PredicateLaws
 pub mod SubstitutionLaws
+pub mod Stacking
+pub mod Looking

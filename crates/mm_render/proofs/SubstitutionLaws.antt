@@ -15,7 +15,7 @@ use Rattle.mm_render.specs.Trees.{cite, syntax_tree, fresh_tree, first_part, sec
 use Rattle.mm_render.proofs.Schemes.{under}
 use Rattle.mm_render.proofs.RowProofs.{sigma_of, row_proves}
 use Rattle.mm_render.proofs.SyntaxLaws.{pattern_text, sort_text, object_text, sort_proves, object_proves, syntax_proves}
-use Rattle.mm_render.proofs.LeafLaws.{both_true}
+use Rattle.mm_render.proofs.LeafLaws.{both_true, split_true, not_true}
 use Rattle.mm_render.proofs.ApartLaws.{turned}
 use Rattle.mm_render.proofs.FreshLaws.{fresh_text, fresh_proves, two_apart}
 use Rattle.mm_render.proofs.Rows.{header_naming, no_pair, pair_of, IsRow, P, Q, R, T, U, fp, fq, fr, ft, fu, fx, fy, fs, su_v, su_f, su_imp, su_and, su_or, su_eq, su_mem, su_app, su_not, su_next, su_ev, su_at, su_fun, su_ex, su_all}
@@ -108,9 +108,30 @@ none_some r h = cc
 some_same : (p r : Pattern) → Some p ≡ Some r → p ≡ r
 some_same p r h = cc
 
-not_either : (a b : Bool) → (a || b) ≡ false → a ≡ false
-not_either true b h = h
-not_either false b h = refl
+-- where x is not free, nothing changes
+
+joined : (k : Pattern → Pattern → Pattern) (p q : Pattern) (a b : Option Pattern) → a ≡ Some p → b ≡ Some q → both_parts k a b ≡ Some (k p q)
+joined k p q a b e g = rw (e, g) refl
+
+pub substituted-fresh : (p : Pattern) (x : ℕ) (u : Pattern) → fresh x p ≡ true → substituted p x u ≡ Some p
+substituted-fresh bot x u f = refl
+substituted-fresh top x u f = refl
+substituted-fresh (meta i) x u f = refl
+substituted-fresh (constant i) x u f = refl
+substituted-fresh (imp p q) x u f = let b : (fresh x p ≡ true) × (fresh x q ≡ true) = split_true (fresh x p) (fresh x q) f in joined imp p q (substituted p x u) (substituted q x u) (substituted-fresh p x u b.0) (substituted-fresh q x u b.1)
+substituted-fresh (and p q) x u f = let b : (fresh x p ≡ true) × (fresh x q ≡ true) = split_true (fresh x p) (fresh x q) f in joined and p q (substituted p x u) (substituted q x u) (substituted-fresh p x u b.0) (substituted-fresh q x u b.1)
+substituted-fresh (or p q) x u f = let b : (fresh x p ≡ true) × (fresh x q ≡ true) = split_true (fresh x p) (fresh x q) f in joined or p q (substituted p x u) (substituted q x u) (substituted-fresh p x u b.0) (substituted-fresh q x u b.1)
+substituted-fresh (equal p q) x u f = let b : (fresh x p ≡ true) × (fresh x q ≡ true) = split_true (fresh x p) (fresh x q) f in joined equal p q (substituted p x u) (substituted q x u) (substituted-fresh p x u b.0) (substituted-fresh q x u b.1)
+substituted-fresh (member p q) x u f = let b : (fresh x p ≡ true) × (fresh x q ≡ true) = split_true (fresh x p) (fresh x q) f in joined member p q (substituted p x u) (substituted q x u) (substituted-fresh p x u b.0) (substituted-fresh q x u b.1)
+substituted-fresh (app p q) x u f = let b : (fresh x p ≡ true) × (fresh x q ≡ true) = split_true (fresh x p) (fresh x q) f in joined app p q (substituted p x u) (substituted q x u) (substituted-fresh p x u b.0) (substituted-fresh q x u b.1)
+substituted-fresh (not p) x u f = ap (option_map not) (substituted-fresh p x u f)
+substituted-fresh (next p) x u f = ap (option_map next) (substituted-fresh p x u f)
+substituted-fresh (ev p) x u f = ap (option_map ev) (substituted-fresh p x u f)
+substituted-fresh (at_sort p s) x u f = ap (option_map (λ (t : Pattern). at_sort t s)) (substituted-fresh p x u f)
+substituted-fresh (fun p s) x u f = ap (option_map (λ (t : Pattern). fun t s)) (substituted-fresh p x u f)
+substituted-fresh (ex y s p) x u f = ap (λ (b : Bool). if b then Some (ex y s p) else (if fresh y u then option_map (ex y s) (substituted p x u) else None)) f
+substituted-fresh (all y s p) x u f = ap (λ (b : Bool). if b then Some (all y s p) else (if fresh y u then option_map (all y s) (substituted p x u) else None)) f
+substituted-fresh (var y) x u f = ap (λ (b : Bool). if b then Some u else Some (var y)) (not_true (x == y) f)
 
 -- a pattern with u for x, where it stays as it is
 unchanged_law : (c : Context) (l n : Naming) (known : LeafFacts) (x : ℕ) (u p r : Pattern) → Serves c l n known → known.object x → EachLeaf known u → EachLeaf known p → fresh x p ≡ true → Some p ≡ Some r → Proves c (unchanged_tree l x u p) (substitution_text n r p u x)
@@ -129,36 +150,38 @@ variable_law c l n known x y u r w hx hy hu h = go (x == y) refl h
 ex_law : (c : Context) (l n : Naming) (known : LeafFacts) (x y s : ℕ) (u p r : Pattern) → Serves c l n known → known.object x → EachLeaf known u → EachLeaf known (ex y s p) → EachLeaf known r → substituted (ex y s p) x u ≡ Some r
     → ((t : Pattern) → EachLeaf known t → substituted p x u ≡ Some t → Proves c (substitution_tree l x u p t) (substitution_text n t p u x))
     → Proves c (substitution_tree l x u (ex y s p) r) (substitution_text n r (ex y s p) u x)
-ex_law c l n known x y s u p r w hx hu hp hr h below = go ((x == y) || fresh x p) refl h
+ex_law c l n known x y s u p r w hx hu hp hr h below = go (x == y) (fresh x p) (fresh y u) refl refl refl h
   where
-    other : (x == y) ≡ false → (b : Bool) → fresh y u ≡ b → (if b then option_map (ex y s) (substituted p x u) else None) ≡ Some r → Proves c (cite (codes "su.ex") (syntax_tree l p ∷ syntax_tree l (first_part r) ∷ syntax_tree l u ∷ cite (l.object x) [] ∷ cite (l.object y) [] ∷ cite (l.sort s) [] ∷ fresh_tree l y u ∷ substitution_tree l x u p (first_part r) ∷ [])) (substitution_text n r (ex y s p) u x)
-    other differ false f same = absurd (none_some r same)
-    other differ true f same =
-        let w' : OnePart (ex y s) (substituted p x u) r = one_part_some (ex y s) (substituted p x u) r same in
+    go : (a b f : Bool) → (x == y) ≡ a → fresh x p ≡ b → fresh y u ≡ f → (if a || b then Some (ex y s p) else (if f then option_map (ex y s) (substituted p x u) else None)) ≡ Some r
+        → Proves c (if a then unchanged_tree l x u (ex y s p) else if f then cite (codes "su.ex") (syntax_tree l p ∷ syntax_tree l (first_part r) ∷ syntax_tree l u ∷ cite (l.object x) [] ∷ cite (l.object y) [] ∷ cite (l.sort s) [] ∷ fresh_tree l y u ∷ substitution_tree l x u p (first_part r) ∷ []) else unchanged_tree l x u (ex y s p)) (substitution_text n r (ex y s p) u x)
+    go true b f same free captured made = unchanged_law c l n known x u (ex y s p) r w hx hu hp (ap (λ z. z || fresh x p) same) made
+    go false true true differ free captured made =
+        subst (λ (r : Pattern). Proves c (cite (codes "su.ex") (syntax_tree l p ∷ syntax_tree l (first_part r) ∷ syntax_tree l u ∷ cite (l.object x) [] ∷ cite (l.object y) [] ∷ cite (l.sort s) [] ∷ fresh_tree l y u ∷ substitution_tree l x u p (first_part r) ∷ [])) (substitution_text n r (ex y s p) u x)) (some_same (ex y s p) r made)
+        (substituted_ex c l n known x y s u p p w hx hp.1.0 hp.1.1 hu hp.0 hp.0 differ captured (below p hp.0 (substituted-fresh p x u free)))
+    go false true false differ free captured made = unchanged_law c l n known x u (ex y s p) r w hx hu hp (ap (λ z. z || fresh x p) differ ∙ free) made
+    go false false true differ free captured made =
+        let w' : OnePart (ex y s) (substituted p x u) r = one_part_some (ex y s) (substituted p x u) r made in
         subst (λ (r : Pattern). EachLeaf known r → Proves c (cite (codes "su.ex") (syntax_tree l p ∷ syntax_tree l (first_part r) ∷ syntax_tree l u ∷ cite (l.object x) [] ∷ cite (l.object y) [] ∷ cite (l.sort s) [] ∷ fresh_tree l y u ∷ substitution_tree l x u p (first_part r) ∷ [])) (substitution_text n r (ex y s p) u x)) w'.whole
-        (λ ht. substituted_ex c l n known x y s u p w'.part w hx hp.1.0 hp.1.1 hu hp.0 ht.0 differ f (below w'.part ht.0 w'.part_is)) hr
-
-    go : (b : Bool) → ((x == y) || fresh x p) ≡ b → (if b then Some (ex y s p) else (if fresh y u then option_map (ex y s) (substituted p x u) else None)) ≡ Some r
-        → Proves c (if b then unchanged_tree l x u (ex y s p) else cite (codes "su.ex") (syntax_tree l p ∷ syntax_tree l (first_part r) ∷ syntax_tree l u ∷ cite (l.object x) [] ∷ cite (l.object y) [] ∷ cite (l.sort s) [] ∷ fresh_tree l y u ∷ substitution_tree l x u p (first_part r) ∷ [])) (substitution_text n r (ex y s p) u x)
-    go true is same = unchanged_law c l n known x u (ex y s p) r w hx hu hp is same
-    go false is same = other (not_either (x == y) (fresh x p) is) (fresh y u) refl same
+        (λ ht. substituted_ex c l n known x y s u p w'.part w hx hp.1.0 hp.1.1 hu hp.0 ht.0 differ captured (below w'.part ht.0 w'.part_is)) hr
+    go false false false differ free captured made = absurd (none_some r made)
 
 all_law : (c : Context) (l n : Naming) (known : LeafFacts) (x y s : ℕ) (u p r : Pattern) → Serves c l n known → known.object x → EachLeaf known u → EachLeaf known (all y s p) → EachLeaf known r → substituted (all y s p) x u ≡ Some r
     → ((t : Pattern) → EachLeaf known t → substituted p x u ≡ Some t → Proves c (substitution_tree l x u p t) (substitution_text n t p u x))
     → Proves c (substitution_tree l x u (all y s p) r) (substitution_text n r (all y s p) u x)
-all_law c l n known x y s u p r w hx hu hp hr h below = go ((x == y) || fresh x p) refl h
+all_law c l n known x y s u p r w hx hu hp hr h below = go (x == y) (fresh x p) (fresh y u) refl refl refl h
   where
-    other : (x == y) ≡ false → (b : Bool) → fresh y u ≡ b → (if b then option_map (all y s) (substituted p x u) else None) ≡ Some r → Proves c (cite (codes "su.all") (syntax_tree l p ∷ syntax_tree l (first_part r) ∷ syntax_tree l u ∷ cite (l.object x) [] ∷ cite (l.object y) [] ∷ cite (l.sort s) [] ∷ fresh_tree l y u ∷ substitution_tree l x u p (first_part r) ∷ [])) (substitution_text n r (all y s p) u x)
-    other differ false f same = absurd (none_some r same)
-    other differ true f same =
-        let w' : OnePart (all y s) (substituted p x u) r = one_part_some (all y s) (substituted p x u) r same in
+    go : (a b f : Bool) → (x == y) ≡ a → fresh x p ≡ b → fresh y u ≡ f → (if a || b then Some (all y s p) else (if f then option_map (all y s) (substituted p x u) else None)) ≡ Some r
+        → Proves c (if a then unchanged_tree l x u (all y s p) else if f then cite (codes "su.all") (syntax_tree l p ∷ syntax_tree l (first_part r) ∷ syntax_tree l u ∷ cite (l.object x) [] ∷ cite (l.object y) [] ∷ cite (l.sort s) [] ∷ fresh_tree l y u ∷ substitution_tree l x u p (first_part r) ∷ []) else unchanged_tree l x u (all y s p)) (substitution_text n r (all y s p) u x)
+    go true b f same free captured made = unchanged_law c l n known x u (all y s p) r w hx hu hp (ap (λ z. z || fresh x p) same) made
+    go false true true differ free captured made =
+        subst (λ (r : Pattern). Proves c (cite (codes "su.all") (syntax_tree l p ∷ syntax_tree l (first_part r) ∷ syntax_tree l u ∷ cite (l.object x) [] ∷ cite (l.object y) [] ∷ cite (l.sort s) [] ∷ fresh_tree l y u ∷ substitution_tree l x u p (first_part r) ∷ [])) (substitution_text n r (all y s p) u x)) (some_same (all y s p) r made)
+        (substituted_all c l n known x y s u p p w hx hp.1.0 hp.1.1 hu hp.0 hp.0 differ captured (below p hp.0 (substituted-fresh p x u free)))
+    go false true false differ free captured made = unchanged_law c l n known x u (all y s p) r w hx hu hp (ap (λ z. z || fresh x p) differ ∙ free) made
+    go false false true differ free captured made =
+        let w' : OnePart (all y s) (substituted p x u) r = one_part_some (all y s) (substituted p x u) r made in
         subst (λ (r : Pattern). EachLeaf known r → Proves c (cite (codes "su.all") (syntax_tree l p ∷ syntax_tree l (first_part r) ∷ syntax_tree l u ∷ cite (l.object x) [] ∷ cite (l.object y) [] ∷ cite (l.sort s) [] ∷ fresh_tree l y u ∷ substitution_tree l x u p (first_part r) ∷ [])) (substitution_text n r (all y s p) u x)) w'.whole
-        (λ ht. substituted_all c l n known x y s u p w'.part w hx hp.1.0 hp.1.1 hu hp.0 ht.0 differ f (below w'.part ht.0 w'.part_is)) hr
-
-    go : (b : Bool) → ((x == y) || fresh x p) ≡ b → (if b then Some (all y s p) else (if fresh y u then option_map (all y s) (substituted p x u) else None)) ≡ Some r
-        → Proves c (if b then unchanged_tree l x u (all y s p) else cite (codes "su.all") (syntax_tree l p ∷ syntax_tree l (first_part r) ∷ syntax_tree l u ∷ cite (l.object x) [] ∷ cite (l.object y) [] ∷ cite (l.sort s) [] ∷ fresh_tree l y u ∷ substitution_tree l x u p (first_part r) ∷ [])) (substitution_text n r (all y s p) u x)
-    go true is same = unchanged_law c l n known x u (all y s p) r w hx hu hp is same
-    go false is same = other (not_either (x == y) (fresh x p) is) (fresh y u) refl same
+        (λ ht. substituted_all c l n known x y s u p w'.part w hx hp.1.0 hp.1.1 hu hp.0 ht.0 differ captured (below w'.part ht.0 w'.part_is)) hr
+    go false false false differ free captured made = absurd (none_some r made)
 
 pub substitution_proves : (c : Context) (l n : Naming) (known : LeafFacts) (x : ℕ) (u p r : Pattern) → Serves c l n known → known.object x → EachLeaf known u → EachLeaf known p → EachLeaf known r → substituted p x u ≡ Some r → Proves c (substitution_tree l x u p r) (substitution_text n r p u x)
 substitution_proves c l n known x u bot r w hx hu hp hr h = unchanged_law c l n known x u bot r w hx hu tt refl h

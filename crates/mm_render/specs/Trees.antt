@@ -129,15 +129,17 @@ substitution_tree l x u (at_sort p s) r =
 substitution_tree l x u (fun p s) r =
     cite (codes "su.fun") (syntax_tree l p ∷ syntax_tree l (first_part r) ∷ syntax_tree l u ∷ cite (l.object x) [] ∷ cite (l.sort s) [] ∷ substitution_tree l x u p (first_part r) ∷ [])
 substitution_tree l x u (ex y s p) r =
-    if (x == y) || fresh x p
-    then unchanged_tree l x u (ex y s p)
-    else cite (codes "su.ex") (syntax_tree l p ∷ syntax_tree l (first_part r) ∷ syntax_tree l u ∷ cite (l.object x) [] ∷ cite (l.object y) [] ∷ cite (l.sort s) [] ∷
+    if x == y then unchanged_tree l x u (ex y s p) else
+    if fresh y u
+    then cite (codes "su.ex") (syntax_tree l p ∷ syntax_tree l (first_part r) ∷ syntax_tree l u ∷ cite (l.object x) [] ∷ cite (l.object y) [] ∷ cite (l.sort s) [] ∷
     fresh_tree l y u ∷ substitution_tree l x u p (first_part r) ∷ [])
+    else unchanged_tree l x u (ex y s p)
 substitution_tree l x u (all y s p) r =
-    if (x == y) || fresh x p
-    then unchanged_tree l x u (all y s p)
-    else cite (codes "su.all") (syntax_tree l p ∷ syntax_tree l (first_part r) ∷ syntax_tree l u ∷ cite (l.object x) [] ∷ cite (l.object y) [] ∷ cite (l.sort s) [] ∷
+    if x == y then unchanged_tree l x u (all y s p) else
+    if fresh y u
+    then cite (codes "su.all") (syntax_tree l p ∷ syntax_tree l (first_part r) ∷ syntax_tree l u ∷ cite (l.object x) [] ∷ cite (l.object y) [] ∷ cite (l.sort s) [] ∷
     fresh_tree l y u ∷ substitution_tree l x u p (first_part r) ∷ [])
+    else unchanged_tree l x u (all y s p)
 
 -- the proof that a pattern is everything or nothing, where it is built so
 abbrev pub predicate_tree : Naming → Pattern → ProofTree

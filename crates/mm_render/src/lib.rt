@@ -1,6 +1,13 @@
 //! Theorems of matching logic as text of a Metamath database.
 #![tactic(auto)]
 
+mod freshness;
 mod laws;
+mod patterns;
+mod searching;
+mod stacks;
+mod substitution;
+mod words;
+mod works;
 
 pub use laws::tried;
