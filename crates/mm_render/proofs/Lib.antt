@@ -10,3 +10,4 @@ pub mod PredicateLaws
 pub mod SubstitutionLaws
 pub mod Stacking
 pub mod Looking
+pub mod RuleLaws
