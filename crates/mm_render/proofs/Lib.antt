@@ -11,3 +11,5 @@ pub mod SubstitutionLaws
 pub mod Stacking
 pub mod Looking
 pub mod RuleLaws
+pub mod DerivationProofs
+pub mod WrittenTogether

@@ -19,6 +19,7 @@ use Rattle.mm_frame.specs.Proofs.{AllProve}
 use Rattle.ml_kernel.specs.ProofRows.{Instance, pattern, variable, sort, ProofRow}
 use Rattle.ml_kernel.specs.ProofRows as rules
 use Rattle.mm_render.specs.Leaves.{EachInstance}
+use Rattle.mm_render.specs.Derivations.{holds_text}
 use Rattle.mm_render.proofs.RowProofs.{all_proofs}
 use Rattle.mm_render.proofs.LeafLaws.{EachLeaf-absent}
 use Rattle.mm_render.proofs.ApartLaws.{text_apart, apart_text}
@@ -27,9 +28,6 @@ use Rattle.mm_render.proofs.PredicateLaws.{predicate_text, predicate_proves}
 use Rattle.mm_render.proofs.SubstitutionLaws.{substitution_text, substitution_proves}
 use Rattle.mm_render.proofs.Rows.{header_naming, no_pair, pair_of, P, Q, R, T, U, fp, fq, fr, ft, fu, fx, fy, fs, fv}
 use Rattle.mm_render.proofs.ProofRowFrames.{row_p_1, row_p_2, row_p_3, row_mp, row_not_1, row_not_2, row_and_1, row_and_2, row_and_3, row_or_1, row_or_2, row_or_3, row_top, row_inst, row_fun_ex, row_ex_el, row_eq_refl, row_eq_el, row_eq_in, row_mem_in, row_mem_no, row_apart, row_app_l, row_app_r, row_bot_l, row_bot_r, row_next_in, row_ev_1, row_ev_2, row_ev_kt}
-
-abbrev pub holds_text : Naming → Pattern → Expression
-holds_text n p = judgement_by (letters_of n) (holds p)
 
 pub rule_proves : (c : Context) (l n : Naming) (known : LeafFacts) {k : ℕ} {is : List Instance} {ps : List Pattern} {q : Pattern} (trees : List ProofTree) → Serves c l n known → ProofRow k is ps q → EachInstance known is
     → AllProve c (trees_of trees) (map (holds_text n) ps) → Proves c (row_tree l k is trees) (holds_text n q)

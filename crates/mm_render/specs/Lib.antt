@@ -6,3 +6,7 @@ pub mod Labels
 pub mod Searching
 pub mod Writing
 pub mod Cases
+pub mod Kept
+pub mod KeptView
+pub mod Statements
+pub mod Derivations

@@ -4,6 +4,7 @@
 mod freshness;
 mod laws;
 mod patterns;
+mod renderer;
 mod searching;
 mod stacks;
 mod substitution;
@@ -11,3 +12,4 @@ mod words;
 mod works;
 
 pub use laws::tried;
+pub use renderer::Renderer;

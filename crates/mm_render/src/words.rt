@@ -1,5 +1,5 @@
 // Tokens as they are written, each with a space behind it.
-ghost use Rattle.std.specs.Prelude.{◌≡◌, ◌∷◌, [], ◌++◌, OnOk, decimal};
+ghost use Rattle.std.specs.Prelude.{◌≡◌, ◌∷◌, [], ◌++◌, OnOk, decimal, map};
 ghost use Rattle.mm_text.specs.TextLaws.{written};
 ghost use Rattle.mm_render.specs.Labels.{two_numbers};
 ghost use Rattle.mm_render.specs.Tokens.{name_of};
@@ -43,6 +43,21 @@ pub(crate) fn push_word(
 {
     push_token(to, names, serial, word)?;
     to.push(b' ')?;
+    Ok(())
+}
+
+/// Adds tokens, each with a space behind it.
+pub(crate) fn push_words(
+    to: &mut Vec<u8>,
+    names: &Names,
+    serial: u64,
+    words: &[Word],
+) -> Result<(), AllocError>
+    ensures { OnOk result (to.new.items ≡ to.old.items ++ written (map (word_token names.now serial) words.now)) }
+{
+    for word in words {
+        push_word(to, names, serial, *word)?;
+    }
     Ok(())
 }
 
