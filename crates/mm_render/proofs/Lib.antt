@@ -13,3 +13,6 @@ pub mod Looking
 pub mod RuleLaws
 pub mod DerivationProofs
 pub mod WrittenTogether
+pub mod Decimals
+pub mod NameLaws
+pub mod FittingLaws

@@ -10,3 +10,4 @@ pub mod Kept
 pub mod KeptView
 pub mod Statements
 pub mod Derivations
+pub mod Fitting
