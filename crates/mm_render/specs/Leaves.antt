@@ -1,5 +1,5 @@
 -- What is said of each sort, constant and variable of a pattern.
-use Rattle.std.specs.Prelude.{ℕ, List, [], ◌∷◌}
+use Rattle.std.specs.Prelude.{ℕ, Bool, IsTrue, List, [], ◌∷◌}
 use Rattle.ml_kernel.specs.ProofRows.{Instance, pattern, variable, sort}
 use Rattle.ml_pat.specs.Patterns.{Pattern, bot, top, imp, not, and, or, equal, member, fun, ex, all, app, at_sort, next, ev, var, meta, constant}
 
@@ -9,6 +9,21 @@ pub record LeafFacts : Type 1 where
   pub constant : ℕ → Type 0
   pub object : ℕ → Type 0
   pub meta : ℕ → Type 0
+
+-- which leaves are known
+pub record Known : Type 0 where
+  pub sort : ℕ → Bool
+  pub constant : ℕ → Bool
+  pub object : ℕ → Bool
+  pub meta : ℕ → Bool
+
+abbrev pub are_known : Known → LeafFacts
+are_known k = record {
+  sort = λ i. IsTrue (k.sort i);
+  constant = λ i. IsTrue (k.constant i);
+  object = λ i. IsTrue (k.object i);
+  meta = λ i. IsTrue (k.meta i);
+}
 
 -- each leaf of the pattern has its fact
 abbrev pub EachLeaf : LeafFacts → Pattern → Type 0

@@ -11,3 +11,4 @@ pub mod KeptView
 pub mod Statements
 pub mod Derivations
 pub mod Fitting
+pub mod RenderLaws

@@ -11,5 +11,5 @@ mod substitution;
 mod words;
 mod works;
 
-pub use laws::tried;
+pub use laws::{fitting_laws, proof_laws, tried};
 pub use renderer::Renderer;
