@@ -61,12 +61,12 @@ pub text_apart : (c : Context) (l n : Naming) (known : LeafFacts) (x : ℕ) (p :
 text_apart c l n known x p w hx h =
     both_true (list_all (symbols_apart c (n.object x)) (text_by (letters_of n) p)) true
     (list_all-text (symbols_apart c (n.object x)) n p (fixed_apart c (n.object x) punctuation w.fixed)
-        (EachLeaf-implied (other_leaves x known) (tested_leaves (symbols_apart c (n.object x)) n) p (record {
-          sort = λ i k. apart-constant c (n.object x) (n.sort i) (w.sort i k).constant;
-          constant = λ i k. apart-constant c (n.object x) (n.constant i) (w.constant i k).constant;
-          object = λ y k. w.objects_apart x y hx k.0 k.1;
-          meta = λ i k. w.meta_apart x i hx k;
-        }) h)) refl
+    (EachLeaf-implied (other_leaves x known) (tested_leaves (symbols_apart c (n.object x)) n) p (record {
+      sort = λ i k. apart-constant c (n.object x) (n.sort i) (w.sort i k).constant;
+      constant = λ i k. apart-constant c (n.object x) (n.constant i) (w.constant i k).constant;
+      object = λ y k. w.objects_apart x y hx k.0 k.1;
+      meta = λ i k. w.meta_apart x i hx k;
+    }) h)) refl
 
 all_alone : (c : Context) (x : Token) (ts : List Token) → list_all (λ t. symbols_apart c t x) ts ≡ true → list_all (λ t. list_all (symbols_apart c t) (x ∷ [])) ts ≡ true
 all_alone c x [] h = refl
@@ -87,9 +87,9 @@ pub apart_text : (c : Context) (l n : Naming) (known : LeafFacts) (x : ℕ) (p :
 apart_text c l n known x p w hx h =
     all_alone c (n.object x) (text_by (letters_of n) p)
     (list_all-text (λ t. symbols_apart c t (n.object x)) n p (apart_fixed c (n.object x) punctuation w.fixed)
-        (EachLeaf-implied (other_leaves x known) (tested_leaves (λ t. symbols_apart c t (n.object x)) n) p (record {
-          sort = λ i k. constant-apart c (n.object x) (n.sort i) (w.sort i k).constant;
-          constant = λ i k. constant-apart c (n.object x) (n.constant i) (w.constant i k).constant;
-          object = λ y k. w.objects_apart y x k.0 hx (turned x y k.1);
-          meta = λ i k. w.apart_meta x i hx k;
-        }) h))
+    (EachLeaf-implied (other_leaves x known) (tested_leaves (λ t. symbols_apart c t (n.object x)) n) p (record {
+      sort = λ i k. constant-apart c (n.object x) (n.sort i) (w.sort i k).constant;
+      constant = λ i k. constant-apart c (n.object x) (n.constant i) (w.constant i k).constant;
+      object = λ y k. w.objects_apart y x k.0 hx (turned x y k.1);
+      meta = λ i k. w.apart_meta x i hx k;
+    }) h))

@@ -51,11 +51,11 @@ header_free : (i : ℕ) → header_context.labels (name_label i) ≡ false
 unfolding header_context header_rows header_labels
 header_free i = refl
 
-header_closed : header_context.blocks ≡ []
+pub header_closed : header_context.blocks ≡ []
 unfolding header_context
 header_closed = refl
 
-header_holds : Holds [] header_context
+pub header_holds : Holds [] header_context
 header_holds = record {
   rows = λ label f h. h;
   scope = refl;
@@ -177,12 +177,18 @@ adds_name done c at t sts left w closed new behind =
     let other : c.constants t ≡ false = w.constants t ∙ both_false (header_context.constants t) (has_token done t) facts.no_constant new.other in
     let variable : c.variables t ≡ false = w.variables t ∙ facts.no_variable in
     let first : IsFine c (plain_tokens [] declares_constants (t ∷ [])) = constant_is_fine c t closed other variable (w.no_label t new.name) facts.clean in
-    let second : IsFine (with_constant c t) (plain_tokens (name_label (length done) ∷ []) asserts (typecode_of t ∷ (t ∷ []))) = axiom_is_fine (with_constant c t) (name_label (length done)) (typecode_of t) (t ∷ []) (may_be_stated done c t w new) in
-    (plain_three t facts.plain, one_constant t facts.no_end, first,
-    subst (λ (d : Context). Adds d (at + length (written (plain_tokens [] declares_constants (t ∷ [])))) (plain_tokens (name_label (length done) ∷ []) asserts (typecode_of t ∷ (t ∷ [])) ∷ sts) left) (sym (behind_constant c at t facts.clean))
-    (plain_five (name_label (length done)) (typecode_of t) t (name_label-plain (length done) new.few) facts.plain_typecode facts.plain, one_axiom (length done) (typecode_of t) t facts.no_end_typecode facts.no_end, second,
-    subst (λ (d : Context). Adds d (at + length (written (plain_tokens [] declares_constants (t ∷ []))) + length (written (plain_tokens (name_label (length done) ∷ []) asserts (typecode_of t ∷ (t ∷ []))))) sts left)
-    (sym (behind_axiom (with_constant c t) (at + length (written (plain_tokens [] declares_constants (t ∷ [])))) (name_label (length done)) (typecode_of t) t (name_label-clean (length done) new.few) facts.clean_typecode facts.clean)) (behind _)))
+    let second : IsFine (with_constant c t) (plain_tokens (name_label (length done) ∷ []) asserts (typecode_of t ∷ (t ∷ []))) = axiom_is_fine (with_constant c t) (name_label (length done)) (typecode_of t) (t ∷ []) (may_be_stated done c t w new) in (
+      plain_three t facts.plain,
+      one_constant t facts.no_end,
+      first,
+      subst (λ (d : Context). Adds d (at + length (written (plain_tokens [] declares_constants (t ∷ [])))) (plain_tokens (name_label (length done) ∷ []) asserts (typecode_of t ∷ (t ∷ [])) ∷ sts) left) (sym (behind_constant c at t facts.clean)) (
+        plain_five (name_label (length done)) (typecode_of t) t (name_label-plain (length done) new.few) facts.plain_typecode facts.plain,
+        one_axiom (length done) (typecode_of t) t facts.no_end_typecode facts.no_end,
+        second,
+        subst (λ (d : Context). Adds d (at + length (written (plain_tokens [] declares_constants (t ∷ []))) + length (written (plain_tokens (name_label (length done) ∷ []) asserts (typecode_of t ∷ (t ∷ []))))) sts left)
+            (sym (behind_axiom (with_constant c t) (at + length (written (plain_tokens [] declares_constants (t ∷ [])))) (name_label (length done)) (typecode_of t) t (name_label-clean (length done) new.few) facts.clean_typecode facts.clean)) (behind _),
+      ),
+    )
 
 -- what holds behind a declaration
 
@@ -298,7 +304,7 @@ adds_names done (t ∷ more) c at w closed names distinct few =
     let count : length (done ++ t ∷ []) ≡ length done + 1 = length-append done (t ∷ []) in
     adds_name done c at t (all_name_statements (length done + 1) more) (behind_names (with_name c (length done) t) (length done + 1) more) w closed new
     (λ at'. subst (λ (n : ℕ). Adds (with_name c (length done) t) at' (all_name_statements n more) (behind_names (with_name c (length done) t) n more)) count
-        (adds_names (done ++ t ∷ []) more (with_name c (length done) t) at' (name_holds done c t w new) closed (subst AreNames (sym same) names) (subst AreDistinct (sym same) distinct) (subst (λ (ts : List Token). length ts < 2 ^ 64) (sym same) few)))
+    (adds_names (done ++ t ∷ []) more (with_name c (length done) t) at' (name_holds done c t w new) closed (subst AreNames (sym same) names) (subst AreDistinct (sym same) distinct) (subst (λ (ts : List Token). length ts < 2 ^ 64) (sym same) few)))
 
 take-all : (ts : List Token) → take (length ts) ts ≡ ts
 take-all [] = refl
@@ -325,7 +331,8 @@ declared_fits names k bytes all_names distinct few begun within fits = go k.begu
         let left : Context = behind_names c (length (take k.named names)) (drop k.named names) in
         let adds : Adds c (length bytes) (all_name_statements (length (take k.named names)) (drop k.named names)) left = adds_names (take k.named names) (drop k.named names) c (length bytes) w leaves.closed (subst AreNames (sym whole) all_names) (subst AreDistinct (sym whole) distinct) (subst (λ (ts : List Token). length ts < 2 ^ 64) (sym whole) few) in
         let holds : Holds (take k.named names ++ drop k.named names) left = names_hold (take k.named names) (drop k.named names) c w (subst AreNames (sym whole) all_names) (subst AreDistinct (sym whole) distinct) (subst (λ (ts : List Token). length ts < 2 ^ 64) (sym whole) few) in
-        let closed : left.blocks ≡ [] = closed_names c (length (take k.named names)) (drop k.named names) ∙ leaves.closed in
-        (left,
-        subst (λ (n : ℕ). Leaves (bytes ++ written_statements (all_name_statements n (drop k.named names))) left) count (continued_leaves bytes c left (all_name_statements (length (take k.named names)) (drop k.named names)) leaves adds closed),
-        subst (λ (ts : List Token). Holds ts left) (whole ∙ sym (take-all names)) holds)
+        let closed : left.blocks ≡ [] = closed_names c (length (take k.named names)) (drop k.named names) ∙ leaves.closed in (
+          left,
+          subst (λ (n : ℕ). Leaves (bytes ++ written_statements (all_name_statements n (drop k.named names))) left) count (continued_leaves bytes c left (all_name_statements (length (take k.named names)) (drop k.named names)) leaves adds closed),
+          subst (λ (ts : List Token). Holds ts left) (whole ∙ sym (take-all names)) holds,
+        )

@@ -16,3 +16,6 @@ pub mod WrittenTogether
 pub mod Decimals
 pub mod NameLaws
 pub mod FittingLaws
+pub mod AgreeLaws
+pub mod SpeltLaws
+pub mod StatedLaws

@@ -23,17 +23,19 @@ all_forms-push [] p = omega arith
 all_forms-push (q ∷ ps) p = omega (arith, all_forms-push ps p)
 
 pub one_left : (x : ℕ) (p : Bor Pattern) (old new : List (Bor Pattern)) → new ≡ old ++ p ∷ [] → IsLeft x (fresh x p.now) (forms_in p.now + 1) old new true
-one_left x p old new is =
-    (ap (λ ps. all_fresh x (patterns_of ps)) is ∙ all_fresh-push x old p,
-    (let e : all_forms (patterns_of new) ≡ all_forms (patterns_of old) + forms_in p.now = ap (λ ps. all_forms (patterns_of ps)) is ∙ all_forms-push old p in omega (arith, e)))
+one_left x p old new is = (
+  ap (λ ps. all_fresh x (patterns_of ps)) is ∙ all_fresh-push x old p,
+  (let e : all_forms (patterns_of new) ≡ all_forms (patterns_of old) + forms_in p.now = ap (λ ps. all_forms (patterns_of ps)) is ∙ all_forms-push old p in omega (arith, e)),
+)
 
 pub two_left : (x : ℕ) (p q : Bor Pattern) (old mid new : List (Bor Pattern)) → mid ≡ old ++ q ∷ [] → new ≡ mid ++ p ∷ [] → IsLeft x (fresh x p.now && fresh x q.now) (forms_in p.now + forms_in q.now + 1) old new true
 two_left x p q old mid new first second =
-    let f : all_fresh x (patterns_of mid) ≡ (fresh x q.now && all_fresh x (patterns_of old)) = ap (λ ps. all_fresh x (patterns_of ps)) first ∙ all_fresh-push x old q in
-    (ap (λ ps. all_fresh x (patterns_of ps)) second ∙ all_fresh-push x mid p ∙ ap (λ b. fresh x p.now && b) f ∙ sym (and_assoc (fresh x p.now) (fresh x q.now) (all_fresh x (patterns_of old))),
-    (let e : all_forms (patterns_of new) ≡ all_forms (patterns_of mid) + forms_in p.now = ap (λ ps. all_forms (patterns_of ps)) second ∙ all_forms-push mid p in
-    let g : all_forms (patterns_of mid) ≡ all_forms (patterns_of old) + forms_in q.now = ap (λ ps. all_forms (patterns_of ps)) first ∙ all_forms-push old q in
-    omega (arith, e, g)))
+    let f : all_fresh x (patterns_of mid) ≡ (fresh x q.now && all_fresh x (patterns_of old)) = ap (λ ps. all_fresh x (patterns_of ps)) first ∙ all_fresh-push x old q in (
+      ap (λ ps. all_fresh x (patterns_of ps)) second ∙ all_fresh-push x mid p ∙ ap (λ b. fresh x p.now && b) f ∙ sym (and_assoc (fresh x p.now) (fresh x q.now) (all_fresh x (patterns_of old))),
+      (let e : all_forms (patterns_of new) ≡ all_forms (patterns_of mid) + forms_in p.now = ap (λ ps. all_forms (patterns_of ps)) second ∙ all_forms-push mid p in
+          let g : all_forms (patterns_of mid) ≡ all_forms (patterns_of old) + forms_in q.now = ap (λ ps. all_forms (patterns_of ps)) first ∙ all_forms-push old q in
+          omega (arith, e, g)),
+    )
 
 -- one look more
 pub looked : (x : ℕ) (next : Bor Pattern) (before popped new : List (Bor Pattern)) (going whole : Bool) → before ≡ popped ++ next ∷ [] → all_fresh x (patterns_of before) ≡ whole

@@ -70,9 +70,15 @@ unfolding header_context header_rows header_labels
 sort_facts w h = record {
   plain = both_true (list_all (λ c. is_printable_class (class_of c)) w) true (all_printing w h) refl;
   clean = no_dollars w h;
-  no_end = refl; no_constant = refl; no_variable = refl;
-  no_label = λ i. refl; label_no = λ i. refl;
-  typecode = refl; clean_typecode = refl; plain_typecode = refl; no_end_typecode = refl;
+  no_end = refl;
+  no_constant = refl;
+  no_variable = refl;
+  no_label = λ i. refl;
+  label_no = λ i. refl;
+  typecode = refl;
+  clean_typecode = refl;
+  plain_typecode = refl;
+  no_end_typecode = refl;
   frame = λ i. refl;
 }
 
@@ -81,9 +87,15 @@ unfolding header_context header_rows header_labels
 symbol_facts w h = record {
   plain = both_true (list_all (λ c. is_printable_class (class_of c)) w) true (all_printing w h) refl;
   clean = no_dollars w h;
-  no_end = refl; no_constant = refl; no_variable = refl;
-  no_label = λ i. refl; label_no = λ i. refl;
-  typecode = refl; clean_typecode = refl; plain_typecode = refl; no_end_typecode = refl;
+  no_end = refl;
+  no_constant = refl;
+  no_variable = refl;
+  no_label = λ i. refl;
+  label_no = λ i. refl;
+  typecode = refl;
+  clean_typecode = refl;
+  plain_typecode = refl;
+  no_end_typecode = refl;
   frame = λ i. refl;
 }
 
@@ -92,9 +104,15 @@ unfolding header_context header_rows header_labels
 value_facts w h = record {
   plain = both_true (list_all (λ c. is_printable_class (class_of c)) w) true (all_printing w h) refl;
   clean = no_dollars w h;
-  no_end = refl; no_constant = refl; no_variable = refl;
-  no_label = λ i. refl; label_no = λ i. refl;
-  typecode = refl; clean_typecode = refl; plain_typecode = refl; no_end_typecode = refl;
+  no_end = refl;
+  no_constant = refl;
+  no_variable = refl;
+  no_label = λ i. refl;
+  label_no = λ i. refl;
+  typecode = refl;
+  clean_typecode = refl;
+  plain_typecode = refl;
+  no_end_typecode = refl;
   frame = λ i. refl;
 }
 

@@ -126,4 +126,3 @@ row_ev_2 = refl
 pub row_ev_kt : IsRow (codes "ev.kt") no_pair (fp ∷ fq ∷ []) (holds (imp P Q) ∷ holds (imp (next Q) Q) ∷ []) (holds (imp (ev P) Q))
 unfolding header_context header_rows header_labels
 row_ev_kt = refl
-

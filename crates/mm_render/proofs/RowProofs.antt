@@ -32,10 +32,13 @@ pub row_proves : (c : Context) (name : Token) (pairs : Token → Token → Bool)
     → judgement_by (under (sigma_of name floats js es) header_naming) j ≡ result
     → AllProve c (trees_of trees) es → Proves c (cite name trees) result
 row_proves c name pairs floats js j es result trees header row same apart leaves concludes all =
-    let sigma : Token → Expression = sigma_of name floats js es in
-    (es, leads-by c name (frame name pairs floats js j) es result (header name (frame name pairs floats js j) row)
-        (same ∙ ap (λ given. map (instance_of sigma) floats ++ given) (sym (instances-premises sigma name 0 js leaves)) ∙ sym (map-append (instance_of sigma) floats (premises name 0 js)))
-        apart (judgement-under sigma header_naming leaves j ∙ concludes), all)
+    let sigma : Token → Expression = sigma_of name floats js es in (
+      es,
+      leads-by c name (frame name pairs floats js j) es result (header name (frame name pairs floats js j) row)
+          (same ∙ ap (λ given. map (instance_of sigma) floats ++ given) (sym (instances-premises sigma name 0 js leaves)) ∙ sym (map-append (instance_of sigma) floats (premises name 0 js)))
+          apart (judgement-under sigma header_naming leaves j ∙ concludes),
+      all,
+    )
 
 -- proofs in a row
 pub one_proof : (c : Context) (tree : ProofTree) (trees : List ProofTree) (e : Expression) (es : List Expression) → Proves c tree e → AllProve c (trees_of trees) es → AllProve c (trees_of (tree ∷ trees)) (e ∷ es)

@@ -322,4 +322,3 @@ pr_ex = refl
 pub pr_all : IsRow (codes "pr.all") no_pair (fp ∷ fx ∷ fs ∷ []) (is_predicate P ∷ []) (is_predicate (all 0 0 P))
 unfolding header_context header_rows header_labels
 pr_all = refl
-

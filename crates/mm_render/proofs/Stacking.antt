@@ -32,24 +32,27 @@ weight-le names k (work.Predicate p) = omega arith
 
 -- one word
 pub put_one : (w : Word) (old new : List Work) → new ≡ old ++ work.One w ∷ [] → PutsOn (λ names k. word_token names k w ∷ []) old new
-put_one w old new is names k =
-    (ap (stack_tokens names k) is ∙ stack_tokens-push names k old (work.One w),
-    (let e : stack_weight names k new ≡ stack_weight names k old + 1 = ap (stack_weight names k) is ∙ stack_weight-push names k old (work.One w) in omega (arith, e)))
+put_one w old new is names k = (
+  ap (stack_tokens names k) is ∙ stack_tokens-push names k old (work.One w),
+  (let e : stack_weight names k new ≡ stack_weight names k old + 1 = ap (stack_weight names k) is ∙ stack_weight-push names k old (work.One w) in omega (arith, e)),
+)
 
 -- one more work in front of some
 pub put_more : (f g : List Token → ℕ → List Token) (w : Work) (old mid new : List Work) → PutsMore f old mid → new ≡ mid ++ w ∷ [] → ((names : List Token) (k : ℕ) → g names k ≡ work_tokens names k w ++ f names k) → PutsMore g old new
-put_more f g w old mid new h is same names k =
-    (ap (stack_tokens names k) is ∙ stack_tokens-push names k mid w ∙ ap (λ ts. work_tokens names k w ++ ts) (h names k).0 ∙ sym (append_assoc (work_tokens names k w) (f names k) (stack_tokens names k old)) ∙ ap (λ ts. ts ++ stack_tokens names k old) (sym (same names k)),
-    (let e : stack_weight names k new ≡ stack_weight names k mid + weight names k w = ap (stack_weight names k) is ∙ stack_weight-push names k mid w in
-    let n : length (g names k) ≡ length (work_tokens names k w) + length (f names k) = ap length (same names k) ∙ length-append (work_tokens names k w) (f names k) in
-    omega (arith, e, n, weight-le names k w, (h names k).1)))
+put_more f g w old mid new h is same names k = (
+  ap (stack_tokens names k) is ∙ stack_tokens-push names k mid w ∙ ap (λ ts. work_tokens names k w ++ ts) (h names k).0 ∙ sym (append_assoc (work_tokens names k w) (f names k) (stack_tokens names k old)) ∙ ap (λ ts. ts ++ stack_tokens names k old) (sym (same names k)),
+  (let e : stack_weight names k new ≡ stack_weight names k mid + weight names k w = ap (stack_weight names k) is ∙ stack_weight-push names k mid w in
+      let n : length (g names k) ≡ length (work_tokens names k w) + length (f names k) = ap length (same names k) ∙ length-append (work_tokens names k w) (f names k) in
+      omega (arith, e, n, weight-le names k w, (h names k).1)),
+)
 
 -- works in front of others, of which one is a word
 pub put_front : (f g h : List Token → ℕ → List Token) (old mid new : List Work) → PutsOn f old mid → PutsMore g mid new → ((names : List Token) (k : ℕ) → h names k ≡ g names k ++ f names k) → PutsOn h old new
-put_front f g h old mid new first rest same names k =
-    ((rest names k).0 ∙ ap (λ ts. g names k ++ ts) (first names k).0 ∙ sym (append_assoc (g names k) (f names k) (stack_tokens names k old)) ∙ ap (λ ts. ts ++ stack_tokens names k old) (sym (same names k)),
-    (let n : length (h names k) ≡ length (g names k) + length (f names k) = ap length (same names k) ∙ length-append (g names k) (f names k) in
-    omega (arith, n, (first names k).1, (rest names k).1)))
+put_front f g h old mid new first rest same names k = (
+  (rest names k).0 ∙ ap (λ ts. g names k ++ ts) (first names k).0 ∙ sym (append_assoc (g names k) (f names k) (stack_tokens names k old)) ∙ ap (λ ts. ts ++ stack_tokens names k old) (sym (same names k)),
+  (let n : length (h names k) ≡ length (g names k) + length (f names k) = ap length (same names k) ∙ length-append (g names k) (f names k) in
+      omega (arith, n, (first names k).1, (rest names k).1)),
+)
 
 pub put_none : (old : List Work) (f : List Token → ℕ → List Token) → ((names : List Token) (k : ℕ) → f names k ≡ []) → PutsMore f old old
 put_none old f none names k = (ap (λ ts. ts ++ stack_tokens names k old) (sym (none names k)), omega arith)

@@ -12,3 +12,4 @@ pub mod Statements
 pub mod Derivations
 pub mod Fitting
 pub mod RenderLaws
+pub mod Stating

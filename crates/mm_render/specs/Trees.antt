@@ -197,8 +197,8 @@ premise_trees l n is trees =
     if n == 13 then substitution_tree l (variable_at is 3) (pattern_at is 1) (pattern_at is 0) (pattern_at is 2) ∷ trees else
     if n == 15 then trees ++ fresh_tree l (variable_at is 2) (pattern_at is 1) ∷ [] else
     if n == 17 then
-        substitution_tree l (variable_at is 5) (pattern_at is 0) (pattern_at is 2) (pattern_at is 3) ∷
-        substitution_tree l (variable_at is 5) (pattern_at is 1) (pattern_at is 2) (pattern_at is 4) ∷ trees
+    substitution_tree l (variable_at is 5) (pattern_at is 0) (pattern_at is 2) (pattern_at is 3) ∷
+    substitution_tree l (variable_at is 5) (pattern_at is 1) (pattern_at is 2) (pattern_at is 4) ∷ trees
     else
     if (n == 20) || ((n == 22) || (n == 23)) then predicate_tree l (pattern_at is 2) ∷ trees else trees
 

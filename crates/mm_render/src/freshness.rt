@@ -27,7 +27,11 @@ fn put_quantified<'a>(
     if x == y {
         return put_steps(
             stack,
-            &[Work::Syntax(body), Work::One(Word::ObjectLabel(x.0)), Work::One(Word::Declared(s.0))],
+            &[
+                Work::Syntax(body),
+                Work::One(Word::ObjectLabel(x.0)),
+                Work::One(Word::Declared(s.0)),
+            ],
             bound,
         );
     }
@@ -53,20 +57,126 @@ pub(crate) fn expand_fresh<'a>(
     ensures { OnOk result (PutsOn (λ names k. postorder (fresh_tree (own_labels k) x.0 pat.now)) stack.old.items stack.new.items) }
 {
     match pat.form() {
-        MForm::Imp(p, q) => put_steps(stack, &[Work::Syntax(p), Work::Syntax(q), Work::One(Word::ObjectLabel(x.0)), Work::Fresh(x, p), Work::Fresh(x, q)], "fr.imp"),
-        MForm::And(p, q) => put_steps(stack, &[Work::Syntax(p), Work::Syntax(q), Work::One(Word::ObjectLabel(x.0)), Work::Fresh(x, p), Work::Fresh(x, q)], "fr.and"),
-        MForm::Or(p, q) => put_steps(stack, &[Work::Syntax(p), Work::Syntax(q), Work::One(Word::ObjectLabel(x.0)), Work::Fresh(x, p), Work::Fresh(x, q)], "fr.or"),
-        MForm::Equal(p, q) => put_steps(stack, &[Work::Syntax(p), Work::Syntax(q), Work::One(Word::ObjectLabel(x.0)), Work::Fresh(x, p), Work::Fresh(x, q)], "fr.eq"),
-        MForm::Member(p, q) => put_steps(stack, &[Work::Syntax(p), Work::Syntax(q), Work::One(Word::ObjectLabel(x.0)), Work::Fresh(x, p), Work::Fresh(x, q)], "fr.mem"),
-        MForm::App(p, q) => put_steps(stack, &[Work::Syntax(p), Work::Syntax(q), Work::One(Word::ObjectLabel(x.0)), Work::Fresh(x, p), Work::Fresh(x, q)], "fr.app"),
-        MForm::Not(p) => put_steps(stack, &[Work::Syntax(p), Work::One(Word::ObjectLabel(x.0)), Work::Fresh(x, p)], "fr.not"),
-        MForm::Next(p) => put_steps(stack, &[Work::Syntax(p), Work::One(Word::ObjectLabel(x.0)), Work::Fresh(x, p)], "fr.next"),
-        MForm::Ev(p) => put_steps(stack, &[Work::Syntax(p), Work::One(Word::ObjectLabel(x.0)), Work::Fresh(x, p)], "fr.ev"),
-        MForm::At(p, s) => put_steps(stack, &[Work::Syntax(p), Work::One(Word::ObjectLabel(x.0)), Work::One(Word::Declared(s.0)), Work::Fresh(x, p)], "fr.at"),
-        MForm::Fun(p, s) => put_steps(stack, &[Work::Syntax(p), Work::One(Word::ObjectLabel(x.0)), Work::One(Word::Declared(s.0)), Work::Fresh(x, p)], "fr.fun"),
+        MForm::Imp(p, q) => put_steps(
+            stack,
+            &[
+                Work::Syntax(p),
+                Work::Syntax(q),
+                Work::One(Word::ObjectLabel(x.0)),
+                Work::Fresh(x, p),
+                Work::Fresh(x, q),
+            ],
+            "fr.imp",
+        ),
+        MForm::And(p, q) => put_steps(
+            stack,
+            &[
+                Work::Syntax(p),
+                Work::Syntax(q),
+                Work::One(Word::ObjectLabel(x.0)),
+                Work::Fresh(x, p),
+                Work::Fresh(x, q),
+            ],
+            "fr.and",
+        ),
+        MForm::Or(p, q) => put_steps(
+            stack,
+            &[
+                Work::Syntax(p),
+                Work::Syntax(q),
+                Work::One(Word::ObjectLabel(x.0)),
+                Work::Fresh(x, p),
+                Work::Fresh(x, q),
+            ],
+            "fr.or",
+        ),
+        MForm::Equal(p, q) => put_steps(
+            stack,
+            &[
+                Work::Syntax(p),
+                Work::Syntax(q),
+                Work::One(Word::ObjectLabel(x.0)),
+                Work::Fresh(x, p),
+                Work::Fresh(x, q),
+            ],
+            "fr.eq",
+        ),
+        MForm::Member(p, q) => put_steps(
+            stack,
+            &[
+                Work::Syntax(p),
+                Work::Syntax(q),
+                Work::One(Word::ObjectLabel(x.0)),
+                Work::Fresh(x, p),
+                Work::Fresh(x, q),
+            ],
+            "fr.mem",
+        ),
+        MForm::App(p, q) => put_steps(
+            stack,
+            &[
+                Work::Syntax(p),
+                Work::Syntax(q),
+                Work::One(Word::ObjectLabel(x.0)),
+                Work::Fresh(x, p),
+                Work::Fresh(x, q),
+            ],
+            "fr.app",
+        ),
+        MForm::Not(p) => put_steps(
+            stack,
+            &[
+                Work::Syntax(p),
+                Work::One(Word::ObjectLabel(x.0)),
+                Work::Fresh(x, p),
+            ],
+            "fr.not",
+        ),
+        MForm::Next(p) => put_steps(
+            stack,
+            &[
+                Work::Syntax(p),
+                Work::One(Word::ObjectLabel(x.0)),
+                Work::Fresh(x, p),
+            ],
+            "fr.next",
+        ),
+        MForm::Ev(p) => put_steps(
+            stack,
+            &[
+                Work::Syntax(p),
+                Work::One(Word::ObjectLabel(x.0)),
+                Work::Fresh(x, p),
+            ],
+            "fr.ev",
+        ),
+        MForm::At(p, s) => put_steps(
+            stack,
+            &[
+                Work::Syntax(p),
+                Work::One(Word::ObjectLabel(x.0)),
+                Work::One(Word::Declared(s.0)),
+                Work::Fresh(x, p),
+            ],
+            "fr.at",
+        ),
+        MForm::Fun(p, s) => put_steps(
+            stack,
+            &[
+                Work::Syntax(p),
+                Work::One(Word::ObjectLabel(x.0)),
+                Work::One(Word::Declared(s.0)),
+                Work::Fresh(x, p),
+            ],
+            "fr.fun",
+        ),
         MForm::Ex(y, s, p) => put_quantified(stack, x, *y, *s, p, "fr.exb", "fr.ex"),
         MForm::All(y, s, p) => put_quantified(stack, x, *y, *s, p, "fr.allb", "fr.all"),
-        MForm::Bot | MForm::Top | MForm::Var(_) | MForm::Meta(_) | MForm::Const(_) => put_steps(stack, &[Work::Syntax(pat), Work::One(Word::ObjectLabel(x.0))], "fr.d"),
+        MForm::Bot | MForm::Top | MForm::Var(_) | MForm::Meta(_) | MForm::Const(_) => put_steps(
+            stack,
+            &[Work::Syntax(pat), Work::One(Word::ObjectLabel(x.0))],
+            "fr.d",
+        ),
     }
 }
 
@@ -101,16 +211,70 @@ pub(crate) fn expand_predicate<'a>(
     match pat.form() {
         MForm::Bot => put_steps(stack, &[], "pr.bot"),
         MForm::Top => put_steps(stack, &[], "pr.top"),
-        MForm::Imp(p, q) => put_steps(stack, &[Work::Syntax(p), Work::Syntax(q), Work::Predicate(p), Work::Predicate(q)], "pr.imp"),
-        MForm::And(p, q) => put_steps(stack, &[Work::Syntax(p), Work::Syntax(q), Work::Predicate(p), Work::Predicate(q)], "pr.and"),
-        MForm::Or(p, q) => put_steps(stack, &[Work::Syntax(p), Work::Syntax(q), Work::Predicate(p), Work::Predicate(q)], "pr.or"),
+        MForm::Imp(p, q) => put_steps(
+            stack,
+            &[
+                Work::Syntax(p),
+                Work::Syntax(q),
+                Work::Predicate(p),
+                Work::Predicate(q),
+            ],
+            "pr.imp",
+        ),
+        MForm::And(p, q) => put_steps(
+            stack,
+            &[
+                Work::Syntax(p),
+                Work::Syntax(q),
+                Work::Predicate(p),
+                Work::Predicate(q),
+            ],
+            "pr.and",
+        ),
+        MForm::Or(p, q) => put_steps(
+            stack,
+            &[
+                Work::Syntax(p),
+                Work::Syntax(q),
+                Work::Predicate(p),
+                Work::Predicate(q),
+            ],
+            "pr.or",
+        ),
         MForm::Equal(p, q) => put_steps(stack, &[Work::Syntax(p), Work::Syntax(q)], "pr.eq"),
         MForm::Member(p, q) => put_steps(stack, &[Work::Syntax(p), Work::Syntax(q)], "pr.mem"),
         MForm::Not(p) => put_steps(stack, &[Work::Syntax(p), Work::Predicate(p)], "pr.not"),
-        MForm::Fun(p, s) => put_steps(stack, &[Work::Syntax(p), Work::One(Word::Declared(s.0))], "pr.fun"),
-        MForm::Ex(x, s, p) => put_steps(stack, &[Work::Syntax(p), Work::One(Word::ObjectLabel(x.0)), Work::One(Word::Declared(s.0)), Work::Predicate(p)], "pr.ex"),
-        MForm::All(x, s, p) => put_steps(stack, &[Work::Syntax(p), Work::One(Word::ObjectLabel(x.0)), Work::One(Word::Declared(s.0)), Work::Predicate(p)], "pr.all"),
-        MForm::App(_, _) | MForm::At(_, _) | MForm::Next(_) | MForm::Ev(_) | MForm::Var(_) | MForm::Meta(_) | MForm::Const(_) => expand_syntax(stack, pat),
+        MForm::Fun(p, s) => put_steps(
+            stack,
+            &[Work::Syntax(p), Work::One(Word::Declared(s.0))],
+            "pr.fun",
+        ),
+        MForm::Ex(x, s, p) => put_steps(
+            stack,
+            &[
+                Work::Syntax(p),
+                Work::One(Word::ObjectLabel(x.0)),
+                Work::One(Word::Declared(s.0)),
+                Work::Predicate(p),
+            ],
+            "pr.ex",
+        ),
+        MForm::All(x, s, p) => put_steps(
+            stack,
+            &[
+                Work::Syntax(p),
+                Work::One(Word::ObjectLabel(x.0)),
+                Work::One(Word::Declared(s.0)),
+                Work::Predicate(p),
+            ],
+            "pr.all",
+        ),
+        MForm::App(_, _)
+        | MForm::At(_, _)
+        | MForm::Next(_)
+        | MForm::Ev(_)
+        | MForm::Var(_)
+        | MForm::Meta(_)
+        | MForm::Const(_) => expand_syntax(stack, pat),
     }
 }
-

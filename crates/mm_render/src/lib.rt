@@ -13,3 +13,6 @@ mod works;
 
 pub use laws::{fitting_laws, proof_laws, tried};
 pub use renderer::Renderer;
+
+#[cfg(test)]
+mod tests;

@@ -13,10 +13,7 @@ use ml_pat::{MForm, MPat};
 use std::alloc::AllocError;
 
 /// The tokens of a pattern.
-pub(crate) fn expand_text<'a>(
-    stack: &mut Vec<Work<'a>>,
-    pat: &'a MPat,
-) -> Result<(), AllocError>
+pub(crate) fn expand_text<'a>(stack: &mut Vec<Work<'a>>, pat: &'a MPat) -> Result<(), AllocError>
     ensures { OnOk result (PutsOn (λ names k. tokens_of names pat.now) stack.old.items stack.new.items) }
 {
     match pat.form() {
@@ -32,9 +29,29 @@ pub(crate) fn expand_text<'a>(
         MForm::Next(p) => put_bracket(stack, "\\next", &[Work::Text(p)]),
         MForm::Ev(p) => put_bracket(stack, "\\ev", &[Work::Text(p)]),
         MForm::At(p, s) => put_bracket(stack, "\\at", &[Work::Text(p), Work::One(Word::Name(s.0))]),
-        MForm::Fun(p, s) => put_bracket(stack, "\\fun", &[Work::Text(p), Work::One(Word::Name(s.0))]),
-        MForm::Ex(x, s, p) => put_bracket(stack, "\\ex", &[Work::One(Word::Object(x.0)), Work::One(Word::Name(s.0)), Work::Text(p)]),
-        MForm::All(x, s, p) => put_bracket(stack, "\\all", &[Work::One(Word::Object(x.0)), Work::One(Word::Name(s.0)), Work::Text(p)]),
+        MForm::Fun(p, s) => put_bracket(
+            stack,
+            "\\fun",
+            &[Work::Text(p), Work::One(Word::Name(s.0))],
+        ),
+        MForm::Ex(x, s, p) => put_bracket(
+            stack,
+            "\\ex",
+            &[
+                Work::One(Word::Object(x.0)),
+                Work::One(Word::Name(s.0)),
+                Work::Text(p),
+            ],
+        ),
+        MForm::All(x, s, p) => put_bracket(
+            stack,
+            "\\all",
+            &[
+                Work::One(Word::Object(x.0)),
+                Work::One(Word::Name(s.0)),
+                Work::Text(p),
+            ],
+        ),
         MForm::Var(x) => put_word(stack, Word::Object(x.0)),
         MForm::Meta(i) => put_word(stack, Word::Meta(*i)),
         MForm::Const(c) => put_word(stack, Word::Name(c.0)),
@@ -42,10 +59,7 @@ pub(crate) fn expand_text<'a>(
 }
 
 /// The proof that it is a pattern.
-pub(crate) fn expand_syntax<'a>(
-    stack: &mut Vec<Work<'a>>,
-    pat: &'a MPat,
-) -> Result<(), AllocError>
+pub(crate) fn expand_syntax<'a>(stack: &mut Vec<Work<'a>>, pat: &'a MPat) -> Result<(), AllocError>
     ensures { OnOk result (PutsOn (λ names k. postorder (syntax_tree (own_labels k) pat.now)) stack.old.items stack.new.items) }
 {
     match pat.form() {
@@ -60,13 +74,36 @@ pub(crate) fn expand_syntax<'a>(
         MForm::Not(p) => put_steps(stack, &[Work::Syntax(p)], "w.not"),
         MForm::Next(p) => put_steps(stack, &[Work::Syntax(p)], "w.next"),
         MForm::Ev(p) => put_steps(stack, &[Work::Syntax(p)], "w.ev"),
-        MForm::At(p, s) => put_steps(stack, &[Work::Syntax(p), Work::One(Word::Declared(s.0))], "w.at"),
-        MForm::Fun(p, s) => put_steps(stack, &[Work::Syntax(p), Work::One(Word::Declared(s.0))], "w.fun"),
-        MForm::Ex(x, s, p) => put_steps(stack, &[Work::Syntax(p), Work::One(Word::ObjectLabel(x.0)), Work::One(Word::Declared(s.0))], "w.ex"),
-        MForm::All(x, s, p) => put_steps(stack, &[Work::Syntax(p), Work::One(Word::ObjectLabel(x.0)), Work::One(Word::Declared(s.0))], "w.all"),
+        MForm::At(p, s) => put_steps(
+            stack,
+            &[Work::Syntax(p), Work::One(Word::Declared(s.0))],
+            "w.at",
+        ),
+        MForm::Fun(p, s) => put_steps(
+            stack,
+            &[Work::Syntax(p), Work::One(Word::Declared(s.0))],
+            "w.fun",
+        ),
+        MForm::Ex(x, s, p) => put_steps(
+            stack,
+            &[
+                Work::Syntax(p),
+                Work::One(Word::ObjectLabel(x.0)),
+                Work::One(Word::Declared(s.0)),
+            ],
+            "w.ex",
+        ),
+        MForm::All(x, s, p) => put_steps(
+            stack,
+            &[
+                Work::Syntax(p),
+                Work::One(Word::ObjectLabel(x.0)),
+                Work::One(Word::Declared(s.0)),
+            ],
+            "w.all",
+        ),
         MForm::Var(x) => put_steps(stack, &[Work::One(Word::ObjectLabel(x.0))], "w.var"),
         MForm::Meta(i) => put_word(stack, Word::MetaLabel(*i)),
         MForm::Const(c) => put_word(stack, Word::Declared(c.0)),
     }
 }
-

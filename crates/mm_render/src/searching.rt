@@ -23,11 +23,7 @@ pub(crate) fn is_fresh(alloc: Global, x: VarNo, pat: &MPat) -> Result<bool, Allo
 }
 
 /// Whether x may still be not free, with the parts that are left to be looked at on the stack.
-fn is_fresh_at<'a>(
-    stack: &mut Vec<&'a MPat>,
-    x: VarNo,
-    pat: &'a MPat,
-) -> Result<bool, AllocError>
+fn is_fresh_at<'a>(stack: &mut Vec<&'a MPat>, x: VarNo, pat: &'a MPat) -> Result<bool, AllocError>
     ensures { IfOk result (λ going. IsLeft x.0 (fresh x.0 pat.now) (forms_in pat.now) stack.old.items stack.new.items going) }
 {
     match pat.form() {

@@ -55,4 +55,3 @@ pub(crate) fn put_word<'a>(stack: &mut Vec<Work<'a>>, word: Word) -> Result<(), 
     stack.push(Work::One(word))?;
     Ok(())
 }
-

@@ -226,10 +226,15 @@ pub(crate) fn expand_substituted<'a>(
         MForm::Ev(p) => put_one(stack, x, u, p, made, "su.ev"),
         MForm::At(p, s) => put_sorted(stack, x, u, p, *s, made, "su.at"),
         MForm::Fun(p, s) => put_sorted(stack, x, u, p, *s, made, "su.fun"),
-        MForm::Ex(y, s, p) => put_substituted_quantified(stack, x, u, *y, *s, p, pat, made, "su.ex"),
-        MForm::All(y, s, p) => put_substituted_quantified(stack, x, u, *y, *s, p, pat, made, "su.all"),
+        MForm::Ex(y, s, p) => put_substituted_quantified(
+            stack, x, u, *y, *s, p, pat, made, "su.ex",
+        ),
+        MForm::All(y, s, p) => put_substituted_quantified(
+            stack, x, u, *y, *s, p, pat, made, "su.all",
+        ),
         MForm::Var(y) => put_variable(stack, x, u, *y, pat),
-        MForm::Bot | MForm::Top | MForm::Meta(_) | MForm::Const(_) => expand_unchanged(stack, x, u, pat),
+        MForm::Bot | MForm::Top | MForm::Meta(_) | MForm::Const(_) => expand_unchanged(
+            stack, x, u, pat,
+        ),
     }
 }
-

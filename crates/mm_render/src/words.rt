@@ -61,12 +61,7 @@ pub(crate) fn push_words(
     Ok(())
 }
 
-fn push_token(
-    to: &mut Vec<u8>,
-    names: &Names,
-    serial: u64,
-    word: Word,
-) -> Result<(), AllocError>
+fn push_token(to: &mut Vec<u8>, names: &Names, serial: u64, word: Word) -> Result<(), AllocError>
     ensures { OnOk result (to.new.items ≡ to.old.items ++ word_token names.now serial word) }
 {
     match word {
