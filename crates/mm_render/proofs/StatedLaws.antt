@@ -4,6 +4,7 @@ use Rattle.std.proofs.Math.Path.{fun_ext}
 use Rattle.std.specs.Prelude.{◌==◌, ◌&&◌, ◌||◌, not, if◌then◌else◌, codes, bytes_eq, flat_map, slice_index_or, IsTrue, Contains}
 use Rattle.std.specs.List.{list_any, list_all}
 use Rattle.std.proofs.lemmas.Bool.{false≢true}
+use Rattle.std.proofs.lemmas.List.Elements.{at_from_Contains}
 use Rattle.std.proofs.lemmas.Slice.Eq.{bytes_eq-Decides}
 use Rattle.mm_text.specs.Bytes.{Token, has_token}
 use Rattle.mm_text.specs.Labels.{is_label}
@@ -278,3 +279,164 @@ closed_may_be_stated declared stated c p w few closed =
       clean_label = labels_clean (statement_label (length stated) ∷ []) (both_true (is_label (statement_label (length stated))) true spelt refl);
       clean = text_clean declared p w.names closed;
     }
+
+-- the tokens of a statement
+
+ends_last : (ts : List Token) → list_all (λ t. not (ends_statement t)) ts ≡ true → ends_once (ts ++ codes "$." ∷ []) ≡ true
+ends_last [] h = refl
+ends_last (t ∷ []) h = go (ends_statement t) h
+  where
+    go : (b : Bool) → (not b && true) ≡ true → (not b && true) ≡ true
+    go b k = k
+ends_last (t ∷ (u ∷ ts)) h = go (ends_statement t) h (ends_last (u ∷ ts))
+  where
+    go : (b : Bool) → (not b && list_all (λ v. not (ends_statement v)) (u ∷ ts)) ≡ true → (list_all (λ v. not (ends_statement v)) (u ∷ ts) ≡ true → ends_once ((u ∷ ts) ++ codes "$." ∷ []) ≡ true) → (not b && ends_once ((u ∷ ts) ++ codes "$." ∷ [])) ≡ true
+    go true all behind = absurd (false≢true all)
+    go false all behind = behind all
+
+axiom_one : (k : ℕ) (symbols : List Token) → list_all (λ t. not (ends_statement t)) symbols ≡ true → is_one_statement (plain_tokens (statement_label k ∷ []) asserts symbols) ≡ true
+axiom_one k symbols h = ends_last (codes "$a" ∷ symbols) h
+
+theorem_one : (k : ℕ) (symbols proof : List Token) → list_all (λ t. not (ends_statement t)) symbols ≡ true → list_all (λ t. not (ends_statement t)) proof ≡ true → is_one_statement (proof_tokens (statement_label k ∷ []) symbols proof) ≡ true
+theorem_one k symbols proof h g =
+    ap (λ (ts : List Token). ends_once (codes "$p" ∷ ts)) (sym (append_assoc symbols (codes "$=" ∷ proof) (codes "$." ∷ [])))
+    ∙ ends_last (codes "$p" ∷ (symbols ++ codes "$=" ∷ proof)) (list_all-append (λ t. not (ends_statement t)) symbols (codes "$=" ∷ proof) h g)
+
+axiom_plain : (l : Token) (symbols : List Token) → is_plain_token l ≡ true → list_all is_plain_token symbols ≡ true → list_all is_plain_token (plain_tokens (l ∷ []) asserts symbols) ≡ true
+axiom_plain l symbols h g = both_true (is_plain_token l) _ h (list_all-append is_plain_token symbols (codes "$." ∷ []) g refl)
+
+theorem_plain : (l : Token) (symbols proof : List Token) → is_plain_token l ≡ true → list_all is_plain_token symbols ≡ true → list_all is_plain_token proof ≡ true → list_all is_plain_token (proof_tokens (l ∷ []) symbols proof) ≡ true
+theorem_plain l symbols proof h g f =
+    both_true (is_plain_token l) _ h (list_all-append is_plain_token symbols (codes "$=" ∷ (proof ++ codes "$." ∷ [])) g (list_all-append is_plain_token proof (codes "$." ∷ []) f refl))
+
+-- what holds behind a statement
+
+abbrev with_statement : Context → ℕ → List Token → Context
+with_statement c k symbols = with_declared c (statement_label k ∷ []) asserts symbols
+
+header_no_statement : (k : ℕ) → header_context.frames (statement_label k) ≡ None
+unfolding header_context header_rows
+header_no_statement k = refl
+
+row_differs : (label : Token) (f : Frame) (k : ℕ) → header_context.frames label ≡ Some f → bytes_eq label (statement_label k) ≡ false
+row_differs label f k h = go (bytes_eq label (statement_label k)) refl
+  where
+    go : (b : Bool) → bytes_eq label (statement_label k) ≡ b → bytes_eq label (statement_label k) ≡ false
+    go true is = absurd (let never : Some f ≡ None = sym h ∙ ap header_context.frames ((bytes_eq-Decides label (statement_label k)).0 is) ∙ header_no_statement k in let z : ⊥ = cc in z)
+    go false is = is
+
+if_false : {A : Type 0} (b : Bool) (x y : A) → b ≡ false → (if b then x else y) ≡ y
+if_false b x y h = rw h refl
+
+if_true : {A : Type 0} (b : Bool) (x y : A) → b ≡ true → (if b then x else y) ≡ x
+if_true b x y h = rw h refl
+
+base_holds : (declared : List Token) (c : Context) (k : ℕ) (symbols : List Token) → Holds declared c → Holds declared (with_statement c k symbols)
+base_holds declared c k symbols w = record {
+  rows = λ label f h. if_false (bytes_eq label (statement_label k)) _ (c.frames label) (row_differs label f k h) ∙ w.rows label f h;
+  scope = w.scope;
+  variables = w.variables;
+  constants = w.constants;
+  frames = λ i lt. w.frames i lt;
+  free = λ i le lt. both_false (c.labels (name_label i)) false (w.free i le lt) refl;
+  no_label = λ t h. both_false (c.labels t) (bytes_eq t (statement_label k)) (w.no_label t h) (name_no_statement t k h);
+}
+
+last_item : (xs : List Pattern) (x : Pattern) (k : ℕ) (q : Pattern) → slice_get (xs ++ x ∷ []) k ≡ Some q → ((slice_get xs k ≡ Some q) × (k < length xs)) ⊎ ((k ≡ length xs) × (x ≡ q))
+last_item [] x zero q h = inr (refl, (let same : x ≡ q = cc in same))
+last_item [] x (suc k) q h = absurd (no_item k q h)
+last_item (y ∷ xs) x zero q h = inl (h, omega arith)
+last_item (y ∷ xs) x (suc k) q h = go (last_item xs x k q h)
+  where
+    go : ((slice_get xs k ≡ Some q) × (k < length xs)) ⊎ ((k ≡ length xs) × (x ≡ q)) → ((slice_get xs k ≡ Some q) × (suc k < suc (length xs))) ⊎ ((suc k ≡ suc (length xs)) × (x ≡ q))
+    go (inl w) = inl (w.0, omega (arith, w.1))
+    go (inr w) = inr (ap suc w.0, w.1)
+
+closed_last : (declared : List Token) (stated : List Pattern) (p : Pattern) → AreClosedOver declared stated → EachLeaf (closed_over declared) p → AreClosedOver declared (stated ++ p ∷ [])
+closed_last declared [] p all h = (h, tt)
+closed_last declared (q ∷ stated) p all h = (all.0, closed_last declared stated p all.1 h)
+
+stated_holds : (declared : List Token) (stated : List Pattern) (c : Context) (p : Pattern) → HoldsStated declared stated c → length stated < 2 ^ 64 → EachLeaf (closed_over declared) p
+    → HoldsStated declared (stated ++ p ∷ []) (with_statement c (length stated) (holds_text (own_naming declared) p))
+stated_holds declared stated c p w few closed = record {
+  base = base_holds declared c (length stated) (holds_text (own_naming declared) p) w.base;
+  names = w.names;
+  closed = closed_last declared stated p w.closed closed;
+  frames = λ k q h. frame_at k q (last_item stated p k q h);
+  free = λ k le lt. both_false (c.labels (statement_label k)) (bytes_eq (statement_label k) (statement_label (length stated))) (w.free k (omega (arith, le, length-append stated (p ∷ []))) lt)
+      (statement_label-differs k (length stated) lt few (λ same. absurd (omega (arith, le, same, length-append stated (p ∷ [])))));
+  spelt = λ label f h. spelt_at label f (bytes_eq label (statement_label (length stated))) refl h;
+}
+  where
+    made : frame_of c.scope (statement_label (length stated)) (holds_text (own_naming declared) p) ≡ stated_frame declared (length stated) p
+    made = ap (λ (s : Scope). frame_of s (statement_label (length stated)) (holds_text (own_naming declared) p)) w.base.scope ∙ header_frame (statement_label (length stated)) (holds_text (own_naming declared) p) (all_unneeded declared p w.names closed)
+
+    frame_at : (k : ℕ) (q : Pattern) → ((slice_get stated k ≡ Some q) × (k < length stated)) ⊎ ((k ≡ length stated) × (p ≡ q)) → (with_statement c (length stated) (holds_text (own_naming declared) p)).frames (statement_label k) ≡ Some (stated_frame declared k q)
+    frame_at k q (inl h) =
+        if_false (bytes_eq (statement_label k) (statement_label (length stated))) _ (c.frames (statement_label k)) (statement_label-differs k (length stated) (omega (arith, h.1, few)) few (λ same. absurd (omega (arith, h.1, same)))) ∙ w.frames k q h.0
+    frame_at k q (inr h) =
+        subst (λ (j : ℕ). (with_statement c (length stated) (holds_text (own_naming declared) p)).frames (statement_label j) ≡ Some (stated_frame declared j q)) (sym h.0)
+        (if_true (bytes_eq (statement_label (length stated)) (statement_label (length stated))) _ _ (itself (statement_label (length stated))) ∙ ap Some made ∙ ap (λ (r : Pattern). Some (stated_frame declared (length stated) r)) h.1)
+
+    spelt_at : (label : Token) (f : Frame) (b : Bool) → bytes_eq label (statement_label (length stated)) ≡ b → (if b then Some (frame_of c.scope (statement_label (length stated)) (holds_text (own_naming declared) p)) else c.frames label) ≡ Some f → is_label label ≡ true
+    spelt_at label f true is h = ap is_label ((bytes_eq-Decides label (statement_label (length stated))).0 is) ∙ statement_label-is_label (length stated) few
+    spelt_at label f false is h = w.spelt label f h
+
+-- an axiom
+
+adds_axiom : (declared : List Token) (stated : List Pattern) (c : Context) (at : ℕ) (p : Pattern) → HoldsStated declared stated c → length stated < 2 ^ 64 → EachLeaf (closed_over declared) p
+    → Adds c at (axiom_statement declared (length stated) p ∷ []) (with_statement c (length stated) (holds_text (own_naming declared) p))
+adds_axiom declared stated c at p w few closed =
+    let may : MayBeStated c (statement_label (length stated)) (codes "|-") (text_by (letters_of (own_naming declared)) p) = closed_may_be_stated declared stated c p w few closed in
+    let label : LabelFacts (statement_label (length stated)) = label_facts (statement_label (length stated)) (statement_label-is_label (length stated) few) in
+    (axiom_plain (statement_label (length stated)) (holds_text (own_naming declared) p) label.plain (text_plain declared p w.names closed),
+    axiom_one (length stated) (holds_text (own_naming declared) p) (text_goes_on declared p w.names closed),
+    axiom_is_fine c (statement_label (length stated)) (codes "|-") (text_by (letters_of (own_naming declared)) p) may,
+    sym (ap (after_form c at) (plain_tokens_say (statement_label (length stated) ∷ []) asserts (codes "|-") (text_by (letters_of (own_naming declared)) p) may.clean_label may.clean refl)))
+
+pub axiom_fits : AxiomFits
+axiom_fits declared stated bytes p (c, leaves, w) few closed =
+    (with_statement c (length stated) (holds_text (own_naming declared) p),
+    continued_leaves bytes c (with_statement c (length stated) (holds_text (own_naming declared) p)) (axiom_statement declared (length stated) p ∷ []) leaves (adds_axiom declared stated c (length bytes) p w few closed) leaves.closed,
+    stated_holds declared stated c p w few closed)
+
+-- a theorem
+
+adds_theorem : (declared : List Token) (stated : List Pattern) (c : Context) (at : ℕ) (p : Pattern) (tree : ProofTree) → HoldsStated declared stated c → length stated < 2 ^ 64 → EachLeaf (closed_over declared) p
+    → Proves c tree (holds_text (own_naming declared) p)
+    → Adds c at (theorem_statement declared (length stated) p tree ∷ []) (with_statement c (length stated) (holds_text (own_naming declared) p))
+adds_theorem declared stated c at p tree w few closed proof =
+    let may : MayBeStated c (statement_label (length stated)) (codes "|-") (text_by (letters_of (own_naming declared)) p) = closed_may_be_stated declared stated c p w few closed in
+    let label : LabelFacts (statement_label (length stated)) = label_facts (statement_label (length stated)) (statement_label-is_label (length stated) few) in
+    let spelt : list_all is_label (postorder tree) ≡ true = postorder_spelt c tree (holds_text (own_naming declared) p) w.base.scope w.spelt proof in
+    (theorem_plain (statement_label (length stated)) (holds_text (own_naming declared) p) (postorder tree) label.plain (text_plain declared p w.names closed) (labels_plain (postorder tree) spelt),
+    theorem_one (length stated) (holds_text (own_naming declared) p) (postorder tree) (text_goes_on declared p w.names closed) (labels_go_on (postorder tree) spelt),
+    theorem_is_fine c (statement_label (length stated)) (codes "|-") (text_by (letters_of (own_naming declared)) p) tree may proof (labels_clean (postorder tree) spelt) (labels_uncompressed (postorder tree) spelt),
+    sym (ap (after_form c at) (proof_tokens_say (statement_label (length stated) ∷ []) (holds_text (own_naming declared) p) (postorder tree) may.clean_label may.clean (labels_clean (postorder tree) spelt))))
+
+unchanged_text : (tokens : List Token) → flat_map (λ t. t ∷ []) tokens ≡ tokens
+unchanged_text [] = refl
+unchanged_text (t ∷ tokens) = ap (λ (ts : List Token). t ∷ ts) (unchanged_text tokens)
+
+cited_proves : (declared : List Token) (stated : List Pattern) (c : Context) (k : ℕ) (p : Pattern) → HoldsStated declared stated c → slice_get stated k ≡ Some p → Proves c (cite (statement_label k) []) (holds_text (own_naming declared) p)
+cited_proves declared stated c k p w there =
+    ([], leads-by c (statement_label k) (stated_frame declared k p) [] (holds_text (own_naming declared) p) (assertion_at declared c (statement_label k) (stated_frame declared k p) w.base (statement_no_active k) (w.frames k p there)) refl refl (unchanged_text (holds_text (own_naming declared) p)), refl)
+
+closed_sound : (declared : List Token) (stated : List Pattern) (c : Context) (k : Cites) (place : Pattern → ℕ) → HoldsStated declared stated c → ArePlaced stated k place → AreSound c (own_naming declared) [] k (closed_citing place)
+closed_sound declared stated c k place w placed = record {
+  premise = λ p none. absurd (no_premise p none);
+  fact = λ p cites. cited_proves declared stated c (place p) p w (placed.fact p cites);
+  lemma = λ own q ms trees cites closed all. subst (λ (r : Pattern). Proves c (cite (statement_label (place q)) []) (holds_text (own_naming declared) r)) (sym (instance-without ms q (placed.closed own q cites)))
+      (cited_proves declared stated c (place q) q w (placed.lemma own q cites));
+}
+  where
+    no_premise : (p : Pattern) → Contains [] p → ⊥
+    no_premise p h = absurd (omega (arith, (at_from_Contains [] p h).1))
+
+pub theorem_fits : TheoremFits
+theorem_fits declared stated bytes q d k place (c, leaves, w) few closed concludes used placed only =
+    let tree : ProofTree = derivation_tree (own_labels (length stated)) (closed_citing place) d in
+    let proof : Proves c tree (holds_text (own_naming declared) q) = derivation_proves c (own_labels (length stated)) (own_naming declared) (closed_over declared) [] k (closed_citing place) (serves_closed declared c (length stated) w.base w.names) (closed_sound declared stated c k place w placed) d q concludes used only in
+    (with_statement c (length stated) (holds_text (own_naming declared) q),
+    continued_leaves bytes c (with_statement c (length stated) (holds_text (own_naming declared) q)) (theorem_statement declared (length stated) q tree ∷ []) leaves (adds_theorem declared stated c (length bytes) q tree w few closed proof) leaves.closed,
+    stated_holds declared stated c q w few closed)
