@@ -72,10 +72,10 @@ begun_fits names bytes empty = subst (λ (text : List ℕ). FitsWhen true [] (te
 -- one declaration
 
 -- the context behind a constant and its `$a`
-abbrev with_constant : Context → Token → Context
+abbrev pub with_constant : Context → Token → Context
 with_constant c t = with_declared c [] declares_constants (t ∷ [])
 
-abbrev with_name : Context → ℕ → Token → Context
+abbrev pub with_name : Context → ℕ → Token → Context
 with_name c i t = with_declared (with_constant c t) (name_label i ∷ []) asserts (typecode_of t ∷ (t ∷ []))
 
 clean_one : (t : Token) → has_dollar t ≡ false → list_all (λ u. not (has_dollar u)) (t ∷ []) ≡ true
@@ -120,7 +120,7 @@ has_token-append (x ∷ xs) ys t = ap (λ (b : Bool). bytes_eq x t || b) (has_to
     or_assoc true b c = refl
     or_assoc false b c = refl
 
-name_of-front : (xs ys : List Token) (i : ℕ) → i < length xs → name_of (xs ++ ys) i ≡ name_of xs i
+pub name_of-front : (xs ys : List Token) (i : ℕ) → i < length xs → name_of (xs ++ ys) i ≡ name_of xs i
 name_of-front [] ys i lt = absurd (omega (arith, lt))
 name_of-front (x ∷ xs) ys zero lt = refl
 name_of-front (x ∷ xs) ys (suc i) lt = name_of-front xs ys i (omega (arith, lt))
@@ -214,7 +214,7 @@ if_true b x y h = rw h refl
 below_or_last : (i n : ℕ) → i < n + 1 → (i < n) ⊎ (i ≡ n)
 below_or_last i n lt = grind (arith, lt)
 
-name_holds : (done : List Token) (c : Context) (t : Token) → Holds done c → IsNew done t → Holds (done ++ t ∷ []) (with_name c (length done) t)
+pub name_holds : (done : List Token) (c : Context) (t : Token) → Holds done c → IsNew done t → Holds (done ++ t ∷ []) (with_name c (length done) t)
 name_holds done c t w new = record {
   rows = λ label f h. if_false (bytes_eq label (name_label (length done))) _ (c.frames label) (row_is_other label f (length done) h) ∙ w.rows label f h;
   scope = w.scope;
@@ -243,7 +243,7 @@ name_holds done c t w new = record {
 
 -- all declarations
 
-none_has : (done more : List Token) (t : Token) → AreDistinct (done ++ t ∷ more) → has_token done t ≡ false
+pub none_has : (done more : List Token) (t : Token) → AreDistinct (done ++ t ∷ more) → has_token done t ≡ false
 none_has [] more t h = refl
 none_has (x ∷ done) more t h =
     let here : bytes_eq x t ≡ false = other x (done ++ t ∷ more) h.0 (is_there done) in
@@ -267,26 +267,24 @@ none_has (x ∷ done) more t h =
         go true is true found there behind = absurd (none.0 ((bytes_eq-Decides x t).0 is ∙ sym ((bytes_eq-Decides y t).0 found)))
         go true is false found there behind = behind there
 
-AreNames-front : (xs ys : List Token) → AreNames (xs ++ ys) → AreNames xs
+pub AreNames-front : (xs ys : List Token) → AreNames (xs ++ ys) → AreNames xs
 AreNames-front [] ys h = tt
 AreNames-front (x ∷ xs) ys h = (h.0, AreNames-front xs ys h.1)
 
-AreNames-next : (xs : List Token) (t : Token) (ys : List Token) → AreNames (xs ++ t ∷ ys) → IsName t
+pub AreNames-next : (xs : List Token) (t : Token) (ys : List Token) → AreNames (xs ++ t ∷ ys) → IsName t
 AreNames-next [] t ys h = h.0
 AreNames-next (x ∷ xs) t ys h = AreNames-next xs t ys h.1
 
 -- the context behind the declarations of some names
-behind_names : Context → ℕ → List Token → Context
+abbrev pub behind_names : Context → ℕ → List Token → Context
 behind_names c i [] = c
 behind_names c i (t ∷ ts) = behind_names (with_name c i t) (i + 1) ts
 
-closed_names : (c : Context) (i : ℕ) (ts : List Token) → (behind_names c i ts).blocks ≡ c.blocks
-unfolding behind_names
+pub closed_names : (c : Context) (i : ℕ) (ts : List Token) → (behind_names c i ts).blocks ≡ c.blocks
 closed_names c i [] = refl
 closed_names c i (t ∷ ts) = closed_names (with_name c i t) (i + 1) ts
 
-names_hold : (done more : List Token) (c : Context) → Holds done c → AreNames (done ++ more) → AreDistinct (done ++ more) → length (done ++ more) < 2 ^ 64 → Holds (done ++ more) (behind_names c (length done) more)
-unfolding behind_names
+pub names_hold : (done more : List Token) (c : Context) → Holds done c → AreNames (done ++ more) → AreDistinct (done ++ more) → length (done ++ more) < 2 ^ 64 → Holds (done ++ more) (behind_names c (length done) more)
 names_hold done [] c w names distinct few = subst (λ (ts : List Token). Holds ts c) (sym (append-nil done)) w
 names_hold done (t ∷ more) c w names distinct few =
     let new : IsNew done t = record { name = AreNames-next done t more names; other = none_has done more t distinct; names = AreNames-front done (t ∷ more) names; few = omega (arith, few, length-append done (t ∷ more)) } in
@@ -295,8 +293,7 @@ names_hold done (t ∷ more) c w names distinct few =
     let rest : Holds ((done ++ t ∷ []) ++ more) (behind_names (with_name c (length done) t) (length (done ++ t ∷ [])) more) = names_hold (done ++ t ∷ []) more (with_name c (length done) t) (name_holds done c t w new) (subst AreNames (sym same) names) (subst AreDistinct (sym same) distinct) (subst (λ (ts : List Token). length ts < 2 ^ 64) (sym same) few) in
     subst (λ (ts : List Token). Holds ts (behind_names (with_name c (length done) t) (length done + 1) more)) same (subst (λ (n : ℕ). Holds ((done ++ t ∷ []) ++ more) (behind_names (with_name c (length done) t) n more)) count rest)
 
-adds_names : (done more : List Token) (c : Context) (at : ℕ) → Holds done c → c.blocks ≡ [] → AreNames (done ++ more) → AreDistinct (done ++ more) → length (done ++ more) < 2 ^ 64 → Adds c at (all_name_statements (length done) more) (behind_names c (length done) more)
-unfolding behind_names
+pub adds_names : (done more : List Token) (c : Context) (at : ℕ) → Holds done c → c.blocks ≡ [] → AreNames (done ++ more) → AreDistinct (done ++ more) → length (done ++ more) < 2 ^ 64 → Adds c at (all_name_statements (length done) more) (behind_names c (length done) more)
 adds_names done [] c at w closed names distinct few = refl
 adds_names done (t ∷ more) c at w closed names distinct few =
     let new : IsNew done t = record { name = AreNames-next done t more names; other = none_has done more t distinct; names = AreNames-front done (t ∷ more) names; few = omega (arith, few, length-append done (t ∷ more)) } in
@@ -306,16 +303,16 @@ adds_names done (t ∷ more) c at w closed names distinct few =
     (λ at'. subst (λ (n : ℕ). Adds (with_name c (length done) t) at' (all_name_statements n more) (behind_names (with_name c (length done) t) n more)) count
     (adds_names (done ++ t ∷ []) more (with_name c (length done) t) at' (name_holds done c t w new) closed (subst AreNames (sym same) names) (subst AreDistinct (sym same) distinct) (subst (λ (ts : List Token). length ts < 2 ^ 64) (sym same) few)))
 
-take-all : (ts : List Token) → take (length ts) ts ≡ ts
+pub take-all : (ts : List Token) → take (length ts) ts ≡ ts
 take-all [] = refl
 take-all (t ∷ ts) = ap (λ us. t ∷ us) (take-all ts)
 
-take-drop : (n : ℕ) (ts : List Token) → take n ts ++ drop n ts ≡ ts
+pub take-drop : (n : ℕ) (ts : List Token) → take n ts ++ drop n ts ≡ ts
 take-drop zero ts = refl
 take-drop (suc n) [] = refl
 take-drop (suc n) (t ∷ ts) = ap (λ us. t ∷ us) (take-drop n ts)
 
-length-front : (n : ℕ) (ts : List Token) → n ≤ length ts → length (take n ts) ≡ n
+pub length-front : (n : ℕ) (ts : List Token) → n ≤ length ts → length (take n ts) ≡ n
 length-front zero ts h = refl
 length-front (suc n) [] h = absurd (omega (arith, h))
 length-front (suc n) (t ∷ ts) h = ap suc (length-front n ts (omega (arith, h)))

@@ -19,3 +19,4 @@ pub mod FittingLaws
 pub mod AgreeLaws
 pub mod SpeltLaws
 pub mod StatedLaws
+pub mod NamedStatements

@@ -6,6 +6,7 @@ use Rattle.mm_frame.specs.Forms.{asserts}
 use Rattle.mm_frame.specs.Frames.{Frame}
 use Rattle.mm_frame.specs.Database.{Context}
 use Rattle.mm_frame.specs.Proofs.{ProofTree, postorder}
+use Rattle.mm_frame.specs.Validity.{IsValid}
 use Rattle.mm_frame.specs.Writing.{Leaves}
 use Rattle.mm_frame.specs.FrameLaws.{written_statements, plain_tokens, proof_tokens}
 use Rattle.mm_header.specs.HeaderText.{header_bytes}
@@ -75,9 +76,20 @@ pub record ArePlaced (stated : List Pattern) (k : Cites) (place : Pattern → �
   pub lemma : (own : List Pattern) (q : Pattern) → IsTrue (k.lemma own q) → slice_get stated (place q) ≡ Some q
   pub closed : (own : List Pattern) (q : Pattern) → IsTrue (k.lemma own q) → HasNoMeta q
 
+-- such a text is valid
+abbrev pub StatedIsValid : Type 0
+StatedIsValid = (declared : List Token) (stated : List Pattern) (bytes : List ℕ) → FitsStated declared stated bytes → IsValid bytes
+
 -- the header fits no names and no statements
 abbrev pub HeaderFitsStated : Type 0
 HeaderFitsStated = FitsStated [] [] header_bytes
+
+-- a text that fits, with the declarations of more names, fits these
+abbrev pub NamesFitStated : Type 0
+NamesFitStated =
+    (declared more : List Token) (stated : List Pattern) (bytes : List ℕ) → FitsStated declared stated bytes →
+    AreNames (declared ++ more) → AreDistinct (declared ++ more) → length (declared ++ more) < 2 ^ 64 →
+    FitsStated (declared ++ more) stated (bytes ++ written_statements (all_name_statements (length declared) more))
 
 -- a text that fits, with an axiom that is closed over its names, fits with one statement more
 abbrev pub AxiomFits : Type 0

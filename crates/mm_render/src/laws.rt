@@ -1,6 +1,7 @@
 // Laws on the definitions, and the definitions tried on small patterns.
 ghost use Rattle.mm_render.specs.Cases.{TriedCases};
 ghost use Rattle.mm_render.specs.Fitting.{BegunFits, DeclaredFits, EmptyFits};
+ghost use Rattle.mm_render.specs.Stating.{AxiomFits, HeaderFitsStated, NamesFitStated, StatedIsValid, TheoremFits};
 ghost use Rattle.mm_render.specs.RenderLaws.{DerivationsAreProved, FreshnessIsProved, PatternsParse, PredicatesAreProved, RulesAreProved, SubstitutionIsProved};
 
 /// The definitions say of small patterns what is written for them.
@@ -17,6 +18,17 @@ pub fn proof_laws()
     ensures predicate { PredicatesAreProved }
     ensures rules { RulesAreProved }
     ensures derivations { DerivationsAreProved }
+{}
+
+/// A text that has declared the header, some names and some closed statements is valid, and stays so with more names behind it,
+/// with a closed axiom, and with a closed theorem by a derivation that cites only what was stated before; it has then declared
+/// that besides.
+pub fn closed_laws()
+    ensures valid { StatedIsValid }
+    ensures header { HeaderFitsStated }
+    ensures names { NamesFitStated }
+    ensures axiomatic { AxiomFits }
+    ensures theorem { TheoremFits }
 {}
 
 /// A text that fits what a renderer keeps, with what `begin` or `declare` appends behind it, is valid and fits what is kept

@@ -11,7 +11,7 @@ mod substitution;
 mod words;
 mod works;
 
-pub use laws::{fitting_laws, proof_laws, tried};
+pub use laws::{closed_laws, fitting_laws, proof_laws, tried};
 pub use renderer::Renderer;
 
 #[cfg(test)]
