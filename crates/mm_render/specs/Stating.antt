@@ -6,6 +6,7 @@ use Rattle.mm_frame.specs.Forms.{asserts}
 use Rattle.mm_frame.specs.Frames.{Frame}
 use Rattle.mm_frame.specs.Database.{Context}
 use Rattle.mm_frame.specs.Proofs.{ProofTree, postorder}
+use Rattle.mm_frame.specs.Assertions.{Assertion, assertions_of}
 use Rattle.mm_frame.specs.Validity.{IsValid}
 use Rattle.mm_frame.specs.Writing.{Leaves}
 use Rattle.mm_frame.specs.FrameLaws.{written_statements, plain_tokens, proof_tokens}
@@ -105,3 +106,22 @@ TheoremFits =
     FitsStated declared stated bytes → length stated < 2 ^ 64 → EachLeaf (closed_over declared) q →
     Concludes [] d q → EachUsed (closed_over declared) d → ArePlaced stated k place → CitesOnly k d →
     FitsStated declared (stated ++ q ∷ []) (bytes ++ written_statements (theorem_statement declared (length stated) q (derivation_tree (own_labels (length stated)) (closed_citing place) d) ∷ []))
+
+-- what a closed statement is in a database: an axiom or a theorem, with its frame
+abbrev pub stated_assertion : Bool → List Token → ℕ → Pattern → Assertion
+stated_assertion proved declared k p = record { is_proved = proved; frame = stated_frame declared k p }
+
+-- The text with the axiom has the assertions that it had, and just this axiom.
+abbrev pub AxiomIsGained : Type 0
+AxiomIsGained =
+    (declared : List Token) (stated : List Pattern) (bytes : List ℕ) (p : Pattern) → FitsStated declared stated bytes →
+    length stated < 2 ^ 64 → EachLeaf (closed_over declared) p →
+    assertions_of (bytes ++ written_statements (axiom_statement declared (length stated) p ∷ [])) ≡ assertions_of bytes ++ stated_assertion false declared (length stated) p ∷ []
+
+-- And the text with the theorem has just this theorem more.
+abbrev pub TheoremIsGained : Type 0
+TheoremIsGained =
+    (declared : List Token) (stated : List Pattern) (bytes : List ℕ) (q : Pattern) (d : Derivation) (k : Cites) (place : Pattern → ℕ) →
+    FitsStated declared stated bytes → length stated < 2 ^ 64 → EachLeaf (closed_over declared) q →
+    Concludes [] d q → EachUsed (closed_over declared) d → ArePlaced stated k place → CitesOnly k d →
+    assertions_of (bytes ++ written_statements (theorem_statement declared (length stated) q (derivation_tree (own_labels (length stated)) (closed_citing place) d) ∷ [])) ≡ assertions_of bytes ++ stated_assertion true declared (length stated) q ∷ []

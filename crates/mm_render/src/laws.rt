@@ -1,7 +1,7 @@
 // Laws on the definitions, and the definitions tried on small patterns.
 ghost use Rattle.mm_render.specs.Cases.{TriedCases};
 ghost use Rattle.mm_render.specs.Fitting.{BegunFits, DeclaredFits, EmptyFits};
-ghost use Rattle.mm_render.specs.Stating.{AxiomFits, HeaderFitsStated, NamesFitStated, StatedIsValid, TheoremFits};
+ghost use Rattle.mm_render.specs.Stating.{AxiomFits, AxiomIsGained, HeaderFitsStated, NamesFitStated, StatedIsValid, TheoremFits, TheoremIsGained};
 ghost use Rattle.mm_render.specs.RenderLaws.{DerivationsAreProved, FreshnessIsProved, PatternsParse, PredicatesAreProved, RulesAreProved, SubstitutionIsProved};
 
 /// The definitions say of small patterns what is written for them.
@@ -21,14 +21,16 @@ pub fn proof_laws()
 {}
 
 /// A text that has declared the header, some names and some closed statements is valid, and stays so with more names behind it,
-/// with a closed axiom, and with a closed theorem by a derivation that cites only what was stated before; it has then declared
-/// that besides.
+/// with a closed axiom, and with a closed theorem by a derivation that cites only what was stated before; it has then
+/// declared that besides, and has gained just that assertion.
 pub fn closed_laws()
     ensures valid { StatedIsValid }
     ensures header { HeaderFitsStated }
     ensures names { NamesFitStated }
     ensures axiomatic { AxiomFits }
     ensures theorem { TheoremFits }
+    ensures gained { AxiomIsGained }
+    ensures proved { TheoremIsGained }
 {}
 
 /// A text that fits what a renderer keeps, with what `begin` or `declare` appends behind it, is valid and fits what is kept
