@@ -1,16 +1,16 @@
 -- Texts without a variable in common.
-use Rattle.std.proofs.Common.{◌≡◌, ℕ, Bool, true, false, List, [], ◌∷◌, ◌++◌, refl, ap, ◌∙◌, sym, eq-eqb, eqb-true}
+use Rattle.std.proofs.Common.{◌≡◌, ℕ, Bool, true, false, List, [], ◌∷◌, refl, ap, ◌∙◌, sym, eq-eqb, eqb-true}
 use Rattle.std.proofs.lemmas.Bool.{false≢true}
-use Rattle.std.specs.Prelude.{◌==◌, ◌&&◌, ◌||◌, not, map, codes, bytes_eq}
+use Rattle.std.specs.Prelude.{◌==◌, ◌&&◌, ◌||◌, not, map, bytes_eq}
 use Rattle.std.specs.List.{list_all}
 use Rattle.mm_text.specs.Bytes.{Token}
 use Rattle.mm_frame.specs.Database.{Context}
-use Rattle.mm_frame.specs.Proofs.{Expression, symbols_apart, texts_apart}
+use Rattle.mm_frame.specs.Proofs.{symbols_apart, texts_apart}
 use Rattle.ml_pat.specs.Patterns.{Pattern}
 use Rattle.mm_render.specs.Tokens.{Naming, letters_of, text_by}
 use Rattle.mm_render.specs.Leaves.{LeafFacts, EachLeaf}
 use Rattle.mm_render.specs.Serving.{Serves, punctuation}
-use Rattle.mm_render.proofs.LeafLaws.{Implies, EachLeaf-implied, tested_leaves, PassFixed, other_leaves, both_true, list_all-text}
+use Rattle.mm_render.proofs.LeafLaws.{EachLeaf-implied, tested_leaves, other_leaves, both_true, list_all-text}
 
 first_constant : (a b : Bool) (e s : Bool) → b ≡ false → (not (a && b) || (e && s)) ≡ true
 first_constant true b e s h = rw h refl

@@ -1,18 +1,17 @@
 -- What fits, with what `begin` and `declare` append.
-use Rattle.std.proofs.Common.{◌≡◌, ℕ, ◌+◌, ◌-◌, ◌<◌, ◌≤◌, ◌^◌, Bool, true, false, List, [], ◌∷◌, ◌++◌, length, take, drop, zero, suc, refl, ap, ◌∙◌, sym, subst, arith, append_assoc, append-nil, length-append, ◌⊎◌, inl, inr, Option, Some, None}
-use Rattle.std.proofs.Math.Path.{fun_ext}
-use Rattle.std.specs.Prelude.{◌&&◌, ◌||◌, not, if◌then◌else◌, codes, bytes_eq, IfSome}
-use Rattle.std.specs.List.{list_any, list_all}
+use Rattle.std.proofs.Common.{◌≡◌, ℕ, ◌+◌, ◌<◌, ◌≤◌, ◌^◌, Bool, true, false, List, [], ◌∷◌, ◌++◌, length, take, drop, zero, suc, refl, ap, ◌∙◌, sym, subst, arith, append_assoc, append-nil, length-append, ◌⊎◌, inl, inr, Option, Some, None}
+use Rattle.std.specs.Prelude.{◌||◌, not, if◌then◌else◌, bytes_eq, IfSome}
+use Rattle.std.specs.List.{list_all}
 use Rattle.std.proofs.lemmas.Bool.{false≢true}
 use Rattle.std.proofs.lemmas.Slice.Eq.{bytes_eq-Decides}
 use Rattle.mm_text.specs.Bytes.{Token, has_token}
-use Rattle.mm_text.specs.Statements.{statement, statements_of, ends_statement}
+use Rattle.mm_text.specs.Statements.{statement, ends_statement}
 use Rattle.mm_text.specs.TextLaws.{is_plain_token, is_one_statement, written}
 use Rattle.mm_frame.specs.Forms.{Form, declares_constants, asserts, plain, form_of, has_dollar}
 use Rattle.mm_frame.specs.Frames.{Frame, frame_of}
-use Rattle.mm_frame.specs.Database.{Context, Block, empty_context, context_after, after_form, with_declared, with_tokens, with_frame}
+use Rattle.mm_frame.specs.Database.{Context, context_after, after_form, with_declared}
 use Rattle.mm_frame.specs.Proofs.{IsProof}
-use Rattle.mm_frame.specs.Validity.{task, form_fault, is_typed, is_new_label, IsFine, AreFine}
+use Rattle.mm_frame.specs.Validity.{task, form_fault, is_new_label, IsFine}
 use Rattle.mm_frame.specs.FrameLaws.{Adds, written_statements, plain_tokens}
 use Rattle.mm_frame.specs.Writing.{Leaves, MayBeStated}
 use Rattle.mm_frame.proofs.WrittenForms.{plain_tokens_say}
@@ -22,13 +21,10 @@ use Rattle.mm_header.specs.HeaderText.{header_bytes}
 use Rattle.mm_header.specs.HeaderContext.{header_context, header_labels}
 use Rattle.mm_header.proofs.HeaderValid.{header_fine, header_ends}
 use Rattle.ml_pat.specs.Named.{AreDistinct, IsNoneOf}
-use Rattle.mm_render.specs.Kept.{Kept}
 use Rattle.mm_render.specs.Labels.{name_label}
-use Rattle.mm_render.specs.Serving.{closed_frame}
 use Rattle.mm_render.specs.Tokens.{name_of}
 use Rattle.mm_render.specs.Statements.{IsName, sort_name, symbol_name, value_name, kind_front, NameKind, typecode_of, name_statements, all_name_statements}
 use Rattle.mm_render.specs.Fitting.{AreNames, name_frame, Holds, FitsWhen, EmptyFits, BegunFits, DeclaredFits}
-use Rattle.mm_render.proofs.LeafLaws.{both_true}
 use Rattle.mm_render.proofs.NameLaws.{NameFacts, name_facts, name_label-is_label, name_label-plain, name_label-clean, name_label-differs, no_label_among}
 
 pub empty_fits : EmptyFits

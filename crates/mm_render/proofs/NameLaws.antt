@@ -1,22 +1,21 @@
 -- The tokens and labels of names.
-use Rattle.std.proofs.Common.{◌≡◌, ℕ, ◌+◌, ◌<◌, ◌≤◌, ◌^◌, Bool, true, false, List, [], ◌∷◌, ◌++◌, refl, ap, ◌∙◌, sym, subst, arith, rules}
-use Rattle.std.specs.Prelude.{◌&&◌, ◌||◌, ◌==◌, not, if◌then◌else◌, nat_le, nat_eq, codes, decimal, bytes_eq}
-use Rattle.std.specs.List.{list_all, list_any}
+use Rattle.std.proofs.Common.{◌≡◌, ℕ, ◌+◌, ◌<◌, ◌^◌, Bool, true, false, List, [], ◌∷◌, ◌++◌, refl, ap, sym, subst, arith}
+use Rattle.std.specs.Prelude.{◌==◌, if◌then◌else◌, codes, decimal, bytes_eq}
+use Rattle.std.specs.List.{list_all}
 use Rattle.std.proofs.lemmas.Bool.{false≢true}
 use Rattle.std.proofs.lemmas.Slice.Eq.{bytes_eq-Decides}
-use Rattle.mm_text.specs.Bytes.{Token, is_printable, is_white, class_of, is_printable_class, has_token}
+use Rattle.mm_text.specs.Bytes.{Token, is_printable, class_of, is_printable_class, has_token}
 use Rattle.mm_text.specs.Labels.{is_label_byte, is_label}
 use Rattle.mm_text.specs.TextLaws.{is_plain_token}
 use Rattle.mm_text.specs.Statements.{ends_statement}
 use Rattle.mm_frame.specs.Forms.{has_dollar}
-use Rattle.mm_frame.specs.Frames.{Frame, frame_of}
+use Rattle.mm_frame.specs.Frames.{frame_of}
 use Rattle.mm_header.specs.Header.{header_rows}
 use Rattle.mm_header.specs.HeaderContext.{header_context, header_labels}
 use Rattle.mm_render.specs.Labels.{name_label}
-use Rattle.mm_render.specs.Serving.{closed_frame}
 use Rattle.mm_render.specs.Statements.{NameKind, sort_name, symbol_name, value_name, kind_front, is_name_byte, IsName, typecode_of}
 use Rattle.mm_render.specs.Fitting.{name_frame, AreNames}
-use Rattle.mm_render.proofs.LeafLaws.{both_true, split_true, not_true}
+use Rattle.mm_render.proofs.LeafLaws.{both_true, split_true}
 use Rattle.mm_render.proofs.Decimals.{list_all-decimal, decimal-same}
 
 -- what is known of a name's token

@@ -1,24 +1,22 @@
 -- Declarations behind a text that states some closed statements.
-use Rattle.std.proofs.Common.{◌≡◌, ℕ, ◌+◌, ◌<◌, ◌≤◌, ◌^◌, Bool, true, false, List, [], ◌∷◌, ◌++◌, length, zero, suc, refl, ap, ◌∙◌, sym, subst, arith, append_assoc, append-nil, length-append, Option, Some, None, slice_get}
+use Rattle.std.proofs.Common.{◌≡◌, ℕ, ◌+◌, ◌<◌, ◌^◌, Bool, true, false, List, [], ◌∷◌, ◌++◌, length, zero, suc, refl, ap, ◌∙◌, sym, subst, arith, append_assoc, append-nil, length-append, Some, slice_get}
 use Rattle.std.specs.Prelude.{◌||◌, if◌then◌else◌, codes, bytes_eq}
 use Rattle.std.proofs.lemmas.Slice.Eq.{bytes_eq-Decides}
 use Rattle.mm_text.specs.Bytes.{Token}
 use Rattle.mm_text.specs.Labels.{is_label}
 use Rattle.mm_frame.specs.Frames.{Frame, frame_of}
 use Rattle.mm_frame.specs.Database.{Context}
-use Rattle.mm_frame.specs.FrameLaws.{Adds, written_statements}
-use Rattle.mm_frame.specs.Writing.{Leaves}
 use Rattle.mm_frame.proofs.Continued.{continued_leaves, leaves_is_valid}
 use Rattle.ml_pat.specs.Patterns.{Pattern}
 use Rattle.ml_pat.specs.Named.{AreDistinct}
 use Rattle.mm_render.specs.Labels.{name_label, statement_label}
-use Rattle.mm_render.specs.Leaves.{LeafFacts, EachLeaf}
+use Rattle.mm_render.specs.Leaves.{EachLeaf}
 use Rattle.mm_render.specs.Serving.{closed_frame}
-use Rattle.mm_render.specs.Tokens.{name_of, own_naming}
+use Rattle.mm_render.specs.Tokens.{own_naming}
 use Rattle.mm_render.specs.Derivations.{holds_text}
 use Rattle.mm_render.specs.Statements.{IsName, typecode_of, all_name_statements}
-use Rattle.mm_render.specs.Fitting.{AreNames, Holds}
-use Rattle.mm_render.specs.Stating.{closed_over, AreClosedOver, stated_frame, HoldsStated, FitsStated, NamesFitStated, StatedIsValid}
+use Rattle.mm_render.specs.Fitting.{AreNames}
+use Rattle.mm_render.specs.Stating.{closed_over, AreClosedOver, HoldsStated, NamesFitStated, StatedIsValid}
 use Rattle.mm_render.proofs.LeafLaws.{EachLeaf-implied}
 use Rattle.mm_render.proofs.AgreeLaws.{agreeing, text-agrees}
 use Rattle.mm_render.proofs.NameLaws.{name_label-is_label}
@@ -85,7 +83,8 @@ all_named_stated done (t ∷ more) stated c w names distinct few =
     subst (λ (ts : List Token). HoldsStated ts stated (behind_names (with_name c (length done) t) (length done + 1) more)) same (subst (λ (n : ℕ). HoldsStated ((done ++ t ∷ []) ++ more) stated (behind_names (with_name c (length done) t) n more)) count rest)
 
 pub names_fit_stated : NamesFitStated
-names_fit_stated declared more stated bytes (c, leaves, w) names distinct few =
-    (behind_names c (length declared) more,
-    continued_leaves bytes c (behind_names c (length declared) more) (all_name_statements (length declared) more) leaves (adds_names declared more c (length bytes) w.base leaves.closed names distinct few) (closed_names c (length declared) more ∙ leaves.closed),
-    all_named_stated declared more stated c w names distinct few)
+names_fit_stated declared more stated bytes (c, leaves, w) names distinct few = (
+  behind_names c (length declared) more,
+  continued_leaves bytes c (behind_names c (length declared) more) (all_name_statements (length declared) more) leaves (adds_names declared more c (length bytes) w.base leaves.closed names distinct few) (closed_names c (length declared) more ∙ leaves.closed),
+  all_named_stated declared more stated c w names distinct few,
+)

@@ -1,12 +1,12 @@
 -- The frames of the header's rows, as schemes over patterns.
 use Rattle.std.proofs.Common.{◌≡◌, ℕ, ◌+◌, List, [], ◌∷◌, ◌++◌, refl, Bool}
-use Rattle.std.specs.Prelude.{◌==◌, if◌then◌else◌, Option, Some, None, codes, false}
+use Rattle.std.specs.Prelude.{◌==◌, if◌then◌else◌, Some, codes, false}
 use Rattle.mm_text.specs.Bytes.{Token}
 use Rattle.mm_frame.specs.Frames.{Hypothesis, floating, essential, Frame}
 use Rattle.mm_header.specs.Header.{header_rows, rule_apart}
 use Rattle.mm_header.specs.HeaderContext.{header_context, header_labels, frame_of_row}
-use Rattle.ml_pat.specs.Patterns.{Pattern, bot, top, imp, not, and, or, equal, member, fun, ex, all, app, at_sort, next, ev, var, meta, constant}
-use Rattle.mm_render.specs.Tokens.{Naming, letters_of, Judgement, is_pattern, holds, is_fresh, is_substituted, is_predicate, judgement_by}
+use Rattle.ml_pat.specs.Patterns.{Pattern, bot, top, imp, not, and, or, equal, member, fun, ex, all, app, at_sort, next, ev, var, meta}
+use Rattle.mm_render.specs.Tokens.{Naming, letters_of, Judgement, is_pattern, is_fresh, is_substituted, is_predicate, judgement_by}
 
 -- the variables of the header: `p q r t u` are pattern variables, `x y` object variables and `s v` sorts
 abbrev pub header_naming : Naming

@@ -1,19 +1,14 @@
 -- A rule over proofs of what it concludes from proves what it concludes.
-use Rattle.std.proofs.Common.{◌≡◌, ℕ, Bool, true, false, List, [], ◌∷◌, ◌++◌, refl, ap, ◌∙◌, sym, Option, Some, None, subst, map}
-use Rattle.std.proofs.Common as std
-use Rattle.std.specs.Prelude.{◌==◌, ◌&&◌, ◌||◌, if◌then◌else◌, codes, option_map}
-use Rattle.std.proofs.lemmas.Bool.{false≢true}
-use Rattle.mm_text.specs.Bytes.{Token}
+use Rattle.std.proofs.Common.{ℕ, List, [], ◌∷◌, ◌++◌, refl, map}
+use Rattle.std.specs.Prelude.{codes}
 use Rattle.mm_frame.specs.Database.{Context}
-use Rattle.mm_frame.specs.Proofs.{Expression, ProofTree, Proves, symbols_apart, texts_apart}
-use Rattle.ml_pat.specs.Patterns.{Pattern, bot, top, imp, not, and, or, equal, member, fun, ex, all, app, at_sort, next, ev, var, meta, constant}
-use Rattle.ml_pat.specs.Judgements.{fresh, absent, substituted, predicate, both_parts, under_quantifier}
-use Rattle.mm_render.specs.Tokens.{Naming, letters_of, text_by, Judgement, is_pattern, is_fresh, is_substituted, is_predicate, holds, judgement_by}
-use Rattle.mm_render.specs.Leaves.{LeafFacts, EachLeaf}
-use Rattle.mm_render.specs.Serving.{Serves, Declares, Types, HasHeader}
-use Rattle.mm_render.specs.Trees.{cite, syntax_tree, fresh_tree, first_part, second_part, unchanged_tree, substitution_tree, predicate_tree, instance_tree, premise_trees, row_tree, trees_of}
-use Rattle.mm_render.proofs.Schemes.{under}
-use Rattle.mm_render.proofs.RowProofs.{sigma_of, row_proves}
+use Rattle.mm_frame.specs.Proofs.{ProofTree, Proves, texts_apart}
+use Rattle.ml_pat.specs.Patterns.{Pattern, bot, top, imp, not, and, or, equal, member, fun, ex, all, app, next, ev, var}
+use Rattle.mm_render.specs.Tokens.{Naming, letters_of, text_by, is_fresh, is_substituted, is_predicate, holds}
+use Rattle.mm_render.specs.Leaves.{LeafFacts}
+use Rattle.mm_render.specs.Serving.{Serves}
+use Rattle.mm_render.specs.Trees.{fresh_tree, instance_tree, premise_trees, row_tree, trees_of}
+use Rattle.mm_render.proofs.RowProofs.{row_proves}
 use Rattle.mm_render.proofs.SyntaxLaws.{pattern_text, sort_text, object_text, sort_proves, object_proves, syntax_proves}
 use Rattle.mm_frame.specs.Proofs.{AllProve}
 use Rattle.ml_kernel.specs.ProofRows.{Instance, pattern, variable, sort, ProofRow}
@@ -26,7 +21,7 @@ use Rattle.mm_render.proofs.ApartLaws.{text_apart, apart_text}
 use Rattle.mm_render.proofs.FreshLaws.{fresh_text, fresh_proves, two_apart}
 use Rattle.mm_render.proofs.PredicateLaws.{predicate_text, predicate_proves}
 use Rattle.mm_render.proofs.SubstitutionLaws.{substitution_text, substitution_proves}
-use Rattle.mm_render.proofs.Rows.{header_naming, no_pair, pair_of, P, Q, R, T, U, fp, fq, fr, ft, fu, fx, fy, fs, fv}
+use Rattle.mm_render.proofs.Rows.{no_pair, pair_of, P, Q, R, T, U, fp, fq, fr, ft, fu, fx, fy, fs, fv}
 use Rattle.mm_render.proofs.ProofRowFrames.{row_p_1, row_p_2, row_p_3, row_mp, row_not_1, row_not_2, row_and_1, row_and_2, row_and_3, row_or_1, row_or_2, row_or_3, row_top, row_inst, row_fun_ex, row_ex_el, row_eq_refl, row_eq_el, row_eq_in, row_mem_in, row_mem_no, row_apart, row_app_l, row_app_r, row_bot_l, row_bot_r, row_next_in, row_ev_1, row_ev_2, row_ev_kt}
 
 pub rule_proves : (c : Context) (l n : Naming) (known : LeafFacts) {k : ℕ} {is : List Instance} {ps : List Pattern} {q : Pattern} (trees : List ProofTree) → Serves c l n known → ProofRow k is ps q → EachInstance known is

@@ -1,24 +1,23 @@
 -- The labels of a proof are well spelt.
-use Rattle.std.proofs.Common.{◌≡◌, ℕ, ◌+◌, ◌<◌, ◌^◌, Bool, true, false, List, [], ◌∷◌, ◌++◌, refl, ap, ◌∙◌, sym, arith, map}
-use Rattle.std.specs.Prelude.{◌&&◌, ◌||◌, ◌==◌, not, if◌then◌else◌, codes, decimal, bytes_eq, Option, Some, None}
+use Rattle.std.proofs.Common.{◌≡◌, ℕ, ◌+◌, ◌<◌, ◌^◌, Bool, true, false, List, [], ◌∷◌, refl, ap, ◌∙◌, sym, arith, map}
+use Rattle.std.specs.Prelude.{◌||◌, ◌==◌, not, if◌then◌else◌, codes, bytes_eq, Some, None}
 use Rattle.std.specs.List.{list_all}
 use Rattle.std.proofs.lemmas.Bool.{false≢true}
 use Rattle.std.proofs.lemmas.Slice.Eq.{bytes_eq-Decides}
-use Rattle.mm_text.specs.Bytes.{Token, has_token, is_printable, class_of, is_printable_class}
+use Rattle.mm_text.specs.Bytes.{Token, has_token, class_of, is_printable_class}
 use Rattle.mm_text.specs.Labels.{is_label_byte, is_label}
 use Rattle.mm_text.specs.TextLaws.{is_plain_token}
 use Rattle.mm_text.specs.Statements.{ends_statement}
 use Rattle.mm_frame.specs.Forms.{has_dollar}
-use Rattle.mm_frame.specs.Frames.{Hypothesis, floating, essential, label_of, Frame}
+use Rattle.mm_frame.specs.Frames.{Hypothesis, label_of, Frame}
 use Rattle.mm_frame.specs.Database.{Context}
-use Rattle.mm_frame.specs.Proofs.{Expression, Leads, by_hypothesis, by_assertion, hypothesis_of, active_hypothesis, ProofTree, proof_node, ProofForest, no_proof, more_proofs, Proves, AllProve, postorder, all_postorder}
+use Rattle.mm_frame.specs.Proofs.{Expression, Leads, by_hypothesis, by_assertion, hypothesis_of, ProofTree, proof_node, ProofForest, no_proof, more_proofs, Proves, AllProve, postorder, all_postorder}
 use Rattle.mm_frame.specs.Writing.{begins_compressed}
 use Rattle.mm_header.specs.Header.{Row, header_rows}
-use Rattle.mm_header.specs.HeaderContext.{header_context, header_labels}
+use Rattle.mm_header.specs.HeaderContext.{header_context}
 use Rattle.mm_header.proofs.HeaderFrames.{header_only}
-use Rattle.mm_render.specs.Labels.{statement_label, name_label}
+use Rattle.mm_render.specs.Labels.{statement_label}
 use Rattle.mm_render.specs.Statements.{is_name_byte}
-use Rattle.mm_render.specs.Fitting.{Holds}
 use Rattle.mm_render.proofs.LeafLaws.{both_true, split_true, list_all-append}
 use Rattle.mm_render.proofs.NameLaws.{all_printing, no_dollars}
 use Rattle.mm_render.proofs.Decimals.{list_all-decimal, decimal-same}

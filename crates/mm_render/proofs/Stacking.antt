@@ -1,9 +1,9 @@
 -- Works on a stack.
-use Rattle.std.proofs.Common.{◌≡◌, ℕ, ◌+◌, ◌*◌, ◌<◌, ◌≤◌, List, [], ◌∷◌, ◌++◌, length, flat_map, refl, ap, ◌∙◌, sym, append_assoc, length-append, arith, suc, drop, get_or, drop-cons, Result, Ok, Err}
+use Rattle.std.proofs.Common.{◌≡◌, ℕ, ◌+◌, ◌*◌, ◌<◌, ◌≤◌, List, [], ◌∷◌, ◌++◌, length, refl, ap, ◌∙◌, sym, append_assoc, length-append, arith, suc, drop, get_or, drop-cons, Result, Ok, Err}
 use Rattle.std.specs.Prelude.{OnOk, ◌-◌}
 use Rattle.mm_text.specs.TextLaws.{written}
 use Rattle.mm_text.specs.Bytes.{Token}
-use Rattle.mm_render.specs.Writing.{word_token, work_tokens, all_tokens, stack_tokens, IsTaken, weight, stack_weight, PutsOn, PutsMore}
+use Rattle.mm_render.specs.Writing.{word_token, work_tokens, stack_tokens, IsTaken, weight, stack_weight, PutsOn, PutsMore}
 use Rattle.mm_render.specs.declared.words.Word.{Word}
 use Rattle.mm_render.specs.declared.works.Work.{Work}
 use Rattle.mm_render.specs.declared.works.Work.TheVariants as work

@@ -1,7 +1,7 @@
 -- Closed statements behind a text that fits.
-use Rattle.std.proofs.Common.{◌≡◌, ℕ, ◌+◌, ◌<◌, ◌≤◌, ◌^◌, Bool, true, false, List, [], ◌∷◌, ◌++◌, length, zero, suc, map, refl, ap, ◌∙◌, sym, subst, arith, append_assoc, length-append, ◌⊎◌, inl, inr, Option, Some, None, slice_get}
+use Rattle.std.proofs.Common.{◌≡◌, ℕ, ◌+◌, ◌<◌, ◌^◌, Bool, true, false, List, [], ◌∷◌, ◌++◌, length, zero, suc, map, refl, ap, ◌∙◌, sym, subst, arith, append_assoc, length-append, ◌⊎◌, inl, inr, Option, Some, None, slice_get}
 use Rattle.std.proofs.Math.Path.{fun_ext}
-use Rattle.std.specs.Prelude.{◌==◌, ◌&&◌, ◌||◌, not, if◌then◌else◌, codes, bytes_eq, flat_map, slice_index_or, IsTrue, Contains}
+use Rattle.std.specs.Prelude.{◌==◌, ◌&&◌, ◌||◌, not, if◌then◌else◌, codes, bytes_eq, flat_map, Contains}
 use Rattle.std.specs.List.{list_any, list_all}
 use Rattle.std.proofs.lemmas.Bool.{false≢true}
 use Rattle.std.proofs.lemmas.List.Elements.{at_from_Contains}
@@ -11,39 +11,35 @@ use Rattle.mm_text.specs.Labels.{is_label}
 use Rattle.mm_text.specs.Statements.{statement, ends_statement}
 use Rattle.mm_text.specs.TextLaws.{is_plain_token, is_one_statement, ends_once, written}
 use Rattle.mm_frame.specs.Forms.{Form, asserts, proves, plain, form_of, has_dollar}
-use Rattle.mm_frame.specs.Frames.{Hypothesis, floating, label_of, Frame, Scope, frame_of}
-use Rattle.mm_frame.specs.Database.{Context, context_after, after_form, with_declared}
-use Rattle.mm_frame.specs.Proofs.{Expression, substituted, active_hypothesis, hypothesis_of, ProofTree, Proves, postorder}
-use Rattle.mm_frame.specs.Validity.{is_typed, is_new_label, IsFine}
+use Rattle.mm_frame.specs.Frames.{Hypothesis, label_of, Frame, Scope, frame_of}
+use Rattle.mm_frame.specs.Database.{Context, after_form, with_declared}
+use Rattle.mm_frame.specs.Proofs.{hypothesis_of, ProofTree, Proves, postorder}
+use Rattle.mm_frame.specs.Validity.{is_typed}
 use Rattle.mm_frame.specs.FrameLaws.{Adds, written_statements, are_clean, plain_tokens, proof_tokens}
 use Rattle.mm_frame.specs.Writing.{Leaves, MayBeStated, AreUnneeded}
 use Rattle.mm_frame.proofs.WrittenForms.{plain_tokens_say, proof_tokens_say}
 use Rattle.mm_frame.proofs.Continued.{axiom_is_fine, theorem_is_fine, continued_leaves}
 use Rattle.mm_frame.proofs.ClosedFrames.{closed_has_none}
 use Rattle.mm_header.specs.Header.{header_rows}
-use Rattle.mm_header.specs.HeaderText.{header_bytes}
 use Rattle.mm_header.specs.HeaderContext.{header_context, header_labels}
 use Rattle.mm_header.proofs.HeaderValid.{header_fine, header_ends}
 use Rattle.ml_pat.specs.Patterns.{Pattern}
-use Rattle.ml_kernel.specs.Lemmas.{instance, instances, HasNoMeta}
-use Rattle.ml_kernel.specs.Theorems.{Derivation}
-use Rattle.ml_kernel.specs.Concluding.{Concludes}
 use Rattle.ml_kernel.proofs.InstanceLaws.{instance-without}
 use Rattle.mm_render.specs.Labels.{name_label, statement_label, own_labels}
-use Rattle.mm_render.specs.Leaves.{LeafFacts, EachLeaf}
-use Rattle.mm_render.specs.Serving.{IsAssertion, closed_frame, HasHeader, punctuation, Declares, Serves}
-use Rattle.mm_render.specs.Tokens.{Naming, letters_of, text_by, name_of, own_naming}
+use Rattle.mm_render.specs.Leaves.{EachLeaf}
+use Rattle.mm_render.specs.Serving.{IsAssertion, closed_frame, punctuation, Declares, Serves}
+use Rattle.mm_render.specs.Tokens.{letters_of, text_by, name_of, own_naming}
 use Rattle.mm_render.specs.Trees.{cite}
-use Rattle.mm_render.specs.Derivations.{holds_text, Citing, Cites, derivation_tree, EachUsed, CitesOnly, AreSound}
+use Rattle.mm_render.specs.Derivations.{holds_text, Cites, derivation_tree, AreSound}
 use Rattle.mm_render.specs.Statements.{NameKind, sort_name, symbol_name, value_name, kind_front, IsName, typecode_of}
-use Rattle.mm_render.specs.Fitting.{AreNames, name_frame, Holds}
+use Rattle.mm_render.specs.Fitting.{AreNames, Holds}
 use Rattle.mm_frame.specs.Assertions.{Assertion, assertions_in, assertions_of, form_assertion, with_assertion_first}
 use Rattle.mm_frame.proofs.Stated.{appended_states}
 use Rattle.mm_text.proofs.Writing.{written_statement}
-use Rattle.mm_text.specs.Statements.{Statements, no_statement, next_statement, statements_from}
-use Rattle.mm_render.specs.Stating.{stated_assertion, AxiomIsGained, TheoremIsGained, closed_over, AreClosedOver, stated_frame, HoldsStated, FitsStated, axiom_statement, theorem_statement, closed_citing, ArePlaced, HeaderFitsStated, AxiomFits, TheoremFits}
-use Rattle.mm_render.proofs.LeafLaws.{Implies, EachLeaf-implied, tested_leaves, PassFixed, both_true, list_all-append, list_all-text}
-use Rattle.mm_render.proofs.NameLaws.{NameFacts, name_facts, no_label_among}
+use Rattle.mm_text.specs.Statements.{Statements, next_statement, statements_from}
+use Rattle.mm_render.specs.Stating.{stated_assertion, AxiomIsGained, TheoremIsGained, closed_over, AreClosedOver, stated_frame, HoldsStated, axiom_statement, theorem_statement, closed_citing, ArePlaced, HeaderFitsStated, AxiomFits, TheoremFits}
+use Rattle.mm_render.proofs.LeafLaws.{EachLeaf-implied, tested_leaves, PassFixed, both_true, list_all-append, list_all-text}
+use Rattle.mm_render.proofs.NameLaws.{name_facts}
 use Rattle.mm_render.proofs.SpeltLaws.{LabelFacts, label_facts, header_spelt, postorder_spelt, labels_clean, labels_plain, labels_go_on, labels_uncompressed, statement_label-is_label, statement_label-differs}
 use Rattle.mm_render.proofs.Schemes.{leads-by}
 use Rattle.mm_render.proofs.DerivationProofs.{derivation_proves}
@@ -65,14 +61,18 @@ no_item : (k : ℕ) (p : Pattern) → slice_get [] k ≡ Some p → ⊥
 no_item k p h = cc
 
 pub header_fits_stated : HeaderFitsStated
-header_fits_stated = (header_context, record { white = header_ends; fine = header_fine; closed = header_closed }, record {
-  base = header_holds;
-  names = tt;
-  closed = tt;
-  frames = λ k p h. absurd (no_item k p h);
-  free = λ k le lt. header_statement_free k;
-  spelt = header_spelt;
-})
+header_fits_stated = (
+  header_context,
+  record { white = header_ends; fine = header_fine; closed = header_closed },
+  record {
+    base = header_holds;
+    names = tt;
+    closed = tt;
+    frames = λ k p h. absurd (no_item k p h);
+    free = λ k le lt. header_statement_free k;
+    spelt = header_spelt;
+  },
+)
 
 -- what proofs find there
 
@@ -235,9 +235,22 @@ unneeded declared p a names closed fixed turnstile =
 
 all_unneeded : (declared : List Token) (p : Pattern) → AreNames declared → EachLeaf (closed_over declared) p → AreUnneeded (holds_text (own_naming declared) p) header_context.scope.hypotheses
 unfolding header_context
-all_unneeded declared p names closed =
-    (unneeded declared p 112 names closed refl refl, (unneeded declared p 113 names closed refl refl, (unneeded declared p 114 names closed refl refl, (unneeded declared p 116 names closed refl refl, (unneeded declared p 117 names closed refl refl,
-    (unneeded declared p 120 names closed refl refl, (unneeded declared p 121 names closed refl refl, (unneeded declared p 115 names closed refl refl, (unneeded declared p 118 names closed refl refl, tt)))))))))
+all_unneeded declared p names closed = (
+  unneeded declared p 112 names closed refl refl,
+  (
+    unneeded declared p 113 names closed refl refl,
+    (
+      unneeded declared p 114 names closed refl refl,
+      (
+        unneeded declared p 116 names closed refl refl,
+        (
+          unneeded declared p 117 names closed refl refl,
+          (unneeded declared p 120 names closed refl refl, (unneeded declared p 121 names closed refl refl, (unneeded declared p 115 names closed refl refl, (unneeded declared p 118 names closed refl refl, tt)))),
+        ),
+      ),
+    ),
+  ),
+)
 
 header_frame : (label : Token) (symbols : List Token) → AreUnneeded symbols header_context.scope.hypotheses → frame_of header_context.scope label symbols ≡ closed_frame label symbols
 unfolding header_context
@@ -392,17 +405,19 @@ adds_axiom : (declared : List Token) (stated : List Pattern) (c : Context) (at :
     → Adds c at (axiom_statement declared (length stated) p ∷ []) (with_statement c (length stated) (holds_text (own_naming declared) p))
 adds_axiom declared stated c at p w few closed =
     let may : MayBeStated c (statement_label (length stated)) (codes "|-") (text_by (letters_of (own_naming declared)) p) = closed_may_be_stated declared stated c p w few closed in
-    let label : LabelFacts (statement_label (length stated)) = label_facts (statement_label (length stated)) (statement_label-is_label (length stated) few) in
-    (axiom_plain (statement_label (length stated)) (holds_text (own_naming declared) p) label.plain (text_plain declared p w.names closed),
-    axiom_one (length stated) (holds_text (own_naming declared) p) (text_goes_on declared p w.names closed),
-    axiom_is_fine c (statement_label (length stated)) (codes "|-") (text_by (letters_of (own_naming declared)) p) may,
-    sym (ap (after_form c at) (plain_tokens_say (statement_label (length stated) ∷ []) asserts (codes "|-") (text_by (letters_of (own_naming declared)) p) may.clean_label may.clean refl)))
+    let label : LabelFacts (statement_label (length stated)) = label_facts (statement_label (length stated)) (statement_label-is_label (length stated) few) in (
+      axiom_plain (statement_label (length stated)) (holds_text (own_naming declared) p) label.plain (text_plain declared p w.names closed),
+      axiom_one (length stated) (holds_text (own_naming declared) p) (text_goes_on declared p w.names closed),
+      axiom_is_fine c (statement_label (length stated)) (codes "|-") (text_by (letters_of (own_naming declared)) p) may,
+      sym (ap (after_form c at) (plain_tokens_say (statement_label (length stated) ∷ []) asserts (codes "|-") (text_by (letters_of (own_naming declared)) p) may.clean_label may.clean refl)),
+    )
 
 pub axiom_fits : AxiomFits
-axiom_fits declared stated bytes p (c, leaves, w) few closed =
-    (with_statement c (length stated) (holds_text (own_naming declared) p),
-    continued_leaves bytes c (with_statement c (length stated) (holds_text (own_naming declared) p)) (axiom_statement declared (length stated) p ∷ []) leaves (adds_axiom declared stated c (length bytes) p w few closed) leaves.closed,
-    stated_holds declared stated c p w few closed)
+axiom_fits declared stated bytes p (c, leaves, w) few closed = (
+  with_statement c (length stated) (holds_text (own_naming declared) p),
+  continued_leaves bytes c (with_statement c (length stated) (holds_text (own_naming declared) p)) (axiom_statement declared (length stated) p ∷ []) leaves (adds_axiom declared stated c (length bytes) p w few closed) leaves.closed,
+  stated_holds declared stated c p w few closed,
+)
 
 -- a theorem
 
@@ -412,11 +427,12 @@ adds_theorem : (declared : List Token) (stated : List Pattern) (c : Context) (at
 adds_theorem declared stated c at p tree w few closed proof =
     let may : MayBeStated c (statement_label (length stated)) (codes "|-") (text_by (letters_of (own_naming declared)) p) = closed_may_be_stated declared stated c p w few closed in
     let label : LabelFacts (statement_label (length stated)) = label_facts (statement_label (length stated)) (statement_label-is_label (length stated) few) in
-    let spelt : list_all is_label (postorder tree) ≡ true = postorder_spelt c tree (holds_text (own_naming declared) p) w.base.scope w.spelt proof in
-    (theorem_plain (statement_label (length stated)) (holds_text (own_naming declared) p) (postorder tree) label.plain (text_plain declared p w.names closed) (labels_plain (postorder tree) spelt),
-    theorem_one (length stated) (holds_text (own_naming declared) p) (postorder tree) (text_goes_on declared p w.names closed) (labels_go_on (postorder tree) spelt),
-    theorem_is_fine c (statement_label (length stated)) (codes "|-") (text_by (letters_of (own_naming declared)) p) tree may proof (labels_clean (postorder tree) spelt) (labels_uncompressed (postorder tree) spelt),
-    sym (ap (after_form c at) (proof_tokens_say (statement_label (length stated) ∷ []) (holds_text (own_naming declared) p) (postorder tree) may.clean_label may.clean (labels_clean (postorder tree) spelt))))
+    let spelt : list_all is_label (postorder tree) ≡ true = postorder_spelt c tree (holds_text (own_naming declared) p) w.base.scope w.spelt proof in (
+      theorem_plain (statement_label (length stated)) (holds_text (own_naming declared) p) (postorder tree) label.plain (text_plain declared p w.names closed) (labels_plain (postorder tree) spelt),
+      theorem_one (length stated) (holds_text (own_naming declared) p) (postorder tree) (text_goes_on declared p w.names closed) (labels_go_on (postorder tree) spelt),
+      theorem_is_fine c (statement_label (length stated)) (codes "|-") (text_by (letters_of (own_naming declared)) p) tree may proof (labels_clean (postorder tree) spelt) (labels_uncompressed (postorder tree) spelt),
+      sym (ap (after_form c at) (proof_tokens_say (statement_label (length stated) ∷ []) (holds_text (own_naming declared) p) (postorder tree) may.clean_label may.clean (labels_clean (postorder tree) spelt))),
+    )
 
 unchanged_text : (tokens : List Token) → flat_map (λ t. t ∷ []) tokens ≡ tokens
 unchanged_text [] = refl
@@ -440,10 +456,11 @@ closed_sound declared stated c k place w placed = record {
 pub theorem_fits : TheoremFits
 theorem_fits declared stated bytes q d k place (c, leaves, w) few closed concludes used placed only =
     let tree : ProofTree = derivation_tree (own_labels (length stated)) (closed_citing place) d in
-    let proof : Proves c tree (holds_text (own_naming declared) q) = derivation_proves c (own_labels (length stated)) (own_naming declared) (closed_over declared) [] k (closed_citing place) (serves_closed declared c (length stated) w.base w.names) (closed_sound declared stated c k place w placed) d q concludes used only in
-    (with_statement c (length stated) (holds_text (own_naming declared) q),
-    continued_leaves bytes c (with_statement c (length stated) (holds_text (own_naming declared) q)) (theorem_statement declared (length stated) q tree ∷ []) leaves (adds_theorem declared stated c (length bytes) q tree w few closed proof) leaves.closed,
-    stated_holds declared stated c q w few closed)
+    let proof : Proves c tree (holds_text (own_naming declared) q) = derivation_proves c (own_labels (length stated)) (own_naming declared) (closed_over declared) [] k (closed_citing place) (serves_closed declared c (length stated) w.base w.names) (closed_sound declared stated c k place w placed) d q concludes used only in (
+      with_statement c (length stated) (holds_text (own_naming declared) q),
+      continued_leaves bytes c (with_statement c (length stated) (holds_text (own_naming declared) q)) (theorem_statement declared (length stated) q tree ∷ []) leaves (adds_theorem declared stated c (length bytes) q tree w few closed proof) leaves.closed,
+      stated_holds declared stated c q w few closed,
+    )
 
 -- what is gained
 

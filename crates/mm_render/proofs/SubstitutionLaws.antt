@@ -1,21 +1,20 @@
 -- The proofs of substitution.
 use Rattle.std.proofs.Common.{◌≡◌, ℕ, Bool, true, false, List, [], ◌∷◌, ◌++◌, refl, ap, ◌∙◌, sym, Option, Some, None, subst, eqb-true}
 use Rattle.std.proofs.Common as std
-use Rattle.std.specs.Prelude.{◌==◌, ◌&&◌, ◌||◌, if◌then◌else◌, codes, option_map}
-use Rattle.std.proofs.lemmas.Bool.{false≢true}
+use Rattle.std.specs.Prelude.{◌==◌, ◌||◌, if◌then◌else◌, codes, option_map}
 use Rattle.mm_text.specs.Bytes.{Token}
 use Rattle.mm_frame.specs.Database.{Context}
-use Rattle.mm_frame.specs.Proofs.{Expression, ProofTree, Proves, symbols_apart, texts_apart}
+use Rattle.mm_frame.specs.Proofs.{Expression, Proves, symbols_apart, texts_apart}
 use Rattle.ml_pat.specs.Patterns.{Pattern, bot, top, imp, not, and, or, equal, member, fun, ex, all, app, at_sort, next, ev, var, meta, constant}
-use Rattle.ml_pat.specs.Judgements.{fresh, absent, substituted, predicate, both_parts, under_quantifier}
-use Rattle.mm_render.specs.Tokens.{Naming, letters_of, text_by, Judgement, is_pattern, is_fresh, is_substituted, is_predicate, judgement_by}
+use Rattle.ml_pat.specs.Judgements.{fresh, substituted, both_parts}
+use Rattle.mm_render.specs.Tokens.{Naming, letters_of, is_fresh, is_substituted, judgement_by}
 use Rattle.mm_render.specs.Leaves.{LeafFacts, EachLeaf}
-use Rattle.mm_render.specs.Serving.{Serves, Declares, Types, HasHeader}
-use Rattle.mm_render.specs.Trees.{cite, syntax_tree, fresh_tree, first_part, second_part, unchanged_tree, substitution_tree, predicate_tree}
+use Rattle.mm_render.specs.Serving.{Serves}
+use Rattle.mm_render.specs.Trees.{cite, syntax_tree, fresh_tree, first_part, unchanged_tree, substitution_tree}
 use Rattle.mm_render.proofs.Schemes.{under}
 use Rattle.mm_render.proofs.RowProofs.{sigma_of, row_proves}
 use Rattle.mm_render.proofs.SyntaxLaws.{pattern_text, sort_text, object_text, sort_proves, object_proves, syntax_proves}
-use Rattle.mm_render.proofs.LeafLaws.{both_true, split_true, not_true}
+use Rattle.mm_render.proofs.LeafLaws.{split_true, not_true}
 use Rattle.mm_render.proofs.ApartLaws.{turned}
 use Rattle.mm_render.proofs.FreshLaws.{fresh_text, fresh_proves, two_apart}
 use Rattle.mm_render.proofs.Rows.{header_naming, no_pair, pair_of, IsRow, P, Q, R, T, U, fp, fq, fr, ft, fu, fx, fy, fs, su_v, su_f, su_imp, su_and, su_or, su_eq, su_mem, su_app, su_not, su_next, su_ev, su_at, su_fun, su_ex, su_all}

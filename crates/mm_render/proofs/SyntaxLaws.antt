@@ -1,12 +1,12 @@
 -- The syntax tree of a pattern proves that it is one.
-use Rattle.std.proofs.Common.{◌≡◌, ℕ, List, [], ◌∷◌, refl}
+use Rattle.std.proofs.Common.{◌≡◌, ℕ, [], ◌∷◌, refl}
 use Rattle.std.specs.Prelude.{codes}
 use Rattle.mm_text.specs.Bytes.{Token}
 use Rattle.mm_frame.specs.Frames.{floating}
 use Rattle.mm_frame.specs.Database.{Context}
 use Rattle.mm_frame.specs.Proofs.{Expression, by_hypothesis, Proves}
 use Rattle.ml_pat.specs.Patterns.{Pattern, bot, top, imp, not, and, or, equal, member, fun, ex, all, app, at_sort, next, ev, var, meta, constant}
-use Rattle.mm_render.specs.Tokens.{Naming, letters_of, Judgement, is_pattern, judgement_by}
+use Rattle.mm_render.specs.Tokens.{Naming, letters_of, is_pattern, judgement_by}
 use Rattle.mm_render.specs.Trees.{cite, syntax_tree}
 use Rattle.mm_render.specs.Serving.{closed_frame, HasHeader, Declares, Types, Serves}
 use Rattle.mm_render.specs.Leaves.{LeafFacts, EachLeaf}

@@ -1,5 +1,5 @@
 -- Statements that are written one behind the other.
-use Rattle.std.proofs.Common.{◌≡◌, ℕ, List, [], ◌∷◌, ◌++◌, zero, suc, refl, ap, ◌∙◌, sym, append_assoc, append-nil, slice_get, Option, Some, None}
+use Rattle.std.proofs.Common.{◌≡◌, ℕ, List, [], ◌∷◌, ◌++◌, zero, suc, refl, ap, ◌∙◌, sym, append_assoc, append-nil, slice_get}
 use Rattle.std.specs.Prelude.{unwrap_or, slice_index_or}
 use Rattle.mm_text.specs.Bytes.{Token}
 use Rattle.mm_text.specs.TextLaws.{written}

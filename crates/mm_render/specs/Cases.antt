@@ -1,9 +1,7 @@
 -- Small patterns with their tokens and proofs.
 use Rattle.std.specs.Prelude.{◌≡◌, [], ◌∷◌, codes}
-use Rattle.mm_frame.specs.Proofs.{postorder}
-use Rattle.ml_pat.specs.Patterns.{imp, not, app, all, var, constant, fun}
+use Rattle.ml_pat.specs.Patterns.{app, all, var, constant, fun}
 use Rattle.mm_render.specs.Tokens.{tokens_of, object_token}
-use Rattle.mm_render.specs.Trees.{syntax_tree}
 
 pub record TriedCases : Type 0 where
   pub application : tokens_of (codes "f:f" ∷ codes "f:a" ∷ []) (app (constant 0) (constant 1)) ≡ codes "(" ∷ codes "\\app" ∷ codes "f:f" ∷ codes "f:a" ∷ codes ")" ∷ []

@@ -1,10 +1,9 @@
 -- Which texts fit what a renderer keeps.
-use Rattle.std.specs.Prelude.{◌≡◌, ℕ, ◌<◌, ◌≤◌, ◌^◌, Bool, true, false, ◌||◌, List, [], ◌∷◌, ◌++◌, length, take, drop, Option, Some, codes}
+use Rattle.std.specs.Prelude.{◌≡◌, ℕ, ◌<◌, ◌≤◌, ◌^◌, Bool, true, false, ◌||◌, List, [], ◌∷◌, ◌++◌, length, take, drop, Some}
 use Rattle.mm_text.specs.Bytes.{Token, has_token}
 use Rattle.mm_frame.specs.Frames.{Frame}
 use Rattle.mm_frame.specs.Database.{Context}
 use Rattle.mm_frame.specs.Writing.{Leaves}
-use Rattle.mm_frame.specs.Assertions.{Assertion, assertions_of}
 use Rattle.mm_frame.specs.FrameLaws.{written_statements}
 use Rattle.mm_header.specs.HeaderText.{header_bytes}
 use Rattle.mm_header.specs.HeaderContext.{header_context}

@@ -1,5 +1,5 @@
 -- What a database has to have declared where a proof stands.
-use Rattle.std.specs.Prelude.{◌≡◌, ◌==◌, ℕ, Bool, true, false, List, [], ◌∷◌, map, Option, Some, None, codes}
+use Rattle.std.specs.Prelude.{◌≡◌, ◌==◌, ℕ, true, false, List, [], ◌∷◌, map, Some, None, codes}
 use Rattle.mm_text.specs.Bytes.{Token}
 use Rattle.mm_frame.specs.Frames.{floating, Frame}
 use Rattle.mm_frame.specs.Database.{Context}

@@ -1,5 +1,5 @@
 use Rattle.std.proofs.Common.{◌≡◌, List, ℕ, [], ◌∷◌, ◌++◌, ap, ◌∙◌}
-use Rattle.std.specs.Prelude.{codes, unwrap_or, Option}
+use Rattle.std.specs.Prelude.{unwrap_or, Option}
 use Rattle.mm_text.specs.Bytes.{Token}
 use Rattle.mm_text.specs.TextLaws.{written}
 use Rattle.mm_frame.specs.Forms.{declares_constants, asserts}

@@ -1,4 +1,4 @@
-use Rattle.std.proofs.Common.{◌≡◌, ◌++◌, ◌∷◌, ◌<◌, ◌-◌, ap, drop, arith}
+use Rattle.std.proofs.Common.{◌≡◌, ◌∷◌, ◌<◌, ◌-◌, ap, drop, arith}
 use Rattle.mm_render.specs.Writing.{all_tokens}
 use Rattle.mm_render.proofs.Stacking.{drop_at, put_more}
 use Rattle.mm_render.proofs.stacks.put_all.Goals as goal

@@ -1,4 +1,4 @@
-use Rattle.std.proofs.Common.{◌≡◌, ℕ, List, [], ◌∷◌, ◌++◌, zero, suc, refl, sym, ap, ◌∙◌, append-nil, Option, Some, None, slice_get, rules}
+use Rattle.std.proofs.Common.{◌≡◌, ℕ, List, [], ◌∷◌, ◌++◌, zero, suc, refl, sym, ap, ◌∙◌, append-nil, Some, None, slice_get}
 use Rattle.mm_text.specs.Bytes.{Token}
 use Rattle.mm_render.specs.Tokens.{name_of}
 use Rattle.mm_render.proofs.words.push_name.Goals as goal

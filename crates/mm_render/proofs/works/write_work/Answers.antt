@@ -1,5 +1,3 @@
-use Rattle.std.proofs.Common.{◌++◌}
-use Rattle.mm_render.specs.Writing.{work_tokens}
 use Rattle.mm_render.proofs.Stacking.{written_next, written_smaller}
 use Rattle.mm_render.proofs.works.write_work.Goals as goal
 
