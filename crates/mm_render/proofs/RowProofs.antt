@@ -41,9 +41,6 @@ row_proves c name pairs floats js j es result trees header row same apart leaves
     )
 
 -- proofs in a row
-pub one_proof : (c : Context) (tree : ProofTree) (trees : List ProofTree) (e : Expression) (es : List Expression) → Proves c tree e → AllProve c (trees_of trees) es → AllProve c (trees_of (tree ∷ trees)) (e ∷ es)
-one_proof c tree trees e es proof all = (e, es, refl, proof, all)
-
 pub all_proofs : (c : Context) (xs ys : List ProofTree) (es fs : List Expression) → AllProve c (trees_of xs) es → AllProve c (trees_of ys) fs → AllProve c (trees_of (xs ++ ys)) (es ++ fs)
 all_proofs c [] ys es fs h k = rw h k
 all_proofs c (x ∷ xs) ys es fs (first, rest, is, proof, all) k =

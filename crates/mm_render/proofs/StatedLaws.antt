@@ -279,9 +279,6 @@ header_statement_variable : (k : ℕ) → header_context.variables (statement_la
 unfolding header_context
 header_statement_variable k = refl
 
-text_of_pattern : List Token → Pattern → List Token
-text_of_pattern declared p = text_by (letters_of (own_naming declared)) p
-
 closed_may_be_stated : (declared : List Token) (stated : List Pattern) (c : Context) (p : Pattern) → HoldsStated declared stated c → length stated < 2 ^ 64 → EachLeaf (closed_over declared) p
     → MayBeStated c (statement_label (length stated)) (codes "|-") (text_by (letters_of (own_naming declared)) p)
 closed_may_be_stated declared stated c p w few closed =

@@ -44,6 +44,13 @@ FitsWhen true declared bytes = (c : Context) × Leaves bytes c × Holds declared
 abbrev pub Fits : List Token → Kept → List ℕ → Type 0
 Fits names k bytes = FitsWhen k.begun (take k.named names) bytes
 
+-- each text that fits what was kept fits, with what was appended, what is kept now
+abbrev pub AppendsFittingNames : List Token → Kept → Kept → List ℕ → Type 0
+AppendsFittingNames names old new appended = (bytes : List ℕ) → Fits names old bytes → Fits names new (bytes ++ appended)
+
+abbrev pub AppendsFitting : Kept → Kept → List ℕ → Type 0
+AppendsFitting old new appended = (names : List Token) → AppendsFittingNames names old new appended
+
 -- the empty text fits a new renderer
 abbrev pub EmptyFits : Type 0
 EmptyFits = (names : List Token) → Fits names nothing_kept []

@@ -1,7 +1,8 @@
 // What is written: whole statements, behind a text that fits.
-ghost use Rattle.std.specs.Prelude.{◌≡◌, ◌++◌, ◌≤◌, [], drop, length, unwrap_or, option_copied, OnOk, OnErr};
+ghost use Rattle.std.specs.Prelude.{◌≡◌, ◌++◌, ◌≤◌, [], drop, length, unwrap_or, option_copied, IsTrue, OnOk, OnErr};
 ghost use Rattle.mm_frame.specs.FrameLaws.{written_statements};
 ghost use Rattle.mm_header.specs.HeaderText.{header_bytes};
+ghost use Rattle.mm_render.specs.Fitting.{AppendsFitting, AppendsFittingNames, AreNames};
 ghost use Rattle.mm_render.specs.Kept.{header_kept, nothing_kept};
 ghost use Rattle.mm_render.specs.Tokens.{name_of};
 ghost use Rattle.mm_render.specs.Statements.{all_name_statements, name_statements, typecode_of};
@@ -20,12 +21,14 @@ pub struct Renderer {
 }
 
 impl Model for Renderer {
+    ghost use Rattle.mm_render.specs.Fitting.{AppendsFitting, AppendsFittingNames, AreNames};
     ghost use Rattle.mm_render.specs.Kept.{Kept, kept_code};
 
     ghost Value = { Kept };
 
     ghost coded = { kept_code };
 
+    ghost use Rattle.mm_render.specs.Fitting.{AppendsFitting, AppendsFittingNames, AreNames};
     ghost use Rattle.mm_render.specs.KeptView.{kept_of};
 
     ghost view = { kept_of };
@@ -47,6 +50,7 @@ impl Renderer {
         requires { self.old ≡ nothing_kept }
         ensures text { OnOk result (to.new.items ≡ to.old.items ++ header_bytes) }
         ensures kept { OnOk result (self.new ≡ header_kept) }
+        ensures fits { OnOk result (AppendsFitting self.old self.new header_bytes) }
         ensures unchanged { OnErr result (to.new.items ≡ to.old.items) }
         ensures as_before { OnErr result (self.new ≡ self.old) }
     {
@@ -61,9 +65,12 @@ impl Renderer {
         requires { self.old.named ≤ length names.now }
         ensures text { OnOk result (to.new.items ≡ to.old.items ++ written_statements (all_name_statements self.old.named (drop self.old.named names.now))) }
         ensures kept { OnOk result (self.new ≡ record self.old { named = length names.now }) }
+        ensures fits { OnOk result (AreNames names.now → IsTrue self.old.begun →
+            AppendsFittingNames names.now self.old self.new (written_statements (all_name_statements self.old.named (drop self.old.named names.now)))) }
         ensures unchanged { OnErr result (to.new.items ≡ to.old.items) }
         ensures as_before { OnErr result (self.new ≡ self.old) }
     {
+        names.tokens_differ();
         let mut text = Vec::new(*to.allocator());
         push_names(&mut text, names, self.named)?;
         to.extend_from_slice(&text)?;
