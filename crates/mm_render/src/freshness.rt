@@ -1,5 +1,5 @@
 // How the proofs of freshness and of predicates come apart.
-ghost use Rattle.std.specs.Prelude.{◌≡◌, ◌++◌, ◌∷◌, [], ◌+◌, ◌<◌, ◌≤◌, OnOk, codes, length, true};
+ghost use Rattle.std.specs.Prelude.{OnOk};
 ghost use Rattle.mm_render.specs.Writing.{PutsOn, quantified_steps};
 ghost use Rattle.mm_render.specs.Labels.{own_labels};
 ghost use Rattle.mm_frame.specs.Proofs.{postorder};

@@ -1,5 +1,5 @@
 // How the tokens of a pattern and the proof of its syntax come apart.
-ghost use Rattle.std.specs.Prelude.{◌≡◌, ◌++◌, ◌∷◌, [], ◌+◌, ◌<◌, ◌≤◌, OnOk, codes, length, true};
+ghost use Rattle.std.specs.Prelude.{OnOk};
 ghost use Rattle.mm_render.specs.Writing.{PutsOn};
 ghost use Rattle.mm_render.specs.Labels.{own_labels};
 ghost use Rattle.mm_frame.specs.Proofs.{postorder};

@@ -1,5 +1,5 @@
 // What is written: whole statements, behind a text that fits.
-ghost use Rattle.std.specs.Prelude.{◌≡◌, ◌++◌, ◌≤◌, [], drop, length, unwrap_or, option_copied, IsTrue, OnOk, OnErr};
+ghost use Rattle.std.specs.Prelude.{◌≡◌, ◌≤◌, [], ◌++◌, IsTrue, OnErr, OnOk, drop, length, option_copied, unwrap_or};
 ghost use Rattle.mm_frame.specs.FrameLaws.{written_statements};
 ghost use Rattle.mm_header.specs.HeaderText.{header_bytes};
 ghost use Rattle.mm_render.specs.Fitting.{AppendsFitting, AppendsFittingNames, AreNames};

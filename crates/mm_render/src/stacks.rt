@@ -1,5 +1,5 @@
 // Works put on a stack.
-ghost use Rattle.std.specs.Prelude.{◌≡◌, ◌++◌, ◌∷◌, [], ◌+◌, ◌<◌, ◌≤◌, OnOk, codes, length, true};
+ghost use Rattle.std.specs.Prelude.{[], ◌∷◌, ◌++◌, OnOk, codes};
 ghost use Rattle.mm_render.specs.Writing.{PutsOn, PutsMore, all_tokens, word_token};
 
 use crate::words::Word;

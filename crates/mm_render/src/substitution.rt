@@ -1,5 +1,5 @@
 // How the proof of a substitution comes apart.
-ghost use Rattle.std.specs.Prelude.{◌≡◌, ◌++◌, ◌∷◌, [], ◌+◌, ◌<◌, ◌≤◌, OnOk, codes, length, true};
+ghost use Rattle.std.specs.Prelude.{◌≡◌, OnOk};
 ghost use Rattle.mm_render.specs.Writing.{PutsOn, two_steps, one_steps, sorted_steps, under_steps, variable_steps, quantified_substitution};
 ghost use Rattle.mm_render.specs.Labels.{own_labels};
 ghost use Rattle.mm_frame.specs.Proofs.{postorder};
