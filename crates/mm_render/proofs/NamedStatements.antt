@@ -1,5 +1,6 @@
 -- Declarations behind a text that states some closed statements.
-use Rattle.std.proofs.Common.{◌≡◌, ℕ, ◌+◌, ◌<◌, ◌^◌, Bool, true, false, List, [], ◌∷◌, ◌++◌, length, zero, suc, refl, ap, ◌∙◌, sym, subst, arith, append_assoc, append-nil, length-append, Some, slice_get}
+use Rattle.std.proofs.Common.{◌≡◌, ℕ, ◌+◌, ◌<◌, ◌≤◌, ◌^◌, Bool, true, false, List, [], ◌∷◌, ◌++◌, length, take, drop, zero, suc, refl, ap, ◌∙◌, sym, subst, arith, append_assoc, append-nil, length-append, Some, slice_get}
+use Rattle.mm_frame.specs.FrameLaws.{written_statements}
 use Rattle.std.specs.Prelude.{◌||◌, if◌then◌else◌, codes, bytes_eq}
 use Rattle.std.proofs.lemmas.Slice.Eq.{bytes_eq-Decides}
 use Rattle.mm_text.specs.Bytes.{Token}
@@ -16,11 +17,11 @@ use Rattle.mm_render.specs.Tokens.{own_naming}
 use Rattle.mm_render.specs.Derivations.{holds_text}
 use Rattle.mm_render.specs.Statements.{IsName, typecode_of, all_name_statements}
 use Rattle.mm_render.specs.Fitting.{AreNames}
-use Rattle.mm_render.specs.Stating.{closed_over, AreClosedOver, HoldsStated, NamesFitStated, StatedIsValid}
+use Rattle.mm_render.specs.Stating.{FitsStated, closed_over, AreClosedOver, HoldsStated, AppendsToStated, NamesFitStated, StatedIsValid}
 use Rattle.mm_render.proofs.LeafLaws.{EachLeaf-implied}
 use Rattle.mm_render.proofs.AgreeLaws.{agreeing, text-agrees}
 use Rattle.mm_render.proofs.NameLaws.{name_label-is_label}
-use Rattle.mm_render.proofs.FittingLaws.{with_name, IsNew, name_holds, behind_names, closed_names, adds_names, none_has, AreNames-front, AreNames-next, name_of-front}
+use Rattle.mm_render.proofs.FittingLaws.{with_name, IsNew, name_holds, behind_names, closed_names, adds_names, none_has, AreNames-front, AreNames-next, name_of-front, take-drop, length-front}
 
 pub stated_is_valid : StatedIsValid
 stated_is_valid declared stated bytes (c, leaves, w) = leaves_is_valid bytes c leaves
@@ -88,3 +89,12 @@ names_fit_stated declared more stated bytes (c, leaves, w) names distinct few = 
   continued_leaves bytes c (behind_names c (length declared) more) (all_name_statements (length declared) more) leaves (adds_names declared more c (length bytes) w.base leaves.closed names distinct few) (closed_names c (length declared) more ∙ leaves.closed),
   all_named_stated declared more stated c w names distinct few,
 )
+
+-- the same for the names from a number on
+pub declared_fits_stated : (names : List Token) (n : ℕ) → AreNames names → AreDistinct names → length names < 2 ^ 64 → n ≤ length names → AppendsToStated (take n names) names (written_statements (all_name_statements n (drop n names)))
+declared_fits_stated names n all distinct few within stated bytes fits =
+    let whole : take n names ++ drop n names ≡ names = take-drop n names in
+    let count : length (take n names) ≡ n = length-front n names within in
+    subst (λ (ts : List Token). FitsStated ts stated (bytes ++ written_statements (all_name_statements n (drop n names)))) whole
+    (subst (λ (m : ℕ). FitsStated (take n names ++ drop n names) stated (bytes ++ written_statements (all_name_statements m (drop n names)))) count
+    (names_fit_stated (take n names) (drop n names) stated bytes fits (subst AreNames (sym whole) all) (subst AreDistinct (sym whole) distinct) (subst (λ (ts : List Token). length ts < 2 ^ 64) (sym whole) few)))

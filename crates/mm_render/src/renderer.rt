@@ -1,10 +1,11 @@
 // What is written: whole statements, behind a text that fits.
-ghost use Rattle.std.specs.Prelude.{◌≡◌, ◌≤◌, [], ◌++◌, IsTrue, OnErr, OnOk, drop, length, option_copied, unwrap_or};
+ghost use Rattle.std.specs.Prelude.{◌≡◌, ◌≤◌, [], ◌++◌, IsTrue, OnErr, OnOk, drop, length, option_copied, take, unwrap_or};
 ghost use Rattle.mm_frame.specs.FrameLaws.{written_statements};
 ghost use Rattle.mm_header.specs.HeaderText.{header_bytes};
 ghost use Rattle.mm_render.specs.Fitting.{AppendsFitting, AppendsFittingNames, AreNames};
 ghost use Rattle.mm_render.specs.Kept.{header_kept, nothing_kept};
 ghost use Rattle.mm_render.specs.Tokens.{name_of};
+ghost use Rattle.mm_render.specs.Stating.{AppendsToStated};
 ghost use Rattle.mm_render.specs.Statements.{all_name_statements, name_statements, typecode_of};
 
 use crate::words::{Word, push_words};
@@ -67,6 +68,8 @@ impl Renderer {
         ensures kept { OnOk result (self.new ≡ record self.old { named = length names.now }) }
         ensures fits { OnOk result (AreNames names.now → IsTrue self.old.begun →
             AppendsFittingNames names.now self.old self.new (written_statements (all_name_statements self.old.named (drop self.old.named names.now)))) }
+        ensures stated { OnOk result (AreNames names.now →
+            AppendsToStated (take self.old.named names.now) names.now (written_statements (all_name_statements self.old.named (drop self.old.named names.now)))) }
         ensures unchanged { OnErr result (to.new.items ≡ to.old.items) }
         ensures as_before { OnErr result (self.new ≡ self.old) }
     {
