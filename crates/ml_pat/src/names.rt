@@ -73,6 +73,13 @@ impl Names {
         Ok(number)
     }
 
+    /// How many tokens have a number.
+    pub fn count(&self) -> u64
+        ensures { result ≡ length self.now }
+    {
+        self.tokens.len() as u64
+    }
+
     /// The token with this number: none exactly where the number was not given.
     pub fn token(&self, no: u64) -> Option<&str>
         ensures { option_copied result ≡ slice_get self.now no }

@@ -1,0 +1,8 @@
+use Rattle.mm_render.proofs.Stacking.{written_next, written_smaller}
+use Rattle.mm_render.proofs.works.write_work.Goals as goal
+
+pub loop-next-smaller : goal.loop-next-smaller
+loop-next-smaller c = written_smaller c.args.names.now c.args.serial c.in-Some.next c.loop-next.stack.items c.pop.new.self.items c.write_step.new.stack.items c.loop-next.to.items c.write_step.new.to.items c.in-Some.ensures.items c.in_ok-write_step.ensures
+
+pub loop-next-preserved : goal.loop-next-preserved
+loop-next-preserved c = written_next c.args.names.now c.args.serial c.in-Some.next c.loop-next.stack.items c.pop.new.self.items c.write_step.new.stack.items c.args.to.now.items c.loop-next.to.items c.write_step.new.to.items _ c.in-Some.ensures.items c.in_ok-write_step.ensures c.loop-next.invariant

@@ -1,0 +1,88 @@
+-- The tokens of a pattern, as they stand in a proof file: a connective in brackets before its parts.
+use Rattle.std.specs.Prelude.{ℕ, List, [], ◌∷◌, ◌++◌, codes, decimal, slice_index_or}
+use Rattle.mm_text.specs.Bytes.{Token}
+use Rattle.ml_pat.specs.Patterns.{Pattern, bot, top, imp, not, and, or, equal, member, fun, ex, all, app, at_sort, next, ev, var, meta, constant}
+
+-- a token for each sort, constant, object variable and pattern variable
+pub record Naming : Type 0 where
+  pub sort : ℕ → Token
+  pub constant : ℕ → Token
+  pub object : ℕ → Token
+  pub meta : ℕ → Token
+
+-- some tokens for each of them
+pub record Letters : Type 0 where
+  pub sort : ℕ → List Token
+  pub constant : ℕ → List Token
+  pub object : ℕ → List Token
+  pub meta : ℕ → List Token
+
+abbrev pub letters_of : Naming → Letters
+letters_of n = record {
+  sort = λ i. n.sort i ∷ [];
+  constant = λ i. n.constant i ∷ [];
+  object = λ i. n.object i ∷ [];
+  meta = λ i. n.meta i ∷ [];
+}
+
+-- `( k arguments )`
+abbrev pub bracketed : Token → List Token → List Token
+bracketed k arguments = codes "(" ∷ (k ∷ arguments)
+
+abbrev pub bracket : List Token
+bracket = codes ")" ∷ []
+
+-- the tokens of a pattern whose leaves have these tokens
+abbrev pub text_by : Letters → Pattern → List Token
+text_by l bot = codes "\\bot" ∷ []
+text_by l top = codes "\\top" ∷ []
+text_by l (imp p q) = bracketed (codes "\\imp") (text_by l p ++ (text_by l q ++ bracket))
+text_by l (not p) = bracketed (codes "\\not") (text_by l p ++ bracket)
+text_by l (and p q) = bracketed (codes "\\and") (text_by l p ++ (text_by l q ++ bracket))
+text_by l (or p q) = bracketed (codes "\\or") (text_by l p ++ (text_by l q ++ bracket))
+text_by l (equal p q) = bracketed (codes "\\eq") (text_by l p ++ (text_by l q ++ bracket))
+text_by l (member p q) = bracketed (codes "\\mem") (text_by l p ++ (text_by l q ++ bracket))
+text_by l (fun p s) = bracketed (codes "\\fun") (text_by l p ++ (l.sort s ++ bracket))
+text_by l (ex x s p) = bracketed (codes "\\ex") (l.object x ++ (l.sort s ++ (text_by l p ++ bracket)))
+text_by l (all x s p) = bracketed (codes "\\all") (l.object x ++ (l.sort s ++ (text_by l p ++ bracket)))
+text_by l (app p q) = bracketed (codes "\\app") (text_by l p ++ (text_by l q ++ bracket))
+text_by l (at_sort p s) = bracketed (codes "\\at") (text_by l p ++ (l.sort s ++ bracket))
+text_by l (next p) = bracketed (codes "\\next") (text_by l p ++ bracket)
+text_by l (ev p) = bracketed (codes "\\ev") (text_by l p ++ bracket)
+text_by l (var x) = l.object x
+text_by l (meta i) = l.meta i
+text_by l (constant c) = l.constant c
+
+-- the tokens `x:i` of an object variable and `m:i` of a pattern variable
+abbrev pub object_token : ℕ → Token
+object_token i = codes "x:" ++ decimal i
+
+abbrev pub meta_token : ℕ → Token
+meta_token i = codes "m:" ++ decimal i
+
+-- the token with a number among some
+abbrev pub name_of : List Token → ℕ → Token
+name_of names i = slice_index_or names i []
+
+-- sorts and constants have their tokens among these, by number
+abbrev pub own_naming : List Token → Naming
+own_naming names = record { sort = name_of names; constant = name_of names; object = object_token; meta = meta_token }
+
+abbrev pub tokens_of : List Token → Pattern → List Token
+tokens_of names p = text_by (letters_of (own_naming names)) p
+
+-- what a statement of the logic says: that a pattern is one, that it holds, that a variable is not free
+-- in it, that it is another with a pattern for a variable, or that it is everything or nothing
+pub data Judgement : Type 0 where
+  is_pattern : Pattern → Judgement
+  holds : Pattern → Judgement
+  is_fresh : ℕ → Pattern → Judgement
+  is_substituted : Pattern → Pattern → Pattern → ℕ → Judgement
+  is_predicate : Pattern → Judgement
+
+abbrev pub judgement_by : Letters → Judgement → List Token
+judgement_by l (is_pattern p) = codes "#Pattern" ∷ text_by l p
+judgement_by l (holds p) = codes "|-" ∷ text_by l p
+judgement_by l (is_fresh x p) = codes "#Fresh" ∷ (l.object x ++ text_by l p)
+judgement_by l (is_substituted t p u x) = codes "#Sub" ∷ (text_by l t ++ (text_by l p ++ (text_by l u ++ l.object x)))
+judgement_by l (is_predicate p) = codes "#Pred" ∷ text_by l p

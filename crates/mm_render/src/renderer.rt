@@ -1,0 +1,129 @@
+// What is written: whole statements, behind a text that fits.
+ghost use Rattle.std.specs.Prelude.{◌≡◌, ◌≤◌, [], ◌++◌, IsTrue, OnErr, OnOk, drop, length, option_copied, take, unwrap_or};
+ghost use Rattle.mm_frame.specs.FrameLaws.{written_statements};
+ghost use Rattle.mm_header.specs.HeaderText.{header_bytes};
+ghost use Rattle.mm_render.specs.Fitting.{AppendsFitting, AppendsFittingNames, AreNames};
+ghost use Rattle.mm_render.specs.Kept.{header_kept, nothing_kept};
+ghost use Rattle.mm_render.specs.Tokens.{name_of};
+ghost use Rattle.mm_render.specs.Stating.{AppendsToStated};
+ghost use Rattle.mm_render.specs.Statements.{all_name_statements, name_statements, typecode_of};
+
+use crate::words::{Word, push_words};
+use ml_pat::Names;
+use mm_header::header_text;
+use std::alloc::AllocError;
+use std::marker::Model;
+
+/// What was written of a proof file. Contracts see it as what it keeps.
+#[derive(Drop)]
+pub struct Renderer {
+    begun: bool,
+    named: u64,
+}
+
+impl Model for Renderer {
+    ghost use Rattle.mm_render.specs.Fitting.{AppendsFitting, AppendsFittingNames, AreNames};
+    ghost use Rattle.mm_render.specs.Kept.{Kept, kept_code};
+
+    ghost Value = { Kept };
+
+    ghost coded = { kept_code };
+
+    ghost use Rattle.mm_render.specs.Fitting.{AppendsFitting, AppendsFittingNames, AreNames};
+    ghost use Rattle.mm_render.specs.KeptView.{kept_of};
+
+    ghost view = { kept_of };
+}
+
+impl Renderer {
+    /// Nothing was written.
+    pub fn new() -> Renderer
+        ensures { result ≡ nothing_kept }
+    {
+        Renderer {
+            begun: false,
+            named: 0,
+        }
+    }
+
+    /// Adds the header. Where memory is wanting, nothing changes.
+    pub fn begin(&mut self, to: &mut Vec<u8>) -> Result<(), AllocError>
+        requires { self.old ≡ nothing_kept }
+        ensures text { OnOk result (to.new.items ≡ to.old.items ++ header_bytes) }
+        ensures kept { OnOk result (self.new ≡ header_kept) }
+        ensures fits { OnOk result (AppendsFitting self.old self.new header_bytes) }
+        ensures unchanged { OnErr result (to.new.items ≡ to.old.items) }
+        ensures as_before { OnErr result (self.new ≡ self.old) }
+    {
+        header_text(to)?;
+        self.begun = true;
+        Ok(())
+    }
+
+    /// Declares each name that is not declared yet: as a constant, and of its type by an axiom. Where memory is wanting,
+    /// nothing changes.
+    pub fn declare(&mut self, names: &Names, to: &mut Vec<u8>) -> Result<(), AllocError>
+        requires { self.old.named ≤ length names.now }
+        ensures text { OnOk result (to.new.items ≡ to.old.items ++ written_statements (all_name_statements self.old.named (drop self.old.named names.now))) }
+        ensures kept { OnOk result (self.new ≡ record self.old { named = length names.now }) }
+        ensures fits { OnOk result (AreNames names.now → IsTrue self.old.begun →
+            AppendsFittingNames names.now self.old self.new (written_statements (all_name_statements self.old.named (drop self.old.named names.now)))) }
+        ensures stated { OnOk result (AreNames names.now →
+            AppendsToStated (take self.old.named names.now) names.now (written_statements (all_name_statements self.old.named (drop self.old.named names.now)))) }
+        ensures unchanged { OnErr result (to.new.items ≡ to.old.items) }
+        ensures as_before { OnErr result (self.new ≡ self.old) }
+    {
+        names.tokens_differ();
+        let mut text = Vec::new(*to.allocator());
+        push_names(&mut text, names, self.named)?;
+        to.extend_from_slice(&text)?;
+        self.named = names.count();
+        Ok(())
+    }
+}
+
+/// Adds the declarations of the names from a number on.
+fn push_names(to: &mut Vec<u8>, names: &Names, first: u64) -> Result<(), AllocError>
+    requires { first ≤ length names.now }
+    ensures { OnOk result (to.new.items ≡ to.old.items ++ written_statements (all_name_statements first (drop first names.now))) }
+{
+    for no in first..names.count() {
+        push_declaration(to, names, no)?;
+    }
+    Ok(())
+}
+
+/// Adds the declaration of the name with this number.
+fn push_declaration(to: &mut Vec<u8>, names: &Names, no: u64) -> Result<(), AllocError>
+    ensures { OnOk result (to.new.items ≡ to.old.items ++ written_statements (name_statements no (name_of names.now no))) }
+{
+    let typecode = typecode_of(names.token(no));
+    push_words(
+        to,
+        names,
+        0,
+        &[
+            Word::Fixed("$c"),
+            Word::Name(no),
+            Word::Fixed("$."),
+            Word::Declared(no),
+            Word::Fixed("$a"),
+            Word::Fixed(typecode),
+            Word::Name(no),
+            Word::Fixed("$."),
+        ],
+    )
+}
+
+/// What a name is declared to be: a sort begins with `s`, and all else is a pattern.
+fn typecode_of(token: Option<&str>) -> &'static str
+    ensures { result.now ≡ typecode_of (unwrap_or (option_copied token.entry) []) }
+{
+    match token {
+        Some(text) => match text.as_bytes() {
+            [b's', ..] => "#Sort",
+            _ => "#Pattern",
+        },
+        None => "#Pattern",
+    }
+}
