@@ -1,0 +1,7 @@
+-- What a reader of the contracts has to believe, lowest first.
+pub mod TokenStream
+pub mod Trees
+pub mod Grammar
+pub mod Faults
+-- What only private functions cite.
+pub mod Table
