@@ -3,3 +3,7 @@ pub mod Reaching
 pub mod Accepting
 pub mod AcceptedPatterns
 pub mod AcceptedDefinitions
+pub mod Saying
+pub mod Returning
+pub mod Completing
+pub mod Explaining

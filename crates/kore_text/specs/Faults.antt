@@ -7,7 +7,7 @@ use Rattle.kore_text.specs.declared.names.Built.TheVariants.{Connective, Fold}
 use Rattle.kore_text.specs.declared.faults.TextFault.{TextFault}
 use Rattle.kore_text.specs.declared.faults.TextFault.TheVariants.{Lex, Syntax, Deep}
 use Rattle.kore_text.specs.TokenStream.{Token, identifier, set_identifier, builtin, string_token, mark, assign, Stream, end, fault, token}
-use Rattle.kore_text.specs.Trees.{PatternTree, SortTrees, no_sorts, sort_then, DefinitionTree}
+use Rattle.kore_text.specs.Trees.{PatternTree, SortTrees, sort_count, DefinitionTree}
 use Rattle.kore_text.specs.Grammar.{Want, any, given, Takes, listed, spell_sorts, spell_pattern, spell_definition, is_associative}
 
 -- the brackets `(` and `{` that are open behind a token, where so many are open before it
@@ -24,27 +24,27 @@ IsShallow n (token t p s) = (opened t n ≤ 500) × IsShallow (opened t n) s
 
 -- one sort
 abbrev pub is_single : SortTrees → Bool
-is_single (sort_then s no_sorts) = true
-is_single _ = false
+is_single ss = sort_count ss == 1
 
 -- the head of what is folded, with its sorts: a symbol, or `\and` or `\or` of a sort
 pub data FoldHead : Type 0 where
   of_symbol : List ℕ → SortTrees → FoldHead
   of_connective : Op → SortTrees → FoldHead
 
--- braces, and an application of the head without an argument in parentheses
-abbrev pub spell_empty : FoldHead → List Want
-spell_empty (of_symbol n ss) =
-    any (mark 123) ∷ any (mark 125) ∷ any (mark 40) ∷ any (identifier n) ∷ any (mark 123)
-    ∷ listed (spell_sorts ss) 125 (any (mark 40) ∷ any (mark 41) ∷ [])
-spell_empty (of_connective o ss) =
-    given (is_associative o) ∷ given (is_single ss) ∷ any (mark 123) ∷ any (mark 125) ∷ any (mark 40) ∷ any (builtin (Some (Connective o)))
-    ∷ any (mark 123) ∷ listed (spell_sorts ss) 125 (any (mark 40) ∷ any (mark 41) ∷ [])
+-- an application of the head without an argument
+abbrev pub spell_unfilled : FoldHead → List Want → List Want
+spell_unfilled (of_symbol n ss) k =
+    any (identifier n) ∷ any (mark 123) ∷ listed (spell_sorts ss) 125 (any (mark 40) ∷ any (mark 41) ∷ k)
+spell_unfilled (of_connective o ss) k =
+    given (is_associative o) ∷ given (is_single ss) ∷ any (builtin (Some (Connective o)))
+    ∷ any (mark 123) ∷ listed (spell_sorts ss) 125 (any (mark 40) ∷ any (mark 41) ∷ k)
 
--- the token and what follows it are a fold without an argument
+-- the token and what follows it begin a fold without an argument: braces, and such an application
+-- in parentheses, of which the closing one is not looked at
 abbrev pub IsEmptyFold : Token → Stream → Type 0
 IsEmptyFold t s =
-    (left : Bool) × (t ≡ builtin (Some (Fold left))) × (h : FoldHead) × (r : Stream) × Takes (spell_empty h) s r
+    (left : Bool) × (t ≡ builtin (Some (Fold left)))
+    × (h : FoldHead) × (r : Stream) × Takes (any (mark 123) ∷ any (mark 125) ∷ any (mark 40) ∷ spell_unfilled h []) s r
 
 -- the first so many tokens are the same, with their places
 abbrev pub Same : ℕ → Stream → Stream → Type 0
@@ -91,14 +91,14 @@ pub record IsGood (L : Stream → Type 0) (m : ℕ) (n : ℕ) (s : Stream) : Typ
 abbrev pub Stops : (Stream → Type 0) → ℕ → Stream → Stream → ℕ → Type 0
 Stops L m s (end e) at = (at ≡ e) × (L s → ⊥)
 Stops L m s (fault e) at = ⊥
-Stops L m s (token t p r) at = (at ≡ p) × ((Begins L (m + 1) s → ⊥) ⊎ IsEmptyFold t r)
+Stops L m s (token t p r) at = (at ≡ p) × ((Begins L (suc m) s → ⊥) ⊎ IsEmptyFold t r)
 
 -- the token behind the good ones goes on a text of the language, and opens one bracket too many
 abbrev pub GoesDeep : (Stream → Type 0) → ℕ → ℕ → Stream → Stream → ℕ → Type 0
 GoesDeep L m n s (end e) at = ⊥
 GoesDeep L m n s (fault e) at = ⊥
 GoesDeep L m n s (token t p r) at =
-    (at ≡ p) × Begins L (m + 1) s × (500 < opened t (open_behind m n s))
+    (at ≡ p) × Begins L (suc m) s × (500 < opened t (open_behind m n s))
 
 -- what the first fault of a text is, where so many brackets are open at its head: none, where it
 -- is a text of the language in which at most 500 are open
