@@ -7,3 +7,4 @@ pub mod Saying
 pub mod Returning
 pub mod Completing
 pub mod Explaining
+pub mod Cutting

@@ -3,5 +3,6 @@ pub mod TokenStream
 pub mod Trees
 pub mod Grammar
 pub mod Faults
+pub mod Left
 -- What only private functions cite.
 pub mod Table

@@ -10,6 +10,8 @@
 mod faults;
 mod names;
 mod symbols;
+mod tokens;
 
 pub use faults::TextFault;
+pub use tokens::{Next, Tokens};
 pub use names::{Binder, Built, Op};
