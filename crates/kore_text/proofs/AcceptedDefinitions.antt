@@ -17,7 +17,7 @@ use Rattle.kore_text.specs.Trees.{SortTree, sort_parameter, sort_applied, SortTr
 use Rattle.kore_text.specs.Trees.{PatternTree, element_variable, set_variable, string, symbol_applied, connected, binding, domain_value, folded}
 use Rattle.kore_text.specs.Trees.{PatternTrees, no_patterns, pattern_then, pattern_count}
 use Rattle.kore_text.specs.Grammar.{Want, placed, any, given, Spelling, listed, more_listed, in_order, Takes, sorts_of, arguments_of, takes, is_count, binder_sorts, binds_sets, is_variable, is_associative, is_foldable, spell_name, spell_names, spell_sort, spell_sorts, spell_pattern, spell_patterns}
-use Rattle.kore_text.specs.Table.{byte_of, symbol_of, is_mark, is_fold, move, step, passes, run, empty_fold, no_arguments, folded_arguments, more_exactly, exactly, argument_symbols, built_symbols}
+use Rattle.kore_text.specs.Table.{byte_of, symbol_of, is_mark, is_fold, turn, step, passes, run, empty_fold, no_arguments, folded_arguments, more_exactly, exactly, argument_symbols, built_symbols}
 use Rattle.kore_text.proofs.Reaching.{Reaches, done, after, by-token, any-placed, mark-goes, mark-then, Apart, tail-goes, is_plain, IsPlain, apart-more, Goes, AllGo, more-goes, first-goes, exactly-goes, pass-step}
 use Rattle.kore_text.specs.Trees.{ImportDeclaration, SortDeclaration, SymbolDeclaration, AliasDeclaration, AxiomDeclaration, ModuleTree, DefinitionTree}
 use Rattle.kore_text.specs.Trees.{Declaration, import_declaration, sort_declaration, symbol_declaration, alias_declaration, axiom_declaration, claim_declaration}
@@ -29,7 +29,7 @@ use Rattle.kore_text.proofs.Accepting.{name-goes, names-go, sort-goes, listed-go
 use Rattle.kore_text.proofs.AcceptedPatterns.{pattern-goes, listed-patterns-go}
 
 attributes-step : (k : List Symbol) → step (symbol.Attributes ∷ k) (mark 91) ≡ Some (symbol.First (item.Pattern true) close.Bracket ∷ k)
-unfolding step move
+unfolding step turn
 attributes-step k = refl
 
 attributes-go : (ps : List PatternTree) (w : List Want) (s e : Stream) → Takes (spell_attributes ps w) s e → Reaches (symbol.Attributes ∷ []) w s e
@@ -38,7 +38,7 @@ attributes-go ps w s e h =
     (λ q x. first-goes (item.Pattern true) close.Bracket (map (spell_pattern true) ps) w q e (listed-patterns-go true ps e) x)
 
 names-step : (k : List Symbol) → step (symbol.Names ∷ k) (mark 123) ≡ Some (symbol.First item.Name close.Brace ∷ k)
-unfolding step move
+unfolding step turn
 names-step k = refl
 
 parameters-go : (ns : List (List ℕ)) (w : List Want) (s e : Stream) → Takes (spell_names ns w) s e → Reaches (symbol.Names ∷ []) w s e
@@ -47,7 +47,7 @@ parameters-go ns w s e h =
     (λ q x. first-goes item.Name close.Brace (map spell_name ns) w q e (names-go ns e) x)
 
 signature-step : (k : List Symbol) → step (symbol.Signature ∷ k) (mark 40) ≡ Some (symbol.First item.Sort close.Paren ∷ symbol.Mark 58 ∷ symbol.Sort ∷ k)
-unfolding step move
+unfolding step turn
 signature-step k = refl
 
 signature-goes : (ts : List SortTree) (t : SortTree) (w : List Want) (s e : Stream) → Apart w e → Takes (spell_signature ts t w) s e → Reaches (symbol.Signature ∷ []) w s e
@@ -59,47 +59,47 @@ signature-goes ts t w s e a h =
     (λ r y. mark-then 58 (symbol.Sort ∷ []) (spell_sort t w) w r e y (λ i z. sort-goes t w i e a z)))
 
 where-step : (k : List Symbol) → step (symbol.Where ∷ k) (identifier (codes "where")) ≡ Some k
-unfolding step move
+unfolding step turn
 where-step k = refl
 
 assign-step : (k : List Symbol) → step (symbol.Assign ∷ k) assign ≡ Some k
-unfolding step move
+unfolding step turn
 assign-step k = refl
 
 import-step : (k : List Symbol) → step (symbol.Declarations ∷ k) (identifier (codes "import")) ≡ Some (symbol.Name ∷ symbol.Attributes ∷ symbol.Declarations ∷ k)
-unfolding step move
+unfolding step turn
 import-step k = refl
 
 sort-step : (k : List Symbol) → step (symbol.Declarations ∷ k) (identifier (codes "sort")) ≡ Some (symbol.Name ∷ symbol.Names ∷ symbol.Attributes ∷ symbol.Declarations ∷ k)
-unfolding step move
+unfolding step turn
 sort-step k = refl
 
 hooked-sort-step : (k : List Symbol) → step (symbol.Declarations ∷ k) (identifier (codes "hooked-sort")) ≡ Some (symbol.Name ∷ symbol.Names ∷ symbol.Attributes ∷ symbol.Declarations ∷ k)
-unfolding step move
+unfolding step turn
 hooked-sort-step k = refl
 
 symbol-step : (k : List Symbol) → step (symbol.Declarations ∷ k) (identifier (codes "symbol")) ≡ Some (symbol.Name ∷ symbol.Names ∷ symbol.Signature ∷ symbol.Attributes ∷ symbol.Declarations ∷ k)
-unfolding step move
+unfolding step turn
 symbol-step k = refl
 
 hooked-symbol-step : (k : List Symbol) → step (symbol.Declarations ∷ k) (identifier (codes "hooked-symbol")) ≡ Some (symbol.Name ∷ symbol.Names ∷ symbol.Signature ∷ symbol.Attributes ∷ symbol.Declarations ∷ k)
-unfolding step move
+unfolding step turn
 hooked-symbol-step k = refl
 
 alias-step : (k : List Symbol) → step (symbol.Declarations ∷ k) (identifier (codes "alias")) ≡ Some (symbol.Name ∷ symbol.Names ∷ symbol.Signature ∷ symbol.Where ∷ symbol.Name ∷ symbol.Mark 123 ∷ symbol.First item.Sort close.Brace ∷ symbol.Mark 40 ∷ symbol.First (item.Pattern false) close.Paren ∷ symbol.Assign ∷ symbol.Pattern false ∷ symbol.Attributes ∷ symbol.Declarations ∷ k)
-unfolding step move
+unfolding step turn
 alias-step k = refl
 
 axiom-step : (k : List Symbol) → step (symbol.Declarations ∷ k) (identifier (codes "axiom")) ≡ Some (symbol.Names ∷ symbol.Pattern false ∷ symbol.Attributes ∷ symbol.Declarations ∷ k)
-unfolding step move
+unfolding step turn
 axiom-step k = refl
 
 claim-step : (k : List Symbol) → step (symbol.Declarations ∷ k) (identifier (codes "claim")) ≡ Some (symbol.Names ∷ symbol.Pattern false ∷ symbol.Attributes ∷ symbol.Declarations ∷ k)
-unfolding step move
+unfolding step turn
 claim-step k = refl
 
 endmodule-step : (k : List Symbol) → step (symbol.Declarations ∷ k) (identifier (codes "endmodule")) ≡ Some (symbol.Attributes ∷ k)
-unfolding step move
+unfolding step turn
 endmodule-step k = refl
 
 sort-word-step : (b : Bool) (k : List Symbol) → step (symbol.Declarations ∷ k) (identifier (sort_word b)) ≡ Some (symbol.Name ∷ symbol.Names ∷ symbol.Attributes ∷ symbol.Declarations ∷ k)
@@ -199,11 +199,11 @@ body-goes [] ps w s e h =
 body-goes (d ∷ ds) ps w s e h = declaration-goes d (spell_body ds ps w) w s e (λ q x. body-goes ds ps w q e x) h
 
 module-step : (k : List Symbol) → step (symbol.Module ∷ k) (identifier (codes "module")) ≡ Some (symbol.Name ∷ symbol.Declarations ∷ k)
-unfolding step move
+unfolding step turn
 module-step k = refl
 
 modules-step : (k : List Symbol) → step (symbol.Modules ∷ k) (identifier (codes "module")) ≡ Some (symbol.Name ∷ symbol.Declarations ∷ symbol.Modules ∷ k)
-unfolding step move
+unfolding step turn
 modules-step k = refl
 
 module-goes : (m : ModuleTree) (f : Symbol) (b : List Symbol) (v w : List Want) (s e : Stream)

@@ -17,7 +17,7 @@ use Rattle.kore_text.specs.Trees.{SortTree, sort_parameter, sort_applied, SortTr
 use Rattle.kore_text.specs.Trees.{PatternTree, element_variable, set_variable, string, symbol_applied, connected, binding, domain_value, folded}
 use Rattle.kore_text.specs.Trees.{PatternTrees, no_patterns, pattern_then, pattern_count}
 use Rattle.kore_text.specs.Grammar.{Want, placed, any, given, Spelling, listed, more_listed, in_order, Takes, sorts_of, arguments_of, takes, is_count, binder_sorts, binds_sets, is_variable, is_associative, is_foldable, spell_name, spell_names, spell_sort, spell_sorts, spell_pattern, spell_patterns}
-use Rattle.kore_text.specs.Table.{byte_of, symbol_of, is_mark, is_fold, move, step, passes, run, empty_fold, no_arguments, folded_arguments, more_exactly, exactly, argument_symbols, built_symbols}
+use Rattle.kore_text.specs.Table.{byte_of, symbol_of, is_mark, is_fold, turn, step, passes, run, empty_fold, no_arguments, folded_arguments, more_exactly, exactly, argument_symbols, built_symbols}
 use Rattle.kore_text.proofs.Reaching.{Reaches, done, after, by-token, any-placed, mark-goes, mark-then, Apart, tail-goes, is_plain, IsPlain, apart-more, Goes, AllGo, more-goes, first-goes, exactly-goes, pass-step}
 
 -- both parts of a test
@@ -32,7 +32,7 @@ pub number-is : (a b : ℕ) → (a == b) ≡ true → a ≡ b
 number-is a b h = grind (arith, nat_tests)
 
 pub name-step : (k : List Symbol) (n : List ℕ) → step (symbol.Name ∷ k) (identifier n) ≡ Some k
-unfolding step move
+unfolding step turn
 name-step k n = refl
 
 pub name-goes : (n : List ℕ) (w : List Want) (s e : Stream) → Takes (any (identifier n) ∷ w) s e → Reaches (symbol.Name ∷ []) w s e
@@ -60,11 +60,11 @@ names-go [] e = tt
 names-go (n ∷ ns) e = (record { plain = λ w s h. plain-first (any (identifier n) ∷ w) s e refl h; goes = λ w s a h. name-goes n w s e h }, names-go ns e)
 
 pub sort-step : (k : List Symbol) (n : List ℕ) → step (symbol.Sort ∷ k) (identifier n) ≡ Some (symbol.SortTail ∷ k)
-unfolding step move
+unfolding step turn
 sort-step k n = refl
 
 pub tail-step : (k : List Symbol) → step (symbol.SortTail ∷ k) (mark 123) ≡ Some (symbol.First item.Sort close.Brace ∷ k)
-unfolding step move
+unfolding step turn
 tail-step k = refl
 
 pub sort-plain : (t : SortTree) (w : List Want) (s e : Stream) → Takes (spell_sort t w) s e → IsPlain s
@@ -110,60 +110,60 @@ plain-pattern b (domain_value at t x place) w s e h = plain-first (spell_pattern
 plain-pattern b (folded at left q) w s e h = plain-first (spell_pattern b (folded at left q) w) s e refl h
 
 pub pattern-step : (b : Bool) (k : List Symbol) (n : List ℕ) → step (symbol.Pattern b ∷ k) (identifier n) ≡ Some (symbol.PatternTail b ∷ k)
-unfolding step move
+unfolding step turn
 pattern-step b k n = refl
 
 pub set-step : (b : Bool) (k : List Symbol) (n : List ℕ) → step (symbol.Pattern b ∷ k) (set_identifier n) ≡ Some (symbol.Mark 58 ∷ symbol.Sort ∷ k)
-unfolding step move
+unfolding step turn
 set-step b k n = refl
 
 pub string-step : (k : List Symbol) (n : List ℕ) → step (symbol.Pattern true ∷ k) (string_token n) ≡ Some k
-unfolding step move
+unfolding step turn
 string-step k n = refl
 
 pub built-step : (b : Bool) (x : Built) (k : List Symbol) → step (symbol.Pattern b ∷ k) (builtin (Some x)) ≡ Some (built_symbols b x ++ k)
-unfolding step move
+unfolding step turn
 built-step b x k = refl
 
 pub colon-step : (b : Bool) (k : List Symbol) → step (symbol.PatternTail b ∷ k) (mark 58) ≡ Some (symbol.Sort ∷ k)
-unfolding step move
+unfolding step turn
 colon-step b k = refl
 
 pub brace-step : (b : Bool) (k : List Symbol) → step (symbol.PatternTail b ∷ k) (mark 123)
     ≡ Some (symbol.First item.Sort close.Brace ∷ symbol.Mark 40 ∷ symbol.First (item.Pattern b) close.Paren ∷ k)
-unfolding step move
+unfolding step turn
 brace-step b k = refl
 
 pub text-step : (k : List Symbol) (n : List ℕ) → step (symbol.Text ∷ k) (string_token n) ≡ Some k
-unfolding step move
+unfolding step turn
 text-step k n = refl
 
 pub element-step : (k : List Symbol) (n : List ℕ) → step (symbol.Variable false ∷ k) (identifier n) ≡ Some (symbol.Mark 58 ∷ symbol.Sort ∷ k)
-unfolding step move
+unfolding step turn
 element-step k n = refl
 
 pub set-variable-step : (k : List Symbol) (n : List ℕ) → step (symbol.Variable true ∷ k) (set_identifier n) ≡ Some (symbol.Mark 58 ∷ symbol.Sort ∷ k)
-unfolding step move
+unfolding step turn
 set-variable-step k n = refl
 
 pub folded-step : (b : Bool) (k : List Symbol) (n : List ℕ) → step (symbol.Folded b ∷ k) (identifier n)
     ≡ Some (symbol.Mark 123 ∷ symbol.First item.Sort close.Brace ∷ (folded_arguments b ++ k))
-unfolding step move
+unfolding step turn
 folded-step b k n = refl
 
 pub folded-built-step : (b : Bool) (o : Op) (k : List Symbol) → is_associative o ≡ true → step (symbol.Folded b ∷ k) (builtin (Some (Connective o)))
     ≡ Some (symbol.Mark 123 ∷ symbol.Sort ∷ symbol.Mark 125 ∷ (folded_arguments b ++ k))
-unfolding step move
+unfolding step turn
 folded-built-step b o k h = rw h refl
 
 pub empty-step : (k : List Symbol) (n : List ℕ) → step (symbol.EmptyFolded ∷ k) (identifier n)
     ≡ Some (symbol.Mark 123 ∷ symbol.First item.Sort close.Brace ∷ symbol.Mark 40 ∷ symbol.Mark 41 ∷ k)
-unfolding step move
+unfolding step turn
 empty-step k n = refl
 
 pub empty-built-step : (o : Op) (k : List Symbol) → is_associative o ≡ true → step (symbol.EmptyFolded ∷ k) (builtin (Some (Connective o)))
     ≡ Some (symbol.Mark 123 ∷ symbol.Sort ∷ symbol.Mark 125 ∷ symbol.Mark 40 ∷ symbol.Mark 41 ∷ k)
-unfolding step move
+unfolding step turn
 empty-built-step o k h = rw h refl
 
 -- a colon and a sort

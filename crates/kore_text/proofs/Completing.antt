@@ -17,7 +17,7 @@ use Rattle.kore_text.specs.Trees.{SortTree, sort_parameter, sort_applied, SortTr
 use Rattle.kore_text.specs.Trees.{PatternTree, element_variable, set_variable, string, symbol_applied, connected, binding, domain_value, folded}
 use Rattle.kore_text.specs.Trees.{PatternTrees, no_patterns, pattern_then, pattern_count}
 use Rattle.kore_text.specs.Grammar.{Want, placed, any, given, Spelling, listed, more_listed, in_order, Takes, sorts_of, arguments_of, takes, is_count, binder_sorts, binds_sets, is_variable, is_associative, is_foldable, spell_name, spell_names, spell_sort, spell_sorts, spell_pattern, spell_patterns}
-use Rattle.kore_text.specs.Table.{byte_of, symbol_of, is_mark, is_fold, move, step, passes, run, empty_fold, no_arguments, folded_arguments, more_exactly, exactly, argument_symbols, built_symbols}
+use Rattle.kore_text.specs.Table.{byte_of, symbol_of, is_mark, is_fold, turn, step, passes, run, empty_fold, no_arguments, folded_arguments, more_exactly, exactly, argument_symbols, built_symbols}
 use Rattle.std.proofs.lemmas.Slice.Eq.{bytes_eq-Decides}
 use Rattle.kore_text.specs.declared.names.Binder.{Binder}
 use Rattle.kore_text.specs.declared.names.Binder.TheVariants as binder
@@ -148,16 +148,16 @@ rests symbol.Declarations t k q e m = inl (refl, m)
 rests symbol.Module t k q e m = inl (refl, m)
 rests symbol.Modules t k q e m = inl (refl, m)
 
-first-move : (i : Item) (c : Close) (t : Token) → is_mark (byte_of c) t ≡ false → move (symbol.First i c) t ≡ item_move i t
-unfolding move
+first-move : (i : Item) (c : Close) (t : Token) → is_mark (byte_of c) t ≡ false → turn (symbol.First i c) t ≡ item_move i t
+unfolding turn
 first-move i c t h = rw h refl
 
-first-moved : (i : Item) (c : Close) (t : Token) (b : List Symbol) (s q : Stream) → Some b ≡ move (symbol.First i c) t → is_mark (byte_of c) t ≡ false
+first-moved : (i : Item) (c : Close) (t : Token) (b : List Symbol) (s q : Stream) → Some b ≡ turn (symbol.First i c) t → is_mark (byte_of c) t ≡ false
     → Pieces b s q → Moved (item_move i t) s q
 first-moved i c t b s q m u h = subst (λ x. Moved x s q) (m ∙ first-move i c t u) h
 
 -- a token that fits the stack, in front of what the new stack says
-taken : (f : Symbol) (t : Token) (p : ℕ) (s : Stream) (k b : List Symbol) (e : Stream) → Some b ≡ move f t → Pieces (b ++ rest_of f t k) s e
+taken : (f : Symbol) (t : Token) (p : ℕ) (s : Stream) (k b : List Symbol) (e : Stream) → Some b ≡ turn f t → Pieces (b ++ rest_of f t k) s e
     → Pieces (f ∷ k) (token t p s) e
 taken f t p s k b e m h =
     let x = pieces-split b (rest_of f t k) s e h in
@@ -166,7 +166,7 @@ taken f t p s k b e m h =
       inl y ↦ (q, move-back f t p s q (subst (λ u. Moved u s q) m x.1.0) y.0, y.1) |
       inr y ↦ (y.to,
         subst (λ g. Says g (token t p s) y.to) (sym y.first)
-        (first-back y.item y.close t p s q y.to (first-moved y.item y.close t b s q (m ∙ ap (λ g. move g t) y.first) y.unclosed x.1.0) y.more),
+        (first-back y.item y.close t p s q y.to (first-moved y.item y.close t b s q (m ∙ ap (λ g. turn g t) y.first) y.unclosed x.1.0) y.more),
         y.others)
     ]
 
@@ -174,7 +174,7 @@ some-same : (a b : List Symbol) → Some a ≡ Some b → a ≡ b
 some-same a b h = cc
 
 stepped : (f : Symbol) (t : Token) (p : ℕ) (s : Stream) (k k' : List Symbol) (e : Stream) (mv : Option (List Symbol)) (z : Bool)
-    → mv ≡ move f t → z ≡ is_empty f → onto mv (rest_of f t k) (if z then step k t else None) ≡ Some k' → Pieces k' s e
+    → mv ≡ turn f t → z ≡ is_empty f → onto mv (rest_of f t k) (if z then step k t else None) ≡ Some k' → Pieces k' s e
     → (step k t ≡ Some k' → Pieces k' s e → Pieces k (token t p s) e) → Pieces (f ∷ k) (token t p s) e
 stepped f t p s k k' e (Some b) z m i h g rec =
     taken f t p s k b e m (subst (λ u. Pieces u s e) (sym (some-same (b ++ rest_of f t k) k' h)) g)
@@ -185,7 +185,7 @@ pub step-back : (k : List Symbol) (t : Token) (p : ℕ) (s : Stream) (k' : List 
 unfolding step
 step-back [] t p s k' e h g = let z : ⊥ = cc in absurd z
 step-back (f ∷ k) t p s k' e h g =
-    stepped f t p s k k' e (move f t) (is_empty f) refl refl h g (λ h' g'. step-back k t p s k' e h' g')
+    stepped f t p s k k' e (turn f t) (is_empty f) refl refl h g (λ h' g'. step-back k t p s k' e h' g')
 
 pub ends-back : (k : List Symbol) (e : Stream) → can_end k ≡ true → Pieces k e e
 ends-back [] e h = refl
@@ -231,7 +231,7 @@ is-empty-fold t s h =
       (k.1 (spell_unfilled g.1.0 []) y.0 (g.1.1 [] y.0 (along g.0 y.0 g.2 [] y.0 refl)))))
 
 last-passes : (s e : Stream) → Takes (any (mark 41) ∷ []) s e → passes s (symbol.Mark 41 ∷ []) ≡ true
-unfolding passes step move
+unfolding passes step turn
 last-passes (end x) e h = absurd h
 last-passes (fault x) e h = absurd h
 last-passes (token t p s) e h = rw h.0 refl

@@ -17,7 +17,7 @@ use Rattle.kore_text.specs.Trees.{SortTree, sort_parameter, sort_applied, SortTr
 use Rattle.kore_text.specs.Trees.{PatternTree, element_variable, set_variable, string, symbol_applied, connected, binding, domain_value, folded}
 use Rattle.kore_text.specs.Trees.{PatternTrees, no_patterns, pattern_then, pattern_count}
 use Rattle.kore_text.specs.Grammar.{Want, placed, any, given, Spelling, listed, more_listed, in_order, Takes, sorts_of, arguments_of, takes, is_count, binder_sorts, binds_sets, is_variable, is_associative, is_foldable, spell_name, spell_names, spell_sort, spell_sorts, spell_pattern, spell_patterns}
-use Rattle.kore_text.specs.Table.{byte_of, symbol_of, is_mark, is_fold, move, step, passes, run, empty_fold, no_arguments, folded_arguments, more_exactly, exactly, argument_symbols, built_symbols}
+use Rattle.kore_text.specs.Table.{byte_of, symbol_of, is_mark, is_fold, turn, step, passes, run, empty_fold, no_arguments, folded_arguments, more_exactly, exactly, argument_symbols, built_symbols}
 use Rattle.std.proofs.lemmas.Slice.Eq.{bytes_eq-Decides}
 use Rattle.kore_text.specs.declared.names.Binder.{Binder}
 use Rattle.kore_text.specs.declared.names.Binder.TheVariants as binder

@@ -8,3 +8,4 @@ pub mod Returning
 pub mod Completing
 pub mod Explaining
 pub mod Cutting
+pub mod StackLaws

@@ -9,7 +9,7 @@ use Rattle.kore_text.specs.declared.symbols.Symbol.{Symbol}
 use Rattle.kore_text.specs.declared.symbols.Symbol.TheVariants as symbol
 use Rattle.kore_text.specs.TokenStream.{Token, identifier, set_identifier, builtin, string_token, mark, assign, Stream, end, fault, token}
 use Rattle.kore_text.specs.Grammar.{Want, placed, any, given, Spelling, listed, more_listed, in_order, Takes}
-use Rattle.kore_text.specs.Table.{byte_of, symbol_of, is_mark, is_fold, move, step, passes, run, empty_fold, more_exactly, exactly, can_end}
+use Rattle.kore_text.specs.Table.{byte_of, symbol_of, is_mark, is_fold, turn, step, passes, run, empty_fold, more_exactly, exactly, can_end}
 
 abbrev pub is_nil : List Symbol → Bool
 is_nil [] = true
@@ -70,7 +70,7 @@ pub same-number : (c : ℕ) → (c == c) ≡ true
 same-number c = grind (arith, nat_tests)
 
 mark-step : (c : ℕ) (k : List Symbol) → step (symbol.Mark c ∷ k) (mark c) ≡ Some k
-unfolding step move
+unfolding step turn
 mark-step c k = rw (same-number c) refl
 
 pub mark-goes : (c : ℕ) (w : List Want) (s e : Stream) → Takes (any (mark c) ∷ w) s e → Reaches (symbol.Mark c ∷ []) w s e
@@ -108,7 +108,7 @@ apart-comes (placed q t ∷ ws) (fault n) e a h = absurd h
 apart-comes (placed q t ∷ ws) (token u p s) e a h = rw h.0 a
 
 tail-step : (t : Token) (k : List Symbol) → is_mark 123 t ≡ false → step (symbol.SortTail ∷ k) t ≡ step k t
-unfolding step move
+unfolding step turn
 tail-step t k h = rw h refl
 
 tail-walks : (s : Stream) (k : List Symbol) → comes 123 s ≡ false → run s None (symbol.SortTail ∷ k) ≡ run s None k
@@ -157,13 +157,13 @@ apart-more [] close.Bracket w e = refl
 apart-more (g ∷ gs) c w e = refl
 
 more-closes : (i : Item) (c : Close) (k : List Symbol) → step (symbol.More i c ∷ k) (mark (byte_of c)) ≡ Some k
-unfolding step move
+unfolding step turn
 more-closes i close.Brace k = refl
 more-closes i close.Paren k = refl
 more-closes i close.Bracket k = refl
 
 more-comma : (i : Item) (c : Close) (k : List Symbol) → step (symbol.More i c ∷ k) (mark 44) ≡ Some (symbol_of i ∷ symbol.More i c ∷ k)
-unfolding step move
+unfolding step turn
 more-comma i close.Brace k = refl
 more-comma i close.Paren k = refl
 more-comma i close.Bracket k = refl
@@ -178,7 +178,7 @@ more-goes i c (g ∷ gs) w s e a h =
     (a.0.goes (more_listed gs (byte_of c) w) q (apart-more gs c w e) x) (λ r y. more-goes i c gs w r e a.1 y))
 
 first-closes : (i : Item) (c : Close) (k : List Symbol) → step (symbol.First i c ∷ k) (mark (byte_of c)) ≡ Some k
-unfolding step move
+unfolding step turn
 first-closes i close.Brace k = refl
 first-closes i close.Paren k = refl
 first-closes i close.Bracket k = refl
@@ -193,7 +193,7 @@ unmarked c assign h = refl
 
 first-step : (i : Item) (c : Close) (t : Token) (k : List Symbol) → is_plain t ≡ true
     → step (symbol.First i c ∷ k) t ≡ step (symbol_of i ∷ symbol.More i c ∷ k) t
-unfolding step move
+unfolding step turn
 first-step item.Name c t k h = rw (unmarked (byte_of c) t h) refl
 first-step item.Sort c t k h = rw (unmarked (byte_of c) t h) refl
 first-step (item.Pattern b) c t k h = rw (unmarked (byte_of c) t h) refl

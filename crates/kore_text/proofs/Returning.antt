@@ -17,7 +17,7 @@ use Rattle.kore_text.specs.Trees.{SortTree, sort_parameter, sort_applied, SortTr
 use Rattle.kore_text.specs.Trees.{PatternTree, element_variable, set_variable, string, symbol_applied, connected, binding, domain_value, folded}
 use Rattle.kore_text.specs.Trees.{PatternTrees, no_patterns, pattern_then, pattern_count}
 use Rattle.kore_text.specs.Grammar.{Want, placed, any, given, Spelling, listed, more_listed, in_order, Takes, sorts_of, arguments_of, takes, is_count, binder_sorts, binds_sets, is_variable, is_associative, is_foldable, spell_name, spell_names, spell_sort, spell_sorts, spell_pattern, spell_patterns}
-use Rattle.kore_text.specs.Table.{byte_of, symbol_of, is_mark, is_fold, move, step, passes, run, empty_fold, no_arguments, folded_arguments, more_exactly, exactly, argument_symbols, built_symbols}
+use Rattle.kore_text.specs.Table.{byte_of, symbol_of, is_mark, is_fold, turn, step, passes, run, empty_fold, no_arguments, folded_arguments, more_exactly, exactly, argument_symbols, built_symbols}
 use Rattle.std.proofs.lemmas.Slice.Eq.{bytes_eq-Decides}
 use Rattle.kore_text.specs.declared.names.Binder.{Binder}
 use Rattle.kore_text.specs.declared.names.Binder.TheVariants as binder
@@ -565,8 +565,8 @@ first-choice i c t p true s r a m n = subst (Says (symbol.First i c) (token t p 
 first-choice i c t p false s r a m n = let z : ⊥ = cc in absurd z
 
 -- a symbol that begins no list, by the move of its first token
-pub move-back : (f : Symbol) (t : Token) (p : ℕ) (s r : Stream) → Moved (move f t) s r → rest_of f t [] ≡ [] → Says f (token t p s) r
-unfolding move
+pub move-back : (f : Symbol) (t : Token) (p : ℕ) (s r : Stream) → Moved (turn f t) s r → rest_of f t [] ≡ [] → Says f (token t p s) r
+unfolding turn
 move-back (symbol.Mark c) t p s r m i = let x = when-back (is_mark c t) [] s r m in λ w e h. (mark-is c t x.0, along s r x.1 w e h)
 move-back symbol.Name t p s r m i = name-back t p s r m
 move-back symbol.Where t p s r m i = where-back t p s r m

@@ -6,3 +6,4 @@ pub mod Faults
 pub mod Left
 -- What only private functions cite.
 pub mod Table
+pub mod Stacks

@@ -31,6 +31,27 @@ abbrev pub is_mark : ℕ → Token → Bool
 is_mark c (mark d) = d == c
 is_mark c _ = false
 
+-- an identifier, or just this one
+abbrev pub is_name : Token → Bool
+is_name (identifier n) = true
+is_name _ = false
+
+abbrev pub is_word : List ℕ → Token → Bool
+is_word w (identifier n) = bytes_eq n w
+is_word w _ = false
+
+abbrev pub is_set_name : Token → Bool
+is_set_name (set_identifier n) = true
+is_set_name _ = false
+
+abbrev pub is_text : Token → Bool
+is_text (string_token n) = true
+is_text _ = false
+
+abbrev pub is_assign : Token → Bool
+is_assign assign = true
+is_assign _ = false
+
 abbrev pub when : Bool → List Symbol → Option (List Symbol)
 when true b = Some b
 when false b = None
@@ -70,20 +91,16 @@ folded_arguments b =
     symbol.Mark 40 ∷ symbol.Pattern b ∷ symbol.More (item.Pattern b) close.Paren ∷ []
 
 abbrev pub name_move : Token → Option (List Symbol)
-name_move (identifier n) = Some []
-name_move _ = None
+name_move t = when (is_name t) []
 
 abbrev pub text_move : Token → Option (List Symbol)
-text_move (string_token t) = Some []
-text_move _ = None
+text_move t = when (is_text t) []
 
 abbrev pub assign_move : Token → Option (List Symbol)
-assign_move assign = Some []
-assign_move _ = None
+assign_move t = when (is_assign t) []
 
 abbrev pub sort_move : Token → Option (List Symbol)
-sort_move (identifier n) = Some (symbol.SortTail ∷ [])
-sort_move _ = None
+sort_move t = when (is_name t) (symbol.SortTail ∷ [])
 
 abbrev pub built_move : Bool → Option Built → Option (List Symbol)
 built_move b None = None
@@ -103,9 +120,7 @@ pattern_tail_move b (mark c) =
 pattern_tail_move b _ = None
 
 abbrev pub variable_move : Bool → Token → Option (List Symbol)
-variable_move false (identifier n) = Some (symbol.Mark 58 ∷ symbol.Sort ∷ [])
-variable_move true (set_identifier n) = Some (symbol.Mark 58 ∷ symbol.Sort ∷ [])
-variable_move _ _ = None
+variable_move c t = when (if c then is_set_name t else is_name t) (symbol.Mark 58 ∷ symbol.Sort ∷ [])
 
 -- what is folded, with these symbols for its arguments
 abbrev pub folded_built_move : List Symbol → Option Built → Option (List Symbol)
@@ -146,33 +161,32 @@ declarations_move _ = None
 
 -- this word, and then these
 abbrev pub keyword_move : List ℕ → List Symbol → Token → Option (List Symbol)
-keyword_move w b (identifier n) = when (bytes_eq n w) b
-keyword_move w b _ = None
+keyword_move w b t = when (is_word w t) b
 
 -- what stands in the place of a symbol behind a token that fits it
-unfoldable pub move : Symbol → Token → Option (List Symbol)
-move (symbol.Mark c) t = when (is_mark c t) []
-move symbol.Name t = name_move t
-move symbol.Where t = keyword_move (codes "where") [] t
-move symbol.Assign t = assign_move t
-move symbol.Text t = text_move t
-move symbol.Sort t = sort_move t
-move symbol.SortTail t = when (is_mark 123 t) (symbol.First item.Sort close.Brace ∷ [])
-move (symbol.Pattern b) t = pattern_move b t
-move (symbol.PatternTail b) t = pattern_tail_move b t
-move (symbol.Variable b) t = variable_move b t
-move (symbol.Folded b) t = folded_move (folded_arguments b) t
-move symbol.EmptyFolded t = folded_move no_arguments t
-move (symbol.First i c) t = if is_mark (byte_of c) t then Some [] else item_move i t
-move (symbol.More i c) t =
+unfoldable pub turn : Symbol → Token → Option (List Symbol)
+turn (symbol.Mark c) t = when (is_mark c t) []
+turn symbol.Name t = name_move t
+turn symbol.Where t = keyword_move (codes "where") [] t
+turn symbol.Assign t = assign_move t
+turn symbol.Text t = text_move t
+turn symbol.Sort t = sort_move t
+turn symbol.SortTail t = when (is_mark 123 t) (symbol.First item.Sort close.Brace ∷ [])
+turn (symbol.Pattern b) t = pattern_move b t
+turn (symbol.PatternTail b) t = pattern_tail_move b t
+turn (symbol.Variable b) t = variable_move b t
+turn (symbol.Folded b) t = folded_move (folded_arguments b) t
+turn symbol.EmptyFolded t = folded_move no_arguments t
+turn (symbol.First i c) t = if is_mark (byte_of c) t then Some [] else item_move i t
+turn (symbol.More i c) t =
     if is_mark (byte_of c) t then Some [] else when (is_mark 44 t) (symbol_of i ∷ symbol.More i c ∷ [])
-move symbol.Attributes t = when (is_mark 91 t) (symbol.First (item.Pattern true) close.Bracket ∷ [])
-move symbol.Names t = when (is_mark 123 t) (symbol.First item.Name close.Brace ∷ [])
-move symbol.Signature t =
+turn symbol.Attributes t = when (is_mark 91 t) (symbol.First (item.Pattern true) close.Bracket ∷ [])
+turn symbol.Names t = when (is_mark 123 t) (symbol.First item.Name close.Brace ∷ [])
+turn symbol.Signature t =
     when (is_mark 40 t) (symbol.First item.Sort close.Paren ∷ symbol.Mark 58 ∷ symbol.Sort ∷ [])
-move symbol.Declarations t = declarations_move t
-move symbol.Module t = keyword_move (codes "module") (symbol.Name ∷ symbol.Declarations ∷ []) t
-move symbol.Modules t = keyword_move (codes "module") (symbol.Name ∷ symbol.Declarations ∷ symbol.Modules ∷ []) t
+turn symbol.Declarations t = declarations_move t
+turn symbol.Module t = keyword_move (codes "module") (symbol.Name ∷ symbol.Declarations ∷ []) t
+turn symbol.Modules t = keyword_move (codes "module") (symbol.Name ∷ symbol.Declarations ∷ symbol.Modules ∷ []) t
 
 -- what is still to come of the symbol's list behind its first token
 abbrev pub rest_of : Symbol → Token → List Symbol → List Symbol
@@ -192,7 +206,7 @@ onto None k other = other
 -- the stack behind a token; a symbol of which nothing need come may be left out
 unfoldable pub step : List Symbol → Token → Option (List Symbol)
 step [] t = None
-step (f ∷ k) t = onto (move f t) (rest_of f t k) (if is_empty f then step k t else None)
+step (f ∷ k) t = onto (turn f t) (rest_of f t k) (if is_empty f then step k t else None)
 
 abbrev pub can_end : List Symbol → Bool
 can_end [] = true

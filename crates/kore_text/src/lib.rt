@@ -7,9 +7,11 @@
 // has the moves by which one token at a time is looked at.
 #![tactic(auto)]
 
+mod expected;
 mod faults;
 mod names;
 mod symbols;
+mod words;
 mod tokens;
 
 pub use faults::TextFault;

@@ -1,5 +1,11 @@
 // What may come next in a text.
 
+ghost use Rattle.std.specs.Prelude.{◌≡◌};
+ghost use Rattle.kore_text.specs.TokenStream.{token_of};
+ghost use Rattle.kore_text.specs.Table.{byte_of, symbol_of, is_empty};
+
+use crate::words::Word;
+
 /// What ends a list.
 #[derive(Clone, Copy)]
 pub(crate) enum Close {
@@ -58,4 +64,56 @@ pub(crate) enum Symbol {
     Module,
     /// Modules up to the end.
     Modules,
+}
+
+impl Close {
+    /// The mark.
+    pub(crate) fn byte(self) -> u8
+        ensures { result ≡ byte_of self }
+    {
+        match self {
+            Close::Brace => b'}',
+            Close::Paren => b')',
+            Close::Bracket => b']',
+        }
+    }
+}
+
+impl Item {
+    /// The symbol of one item.
+    pub(crate) fn symbol(self) -> Symbol
+        ensures { result ≡ symbol_of self }
+    {
+        match self {
+            Item::Name => Symbol::Name,
+            Item::Sort => Symbol::Sort,
+            Item::Pattern(strings) => Symbol::Pattern(strings),
+        }
+    }
+}
+
+impl Symbol {
+    ghost use Rattle.kore_text.specs.Stacks.{is_left_out};
+
+    /// Whether nothing need come of it.
+    pub(crate) fn is_empty(self) -> bool
+        ensures { result ≡ is_empty self }
+    {
+        match self {
+            Symbol::SortTail | Symbol::Modules => true,
+            _ => false,
+        }
+    }
+
+    /// Whether nothing comes of it at this token.
+    #[tactic(auto, unfolding(crate::specs::Table::turn))]
+    pub(crate) fn is_left_out(self, word: &Word<'_>) -> bool
+        ensures { result ≡ is_left_out self (token_of word.now.kind word.now.bytes.now) }
+    {
+        match self {
+            Symbol::SortTail => !word.is_mark(b'{'),
+            Symbol::Modules => !word.is_word(b"module"),
+            _ => false,
+        }
+    }
 }
