@@ -9,3 +9,4 @@ pub mod Completing
 pub mod Explaining
 pub mod Cutting
 pub mod StackLaws
+pub mod Stepping
