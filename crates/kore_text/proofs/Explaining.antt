@@ -213,11 +213,11 @@ fits-definition r f =
       (k.1.1 (in_order (map spell_module g.1.0) []) (end f.0) (g.1.1 [] (end f.0) g.2))))
 
 -- the table's verdict is the first fault
-pub pattern-fault : (s : Stream) → IsFirstFault IsPattern 0 s (run s (Some 0) pattern_symbols)
-pattern-fault s =
+pub pattern_fault : (s : Stream) → IsFirstFault IsPattern 0 s (run s (Some 0) pattern_symbols)
+pattern_fault s =
     first-fault IsPattern pattern_symbols 0 s (run s (Some 0) pattern_symbols) fits-pattern accepts-pattern (explain s 0 pattern_symbols (run s (Some 0) pattern_symbols) refl)
 
-pub definition-fault : (s : Stream) → IsFirstFault IsDefinition 0 s (run s (Some 0) definition_symbols)
-definition-fault s =
+pub definition_fault : (s : Stream) → IsFirstFault IsDefinition 0 s (run s (Some 0) definition_symbols)
+definition_fault s =
     first-fault IsDefinition definition_symbols 0 s (run s (Some 0) definition_symbols) fits-definition accepts-definition
     (explain s 0 definition_symbols (run s (Some 0) definition_symbols) refl)

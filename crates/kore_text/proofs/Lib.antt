@@ -10,3 +10,4 @@ pub mod Explaining
 pub mod Cutting
 pub mod StackLaws
 pub mod Stepping
+pub mod Looking

@@ -7,3 +7,4 @@ pub mod Left
 -- What only private functions cite.
 pub mod Table
 pub mod Stacks
+pub mod Finding

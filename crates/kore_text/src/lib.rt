@@ -9,11 +9,13 @@
 
 mod expected;
 mod faults;
+mod finder;
 mod names;
 mod symbols;
 mod words;
 mod tokens;
 
 pub use faults::TextFault;
+pub use finder::{definition_fault, pattern_fault};
 pub use tokens::{Next, Tokens};
 pub use names::{Binder, Built, Op};
