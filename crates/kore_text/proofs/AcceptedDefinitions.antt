@@ -1,29 +1,20 @@
 -- Every spelling of a definition is accepted.
-use Rattle.std.proofs.Common.{◌≡◌, ℕ, zero, suc, ◌+◌, Bool, true, false, ◌==◌, ◌&&◌, IsTrue, List, [], ◌∷◌, ◌++◌, length, map, Option, Some, None, refl, ap, sym, ◌∙◌, subst, arith, codes}
-use Rattle.std.specs.Str.{bytes_eq}
-use Rattle.std.proofs.lemmas.Bool.Decides.{nat_tests}
-use Rattle.kore_text.specs.declared.names.Op.{Op}
-use Rattle.kore_text.specs.declared.names.Op.TheVariants as op
-use Rattle.kore_text.specs.declared.names.Built.{Built}
-use Rattle.kore_text.specs.declared.names.Built.TheVariants.{Connective, Binding, Value, Fold}
-use Rattle.kore_text.specs.declared.symbols.Close.{Close}
+use Rattle.std.proofs.Common.{◌≡◌, ℕ, Bool, true, false, IsTrue, List, [], ◌∷◌, ◌++◌, map, Some, None, refl, ◌∙◌, codes}
 use Rattle.kore_text.specs.declared.symbols.Close.TheVariants as close
-use Rattle.kore_text.specs.declared.symbols.Item.{Item}
 use Rattle.kore_text.specs.declared.symbols.Item.TheVariants as item
 use Rattle.kore_text.specs.declared.symbols.Symbol.{Symbol}
 use Rattle.kore_text.specs.declared.symbols.Symbol.TheVariants as symbol
-use Rattle.kore_text.specs.TokenStream.{Token, identifier, set_identifier, builtin, string_token, mark, assign, Stream, end, fault, token}
-use Rattle.kore_text.specs.Trees.{SortTree, sort_parameter, sort_applied, SortTrees, no_sorts, sort_then, sort_count}
-use Rattle.kore_text.specs.Trees.{PatternTree, element_variable, set_variable, string, symbol_applied, connected, binding, domain_value, folded}
-use Rattle.kore_text.specs.Trees.{PatternTrees, no_patterns, pattern_then, pattern_count}
-use Rattle.kore_text.specs.Grammar.{Want, placed, any, given, Spelling, listed, more_listed, in_order, Takes, sorts_of, arguments_of, takes, is_count, binder_sorts, binds_sets, is_variable, is_associative, is_foldable, spell_name, spell_names, spell_sort, spell_sorts, spell_pattern, spell_patterns}
-use Rattle.kore_text.specs.Table.{byte_of, symbol_of, is_mark, is_fold, turn, step, passes, run, empty_fold, no_arguments, folded_arguments, more_exactly, exactly, argument_symbols, built_symbols}
-use Rattle.kore_text.proofs.Reaching.{Reaches, done, after, by-token, any-placed, mark-goes, mark-then, Apart, tail-goes, is_plain, IsPlain, apart-more, Goes, AllGo, more-goes, first-goes, exactly-goes, pass-step}
-use Rattle.kore_text.specs.Trees.{ImportDeclaration, SortDeclaration, SymbolDeclaration, AliasDeclaration, AxiomDeclaration, ModuleTree, DefinitionTree}
+use Rattle.kore_text.specs.TokenStream.{identifier, mark, assign, Stream, end}
+use Rattle.kore_text.specs.Trees.{SortTree}
+use Rattle.kore_text.specs.Trees.{PatternTree}
+use Rattle.kore_text.specs.Grammar.{Want, any, listed, in_order, Takes, spell_name, spell_names, spell_sort, spell_pattern}
+use Rattle.kore_text.specs.Table.{turn, step, passes, run}
+use Rattle.kore_text.proofs.Reaching.{Reaches, done, after, by-token, any-placed, mark-then, Apart, first-goes}
+use Rattle.kore_text.specs.Trees.{AliasDeclaration, AxiomDeclaration, ModuleTree, DefinitionTree}
 use Rattle.kore_text.specs.Trees.{Declaration, import_declaration, sort_declaration, symbol_declaration, alias_declaration, axiom_declaration, claim_declaration}
-use Rattle.kore_text.specs.Grammar.{keyword, sort_word, symbol_word, spell_attributes, spell_signature, spell_import, spell_sort_declaration, spell_symbol_declaration, spell_alias, spell_statement, spell_declaration, spell_body, spell_module, spell_definition, is_some_module}
+use Rattle.kore_text.specs.Grammar.{keyword, sort_word, symbol_word, spell_attributes, spell_signature, spell_alias, spell_statement, spell_declaration, spell_body, spell_module, spell_definition, is_some_module}
 use Rattle.kore_text.specs.Faults.{IsPattern, IsDefinition}
-use Rattle.kore_text.specs.Table.{definition_symbols, pattern_symbols, can_end}
+use Rattle.kore_text.specs.Table.{definition_symbols, pattern_symbols}
 use Rattle.kore_text.proofs.Reaching.{is_nil}
 use Rattle.kore_text.proofs.Accepting.{name-goes, names-go, sort-goes, listed-go}
 use Rattle.kore_text.proofs.AcceptedPatterns.{pattern-goes, listed-patterns-go}

@@ -1,24 +1,18 @@
 -- Every spelling of a pattern is accepted.
-use Rattle.std.proofs.Common.{◌≡◌, ℕ, zero, suc, ◌+◌, Bool, true, false, ◌==◌, ◌&&◌, IsTrue, List, [], ◌∷◌, ◌++◌, length, map, Option, Some, None, refl, ap, sym, ◌∙◌, subst, arith, codes}
-use Rattle.std.specs.Str.{bytes_eq}
-use Rattle.std.proofs.lemmas.Bool.Decides.{nat_tests}
+use Rattle.std.proofs.Common.{◌≡◌, ℕ, Bool, true, false, ◌==◌, ◌&&◌, List, [], ◌∷◌, ◌++◌, map, Some, None, refl, ◌∙◌}
 use Rattle.kore_text.specs.declared.names.Op.{Op}
-use Rattle.kore_text.specs.declared.names.Op.TheVariants as op
-use Rattle.kore_text.specs.declared.names.Built.{Built}
 use Rattle.kore_text.specs.declared.names.Built.TheVariants.{Connective, Binding, Value, Fold}
-use Rattle.kore_text.specs.declared.symbols.Close.{Close}
 use Rattle.kore_text.specs.declared.symbols.Close.TheVariants as close
-use Rattle.kore_text.specs.declared.symbols.Item.{Item}
 use Rattle.kore_text.specs.declared.symbols.Item.TheVariants as item
 use Rattle.kore_text.specs.declared.symbols.Symbol.{Symbol}
 use Rattle.kore_text.specs.declared.symbols.Symbol.TheVariants as symbol
-use Rattle.kore_text.specs.TokenStream.{Token, identifier, set_identifier, builtin, string_token, mark, assign, Stream, end, fault, token}
-use Rattle.kore_text.specs.Trees.{SortTree, sort_parameter, sort_applied, SortTrees, no_sorts, sort_then, sort_count}
+use Rattle.kore_text.specs.TokenStream.{Token, identifier, set_identifier, builtin, string_token, mark, Stream, end, fault, token}
+use Rattle.kore_text.specs.Trees.{SortTree, SortTrees, sort_count}
 use Rattle.kore_text.specs.Trees.{PatternTree, element_variable, set_variable, string, symbol_applied, connected, binding, domain_value, folded}
 use Rattle.kore_text.specs.Trees.{PatternTrees, no_patterns, pattern_then, pattern_count}
-use Rattle.kore_text.specs.Grammar.{Want, placed, any, given, Spelling, listed, more_listed, in_order, Takes, sorts_of, arguments_of, takes, is_count, binder_sorts, binds_sets, is_variable, is_associative, is_foldable, spell_name, spell_names, spell_sort, spell_sorts, spell_pattern, spell_patterns}
-use Rattle.kore_text.specs.Table.{byte_of, symbol_of, is_mark, is_fold, turn, step, passes, run, empty_fold, no_arguments, folded_arguments, more_exactly, exactly, argument_symbols, built_symbols}
-use Rattle.kore_text.proofs.Reaching.{Reaches, done, after, by-token, any-placed, mark-goes, mark-then, Apart, tail-goes, is_plain, IsPlain, apart-more, Goes, AllGo, more-goes, first-goes, exactly-goes, pass-step}
+use Rattle.kore_text.specs.Grammar.{Want, placed, any, Spelling, listed, more_listed, Takes, sorts_of, arguments_of, takes, is_count, binder_sorts, binds_sets, is_variable, is_associative, is_foldable, spell_sort, spell_sorts, spell_pattern, spell_patterns}
+use Rattle.kore_text.specs.Table.{turn, step, passes, run, empty_fold, folded_arguments, exactly, argument_symbols, built_symbols}
+use Rattle.kore_text.proofs.Reaching.{Reaches, done, after, by-token, any-placed, mark-goes, mark-then, Apart, IsPlain, AllGo, first-goes, pass-step}
 use Rattle.kore_text.specs.declared.names.Binder.{Binder}
 use Rattle.kore_text.proofs.Reaching.{unmarked}
 use Rattle.kore_text.proofs.Accepting.{both, number-is, sort-goes, sorts-go, plain-pattern, pattern-step, set-step, string-step, built-step, colon-step, brace-step, text-step, folded-step, folded-built-step, empty-step, empty-built-step, colon-goes, variable-goes, single, sorts-exactly, arguments-go, arguments-folded}
@@ -57,7 +51,7 @@ pub binding-goes : (b : Bool) (at : ℕ) (o : Binder) (ss : SortTrees) (x p : Pa
     → ((sort_count ss == binder_sorts o) && is_variable (binds_sets o) x) ≡ true
     → ((w' : List Want) (s' : Stream) → Apart w' e → Takes (spell_pattern b p w') s' e → Reaches (symbol.Pattern b ∷ []) w' s' e)
     → Takes (placed at (builtin (Some (Binding o))) ∷ any (mark 123) ∷ listed (spell_sorts ss) 125 (any (mark 40)
-      ∷ spell_pattern b x (any (mark 44) ∷ spell_pattern b p (any (mark 41) ∷ w)))) s e
+    ∷ spell_pattern b x (any (mark 44) ∷ spell_pattern b p (any (mark 41) ∷ w)))) s e
     → Reaches (symbol.Pattern b ∷ []) w s e
 binding-goes b at o ss x p w s e t body h =
     let c = both (sort_count ss == binder_sorts o) (is_variable (binds_sets o) x) t in
@@ -153,8 +147,8 @@ not-empty : (b : Bool) (q : PatternTree) (w : List Want) (s e : Stream) → is_f
 not-empty b q w s e i h =
     let v : List Want = spell_pattern b q w in
     let r : Reaches (symbol.Mark 123 ∷ symbol.Mark 125 ∷ symbol.Mark 40 ∷ []) v s e =
-      mark-then 123 (symbol.Mark 125 ∷ symbol.Mark 40 ∷ []) (any (mark 125) ∷ any (mark 40) ∷ v) v s e h
-      (λ k x. mark-then 125 (symbol.Mark 40 ∷ []) (any (mark 40) ∷ v) v k e x (λ l y. mark-goes 40 v l e y))
+    mark-then 123 (symbol.Mark 125 ∷ symbol.Mark 40 ∷ []) (any (mark 125) ∷ any (mark 40) ∷ v) v s e h
+    (λ k x. mark-then 125 (symbol.Mark 40 ∷ []) (any (mark 40) ∷ v) v k e x (λ l y. mark-goes 40 v l e y))
     in r.passing (symbol.EmptyFolded ∷ []) refl ∙ filled b q w r.to e i r.rest
 
 fold-walks : (b left : Bool) (p : ℕ) (s : Stream) (k : List Symbol) → passes s empty_fold ≡ false

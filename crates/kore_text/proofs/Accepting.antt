@@ -1,24 +1,21 @@
 -- Every spelling is accepted.
-use Rattle.std.proofs.Common.{◌≡◌, ℕ, zero, suc, ◌+◌, Bool, true, false, ◌==◌, ◌&&◌, IsTrue, List, [], ◌∷◌, ◌++◌, length, map, Option, Some, None, refl, ap, sym, ◌∙◌, subst, arith, codes}
-use Rattle.std.specs.Str.{bytes_eq}
+use Rattle.std.proofs.Common.{◌≡◌, ℕ, suc, Bool, true, false, ◌==◌, ◌&&◌, IsTrue, List, [], ◌∷◌, ◌++◌, length, map, Option, Some, None, refl, ap, ◌∙◌, subst, arith}
 use Rattle.std.proofs.lemmas.Bool.Decides.{nat_tests}
 use Rattle.kore_text.specs.declared.names.Op.{Op}
 use Rattle.kore_text.specs.declared.names.Op.TheVariants as op
 use Rattle.kore_text.specs.declared.names.Built.{Built}
-use Rattle.kore_text.specs.declared.names.Built.TheVariants.{Connective, Binding, Value, Fold}
-use Rattle.kore_text.specs.declared.symbols.Close.{Close}
+use Rattle.kore_text.specs.declared.names.Built.TheVariants.{Connective}
 use Rattle.kore_text.specs.declared.symbols.Close.TheVariants as close
-use Rattle.kore_text.specs.declared.symbols.Item.{Item}
 use Rattle.kore_text.specs.declared.symbols.Item.TheVariants as item
 use Rattle.kore_text.specs.declared.symbols.Symbol.{Symbol}
 use Rattle.kore_text.specs.declared.symbols.Symbol.TheVariants as symbol
-use Rattle.kore_text.specs.TokenStream.{Token, identifier, set_identifier, builtin, string_token, mark, assign, Stream, end, fault, token}
+use Rattle.kore_text.specs.TokenStream.{identifier, set_identifier, builtin, string_token, mark, Stream, end, fault, token}
 use Rattle.kore_text.specs.Trees.{SortTree, sort_parameter, sort_applied, SortTrees, no_sorts, sort_then, sort_count}
 use Rattle.kore_text.specs.Trees.{PatternTree, element_variable, set_variable, string, symbol_applied, connected, binding, domain_value, folded}
 use Rattle.kore_text.specs.Trees.{PatternTrees, no_patterns, pattern_then, pattern_count}
-use Rattle.kore_text.specs.Grammar.{Want, placed, any, given, Spelling, listed, more_listed, in_order, Takes, sorts_of, arguments_of, takes, is_count, binder_sorts, binds_sets, is_variable, is_associative, is_foldable, spell_name, spell_names, spell_sort, spell_sorts, spell_pattern, spell_patterns}
-use Rattle.kore_text.specs.Table.{byte_of, symbol_of, is_mark, is_fold, turn, step, passes, run, empty_fold, no_arguments, folded_arguments, more_exactly, exactly, argument_symbols, built_symbols}
-use Rattle.kore_text.proofs.Reaching.{Reaches, done, after, by-token, any-placed, mark-goes, mark-then, Apart, tail-goes, is_plain, IsPlain, apart-more, Goes, AllGo, more-goes, first-goes, exactly-goes, pass-step}
+use Rattle.kore_text.specs.Grammar.{Want, placed, any, given, Spelling, listed, more_listed, Takes, sorts_of, is_count, is_variable, is_associative, spell_name, spell_sort, spell_sorts, spell_pattern, spell_patterns}
+use Rattle.kore_text.specs.Table.{turn, step, folded_arguments, exactly, argument_symbols, built_symbols}
+use Rattle.kore_text.proofs.Reaching.{Reaches, done, after, by-token, any-placed, mark-then, Apart, tail-goes, is_plain, IsPlain, apart-more, Goes, AllGo, more-goes, first-goes, exactly-goes}
 
 -- both parts of a test
 pub both : (a b : Bool) → IsTrue (a && b) → (a ≡ true) × (b ≡ true)

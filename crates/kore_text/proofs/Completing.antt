@@ -1,10 +1,5 @@
 -- What fits the stack can be completed, and what the table finds stands there.
-use Rattle.std.proofs.Common.{◌≡◌, ℕ, zero, suc, ◌+◌, Bool, true, false, ◌==◌, ◌&&◌, IsTrue, List, [], ◌∷◌, ◌++◌, length, map, Option, Some, None, refl, ap, sym, ◌∙◌, subst, arith, codes, cond, ◌⊎◌, inl, inr, if◌then◌else◌}
-use Rattle.std.specs.Str.{bytes_eq}
-use Rattle.std.proofs.lemmas.Bool.Decides.{nat_tests}
-use Rattle.kore_text.specs.declared.names.Op.{Op}
-use Rattle.kore_text.specs.declared.names.Op.TheVariants as op
-use Rattle.kore_text.specs.declared.names.Built.{Built}
+use Rattle.std.proofs.Common.{◌≡◌, ℕ, Bool, true, false, ◌&&◌, List, [], ◌∷◌, ◌++◌, Option, Some, None, refl, ap, sym, ◌∙◌, subst, codes, ◌⊎◌, inl, inr, if◌then◌else◌}
 use Rattle.kore_text.specs.declared.names.Built.TheVariants.{Connective, Binding, Value, Fold}
 use Rattle.kore_text.specs.declared.symbols.Close.{Close}
 use Rattle.kore_text.specs.declared.symbols.Close.TheVariants as close
@@ -13,31 +8,19 @@ use Rattle.kore_text.specs.declared.symbols.Item.TheVariants as item
 use Rattle.kore_text.specs.declared.symbols.Symbol.{Symbol}
 use Rattle.kore_text.specs.declared.symbols.Symbol.TheVariants as symbol
 use Rattle.kore_text.specs.TokenStream.{Token, identifier, set_identifier, builtin, string_token, mark, assign, Stream, end, fault, token}
-use Rattle.kore_text.specs.Trees.{SortTree, sort_parameter, sort_applied, SortTrees, no_sorts, sort_then, sort_count}
-use Rattle.kore_text.specs.Trees.{PatternTree, element_variable, set_variable, string, symbol_applied, connected, binding, domain_value, folded}
-use Rattle.kore_text.specs.Trees.{PatternTrees, no_patterns, pattern_then, pattern_count}
-use Rattle.kore_text.specs.Grammar.{Want, placed, any, given, Spelling, listed, more_listed, in_order, Takes, sorts_of, arguments_of, takes, is_count, binder_sorts, binds_sets, is_variable, is_associative, is_foldable, spell_name, spell_names, spell_sort, spell_sorts, spell_pattern, spell_patterns}
-use Rattle.kore_text.specs.Table.{byte_of, symbol_of, is_mark, is_fold, turn, step, passes, run, empty_fold, no_arguments, folded_arguments, more_exactly, exactly, argument_symbols, built_symbols}
-use Rattle.std.proofs.lemmas.Slice.Eq.{bytes_eq-Decides}
-use Rattle.kore_text.specs.declared.names.Binder.{Binder}
-use Rattle.kore_text.specs.declared.names.Binder.TheVariants as binder
-use Rattle.kore_text.specs.Trees.{sort_trees, pattern_trees, listed_sorts, listed_patterns}
-use Rattle.kore_text.specs.Trees.{ImportDeclaration, SortDeclaration, SymbolDeclaration, AliasDeclaration, AxiomDeclaration, ModuleTree, DefinitionTree}
-use Rattle.kore_text.specs.Trees.{Declaration, import_declaration, sort_declaration, symbol_declaration, alias_declaration, axiom_declaration, claim_declaration}
-use Rattle.kore_text.specs.Grammar.{spell_variable, keyword, sort_word, symbol_word, spell_attributes, spell_signature, spell_import, spell_sort_declaration, spell_symbol_declaration, spell_alias, spell_statement, spell_declaration, spell_body, spell_module, spell_definition, is_some_module}
-use Rattle.kore_text.specs.Faults.{FoldHead, of_symbol, of_connective, spell_unfilled, IsPattern, IsDefinition}
-use Rattle.kore_text.specs.Table.{when, name_move, item_move, sort_move, pattern_move, built_move, folded_move, folded_built_move, word_move, keyword_move, rest_of, is_empty, onto}
+use Rattle.kore_text.specs.Trees.{sort_parameter, no_sorts, sort_count}
+use Rattle.kore_text.specs.Trees.{element_variable, symbol_applied}
+use Rattle.kore_text.specs.Trees.{no_patterns, pattern_then}
+use Rattle.kore_text.specs.Grammar.{Want, any, listed, Takes, spell_sorts}
+use Rattle.kore_text.specs.Table.{byte_of, is_mark, is_fold, turn, step, passes, empty_fold}
+use Rattle.kore_text.specs.Faults.{FoldHead, of_symbol, of_connective, spell_unfilled}
+use Rattle.kore_text.specs.Table.{item_move, rest_of, is_empty, onto}
 use Rattle.kore_text.proofs.Accepting.{number-is}
-
-use Rattle.std.proofs.Common.{◌≤◌, ◌<◌, nat_lt}
-use Rattle.kore_text.specs.declared.faults.TextFault.{TextFault}
-use Rattle.kore_text.specs.declared.faults.TextFault.TheVariants.{Lex, Syntax, Deep}
-use Rattle.kore_text.specs.Faults.{opened, IsShallow, IsEmptyFold, Same, Begins, ShallowTo, FilledTo, open_behind, behind, IsGood, Stops, GoesDeep, IsFirstFault}
-use Rattle.kore_text.specs.Table.{can_end, onward, counted, is_deep, passes_on, pattern_symbols, definition_symbols}
-use Rattle.kore_text.proofs.Reaching.{Reaches, done, after, mark-goes, mark-then, pass-step, first-goes, IsPlain, unmarked}
-use Rattle.kore_text.proofs.Accepting.{both, single, sorts-go, sort-goes, sorts-exactly, empty-step, empty-built-step}
-use Rattle.kore_text.proofs.AcceptedDefinitions.{accepts-pattern, accepts-definition}
-use Rattle.kore_text.proofs.Saying.{To, ItemTree, spell_item, variable_token, Says, Pieces, along}
+use Rattle.kore_text.specs.Faults.{IsEmptyFold}
+use Rattle.kore_text.specs.Table.{can_end, passes_on}
+use Rattle.kore_text.proofs.Reaching.{Reaches, after, mark-goes, mark-then, pass-step, first-goes}
+use Rattle.kore_text.proofs.Accepting.{both, sorts-go, sorts-exactly, empty-step, empty-built-step}
+use Rattle.kore_text.proofs.Saying.{variable_token, Says, Pieces, along}
 use Rattle.kore_text.proofs.Returning.{Moved, first-back, move-back}
 
 -- each symbol can be completed
@@ -58,13 +41,18 @@ complete (symbol.PatternTail b) r =
     (token (mark 58) 0 (token (identifier x_name) 0 r), inl (sort_parameter 0 x_name, λ w e h. (refl, (refl, refl, h))))
 complete (symbol.Variable b) r =
     (token (variable_token b x_name) 0 (token (mark 58) 0 (token (identifier x_name) 0 r)), (0, x_name, sort_parameter 0 x_name, λ w e h. (refl, refl, (refl, (refl, refl, h)))))
-complete (symbol.Folded b) r =
-    (token (identifier x_name) 0 (token (mark 123) 0 (token (mark 125) 0 (token (mark 40) 0 (token (identifier x_name) 0 (token (mark 58) 0 (token (identifier x_name) 0 (token (mark 41) 0 r))))))),
-    (symbol_applied 0 x_name no_sorts (pattern_then (element_variable 0 x_name (sort_parameter 0 x_name)) no_patterns), refl,
-    λ w e h. (refl, refl, (refl, (refl, (refl, (refl, refl, (refl, (refl, refl, (refl, h))))))))))
-complete symbol.EmptyFolded r =
-    (token (identifier x_name) 0 (token (mark 123) 0 (token (mark 125) 0 (token (mark 40) 0 (token (mark 41) 0 r)))),
-    (of_symbol x_name no_sorts, λ w e h. (refl, (refl, (refl, (refl, (refl, h)))))))
+complete (symbol.Folded b) r = (
+  token (identifier x_name) 0 (token (mark 123) 0 (token (mark 125) 0 (token (mark 40) 0 (token (identifier x_name) 0 (token (mark 58) 0 (token (identifier x_name) 0 (token (mark 41) 0 r))))))),
+  (
+    symbol_applied 0 x_name no_sorts (pattern_then (element_variable 0 x_name (sort_parameter 0 x_name)) no_patterns),
+    refl,
+    λ w e h. (refl, refl, (refl, (refl, (refl, (refl, refl, (refl, (refl, refl, (refl, h)))))))),
+  ),
+)
+complete symbol.EmptyFolded r = (
+  token (identifier x_name) 0 (token (mark 123) 0 (token (mark 125) 0 (token (mark 40) 0 (token (mark 41) 0 r)))),
+  (of_symbol x_name no_sorts, λ w e h. (refl, (refl, (refl, (refl, (refl, h)))))),
+)
 complete (symbol.First i c) r = (token (mark (byte_of c)) 0 r, ([], λ w e h. (refl, h)))
 complete (symbol.More i c) r = (token (mark (byte_of c)) 0 r, ([], λ w e h. (refl, h)))
 complete symbol.Attributes r = (token (mark 91) 0 (token (mark 93) 0 r), ([], λ w e h. (refl, (refl, h))))
@@ -73,9 +61,10 @@ complete symbol.Signature r =
     (token (mark 40) 0 (token (mark 41) 0 (token (mark 58) 0 (token (identifier x_name) 0 r))), ([], sort_parameter 0 x_name, λ w e h. (refl, (refl, (refl, (refl, refl, h))))))
 complete symbol.Declarations r =
     (token (identifier (codes "endmodule")) 0 (token (mark 91) 0 (token (mark 93) 0 r)), ([], [], λ w e h. (refl, (refl, (refl, h)))))
-complete symbol.Module r =
-    (token (identifier (codes "module")) 0 (token (identifier x_name) 0 (token (identifier (codes "endmodule")) 0 (token (mark 91) 0 (token (mark 93) 0 r)))),
-    (record { at = 0; name = x_name; declarations = []; attributes = [] }, λ w e h. (refl, refl, (refl, (refl, (refl, (refl, h)))))))
+complete symbol.Module r = (
+  token (identifier (codes "module")) 0 (token (identifier x_name) 0 (token (identifier (codes "endmodule")) 0 (token (mark 91) 0 (token (mark 93) 0 r)))),
+  (record { at = 0; name = x_name; declarations = []; attributes = [] }, λ w e h. (refl, refl, (refl, (refl, (refl, (refl, h)))))),
+)
 complete symbol.Modules r = (r, ([], λ w e h. h))
 
 pub completes : (k : List Symbol) (e : Stream) → (s : Stream) × Pieces k s e
@@ -163,11 +152,13 @@ taken f t p s k b e m h =
     let x = pieces-split b (rest_of f t k) s e h in
     let q : Stream = x.0 in
     elim (rests f t k q e x.1.1) [
-      inl y ↦ (q, move-back f t p s q (subst (λ u. Moved u s q) m x.1.0) y.0, y.1) |
-      inr y ↦ (y.to,
+      | inl y ↦ (q, move-back f t p s q (subst (λ u. Moved u s q) m x.1.0) y.0, y.1)
+      | inr y ↦ (
+        y.to,
         subst (λ g. Says g (token t p s) y.to) (sym y.first)
-        (first-back y.item y.close t p s q y.to (first-moved y.item y.close t b s q (m ∙ ap (λ g. turn g t) y.first) y.unclosed x.1.0) y.more),
-        y.others)
+            (first-back y.item y.close t p s q y.to (first-moved y.item y.close t b s q (m ∙ ap (λ g. turn g t) y.first) y.unclosed x.1.0) y.more),
+        y.others,
+      )
     ]
 
 some-same : (a b : List Symbol) → Some a ≡ Some b → a ≡ b
@@ -224,11 +215,15 @@ is-empty-fold t s h =
     let y = passed s empty_fold x.1 in
     let m : Pieces empty_fold s y.0 = y.1 in
     let k : Pieces (symbol.Mark 40 ∷ symbol.EmptyFolded ∷ []) m.2.0 y.0 = m.2.2 in
-    let g : Pieces (symbol.EmptyFolded ∷ []) k.0 y.0 = k.2 in
-    (f.0, f.1, g.1.0, y.0,
+    let g : Pieces (symbol.EmptyFolded ∷ []) k.0 y.0 = k.2 in (
+      f.0,
+      f.1,
+      g.1.0,
+      y.0,
       m.1 (any (mark 125) ∷ any (mark 40) ∷ spell_unfilled g.1.0 []) y.0
-      (m.2.1 (any (mark 40) ∷ spell_unfilled g.1.0 []) y.0
-      (k.1 (spell_unfilled g.1.0 []) y.0 (g.1.1 [] y.0 (along g.0 y.0 g.2 [] y.0 refl)))))
+          (m.2.1 (any (mark 40) ∷ spell_unfilled g.1.0 []) y.0
+          (k.1 (spell_unfilled g.1.0 []) y.0 (g.1.1 [] y.0 (along g.0 y.0 g.2 [] y.0 refl)))),
+    )
 
 last-passes : (s e : Stream) → Takes (any (mark 41) ∷ []) s e → passes s (symbol.Mark 41 ∷ []) ≡ true
 unfolding passes step turn
@@ -268,7 +263,7 @@ pub fold-found : (t : Token) (s : Stream) → IsEmptyFold t s → (is_fold t && 
 fold-found t s h =
     let v : List Want = spell_unfilled h.2 [] in
     let r : Reaches (symbol.Mark 123 ∷ symbol.Mark 125 ∷ symbol.Mark 40 ∷ []) v s h.3 =
-      mark-then 123 (symbol.Mark 125 ∷ symbol.Mark 40 ∷ []) (any (mark 125) ∷ any (mark 40) ∷ v) v s h.3 h.4
-      (λ k x. mark-then 125 (symbol.Mark 40 ∷ []) (any (mark 40) ∷ v) v k h.3 x (λ l y. mark-goes 40 v l h.3 y)) in
+    mark-then 123 (symbol.Mark 125 ∷ symbol.Mark 40 ∷ []) (any (mark 125) ∷ any (mark 40) ∷ v) v s h.3 h.4
+    (λ k x. mark-then 125 (symbol.Mark 40 ∷ []) (any (mark 40) ∷ v) v k h.3 x (λ l y. mark-goes 40 v l h.3 y)) in
     let p : passes s empty_fold ≡ true = r.passing (symbol.EmptyFolded ∷ []) refl ∙ unfilled h.2 r.to h.3 r.rest in
     rw (h.1, p) refl

@@ -1,5 +1,5 @@
 -- The first of the tokens that were cut.
-use Rattle.std.proofs.Common.{◌≡◌, ◌≢◌, ℕ, ◌-◌, List, take, drop, Result, Ok, Err, refl, ap, sym, ◌∙◌, subst}
+use Rattle.std.proofs.Common.{◌≡◌, ◌≢◌, ℕ, ◌-◌, List, take, drop, Result, Ok, Err, refl, ap, sym, ◌∙◌}
 use Rattle.kore_lex.specs.declared.lexer.TokenKind.{TokenKind}
 use Rattle.kore_lex.specs.declared.lexer.TokenKind.TheVariants as kind
 use Rattle.kore_lex.specs.declared.lexer.Token.{Token as LexToken}

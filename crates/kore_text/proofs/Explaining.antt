@@ -1,45 +1,20 @@
 -- The verdict of the table is the first fault.
-use Rattle.std.proofs.Common.{◌≡◌, ℕ, zero, suc, ◌+◌, Bool, true, false, ◌==◌, ◌&&◌, IsTrue, List, [], ◌∷◌, ◌++◌, length, map, Option, Some, None, refl, ap, sym, ◌∙◌, subst, arith, codes, cond, ◌⊎◌, inl, inr, if◌then◌else◌}
-use Rattle.std.specs.Str.{bytes_eq}
+use Rattle.std.proofs.Common.{◌≡◌, ℕ, suc, Bool, true, false, ◌&&◌, List, [], ◌∷◌, map, Option, Some, None, refl, ap, sym, ◌∙◌, subst, arith, inl, inr, if◌then◌else◌}
 use Rattle.std.proofs.lemmas.Bool.Decides.{nat_tests}
-use Rattle.kore_text.specs.declared.names.Op.{Op}
-use Rattle.kore_text.specs.declared.names.Op.TheVariants as op
-use Rattle.kore_text.specs.declared.names.Built.{Built}
-use Rattle.kore_text.specs.declared.names.Built.TheVariants.{Connective, Binding, Value, Fold}
-use Rattle.kore_text.specs.declared.symbols.Close.{Close}
-use Rattle.kore_text.specs.declared.symbols.Close.TheVariants as close
-use Rattle.kore_text.specs.declared.symbols.Item.{Item}
-use Rattle.kore_text.specs.declared.symbols.Item.TheVariants as item
 use Rattle.kore_text.specs.declared.symbols.Symbol.{Symbol}
 use Rattle.kore_text.specs.declared.symbols.Symbol.TheVariants as symbol
-use Rattle.kore_text.specs.TokenStream.{Token, identifier, set_identifier, builtin, string_token, mark, assign, Stream, end, fault, token}
-use Rattle.kore_text.specs.Trees.{SortTree, sort_parameter, sort_applied, SortTrees, no_sorts, sort_then, sort_count}
-use Rattle.kore_text.specs.Trees.{PatternTree, element_variable, set_variable, string, symbol_applied, connected, binding, domain_value, folded}
-use Rattle.kore_text.specs.Trees.{PatternTrees, no_patterns, pattern_then, pattern_count}
-use Rattle.kore_text.specs.Grammar.{Want, placed, any, given, Spelling, listed, more_listed, in_order, Takes, sorts_of, arguments_of, takes, is_count, binder_sorts, binds_sets, is_variable, is_associative, is_foldable, spell_name, spell_names, spell_sort, spell_sorts, spell_pattern, spell_patterns}
-use Rattle.kore_text.specs.Table.{byte_of, symbol_of, is_mark, is_fold, turn, step, passes, run, empty_fold, no_arguments, folded_arguments, more_exactly, exactly, argument_symbols, built_symbols}
-use Rattle.std.proofs.lemmas.Slice.Eq.{bytes_eq-Decides}
-use Rattle.kore_text.specs.declared.names.Binder.{Binder}
-use Rattle.kore_text.specs.declared.names.Binder.TheVariants as binder
-use Rattle.kore_text.specs.Trees.{sort_trees, pattern_trees, listed_sorts, listed_patterns}
-use Rattle.kore_text.specs.Trees.{ImportDeclaration, SortDeclaration, SymbolDeclaration, AliasDeclaration, AxiomDeclaration, ModuleTree, DefinitionTree}
-use Rattle.kore_text.specs.Trees.{Declaration, import_declaration, sort_declaration, symbol_declaration, alias_declaration, axiom_declaration, claim_declaration}
-use Rattle.kore_text.specs.Grammar.{spell_variable, keyword, sort_word, symbol_word, spell_attributes, spell_signature, spell_import, spell_sort_declaration, spell_symbol_declaration, spell_alias, spell_statement, spell_declaration, spell_body, spell_module, spell_definition, is_some_module}
-use Rattle.kore_text.specs.Faults.{FoldHead, of_symbol, of_connective, spell_unfilled, IsPattern, IsDefinition}
-use Rattle.kore_text.specs.Table.{when, name_move, item_move, sort_move, pattern_move, built_move, folded_move, folded_built_move, word_move, keyword_move, rest_of, is_empty, onto}
-use Rattle.kore_text.proofs.Accepting.{number-is}
-
+use Rattle.kore_text.specs.TokenStream.{Token, Stream, end, fault, token}
+use Rattle.kore_text.specs.Grammar.{in_order}
+use Rattle.kore_text.specs.Table.{is_fold, step, passes, run, empty_fold}
+use Rattle.kore_text.specs.Grammar.{spell_module}
+use Rattle.kore_text.specs.Faults.{IsPattern, IsDefinition}
 use Rattle.std.proofs.Common.{◌≤◌, ◌<◌, nat_lt}
 use Rattle.kore_text.specs.declared.faults.TextFault.{TextFault}
 use Rattle.kore_text.specs.declared.faults.TextFault.TheVariants.{Lex, Syntax, Deep}
-use Rattle.kore_text.specs.Faults.{opened, IsShallow, IsEmptyFold, Same, Begins, ShallowTo, FilledTo, open_behind, behind, IsGood, Stops, GoesDeep, IsFirstFault}
-use Rattle.kore_text.specs.Table.{can_end, onward, counted, is_deep, passes_on, pattern_symbols, definition_symbols}
-use Rattle.kore_text.proofs.Reaching.{Reaches, done, after, mark-goes, mark-then, pass-step, first-goes, IsPlain, unmarked}
-use Rattle.kore_text.proofs.Accepting.{both, single, sorts-go, sort-goes, sorts-exactly, empty-step, empty-built-step}
+use Rattle.kore_text.specs.Faults.{opened, IsShallow, IsEmptyFold, Same, Begins, behind, IsGood, Stops, GoesDeep, IsFirstFault}
+use Rattle.kore_text.specs.Table.{can_end, onward, pattern_symbols, definition_symbols}
 use Rattle.kore_text.proofs.AcceptedDefinitions.{accepts-pattern, accepts-definition}
-use Rattle.kore_text.proofs.Saying.{To, ItemTree, spell_item, variable_token, Says, Pieces, along}
-use Rattle.kore_text.proofs.Returning.{Moved, first-back, move-back}
-
+use Rattle.kore_text.proofs.Saying.{Pieces}
 use Rattle.kore_text.proofs.Completing.{completes, ends-back, step-back, is-empty-fold, fold-found}
 
 -- what a verdict says, by the texts that go on and the texts that would be accepted
@@ -207,10 +182,15 @@ fits-definition : (r : Stream) → Fits definition_symbols r → IsDefinition r
 fits-definition r f =
     let m : Pieces definition_symbols r (end f.0) = f.1 in
     let k : Pieces (symbol.Module ∷ symbol.Modules ∷ []) m.0 (end f.0) = m.2 in
-    let g : Pieces (symbol.Modules ∷ []) k.0 (end f.0) = k.2 in
-    (record { attributes = m.1.0; modules = k.1.0 ∷ g.1.0 }, f.0, (refl,
-      m.1.1 (in_order (map spell_module (k.1.0 ∷ g.1.0)) []) (end f.0)
-      (k.1.1 (in_order (map spell_module g.1.0) []) (end f.0) (g.1.1 [] (end f.0) g.2))))
+    let g : Pieces (symbol.Modules ∷ []) k.0 (end f.0) = k.2 in (
+      record { attributes = m.1.0; modules = k.1.0 ∷ g.1.0 },
+      f.0,
+      (
+        refl,
+        m.1.1 (in_order (map spell_module (k.1.0 ∷ g.1.0)) []) (end f.0)
+            (k.1.1 (in_order (map spell_module g.1.0) []) (end f.0) (g.1.1 [] (end f.0) g.2)),
+      ),
+    )
 
 -- the table's verdict is the first fault
 pub pattern_fault : (s : Stream) → IsFirstFault IsPattern 0 s (run s (Some 0) pattern_symbols)

@@ -1,14 +1,13 @@
 -- What the table says at the next token.
-use Rattle.std.proofs.Common.{◌≡◌, ◌<◌, ◌≤◌, ℕ, zero, suc, ◌+◌, Bool, true, false, ◌&&◌, List, [], ◌∷◌, nat_lt, Option, Some, None, if◌then◌else◌, refl, ap, sym, ◌∙◌, subst, arith}
+use Rattle.std.proofs.Common.{◌≡◌, ◌<◌, ◌≤◌, ℕ, Bool, true, false, ◌&&◌, List, [], ◌∷◌, nat_lt, Option, Some, None, if◌then◌else◌, refl, ap, sym, ◌∙◌, subst, arith}
 use Rattle.std.proofs.lemmas.Bool.Decides.{nat_tests}
-use Rattle.kore_text.specs.declared.faults.TextFault.{TextFault}
 use Rattle.kore_text.specs.declared.faults.TextFault.TheVariants.{Lex, Syntax, Deep}
 use Rattle.kore_text.specs.declared.symbols.Symbol.{Symbol}
 use Rattle.kore_text.specs.TokenStream.{Token, Stream, end, fault, token}
 use Rattle.kore_text.specs.Faults.{opened}
 use Rattle.kore_text.specs.Left.{size}
 use Rattle.kore_text.specs.Stacks.{Steps, is_nil}
-use Rattle.kore_text.specs.Table.{step, passes, passes_on, run, empty_fold, is_fold, can_end, onward, counted, is_deep}
+use Rattle.kore_text.specs.Table.{step, passes, passes_on, run, empty_fold, is_fold, can_end, onward}
 
 pub size_token : (t : Token) (p : ℕ) (s r : Stream) → s ≡ token t p r → size r < size s
 unfolding size

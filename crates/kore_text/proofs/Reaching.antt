@@ -1,5 +1,5 @@
 -- The table goes on over what is spelled.
-use Rattle.std.proofs.Common.{◌≡◌, ℕ, zero, suc, Bool, true, false, ◌==◌, ◌&&◌, IsTrue, List, [], ◌∷◌, ◌++◌, length, map, Option, Some, None, refl, ap, sym, ◌∙◌, subst, arith}
+use Rattle.std.proofs.Common.{◌≡◌, ℕ, Bool, true, false, ◌==◌, List, [], ◌∷◌, ◌++◌, length, Some, None, refl, ◌∙◌, arith}
 use Rattle.std.proofs.lemmas.Bool.Decides.{nat_tests}
 use Rattle.kore_text.specs.declared.symbols.Close.{Close}
 use Rattle.kore_text.specs.declared.symbols.Close.TheVariants as close
@@ -8,8 +8,8 @@ use Rattle.kore_text.specs.declared.symbols.Item.TheVariants as item
 use Rattle.kore_text.specs.declared.symbols.Symbol.{Symbol}
 use Rattle.kore_text.specs.declared.symbols.Symbol.TheVariants as symbol
 use Rattle.kore_text.specs.TokenStream.{Token, identifier, set_identifier, builtin, string_token, mark, assign, Stream, end, fault, token}
-use Rattle.kore_text.specs.Grammar.{Want, placed, any, given, Spelling, listed, more_listed, in_order, Takes}
-use Rattle.kore_text.specs.Table.{byte_of, symbol_of, is_mark, is_fold, turn, step, passes, run, empty_fold, more_exactly, exactly, can_end}
+use Rattle.kore_text.specs.Grammar.{Want, placed, any, given, Spelling, listed, more_listed, Takes}
+use Rattle.kore_text.specs.Table.{byte_of, symbol_of, is_mark, is_fold, turn, step, passes, run, more_exactly, exactly}
 
 abbrev pub is_nil : List Symbol → Bool
 is_nil [] = true
@@ -219,8 +219,8 @@ first-goes i c [] w s e a h =
 first-goes i c (g ∷ gs) w s e a h =
     let p : IsPlain s = a.0.plain (more_listed gs (byte_of c) w) s h in
     let r : Reaches (symbol_of i ∷ symbol.More i c ∷ []) w s e =
-      after (symbol_of i) (symbol.More i c ∷ []) (more_listed gs (byte_of c) w) w s e
-      (a.0.goes (more_listed gs (byte_of c) w) s (apart-more gs c w e) h) (λ q y. more-goes i c gs w q e a.1 y)
+    after (symbol_of i) (symbol.More i c ∷ []) (more_listed gs (byte_of c) w) w s e
+    (a.0.goes (more_listed gs (byte_of c) w) s (apart-more gs c w e) h) (λ q y. more-goes i c gs w q e a.1 y)
     in record {
       to = r.to;
       rest = r.rest;

@@ -1,7 +1,6 @@
 -- What a token and what follows it say, by the move that it makes.
-use Rattle.std.proofs.Common.{◌≡◌, ℕ, zero, suc, ◌+◌, Bool, true, false, ◌==◌, ◌&&◌, IsTrue, List, [], ◌∷◌, ◌++◌, length, map, Option, Some, None, refl, ap, sym, ◌∙◌, subst, arith, codes, cond, ◌⊎◌, inl, inr, if◌then◌else◌}
+use Rattle.std.proofs.Common.{◌≡◌, ℕ, Bool, true, false, ◌==◌, ◌&&◌, List, [], ◌∷◌, length, map, Option, Some, None, refl, ap, sym, ◌∙◌, subst, codes, inl, inr, if◌then◌else◌}
 use Rattle.std.specs.Str.{bytes_eq}
-use Rattle.std.proofs.lemmas.Bool.Decides.{nat_tests}
 use Rattle.kore_text.specs.declared.names.Op.{Op}
 use Rattle.kore_text.specs.declared.names.Op.TheVariants as op
 use Rattle.kore_text.specs.declared.names.Built.{Built}
@@ -12,25 +11,23 @@ use Rattle.kore_text.specs.declared.symbols.Item.{Item}
 use Rattle.kore_text.specs.declared.symbols.Item.TheVariants as item
 use Rattle.kore_text.specs.declared.symbols.Symbol.{Symbol}
 use Rattle.kore_text.specs.declared.symbols.Symbol.TheVariants as symbol
-use Rattle.kore_text.specs.TokenStream.{Token, identifier, set_identifier, builtin, string_token, mark, assign, Stream, end, fault, token}
-use Rattle.kore_text.specs.Trees.{SortTree, sort_parameter, sort_applied, SortTrees, no_sorts, sort_then, sort_count}
+use Rattle.kore_text.specs.TokenStream.{Token, identifier, set_identifier, builtin, string_token, mark, assign, Stream, token}
+use Rattle.kore_text.specs.Trees.{SortTree, sort_parameter, sort_applied, no_sorts, sort_then, sort_count}
 use Rattle.kore_text.specs.Trees.{PatternTree, element_variable, set_variable, string, symbol_applied, connected, binding, domain_value, folded}
-use Rattle.kore_text.specs.Trees.{PatternTrees, no_patterns, pattern_then, pattern_count}
-use Rattle.kore_text.specs.Grammar.{Want, placed, any, given, Spelling, listed, more_listed, in_order, Takes, sorts_of, arguments_of, takes, is_count, binder_sorts, binds_sets, is_variable, is_associative, is_foldable, spell_name, spell_names, spell_sort, spell_sorts, spell_pattern, spell_patterns}
-use Rattle.kore_text.specs.Table.{byte_of, symbol_of, is_mark, is_fold, turn, step, passes, run, empty_fold, no_arguments, folded_arguments, more_exactly, exactly, argument_symbols, built_symbols}
+use Rattle.kore_text.specs.Trees.{pattern_then, pattern_count}
+use Rattle.kore_text.specs.Grammar.{Want, placed, any, listed, more_listed, in_order, Takes, sorts_of, arguments_of, takes, is_count, binder_sorts, binds_sets, is_variable, is_associative, spell_names, spell_sort, spell_sorts, spell_pattern, spell_patterns}
+use Rattle.kore_text.specs.Table.{byte_of, symbol_of, is_mark, turn, no_arguments, folded_arguments, exactly, argument_symbols, built_symbols}
 use Rattle.std.proofs.lemmas.Slice.Eq.{bytes_eq-Decides}
 use Rattle.kore_text.specs.declared.names.Binder.{Binder}
-use Rattle.kore_text.specs.declared.names.Binder.TheVariants as binder
-use Rattle.kore_text.specs.Trees.{sort_trees, pattern_trees, listed_sorts, listed_patterns}
-use Rattle.kore_text.specs.Trees.{ImportDeclaration, SortDeclaration, SymbolDeclaration, AliasDeclaration, AxiomDeclaration, ModuleTree, DefinitionTree}
-use Rattle.kore_text.specs.Trees.{Declaration, import_declaration, sort_declaration, symbol_declaration, alias_declaration, axiom_declaration, claim_declaration}
-use Rattle.kore_text.specs.Grammar.{spell_variable, keyword, sort_word, symbol_word, spell_attributes, spell_signature, spell_import, spell_sort_declaration, spell_symbol_declaration, spell_alias, spell_statement, spell_declaration, spell_body, spell_module, spell_definition, is_some_module}
-use Rattle.kore_text.specs.Faults.{FoldHead, of_symbol, of_connective, spell_unfilled, IsPattern, IsDefinition}
-use Rattle.kore_text.specs.Table.{when, name_move, item_move, sort_move, pattern_move, built_move, folded_move, folded_built_move, word_move, keyword_move, rest_of, is_empty, onto}
+use Rattle.kore_text.specs.Trees.{sort_trees, pattern_trees}
+use Rattle.kore_text.specs.Trees.{ModuleTree}
+use Rattle.kore_text.specs.Trees.{import_declaration, sort_declaration, symbol_declaration, alias_declaration, axiom_declaration, claim_declaration}
+use Rattle.kore_text.specs.Grammar.{spell_variable, sort_word, symbol_word, spell_attributes, spell_signature, spell_body, spell_module}
+use Rattle.kore_text.specs.Faults.{of_symbol, of_connective}
+use Rattle.kore_text.specs.Table.{when, name_move, item_move, sort_move, pattern_move, built_move, folded_move, folded_built_move, word_move, keyword_move, rest_of}
 use Rattle.kore_text.proofs.Accepting.{number-is}
-
 use Rattle.kore_text.specs.Table.{assign_move, text_move, pattern_tail_move, variable_move, declarations_move}
-use Rattle.kore_text.proofs.Accepting.{both, single}
+use Rattle.kore_text.proofs.Accepting.{single}
 use Rattle.kore_text.proofs.Saying.{To, ItemTree, spell_item, variable_token, Says, Pieces, along, spell_sorts-trees, spell_patterns-trees, sort_count-trees, pattern_count-trees, same-count, said, exactly-back}
 
 -- these symbols' parts stand there
@@ -89,9 +86,9 @@ assign-back assign p s r m = λ w e h. (refl, along s r m w e h)
 
 pub sort-back : (t : Token) (p : ℕ) (s r : Stream) → Moved (sort_move t) s r → Says symbol.Sort (token t p s) r
 sort-back (identifier n) p s r m = elim m.1 [
-    inl g ↦ (sort_parameter p n, λ w e h. (refl, refl, g w e (along m.0 r m.2 w e h))) |
-    inr g ↦ (sort_applied p n g.0, λ w e h. (refl, refl, g.1 w e (along m.0 r m.2 w e h)))
-  ]
+  | inl g ↦ (sort_parameter p n, λ w e h. (refl, refl, g w e (along m.0 r m.2 w e h)))
+  | inr g ↦ (sort_applied p n g.0, λ w e h. (refl, refl, g.1 w e (along m.0 r m.2 w e h)))
+]
 sort-back (set_identifier n) p s r m = absurd m
 sort-back (builtin x) p s r m = absurd m
 sort-back (string_token n) p s r m = absurd m
@@ -134,12 +131,20 @@ connected-back b o p s r m =
     let ys : List PatternTree = y.0 in
     let v : List Want → List Want = λ w. listed (spell_patterns b (pattern_trees ys)) 41 w in
     let fit : takes o (sort_count (sort_trees xs)) (pattern_count (pattern_trees ys)) ≡ true =
-      and-true (sort_count (sort_trees xs) == sorts_of o) (is_count (arguments_of o) (pattern_count (pattern_trees ys)))
-      (subst (λ k. (k == sorts_of o) ≡ true) (sym (sort_count-trees xs ∙ x.1.0)) (same-count (sorts_of o)))
-      (subst (λ k. is_count (arguments_of o) k ≡ true) (sym (pattern_count-trees ys)) y.1.0) in
-    (connected p o (sort_trees xs) (pattern_trees ys), λ w e h. (fit, (refl, refl,
-      m.1 (listed (spell_sorts (sort_trees xs)) 125 (any (mark 40) ∷ v w)) e
-      (as-sorts xs m.0 q2 x.1.1.1.0 (any (mark 40) ∷ v w) e (g.1 (v w) e (as-patterns b ys g.0 r y.1.1 w e h))))))
+    and-true (sort_count (sort_trees xs) == sorts_of o) (is_count (arguments_of o) (pattern_count (pattern_trees ys)))
+    (subst (λ k. (k == sorts_of o) ≡ true) (sym (sort_count-trees xs ∙ x.1.0)) (same-count (sorts_of o)))
+    (subst (λ k. is_count (arguments_of o) k ≡ true) (sym (pattern_count-trees ys)) y.1.0) in (
+      connected p o (sort_trees xs) (pattern_trees ys),
+      λ w e h. (
+        fit,
+        (
+          refl,
+          refl,
+          m.1 (listed (spell_sorts (sort_trees xs)) 125 (any (mark 40) ∷ v w)) e
+              (as-sorts xs m.0 q2 x.1.1.1.0 (any (mark 40) ∷ v w) e (g.1 (v w) e (as-patterns b ys g.0 r y.1.1 w e h))),
+        ),
+      ),
+    )
 
 abbrev variable_tree : Bool → ℕ → List ℕ → SortTree → PatternTree
 variable_tree true p n t = set_variable p n t
@@ -165,16 +170,24 @@ binding-back b o p s r m =
     let k : Pieces (symbol.Mark 44 ∷ symbol.Pattern b ∷ symbol.Mark 41 ∷ []) g.2.0 r = g.2.2 in
     let body : PatternTree = k.2.1.0 in
     let fit : ((sort_count (sort_trees xs) == binder_sorts o) && is_variable c tree) ≡ true =
-      and-true (sort_count (sort_trees xs) == binder_sorts o) (is_variable c tree)
-      (subst (λ j. (j == binder_sorts o) ≡ true) (sym (sort_count-trees xs ∙ x.1.0)) (same-count (binder_sorts o))) (is-variable c v.0 v.1 v.2) in
-    (binding p o (sort_trees xs) tree body, λ w e h. (fit, (refl, refl,
-      m.1 (listed (spell_sorts (sort_trees xs)) 125 (any (mark 40) ∷ spell_pattern b tree (any (mark 44) ∷ spell_pattern b body (any (mark 41) ∷ w)))) e
-      (as-sorts xs m.0 q2 x.1.1.1.0 (any (mark 40) ∷ spell_pattern b tree (any (mark 44) ∷ spell_pattern b body (any (mark 41) ∷ w))) e
-      (g.1 (spell_pattern b tree (any (mark 44) ∷ spell_pattern b body (any (mark 41) ∷ w))) e
-      (subst (λ u. Takes u g.0 e) (sym (variable-spelled b c v.0 v.1 v.2 (any (mark 44) ∷ spell_pattern b body (any (mark 41) ∷ w))))
-      (v.3 (any (mark 44) ∷ spell_pattern b body (any (mark 41) ∷ w)) e
-      (k.1 (spell_pattern b body (any (mark 41) ∷ w)) e
-      (k.2.1.1 (any (mark 41) ∷ w) e (k.2.2.1 w e (along k.2.2.0 r k.2.2.2 w e h)))))))))))
+    and-true (sort_count (sort_trees xs) == binder_sorts o) (is_variable c tree)
+    (subst (λ j. (j == binder_sorts o) ≡ true) (sym (sort_count-trees xs ∙ x.1.0)) (same-count (binder_sorts o))) (is-variable c v.0 v.1 v.2) in (
+      binding p o (sort_trees xs) tree body,
+      λ w e h. (
+        fit,
+        (
+          refl,
+          refl,
+          m.1 (listed (spell_sorts (sort_trees xs)) 125 (any (mark 40) ∷ spell_pattern b tree (any (mark 44) ∷ spell_pattern b body (any (mark 41) ∷ w)))) e
+              (as-sorts xs m.0 q2 x.1.1.1.0 (any (mark 40) ∷ spell_pattern b tree (any (mark 44) ∷ spell_pattern b body (any (mark 41) ∷ w))) e
+              (g.1 (spell_pattern b tree (any (mark 44) ∷ spell_pattern b body (any (mark 41) ∷ w))) e
+              (subst (λ u. Takes u g.0 e) (sym (variable-spelled b c v.0 v.1 v.2 (any (mark 44) ∷ spell_pattern b body (any (mark 41) ∷ w))))
+              (v.3 (any (mark 44) ∷ spell_pattern b body (any (mark 41) ∷ w)) e
+              (k.1 (spell_pattern b body (any (mark 41) ∷ w)) e
+              (k.2.1.1 (any (mark 41) ∷ w) e (k.2.2.1 w e (along k.2.2.0 r k.2.2.2 w e h)))))))),
+        ),
+      ),
+    )
 
 value-back : (b : Bool) (p : ℕ) (s r : Stream) → Pieces (built_symbols b Value) s r → Says (symbol.Pattern b) (token (builtin (Some Value)) p s) r
 value-back b p s r m =
@@ -182,24 +195,37 @@ value-back b p s r m =
     let k : Pieces (symbol.Mark 125 ∷ symbol.Mark 40 ∷ symbol.Text ∷ symbol.Mark 41 ∷ []) m.2.0 r = m.2.2 in
     let g : Pieces (symbol.Text ∷ symbol.Mark 41 ∷ []) k.2.0 r = k.2.2 in
     let x : List ℕ = g.1.0 in
-    let place : ℕ = g.1.1 in
-    (domain_value p t x place, λ w e h. (refl, refl,
-      m.1 (spell_sort t (any (mark 125) ∷ any (mark 40) ∷ placed place (string_token x) ∷ any (mark 41) ∷ w)) e
-      (m.2.1.1 (any (mark 125) ∷ any (mark 40) ∷ placed place (string_token x) ∷ any (mark 41) ∷ w) e
-      (k.1 (any (mark 40) ∷ placed place (string_token x) ∷ any (mark 41) ∷ w) e
-      (k.2.1 (placed place (string_token x) ∷ any (mark 41) ∷ w) e
-      (g.1.2 (any (mark 41) ∷ w) e (g.2.1 w e (along g.2.0 r g.2.2 w e h))))))))
+    let place : ℕ = g.1.1 in (
+      domain_value p t x place,
+      λ w e h. (
+        refl,
+        refl,
+        m.1 (spell_sort t (any (mark 125) ∷ any (mark 40) ∷ placed place (string_token x) ∷ any (mark 41) ∷ w)) e
+            (m.2.1.1 (any (mark 125) ∷ any (mark 40) ∷ placed place (string_token x) ∷ any (mark 41) ∷ w) e
+            (k.1 (any (mark 40) ∷ placed place (string_token x) ∷ any (mark 41) ∷ w) e
+            (k.2.1 (placed place (string_token x) ∷ any (mark 41) ∷ w) e
+            (g.1.2 (any (mark 41) ∷ w) e (g.2.1 w e (along g.2.0 r g.2.2 w e h)))))),
+      ),
+    )
 
 fold-back : (b left : Bool) (p : ℕ) (s r : Stream) → Pieces (built_symbols b (Fold left)) s r → Says (symbol.Pattern b) (token (builtin (Some (Fold left))) p s) r
 fold-back b left p s r m =
     let k : Pieces (symbol.Mark 40 ∷ symbol.Folded b ∷ symbol.Mark 41 ∷ []) m.2.0 r = m.2.2 in
     let q : PatternTree = k.2.1.0 in
-    let g : Pieces (symbol.Mark 41 ∷ []) k.2.0 r = k.2.2 in
-    (folded p left q, λ w e h. (k.2.1.1, (refl, refl,
-      m.1 (any (mark 125) ∷ any (mark 40) ∷ spell_pattern b q (any (mark 41) ∷ w)) e
-      (m.2.1 (any (mark 40) ∷ spell_pattern b q (any (mark 41) ∷ w)) e
-      (k.1 (spell_pattern b q (any (mark 41) ∷ w)) e
-      (k.2.1.2 (any (mark 41) ∷ w) e (g.1 w e (along g.0 r g.2 w e h))))))))
+    let g : Pieces (symbol.Mark 41 ∷ []) k.2.0 r = k.2.2 in (
+      folded p left q,
+      λ w e h. (
+        k.2.1.1,
+        (
+          refl,
+          refl,
+          m.1 (any (mark 125) ∷ any (mark 40) ∷ spell_pattern b q (any (mark 41) ∷ w)) e
+              (m.2.1 (any (mark 40) ∷ spell_pattern b q (any (mark 41) ∷ w)) e
+              (k.1 (spell_pattern b q (any (mark 41) ∷ w)) e
+              (k.2.1.2 (any (mark 41) ∷ w) e (g.1 w e (along g.0 r g.2 w e h))))),
+        ),
+      ),
+    )
 
 built-back : (b : Bool) (x : Option Built) (p : ℕ) (s r : Stream) → Moved (built_move b x) s r → Says (symbol.Pattern b) (token (builtin x) p s) r
 built-back b None p s r m = absurd m
@@ -210,9 +236,9 @@ built-back b (Some (Fold left)) p s r m = fold-back b left p s r m
 
 pub pattern-back : (b : Bool) (t : Token) (p : ℕ) (s r : Stream) → Moved (pattern_move b t) s r → Says (symbol.Pattern b) (token t p s) r
 pattern-back b (identifier n) p s r m = elim m.1 [
-    inl g ↦ (element_variable p n g.0, λ w e h. (refl, refl, g.1 w e (along m.0 r m.2 w e h))) |
-    inr g ↦ (symbol_applied p n g.0 g.1, λ w e h. (refl, refl, g.2 w e (along m.0 r m.2 w e h)))
-  ]
+  | inl g ↦ (element_variable p n g.0, λ w e h. (refl, refl, g.1 w e (along m.0 r m.2 w e h)))
+  | inr g ↦ (symbol_applied p n g.0 g.1, λ w e h. (refl, refl, g.2 w e (along m.0 r m.2 w e h)))
+]
 pattern-back b (set_identifier n) p s r m =
     (set_variable p n m.2.1.0, λ w e h. (refl, refl, m.1 (spell_sort m.2.1.0 w) e (m.2.1.1 w e (along m.2.0 r m.2.2 w e h))))
 pattern-back b (builtin x) p s r m = built-back b x p s r m
@@ -228,10 +254,16 @@ tail-choice b true y d p s r i j m =
     inl (m.1.0, λ w e h. (mark-is 58 (mark d) (sym i), m.1.1 w e (along m.0 r m.2 w e h)))
 tail-choice b false true d p s r i j m =
     let k : Pieces (symbol.Mark 40 ∷ symbol.First (item.Pattern b) close.Paren ∷ []) m.0 r = m.2 in
-    inr (sort_trees m.1.0, pattern_trees k.2.1.0, λ w e h. (mark-is 123 (mark d) (sym j),
-      as-sorts m.1.0 s m.0 m.1.1 (any (mark 40) ∷ listed (spell_patterns b (pattern_trees k.2.1.0)) 41 w) e
-      (k.1 (listed (spell_patterns b (pattern_trees k.2.1.0)) 41 w) e
-      (as-patterns b k.2.1.0 k.0 k.2.0 k.2.1.1 w e (along k.2.0 r k.2.2 w e h)))))
+    inr (
+      sort_trees m.1.0,
+      pattern_trees k.2.1.0,
+      λ w e h. (
+        mark-is 123 (mark d) (sym j),
+        as-sorts m.1.0 s m.0 m.1.1 (any (mark 40) ∷ listed (spell_patterns b (pattern_trees k.2.1.0)) 41 w) e
+            (k.1 (listed (spell_patterns b (pattern_trees k.2.1.0)) 41 w) e
+            (as-patterns b k.2.1.0 k.0 k.2.0 k.2.1.1 w e (along k.2.0 r k.2.2 w e h))),
+      ),
+    )
 tail-choice b false false d p s r i j m = absurd m
 
 pattern-tail-back : (b : Bool) (t : Token) (p : ℕ) (s r : Stream) → Moved (pattern_tail_move b t) s r → Says (symbol.PatternTail b) (token t p s) r
@@ -266,15 +298,24 @@ folded-connective-back b o p s r a m =
     let q : PatternTree = g.1.0 in
     let ps : List PatternTree = g.2.1.0 in
     let fit : takes o 1 (pattern_count (pattern_then q (pattern_trees ps))) ≡ true =
-      and-true (1 == sorts_of o) (is_count (arguments_of o) (pattern_count (pattern_then q (pattern_trees ps))))
-      (subst (λ n. (1 == n) ≡ true) (sym (single o a)) refl) (any-count o (pattern_count (pattern_then q (pattern_trees ps))) a) in
-    (connected p o (sort_then t no_sorts) (pattern_then q (pattern_trees ps)), and-true (is_associative o) true a refl, λ w e h. (fit, (refl, refl,
-      m.1 (spell_sort t (any (mark 125) ∷ any (mark 40) ∷ spell_pattern b q (more_listed (spell_patterns b (pattern_trees ps)) 41 w))) e
-      (m.2.1.1 (any (mark 125) ∷ any (mark 40) ∷ spell_pattern b q (more_listed (spell_patterns b (pattern_trees ps)) 41 w)) e
-      (k.1 (any (mark 40) ∷ spell_pattern b q (more_listed (spell_patterns b (pattern_trees ps)) 41 w)) e
-      (k.2.1 (spell_pattern b q (more_listed (spell_patterns b (pattern_trees ps)) 41 w)) e
-      (g.1.1 (more_listed (spell_patterns b (pattern_trees ps)) 41 w) e
-      (as-more-patterns b ps g.0 g.2.0 g.2.1.1 w e (along g.2.0 r g.2.2 w e h)))))))))
+    and-true (1 == sorts_of o) (is_count (arguments_of o) (pattern_count (pattern_then q (pattern_trees ps))))
+    (subst (λ n. (1 == n) ≡ true) (sym (single o a)) refl) (any-count o (pattern_count (pattern_then q (pattern_trees ps))) a) in (
+      connected p o (sort_then t no_sorts) (pattern_then q (pattern_trees ps)),
+      and-true (is_associative o) true a refl,
+      λ w e h. (
+        fit,
+        (
+          refl,
+          refl,
+          m.1 (spell_sort t (any (mark 125) ∷ any (mark 40) ∷ spell_pattern b q (more_listed (spell_patterns b (pattern_trees ps)) 41 w))) e
+              (m.2.1.1 (any (mark 125) ∷ any (mark 40) ∷ spell_pattern b q (more_listed (spell_patterns b (pattern_trees ps)) 41 w)) e
+              (k.1 (any (mark 40) ∷ spell_pattern b q (more_listed (spell_patterns b (pattern_trees ps)) 41 w)) e
+              (k.2.1 (spell_pattern b q (more_listed (spell_patterns b (pattern_trees ps)) 41 w)) e
+              (g.1.1 (more_listed (spell_patterns b (pattern_trees ps)) 41 w) e
+              (as-more-patterns b ps g.0 g.2.0 g.2.1.1 w e (along g.2.0 r g.2.2 w e h)))))),
+        ),
+      ),
+    )
 
 folded-symbol-back : (b : Bool) (n : List ℕ) (p : ℕ) (s r : Stream)
     → Pieces (symbol.Mark 123 ∷ symbol.First item.Sort close.Brace ∷ folded_arguments b) s r → Says (symbol.Folded b) (token (identifier n) p s) r
@@ -283,35 +324,55 @@ folded-symbol-back b n p s r m =
     let k : Pieces (folded_arguments b) m.2.0 r = m.2.2 in
     let g : Pieces (symbol.Pattern b ∷ symbol.More (item.Pattern b) close.Paren ∷ []) k.0 r = k.2 in
     let q : PatternTree = g.1.0 in
-    let ps : List PatternTree = g.2.1.0 in
-    (symbol_applied p n (sort_trees xs) (pattern_then q (pattern_trees ps)), refl, λ w e h. (refl, refl,
-      m.1 (listed (spell_sorts (sort_trees xs)) 125 (any (mark 40) ∷ spell_pattern b q (more_listed (spell_patterns b (pattern_trees ps)) 41 w))) e
-      (as-sorts xs m.0 m.2.0 m.2.1.1 (any (mark 40) ∷ spell_pattern b q (more_listed (spell_patterns b (pattern_trees ps)) 41 w)) e
-      (k.1 (spell_pattern b q (more_listed (spell_patterns b (pattern_trees ps)) 41 w)) e
-      (g.1.1 (more_listed (spell_patterns b (pattern_trees ps)) 41 w) e
-      (as-more-patterns b ps g.0 g.2.0 g.2.1.1 w e (along g.2.0 r g.2.2 w e h)))))))
+    let ps : List PatternTree = g.2.1.0 in (
+      symbol_applied p n (sort_trees xs) (pattern_then q (pattern_trees ps)),
+      refl,
+      λ w e h. (
+        refl,
+        refl,
+        m.1 (listed (spell_sorts (sort_trees xs)) 125 (any (mark 40) ∷ spell_pattern b q (more_listed (spell_patterns b (pattern_trees ps)) 41 w))) e
+            (as-sorts xs m.0 m.2.0 m.2.1.1 (any (mark 40) ∷ spell_pattern b q (more_listed (spell_patterns b (pattern_trees ps)) 41 w)) e
+            (k.1 (spell_pattern b q (more_listed (spell_patterns b (pattern_trees ps)) 41 w)) e
+            (g.1.1 (more_listed (spell_patterns b (pattern_trees ps)) 41 w) e
+            (as-more-patterns b ps g.0 g.2.0 g.2.1.1 w e (along g.2.0 r g.2.2 w e h))))),
+      ),
+    )
 
 empty-connective-back : (o : Op) (p : ℕ) (s r : Stream) → is_associative o ≡ true
     → Pieces (symbol.Mark 123 ∷ exactly symbol.Sort close.Brace 1 no_arguments) s r → Says symbol.EmptyFolded (token (builtin (Some (Connective o))) p s) r
 empty-connective-back o p s r a m =
     let t : SortTree = m.2.1.0 in
     let k : Pieces (symbol.Mark 125 ∷ no_arguments) m.2.0 r = m.2.2 in
-    let g : Pieces (symbol.Mark 41 ∷ []) k.2.0 r = k.2.2 in
-    (of_connective o (sort_then t no_sorts), λ w e h. (a, (refl, (refl,
-      m.1 (spell_sort t (any (mark 125) ∷ any (mark 40) ∷ any (mark 41) ∷ w)) e
-      (m.2.1.1 (any (mark 125) ∷ any (mark 40) ∷ any (mark 41) ∷ w) e
-      (k.1 (any (mark 40) ∷ any (mark 41) ∷ w) e (k.2.1 (any (mark 41) ∷ w) e (g.1 w e (along g.0 r g.2 w e h)))))))))
+    let g : Pieces (symbol.Mark 41 ∷ []) k.2.0 r = k.2.2 in (
+      of_connective o (sort_then t no_sorts),
+      λ w e h. (
+        a,
+        (
+          refl,
+          (
+            refl,
+            m.1 (spell_sort t (any (mark 125) ∷ any (mark 40) ∷ any (mark 41) ∷ w)) e
+                (m.2.1.1 (any (mark 125) ∷ any (mark 40) ∷ any (mark 41) ∷ w) e
+                (k.1 (any (mark 40) ∷ any (mark 41) ∷ w) e (k.2.1 (any (mark 41) ∷ w) e (g.1 w e (along g.0 r g.2 w e h))))),
+          ),
+        ),
+      ),
+    )
 
 empty-symbol-back : (n : List ℕ) (p : ℕ) (s r : Stream)
     → Pieces (symbol.Mark 123 ∷ symbol.First item.Sort close.Brace ∷ no_arguments) s r → Says symbol.EmptyFolded (token (identifier n) p s) r
 empty-symbol-back n p s r m =
     let xs : List SortTree = m.2.1.0 in
     let k : Pieces no_arguments m.2.0 r = m.2.2 in
-    let g : Pieces (symbol.Mark 41 ∷ []) k.0 r = k.2 in
-    (of_symbol n (sort_trees xs), λ w e h. (refl,
-      m.1 (listed (spell_sorts (sort_trees xs)) 125 (any (mark 40) ∷ any (mark 41) ∷ w)) e
-      (as-sorts xs m.0 m.2.0 m.2.1.1 (any (mark 40) ∷ any (mark 41) ∷ w) e
-      (k.1 (any (mark 41) ∷ w) e (g.1 w e (along g.0 r g.2 w e h))))))
+    let g : Pieces (symbol.Mark 41 ∷ []) k.0 r = k.2 in (
+      of_symbol n (sort_trees xs),
+      λ w e h. (
+        refl,
+        m.1 (listed (spell_sorts (sort_trees xs)) 125 (any (mark 40) ∷ any (mark 41) ∷ w)) e
+            (as-sorts xs m.0 m.2.0 m.2.1.1 (any (mark 40) ∷ any (mark 41) ∷ w) e
+            (k.1 (any (mark 41) ∷ w) e (g.1 w e (along g.0 r g.2 w e h)))),
+      ),
+    )
 
 folded-built-back : (b : Bool) (x : Option Built) (p : ℕ) (s r : Stream) → Moved (folded_built_move (folded_arguments b) x) s r → Says (symbol.Folded b) (token (builtin x) p s) r
 folded-built-back b None p s r m = absurd m
@@ -383,9 +444,15 @@ signature-back : (t : Token) (p : ℕ) (s r : Stream) → Moved (when (is_mark 4
 signature-back t p s r m =
     let x = when-back (is_mark 40 t) (symbol.First item.Sort close.Paren ∷ symbol.Mark 58 ∷ symbol.Sort ∷ []) s r m in
     let k : Pieces (symbol.Mark 58 ∷ symbol.Sort ∷ []) x.1.0 r = x.1.2 in
-    let u : SortTree = k.2.1.0 in
-    (x.1.1.0, u, λ w e h. (mark-is 40 t x.0, x.1.1.1 (any (mark 58) ∷ spell_sort u w) e
-      (k.1 (spell_sort u w) e (k.2.1.1 w e (along k.2.0 r k.2.2 w e h)))))
+    let u : SortTree = k.2.1.0 in (
+      x.1.1.0,
+      u,
+      λ w e h. (
+        mark-is 40 t x.0,
+        x.1.1.1 (any (mark 58) ∷ spell_sort u w) e
+            (k.1 (spell_sort u w) e (k.2.1.1 w e (along k.2.0 r k.2.2 w e h))),
+      ),
+    )
 
 word-is : (n w : List ℕ) → bytes_eq n w ≡ true → n ≡ w
 word-is n w h = (bytes_eq-Decides n w).0 h
@@ -406,9 +473,14 @@ where-back assign p s r m = absurd m
 module-back : (t : Token) (p : ℕ) (s r : Stream) → Moved (keyword_move (codes "module") (symbol.Name ∷ symbol.Declarations ∷ []) t) s r → Says symbol.Module (token t p s) r
 module-back (identifier n) p s r m =
     let x = keyword-choice n (codes "module") (symbol.Name ∷ symbol.Declarations ∷ []) s r m in
-    let k : Pieces (symbol.Declarations ∷ []) x.1.0 r = x.1.2 in
-    (record { at = p; name = x.1.1.0; declarations = k.1.0; attributes = k.1.1 }, λ w e h. (ap identifier x.0, refl,
-      x.1.1.1 (spell_body k.1.0 k.1.1 w) e (k.1.2 w e (along k.0 r k.2 w e h))))
+    let k : Pieces (symbol.Declarations ∷ []) x.1.0 r = x.1.2 in (
+      record { at = p; name = x.1.1.0; declarations = k.1.0; attributes = k.1.1 },
+      λ w e h. (
+        ap identifier x.0,
+        refl,
+        x.1.1.1 (spell_body k.1.0 k.1.1 w) e (k.1.2 w e (along k.0 r k.2 w e h)),
+      ),
+    )
 module-back (set_identifier n) p s r m = absurd m
 module-back (builtin x) p s r m = absurd m
 module-back (string_token n) p s r m = absurd m
@@ -419,10 +491,15 @@ modules-back : (t : Token) (p : ℕ) (s r : Stream) → Moved (keyword_move (cod
 modules-back (identifier n) p s r m =
     let x = keyword-choice n (codes "module") (symbol.Name ∷ symbol.Declarations ∷ symbol.Modules ∷ []) s r m in
     let k : Pieces (symbol.Declarations ∷ symbol.Modules ∷ []) x.1.0 r = x.1.2 in
-    let ms : List ModuleTree = k.2.1.0 in
-    (record { at = p; name = x.1.1.0; declarations = k.1.0; attributes = k.1.1 } ∷ ms, λ w e h. (ap identifier x.0, refl,
-      x.1.1.1 (spell_body k.1.0 k.1.1 (in_order (map spell_module ms) w)) e (k.1.2 (in_order (map spell_module ms) w) e
-      (k.2.1.1 w e (along k.2.0 r k.2.2 w e h)))))
+    let ms : List ModuleTree = k.2.1.0 in (
+      record { at = p; name = x.1.1.0; declarations = k.1.0; attributes = k.1.1 } ∷ ms,
+      λ w e h. (
+        ap identifier x.0,
+        refl,
+        x.1.1.1 (spell_body k.1.0 k.1.1 (in_order (map spell_module ms) w)) e (k.1.2 (in_order (map spell_module ms) w) e
+            (k.2.1.1 w e (along k.2.0 r k.2.2 w e h))),
+      ),
+    )
 modules-back (set_identifier n) p s r m = absurd m
 modules-back (builtin x) p s r m = absurd m
 modules-back (string_token n) p s r m = absurd m
@@ -440,20 +517,32 @@ endmodule-back n p s r i m = ([], m.1.0, λ w e h. (ap identifier i, m.1.1 w e (
 import-back : (n : List ℕ) (p : ℕ) (s r : Stream) → n ≡ codes "import" → Pieces (symbol.Name ∷ symbol.Attributes ∷ symbol.Declarations ∷ []) s r → Says symbol.Declarations (token (identifier n) p s) r
 import-back n p s r i m =
     let k : Pieces (symbol.Attributes ∷ symbol.Declarations ∷ []) m.0 r = m.2 in
-    let g : Pieces (symbol.Declarations ∷ []) k.0 r = k.2 in
-    (import_declaration (record { at = p; name = m.1.0; attributes = k.1.0 }) ∷ g.1.0, g.1.1, λ w e h. (ap identifier i, refl,
-      m.1.1 (spell_attributes k.1.0 (spell_body g.1.0 g.1.1 w)) e (k.1.1 (spell_body g.1.0 g.1.1 w) e (g.1.2 w e (along g.0 r g.2 w e h)))))
+    let g : Pieces (symbol.Declarations ∷ []) k.0 r = k.2 in (
+      import_declaration (record { at = p; name = m.1.0; attributes = k.1.0 }) ∷ g.1.0,
+      g.1.1,
+      λ w e h. (
+        ap identifier i,
+        refl,
+        m.1.1 (spell_attributes k.1.0 (spell_body g.1.0 g.1.1 w)) e (k.1.1 (spell_body g.1.0 g.1.1 w) e (g.1.2 w e (along g.0 r g.2 w e h))),
+      ),
+    )
 
 sort-declaration-back : (n : List ℕ) (b : Bool) (p : ℕ) (s r : Stream) → n ≡ sort_word b → Pieces (symbol.Name ∷ symbol.Names ∷ symbol.Attributes ∷ symbol.Declarations ∷ []) s r
     → Says symbol.Declarations (token (identifier n) p s) r
 sort-declaration-back n b p s r i m =
     let l : Pieces (symbol.Names ∷ symbol.Attributes ∷ symbol.Declarations ∷ []) m.0 r = m.2 in
     let k : Pieces (symbol.Attributes ∷ symbol.Declarations ∷ []) l.0 r = l.2 in
-    let g : Pieces (symbol.Declarations ∷ []) k.0 r = k.2 in
-    (sort_declaration (record { at = p; hooked = b; name = m.1.0; params = l.1.0; attributes = k.1.0 }) ∷ g.1.0, g.1.1, λ w e h. (ap identifier i, refl,
-      m.1.1 (spell_names l.1.0 (spell_attributes k.1.0 (spell_body g.1.0 g.1.1 w))) e
-      (l.1.1 (spell_attributes k.1.0 (spell_body g.1.0 g.1.1 w)) e
-      (k.1.1 (spell_body g.1.0 g.1.1 w) e (g.1.2 w e (along g.0 r g.2 w e h))))))
+    let g : Pieces (symbol.Declarations ∷ []) k.0 r = k.2 in (
+      sort_declaration (record { at = p; hooked = b; name = m.1.0; params = l.1.0; attributes = k.1.0 }) ∷ g.1.0,
+      g.1.1,
+      λ w e h. (
+        ap identifier i,
+        refl,
+        m.1.1 (spell_names l.1.0 (spell_attributes k.1.0 (spell_body g.1.0 g.1.1 w))) e
+            (l.1.1 (spell_attributes k.1.0 (spell_body g.1.0 g.1.1 w)) e
+            (k.1.1 (spell_body g.1.0 g.1.1 w) e (g.1.2 w e (along g.0 r g.2 w e h)))),
+      ),
+    )
 
 symbol-declaration-back : (n : List ℕ) (b : Bool) (p : ℕ) (s r : Stream) → n ≡ symbol_word b
     → Pieces (symbol.Name ∷ symbol.Names ∷ symbol.Signature ∷ symbol.Attributes ∷ symbol.Declarations ∷ []) s r → Says symbol.Declarations (token (identifier n) p s) r
@@ -461,28 +550,34 @@ symbol-declaration-back n b p s r i m =
     let l : Pieces (symbol.Names ∷ symbol.Signature ∷ symbol.Attributes ∷ symbol.Declarations ∷ []) m.0 r = m.2 in
     let j : Pieces (symbol.Signature ∷ symbol.Attributes ∷ symbol.Declarations ∷ []) l.0 r = l.2 in
     let k : Pieces (symbol.Attributes ∷ symbol.Declarations ∷ []) j.0 r = j.2 in
-    let g : Pieces (symbol.Declarations ∷ []) k.0 r = k.2 in
-    (symbol_declaration (record { at = p; hooked = b; name = m.1.0; params = l.1.0; args = j.1.0; result = j.1.1; attributes = k.1.0 }) ∷ g.1.0, g.1.1, λ w e h. (ap identifier i, refl,
-      m.1.1 (spell_names l.1.0 (spell_signature j.1.0 j.1.1 (spell_attributes k.1.0 (spell_body g.1.0 g.1.1 w)))) e
-      (l.1.1 (spell_signature j.1.0 j.1.1 (spell_attributes k.1.0 (spell_body g.1.0 g.1.1 w))) e
-      (j.1.2 (spell_attributes k.1.0 (spell_body g.1.0 g.1.1 w)) e
-      (k.1.1 (spell_body g.1.0 g.1.1 w) e (g.1.2 w e (along g.0 r g.2 w e h)))))))
+    let g : Pieces (symbol.Declarations ∷ []) k.0 r = k.2 in (
+      symbol_declaration (record { at = p; hooked = b; name = m.1.0; params = l.1.0; args = j.1.0; result = j.1.1; attributes = k.1.0 }) ∷ g.1.0,
+      g.1.1,
+      λ w e h. (
+        ap identifier i,
+        refl,
+        m.1.1 (spell_names l.1.0 (spell_signature j.1.0 j.1.1 (spell_attributes k.1.0 (spell_body g.1.0 g.1.1 w)))) e
+            (l.1.1 (spell_signature j.1.0 j.1.1 (spell_attributes k.1.0 (spell_body g.1.0 g.1.1 w))) e
+            (j.1.2 (spell_attributes k.1.0 (spell_body g.1.0 g.1.1 w)) e
+            (k.1.1 (spell_body g.1.0 g.1.1 w) e (g.1.2 w e (along g.0 r g.2 w e h))))),
+      ),
+    )
 
 alias-back : (n : List ℕ) (p : ℕ) (s r : Stream) → n ≡ codes "alias"
     → Pieces (symbol.Name ∷ symbol.Names ∷ symbol.Signature ∷ symbol.Where ∷ symbol.Name ∷ symbol.Mark 123 ∷ symbol.First item.Sort close.Brace ∷ symbol.Mark 40
-      ∷ symbol.First (item.Pattern false) close.Paren ∷ symbol.Assign ∷ symbol.Pattern false ∷ symbol.Attributes ∷ symbol.Declarations ∷ []) s r
+    ∷ symbol.First (item.Pattern false) close.Paren ∷ symbol.Assign ∷ symbol.Pattern false ∷ symbol.Attributes ∷ symbol.Declarations ∷ []) s r
     → Says symbol.Declarations (token (identifier n) p s) r
 alias-back n p s r i m =
     let m1 : Pieces (symbol.Names ∷ symbol.Signature ∷ symbol.Where ∷ symbol.Name ∷ symbol.Mark 123 ∷ symbol.First item.Sort close.Brace ∷ symbol.Mark 40
-      ∷ symbol.First (item.Pattern false) close.Paren ∷ symbol.Assign ∷ symbol.Pattern false ∷ symbol.Attributes ∷ symbol.Declarations ∷ []) m.0 r = m.2 in
+    ∷ symbol.First (item.Pattern false) close.Paren ∷ symbol.Assign ∷ symbol.Pattern false ∷ symbol.Attributes ∷ symbol.Declarations ∷ []) m.0 r = m.2 in
     let m2 : Pieces (symbol.Signature ∷ symbol.Where ∷ symbol.Name ∷ symbol.Mark 123 ∷ symbol.First item.Sort close.Brace ∷ symbol.Mark 40
-      ∷ symbol.First (item.Pattern false) close.Paren ∷ symbol.Assign ∷ symbol.Pattern false ∷ symbol.Attributes ∷ symbol.Declarations ∷ []) m1.0 r = m1.2 in
+    ∷ symbol.First (item.Pattern false) close.Paren ∷ symbol.Assign ∷ symbol.Pattern false ∷ symbol.Attributes ∷ symbol.Declarations ∷ []) m1.0 r = m1.2 in
     let m3 : Pieces (symbol.Where ∷ symbol.Name ∷ symbol.Mark 123 ∷ symbol.First item.Sort close.Brace ∷ symbol.Mark 40
-      ∷ symbol.First (item.Pattern false) close.Paren ∷ symbol.Assign ∷ symbol.Pattern false ∷ symbol.Attributes ∷ symbol.Declarations ∷ []) m2.0 r = m2.2 in
+    ∷ symbol.First (item.Pattern false) close.Paren ∷ symbol.Assign ∷ symbol.Pattern false ∷ symbol.Attributes ∷ symbol.Declarations ∷ []) m2.0 r = m2.2 in
     let m4 : Pieces (symbol.Name ∷ symbol.Mark 123 ∷ symbol.First item.Sort close.Brace ∷ symbol.Mark 40
-      ∷ symbol.First (item.Pattern false) close.Paren ∷ symbol.Assign ∷ symbol.Pattern false ∷ symbol.Attributes ∷ symbol.Declarations ∷ []) m3.0 r = m3.2 in
+    ∷ symbol.First (item.Pattern false) close.Paren ∷ symbol.Assign ∷ symbol.Pattern false ∷ symbol.Attributes ∷ symbol.Declarations ∷ []) m3.0 r = m3.2 in
     let m5 : Pieces (symbol.Mark 123 ∷ symbol.First item.Sort close.Brace ∷ symbol.Mark 40
-      ∷ symbol.First (item.Pattern false) close.Paren ∷ symbol.Assign ∷ symbol.Pattern false ∷ symbol.Attributes ∷ symbol.Declarations ∷ []) m4.0 r = m4.2 in
+    ∷ symbol.First (item.Pattern false) close.Paren ∷ symbol.Assign ∷ symbol.Pattern false ∷ symbol.Attributes ∷ symbol.Declarations ∷ []) m4.0 r = m4.2 in
     let m6 : Pieces (symbol.First item.Sort close.Brace ∷ symbol.Mark 40 ∷ symbol.First (item.Pattern false) close.Paren ∷ symbol.Assign ∷ symbol.Pattern false ∷ symbol.Attributes ∷ symbol.Declarations ∷ []) m5.0 r = m5.2 in
     let m7 : Pieces (symbol.Mark 40 ∷ symbol.First (item.Pattern false) close.Paren ∷ symbol.Assign ∷ symbol.Pattern false ∷ symbol.Attributes ∷ symbol.Declarations ∷ []) m6.0 r = m6.2 in
     let m8 : Pieces (symbol.First (item.Pattern false) close.Paren ∷ symbol.Assign ∷ symbol.Pattern false ∷ symbol.Attributes ∷ symbol.Declarations ∷ []) m7.0 r = m7.2 in
@@ -496,45 +591,66 @@ alias-back n p s r i m =
     let v5 : List Want → List Want = λ w. listed (map (spell_pattern false) m8.1.0) 41 (any assign ∷ v6 w) in
     let v4 : List Want → List Want = λ w. listed (map spell_sort m6.1.0) 125 (any (mark 40) ∷ v5 w) in
     let v3 : List Want → List Want = λ w. any (identifier m4.1.0) ∷ any (mark 123) ∷ v4 w in
-    let v2 : List Want → List Want = λ w. spell_signature m2.1.0 m2.1.1 (any (identifier (codes "where")) ∷ v3 w) in
-    (alias_declaration (record {
-      at = p;
-      hooked = false;
-      name = m.1.0;
-      params = m1.1.0;
-      args = m2.1.0;
-      result = m2.1.1;
-      left_name = m4.1.0;
-      left_sorts = m6.1.0;
-      vars = m8.1.0;
-      body = n1.1.0;
-      attributes = n2.1.0;
-    }) ∷ n3.1.0, n3.1.1, λ w e h. (refl, (ap identifier i, refl,
-      m.1.1 (spell_names m1.1.0 (v2 w)) e (m1.1.1 (v2 w) e (m2.1.2 (any (identifier (codes "where")) ∷ v3 w) e (m3.1 (v3 w) e (m4.1.1 (any (mark 123) ∷ v4 w) e
-      (m5.1 (v4 w) e (m6.1.1 (any (mark 40) ∷ v5 w) e (m7.1 (v5 w) e (m8.1.1 (any assign ∷ v6 w) e (m9.1 (v6 w) e (n1.1.1 (v7 w) e (n2.1.1 (v8 w) e
-      (n3.1.2 w e (along n3.0 r n3.2 w e h))))))))))))))))
+    let v2 : List Want → List Want = λ w. spell_signature m2.1.0 m2.1.1 (any (identifier (codes "where")) ∷ v3 w) in (
+      alias_declaration (record {
+        at = p;
+        hooked = false;
+        name = m.1.0;
+        params = m1.1.0;
+        args = m2.1.0;
+        result = m2.1.1;
+        left_name = m4.1.0;
+        left_sorts = m6.1.0;
+        vars = m8.1.0;
+        body = n1.1.0;
+        attributes = n2.1.0;
+      }) ∷ n3.1.0,
+      n3.1.1,
+      λ w e h. (
+        refl,
+        (
+          ap identifier i,
+          refl,
+          m.1.1 (spell_names m1.1.0 (v2 w)) e (m1.1.1 (v2 w) e (m2.1.2 (any (identifier (codes "where")) ∷ v3 w) e (m3.1 (v3 w) e (m4.1.1 (any (mark 123) ∷ v4 w) e
+              (m5.1 (v4 w) e (m6.1.1 (any (mark 40) ∷ v5 w) e (m7.1 (v5 w) e (m8.1.1 (any assign ∷ v6 w) e (m9.1 (v6 w) e (n1.1.1 (v7 w) e (n2.1.1 (v8 w) e
+              (n3.1.2 w e (along n3.0 r n3.2 w e h))))))))))))),
+        ),
+      ),
+    )
 
 axiom-back : (n : List ℕ) (p : ℕ) (s r : Stream) → n ≡ codes "axiom" → Pieces (symbol.Names ∷ symbol.Pattern false ∷ symbol.Attributes ∷ symbol.Declarations ∷ []) s r
     → Says symbol.Declarations (token (identifier n) p s) r
 axiom-back n p s r i m =
     let l : Pieces (symbol.Pattern false ∷ symbol.Attributes ∷ symbol.Declarations ∷ []) m.0 r = m.2 in
     let k : Pieces (symbol.Attributes ∷ symbol.Declarations ∷ []) l.0 r = l.2 in
-    let g : Pieces (symbol.Declarations ∷ []) k.0 r = k.2 in
-    (axiom_declaration (record { at = p; params = m.1.0; pattern = l.1.0; attributes = k.1.0 }) ∷ g.1.0, g.1.1, λ w e h. (ap identifier i, refl,
-      m.1.1 (spell_pattern false l.1.0 (spell_attributes k.1.0 (spell_body g.1.0 g.1.1 w))) e
-      (l.1.1 (spell_attributes k.1.0 (spell_body g.1.0 g.1.1 w)) e
-      (k.1.1 (spell_body g.1.0 g.1.1 w) e (g.1.2 w e (along g.0 r g.2 w e h))))))
+    let g : Pieces (symbol.Declarations ∷ []) k.0 r = k.2 in (
+      axiom_declaration (record { at = p; params = m.1.0; pattern = l.1.0; attributes = k.1.0 }) ∷ g.1.0,
+      g.1.1,
+      λ w e h. (
+        ap identifier i,
+        refl,
+        m.1.1 (spell_pattern false l.1.0 (spell_attributes k.1.0 (spell_body g.1.0 g.1.1 w))) e
+            (l.1.1 (spell_attributes k.1.0 (spell_body g.1.0 g.1.1 w)) e
+            (k.1.1 (spell_body g.1.0 g.1.1 w) e (g.1.2 w e (along g.0 r g.2 w e h)))),
+      ),
+    )
 
 claim-back : (n : List ℕ) (p : ℕ) (s r : Stream) → n ≡ codes "claim" → Pieces (symbol.Names ∷ symbol.Pattern false ∷ symbol.Attributes ∷ symbol.Declarations ∷ []) s r
     → Says symbol.Declarations (token (identifier n) p s) r
 claim-back n p s r i m =
     let l : Pieces (symbol.Pattern false ∷ symbol.Attributes ∷ symbol.Declarations ∷ []) m.0 r = m.2 in
     let k : Pieces (symbol.Attributes ∷ symbol.Declarations ∷ []) l.0 r = l.2 in
-    let g : Pieces (symbol.Declarations ∷ []) k.0 r = k.2 in
-    (claim_declaration (record { at = p; params = m.1.0; pattern = l.1.0; attributes = k.1.0 }) ∷ g.1.0, g.1.1, λ w e h. (ap identifier i, refl,
-      m.1.1 (spell_pattern false l.1.0 (spell_attributes k.1.0 (spell_body g.1.0 g.1.1 w))) e
-      (l.1.1 (spell_attributes k.1.0 (spell_body g.1.0 g.1.1 w)) e
-      (k.1.1 (spell_body g.1.0 g.1.1 w) e (g.1.2 w e (along g.0 r g.2 w e h))))))
+    let g : Pieces (symbol.Declarations ∷ []) k.0 r = k.2 in (
+      claim_declaration (record { at = p; params = m.1.0; pattern = l.1.0; attributes = k.1.0 }) ∷ g.1.0,
+      g.1.1,
+      λ w e h. (
+        ap identifier i,
+        refl,
+        m.1.1 (spell_pattern false l.1.0 (spell_attributes k.1.0 (spell_body g.1.0 g.1.1 w))) e
+            (l.1.1 (spell_attributes k.1.0 (spell_body g.1.0 g.1.1 w)) e
+            (k.1.1 (spell_body g.1.0 g.1.1 w) e (g.1.2 w e (along g.0 r g.2 w e h)))),
+      ),
+    )
 
 word-back : (n : List ℕ) (p : ℕ) (s r : Stream) → Moved (word_move n) s r → Says symbol.Declarations (token (identifier n) p s) r
 word-back n p s r m =

@@ -1,33 +1,22 @@
 -- What a stack of symbols says, in the terms of the grammar.
-use Rattle.std.proofs.Common.{◌≡◌, ℕ, zero, suc, ◌+◌, Bool, true, false, ◌==◌, ◌&&◌, IsTrue, List, [], ◌∷◌, ◌++◌, length, map, Option, Some, None, refl, ap, sym, ◌∙◌, subst, arith, codes, cond, ◌⊎◌, inl, inr, if◌then◌else◌}
-use Rattle.std.specs.Str.{bytes_eq}
+use Rattle.std.proofs.Common.{◌≡◌, ℕ, zero, suc, Bool, true, false, ◌==◌, List, [], ◌∷◌, length, map, refl, ap, sym, subst, arith, codes, ◌⊎◌}
 use Rattle.std.proofs.lemmas.Bool.Decides.{nat_tests}
-use Rattle.kore_text.specs.declared.names.Op.{Op}
-use Rattle.kore_text.specs.declared.names.Op.TheVariants as op
-use Rattle.kore_text.specs.declared.names.Built.{Built}
-use Rattle.kore_text.specs.declared.names.Built.TheVariants.{Connective, Binding, Value, Fold}
 use Rattle.kore_text.specs.declared.symbols.Close.{Close}
-use Rattle.kore_text.specs.declared.symbols.Close.TheVariants as close
 use Rattle.kore_text.specs.declared.symbols.Item.{Item}
 use Rattle.kore_text.specs.declared.symbols.Item.TheVariants as item
 use Rattle.kore_text.specs.declared.symbols.Symbol.{Symbol}
 use Rattle.kore_text.specs.declared.symbols.Symbol.TheVariants as symbol
-use Rattle.kore_text.specs.TokenStream.{Token, identifier, set_identifier, builtin, string_token, mark, assign, Stream, end, fault, token}
-use Rattle.kore_text.specs.Trees.{SortTree, sort_parameter, sort_applied, SortTrees, no_sorts, sort_then, sort_count}
-use Rattle.kore_text.specs.Trees.{PatternTree, element_variable, set_variable, string, symbol_applied, connected, binding, domain_value, folded}
-use Rattle.kore_text.specs.Trees.{PatternTrees, no_patterns, pattern_then, pattern_count}
-use Rattle.kore_text.specs.Grammar.{Want, placed, any, given, Spelling, listed, more_listed, in_order, Takes, sorts_of, arguments_of, takes, is_count, binder_sorts, binds_sets, is_variable, is_associative, is_foldable, spell_name, spell_names, spell_sort, spell_sorts, spell_pattern, spell_patterns}
-use Rattle.kore_text.specs.Table.{byte_of, symbol_of, is_mark, is_fold, turn, step, passes, run, empty_fold, no_arguments, folded_arguments, more_exactly, exactly, argument_symbols, built_symbols}
-use Rattle.std.proofs.lemmas.Slice.Eq.{bytes_eq-Decides}
-use Rattle.kore_text.specs.declared.names.Binder.{Binder}
-use Rattle.kore_text.specs.declared.names.Binder.TheVariants as binder
-use Rattle.kore_text.specs.Trees.{sort_trees, pattern_trees, listed_sorts, listed_patterns}
-use Rattle.kore_text.specs.Trees.{ImportDeclaration, SortDeclaration, SymbolDeclaration, AliasDeclaration, AxiomDeclaration, ModuleTree, DefinitionTree}
-use Rattle.kore_text.specs.Trees.{Declaration, import_declaration, sort_declaration, symbol_declaration, alias_declaration, axiom_declaration, claim_declaration}
-use Rattle.kore_text.specs.Grammar.{spell_variable, keyword, sort_word, symbol_word, spell_attributes, spell_signature, spell_import, spell_sort_declaration, spell_symbol_declaration, spell_alias, spell_statement, spell_declaration, spell_body, spell_module, spell_definition, is_some_module}
-use Rattle.kore_text.specs.Faults.{FoldHead, of_symbol, of_connective, spell_unfilled, IsPattern, IsDefinition}
-use Rattle.kore_text.specs.Table.{when, name_move, item_move, sort_move, pattern_move, built_move, folded_move, folded_built_move, word_move, keyword_move, rest_of, is_empty, onto}
-use Rattle.kore_text.proofs.Accepting.{number-is}
+use Rattle.kore_text.specs.TokenStream.{Token, identifier, set_identifier, string_token, mark, assign, Stream}
+use Rattle.kore_text.specs.Trees.{SortTree, SortTrees, sort_count}
+use Rattle.kore_text.specs.Trees.{PatternTree}
+use Rattle.kore_text.specs.Trees.{PatternTrees, pattern_count}
+use Rattle.kore_text.specs.Grammar.{Want, placed, any, Spelling, listed, more_listed, in_order, Takes, is_foldable, spell_name, spell_names, spell_sort, spell_sorts, spell_pattern, spell_patterns}
+use Rattle.kore_text.specs.Table.{byte_of, symbol_of, more_exactly, exactly}
+use Rattle.kore_text.specs.Trees.{sort_trees, pattern_trees}
+use Rattle.kore_text.specs.Trees.{ModuleTree}
+use Rattle.kore_text.specs.Trees.{Declaration}
+use Rattle.kore_text.specs.Grammar.{spell_variable, spell_attributes, spell_signature, spell_body, spell_module}
+use Rattle.kore_text.specs.Faults.{FoldHead, spell_unfilled}
 
 -- what completes the rest completes the whole
 abbrev pub To : Spelling → Stream → Stream → Type 0

@@ -1,10 +1,10 @@
 -- A stack that is kept with its next symbol last.
-use Rattle.std.proofs.Common.{◌≡◌, ◌<◌, ◌≤◌, ℕ, zero, suc, ◌+◌, Bool, true, ◌&&◌, List, [], ◌∷◌, ◌++◌, length, take, drop, reverse, get_or, refl, ap, sym, ◌∙◌, add-one, drop-cons, arith, append_assoc}
+use Rattle.std.proofs.Common.{◌≡◌, ◌<◌, ℕ, zero, suc, ◌+◌, List, [], ◌∷◌, ◌++◌, reverse, refl, ap, arith}
 use Rattle.std.proofs.lemmas.List.{reverse-append}
 use Rattle.kore_text.specs.declared.symbols.Symbol.{Symbol}
 use Rattle.kore_text.specs.declared.symbols.Symbol.TheVariants as symbol
 use Rattle.kore_text.specs.declared.symbols.Close.{Close}
-use Rattle.kore_text.specs.Table.{can_end, is_empty, exactly, more_exactly}
+use Rattle.kore_text.specs.Table.{exactly, more_exactly}
 
 pub pushed : (xs : List Symbol) (f : Symbol) → reverse (xs ++ (f ∷ [])) ≡ f ∷ reverse xs
 pushed xs f = reverse-append xs (f ∷ [])

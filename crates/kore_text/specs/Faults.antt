@@ -1,12 +1,12 @@
 -- The first fault of a text. The tokens in front of it are good: they begin a text of the language,
 -- at most 500 brackets are open among them, and no fold without an argument stands there. What
 -- comes behind them is the fault.
-use Rattle.std.specs.Prelude.{◌≡◌, ◌≤◌, ◌<◌, ℕ, zero, suc, ◌+◌, ◌-◌, Bool, true, false, ◌==◌, ◌||◌, IsTrue, List, [], ◌∷◌, ◌⊎◌, if◌then◌else◌, Option, Some, None}
+use Rattle.std.specs.Prelude.{◌≡◌, ◌≤◌, ◌<◌, ℕ, zero, suc, ◌+◌, ◌-◌, Bool, false, ◌==◌, ◌||◌, List, [], ◌∷◌, ◌⊎◌, if◌then◌else◌, Option, Some, None}
 use Rattle.kore_text.specs.declared.names.Op.{Op}
 use Rattle.kore_text.specs.declared.names.Built.TheVariants.{Connective, Fold}
 use Rattle.kore_text.specs.declared.faults.TextFault.{TextFault}
 use Rattle.kore_text.specs.declared.faults.TextFault.TheVariants.{Lex, Syntax, Deep}
-use Rattle.kore_text.specs.TokenStream.{Token, identifier, set_identifier, builtin, string_token, mark, assign, Stream, end, fault, token}
+use Rattle.kore_text.specs.TokenStream.{Token, identifier, builtin, mark, Stream, end, fault, token}
 use Rattle.kore_text.specs.Trees.{PatternTree, SortTrees, sort_count, DefinitionTree}
 use Rattle.kore_text.specs.Grammar.{Want, any, given, Takes, listed, spell_sorts, spell_pattern, spell_definition, is_associative}
 

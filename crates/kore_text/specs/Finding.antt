@@ -1,11 +1,10 @@
 -- What the finder of faults says of each look.
-use Rattle.std.specs.Prelude.{◌≡◌, ◌<◌, ℕ, List, Option, Some, None}
+use Rattle.std.specs.Prelude.{◌≡◌, ◌<◌, ℕ, Option, Some, None}
 use Rattle.kore_text.specs.declared.faults.TextFault.{TextFault}
 use Rattle.kore_text.specs.declared.finder.Finder.{Finder}
 use Rattle.kore_text.specs.declared.finder.Look.{Look}
 use Rattle.kore_text.specs.declared.finder.Look.TheVariants as look
 use Rattle.kore_text.specs.TokenStream.{end}
-use Rattle.kore_text.specs.declared.symbols.Symbol.{Symbol}
 use Rattle.kore_text.specs.Table.{run}
 use Rattle.kore_text.specs.Stacks.{stack}
 use Rattle.kore_text.specs.Left.{left, size}

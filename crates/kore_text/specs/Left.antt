@@ -1,5 +1,5 @@
 -- What is left of a text while its tokens are taken.
-use Rattle.std.specs.Prelude.{◌≡◌, ◌≢◌, ℕ, suc, zero, List, drop}
+use Rattle.std.specs.Prelude.{◌≡◌, ◌≢◌, ℕ, suc, zero, drop}
 use Rattle.kore_lex.specs.declared.lexer.TokenKind.TheVariants.{End}
 use Rattle.kore_lex.specs.Lexed.{lexed}
 use Rattle.kore_text.specs.TokenStream.{Stream, end, fault, token, token_of, named}

@@ -1,11 +1,9 @@
 -- What the private functions say of what may come next.
-use Rattle.std.specs.Prelude.{◌≡◌, ℕ, Bool, true, false, ◌==◌, ◌&&◌, List, [], ◌∷◌, ◌++◌, reverse, Option, Some, None}
-use Rattle.std.specs.Str.{bytes_eq}
+use Rattle.std.specs.Prelude.{◌≡◌, Bool, true, false, ◌&&◌, List, [], ◌∷◌, ◌++◌, reverse, Option, Some, None}
 use Rattle.kore_text.specs.declared.expected.Expected.{Expected}
 use Rattle.kore_text.specs.declared.symbols.Symbol.{Symbol}
-use Rattle.kore_text.specs.declared.symbols.Symbol.TheVariants as symbol
-use Rattle.kore_text.specs.TokenStream.{Token, identifier, set_identifier, builtin, string_token, mark, assign}
-use Rattle.kore_text.specs.Table.{is_empty, turn, is_mark}
+use Rattle.kore_text.specs.TokenStream.{Token}
+use Rattle.kore_text.specs.Table.{is_empty, turn}
 
 -- what is to come, the next first
 abbrev pub stack : Expected → List Symbol

@@ -1,6 +1,6 @@
 -- The tokens of a Kore text with the byte at which each stands (Kore language document, lexical
 -- structure).
-use Rattle.std.specs.Prelude.{ℕ, ◌-◌, List, take, drop, Option, Some, None, if◌then◌else◌, codes, Bool, true, false}
+use Rattle.std.specs.Prelude.{ℕ, ◌-◌, List, take, drop, Option, Some, None, if◌then◌else◌, codes, true, false}
 use Rattle.std.specs.Str.{bytes_eq}
 use Rattle.kore_lex.specs.declared.lexer.TokenKind.{TokenKind}
 use Rattle.kore_lex.specs.declared.lexer.TokenKind.TheVariants as kind

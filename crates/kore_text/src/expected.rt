@@ -111,9 +111,7 @@ impl Expected {
             Symbol::PatternTail(strings) => self.pattern_tail(strings, word),
             Symbol::Variable(set) => self.variable(set, word),
             Symbol::Folded(strings) => self.folded_some(strings, word),
-            Symbol::EmptyFolded => {
-                self.folded(word, &[Symbol::Mark(b'('), Symbol::Mark(b')')])
-            }
+            Symbol::EmptyFolded => { self.folded(word, &[Symbol::Mark(b'('), Symbol::Mark(b')')]) }
             Symbol::First(item, close) => self.first(item, close, word),
             Symbol::More(item, close) => self.more(item, close, word),
             Symbol::Attributes => self.put_where(
@@ -255,7 +253,11 @@ impl Expected {
     fn variable(&mut self, set: bool, word: &Word<'_>) -> Result<bool, AllocError>
         ensures { IfOk result (λ yes. Expands yes (variable_move set (token_of word.now.kind word.now.bytes.now)) (stack self.old) (stack self.new)) }
     {
-        let fits = if set { word.is_set_name() } else { word.is_name() };
+        let fits = if set {
+            word.is_set_name()
+        } else {
+            word.is_name()
+        };
         self.put_where(fits, &[Symbol::Mark(b':'), Symbol::Sort])
     }
 
@@ -280,10 +282,7 @@ impl Expected {
         match word.kind {
             TokenKind::Ident => {
                 self.put(arguments)?;
-                self.put(&[
-                    Symbol::Mark(b'{'),
-                    Symbol::First(Item::Sort, Close::Brace),
-                ])?;
+                self.put(&[Symbol::Mark(b'{'), Symbol::First(Item::Sort, Close::Brace)])?;
                 Ok(true)
             }
             TokenKind::Builtin => match Built::of_name(word.behind_first()) {

@@ -137,11 +137,7 @@ impl<'a> Finder<'a> {
 }
 
 /// Whether this token and what comes are a fold without an argument.
-fn begins_empty_fold(
-    alloc: Global,
-    word: &Word<'_>,
-    tokens: Tokens<'_>,
-) -> Result<bool, AllocError>
+fn begins_empty_fold(alloc: Global, word: &Word<'_>, tokens: Tokens<'_>) -> Result<bool, AllocError>
     ensures { IfOk result (λ yes. yes ≡ (is_fold (token_of word.now.kind word.now.bytes.now) && passes (left tokens.entry) empty_fold)) }
 {
     if !word.is_fold() {

@@ -12,10 +12,13 @@ mod faults;
 mod finder;
 mod names;
 mod symbols;
-mod words;
 mod tokens;
+mod words;
 
 pub use faults::TextFault;
 pub use finder::{definition_fault, pattern_fault};
-pub use tokens::{Next, Tokens};
 pub use names::{Binder, Built, Op};
+pub use tokens::{Next, Tokens};
+
+#[cfg(test)]
+mod tests;

@@ -1,9 +1,8 @@
-use Rattle.std.proofs.Common.{rules, ◌≡◌, ◌++◌, [], ◌∷◌, None, Result, Ok, Err, true, false, reverse, length, arith, refl, ap, sym, ◌∙◌, subst}
-use Rattle.std.proofs.lemmas.List.{append-nil}
+use Rattle.std.proofs.Common.{◌≡◌, reverse, length, arith, ap, sym, ◌∙◌}
 use Rattle.kore_text.specs.TokenStream.{token_of}
-use Rattle.kore_text.specs.Table.{turn, rest_of, step}
-use Rattle.kore_text.specs.Stacks.{stack, Steps, Expands}
-use Rattle.kore_text.proofs.Stepping.{next-first, step-left-out, step-taken, step-nothing, on-taken, nothing-left}
+use Rattle.kore_text.specs.Table.{step}
+use Rattle.kore_text.specs.Stacks.{stack}
+use Rattle.kore_text.proofs.Stepping.{next-first, step-left-out, on-taken, nothing-left}
 use Rattle.kore_text.proofs.expected.Expected.take.Goals as goal
 
 pub returns-then-not-is_left_out : goal.returns-then-not-is_left_out

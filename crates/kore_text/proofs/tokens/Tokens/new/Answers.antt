@@ -1,4 +1,4 @@
-use Rattle.std.proofs.Common.{rules, ◌≡◌, drop, refl}
+use Rattle.std.proofs.Common.{refl}
 use Rattle.kore_text.specs.TokenStream.{tokens_of}
 use Rattle.kore_text.specs.Left.{left}
 use Rattle.kore_text.proofs.tokens.Tokens.new.Goals as goal
