@@ -92,7 +92,7 @@ no_cause words told r c limit (definition_refused number byte) is command reads 
     let names = one_command words r.definition r.term c.definition c.term r.limit limit r.command command in
     let held : Holds (Some told) c.definition h.0 = subst (λ (o : Option Told). Holds o c.definition h.0) is h.1 in
     let same = one_content told r.definition c.definition r.definition_bytes h.0 names.0 r.definition_held held in
-    absurd (h.4 r.tree r.sig r.top r.rules (subst (λ (bytes : List ℕ). ReadsDefinition bytes r.tree) same r.reads) r.accepted)
+    absurd (h.2.1 r.tree r.sig r.top r.rules (subst (λ (bytes : List ℕ). ReadsDefinition bytes r.tree) same r.reads) r.accepted)
 no_cause words told r c limit (term_refused number byte) is command reads writes h =
     let names = one_command words r.definition r.term c.definition c.term r.limit limit r.command command in
     let program = h.0 in
@@ -105,7 +105,7 @@ no_cause words told r c limit (term_refused number byte) is command reads writes
     let term_held : Holds (Some told) c.term h.2 = subst (λ (o : Option Told). Holds o c.term h.2) is h.3 in
     let same_term = one_content told r.term c.term r.term_bytes h.2 names.1 r.term_held term_held in
     let few = few_symbols found.0 of.0 program (subst (λ (bytes : List ℕ). length bytes ≤ definition_limit) same r.definition_within) of.1 of.2 in
-    absurd (h.6 few r.term_tree r.start (subst (λ (bytes : List ℕ). ReadsPattern bytes r.term_tree) same_term r.reads_term) (moved_term of.0 r.sig r.top r.rules program r.term_tree r.start accepted of.2 r.accepted_term))
+    absurd (h.4.1 few r.term_tree r.start (subst (λ (bytes : List ℕ). ReadsPattern bytes r.term_tree) same_term r.reads_term) (moved_term of.0 r.sig r.top r.rules program r.term_tree r.start accepted of.2 r.accepted_term))
 no_cause words told r c limit (too_large name) is command reads writes h =
     let names = one_command words r.definition r.term c.definition c.term r.limit limit r.command command in
     absurd (elim h [

@@ -4,7 +4,7 @@ use Rattle.desk_io.specs.Told.{Told, Holds, Lacks, HoldsMore, KeepsFiles}
 use Rattle.desk_io.specs.Sent.{SameBytes}
 use Rattle.desk_io.specs.declared.read.ReadEnd.TheVariants as read
 use Rattle.desk_io.proofs.Counts.{Rose-later}
-use Rattle.kore_prove.specs.Refusals.{AtRefusal}
+use Rattle.kore_prove.specs.Refusals.{AtNumber}
 use Rattle.kore_prove.specs.declared.accept.Refusal.{Refusal}
 use Rattle.kore_prove.specs.declared.accept.Refusal.TheVariants as refusal
 use Rattle.kore_prove.specs.declared.files.FileEnd.{FileEnd}
@@ -57,15 +57,15 @@ kept_more (Some told) told' name limit kept h = let P : Option Told → Type 0 =
     (q.0, q.1, q.2)
 
 -- the cause of an end at the second file, seen from before the first was read
-pub FileCause-kept : (IsNone : List ℕ → Type 0) (told told' : Option Told) (name : List ℕ) (limit a b c : ℕ) (end : FileEnd) → KeepsFiles told told' → a ≤ b → FileCause IsNone told' name limit b c end → FileCause IsNone told name limit a c end
-FileCause-kept IsNone told told' name limit a b c (file.Unread read.NoFile) kept le h = kept_lacks told told' name kept h
-FileCause-kept IsNone told told' name limit a b c (file.Unread read.Failed) kept le h = Rose-later a b c le h
-FileCause-kept IsNone told told' name limit a b c (file.Unread read.TooLarge) kept le h = kept_more told told' name limit kept h
-FileCause-kept IsNone told told' name limit a b c (file.Unread read.Memory) kept le h = tt
-FileCause-kept IsNone told told' name limit a b c (file.Refused (refusal.Refused number byte)) kept le h = (h.0, kept_holds told told' name h.0 kept h.1, h.2, h.3, h.4)
-FileCause-kept IsNone told told' name limit a b c (file.Refused refusal.Memory) kept le h = tt
+pub FileCause-kept : (IsWhy : List ℕ → ℕ → ℕ → Type 0) (told told' : Option Told) (name : List ℕ) (limit a b c : ℕ) (end : FileEnd) → KeepsFiles told told' → a ≤ b → FileCause IsWhy told' name limit b c end → FileCause IsWhy told name limit a c end
+FileCause-kept IsWhy told told' name limit a b c (file.Unread read.NoFile) kept le h = kept_lacks told told' name kept h
+FileCause-kept IsWhy told told' name limit a b c (file.Unread read.Failed) kept le h = Rose-later a b c le h
+FileCause-kept IsWhy told told' name limit a b c (file.Unread read.TooLarge) kept le h = kept_more told told' name limit kept h
+FileCause-kept IsWhy told told' name limit a b c (file.Unread read.Memory) kept le h = tt
+FileCause-kept IsWhy told told' name limit a b c (file.Refused (refusal.Refused number byte)) kept le h = (h.0, kept_holds told told' name h.0 kept h.1, h.2)
+FileCause-kept IsWhy told told' name limit a b c (file.Refused refusal.Memory) kept le h = tt
 
 -- bytes that are refused are the cause of an end
-pub refused_cause : (IsNone : List ℕ → Type 0) (told : Option Told) (name : List ℕ) (limit a b : ℕ) (r : Refusal) (bytes : List ℕ) → Holds told name bytes → AtRefusal r (IsNone bytes) → FileCause IsNone told name limit a b (file.Refused r)
-refused_cause IsNone told name limit a b (refusal.Refused number byte) bytes held at = (bytes, held, at.0, at.1, at.2)
-refused_cause IsNone told name limit a b refusal.Memory bytes held at = tt
+pub refused_cause : (IsWhy : List ℕ → ℕ → ℕ → Type 0) (told : Option Told) (name : List ℕ) (limit a b : ℕ) (r : Refusal) (bytes : List ℕ) → Holds told name bytes → AtNumber r (IsWhy bytes) → FileCause IsWhy told name limit a b (file.Refused r)
+refused_cause IsWhy told name limit a b (refusal.Refused number byte) bytes held at = (bytes, held, at)
+refused_cause IsWhy told name limit a b refusal.Memory bytes held at = tt

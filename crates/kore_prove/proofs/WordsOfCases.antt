@@ -1,10 +1,10 @@
 -- What a fact for one case says where that case is known.
-use Rattle.std.proofs.Common.{◌≡◌, Bool, true, false, Option, Some, None, IfSome, IfNone, subst, refl}
+use Rattle.std.proofs.Common.{◌≡◌, ℕ, Bool, true, false, Option, Some, None, IfSome, IfNone, subst, refl}
 use Rattle.std.specs.Bool.{OnTrue}
 use Rattle.std.specs.Prelude.{Result, Ok, Err}
 use Rattle.kore_prove.specs.declared.accept.Refusal.{Refusal}
 use Rattle.kore_prove.specs.declared.accept.Refusal.TheVariants.{Refused, Memory}
-use Rattle.kore_prove.specs.Refusals.{AtRefusal, OnRefused}
+use Rattle.kore_prove.specs.Refusals.{AtRefusal, OnRefused, AtNumber}
 
 pub on_true : {P : Type 0} (b : Bool) → OnTrue b P → b ≡ true → P
 on_true true h e = h
@@ -26,3 +26,13 @@ passed_on Memory h f = tt
 pub weaker_refusal : {X P Q : Type 0} (r : Result X Refusal) → OnRefused r P → (P → Q) → OnRefused r Q
 weaker_refusal (Ok x) h f = tt
 weaker_refusal (Err e) h f = passed_on e h f
+
+-- a fact beside what holds of a refusal's number and byte
+pub numbered_and : (P : ℕ → ℕ → Type 0) (Q : Type 0) (e : Refusal) → AtNumber e P → Q → AtNumber e (λ number byte. P number byte × Q)
+numbered_and P Q (Refused number byte) h q = (h, q)
+numbered_and P Q Memory h q = tt
+
+-- the fact of a refusal that is none for want of memory
+pub refused_fact : (P : Type 0) (e : Refusal) (number byte : ℕ) → e ≡ Refused number byte → AtRefusal e P → P
+refused_fact P (Refused n b) number byte i h = h.2
+refused_fact P Memory number byte i h = let z : ⊥ = cc in absurd z

@@ -14,6 +14,8 @@ use Rattle.kore_prove.specs.declared.accept.Refusal.TheVariants as refusal
 use Rattle.kore_prove.specs.declared.files.FileEnd.{FileEnd}
 use Rattle.kore_prove.specs.declared.files.FileEnd.TheVariants as file
 use Rattle.kore_prove.specs.Acceptance.{IsAccepted, IsAcceptedTerm, sort_number}
+use Rattle.kore_text.specs.Faults.{IsDefinition, IsPattern}
+use Rattle.kore_prove.specs.Refusals.{IsRefusal}
 use Rattle.kore_prove.specs.Files.{HoldsProgram}
 use Rattle.kore_prove.specs.Words.{IsRunCommand}
 use Rattle.kore_prove.specs.Reports.{Ending, out_of_memory, bad_words, read_fault, write_fault, no_such_file, definition_refused, term_refused, too_large, Reports}
@@ -35,16 +37,23 @@ abbrev pub IsNoTermOf : Program → List ℕ → Type 0
 IsNoTermOf program bytes =
     length program.sig.symbols < 2 ^ 32 → (tree : PatternTree) (start : Pattern) → ReadsPattern bytes tree → IsAcceptedTerm program.sig (sort_number program.top) tree start → ⊥
 
+-- the bytes are refused so as a definition, or as a term of the program
+abbrev pub IsRefusedDefinition : List ℕ → ℕ → ℕ → Type 0
+IsRefusedDefinition bytes number byte = IsRefusal IsDefinition bytes number byte × IsNoDefinition bytes
+
+abbrev pub IsRefusedTerm : Program → List ℕ → ℕ → ℕ → Type 0
+IsRefusedTerm program bytes number byte = IsRefusal IsPattern bytes number byte × IsNoTermOf program bytes
+
 -- The file of that name was not read whole or was refused: it is not there; a fault was counted; it has more bytes than
--- the limit; or it holds bytes that are refused, as what they are not, with number 90 at the first byte.
-abbrev pub FileCause : (List ℕ → Type 0) → Option Told → List ℕ → ℕ → ℕ → ℕ → FileEnd → Type 0
-FileCause IsNone told name limit reads reads' (file.Unread read.NoFile) = Lacks told name
-FileCause IsNone told name limit reads reads' (file.Unread read.Failed) = Rose reads reads'
-FileCause IsNone told name limit reads reads' (file.Unread read.TooLarge) = HoldsMore told name limit
-FileCause IsNone told name limit reads reads' (file.Unread read.Memory) = Unit {0}
-FileCause IsNone told name limit reads reads' (file.Refused (refusal.Refused number byte)) =
-    (bytes : List ℕ) × Holds told name bytes × (number ≡ 90) × (byte ≡ 0) × IsNone bytes
-FileCause IsNone told name limit reads reads' (file.Refused refusal.Memory) = Unit {0}
+-- the limit; or it holds bytes that are refused so.
+abbrev pub FileCause : (List ℕ → ℕ → ℕ → Type 0) → Option Told → List ℕ → ℕ → ℕ → ℕ → FileEnd → Type 0
+FileCause IsWhy told name limit reads reads' (file.Unread read.NoFile) = Lacks told name
+FileCause IsWhy told name limit reads reads' (file.Unread read.Failed) = Rose reads reads'
+FileCause IsWhy told name limit reads reads' (file.Unread read.TooLarge) = HoldsMore told name limit
+FileCause IsWhy told name limit reads reads' (file.Unread read.Memory) = Unit {0}
+FileCause IsWhy told name limit reads reads' (file.Refused (refusal.Refused number byte)) =
+    (bytes : List ℕ) × Holds told name bytes × IsWhy bytes number byte
+FileCause IsWhy told name limit reads reads' (file.Refused refusal.Memory) = Unit {0}
 
 -- What is known of a run command whose files have these names: what the desk told at first, and the counts of its faults
 -- and of the output's before and after.
@@ -65,9 +74,9 @@ RunCause c read_fault = Rose c.reads c.reads'
 RunCause c write_fault = Rose c.writes c.writes'
 RunCause c (no_such_file name) = ((name ≡ c.definition) ⊎ (name ≡ c.term)) × Lacks c.told name
 RunCause c (definition_refused number byte) =
-    (bytes : List ℕ) × Holds c.told c.definition bytes × (number ≡ 90) × (byte ≡ 0) × IsNoDefinition bytes
+    (bytes : List ℕ) × Holds c.told c.definition bytes × IsRefusedDefinition bytes number byte
 RunCause c (term_refused number byte) =
-    (program : Program) × HoldsProgram c.told c.definition program × (bytes : List ℕ) × Holds c.told c.term bytes × (number ≡ 90) × (byte ≡ 0) × IsNoTermOf program bytes
+    (program : Program) × HoldsProgram c.told c.definition program × (bytes : List ℕ) × Holds c.told c.term bytes × IsRefusedTerm program bytes number byte
 RunCause c (too_large name) =
     ((name ≡ c.definition) × HoldsMore c.told name definition_limit) ⊎ ((name ≡ c.term) × HoldsMore c.told name term_limit)
 

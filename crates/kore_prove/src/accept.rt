@@ -11,7 +11,9 @@ ghost use Rattle.kore_ast.specs.Trees.{Declaration, ModuleTree, DefinitionTree, 
 ghost use Rattle.kore_ast.specs.KoreText.{ReadsDefinition, ReadsPattern};
 ghost use Rattle.rule_core.specs.Rules.{RewriteRule};
 ghost use Rattle.term_core.specs.Patterns.{Pattern};
-ghost use Rattle.kore_prove.specs.Refusals.{OnRefused};
+ghost use Rattle.kore_prove.specs.Refusals.{OnRefused, AtNumber, OnNumber, IsNumbered, IsRefusal};
+ghost use Rattle.kore_prove.specs.Causes.{IsRefusedDefinition, IsRefusedTerm};
+ghost use Rattle.kore_text.specs.Faults.{IsDefinition, IsPattern};
 ghost use Rattle.kore_prove.specs.Acceptance.{IsAccepted, IsAcceptedTerm, HasDeclarations, IsOnlyModule, IsStartSort, IsBuilt, sort_number};
 ghost use Rattle.kore_prove.specs.Nesting.{nesting, IsWithinLimits, HasFewNames};
 ghost use Rattle.kore_prove.specs.Runnable.{AcceptsTree, AcceptsPattern, IsProgramOf, IsStartOf, HasUsualPriority};
@@ -20,6 +22,7 @@ use crate::axioms::{declared_rules, first_rule_sort};
 use crate::declared::{declared_sorts, declared_symbols};
 use crate::meaning::meaning;
 use kore_ast::{Decl, Definition, Module, Pat, ReadFault, read_definition, read_pattern};
+use kore_text::{TextFault, definition_fault, pattern_fault};
 use rule_core::{Program, Rule, Signature};
 use std::alloc::{AllocError, AllocFailed, Global};
 use term_core::{RulePat, SortId};
@@ -52,9 +55,74 @@ impl<T: Drop> From<AllocFailed<T>> for Refusal {
     }
 }
 
-/// The program of a definition. `Refused(90, 0)` comes exactly where the bytes spell no definition that
-/// is accepted, which `ReadsDefinition` and `IsAccepted` state; `Memory` where memory was wanting.
+/// The program of a definition. A text with a fault is refused by the number of the first, 1 for one
+/// of its tokens, 2 for one of its grammar, 3 for too many open brackets, and its byte. `Refused(90, 0)`
+/// comes where the text has no fault and is no definition that is accepted, which `ReadsDefinition` and
+/// `IsAccepted` state; `Memory` where memory was wanting.
 pub fn accept(alloc: Global, bytes: &[u8]) -> Result<Program, Refusal>
+    requires { length bytes.now < 2 ^ 32 }
+    ensures program { IfOk result (IsProgramOf bytes.now) }
+    ensures few { IfOk result (λ program. HasFewNames program.sig) }
+    ensures refused { OnNumber result (IsRefusedDefinition bytes.now) }
+{
+    match accept_definition_text(alloc, bytes) {
+        Ok(program) => Ok(program),
+        Err(Refusal::Memory) => Err(Refusal::Memory),
+        Err(Refusal::Refused(..)) => Err(definition_refusal(alloc, bytes)),
+    }
+}
+
+/// The pattern of a term of the program's sort, or of any sort where there is no rule. A text with a
+/// fault is refused by the first, as that of a definition is. `Refused(90, 0)` comes where the text has
+/// no fault and is no such term, for a program that `accept` gave; `Memory` where memory was wanting.
+pub fn accept_term(alloc: Global, program: &Program, bytes: &[u8]) -> Result<RulePat, Refusal>
+    requires { length bytes.now < 2 ^ 32 }
+    ensures start { IfOk result (λ start. IsStartOf bytes.now program.now (rule_pattern start)) }
+    ensures refused { OnNumber result (IsRefusedTerm program.now bytes.now) }
+{
+    match accept_term_text(alloc, program, bytes) {
+        Ok(start) => Ok(start),
+        Err(Refusal::Memory) => Err(Refusal::Memory),
+        Err(Refusal::Refused(..)) => Err(term_refusal(alloc, bytes)),
+    }
+}
+
+/// How a text is refused that is no accepted definition.
+fn definition_refusal(alloc: Global, bytes: &[u8]) -> Refusal
+    requires { length bytes.now < 2 ^ 32 }
+    ensures { AtNumber result (IsRefusal IsDefinition bytes.now) }
+{
+    match definition_fault(alloc, bytes) {
+        Ok(fault) => numbered(fault),
+        Err(_) => Refusal::Memory,
+    }
+}
+
+/// How a text is refused that is no accepted term.
+fn term_refusal(alloc: Global, bytes: &[u8]) -> Refusal
+    requires { length bytes.now < 2 ^ 32 }
+    ensures { AtNumber result (IsRefusal IsPattern bytes.now) }
+{
+    match pattern_fault(alloc, bytes) {
+        Ok(fault) => numbered(fault),
+        Err(_) => Refusal::Memory,
+    }
+}
+
+/// The refusal by the first fault of a text.
+fn numbered(fault: Option<TextFault>) -> Refusal
+    ensures { AtNumber result (IsNumbered fault) }
+{
+    match fault {
+        None => NOT_BUILT,
+        Some(TextFault::Lex(at)) => Refusal::Refused(1, at),
+        Some(TextFault::Syntax(at)) => Refusal::Refused(2, at),
+        Some(TextFault::Deep(at)) => Refusal::Refused(3, at),
+    }
+}
+
+/// The program of a definition that is accepted.
+fn accept_definition_text(alloc: Global, bytes: &[u8]) -> Result<Program, Refusal>
     requires { length bytes.now < 2 ^ 32 }
     ensures program { IfOk result (IsProgramOf bytes.now) }
     ensures few { IfOk result (λ program. HasFewNames program.sig) }
@@ -66,10 +134,8 @@ pub fn accept(alloc: Global, bytes: &[u8]) -> Result<Program, Refusal>
     }
 }
 
-/// The pattern of a term of the program's sort, or of any sort where there is no rule. `Refused(90, 0)`
-/// comes exactly where the bytes spell no such term, for a program that `accept` gave; `Memory` where
-/// memory was wanting.
-pub fn accept_term(alloc: Global, program: &Program, bytes: &[u8]) -> Result<RulePat, Refusal>
+/// The pattern of a term that is accepted.
+fn accept_term_text(alloc: Global, program: &Program, bytes: &[u8]) -> Result<RulePat, Refusal>
     requires { length bytes.now < 2 ^ 32 }
     ensures start { IfOk result (λ start. IsStartOf bytes.now program.now (rule_pattern start)) }
     ensures refused { OnRefused result (length program.now.sig.symbols < 2 ^ 32 → (tree : PatternTree) (start : Pattern) → ReadsPattern bytes.now tree → IsAcceptedTerm program.now.sig (sort_number program.now.top) tree start → ⊥) }

@@ -4,7 +4,7 @@ ghost use Rattle.term_core.specs.Patterns.{instance_of, FitsWithin};
 ghost use Rattle.term_core.specs.RulePatterns.{plain_pattern};
 ghost use Rattle.desk_io.specs.Counts.{Rose};
 ghost use Rattle.desk_io.specs.Told.{KeepsFiles};
-ghost use Rattle.kore_prove.specs.Causes.{Course, definition_limit, term_limit, FileCause, IsNoDefinition, IsNoTermOf, Ends, IsNoCommand, RunCause, KeepsOutput};
+ghost use Rattle.kore_prove.specs.Causes.{Course, definition_limit, term_limit, FileCause, IsRefusedDefinition, IsRefusedTerm, Ends, IsNoCommand, RunCause, KeepsOutput};
 ghost use Rattle.kore_prove.specs.Files.{HoldsProgram};
 ghost use Rattle.rule_core.specs.declared.rules.Program.{Program};
 ghost use Rattle.kore_prove.specs.Readiness.{IsReady};
@@ -178,7 +178,7 @@ fn start_term(alloc: Global, start: &RulePat) -> Result<Term, AllocError>
 /// The end of a call whose definition was not read or not accepted.
 fn definition_end(end: FileEnd, name: &str) -> End<'_>
     ensures cause { (c : Course) → c.definition ≡ name.now
-        → FileCause IsNoDefinition c.told c.definition definition_limit c.reads c.reads' end
+        → FileCause IsRefusedDefinition c.told c.definition definition_limit c.reads c.reads' end
         → RunCause c (plain_end result) }
     ensures output { (output : Option (List ℕ)) → KeepsOutput (plain_end result) output output }
 {
@@ -195,7 +195,7 @@ fn definition_end(end: FileEnd, name: &str) -> End<'_>
 fn term_end(end: FileEnd, name: &str) -> End<'_>
     ensures cause { (c : Course) (program : Program) → c.term ≡ name.now
         → HoldsProgram c.told c.definition program
-        → FileCause (IsNoTermOf program) c.told c.term term_limit c.reads c.reads' end
+        → FileCause (IsRefusedTerm program) c.told c.term term_limit c.reads c.reads' end
         → RunCause c (plain_end result) }
     ensures output { (output : Option (List ℕ)) → KeepsOutput (plain_end result) output output }
 {

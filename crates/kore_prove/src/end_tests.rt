@@ -80,14 +80,14 @@ const CASES: [Case; 14] = [
         words: &["run", "t.kore", "t.kore", "--limit", "5"],
         code: 6,
         out: "",
-        err: "kore_prove: definition refused 90 at 0\n",
+        err: "kore_prove: definition refused 2 at 0\n",
         ..FINE
     },
     Case {
         words: &["run", "d.kore", "d.kore", "--limit", "5"],
         code: 7,
         out: "",
-        err: "kore_prove: term refused 90 at 0\n",
+        err: "kore_prove: term refused 2 at 0\n",
         ..FINE
     },
     Case {

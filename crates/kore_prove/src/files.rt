@@ -2,7 +2,7 @@
 ghost use Rattle.std.specs.Prelude.{◌≡◌, ◌≤◌, IfOk, IfErr};
 ghost use Rattle.desk_io.specs.Told.{KeepsFiles};
 ghost use Rattle.term_core.specs.RulePatterns.{plain_pattern};
-ghost use Rattle.kore_prove.specs.Causes.{FileCause, IsNoDefinition, IsNoTermOf};
+ghost use Rattle.kore_prove.specs.Causes.{FileCause, IsRefusedDefinition, IsRefusedTerm};
 ghost use Rattle.kore_prove.specs.Files.{HoldsProgram, HoldsStart};
 
 use crate::accept::{Refusal, accept, accept_term};
@@ -29,7 +29,7 @@ pub enum FileEnd {
 /// The program that the file of that name holds.
 pub fn read_program<D: Desk>(alloc: Global, desk: &mut D, name: &str) -> Result<Program, FileEnd>
     ensures found { IfOk result (HoldsProgram (D.told desk.old) name.now) }
-    ensures cause { IfErr result (FileCause IsNoDefinition
+    ensures cause { IfErr result (FileCause IsRefusedDefinition
         (D.told desk.old) name.now DEFINITION_LIMIT (D.read_faults desk.old) (D.read_faults desk.new)) }
     ensures counts { D.read_faults desk.old ≤ D.read_faults desk.new }
     ensures files { KeepsFiles (D.told desk.old) (D.told desk.new) }
@@ -52,7 +52,7 @@ pub fn read_start<D: Desk>(
     program: &Program,
 ) -> Result<RulePat, FileEnd>
     ensures found { IfOk result (λ start. HoldsStart (D.told desk.old) name.now program.now (plain_pattern start)) }
-    ensures cause { IfErr result (FileCause (IsNoTermOf program.now)
+    ensures cause { IfErr result (FileCause (IsRefusedTerm program.now)
         (D.told desk.old) name.now TERM_LIMIT (D.read_faults desk.old) (D.read_faults desk.new)) }
     ensures counts { D.read_faults desk.old ≤ D.read_faults desk.new }
     ensures files { KeepsFiles (D.told desk.old) (D.told desk.new) }

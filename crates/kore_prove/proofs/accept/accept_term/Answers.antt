@@ -1,14 +1,11 @@
-use Rattle.kore_prove.proofs.WordsOfCases.{weaker_refusal}
-use Rattle.kore_prove.specs.Acceptance.{IsAcceptedTerm, sort_number}
-use Rattle.kore_ast.specs.Trees.{PatternTree}
-use Rattle.std.proofs.Common.{subst}
-use Rattle.kore_prove.proofs.OpenBrackets.{pattern-shallow}
+use Rattle.kore_text.specs.Faults.{IsPattern}
+use Rattle.kore_prove.specs.Refusals.{IsRefusal}
+use Rattle.kore_prove.specs.Causes.{IsNoTermOf}
+use Rattle.kore_prove.proofs.WordsOfCases.{numbered_and, refused_fact}
 use Rattle.kore_prove.proofs.accept.accept_term.Goals as goal
 
-pub accept_pattern-requires : goal.accept_pattern-requires
-accept_pattern-requires c = pattern-shallow _ _ c.in-Ok.ensures.found
-
-pub returns-in-Ok-clause-refused : goal.returns-in-Ok-clause-refused
-returns-in-Ok-clause-refused c =
-    weaker_refusal c.accept_pattern.result c.accept_pattern.ensures.refused (λ none few tree start reads is.
-    none few start (subst (λ (t : PatternTree). IsAcceptedTerm c.args.program.now.sig (sort_number c.args.program.now.top) t start) (c.in-Ok.ensures.only tree reads) is))
+pub returns-in-Err-Refused-clause-refused : goal.returns-in-Err-Refused-clause-refused
+returns-in-Err-Refused-clause-refused c =
+    let Q : Type 0 = IsNoTermOf c.args.program.now c.args.bytes.now in
+    numbered_and (IsRefusal IsPattern c.args.bytes.now) Q c.term_refusal.result c.term_refusal.ensures
+    (refused_fact Q c.in-Err-Refused.field-0 c.in-Err-Refused.field-0-0 c.in-Err-Refused.field-0-1 c.in-Err-Refused.field-0-is c.in-Err-Refused.ensures.refused)

@@ -3,7 +3,7 @@ use Rattle.kore_prove.specs.Acceptance.{IsAccepted}
 use Rattle.kore_ast.specs.Trees.{DefinitionTree}
 use Rattle.std.proofs.Common.{subst}
 use Rattle.kore_prove.proofs.OpenBrackets.{modules-within}
-use Rattle.kore_prove.proofs.accept.accept.Goals as goal
+use Rattle.kore_prove.proofs.accept.accept_definition_text.Goals as goal
 
 pub accept_definition-requires : goal.accept_definition-requires
 accept_definition-requires c = modules-within _ _ c.requires c.in-Ok.ensures.found

@@ -1,0 +1,52 @@
+-- The first of the tokens that were cut.
+use Rattle.std.proofs.Common.{◌≡◌, ◌≢◌, ℕ, ◌-◌, List, take, drop, Result, Ok, Err, refl, ap, sym, ◌∙◌}
+use Rattle.kore_lex.specs.declared.lexer.TokenKind.{TokenKind}
+use Rattle.kore_lex.specs.declared.lexer.TokenKind.TheVariants as kind
+use Rattle.kore_lex.specs.declared.lexer.Token.{Token as LexToken}
+use Rattle.kore_lex.specs.declared.lexer.LexFault.{LexFault}
+use Rattle.kore_lex.specs.Lexed.{Stream as Cut, end as cut_end, fault as cut_fault, token as cut_token, head, tail}
+use Rattle.kore_text.specs.TokenStream.{Stream, end, fault, token, token_of, joined, named}
+
+joined-end : (text : List ℕ) (k : TokenKind) (from to : ℕ) (s : Stream) → k ≡ kind.End → joined text k from to s ≡ end from
+joined-end text kind.End from to s h = refl
+joined-end text kind.Ident from to s h = let z : ⊥ = cc in absurd z
+joined-end text kind.SetIdent from to s h = let z : ⊥ = cc in absurd z
+joined-end text kind.Builtin from to s h = let z : ⊥ = cc in absurd z
+joined-end text kind.Text from to s h = let z : ⊥ = cc in absurd z
+joined-end text (kind.Punct c) from to s h = let z : ⊥ = cc in absurd z
+joined-end text kind.Assign from to s h = let z : ⊥ = cc in absurd z
+
+joined-token : (text : List ℕ) (k : TokenKind) (from to : ℕ) (s : Stream) → k ≢ kind.End
+    → joined text k from to s ≡ token (token_of k (take (to - from) (drop from text))) from s
+joined-token text kind.End from to s h = absurd (h refl)
+joined-token text kind.Ident from to s h = refl
+joined-token text kind.SetIdent from to s h = refl
+joined-token text kind.Builtin from to s h = refl
+joined-token text kind.Text from to s h = refl
+joined-token text (kind.Punct c) from to s h = refl
+joined-token text kind.Assign from to s h = refl
+
+same-token : (a b : LexToken) → ◌≡◌ {A = Result LexToken LexFault} (Ok a) (Ok b) → a ≡ b
+same-token a b h = cc
+
+pub next-end : (text : List ℕ) (s : Cut) (a : LexToken) → Ok a ≡ head s → a.kind ≡ kind.End → named text s ≡ end a.from
+next-end text (cut_end n) a h k = let e : a ≡ record { kind = kind.End; from = n; to = n } = same-token a _ h in ap (λ b. end b.from) (sym e)
+next-end text (cut_fault n) a h k = let z : ⊥ = cc in absurd z
+next-end text (cut_token t from to s) a h k =
+    let e : a ≡ record { kind = t; from = from; to = to } = same-token a _ h in
+    joined-end text t from to (named text s) (sym (ap (λ b. b.kind) e) ∙ k) ∙ ap (λ b. end b.from) (sym e)
+
+pub next-fault : (text : List ℕ) (s : Cut) (f : LexFault) → Err f ≡ head s → named text s ≡ fault f.at
+next-fault text (cut_end n) f h = let z : ⊥ = cc in absurd z
+next-fault text (cut_fault n) f h = let e : f ≡ record { at = n } = cc in ap (λ g. fault g.at) (sym e)
+next-fault text (cut_token t from to s) f h = let z : ⊥ = cc in absurd z
+
+pub next-token : (text : List ℕ) (s : Cut) (a : LexToken) → Ok a ≡ head s → a.kind ≢ kind.End
+    → named text s ≡ token (token_of a.kind (take (a.to - a.from) (drop a.from text))) a.from (named text (tail s))
+next-token text (cut_end n) a h k = let e : a ≡ record { kind = kind.End; from = n; to = n } = same-token a _ h in absurd (k (ap (λ b. b.kind) e))
+next-token text (cut_fault n) a h k = let z : ⊥ = cc in absurd z
+next-token text (cut_token t from to s) a h k =
+    let e : a ≡ record { kind = t; from = from; to = to } = same-token a _ h in
+    let i : t ≢ kind.End = λ j. k (ap (λ b. b.kind) e ∙ j) in
+    joined-token text t from to (named text s) i
+    ∙ ap (λ b. token (token_of b.kind (take (b.to - b.from) (drop b.from text))) b.from (named text s)) (sym e)

@@ -1,0 +1,13 @@
+-- Laws of the table.
+pub mod Reaching
+pub mod Accepting
+pub mod AcceptedPatterns
+pub mod AcceptedDefinitions
+pub mod Saying
+pub mod Returning
+pub mod Completing
+pub mod Explaining
+pub mod Cutting
+pub mod StackLaws
+pub mod Stepping
+pub mod Looking

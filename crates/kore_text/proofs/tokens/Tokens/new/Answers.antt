@@ -1,0 +1,8 @@
+use Rattle.std.proofs.Common.{refl}
+use Rattle.kore_text.specs.TokenStream.{tokens_of}
+use Rattle.kore_text.specs.Left.{left}
+use Rattle.kore_text.proofs.tokens.Tokens.new.Goals as goal
+
+pub returns : goal.returns
+unfolding left tokens_of
+returns c = rw (c.new.ensures.start, c.new.ensures.text) refl

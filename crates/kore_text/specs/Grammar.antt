@@ -1,0 +1,242 @@
+-- The grammar of Kore text (Kore language document, syntax), as the spelling of each tree. A
+-- spelling is a list of wishes that stands in front of the wishes for what follows it.
+use Rattle.std.specs.Prelude.{◌≡◌, ℕ, ◌==◌, Bool, true, false, not, ◌&&◌, IsTrue, Option, Some, None, List, [], ◌∷◌, map, codes}
+use Rattle.kore_text.specs.declared.names.Op.{Op}
+use Rattle.kore_text.specs.declared.names.Op.TheVariants as op
+use Rattle.kore_text.specs.declared.names.Binder.{Binder}
+use Rattle.kore_text.specs.declared.names.Binder.TheVariants as binder
+use Rattle.kore_text.specs.declared.names.Built.TheVariants.{Connective, Binding, Value, Fold}
+use Rattle.kore_text.specs.TokenStream.{Token, identifier, set_identifier, builtin, string_token, mark, assign, Stream, end, fault, token}
+use Rattle.kore_text.specs.Trees.{SortTree, sort_parameter, sort_applied, SortTrees, no_sorts, sort_then, sort_count}
+use Rattle.kore_text.specs.Trees.{PatternTree, element_variable, set_variable, string, symbol_applied, connected, binding, domain_value, folded}
+use Rattle.kore_text.specs.Trees.{PatternTrees, no_patterns, pattern_then, pattern_count}
+use Rattle.kore_text.specs.Trees.{ImportDeclaration, SortDeclaration, SymbolDeclaration, AliasDeclaration, AxiomDeclaration, ModuleTree, DefinitionTree}
+use Rattle.kore_text.specs.Trees.{Declaration, import_declaration, sort_declaration, symbol_declaration, alias_declaration, axiom_declaration, claim_declaration}
+
+-- a token at this place, a token at any place, or, without a token, that a condition holds
+pub data Want : Type 0 where
+  placed : ℕ → Token → Want
+  any : Token → Want
+  given : Bool → Want
+
+-- the number of a connective's sorts
+abbrev pub sorts_of : Op → ℕ
+sorts_of op.Ceil = 2
+sorts_of op.Floor = 2
+sorts_of op.Equals = 2
+sorts_of op.Member = 2
+sorts_of _ = 1
+
+-- the number of its arguments, none where it takes any number
+abbrev pub arguments_of : Op → Option ℕ
+arguments_of op.Top = Some 0
+arguments_of op.Bottom = Some 0
+arguments_of op.Not = Some 1
+arguments_of op.Next = Some 1
+arguments_of op.And = None
+arguments_of op.Or = None
+arguments_of op.Implies = Some 2
+arguments_of op.Iff = Some 2
+arguments_of op.Rewrites = Some 2
+arguments_of op.Ceil = Some 1
+arguments_of op.Floor = Some 1
+arguments_of op.Equals = Some 2
+arguments_of op.Member = Some 2
+
+abbrev pub is_count : Option ℕ → ℕ → Bool
+is_count None n = true
+is_count (Some m) n = n == m
+
+-- the connective takes so many sorts and so many arguments
+abbrev pub takes : Op → ℕ → ℕ → Bool
+takes o sorts arguments = (sorts == sorts_of o) && is_count (arguments_of o) arguments
+
+-- the number of a binder's sorts
+abbrev pub binder_sorts : Binder → ℕ
+binder_sorts binder.Exists = 1
+binder_sorts binder.Forall = 1
+binder_sorts binder.Mu = 0
+binder_sorts binder.Nu = 0
+
+-- it binds a set variable, or else an element variable
+abbrev pub binds_sets : Binder → Bool
+binds_sets binder.Exists = false
+binds_sets binder.Forall = false
+binds_sets binder.Mu = true
+binds_sets binder.Nu = true
+
+-- a variable of that kind
+abbrev pub is_variable : Bool → PatternTree → Bool
+is_variable true (set_variable at n s) = true
+is_variable false (element_variable at n s) = true
+is_variable _ _ = false
+
+-- a fold is of `\and` or `\or`, or of a symbol, ..
+abbrev pub is_associative : Op → Bool
+is_associative op.And = true
+is_associative op.Or = true
+is_associative _ = false
+
+abbrev pub is_some : PatternTrees → Bool
+is_some no_patterns = false
+is_some (pattern_then p ps) = true
+
+-- .. with an argument
+abbrev pub is_foldable : PatternTree → Bool
+is_foldable (symbol_applied at n ss ps) = is_some ps
+is_foldable (connected at o ss ps) = is_associative o && is_some ps
+is_foldable _ = false
+
+-- how a thing is spelled in front of what follows it
+abbrev pub Spelling : Type 0
+Spelling = List Want → List Want
+
+-- a list from behind its opening bracket up to and with the closing mark, with commas
+abbrev mutual
+  pub listed : List Spelling → ℕ → Spelling
+  listed [] close k = any (mark close) ∷ k
+  listed (f ∷ fs) close k = f (more_listed fs close k)
+
+  -- .. from behind an item
+  pub more_listed : List Spelling → ℕ → Spelling
+  more_listed [] close k = any (mark close) ∷ k
+  more_listed (f ∷ fs) close k = any (mark 44) ∷ f (more_listed fs close k)
+
+-- one thing after the other
+abbrev pub in_order : List Spelling → Spelling
+in_order [] k = k
+in_order (f ∷ fs) k = f (in_order fs k)
+
+-- an identifier at any place
+abbrev pub spell_name : List ℕ → Spelling
+spell_name n k = any (identifier n) ∷ k
+
+-- a list of names in braces
+abbrev pub spell_names : List (List ℕ) → Spelling
+spell_names ns k = any (mark 123) ∷ listed (map spell_name ns) 125 k
+
+abbrev mutual
+  -- a sort: a parameter's name, or a name and sorts in braces
+  pub spell_sort : SortTree → Spelling
+  spell_sort (sort_parameter at n) = λ k. placed at (identifier n) ∷ k
+  spell_sort (sort_applied at n ss) = λ k. placed at (identifier n) ∷ any (mark 123) ∷ listed (spell_sorts ss) 125 k
+
+  pub spell_sorts : SortTrees → List Spelling
+  spell_sorts no_sorts = []
+  spell_sorts (sort_then s ss) = spell_sort s ∷ spell_sorts ss
+
+-- a variable's name, a colon and its sort
+abbrev pub spell_variable : ℕ → Token → SortTree → Spelling
+spell_variable at t s k = placed at t ∷ any (mark 58) ∷ spell_sort s k
+
+-- a pattern's head, its sorts in braces and its arguments in parentheses
+abbrev pub spell_applied : ℕ → Token → SortTrees → List Spelling → Spelling
+spell_applied at t ss ps k =
+    placed at t ∷ any (mark 123) ∷ listed (spell_sorts ss) 125 (any (mark 40) ∷ listed ps 41 k)
+
+abbrev mutual
+  -- a pattern, in which strings may stand or not
+  pub spell_pattern : Bool → PatternTree → Spelling
+  spell_pattern b (element_variable at n s) = λ k. spell_variable at (identifier n) s k
+  spell_pattern b (set_variable at n s) = λ k. spell_variable at (set_identifier n) s k
+  spell_pattern b (string at t) = λ k. given b ∷ placed at (string_token t) ∷ k
+  spell_pattern b (symbol_applied at n ss ps) = λ k. spell_applied at (identifier n) ss (spell_patterns b ps) k
+  spell_pattern b (connected at o ss ps) = λ k.
+      given (takes o (sort_count ss) (pattern_count ps))
+      ∷ spell_applied at (builtin (Some (Connective o))) ss (spell_patterns b ps) k
+  spell_pattern b (binding at o ss x p) = λ k.
+      given ((sort_count ss == binder_sorts o) && is_variable (binds_sets o) x)
+      ∷ placed at (builtin (Some (Binding o))) ∷ any (mark 123) ∷ listed (spell_sorts ss) 125 (any (mark 40)
+      ∷ spell_pattern b x (any (mark 44) ∷ spell_pattern b p (any (mark 41) ∷ k)))
+  spell_pattern b (domain_value at s t place) = λ k.
+      placed at (builtin (Some Value)) ∷ any (mark 123) ∷ spell_sort s (any (mark 125)
+      ∷ any (mark 40) ∷ placed place (string_token t) ∷ any (mark 41) ∷ k)
+  spell_pattern b (folded at left p) = λ k.
+      given (is_foldable p) ∷ placed at (builtin (Some (Fold left))) ∷ any (mark 123) ∷ any (mark 125)
+      ∷ any (mark 40) ∷ spell_pattern b p (any (mark 41) ∷ k)
+
+  pub spell_patterns : Bool → PatternTrees → List Spelling
+  spell_patterns b no_patterns = []
+  spell_patterns b (pattern_then p ps) = spell_pattern b p ∷ spell_patterns b ps
+
+-- attributes: patterns in brackets, in which strings may stand
+abbrev pub spell_attributes : List PatternTree → Spelling
+spell_attributes ps k = any (mark 91) ∷ listed (map (spell_pattern true) ps) 93 k
+
+-- sorts in parentheses, a colon and a sort
+abbrev pub spell_signature : List SortTree → SortTree → Spelling
+spell_signature args result k = any (mark 40) ∷ listed (map spell_sort args) 41 (any (mark 58) ∷ spell_sort result k)
+
+-- a keyword at its place
+abbrev pub keyword : ℕ → List ℕ → Want
+keyword at word = placed at (identifier word)
+
+abbrev pub sort_word : Bool → List ℕ
+sort_word true = codes "hooked-sort"
+sort_word false = codes "sort"
+
+abbrev pub symbol_word : Bool → List ℕ
+symbol_word true = codes "hooked-symbol"
+symbol_word false = codes "symbol"
+
+abbrev pub spell_import : ImportDeclaration → Spelling
+spell_import d k = keyword d.at (codes "import") ∷ any (identifier d.name) ∷ spell_attributes d.attributes k
+
+abbrev pub spell_sort_declaration : SortDeclaration → Spelling
+spell_sort_declaration d k =
+    keyword d.at (sort_word d.hooked) ∷ any (identifier d.name) ∷ spell_names d.params (spell_attributes d.attributes k)
+
+abbrev pub spell_symbol_declaration : SymbolDeclaration → Spelling
+spell_symbol_declaration d k =
+    keyword d.at (symbol_word d.hooked) ∷ any (identifier d.name)
+    ∷ spell_names d.params (spell_signature d.args d.result (spell_attributes d.attributes k))
+
+-- the symbol, `where`, its left side `:=` the body
+abbrev pub spell_alias : AliasDeclaration → Spelling
+spell_alias d k =
+    given (not d.hooked) ∷ keyword d.at (codes "alias") ∷ any (identifier d.name)
+    ∷ spell_names d.params (spell_signature d.args d.result (any (identifier (codes "where")) ∷ any (identifier d.left_name)
+    ∷ any (mark 123) ∷ listed (map spell_sort d.left_sorts) 125 (any (mark 40) ∷ listed (map (spell_pattern false) d.vars) 41
+    (any assign ∷ spell_pattern false d.body (spell_attributes d.attributes k)))))
+
+-- an axiom or a claim, behind its keyword
+abbrev pub spell_statement : AxiomDeclaration → Spelling
+spell_statement d k = spell_names d.params (spell_pattern false d.pattern (spell_attributes d.attributes k))
+
+abbrev pub spell_declaration : Declaration → Spelling
+spell_declaration (import_declaration d) k = spell_import d k
+spell_declaration (sort_declaration d) k = spell_sort_declaration d k
+spell_declaration (symbol_declaration d) k = spell_symbol_declaration d k
+spell_declaration (alias_declaration d) k = spell_alias d k
+spell_declaration (axiom_declaration d) k = keyword d.at (codes "axiom") ∷ spell_statement d k
+spell_declaration (claim_declaration d) k = keyword d.at (codes "claim") ∷ spell_statement d k
+
+-- declarations, up to and with the word and the attributes that end their module
+abbrev pub spell_body : List Declaration → List PatternTree → Spelling
+spell_body ds ps k = in_order (map spell_declaration ds) (any (identifier (codes "endmodule")) ∷ spell_attributes ps k)
+
+-- `module` name declarations `endmodule` attributes
+abbrev pub spell_module : ModuleTree → Spelling
+spell_module m k =
+    keyword m.at (codes "module") ∷ any (identifier m.name) ∷ spell_body m.declarations m.attributes k
+
+abbrev pub is_some_module : List ModuleTree → Bool
+is_some_module [] = false
+is_some_module (m ∷ ms) = true
+
+-- attributes, and one module or more
+abbrev pub spell_definition : DefinitionTree → Spelling
+spell_definition d k =
+    given (is_some_module d.modules) ∷ spell_attributes d.attributes (in_order (map spell_module d.modules) k)
+
+-- from the first stream up to the second, the tokens are those of the wishes, in order, and the
+-- conditions hold
+abbrev pub Takes : List Want → Stream → Stream → Type 0
+Takes [] s e = s ≡ e
+Takes (given b ∷ ws) s e = IsTrue b × Takes ws s e
+Takes (placed p u ∷ ws) (end n) e = ⊥
+Takes (placed p u ∷ ws) (fault n) e = ⊥
+Takes (placed p u ∷ ws) (token t q s) e = (t ≡ u) × (q ≡ p) × Takes ws s e
+Takes (any u ∷ ws) (end n) e = ⊥
+Takes (any u ∷ ws) (fault n) e = ⊥
+Takes (any u ∷ ws) (token t q s) e = (t ≡ u) × Takes ws s e

@@ -1,0 +1,10 @@
+-- What a reader of the contracts has to believe, lowest first.
+pub mod TokenStream
+pub mod Trees
+pub mod Grammar
+pub mod Faults
+pub mod Left
+-- What only private functions cite.
+pub mod Table
+pub mod Stacks
+pub mod Finding

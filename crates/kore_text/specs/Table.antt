@@ -1,0 +1,260 @@
+-- The table of moves: what may come next is a stack of symbols, the next one first, and a token
+-- turns it into another stack or fits nothing. It is no part of what a reader has to believe: the
+-- contracts say what faults are by the grammar alone.
+use Rattle.std.specs.Prelude.{ℕ, zero, suc, Bool, true, false, ◌==◌, ◌&&◌, List, [], ◌∷◌, ◌++◌, nat_lt, if◌then◌else◌, Option, Some, None, codes}
+use Rattle.std.specs.Str.{bytes_eq}
+use Rattle.kore_text.specs.declared.names.Built.{Built}
+use Rattle.kore_text.specs.declared.names.Built.TheVariants.{Connective, Binding, Value, Fold}
+use Rattle.kore_text.specs.declared.symbols.Close.{Close}
+use Rattle.kore_text.specs.declared.symbols.Close.TheVariants as close
+use Rattle.kore_text.specs.declared.symbols.Item.{Item}
+use Rattle.kore_text.specs.declared.symbols.Item.TheVariants as item
+use Rattle.kore_text.specs.declared.symbols.Symbol.{Symbol}
+use Rattle.kore_text.specs.declared.symbols.Symbol.TheVariants as symbol
+use Rattle.kore_text.specs.declared.faults.TextFault.{TextFault}
+use Rattle.kore_text.specs.declared.faults.TextFault.TheVariants.{Lex, Syntax, Deep}
+use Rattle.kore_text.specs.TokenStream.{Token, identifier, set_identifier, builtin, string_token, mark, assign, Stream, end, fault, token}
+use Rattle.kore_text.specs.Grammar.{sorts_of, arguments_of, binder_sorts, binds_sets, is_associative}
+use Rattle.kore_text.specs.Faults.{opened}
+
+abbrev pub byte_of : Close → ℕ
+byte_of close.Brace = 125
+byte_of close.Paren = 41
+byte_of close.Bracket = 93
+
+abbrev pub symbol_of : Item → Symbol
+symbol_of item.Name = symbol.Name
+symbol_of item.Sort = symbol.Sort
+symbol_of (item.Pattern b) = symbol.Pattern b
+
+abbrev pub is_mark : ℕ → Token → Bool
+is_mark c (mark d) = d == c
+is_mark c _ = false
+
+-- an identifier, or just this one
+abbrev pub is_name : Token → Bool
+is_name (identifier n) = true
+is_name _ = false
+
+abbrev pub is_word : List ℕ → Token → Bool
+is_word w (identifier n) = bytes_eq n w
+is_word w _ = false
+
+abbrev pub is_set_name : Token → Bool
+is_set_name (set_identifier n) = true
+is_set_name _ = false
+
+abbrev pub is_text : Token → Bool
+is_text (string_token n) = true
+is_text _ = false
+
+abbrev pub is_assign : Token → Bool
+is_assign assign = true
+is_assign _ = false
+
+abbrev pub when : Bool → List Symbol → Option (List Symbol)
+when true b = Some b
+when false b = None
+
+-- so many of these from behind an opening bracket, with commas, and the closing mark
+abbrev pub more_exactly : Symbol → Close → ℕ → List Symbol → List Symbol
+more_exactly f c zero k = symbol.Mark (byte_of c) ∷ k
+more_exactly f c (suc n) k = symbol.Mark 44 ∷ f ∷ more_exactly f c n k
+
+abbrev pub exactly : Symbol → Close → ℕ → List Symbol → List Symbol
+exactly f c zero k = symbol.Mark (byte_of c) ∷ k
+exactly f c (suc n) k = f ∷ more_exactly f c n k
+
+-- the arguments of a connective
+abbrev pub argument_symbols : Bool → Option ℕ → List Symbol
+argument_symbols b None = symbol.First (item.Pattern b) close.Paren ∷ []
+argument_symbols b (Some n) = exactly (symbol.Pattern b) close.Paren n []
+
+-- what comes behind a built-in name
+abbrev pub built_symbols : Bool → Built → List Symbol
+built_symbols b (Connective o) =
+    symbol.Mark 123 ∷ exactly symbol.Sort close.Brace (sorts_of o) (symbol.Mark 40 ∷ argument_symbols b (arguments_of o))
+built_symbols b (Binding o) =
+    symbol.Mark 123 ∷ exactly symbol.Sort close.Brace (binder_sorts o) (symbol.Mark 40
+    ∷ symbol.Variable (binds_sets o) ∷ symbol.Mark 44 ∷ symbol.Pattern b ∷ symbol.Mark 41 ∷ [])
+built_symbols b Value =
+    symbol.Mark 123 ∷ symbol.Sort ∷ symbol.Mark 125 ∷ symbol.Mark 40 ∷ symbol.Text ∷ symbol.Mark 41 ∷ []
+built_symbols b (Fold left) =
+    symbol.Mark 123 ∷ symbol.Mark 125 ∷ symbol.Mark 40 ∷ symbol.Folded b ∷ symbol.Mark 41 ∷ []
+
+-- the arguments of what is folded: one or more, or none
+abbrev pub no_arguments : List Symbol
+no_arguments = symbol.Mark 40 ∷ symbol.Mark 41 ∷ []
+
+abbrev pub folded_arguments : Bool → List Symbol
+folded_arguments b =
+    symbol.Mark 40 ∷ symbol.Pattern b ∷ symbol.More (item.Pattern b) close.Paren ∷ []
+
+abbrev pub name_move : Token → Option (List Symbol)
+name_move t = when (is_name t) []
+
+abbrev pub text_move : Token → Option (List Symbol)
+text_move t = when (is_text t) []
+
+abbrev pub assign_move : Token → Option (List Symbol)
+assign_move t = when (is_assign t) []
+
+abbrev pub sort_move : Token → Option (List Symbol)
+sort_move t = when (is_name t) (symbol.SortTail ∷ [])
+
+abbrev pub built_move : Bool → Option Built → Option (List Symbol)
+built_move b None = None
+built_move b (Some x) = Some (built_symbols b x)
+
+abbrev pub pattern_move : Bool → Token → Option (List Symbol)
+pattern_move b (identifier n) = Some (symbol.PatternTail b ∷ [])
+pattern_move b (set_identifier n) = Some (symbol.Mark 58 ∷ symbol.Sort ∷ [])
+pattern_move b (builtin x) = built_move b x
+pattern_move b (string_token t) = when b []
+pattern_move b _ = None
+
+abbrev pub pattern_tail_move : Bool → Token → Option (List Symbol)
+pattern_tail_move b (mark c) =
+    if c == 58 then Some (symbol.Sort ∷ [])
+    else when (c == 123) (symbol.First item.Sort close.Brace ∷ symbol.Mark 40 ∷ symbol.First (item.Pattern b) close.Paren ∷ [])
+pattern_tail_move b _ = None
+
+abbrev pub variable_move : Bool → Token → Option (List Symbol)
+variable_move c t = when (if c then is_set_name t else is_name t) (symbol.Mark 58 ∷ symbol.Sort ∷ [])
+
+-- what is folded, with these symbols for its arguments
+abbrev pub folded_built_move : List Symbol → Option Built → Option (List Symbol)
+folded_built_move k (Some (Connective o)) =
+    when (is_associative o) (symbol.Mark 123 ∷ exactly symbol.Sort close.Brace 1 k)
+folded_built_move k _ = None
+
+abbrev pub folded_move : List Symbol → Token → Option (List Symbol)
+folded_move k (identifier n) = Some (symbol.Mark 123 ∷ symbol.First item.Sort close.Brace ∷ k)
+folded_move k (builtin x) = folded_built_move k x
+folded_move k _ = None
+
+abbrev pub item_move : Item → Token → Option (List Symbol)
+item_move item.Name t = name_move t
+item_move item.Sort t = sort_move t
+item_move (item.Pattern b) t = pattern_move b t
+
+-- what comes behind the keyword of a declaration
+abbrev pub word_move : List ℕ → Option (List Symbol)
+word_move n =
+    if bytes_eq n (codes "endmodule") then Some (symbol.Attributes ∷ [])
+    else (if bytes_eq n (codes "import") then Some (symbol.Name ∷ symbol.Attributes ∷ symbol.Declarations ∷ [])
+    else (if bytes_eq n (codes "sort") then Some (symbol.Name ∷ symbol.Names ∷ symbol.Attributes ∷ symbol.Declarations ∷ [])
+    else (if bytes_eq n (codes "hooked-sort") then Some (symbol.Name ∷ symbol.Names ∷ symbol.Attributes ∷ symbol.Declarations ∷ [])
+    else (if bytes_eq n (codes "symbol") then Some (symbol.Name ∷ symbol.Names ∷ symbol.Signature ∷ symbol.Attributes ∷ symbol.Declarations ∷ [])
+    else (if bytes_eq n (codes "hooked-symbol") then Some (symbol.Name ∷ symbol.Names ∷ symbol.Signature ∷ symbol.Attributes ∷ symbol.Declarations ∷ [])
+    else (if bytes_eq n (codes "alias") then
+    Some (symbol.Name ∷ symbol.Names ∷ symbol.Signature ∷ symbol.Where ∷ symbol.Name
+    ∷ symbol.Mark 123 ∷ symbol.First item.Sort close.Brace ∷ symbol.Mark 40 ∷ symbol.First (item.Pattern false) close.Paren
+    ∷ symbol.Assign ∷ symbol.Pattern false ∷ symbol.Attributes ∷ symbol.Declarations ∷ [])
+    else (if bytes_eq n (codes "axiom") then Some (symbol.Names ∷ symbol.Pattern false ∷ symbol.Attributes ∷ symbol.Declarations ∷ [])
+    else (if bytes_eq n (codes "claim") then Some (symbol.Names ∷ symbol.Pattern false ∷ symbol.Attributes ∷ symbol.Declarations ∷ [])
+    else None))))))))
+
+abbrev pub declarations_move : Token → Option (List Symbol)
+declarations_move (identifier n) = word_move n
+declarations_move _ = None
+
+-- this word, and then these
+abbrev pub keyword_move : List ℕ → List Symbol → Token → Option (List Symbol)
+keyword_move w b t = when (is_word w t) b
+
+-- what stands in the place of a symbol behind a token that fits it
+unfoldable pub turn : Symbol → Token → Option (List Symbol)
+turn (symbol.Mark c) t = when (is_mark c t) []
+turn symbol.Name t = name_move t
+turn symbol.Where t = keyword_move (codes "where") [] t
+turn symbol.Assign t = assign_move t
+turn symbol.Text t = text_move t
+turn symbol.Sort t = sort_move t
+turn symbol.SortTail t = when (is_mark 123 t) (symbol.First item.Sort close.Brace ∷ [])
+turn (symbol.Pattern b) t = pattern_move b t
+turn (symbol.PatternTail b) t = pattern_tail_move b t
+turn (symbol.Variable b) t = variable_move b t
+turn (symbol.Folded b) t = folded_move (folded_arguments b) t
+turn symbol.EmptyFolded t = folded_move no_arguments t
+turn (symbol.First i c) t = if is_mark (byte_of c) t then Some [] else item_move i t
+turn (symbol.More i c) t =
+    if is_mark (byte_of c) t then Some [] else when (is_mark 44 t) (symbol_of i ∷ symbol.More i c ∷ [])
+turn symbol.Attributes t = when (is_mark 91 t) (symbol.First (item.Pattern true) close.Bracket ∷ [])
+turn symbol.Names t = when (is_mark 123 t) (symbol.First item.Name close.Brace ∷ [])
+turn symbol.Signature t =
+    when (is_mark 40 t) (symbol.First item.Sort close.Paren ∷ symbol.Mark 58 ∷ symbol.Sort ∷ [])
+turn symbol.Declarations t = declarations_move t
+turn symbol.Module t = keyword_move (codes "module") (symbol.Name ∷ symbol.Declarations ∷ []) t
+turn symbol.Modules t = keyword_move (codes "module") (symbol.Name ∷ symbol.Declarations ∷ symbol.Modules ∷ []) t
+
+-- what is still to come of the symbol's list behind its first token
+abbrev pub rest_of : Symbol → Token → List Symbol → List Symbol
+rest_of (symbol.First i c) t k = if is_mark (byte_of c) t then k else symbol.More i c ∷ k
+rest_of _ t k = k
+
+-- nothing need come of it
+abbrev pub is_empty : Symbol → Bool
+is_empty symbol.SortTail = true
+is_empty symbol.Modules = true
+is_empty _ = false
+
+abbrev pub onto : Option (List Symbol) → List Symbol → Option (List Symbol) → Option (List Symbol)
+onto (Some b) k other = Some (b ++ k)
+onto None k other = other
+
+-- the stack behind a token; a symbol of which nothing need come may be left out
+unfoldable pub step : List Symbol → Token → Option (List Symbol)
+step [] t = None
+step (f ∷ k) t = onto (turn f t) (rest_of f t k) (if is_empty f then step k t else None)
+
+abbrev pub can_end : List Symbol → Bool
+can_end [] = true
+can_end (f ∷ k) = is_empty f && can_end k
+
+-- the tokens of the stream begin with what the stack says, all of it
+abbrev pub passes_on : (List Symbol → Bool) → Option (List Symbol) → Bool
+passes_on go None = false
+passes_on go (Some k) = go k
+
+unfoldable pub passes : Stream → List Symbol → Bool
+passes s [] = true
+passes (end e) (f ∷ k) = false
+passes (fault e) (f ∷ k) = false
+passes (token t p s) (f ∷ k) = passes_on (passes s) (step (f ∷ k) t)
+
+-- what makes a fold one without an argument, behind its name
+abbrev pub empty_fold : List Symbol
+empty_fold = symbol.Mark 123 ∷ symbol.Mark 125 ∷ symbol.Mark 40 ∷ symbol.EmptyFolded ∷ []
+
+abbrev pub is_fold : Token → Bool
+is_fold (builtin (Some (Fold left))) = true
+is_fold _ = false
+
+-- the brackets that are open behind a token, where they are counted
+abbrev pub counted : Token → Option ℕ → Option ℕ
+counted t None = None
+counted t (Some n) = Some (opened t n)
+
+abbrev pub is_deep : Option ℕ → Bool
+is_deep None = false
+is_deep (Some n) = nat_lt 500 n
+
+abbrev pub onward : (Option ℕ → List Symbol → Option TextFault) → ℕ → Option ℕ → Option (List Symbol) → Option TextFault
+onward go at n None = Some (Syntax at)
+onward go at n (Some k) = if is_deep n then Some (Deep at) else go n k
+
+-- the first fault of a text at whose tokens these symbols are to come, with so many brackets open
+-- at its head, if they are counted
+unfoldable pub run : Stream → Option ℕ → List Symbol → Option TextFault
+run (end e) n k = if can_end k then None else Some (Syntax e)
+run (fault e) n k = Some (Lex e)
+run (token t p s) n k =
+    if is_fold t && passes s empty_fold then Some (Syntax p) else onward (run s) p (counted t n) (step k t)
+
+-- what is to come at the head of a pattern and of a definition
+abbrev pub pattern_symbols : List Symbol
+pattern_symbols = symbol.Pattern false ∷ []
+
+abbrev pub definition_symbols : List Symbol
+definition_symbols = symbol.Attributes ∷ symbol.Module ∷ symbol.Modules ∷ []

@@ -1,0 +1,85 @@
+-- The tokens of a Kore text with the byte at which each stands (Kore language document, lexical
+-- structure).
+use Rattle.std.specs.Prelude.{ℕ, ◌-◌, List, take, drop, Option, Some, None, if◌then◌else◌, codes, true, false}
+use Rattle.std.specs.Str.{bytes_eq}
+use Rattle.kore_lex.specs.declared.lexer.TokenKind.{TokenKind}
+use Rattle.kore_lex.specs.declared.lexer.TokenKind.TheVariants as kind
+use Rattle.kore_lex.specs.Lexed.{lexed}
+use Rattle.kore_lex.specs.Lexed.{Stream as Cut, end as cut_end, fault as cut_fault, token as cut_token}
+use Rattle.kore_lex.specs.Value.{value}
+use Rattle.kore_text.specs.declared.names.Op.TheVariants as op
+use Rattle.kore_text.specs.declared.names.Binder.TheVariants as binder
+use Rattle.kore_text.specs.declared.names.Built.{Built}
+use Rattle.kore_text.specs.declared.names.Built.TheVariants.{Connective, Binding, Value, Fold}
+
+-- an identifier; the identifier of a set variable, behind its `@`; what a built-in name stands
+-- for, where that is anything; the text of a string; a mark; or `:=`
+pub data Token : Type 0 where
+  identifier : List ℕ → Token
+  set_identifier : List ℕ → Token
+  builtin : Option Built → Token
+  string_token : List ℕ → Token
+  mark : ℕ → Token
+  assign : Token
+
+-- what the name behind a backslash stands for
+unfoldable pub built_of : List ℕ → Option Built
+built_of n =
+    if bytes_eq n (codes "top") then Some (Connective op.Top)
+    else (if bytes_eq n (codes "bottom") then Some (Connective op.Bottom)
+    else (if bytes_eq n (codes "not") then Some (Connective op.Not)
+    else (if bytes_eq n (codes "next") then Some (Connective op.Next)
+    else (if bytes_eq n (codes "and") then Some (Connective op.And)
+    else (if bytes_eq n (codes "or") then Some (Connective op.Or)
+    else (if bytes_eq n (codes "implies") then Some (Connective op.Implies)
+    else (if bytes_eq n (codes "iff") then Some (Connective op.Iff)
+    else (if bytes_eq n (codes "rewrites") then Some (Connective op.Rewrites)
+    else (if bytes_eq n (codes "ceil") then Some (Connective op.Ceil)
+    else (if bytes_eq n (codes "floor") then Some (Connective op.Floor)
+    else (if bytes_eq n (codes "equals") then Some (Connective op.Equals)
+    else (if bytes_eq n (codes "in") then Some (Connective op.Member)
+    else (if bytes_eq n (codes "exists") then Some (Binding binder.Exists)
+    else (if bytes_eq n (codes "forall") then Some (Binding binder.Forall)
+    else (if bytes_eq n (codes "mu") then Some (Binding binder.Mu)
+    else (if bytes_eq n (codes "nu") then Some (Binding binder.Nu)
+    else (if bytes_eq n (codes "dv") then Some Value
+    else (if bytes_eq n (codes "left-assoc") then Some (Fold true)
+    else (if bytes_eq n (codes "right-assoc") then Some (Fold false)
+    else None)))))))))))))))))))
+
+-- the token of a kind that these bytes are
+abbrev pub token_of : TokenKind → List ℕ → Token
+token_of kind.Ident bs = identifier bs
+token_of kind.SetIdent bs = set_identifier (drop 1 bs)
+token_of kind.Builtin bs = builtin (built_of (drop 1 bs))
+token_of kind.Text bs = string_token (value bs)
+token_of (kind.Punct c) bs = mark c
+token_of kind.Assign bs = assign
+token_of kind.End bs = assign
+
+-- tokens in order, each with the byte at which it stands, and then the end of the text or the byte
+-- of what is no token
+pub data Stream : Type 0 where
+  end : ℕ → Stream
+  fault : ℕ → Stream
+  token : Token → ℕ → Stream → Stream
+
+-- a token and what follows it; a token of no bytes is the end
+abbrev pub joined : List ℕ → TokenKind → ℕ → ℕ → Stream → Stream
+joined text kind.End from to s = end from
+joined text kind.Ident from to s = token (token_of kind.Ident (take (to - from) (drop from text))) from s
+joined text kind.SetIdent from to s = token (token_of kind.SetIdent (take (to - from) (drop from text))) from s
+joined text kind.Builtin from to s = token (token_of kind.Builtin (take (to - from) (drop from text))) from s
+joined text kind.Text from to s = token (token_of kind.Text (take (to - from) (drop from text))) from s
+joined text (kind.Punct c) from to s = token (token_of (kind.Punct c) (take (to - from) (drop from text))) from s
+joined text kind.Assign from to s = token (token_of kind.Assign (take (to - from) (drop from text))) from s
+
+-- the tokens of a text that was cut
+abbrev pub named : List ℕ → Cut → Stream
+named text (cut_end n) = end n
+named text (cut_fault n) = fault n
+named text (cut_token k from to s) = joined text k from to (named text s)
+
+-- the tokens of a text
+unfoldable pub tokens_of : List ℕ → Stream
+tokens_of text = named text (lexed 0 text)

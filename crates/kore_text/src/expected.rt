@@ -1,0 +1,405 @@
+// What may come next in a text: a stack of symbols, by the table of the grammar.
+
+ghost use Rattle.std.specs.Prelude.{◌≡◌, ◌≢◌, ◌≤◌, ℕ, Bool, List, [], ◌∷◌, ◌++◌, true, false, Some, if◌then◌else◌, OnOk, IfOk};
+ghost use Rattle.kore_lex.specs.declared.lexer.TokenKind.TheVariants.{End};
+ghost use Rattle.kore_text.specs.declared.names.Built.TheVariants.{Connective, Binding};
+ghost use Rattle.kore_text.specs.declared.symbols.Symbol.TheVariants.{First, More};
+ghost use Rattle.kore_text.specs.TokenStream.{token_of, identifier, set_identifier, builtin, string_token};
+ghost use Rattle.kore_text.specs.Table.{turn, rest_of, step, can_end, is_empty, when, exactly, argument_symbols, built_symbols, pattern_move, pattern_tail_move, folded_move, item_move, word_move, declarations_move, folded_arguments, variable_move, byte_of, symbol_of, is_mark};
+
+use crate::names::{Binder, Built, Op};
+use crate::symbols::{Close, Item, Symbol};
+use crate::words::Word;
+use kore_lex::TokenKind;
+use std::alloc::{AllocError, Global};
+
+/// What may come next, the next symbol last.
+#[derive(Drop)]
+pub(crate) struct Expected {
+    symbols: Vec<Symbol>,
+}
+
+impl Expected {
+    ghost use Rattle.kore_text.specs.Stacks.{stack, Expands, Steps, is_nil};
+
+    /// These symbols, the first one next.
+    pub(crate) fn new(alloc: Global, symbols: &[Symbol]) -> Result<Expected, AllocError>
+        ensures { IfOk result (λ e. stack e ≡ symbols.now) }
+    {
+        let mut expected = Expected {
+            symbols: Vec::new(alloc),
+        };
+        expected.put(symbols)?;
+        Ok(expected)
+    }
+
+    /// Whether the text may end here.
+    pub(crate) fn can_end(&self) -> bool
+        ensures { result ≡ can_end (stack self.now) }
+    {
+        let mut i = self.symbols.len();
+        while i > 0 {
+            i -= 1;
+            if !self.symbols[i].is_empty() {
+                return false;
+            }
+        }
+        true
+    }
+
+    /// Whether nothing is to come.
+    pub(crate) fn is_done(&self) -> bool
+        ensures { result ≡ is_nil (stack self.now) }
+    {
+        self.symbols.is_empty()
+    }
+
+    /// Takes a token; answers whether it fits. Where it does not, nothing is known of what may come.
+    pub(crate) fn take(&mut self, word: &Word<'_>) -> Result<bool, AllocError>
+        requires { word.now.kind ≢ End }
+        ensures { IfOk result (λ yes. Steps yes (step (stack self.old) (token_of word.now.kind word.now.bytes.now)) (stack self.new)) }
+    {
+        while let Some(symbol) = self.symbols.pop() {
+            if !symbol.is_left_out(word) {
+                return self.expand(symbol, word);
+            }
+        }
+        Ok(false)
+    }
+
+    /// Puts these symbols in front.
+    fn put(&mut self, symbols: &[Symbol]) -> Result<(), AllocError>
+        ensures { OnOk result (stack self.new ≡ symbols.now ++ stack self.old) }
+    {
+        let mut i = symbols.len();
+        while i > 0 {
+            i -= 1;
+            self.symbols.push(symbols[i])?;
+        }
+        Ok(())
+    }
+
+    /// Puts these symbols in front where the token fits.
+    fn put_where(&mut self, fits: bool, symbols: &[Symbol]) -> Result<bool, AllocError>
+        ensures { IfOk result (λ yes. Expands yes (when fits symbols.now) (stack self.old) (stack self.new)) }
+    {
+        if fits {
+            self.put(symbols)?;
+        }
+        Ok(fits)
+    }
+
+    /// Puts what comes in the place of a symbol behind a token, where the token fits it.
+    #[tactic(auto, unfolding(crate::specs::Table::turn))]
+    fn expand(&mut self, symbol: Symbol, word: &Word<'_>) -> Result<bool, AllocError>
+        requires { word.now.kind ≢ End }
+        ensures { IfOk result (λ yes. Expands yes (turn symbol (token_of word.now.kind word.now.bytes.now))
+            (rest_of symbol (token_of word.now.kind word.now.bytes.now) (stack self.old)) (stack self.new)) }
+    {
+        match symbol {
+            Symbol::Mark(byte) => self.put_where(word.is_mark(byte), &[]),
+            Symbol::Name => self.put_where(word.is_name(), &[]),
+            Symbol::Where => self.put_where(word.is_word(b"where"), &[]),
+            Symbol::Assign => self.put_where(word.is_assign(), &[]),
+            Symbol::Text => self.put_where(word.is_text(), &[]),
+            Symbol::Sort => self.put_where(word.is_name(), &[Symbol::SortTail]),
+            Symbol::SortTail => self.put_where(
+                word.is_mark(b'{'),
+                &[Symbol::First(Item::Sort, Close::Brace)],
+            ),
+            Symbol::Pattern(strings) => self.pattern(strings, word),
+            Symbol::PatternTail(strings) => self.pattern_tail(strings, word),
+            Symbol::Variable(set) => self.variable(set, word),
+            Symbol::Folded(strings) => self.folded_some(strings, word),
+            Symbol::EmptyFolded => { self.folded(word, &[Symbol::Mark(b'('), Symbol::Mark(b')')]) }
+            Symbol::First(item, close) => self.first(item, close, word),
+            Symbol::More(item, close) => self.more(item, close, word),
+            Symbol::Attributes => self.put_where(
+                word.is_mark(b'['),
+                &[Symbol::First(Item::Pattern(true), Close::Bracket)],
+            ),
+            Symbol::Names => self.put_where(
+                word.is_mark(b'{'),
+                &[Symbol::First(Item::Name, Close::Brace)],
+            ),
+            Symbol::Signature => self.put_where(
+                word.is_mark(b'('),
+                &[
+                    Symbol::First(Item::Sort, Close::Paren),
+                    Symbol::Mark(b':'),
+                    Symbol::Sort,
+                ],
+            ),
+            Symbol::Declarations => self.declaration(word),
+            Symbol::Module => self.put_where(
+                word.is_word(b"module"),
+                &[Symbol::Name, Symbol::Declarations],
+            ),
+            Symbol::Modules => self.put_where(
+                word.is_word(b"module"),
+                &[Symbol::Name, Symbol::Declarations, Symbol::Modules],
+            ),
+        }
+    }
+
+    /// A pattern's first token.
+    fn pattern(&mut self, strings: bool, word: &Word<'_>) -> Result<bool, AllocError>
+        ensures { IfOk result (λ yes. Expands yes (pattern_move strings (token_of word.now.kind word.now.bytes.now)) (stack self.old) (stack self.new)) }
+    {
+        match word.kind {
+            TokenKind::Ident => self.put_where(true, &[Symbol::PatternTail(strings)]),
+            TokenKind::SetIdent => self.put_where(true, &[Symbol::Mark(b':'), Symbol::Sort]),
+            TokenKind::Text => self.put_where(strings, &[]),
+            TokenKind::Builtin => match Built::of_name(word.behind_first()) {
+                Some(built) => {
+                    self.built(strings, built)?;
+                    Ok(true)
+                }
+                None => Ok(false),
+            },
+            _ => Ok(false),
+        }
+    }
+
+    /// What comes behind a built-in name.
+    fn built(&mut self, strings: bool, built: Built) -> Result<(), AllocError>
+        ensures { OnOk result (stack self.new ≡ built_symbols strings built ++ stack self.old) }
+    {
+        match built {
+            Built::Connective(op) => self.connective(strings, op),
+            Built::Binding(binder) => self.binding(strings, binder),
+            Built::Value => self.put(&[
+                Symbol::Mark(b'{'),
+                Symbol::Sort,
+                Symbol::Mark(b'}'),
+                Symbol::Mark(b'('),
+                Symbol::Text,
+                Symbol::Mark(b')'),
+            ]),
+            Built::Fold(_) => self.put(&[
+                Symbol::Mark(b'{'),
+                Symbol::Mark(b'}'),
+                Symbol::Mark(b'('),
+                Symbol::Folded(strings),
+                Symbol::Mark(b')'),
+            ]),
+        }
+    }
+
+    /// What comes behind the name of a connective.
+    #[tactic(auto, using(crate::proofs::StackLaws::exactly_append))]
+    fn connective(&mut self, strings: bool, op: Op) -> Result<(), AllocError>
+        ensures { OnOk result (stack self.new ≡ built_symbols strings (Connective op) ++ stack self.old) }
+    {
+        match op.arguments() {
+            None => self.put(&[Symbol::First(Item::Pattern(strings), Close::Paren)])?,
+            Some(count) => self.exactly(Symbol::Pattern(strings), Close::Paren, count)?,
+        }
+        self.put(&[Symbol::Mark(b'(')])?;
+        self.exactly(Symbol::Sort, Close::Brace, op.sorts())?;
+        self.put(&[Symbol::Mark(b'{')])
+    }
+
+    /// What comes behind the name of a binder.
+    #[tactic(auto, using(crate::proofs::StackLaws::exactly_append))]
+    fn binding(&mut self, strings: bool, binder: Binder) -> Result<(), AllocError>
+        ensures { OnOk result (stack self.new ≡ built_symbols strings (Binding binder) ++ stack self.old) }
+    {
+        self.put(&[
+            Symbol::Mark(b'('),
+            Symbol::Variable(binder.binds_sets()),
+            Symbol::Mark(b','),
+            Symbol::Pattern(strings),
+            Symbol::Mark(b')'),
+        ])?;
+        self.exactly(Symbol::Sort, Close::Brace, binder.sorts())?;
+        self.put(&[Symbol::Mark(b'{')])
+    }
+
+    /// A list of just so many of a symbol, from behind its opening bracket.
+    #[tactic(auto, using(crate::proofs::StackLaws::exactly_first, crate::proofs::StackLaws::exactly_more))]
+    fn exactly(&mut self, symbol: Symbol, close: Close, count: usize) -> Result<(), AllocError>
+        ensures { OnOk result (stack self.new ≡ exactly symbol close count (stack self.old)) }
+    {
+        self.put(&[Symbol::Mark(close.byte())])?;
+        for i in 0..count {
+            if i > 0 {
+                self.put(&[Symbol::Mark(b',')])?;
+            }
+            self.put(&[symbol])?;
+        }
+        Ok(())
+    }
+
+    /// Behind a name that begins a pattern.
+    fn pattern_tail(&mut self, strings: bool, word: &Word<'_>) -> Result<bool, AllocError>
+        ensures { IfOk result (λ yes. Expands yes (pattern_tail_move strings (token_of word.now.kind word.now.bytes.now)) (stack self.old) (stack self.new)) }
+    {
+        match word.kind {
+            TokenKind::Punct(b':') => self.put_where(true, &[Symbol::Sort]),
+            TokenKind::Punct(byte) => self.put_where(
+                byte == b'{',
+                &[
+                    Symbol::First(Item::Sort, Close::Brace),
+                    Symbol::Mark(b'('),
+                    Symbol::First(Item::Pattern(strings), Close::Paren),
+                ],
+            ),
+            _ => Ok(false),
+        }
+    }
+
+    /// A variable's name.
+    fn variable(&mut self, set: bool, word: &Word<'_>) -> Result<bool, AllocError>
+        ensures { IfOk result (λ yes. Expands yes (variable_move set (token_of word.now.kind word.now.bytes.now)) (stack self.old) (stack self.new)) }
+    {
+        let fits = if set {
+            word.is_set_name()
+        } else {
+            word.is_name()
+        };
+        self.put_where(fits, &[Symbol::Mark(b':'), Symbol::Sort])
+    }
+
+    /// The head of what a fold is made of, with an argument.
+    fn folded_some(&mut self, strings: bool, word: &Word<'_>) -> Result<bool, AllocError>
+        ensures { IfOk result (λ yes. Expands yes (folded_move (folded_arguments strings) (token_of word.now.kind word.now.bytes.now)) (stack self.old) (stack self.new)) }
+    {
+        self.folded(
+            word,
+            &[
+                Symbol::Mark(b'('),
+                Symbol::Pattern(strings),
+                Symbol::More(Item::Pattern(strings), Close::Paren),
+            ],
+        )
+    }
+
+    /// The head of what a fold is made of, with these symbols for its arguments.
+    fn folded(&mut self, word: &Word<'_>, arguments: &[Symbol]) -> Result<bool, AllocError>
+        ensures { IfOk result (λ yes. Expands yes (folded_move arguments.now (token_of word.now.kind word.now.bytes.now)) (stack self.old) (stack self.new)) }
+    {
+        match word.kind {
+            TokenKind::Ident => {
+                self.put(arguments)?;
+                self.put(&[Symbol::Mark(b'{'), Symbol::First(Item::Sort, Close::Brace)])?;
+                Ok(true)
+            }
+            TokenKind::Builtin => match Built::of_name(word.behind_first()) {
+                Some(Built::Connective(op)) if op.is_associative() => {
+                    self.put(arguments)?;
+                    self.put(&[Symbol::Mark(b'{'), Symbol::Sort, Symbol::Mark(b'}')])?;
+                    Ok(true)
+                }
+                _ => Ok(false),
+            },
+            _ => Ok(false),
+        }
+    }
+
+    /// A list from behind its opening bracket.
+    fn first(&mut self, item: Item, close: Close, word: &Word<'_>) -> Result<bool, AllocError>
+        ensures { IfOk result (λ yes. Expands yes (if is_mark (byte_of close) (token_of word.now.kind word.now.bytes.now) then Some [] else item_move item (token_of word.now.kind word.now.bytes.now))
+            (rest_of (First item close) (token_of word.now.kind word.now.bytes.now) (stack self.old)) (stack self.new)) }
+    {
+        if word.is_mark(close.byte()) {
+            return Ok(true);
+        }
+        self.put(&[Symbol::More(item, close)])?;
+        match item {
+            Item::Name => self.put_where(word.is_name(), &[]),
+            Item::Sort => self.put_where(word.is_name(), &[Symbol::SortTail]),
+            Item::Pattern(strings) => self.pattern(strings, word),
+        }
+    }
+
+    /// A list from behind an item.
+    fn more(&mut self, item: Item, close: Close, word: &Word<'_>) -> Result<bool, AllocError>
+        ensures { IfOk result (λ yes. Expands yes (if is_mark (byte_of close) (token_of word.now.kind word.now.bytes.now) then Some []
+            else when (is_mark 44 (token_of word.now.kind word.now.bytes.now)) (symbol_of item ∷ More item close ∷ [])) (stack self.old) (stack self.new)) }
+    {
+        if word.is_mark(close.byte()) {
+            return Ok(true);
+        }
+        self.put_where(
+            word.is_mark(b','),
+            &[item.symbol(), Symbol::More(item, close)],
+        )
+    }
+
+    /// A declaration's keyword, or the one that ends a module.
+    fn declaration(&mut self, word: &Word<'_>) -> Result<bool, AllocError>
+        ensures { IfOk result (λ yes. Expands yes (declarations_move (token_of word.now.kind word.now.bytes.now)) (stack self.old) (stack self.new)) }
+    {
+        match word.kind {
+            TokenKind::Ident => self.declared(word.bytes),
+            _ => Ok(false),
+        }
+    }
+
+    /// What comes behind a declaration's keyword.
+    fn declared(&mut self, name: &[u8]) -> Result<bool, AllocError>
+        ensures { IfOk result (λ yes. Expands yes (word_move name.now) (stack self.old) (stack self.new)) }
+    {
+        if name == b"endmodule".as_slice() {
+            self.put_where(true, &[Symbol::Attributes])
+        } else if name == b"import".as_slice() {
+            self.put_where(
+                true,
+                &[Symbol::Name, Symbol::Attributes, Symbol::Declarations],
+            )
+        } else if name == b"sort".as_slice() || name == b"hooked-sort".as_slice() {
+            self.put_where(
+                true,
+                &[
+                    Symbol::Name,
+                    Symbol::Names,
+                    Symbol::Attributes,
+                    Symbol::Declarations,
+                ],
+            )
+        } else if name == b"symbol".as_slice() || name == b"hooked-symbol".as_slice() {
+            self.put_where(
+                true,
+                &[
+                    Symbol::Name,
+                    Symbol::Names,
+                    Symbol::Signature,
+                    Symbol::Attributes,
+                    Symbol::Declarations,
+                ],
+            )
+        } else if name == b"alias".as_slice() {
+            self.put_where(
+                true,
+                &[
+                    Symbol::Name,
+                    Symbol::Names,
+                    Symbol::Signature,
+                    Symbol::Where,
+                    Symbol::Name,
+                    Symbol::Mark(b'{'),
+                    Symbol::First(Item::Sort, Close::Brace),
+                    Symbol::Mark(b'('),
+                    Symbol::First(Item::Pattern(false), Close::Paren),
+                    Symbol::Assign,
+                    Symbol::Pattern(false),
+                    Symbol::Attributes,
+                    Symbol::Declarations,
+                ],
+            )
+        } else if name == b"axiom".as_slice() || name == b"claim".as_slice() {
+            self.put_where(
+                true,
+                &[
+                    Symbol::Names,
+                    Symbol::Pattern(false),
+                    Symbol::Attributes,
+                    Symbol::Declarations,
+                ],
+            )
+        } else {
+            Ok(false)
+        }
+    }
+}

@@ -1,0 +1,24 @@
+// The grammar of Kore text, and the first fault of a text.
+//
+// `definition_fault` and `pattern_fault` say whether bytes spell a definition or a pattern by the
+// grammar of the Kore language document, and else which fault comes first, and where. The
+// definitions stand in `specs/`: `TokenStream` has the tokens of a text, `Trees` the trees without
+// memory, `Grammar` spells a tree, `Faults` says what the first fault of a text is, and `Table`
+// has the moves by which one token at a time is looked at.
+#![tactic(auto)]
+
+mod expected;
+mod faults;
+mod finder;
+mod names;
+mod symbols;
+mod tokens;
+mod words;
+
+pub use faults::TextFault;
+pub use finder::{definition_fault, pattern_fault};
+pub use names::{Binder, Built, Op};
+pub use tokens::{Next, Tokens};
+
+#[cfg(test)]
+mod tests;

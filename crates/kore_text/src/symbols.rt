@@ -1,0 +1,119 @@
+// What may come next in a text.
+
+ghost use Rattle.std.specs.Prelude.{◌≡◌};
+ghost use Rattle.kore_text.specs.TokenStream.{token_of};
+ghost use Rattle.kore_text.specs.Table.{byte_of, symbol_of, is_empty};
+
+use crate::words::Word;
+
+/// What ends a list.
+#[derive(Clone, Copy)]
+pub(crate) enum Close {
+    Brace,
+    Paren,
+    Bracket,
+}
+
+/// The items of a list.
+#[derive(Clone, Copy)]
+pub(crate) enum Item {
+    Name,
+    Sort,
+    /// A pattern, in which strings may stand or not.
+    Pattern(bool),
+}
+
+/// A part of a text that is still to come.
+#[derive(Clone, Copy)]
+pub(crate) enum Symbol {
+    /// This mark.
+    Mark(u8),
+    /// A name.
+    Name,
+    /// `where`.
+    Where,
+    /// `:=`.
+    Assign,
+    /// A string.
+    Text,
+    Sort,
+    /// Behind a sort's name: sorts in braces, or nothing.
+    SortTail,
+    /// A pattern, in which strings may stand or not.
+    Pattern(bool),
+    /// Behind a name that begins a pattern.
+    PatternTail(bool),
+    /// A set variable (`true`) or an element variable (`false`).
+    Variable(bool),
+    /// What a fold is made of: an application with an argument.
+    Folded(bool),
+    /// The same without an argument.
+    EmptyFolded,
+    /// A list from behind its opening bracket.
+    First(Item, Close),
+    /// A list from behind an item.
+    More(Item, Close),
+    /// Attributes in brackets.
+    Attributes,
+    /// Names in braces.
+    Names,
+    /// Sorts in parentheses, a colon and a sort.
+    Signature,
+    /// Declarations up to and with the word and the attributes that end their module.
+    Declarations,
+    Module,
+    /// Modules up to the end.
+    Modules,
+}
+
+impl Close {
+    /// The mark.
+    pub(crate) fn byte(self) -> u8
+        ensures { result ≡ byte_of self }
+    {
+        match self {
+            Close::Brace => b'}',
+            Close::Paren => b')',
+            Close::Bracket => b']',
+        }
+    }
+}
+
+impl Item {
+    /// The symbol of one item.
+    pub(crate) fn symbol(self) -> Symbol
+        ensures { result ≡ symbol_of self }
+    {
+        match self {
+            Item::Name => Symbol::Name,
+            Item::Sort => Symbol::Sort,
+            Item::Pattern(strings) => Symbol::Pattern(strings),
+        }
+    }
+}
+
+impl Symbol {
+    ghost use Rattle.kore_text.specs.Stacks.{is_left_out};
+
+    /// Whether nothing need come of it.
+    pub(crate) fn is_empty(self) -> bool
+        ensures { result ≡ is_empty self }
+    {
+        match self {
+            Symbol::SortTail | Symbol::Modules => true,
+            _ => false,
+        }
+    }
+
+    /// Whether nothing comes of it at this token.
+    #[tactic(auto, unfolding(crate::specs::Table::turn))]
+    pub(crate) fn is_left_out(self, word: &Word<'_>) -> bool
+        ensures { result ≡ is_left_out self (token_of word.now.kind word.now.bytes.now) }
+    {
+        match self {
+            Symbol::SortTail => !word.is_mark(b'{'),
+            Symbol::Modules => !word.is_word(b"module"),
+            _ => false,
+        }
+    }
+}

@@ -1,0 +1,57 @@
+// The tokens of a text, each with its bytes.
+
+ghost use Rattle.std.specs.Prelude.{◌≡◌, ◌≢◌, ◌≤◌, ◌<◌, ◌-◌, ◌^◌, length, take, drop};
+ghost use Rattle.kore_text.specs.TokenStream.{tokens_of};
+
+use kore_lex::{Lexer, TokenKind};
+
+/// What comes next in a text.
+#[derive(Clone, Copy)]
+pub enum Next<'a> {
+    /// A token of this kind, at this byte, with its bytes; never of the kind `End`.
+    Token(TokenKind, u32, &'a [u8]),
+    /// The end of the text.
+    End(u32),
+    /// What is no token, and its byte.
+    Fault(u32),
+}
+
+/// A text of which some tokens are taken. A copy goes on from the same place by itself.
+#[derive(Clone, Copy)]
+pub struct Tokens<'a> {
+    lexer: Lexer<'a>,
+    text: &'a [u8],
+    ghost same: { lexer.text.now ≡ text.now },
+}
+
+impl<'a> Tokens<'a> {
+    ghost use Rattle.kore_text.specs.Left.{left, Comes};
+
+    /// The whole text, of fewer than 2^32 bytes.
+    pub fn new(text: &'a [u8]) -> Tokens<'a>
+        requires { length text.now < 2 ^ 32 }
+        ensures { left result ≡ tokens_of text.now }
+    {
+        Tokens {
+            lexer: Lexer::new(text),
+            text,
+        }
+    }
+
+    /// Takes the next token. It takes no memory, and the whole text a time linear in its length.
+    pub fn next(&mut self) -> Next<'a>
+        ensures { Comes result (left self.old) (left self.new) }
+    {
+        match self.lexer.next() {
+            Err(fault) => Next::Fault(fault.at),
+            Ok(token) => match token.kind {
+                TokenKind::End => Next::End(token.from),
+                kind => Next::Token(
+                    kind,
+                    token.from,
+                    &self.text[token.from as usize..token.to as usize],
+                ),
+            },
+        }
+    }
+}

@@ -1,0 +1,103 @@
+// What a token is, by its kind and its bytes.
+
+ghost use Rattle.std.specs.Prelude.{◌≡◌, ◌≢◌, List, ℕ, drop};
+ghost use Rattle.kore_lex.specs.declared.lexer.TokenKind.TheVariants.{End};
+ghost use Rattle.kore_text.specs.TokenStream.{token_of};
+ghost use Rattle.kore_text.specs.Table.{is_mark, is_fold, is_name, is_word, is_set_name, is_text, is_assign};
+
+use crate::names::Built;
+use kore_lex::TokenKind;
+
+/// A token of a kind with its bytes.
+#[derive(Clone, Copy)]
+pub(crate) struct Word<'a> {
+    pub(crate) kind: TokenKind,
+    pub(crate) bytes: &'a [u8],
+}
+
+impl<'a> Word<'a> {
+    /// This mark.
+    pub(crate) fn is_mark(&self, byte: u8) -> bool
+        ensures { result ≡ is_mark byte (token_of self.now.kind self.now.bytes.now) }
+    {
+        match self.kind {
+            TokenKind::Punct(mark) => mark == byte,
+            _ => false,
+        }
+    }
+
+    /// An identifier.
+    pub(crate) fn is_name(&self) -> bool
+        ensures { result ≡ is_name (token_of self.now.kind self.now.bytes.now) }
+    {
+        match self.kind {
+            TokenKind::Ident => true,
+            _ => false,
+        }
+    }
+
+    /// This identifier.
+    pub(crate) fn is_word(&self, word: &[u8]) -> bool
+        ensures { result ≡ is_word word.now (token_of self.now.kind self.now.bytes.now) }
+    {
+        match self.kind {
+            TokenKind::Ident => self.bytes == word,
+            _ => false,
+        }
+    }
+
+    /// The name of a set variable.
+    pub(crate) fn is_set_name(&self) -> bool
+        ensures { result ≡ is_set_name (token_of self.now.kind self.now.bytes.now) }
+    {
+        match self.kind {
+            TokenKind::SetIdent => true,
+            _ => false,
+        }
+    }
+
+    /// A string.
+    pub(crate) fn is_text(&self) -> bool
+        ensures { result ≡ is_text (token_of self.now.kind self.now.bytes.now) }
+    {
+        match self.kind {
+            TokenKind::Text => true,
+            _ => false,
+        }
+    }
+
+    /// `:=`.
+    pub(crate) fn is_assign(&self) -> bool
+        requires { self.now.kind ≢ End }
+        ensures { result ≡ is_assign (token_of self.now.kind self.now.bytes.now) }
+    {
+        match self.kind {
+            TokenKind::Assign => true,
+            _ => false,
+        }
+    }
+
+    /// A fold from the left or from the right.
+    pub(crate) fn is_fold(&self) -> bool
+        ensures { result ≡ is_fold (token_of self.now.kind self.now.bytes.now) }
+    {
+        match self.kind {
+            TokenKind::Builtin => match Built::of_name(self.behind_first()) {
+                Some(Built::Fold(_)) => true,
+                _ => false,
+            },
+            _ => false,
+        }
+    }
+
+    /// The bytes behind the first, which is `@` or `\`.
+    pub(crate) fn behind_first(&self) -> &[u8]
+        ensures { result.now ≡ drop 1 self.now.bytes.now }
+    {
+        if self.bytes.is_empty() {
+            self.bytes
+        } else {
+            &self.bytes[1..]
+        }
+    }
+}
