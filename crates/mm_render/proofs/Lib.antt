@@ -20,3 +20,4 @@ pub mod AgreeLaws
 pub mod SpeltLaws
 pub mod StatedLaws
 pub mod NamedStatements
+pub mod KeepingLaws

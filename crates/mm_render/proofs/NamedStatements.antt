@@ -17,7 +17,7 @@ use Rattle.mm_render.specs.Tokens.{own_naming}
 use Rattle.mm_render.specs.Derivations.{holds_text}
 use Rattle.mm_render.specs.Statements.{IsName, typecode_of, all_name_statements}
 use Rattle.mm_render.specs.Fitting.{AreNames}
-use Rattle.mm_render.specs.Stating.{FitsStated, closed_over, AreClosedOver, HoldsStated, AppendsToStated, NamesFitStated, StatedIsValid}
+use Rattle.mm_render.specs.Stating.{FitsStated, closed_over, AreClosedOver, HoldsStated, NamesFitStated, StatedIsValid}
 use Rattle.mm_render.proofs.LeafLaws.{EachLeaf-implied}
 use Rattle.mm_render.proofs.AgreeLaws.{agreeing, text-agrees}
 use Rattle.mm_render.proofs.NameLaws.{name_label-is_label}
@@ -91,7 +91,8 @@ names_fit_stated declared more stated bytes (c, leaves, w) names distinct few = 
 )
 
 -- the same for the names from a number on
-pub declared_fits_stated : (names : List Token) (n : ℕ) → AreNames names → AreDistinct names → length names < 2 ^ 64 → n ≤ length names → AppendsToStated (take n names) names (written_statements (all_name_statements n (drop n names)))
+pub declared_fits_stated : (names : List Token) (n : ℕ) → AreNames names → AreDistinct names → length names < 2 ^ 64 → n ≤ length names → (stated : List Pattern) (bytes : List ℕ) → FitsStated (take n names) stated bytes
+    → FitsStated names stated (bytes ++ written_statements (all_name_statements n (drop n names)))
 declared_fits_stated names n all distinct few within stated bytes fits =
     let whole : take n names ++ drop n names ≡ names = take-drop n names in
     let count : length (take n names) ≡ n = length-front n names within in

@@ -13,3 +13,4 @@ pub mod Derivations
 pub mod Fitting
 pub mod RenderLaws
 pub mod Stating
+pub mod Keeping

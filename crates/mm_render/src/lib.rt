@@ -20,6 +20,7 @@ mod patterns;
 mod renderer;
 mod searching;
 mod stacks;
+mod statements;
 mod substitution;
 mod words;
 mod works;

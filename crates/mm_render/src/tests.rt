@@ -1,6 +1,6 @@
 // Worked examples, written by hand.
 use crate::renderer::Renderer;
-use crate::works::{Work, write_work};
+use crate::works::{Work, write_works};
 use ml_pat::{ConstNo, MPat, MSort, Names, VarNo};
 use std::alloc::{AllocError, Global};
 use std::test::Fail;
@@ -18,7 +18,7 @@ pub(crate) fn three_names(alloc: Global) -> Result<Names, AllocError> {
 pub(crate) fn text_of(alloc: Global, work: Work<'_>) -> Result<Vec<u8>, AllocError> {
     let names = three_names(alloc)?;
     let mut text = Vec::new(alloc);
-    write_work(&mut text, &names, 7, work)?;
+    write_works(&mut text, &names, 7, &[work])?;
     Ok(text)
 }
 
@@ -105,7 +105,7 @@ fn proves_a_substitution(rt: HostRuntime) -> Result<(), Fail> {
 fn declares_names(rt: HostRuntime) -> Result<(), Fail> {
     let alloc = rt.alloc();
     let names = three_names(alloc)?;
-    let mut renderer = Renderer::new();
+    let mut renderer = Renderer::new(rt.alloc());
     let mut text = Vec::new(alloc);
     renderer.declare(&names, &mut text)?;
     assert_eq!(rt;
@@ -117,7 +117,7 @@ fn declares_names(rt: HostRuntime) -> Result<(), Fail> {
 
 #[test]
 fn begins_with_the_header(rt: HostRuntime) -> Result<(), Fail> {
-    let mut renderer = Renderer::new();
+    let mut renderer = Renderer::new(rt.alloc());
     let mut text = Vec::new(rt.alloc());
     renderer.begin(&mut text)?;
     assert_eq!(rt; text.len(), 5968);
