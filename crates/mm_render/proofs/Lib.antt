@@ -21,3 +21,5 @@ pub mod SpeltLaws
 pub mod StatedLaws
 pub mod NamedStatements
 pub mod KeepingLaws
+pub mod PlaceLaws
+pub mod PartLaws

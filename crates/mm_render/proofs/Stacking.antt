@@ -58,7 +58,7 @@ pub put_none : (old : List Work) (f : List Token → ℕ → List Token) → ((n
 put_none old f none names k = (ap (λ ts. ts ++ stack_tokens names k old) (sym (none names k)), omega arith)
 
 -- what is left of a list from one place before
-pub drop_at : (ws : List Work) (i : ℕ) (w : Work) → 0 < i → i ≤ length ws → w ≡ get_or ws (i - 1) w → drop (i - 1) ws ≡ w ∷ drop i ws
+pub drop_at : {A : Type 0} (ws : List A) (i : ℕ) (w : A) → 0 < i → i ≤ length ws → w ≡ get_or ws (i - 1) w → drop (i - 1) ws ≡ w ∷ drop i ws
 drop_at ws i w some within is =
     let lt : i - 1 < length ws = omega arith in
     let next : suc (i - 1) ≡ i = omega arith in

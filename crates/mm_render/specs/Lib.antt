@@ -14,3 +14,5 @@ pub mod Fitting
 pub mod RenderLaws
 pub mod Stating
 pub mod Keeping
+pub mod Places
+pub mod Parts

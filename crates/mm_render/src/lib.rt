@@ -14,10 +14,13 @@
 //! that deep patterns need no recursion (`specs/Writing`).
 #![tactic(auto)]
 
+mod derivations;
 mod freshness;
 mod laws;
 mod patterns;
+mod places;
 mod renderer;
+mod rules;
 mod searching;
 mod stacks;
 mod statements;
