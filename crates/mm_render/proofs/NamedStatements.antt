@@ -43,7 +43,7 @@ more_closed : (done : List Token) (t : Token) (ps : List Pattern) → AreClosedO
 more_closed done t [] h = tt
 more_closed done t (p ∷ ps) h = (more_leaves done t p h.0, more_closed done t ps h.1)
 
-closed_at : (done : List Token) (ps : List Pattern) (k : ℕ) (p : Pattern) → AreClosedOver done ps → slice_get ps k ≡ Some p → EachLeaf (closed_over done) p
+pub closed_at : (done : List Token) (ps : List Pattern) (k : ℕ) (p : Pattern) → AreClosedOver done ps → slice_get ps k ≡ Some p → EachLeaf (closed_over done) p
 closed_at done [] k p all h = absurd (let z : ⊥ = cc in z)
 closed_at done (q ∷ ps) zero p all h = subst (λ (r : Pattern). EachLeaf (closed_over done) r) (let same : q ≡ p = cc in same) all.0
 closed_at done (q ∷ ps) (suc k) p all h = closed_at done ps k p all.1 h

@@ -5,9 +5,10 @@ use Rattle.mm_text.specs.Bytes.{Token}
 use Rattle.ml_pat.specs.Patterns.{Pattern, bot, top, imp, not, and, or, equal, member, fun, ex, all, app, at_sort, next, ev, var, meta, constant}
 use Rattle.ml_kernel.specs.Theorems.{Theorem}
 use Rattle.mm_render.specs.Kept.{Kept}
+use Rattle.mm_render.specs.Labels.{own_labels}
 use Rattle.mm_render.specs.Leaves.{EachLeaf}
-use Rattle.mm_render.specs.Derivations.{Cites, EachUsed, CitesOnly}
-use Rattle.mm_render.specs.Stating.{closed_over}
+use Rattle.mm_render.specs.Derivations.{Cites, EachUsed, CitesOnly, derivation_tree}
+use Rattle.mm_render.specs.Stating.{closed_over, closed_citing, theorem_statement}
 
 -- The numbers of a pattern in front of others, in postfix order: for each form its number, and two numbers of what else is in it.
 abbrev pub numbers : Pattern → List ℕ → List ℕ
@@ -54,3 +55,7 @@ pub record MayProve (names : List Token) (k : Kept) (t : Theorem) : Type 0 where
   pub closed : EachLeaf (closed_over (take k.named names)) t.conclusion
   pub used : EachUsed (closed_over (take k.named names)) t.derivation
   pub cites : CitesOnly (stated_cites k.stated) t.derivation
+
+-- a lemma behind what is kept, as a theorem under the next label
+abbrev pub lemma_statement : List Token → List Pattern → Theorem → List Token
+lemma_statement names stated t = theorem_statement names (length stated) t.conclusion (derivation_tree (own_labels (length stated)) (closed_citing (place_in stated)) t.derivation)

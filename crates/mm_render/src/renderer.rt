@@ -1,17 +1,18 @@
 // What is written: whole statements, behind a text that fits.
-ghost use Rattle.std.specs.Prelude.{◌≡◌, ◌<◌, ◌≤◌, [], ◌∷◌, ◌++◌, false, IsTrue, OnErr, OnOk, drop, length, option_copied, take, unwrap_or};
+ghost use Rattle.std.specs.Prelude.{◌≡◌, ◌<◌, ◌≤◌, [], ◌∷◌, ◌++◌, false, true, IsTrue, OnErr, OnOk, drop, length, option_copied, take, unwrap_or};
 ghost use Rattle.mm_frame.specs.FrameLaws.{written_statements};
 ghost use Rattle.mm_header.specs.HeaderText.{header_bytes};
 ghost use Rattle.mm_render.specs.Fitting.{AreNames};
 ghost use Rattle.mm_render.specs.Keeping.{AppendsFitting, AppendsFittingNames, Gains, MayState, axiom_at, with_stated};
 ghost use Rattle.mm_render.specs.Kept.{header_kept, nothing_kept};
+ghost use Rattle.mm_render.specs.Places.{lemma_statement, MayProve};
 ghost use Rattle.mm_render.specs.Tokens.{name_of};
 ghost use Rattle.mm_render.specs.Stating.{axiom_statement, stated_assertion};
 ghost use Rattle.mm_render.specs.Statements.{all_name_statements, name_statements, typecode_of};
 
-use crate::statements::push_axiom;
+use crate::statements::{push_axiom, push_theorem};
 use crate::words::{Word, push_words};
-use ml_kernel::{AxiomNo, Theory};
+use ml_kernel::{AxiomNo, Lemma, Theory};
 use ml_pat::{MPat, Names};
 use mm_header::header_text;
 use std::alloc::{AllocError, Global};
@@ -103,6 +104,30 @@ impl Renderer {
         let pattern = theory.at(no).share()?;
         let mut text = Vec::new(*to.allocator());
         push_axiom(&mut text, names, self.stated.len() as u64, &pattern)?;
+        self.keep(pattern, &text, to)
+    }
+
+    /// States a lemma under the next label, with its proof. Where it has no hypotheses, is closed over the names that were
+    /// declared and cites only what was stated before, each text that fits fits with it behind, and has gained just this
+    /// theorem. Where memory is wanting, nothing changes.
+    pub fn lemma(
+        &mut self,
+        names: &Names,
+        lemma: &Lemma,
+        to: &mut Vec<u8>,
+    ) -> Result<(), AllocError>
+        ensures text { OnOk result (to.new.items ≡ to.old.items ++ written_statements (lemma_statement names.now self.old.stated lemma.now ∷ [])) }
+        ensures kept { OnOk result (self.new ≡ with_stated self.old lemma.now.conclusion) }
+        ensures gains { OnOk result (MayProve names.now self.old lemma.now →
+            Gains names.now self.old self.new (written_statements (lemma_statement names.now self.old.stated lemma.now ∷ []))
+                (stated_assertion true (take self.old.named names.now) (length self.old.stated) lemma.now.conclusion)) }
+        ensures unchanged { OnErr result (to.new.items ≡ to.old.items) }
+        ensures as_before { OnErr result (self.new ≡ self.old) }
+    {
+        let _premises = lemma.hypotheses();
+        let pattern = lemma.conclusion().share()?;
+        let mut text = Vec::new(*to.allocator());
+        push_theorem(&mut text, names, &self.stated, lemma)?;
         self.keep(pattern, &text, to)
     }
 

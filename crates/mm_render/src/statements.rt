@@ -1,10 +1,13 @@
 // Whole statements.
 ghost use Rattle.std.specs.Prelude.{◌≡◌, [], ◌∷◌, ◌++◌, OnOk};
 ghost use Rattle.mm_frame.specs.FrameLaws.{written_statements};
+ghost use Rattle.mm_render.specs.Places.{lemma_statement};
 ghost use Rattle.mm_render.specs.Stating.{axiom_statement};
 
-use crate::words::Word;
+use crate::derivations::write_derivation;
+use crate::words::{Word, push_word};
 use crate::works::{Work, write_works};
+use ml_kernel::Lemma;
 use ml_pat::{MPat, Names};
 use std::alloc::AllocError;
 
@@ -29,4 +32,30 @@ pub(crate) fn push_axiom(
             Work::One(Word::Fixed("$.")),
         ],
     )
+}
+
+/// Adds a lemma without variables and hypotheses as a theorem, with its proof, behind these statements.
+pub(crate) fn push_theorem(
+    to: &mut Vec<u8>,
+    names: &Names,
+    stated: &[MPat],
+    lemma: &Lemma,
+) -> Result<(), AllocError>
+    ensures { OnOk result (to.new.items ≡ to.old.items ++ written_statements (lemma_statement names.now stated.now lemma.now ∷ [])) }
+{
+    let serial = stated.len() as u64;
+    write_works(
+        to,
+        names,
+        serial,
+        &[
+            Work::One(Word::Stated(serial)),
+            Work::One(Word::Fixed("$p")),
+            Work::One(Word::Fixed("|-")),
+            Work::Text(lemma.conclusion()),
+            Work::One(Word::Fixed("$=")),
+        ],
+    )?;
+    write_derivation(to, names, serial, stated, lemma.derivation())?;
+    push_word(to, names, serial, Word::Fixed("$."))
 }
