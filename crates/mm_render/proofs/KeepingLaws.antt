@@ -20,8 +20,7 @@ use Rattle.mm_render.specs.Derivations.{holds_text, derivation_tree}
 use Rattle.mm_render.specs.Statements.{all_name_statements}
 use Rattle.mm_render.specs.Stating.{FitsStated, closed_over, stated_assertion, axiom_statement, theorem_statement, closed_citing, ArePlaced}
 use Rattle.mm_render.specs.Keeping.{FitsWhen, Fits, Gains, MayState, axiom_at, with_stated, EmptyFits, BegunFits, DeclaredFits}
-use Rattle.mm_render.specs.Places.{place_in, stated_cites, lemma_statement, MayProve}
-use Rattle.mm_render.proofs.PlaceLaws.{stated_there}
+use Rattle.mm_render.specs.Places.{Places, stated_cites, lemma_statement, MayProve}
 use Rattle.mm_render.proofs.LeafLaws.{EachLeaf-implied}
 use Rattle.mm_render.proofs.AgreeLaws.{agreeing, text-agrees}
 use Rattle.mm_render.proofs.FittingLaws.{name_of-front, take-all, take-drop}
@@ -81,7 +80,7 @@ pub axiom_gains : (names : List Token) (k : Kept) (p : Pattern) → length k.sta
     → Gains names k (with_stated k p) (written_statements (axiom_statement names (length k.stated) p ∷ [])) (stated_assertion false (take k.named names) (length k.stated) p)
 axiom_gains names k p few may =
     let same : written_statements (axiom_statement (take k.named names) (length k.stated) p ∷ []) ≡ written_statements (axiom_statement names (length k.stated) p ∷ []) =
-        ap (λ (ts : List Token). written_statements (plain_tokens (statement_label (length k.stated) ∷ []) asserts ts ∷ [])) (kept_text names k.named p may.closed) in
+    ap (λ (ts : List Token). written_statements (plain_tokens (statement_label (length k.stated) ∷ []) asserts ts ∷ [])) (kept_text names k.named p may.closed) in
     subst (λ (text : List ℕ). Gains names k (with_stated k p) text (stated_assertion false (take k.named names) (length k.stated) p)) same
     (gains names k p false (written_statements (axiom_statement (take k.named names) (length k.stated) p ∷ [])) may
     (λ bytes fits. axiom_fits (take k.named names) k.stated bytes p fits few may.closed)
@@ -108,22 +107,22 @@ closed_no_meta declared (equal p q) h = (closed_no_meta declared p h.0, closed_n
 closed_no_meta declared (member p q) h = (closed_no_meta declared p h.0, closed_no_meta declared q h.1)
 closed_no_meta declared (app p q) h = (closed_no_meta declared p h.0, closed_no_meta declared q h.1)
 
-placed : (declared : List Token) (stated : List Pattern) (bytes : List ℕ) → FitsStated declared stated bytes → ArePlaced stated (stated_cites stated) (place_in stated)
-placed declared stated bytes (c, leaves, w) = record {
-  fact = λ p there. stated_there stated p there;
-  lemma = λ own q there. stated_there stated q there;
-  closed = λ own q there. closed_no_meta declared q (closed_at declared stated (place_in stated q) q w.closed (stated_there stated q there));
+placed : (declared : List Token) (stated : List Pattern) (place : Pattern → ℕ) (bytes : List ℕ) → Places stated place → FitsStated declared stated bytes → ArePlaced stated (stated_cites stated) place
+placed declared stated place bytes places (c, leaves, w) = record {
+  fact = λ p there. places p there;
+  lemma = λ own q there. places q there;
+  closed = λ own q there. closed_no_meta declared q (closed_at declared stated (place q) q w.closed (places q there));
 }
 
-pub lemma_gains : (names : List Token) (k : Kept) (t : Theorem) → length k.stated < 2 ^ 64 → IsKept t → MayProve names k t
-    → Gains names k (with_stated k t.conclusion) (written_statements (lemma_statement names k.stated t ∷ [])) (stated_assertion true (take k.named names) (length k.stated) t.conclusion)
-lemma_gains names k t few kept may =
+pub lemma_gains : (names : List Token) (k : Kept) (place : Pattern → ℕ) (t : Theorem) → length k.stated < 2 ^ 64 → IsKept t → Places k.stated place → MayProve names k t
+    → Gains names k (with_stated k t.conclusion) (written_statements (lemma_statement names k.stated place t ∷ [])) (stated_assertion true (take k.named names) (length k.stated) t.conclusion)
+lemma_gains names k place t few kept places may =
     let declared : List Token = take k.named names in
-    let tree : ProofTree = derivation_tree (own_labels (length k.stated)) (closed_citing (place_in k.stated)) t.derivation in
-    let same : written_statements (theorem_statement declared (length k.stated) t.conclusion tree ∷ []) ≡ written_statements (lemma_statement names k.stated t ∷ []) =
-        ap (λ (ts : List Token). written_statements (proof_tokens (statement_label (length k.stated) ∷ []) ts (postorder tree) ∷ [])) (kept_text names k.named t.conclusion may.closed) in
+    let tree : ProofTree = derivation_tree (own_labels (length k.stated)) (closed_citing place) t.derivation in
+    let same : written_statements (theorem_statement declared (length k.stated) t.conclusion tree ∷ []) ≡ written_statements (lemma_statement names k.stated place t ∷ []) =
+    ap (λ (ts : List Token). written_statements (proof_tokens (statement_label (length k.stated) ∷ []) ts (postorder tree) ∷ [])) (kept_text names k.named t.conclusion may.closed) in
     let concludes : Concludes [] t.derivation t.conclusion = subst (λ (hs : List Pattern). Concludes hs t.derivation t.conclusion) may.no_hypotheses kept in
     subst (λ (text : List ℕ). Gains names k (with_stated k t.conclusion) text (stated_assertion true declared (length k.stated) t.conclusion)) same
     (gains names k t.conclusion true (written_statements (theorem_statement declared (length k.stated) t.conclusion tree ∷ [])) (record { begun = may.begun; closed = may.closed })
-    (λ bytes fits. theorem_fits declared k.stated bytes t.conclusion t.derivation (stated_cites k.stated) (place_in k.stated) fits few may.closed concludes may.used (placed declared k.stated bytes fits) may.cites)
-    (λ bytes fits. theorem_is_gained declared k.stated bytes t.conclusion t.derivation (stated_cites k.stated) (place_in k.stated) fits few may.closed concludes may.used (placed declared k.stated bytes fits) may.cites))
+    (λ bytes fits. theorem_fits declared k.stated bytes t.conclusion t.derivation (stated_cites k.stated) place fits few may.closed concludes may.used (placed declared k.stated place bytes places fits) may.cites)
+    (λ bytes fits. theorem_is_gained declared k.stated bytes t.conclusion t.derivation (stated_cites k.stated) place fits few may.closed concludes may.used (placed declared k.stated place bytes places fits) may.cites))

@@ -1,11 +1,11 @@
 -- Patterns are the same where their numbers are, and a pattern that was stated stands at its place.
-use Rattle.std.proofs.Common.{◌≡◌, ℕ, ◌+◌, ◌<◌, ◌≤◌, Bool, true, false, List, [], ◌∷◌, length, drop, get_or, drop-cons, zero, suc, refl, ap, ◌∙◌, sym, subst, arith, Some, slice_get, nat_lt}
+use Rattle.std.proofs.Common.{◌≡◌, ℕ, ◌+◌, ◌<◌, ◌≤◌, Bool, true, false, List, [], ◌∷◌, length, drop, get_or, drop-cons, zero, suc, refl, ap, ◌∙◌, sym, subst, arith, Option, Some, None, slice_get, nat_lt}
 use Rattle.std.specs.Prelude.{◌==◌, ◌||◌, if◌then◌else◌}
 use Rattle.std.specs.List.{list_any}
 use Rattle.std.proofs.lemmas.Bool.{false≢true}
 use Rattle.std.proofs.lemmas.Slice.Eq.{bytes_eq-Decides}
 use Rattle.ml_pat.specs.Patterns.{Pattern, bot, top, imp, not, and, or, equal, member, fun, ex, all, app, at_sort, next, ev, var, meta, constant}
-use Rattle.mm_render.specs.Places.{numbers, is_same, place_in, is_stated}
+use Rattle.mm_render.specs.Places.{numbers, is_same, place_in, is_stated, pattern_key, place_at, place_near, place_by, Places}
 
 -- reading numbers, over a stack of patterns
 
@@ -112,3 +112,41 @@ pub place_next : (ps : List Pattern) (i : ℕ) (q p : Pattern) → i < length ps
 place_next ps i q p lt is other =
     let next : suc i ≡ i + 1 = omega arith in
     ap (λ (rs : List Pattern). place_in rs p) (drop-cons ps i q lt) ∙ first_other (get_or ps i q) p (drop (suc i) ps) (λ e. other (is ∙ e)) ∙ ap (λ (n : ℕ). place_in (drop n ps) p + 1) next
+
+-- whatever is supposed, each pattern that was stated stands at its place
+pub places_by : (supposed : List ℕ → Option ℕ) (stated : List Pattern) → Places stated (place_by supposed stated)
+places_by supposed stated p there = near (supposed (pattern_key p))
+  where
+    same_there : (k : ℕ) (q : Pattern) (b : Bool) → slice_get stated k ≡ Some q → is_same q p ≡ b → slice_get stated (if b then k else place_in stated p) ≡ Some p
+    same_there k q true stands is = stands ∙ ap Some (same_is q p is)
+    same_there k q false stands is = stated_there stated p there
+
+    at : (k : ℕ) (o : Option Pattern) → slice_get stated k ≡ o → slice_get stated (place_at o k stated p) ≡ Some p
+    at k None stands = stated_there stated p there
+    at k (Some q) stands = same_there k q (is_same q p) stands refl
+
+    near : (o : Option ℕ) → slice_get stated (place_near o stated p) ≡ Some p
+    near None = stated_there stated p there
+    near (Some k) = at k (slice_get stated k) refl
+
+-- what is supposed counts where the pattern stands there
+pub place_by-same : (supposed : List ℕ → Option ℕ) (stated : List Pattern) (p : Pattern) (k : ℕ) (q : Pattern) → supposed (pattern_key p) ≡ Some k → slice_get stated k ≡ Some q → q ≡ p → k ≡ place_by supposed stated p
+place_by-same supposed stated p k q is there same =
+    sym (ap (λ (o : Option ℕ). place_near o stated p) is ∙ ap (λ (o : Option Pattern). place_at o k stated p) there ∙ go (is_same q p) (is_same-of q p same))
+  where
+    go : (b : Bool) → b ≡ true → (if b then k else place_in stated p) ≡ k
+    go true found = refl
+    go false found = absurd (false≢true found)
+
+pub place_by-other : (supposed : List ℕ → Option ℕ) (stated : List Pattern) (p : Pattern) (k : ℕ) (q : Pattern) → supposed (pattern_key p) ≡ Some k → slice_get stated k ≡ Some q → (q ≡ p → ⊥) → place_in stated p ≡ place_by supposed stated p
+place_by-other supposed stated p k q is there other =
+    sym (ap (λ (o : Option ℕ). place_near o stated p) is ∙ ap (λ (o : Option Pattern). place_at o k stated p) there ∙ go (is_same q p) refl)
+  where
+    go : (b : Bool) → is_same q p ≡ b → (if b then k else place_in stated p) ≡ place_in stated p
+    go true found = absurd (other (same_is q p found))
+    go false found = refl
+
+pub stands_at : (ps : List Pattern) (i : ℕ) (q : Pattern) → i < length ps → q ≡ get_or ps i q → slice_get ps i ≡ Some q
+stands_at [] i q lt is = absurd (omega (arith, lt))
+stands_at (p ∷ ps) zero q lt is = ap Some (sym is)
+stands_at (p ∷ ps) (suc i) q lt is = stands_at ps i q (omega (arith, lt)) is

@@ -68,6 +68,10 @@ pub on_ok : {A E : Type 0} {P Q : Type 0} (r : Result A E) → (P → Q) → OnO
 on_ok (Ok a) f h = f h
 on_ok (Err e) f h = tt
 
+pub both_ok : {A E : Type 0} {P Q R : Type 0} (r : Result A E) → (P → Q → R) → OnOk r P → OnOk r Q → OnOk r R
+both_ok (Ok a) f p q = f p q
+both_ok (Err e) f p q = tt
+
 -- a step of writing
 pub written_next : (names : List Token) (k : ℕ) (w : Work) (before popped new : List Work) (start text text' : List ℕ) (all : List Token) → before ≡ popped ++ w ∷ [] → IsTaken names k w popped new text text'
     → text ++ written (stack_tokens names k before) ≡ start ++ written all → text' ++ written (stack_tokens names k new) ≡ start ++ written all

@@ -15,4 +15,5 @@ pub mod RenderLaws
 pub mod Stating
 pub mod Keeping
 pub mod Places
+pub mod PlaceTable
 pub mod Parts

@@ -1,14 +1,15 @@
 // The proof by a derivation. What of it is still to be written lies on a stack, so that a deep derivation costs no stack of
 // calls.
-ghost use Rattle.std.specs.Prelude.{◌≡◌, ◌+◌, ◌*◌, ◌++◌, OnOk};
+ghost use Rattle.std.specs.Prelude.{◌≡◌, ◌+◌, ◌*◌, [], ◌∷◌, ◌++◌, OnOk};
 ghost use Rattle.mm_text.specs.TextLaws.{written};
 ghost use Rattle.ml_pat.specs.Patterns.{bot};
 ghost use Rattle.ml_kernel.specs.StepView.{instances_of};
 ghost use Rattle.ml_kernel.specs.StepsIn.{all_steps};
 ghost use Rattle.ml_kernel.specs.Theorems.{derivations};
-ghost use Rattle.mm_render.specs.Labels.{own_labels};
+ghost use Rattle.mm_render.specs.Labels.{own_labels, statement_label};
 ghost use Rattle.mm_render.specs.Parts.{all_labels, PartIsTaken, proof_of, proofs_of, PutsParts, rest_of_row, trees_behind};
-ghost use Rattle.mm_render.specs.Places.{place_in};
+ghost use Rattle.mm_render.specs.Places.{place_by};
+ghost use Rattle.mm_render.specs.PlaceTable.{supposed_by};
 
 use crate::places::place_of;
 use crate::rules::{EX_EL, pattern_at, rule_label, variable_at, write_before, write_instances};
@@ -17,6 +18,7 @@ use crate::works::{Work, write_works};
 use ml_kernel::{Deriv, DerivStep, Inst};
 use ml_pat::{MPat, Names};
 use std::alloc::AllocError;
+use std::collections::BTreeMap;
 
 /// What of a derivation is still to be written.
 #[derive(Clone, Copy)]
@@ -33,16 +35,19 @@ pub(crate) fn write_derivation(
     to: &mut Vec<u8>,
     names: &Names,
     serial: u64,
+    places: &BTreeMap<Vec<u8>, u64>,
     stated: &[MPat],
     derivation: &Deriv,
 ) -> Result<(), AllocError>
-    ensures { OnOk result (to.new.items ≡ to.old.items ++ written (proof_of serial (place_in stated.now) derivation.now)) }
+    ensures { OnOk result (to.new.items ≡ to.old.items ++ written (proof_of serial (place_by (supposed_by places.now) stated.now) derivation.now)) }
 {
     let nothing = MPat::bot(*to.allocator())?;
     let mut stack = Vec::new(*to.allocator());
     stack.push(Part::Derived(derivation))?;
     while let Some(next) = stack.pop() {
-        write_part(to, names, serial, stated, &nothing, &mut stack, next)?;
+        write_part(
+            to, names, serial, places, stated, &nothing, &mut stack, next,
+        )?;
     }
     Ok(())
 }
@@ -52,13 +57,14 @@ fn write_part<'a>(
     to: &mut Vec<u8>,
     names: &Names,
     serial: u64,
+    places: &BTreeMap<Vec<u8>, u64>,
     stated: &[MPat],
     nothing: &'a MPat,
     stack: &mut Vec<Part<'a>>,
     part: Part<'a>,
 ) -> Result<(), AllocError>
     requires { nothing.now ≡ bot }
-    ensures { OnOk result (PartIsTaken names.now serial (place_in stated.now) part.entry stack.old.items stack.new.items to.old.items to.new.items) }
+    ensures { OnOk result (PartIsTaken names.now serial (place_by (supposed_by places.now) stated.now) part.entry stack.old.items stack.new.items to.old.items to.new.items) }
 {
     let derivation = match part {
         Part::Plain(work) => return write_works(to, names, serial, &[work]),
@@ -66,12 +72,14 @@ fn write_part<'a>(
     };
     match derivation.step() {
         DerivStep::Hyp(_) => push_word(to, names, serial, Word::Stated(0)),
-        DerivStep::Axiom(_, p) => push_word(to, names, serial, Word::Stated(place_of(stated, p))),
-        DerivStep::Cited(lemma, _, _) => push_word(
+        DerivStep::Axiom(_, p) => write_citation(to, names, serial, places, stated, p),
+        DerivStep::Cited(lemma, _, _) => write_citation(
             to,
             names,
             serial,
-            Word::Stated(place_of(stated, lemma.conclusion())),
+            places,
+            stated,
+            lemma.conclusion(),
         ),
         DerivStep::Row(no, instances, parts) => {
             write_instances(to, names, serial, instances)?;
@@ -79,6 +87,21 @@ fn write_part<'a>(
             put_row(stack, *no, instances, nothing, parts)
         }
     }
+}
+
+/// Writes the label under which a pattern was stated.
+fn write_citation(
+    to: &mut Vec<u8>,
+    names: &Names,
+    serial: u64,
+    places: &BTreeMap<Vec<u8>, u64>,
+    stated: &[MPat],
+    pattern: &MPat,
+) -> Result<(), AllocError>
+    ensures { OnOk result (to.new.items ≡ to.old.items ++ written (statement_label (place_by (supposed_by places.now) stated.now pattern.now) ∷ [])) }
+{
+    let place = place_of(*to.allocator(), names, places, stated, pattern)?;
+    push_word(to, names, serial, Word::Stated(place))
 }
 
 /// Puts derivations on a stack, the first on top.
@@ -122,10 +145,7 @@ fn put_behind<'a>(
     if no != EX_EL {
         return Ok(());
     }
-    let judged = Work::Fresh(
-        variable_at(instances, 2),
-        pattern_at(instances, 1, nothing),
-    );
+    let judged = Work::Fresh(variable_at(instances, 2), pattern_at(instances, 1, nothing));
     stack.push(Part::Plain(judged))?;
     Ok(())
 }

@@ -1,21 +1,23 @@
 // What is written: whole statements, behind a text that fits.
-ghost use Rattle.std.specs.Prelude.{◌≡◌, ◌<◌, ◌≤◌, [], ◌∷◌, ◌++◌, false, true, IsTrue, OnErr, OnOk, drop, length, option_copied, take, unwrap_or};
+ghost use Rattle.std.specs.Prelude.{◌≡◌, ◌<◌, ◌≤◌, [], ◌∷◌, ◌++◌, false, IsTrue, OnErr, OnOk, drop, length, option_copied, take, unwrap_or};
 ghost use Rattle.mm_frame.specs.FrameLaws.{written_statements};
 ghost use Rattle.mm_header.specs.HeaderText.{header_bytes};
 ghost use Rattle.mm_render.specs.Fitting.{AreNames};
 ghost use Rattle.mm_render.specs.Keeping.{AppendsFitting, AppendsFittingNames, Gains, MayState, axiom_at, with_stated};
 ghost use Rattle.mm_render.specs.Kept.{header_kept, nothing_kept};
-ghost use Rattle.mm_render.specs.Places.{lemma_statement, MayProve};
+ghost use Rattle.mm_render.specs.Places.{StatesLemma};
 ghost use Rattle.mm_render.specs.Tokens.{name_of};
 ghost use Rattle.mm_render.specs.Stating.{axiom_statement, stated_assertion};
 ghost use Rattle.mm_render.specs.Statements.{all_name_statements, name_statements, typecode_of};
 
+use crate::places::pattern_key;
 use crate::statements::{push_axiom, push_theorem};
 use crate::words::{Word, push_words};
 use ml_kernel::{AxiomNo, Lemma, Theory};
 use ml_pat::{MPat, Names};
 use mm_header::header_text;
 use std::alloc::{AllocError, Global};
+use std::collections::BTreeMap;
 use std::marker::Model;
 
 /// What was written of a proof file. Contracts see it as what it keeps.
@@ -24,6 +26,7 @@ pub struct Renderer {
     begun: bool,
     named: u64,
     stated: Vec<MPat>,
+    places: BTreeMap<Vec<u8>, u64>,
 }
 
 impl Model for Renderer {
@@ -47,6 +50,7 @@ impl Renderer {
             begun: false,
             named: 0,
             stated: Vec::new(alloc),
+            places: BTreeMap::new(alloc),
         }
     }
 
@@ -97,14 +101,14 @@ impl Renderer {
         ensures kept { OnOk result (self.new ≡ with_stated self.old (axiom_at theory.now no.0)) }
         ensures gains { OnOk result (MayState names.now self.old (axiom_at theory.now no.0) →
             Gains names.now self.old self.new (written_statements (axiom_statement names.now (length self.old.stated) (axiom_at theory.now no.0) ∷ []))
-                (stated_assertion false (take self.old.named names.now) (length self.old.stated) (axiom_at theory.now no.0))) }
+            (stated_assertion false (take self.old.named names.now) (length self.old.stated) (axiom_at theory.now no.0))) }
         ensures unchanged { OnErr result (to.new.items ≡ to.old.items) }
         ensures as_before { OnErr result (self.new ≡ self.old) }
     {
         let pattern = theory.at(no).share()?;
         let mut text = Vec::new(*to.allocator());
         push_axiom(&mut text, names, self.stated.len() as u64, &pattern)?;
-        self.keep(pattern, &text, to)
+        self.keep(names, pattern, &text, to)
     }
 
     /// States a lemma under the next label, with its proof. Where it has no hypotheses, is closed over the names that were
@@ -116,29 +120,34 @@ impl Renderer {
         lemma: &Lemma,
         to: &mut Vec<u8>,
     ) -> Result<(), AllocError>
-        ensures text { OnOk result (to.new.items ≡ to.old.items ++ written_statements (lemma_statement names.now self.old.stated lemma.now ∷ [])) }
+        ensures states { OnOk result (StatesLemma names.now self.old self.new lemma.now to.old.items to.new.items) }
         ensures kept { OnOk result (self.new ≡ with_stated self.old lemma.now.conclusion) }
-        ensures gains { OnOk result (MayProve names.now self.old lemma.now →
-            Gains names.now self.old self.new (written_statements (lemma_statement names.now self.old.stated lemma.now ∷ []))
-                (stated_assertion true (take self.old.named names.now) (length self.old.stated) lemma.now.conclusion)) }
         ensures unchanged { OnErr result (to.new.items ≡ to.old.items) }
         ensures as_before { OnErr result (self.new ≡ self.old) }
     {
         let _premises = lemma.hypotheses();
         let pattern = lemma.conclusion().share()?;
         let mut text = Vec::new(*to.allocator());
-        push_theorem(&mut text, names, &self.stated, lemma)?;
-        self.keep(pattern, &text, to)
+        push_theorem(&mut text, names, &self.places, &self.stated, lemma)?;
+        self.keep(names, pattern, &text, to)
     }
 
     // Adds the text of a statement, and keeps what was stated. Where memory is wanting, nothing changes.
-    fn keep(&mut self, pattern: MPat, text: &[u8], to: &mut Vec<u8>) -> Result<(), AllocError>
+    fn keep(
+        &mut self,
+        names: &Names,
+        pattern: MPat,
+        text: &[u8],
+        to: &mut Vec<u8>,
+    ) -> Result<(), AllocError>
         ensures text { OnOk result (to.new.items ≡ to.old.items ++ text.now) }
         ensures kept { OnOk result (self.new ≡ with_stated self.old pattern) }
         ensures unchanged { OnErr result (to.new.items ≡ to.old.items) }
         ensures as_before { OnErr result (self.new ≡ self.old) }
     {
+        let key = pattern_key(*to.allocator(), names, &pattern)?;
         self.stated.reserve(1)?;
+        self.places.insert(key, self.stated.len() as u64)?;
         to.extend_from_slice(text)?;
         self.stated.push(pattern).unwrap();
         Ok(())

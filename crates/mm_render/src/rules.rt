@@ -15,10 +15,15 @@ use std::alloc::AllocError;
 
 // The rules that have judgements.
 const INST: u8 = 13;
+
 pub(crate) const EX_EL: u8 = 15;
+
 const EQ_EL: u8 = 17;
+
 const MEM_NO: u8 = 20;
+
 const APP_L: u8 = 22;
+
 const APP_R: u8 = 23;
 
 /// Writes what stands for the variables of a rule.

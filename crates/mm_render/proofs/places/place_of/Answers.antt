@@ -1,16 +1,21 @@
-use Rattle.std.proofs.Common.{◌≡◌, ◌+◌, ◌<◌, true, length, drop, ◌∙◌, sym, arith}
+use Rattle.std.proofs.Common.{◌≡◌, true, ap, ◌∙◌, sym, Some, slice_get}
 use Rattle.std.proofs.lemmas.Bool.{false≢true}
-use Rattle.mm_render.specs.Places.{place_in}
-use Rattle.mm_render.proofs.PlaceLaws.{place_next}
+use Rattle.mm_render.specs.Places.{pattern_key}
+use Rattle.mm_render.specs.PlaceTable.{supposed_by}
+use Rattle.mm_render.proofs.PlaceLaws.{place_by-same, place_by-other, stands_at}
 use Rattle.mm_render.proofs.places.place_of.Goals as goal
 
-pub loop-other-preserved : goal.loop-other-preserved
-loop-other-preserved c =
-    let lt : c.loop-other.other-index < length c.args.stated.now = omega (arith, c.loop-other-test.true) in
-    let next : place_in (drop c.loop-other.other-index c.args.stated.now) c.args.pattern.now ≡ place_in (drop (c.loop-other.other-index + 1) c.args.stated.now) c.args.pattern.now + 1 =
-        place_next c.args.stated.now c.loop-other.other-index c.other-item.result c.args.pattern.now lt c.other-item.is
-        (λ e. let yes : c.same.result ≡ true = c.same.ensures.1 e in false≢true (sym c.if-same.false ∙ yes)) in
-    record {
-      count = omega (arith, c.loop-other.invariant.count);
-      behind = omega (arith, next, c.loop-other.invariant.behind);
-    }
+pub returns-then-same : goal.returns-then-same
+returns-then-same c =
+    let key : c.as_slice.result.now ≡ pattern_key c.args.pattern.now = c.as_slice.ensures.value ∙ c.in_ok-key.ensures in
+    let supposed : supposed_by c.args.places.now (pattern_key c.args.pattern.now) ≡ Some c.in-Some.place.now = ap (supposed_by c.args.places.now) (sym key) ∙ sym c.in-Some.ensures.value in
+    let there : slice_get c.args.stated.now c.in-Some.place.now ≡ Some c.in-Some-get.other.now = stands_at c.args.stated.now c.in-Some.place.now c.in-Some-get.other.now c.in-Some-get.ensures.lookup.3.0 c.in-Some-get.ensures.lookup.1 in
+    place_by-same (supposed_by c.args.places.now) c.args.stated.now c.args.pattern.now c.in-Some.place.now c.in-Some-get.other.now supposed there (c.same.ensures.0 c.if-same.true)
+
+pub returns : goal.returns
+returns c =
+    let key : c.as_slice.result.now ≡ pattern_key c.args.pattern.now = c.as_slice.ensures.value ∙ c.in_ok-key.ensures in
+    let supposed : supposed_by c.args.places.now (pattern_key c.args.pattern.now) ≡ Some c.in-Some.place.now = ap (supposed_by c.args.places.now) (sym key) ∙ sym c.in-Some.ensures.value in
+    let there : slice_get c.args.stated.now c.in-Some.place.now ≡ Some c.in-Some-get.other.now = stands_at c.args.stated.now c.in-Some.place.now c.in-Some-get.other.now c.in-Some-get.ensures.lookup.3.0 c.in-Some-get.ensures.lookup.1 in
+    c.first_place-2.ensures ∙ place_by-other (supposed_by c.args.places.now) c.args.stated.now c.args.pattern.now c.in-Some.place.now c.in-Some-get.other.now supposed there
+    (λ e. let found : c.same.result ≡ true = c.same.ensures.1 e in false≢true (sym c.if-same.false ∙ found))

@@ -15,8 +15,8 @@ pub returns-clause-text : goal.returns-clause-text
 returns-clause-text c =
     let serial : c.len.result ≡ length c.args.self.now.stated = search rules in
     let text : c.deref.result.now ≡ written_statements (axiom_statement c.args.names.now (length c.args.self.now.stated) (axiom_at c.args.theory.now c.args.no.0) ∷ []) =
-        c.deref.ensures.value ∙ c.in_ok-push_axiom.ensures ∙ ap (λ (t : List ℕ). t ++ written_statements (axiom_statement c.args.names.now c.len.result c.in_ok-pattern.pattern ∷ [])) c.new-text.ensures.items
-        ∙ ap (λ (k : ℕ). written_statements (axiom_statement c.args.names.now k c.in_ok-pattern.pattern ∷ [])) serial ∙ ap (λ (p : Pattern). written_statements (axiom_statement c.args.names.now (length c.args.self.now.stated) p ∷ [])) (stated c) in
+    c.deref.ensures.value ∙ c.in_ok-push_axiom.ensures ∙ ap (λ (t : List ℕ). t ++ written_statements (axiom_statement c.args.names.now c.len.result c.in_ok-pattern.pattern ∷ [])) c.new-text.ensures.items
+    ∙ ap (λ (k : ℕ). written_statements (axiom_statement c.args.names.now k c.in_ok-pattern.pattern ∷ [])) serial ∙ ap (λ (p : Pattern). written_statements (axiom_statement c.args.names.now (length c.args.self.now.stated) p ∷ [])) (stated c) in
     on_ok c.keep.result (λ h. h ∙ ap (λ (t : List ℕ). c.args.to.now.items ++ t) text) c.keep.ensures.text
 
 pub returns-clause-kept : goal.returns-clause-kept

@@ -1,6 +1,6 @@
 use Rattle.std.proofs.Common.{◌≡◌, ◌+◌, drop}
 use Rattle.mm_render.specs.Places.{place_in}
-use Rattle.mm_render.proofs.places.place_of.Given as goal
+use Rattle.mm_render.proofs.places.first_place.Given as goal
 
 abbrev pub invariant-loop-other : goal.invariant-loop-other
 invariant-loop-other l = record {
