@@ -1,0 +1,3 @@
+mod Cuts
+mod Fillings
+mod Placing

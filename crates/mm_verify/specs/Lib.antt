@@ -1,0 +1,6 @@
+pub mod Cut
+pub mod StackView
+pub mod Places
+pub mod Resolved
+pub mod AssertionView
+pub mod Filling
