@@ -13,3 +13,4 @@ pub mod TypedOnce
 pub mod NamedSteps
 pub mod Shared
 pub mod ClosedFrames
+pub mod Repeats

@@ -17,3 +17,4 @@ pub mod FormsRead
 pub mod FramesHeld
 pub mod Held
 pub mod HeldTests
+pub mod HeldFaults

@@ -8,6 +8,7 @@
 
 mod forms;
 mod frames;
+mod judge;
 mod laws;
 mod scopes;
 
