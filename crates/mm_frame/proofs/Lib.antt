@@ -14,3 +14,4 @@ pub mod NamedSteps
 pub mod Shared
 pub mod ClosedFrames
 pub mod Repeats
+pub mod HeldAdds

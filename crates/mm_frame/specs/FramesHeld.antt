@@ -3,6 +3,7 @@
 use Rattle.std.specs.Prelude.{ℕ, Bool, true, false, not, ◌&&◌, nat_eq, List, map}
 use Rattle.std.specs.Global.{Vec}
 use Rattle.std.specs.List.{list_any}
+use Rattle.mm_text.specs.Bytes.{Token}
 use Rattle.mm_frame.specs.Numbered.{NumberedHypothesis, numbered_floating, numbered_essential, NumberedFrame}
 use Rattle.mm_frame.specs.declared.frames.Hyp.{Hyp}
 use Rattle.mm_frame.specs.declared.frames.Hyp.TheVariants.{Floating, Essential}
@@ -38,6 +39,10 @@ frame_held f = record {
   apart = in_groups (groups_of f.apart.items);
   statement = f.statement.items;
 }
+
+abbrev pub number_label : NumberedHypothesis → Token
+number_label (numbered_floating label typecode variable) = label
+number_label (numbered_essential label statement) = label
 
 -- it is a `$f` of the variable
 abbrev pub types_number : ℕ → NumberedHypothesis → Bool

@@ -18,3 +18,4 @@ pub mod FramesHeld
 pub mod Held
 pub mod HeldTests
 pub mod HeldFaults
+pub mod HeldSteps

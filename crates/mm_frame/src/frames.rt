@@ -1,7 +1,7 @@
 // Hypotheses and frames.
 
 ghost use Rattle.std.specs.Prelude.{◌≡◌};
-ghost use Rattle.mm_frame.specs.FramesHeld.{types_number, hypothesis_held};
+ghost use Rattle.mm_frame.specs.FramesHeld.{types_number, number_label, hypothesis_held};
 
 /// A hypothesis, whose symbols are numbers.
 #[derive(Drop)]
@@ -23,6 +23,16 @@ pub struct Frame<'a> {
 }
 
 impl<'a> Hyp<'a> {
+    /// Its label.
+    pub fn label(&self) -> &'a [u8]
+        ensures { result.now ≡ number_label (hypothesis_held self.now) }
+    {
+        match self {
+            Hyp::Floating(label, _, _) => label,
+            Hyp::Essential(label, _) => label,
+        }
+    }
+
     /// Whether it types this variable.
     pub fn types(&self, n: u32) -> bool
         ensures { result ≡ types_number n (hypothesis_held self.now) }

@@ -6,6 +6,7 @@
 //! comes first, and that a text without one is valid. `Stack` computes the same.
 #![tactic(auto)]
 
+mod add;
 mod forms;
 mod frames;
 mod judge;
