@@ -15,3 +15,4 @@ pub mod Shared
 pub mod ClosedFrames
 pub mod Repeats
 pub mod HeldAdds
+pub mod Groups

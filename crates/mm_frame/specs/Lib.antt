@@ -19,3 +19,4 @@ pub mod Held
 pub mod HeldTests
 pub mod HeldFaults
 pub mod HeldSteps
+pub mod HeldFrames

@@ -11,6 +11,7 @@ mod forms;
 mod frames;
 mod judge;
 mod laws;
+mod mandatory;
 mod scopes;
 
 pub use forms::{Form, Keyword, Plain, read_form};
