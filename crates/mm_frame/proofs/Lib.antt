@@ -13,3 +13,6 @@ pub mod TypedOnce
 pub mod NamedSteps
 pub mod Shared
 pub mod ClosedFrames
+pub mod Repeats
+pub mod HeldAdds
+pub mod Groups
