@@ -1,3 +1,5 @@
+mod Apartness
 mod Cuts
 mod Fillings
 mod Placing
+mod Resolving

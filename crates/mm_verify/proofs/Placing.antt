@@ -5,8 +5,9 @@ use Rattle.std.specs.List.{position_from}
 use Rattle.std.specs.Ordering.{nat_cmp}
 use Rattle.std.specs.BTreeMap.{BTreeMap, get}
 use Rattle.mm_frame.specs.Numbered.{NumberedHypothesis}
+use Rattle.mm_frame.specs.FramesHeld.{types_number}
 use Rattle.mm_verify.specs.declared.parts.Part.{Part}
-use Rattle.mm_verify.specs.Places.{types_symbol, first_place, place_of, place_in, symbol_of, ArePlaced, AreLocated, Locates}
+use Rattle.mm_verify.specs.Places.{first_place, place_of, place_in, symbol_of, ArePlaced, AreLocated, Locates}
 
 pub position_from-push : {K : Type 0} (t : K → Bool) (i : ℕ) (xs : List K) (x : K) → position_from t i (xs ++ x ∷ []) ≡ first_place (position_from t i xs) (t x) (i + length xs)
 position_from-push t i [] x = here (t x)
@@ -28,9 +29,9 @@ placed m hypotheses others parts locates same located = located ∙ all (map sym
     all (s ∷ ss) = ap (λ (o : Option ℕ). o ∷ map (get nat_cmp m) ss) (locates s) ∙ ap (λ (os : List (Option ℕ)). place_of hypotheses s ∷ os) (all ss)
 
 -- one more hypothesis
-pub place_more : (all : List NumberedHypothesis) (i : ℕ) (h : NumberedHypothesis) (symbol : ℕ) → i < length all → h ≡ get_or all i h → first_place (place_of (take i all) symbol) (types_symbol symbol h) i ≡ place_of (take (i + 1) all) symbol
+pub place_more : (all : List NumberedHypothesis) (i : ℕ) (h : NumberedHypothesis) (symbol : ℕ) → i < length all → h ≡ get_or all i h → first_place (place_of (take i all) symbol) (types_number symbol h) i ≡ place_of (take (i + 1) all) symbol
 place_more all i h symbol lt is =
-    let t = types_symbol symbol in
+    let t = types_number symbol in
     let len : 0 + length (take i all) ≡ i = omega (arith, length-take-le i all (omega (arith, lt))) in
     sym (ap (λ (xs : List NumberedHypothesis). position_from t 0 xs) (take_more all i h lt)
     ∙ ap (λ (x : NumberedHypothesis). position_from t 0 (take i all ++ x ∷ [])) (sym is)

@@ -1,12 +1,13 @@
 -- Statements with the texts that entries give in the places of variables.
-use Rattle.std.specs.Prelude.{ℕ, ◌<◌, Bool, true, false, ◌&&◌, List, [], ◌∷◌, flat_map, slice_index_or, Option, Some, None, IfSome, All}
+use Rattle.std.specs.Prelude.{ℕ, ◌<◌, Bool, true, false, ◌&&◌, ◌||◌, nat_eq, List, [], ◌∷◌, flat_map, slice_index_or, Option, Some, None, IfSome, All}
 use Rattle.std.specs.List.{list_all}
+use Rattle.std.specs.Global.{Vec}
 use Rattle.mm_frame.specs.Numbered.{NumberedPlace, numbers_behind_first, same_numbers, begins_with, numbered_texts_apart}
 use Rattle.mm_verify.specs.declared.parts.Part.{Part}
 use Rattle.mm_verify.specs.declared.parts.Part.TheVariants as part
 use Rattle.mm_verify.specs.declared.parts.Wanted.{Wanted}
 use Rattle.mm_verify.specs.declared.parts.Wanted.TheVariants as wanted
-use Rattle.mm_verify.specs.Places.{place_in}
+use Rattle.mm_verify.specs.Places.{symbol_of, place_in, parts_of}
 
 -- the text of the entry at a place: what stands behind its typecode
 abbrev pub text_at : List (List ℕ) → ℕ → List ℕ
@@ -44,8 +45,12 @@ places_apart p entries None b = true
 places_apart p entries (Some a) None = true
 places_apart p entries (Some a) (Some b) = numbered_texts_apart p (text_at entries a) (text_at entries b)
 
-abbrev pub is_pair_apart : NumberedPlace → List (List ℕ) → Part × Part → Bool
-is_pair_apart p entries pair = places_apart p entries (place_in pair.0) (place_in pair.1)
+-- two parts with different symbols are kept apart
+abbrev pub are_parts_apart : NumberedPlace → List (List ℕ) → Part → Part → Bool
+are_parts_apart p entries a b = nat_eq (symbol_of a) (symbol_of b) || places_apart p entries (place_in a) (place_in b)
 
-abbrev pub are_pairs_apart : NumberedPlace → List (List ℕ) → List (Part × Part) → Bool
-are_pairs_apart p entries pairs = list_all (is_pair_apart p entries) pairs
+abbrev pub is_group_apart : NumberedPlace → List (List ℕ) → List Part → Bool
+is_group_apart p entries group = list_all (λ a. list_all (are_parts_apart p entries a) group) group
+
+abbrev pub are_groups_apart : NumberedPlace → List (List ℕ) → List (Vec Part) → Bool
+are_groups_apart p entries groups = list_all (λ g. is_group_apart p entries (parts_of g)) groups

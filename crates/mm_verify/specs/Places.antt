@@ -4,18 +4,15 @@ use Rattle.std.specs.List.{position_from}
 use Rattle.std.specs.Ordering.{nat_cmp}
 use Rattle.std.specs.BTreeMap.{get}
 use Rattle.std.specs.BTreeMap.{BTreeMap}
-use Rattle.mm_frame.specs.Numbered.{NumberedHypothesis, numbered_floating, numbered_essential}
+use Rattle.std.specs.Global.{Vec}
+use Rattle.mm_frame.specs.Numbered.{NumberedHypothesis}
+use Rattle.mm_frame.specs.FramesHeld.{types_number}
 use Rattle.mm_verify.specs.declared.parts.Part.{Part}
 use Rattle.mm_verify.specs.declared.parts.Part.TheVariants as part
 
--- the hypothesis types this variable
-abbrev pub types_symbol : ℕ → NumberedHypothesis → Bool
-types_symbol symbol (numbered_floating label typecode variable) = nat_eq variable symbol
-types_symbol symbol (numbered_essential label statement) = false
-
 -- the place of the first `$f` of a variable: none where it has none
 abbrev pub place_of : List NumberedHypothesis → ℕ → Option ℕ
-place_of hypotheses symbol = position_from (types_symbol symbol) 0 hypotheses
+place_of hypotheses symbol = position_from (types_number symbol) 0 hypotheses
 
 -- the place that a variable has, or else this one, where it is typed there
 abbrev pub first_place : Option ℕ → Bool → ℕ → Option ℕ
@@ -44,12 +41,12 @@ ArePlaced hypotheses parts = map place_in parts ≡ map (place_of hypotheses) (m
 abbrev pub AreLocated : BTreeMap ℕ ℕ → List Part → Type 0
 AreLocated places parts = map place_in parts ≡ map (get nat_cmp places) (map symbol_of parts)
 
--- the two parts of a pair, and their symbols
-abbrev pub parts_of : Part × Part → List Part
-parts_of pair = pair.0 ∷ (pair.1 ∷ [])
+-- the parts of a group, and their symbols
+abbrev pub parts_of : Vec Part → List Part
+parts_of group = group.items
 
-abbrev pub symbols_of : Part × Part → ℕ × ℕ
-symbols_of pair = (symbol_of pair.0, symbol_of pair.1)
+abbrev pub symbols_in : Vec Part → List ℕ
+symbols_in group = map symbol_of group.items
 
 -- the table has the places of these hypotheses
 abbrev pub Locates : BTreeMap ℕ ℕ → List NumberedHypothesis → Type 0

@@ -1,14 +1,14 @@
 -- Assertions whose variables have the places of their `$f`.
-use Rattle.std.specs.Prelude.{List, [], map, flat_map, string_bytes}
+use Rattle.std.specs.Prelude.{List, [], map, flat_map}
 use Rattle.mm_frame.specs.Numbered.{NumberedHypothesis, numbered_floating, numbered_essential}
 use Rattle.mm_verify.specs.declared.parts.Part.{Part}
 use Rattle.mm_verify.specs.declared.parts.Wanted.{Wanted}
 use Rattle.mm_verify.specs.declared.parts.Wanted.TheVariants as wanted
-use Rattle.mm_verify.specs.Places.{symbol_of, parts_of, ArePlaced}
+use Rattle.mm_verify.specs.Places.{symbol_of}
 
 abbrev pub wanted_hypothesis : Wanted → NumberedHypothesis
-wanted_hypothesis (wanted.Typed label typecode variable) = numbered_floating (string_bytes label) typecode variable
-wanted_hypothesis (wanted.Stated label parts) = numbered_essential (string_bytes label) (map symbol_of parts.items)
+wanted_hypothesis (wanted.Typed label typecode variable) = numbered_floating label.now typecode variable
+wanted_hypothesis (wanted.Stated label parts) = numbered_essential label.now (map symbol_of parts.items)
 
 -- the parts that stand in what is wanted
 abbrev pub parts_in : Wanted → List Part

@@ -2,9 +2,9 @@
 ghost use Rattle.std.specs.Prelude.{◌≡◌, ℕ, IfOk, OnOk, map, flat_map};
 ghost use Rattle.std.specs.Ordering.{nat_cmp};
 ghost use Rattle.std.specs.BTreeMap.{get as found};
-ghost use Rattle.mm_frame.specs.FrameView.{numbered_hypothesis};
-ghost use Rattle.mm_verify.specs.Places.{types_symbol, first_place, is_this, symbol_of, place_in, symbols_of, parts_of, AreLocated, Locates};
-ghost use Rattle.mm_verify.specs.Resolved.{wanted_hypothesis, parts_in};
+ghost use Rattle.mm_frame.specs.FramesHeld.{hypothesis_held, hypotheses_held, groups_of, types_number};
+ghost use Rattle.mm_verify.specs.Places.{first_place, is_this, symbol_of, place_in, symbols_in, parts_of, AreLocated, Locates};
+ghost use Rattle.mm_verify.specs.Resolved.{wanted_hypothesis, hypotheses_of, parts_in};
 
 use mm_frame::Hyp;
 use std::alloc::{AllocError, Global};
@@ -22,16 +22,16 @@ pub(crate) enum Part {
 
 /// What an assertion asks of an entry.
 #[derive(Drop)]
-pub(crate) enum Wanted {
-    /// A text of this typecode, for this variable.
-    Typed(String, u32, u32),
-    /// The statement of a `$e`, with the texts in it.
-    Stated(String, Vec<Part>),
+pub(crate) enum Wanted<'a> {
+    /// A text of this typecode, for this variable, by the `$f` of this label.
+    Typed(&'a [u8], u32, u32),
+    /// The statement of the `$e` of this label, with the texts in it.
+    Stated(&'a [u8], Vec<Part>),
 }
 
 /// The places of the `$f` of variables.
-pub(crate) fn places(alloc: Global, hyps: &[Hyp]) -> Result<BTreeMap<u32, usize>, AllocError>
-    ensures { IfOk result (λ m. Locates m (map numbered_hypothesis hyps.now)) }
+pub(crate) fn places(alloc: Global, hyps: &[Hyp<'_>]) -> Result<BTreeMap<u32, usize>, AllocError>
+    ensures { IfOk result (λ m. Locates m (hypotheses_held hyps.now)) }
 {
     let mut places = BTreeMap::new(alloc);
     for i in 0..hyps.len() {
@@ -42,8 +42,8 @@ pub(crate) fn places(alloc: Global, hyps: &[Hyp]) -> Result<BTreeMap<u32, usize>
 }
 
 /// Gives the variable of a `$f` its place, where it has none yet.
-fn add_place(places: &mut BTreeMap<u32, usize>, hyp: &Hyp, i: usize) -> Result<(), AllocError>
-    ensures { OnOk result ((symbol : ℕ) → found nat_cmp places.new symbol ≡ first_place (found nat_cmp places.old symbol) (types_symbol symbol (numbered_hypothesis hyp.now)) i) }
+fn add_place(places: &mut BTreeMap<u32, usize>, hyp: &Hyp<'_>, i: usize) -> Result<(), AllocError>
+    ensures { OnOk result ((symbol : ℕ) → found nat_cmp places.new symbol ≡ first_place (found nat_cmp places.old symbol) (types_number symbol (hypothesis_held hyp.now)) i) }
 {
     if let Some(variable) = typed_variable(hyp) {
         if !places.contains_key(&variable) {
@@ -54,12 +54,12 @@ fn add_place(places: &mut BTreeMap<u32, usize>, hyp: &Hyp, i: usize) -> Result<(
 }
 
 /// The variable of a `$f`.
-fn typed_variable(hyp: &Hyp) -> Option<u32>
-    ensures { (symbol : ℕ) → types_symbol symbol (numbered_hypothesis hyp.now) ≡ is_this symbol result }
+fn typed_variable(hyp: &Hyp<'_>) -> Option<u32>
+    ensures { (symbol : ℕ) → types_number symbol (hypothesis_held hyp.now) ≡ is_this symbol result }
 {
-    match hyp.symbols.as_slice() {
-        [_typecode, variable] if hyp.floating => Some(*variable),
-        _ => None,
+    match hyp {
+        Hyp::Floating(_label, _typecode, variable) => Some(*variable),
+        Hyp::Essential(_label, _statement) => None,
     }
 }
 
@@ -90,45 +90,47 @@ pub(crate) fn located(
     Ok(parts)
 }
 
-/// The pairs of symbols, each with its place.
-pub(crate) fn pairs_located(
+/// Groups of symbols, each with its place.
+pub(crate) fn groups_located(
     alloc: Global,
     places: &BTreeMap<u32, usize>,
-    pairs: &[(u32, u32)],
-) -> Result<Vec<(Part, Part)>, AllocError>
-    ensures symbols { IfOk result (λ v. map symbols_of v.items ≡ pairs.now) }
+    groups: &[Vec<u32>],
+) -> Result<Vec<Vec<Part>>, AllocError>
+    ensures symbols { IfOk result (λ v. map symbols_in v.items ≡ groups_of groups.now) }
     ensures places { IfOk result (λ v. AreLocated places.now (flat_map parts_of v.items)) }
 {
-    let mut located = Vec::with_capacity(alloc, pairs.len())?;
-    for pair in pairs {
-        located.push((part_of(places, pair.0), part_of(places, pair.1)))?;
+    let mut all = Vec::with_capacity(alloc, groups.len())?;
+    for group in groups {
+        all.push(located(alloc, places, group)?)?;
     }
-    Ok(located)
+    Ok(all)
 }
 
 /// What a hypothesis asks for.
-fn wanted_by(alloc: Global, places: &BTreeMap<u32, usize>, hyp: Hyp) -> Result<Wanted, AllocError>
-    ensures hypothesis { IfOk result (λ w. wanted_hypothesis w ≡ numbered_hypothesis hyp) }
+fn wanted_by<'a>(
+    alloc: Global,
+    places: &BTreeMap<u32, usize>,
+    hyp: &Hyp<'a>,
+) -> Result<Wanted<'a>, AllocError>
+    ensures hypothesis { IfOk result (λ w. wanted_hypothesis w ≡ hypothesis_held hyp.now) }
     ensures places { IfOk result (λ w. AreLocated places.now (parts_in w)) }
 {
-    let Hyp {
-        label,
-        floating,
-        symbols,
-    } = hyp;
-    match symbols.as_slice() {
-        [typecode, variable] if floating => Ok(Wanted::Typed(label, *typecode, *variable)),
-        _ => Ok(Wanted::Stated(label, located(alloc, places, &symbols)?)),
+    match hyp {
+        Hyp::Floating(label, typecode, variable) => Ok(Wanted::Typed(label, *typecode, *variable)),
+        Hyp::Essential(label, statement) => Ok(Wanted::Stated(
+            label,
+            located(alloc, places, statement)?,
+        )),
     }
 }
 
 /// What hypotheses ask for, in order.
-pub(crate) fn all_wanted(
+pub(crate) fn all_wanted<'a>(
     alloc: Global,
     places: &BTreeMap<u32, usize>,
-    hyps: Vec<Hyp>,
-) -> Result<Vec<Wanted>, AllocError>
-    ensures hypotheses { IfOk result (λ v. map wanted_hypothesis v.items ≡ map numbered_hypothesis hyps.items) }
+    hyps: &[Hyp<'a>],
+) -> Result<Vec<Wanted<'a>>, AllocError>
+    ensures hypotheses { IfOk result (λ v. hypotheses_of v.items ≡ hypotheses_held hyps.now) }
     ensures places { IfOk result (λ v. AreLocated places.now (flat_map parts_in v.items)) }
 {
     let mut all = Vec::with_capacity(alloc, hyps.len())?;
