@@ -50,15 +50,15 @@ parts-from : (hypotheses : List NumberedHypothesis) (f : Part → Bool) (ps : Li
 parts-from hypotheses f [] placed k = refl
 parts-from hypotheses f (p ∷ ps) placed k =
     and-true (f p) (list_all f ps)
-        (k p (first-placed hypotheses p ps placed) (or-left (nat_eq (symbol_of p) (symbol_of p)) (has_number (map symbol_of ps) (symbol_of p)) (eq-same (symbol_of p))))
-        (parts-from hypotheses f ps (others-placed hypotheses p ps placed) (λ q at has. k q at (or-right (nat_eq (symbol_of p) (symbol_of q)) (has_number (map symbol_of ps) (symbol_of q)) has)))
+    (k p (first-placed hypotheses p ps placed) (or-left (nat_eq (symbol_of p) (symbol_of p)) (has_number (map symbol_of ps) (symbol_of p)) (eq-same (symbol_of p))))
+    (parts-from hypotheses f ps (others-placed hypotheses p ps placed) (λ q at has. k q at (or-right (nat_eq (symbol_of p) (symbol_of q)) (has_number (map symbol_of ps) (symbol_of q)) has)))
 
 groups-from : (hypotheses : List NumberedHypothesis) (f : Vec Part → Bool) (gs : List (Vec Part)) → ArePlaced hypotheses (flat_map parts_of gs) → ((g : Vec Part) → ArePlaced hypotheses (parts_of g) → ((u v : ℕ) → in_group u v (symbols_in g) ≡ true → in_groups (map symbols_in gs) u v ≡ true) → f g ≡ true) → list_all f gs ≡ true
 groups-from hypotheses f [] placed k = refl
 groups-from hypotheses f (g ∷ gs) placed k =
     and-true (f g) (list_all f gs)
-        (k g (placed-front hypotheses (parts_of g) (flat_map parts_of gs) placed) (λ u v h. or-left (in_group u v (symbols_in g)) (in_groups (map symbols_in gs) u v) h))
-        (groups-from hypotheses f gs (placed-behind hypotheses (parts_of g) (flat_map parts_of gs) placed) (λ i at inside. k i at (λ u v h. or-right (in_group u v (symbols_in g)) (in_groups (map symbols_in gs) u v) (inside u v h))))
+    (k g (placed-front hypotheses (parts_of g) (flat_map parts_of gs) placed) (λ u v h. or-left (in_group u v (symbols_in g)) (in_groups (map symbols_in gs) u v) h))
+    (groups-from hypotheses f gs (placed-behind hypotheses (parts_of g) (flat_map parts_of gs) placed) (λ i at inside. k i at (λ u v h. or-right (in_group u v (symbols_in g)) (in_groups (map symbols_in gs) u v) (inside u v h))))
 
 -- the variables of hypotheses are those that they type
 
@@ -140,7 +140,7 @@ module _ (p : NumberedPlace) (f : NumberedFrame) (entries : List (List ℕ)) (gr
   frame-holds : are_groups_apart p entries groups ≡ true → keeps_numbers_apart p f sigma ≡ true
   frame-holds h =
       variables-from (λ u. list_all (numbered_pair_apart p f sigma u) (numbered_variables f.hypotheses)) f.hypotheses (λ u tu.
-          variables-from (numbered_pair_apart p f sigma u) f.hypotheses (λ v tv. pair u v tu tv (in_groups (map symbols_in groups) u v) refl))
+      variables-from (numbered_pair_apart p f sigma u) f.hypotheses (λ v tv. pair u v tu tv (in_groups (map symbols_in groups) u v) refl))
     where
       pair : (u v : ℕ) → is_typed f.hypotheses u ≡ true → is_typed f.hypotheses v ≡ true → (b : Bool) → in_groups (map symbols_in groups) u v ≡ b → (not (f.apart u v) || texts u v) ≡ true
       pair u v tu tv true e =
@@ -158,18 +158,18 @@ module _ (p : NumberedPlace) (f : NumberedFrame) (entries : List (List ℕ)) (gr
       let listed : f.apart u v ≡ true = apart u v ∙ inside u v group in
       ap (λ (o : Option ℕ). places_apart p entries o (place_in b)) ata ∙ ap (λ (o : Option ℕ). places_apart p entries (place_of f.hypotheses u) o) atb
       ∙ places-from p entries u v (place_of f.hypotheses u) (place_of f.hypotheses v) (λ su sv.
-          let tu = sym (placed-typed (types_number u) 0 f.hypotheses) ∙ su in
-          let tv = sym (placed-typed (types_number v) 0 f.hypotheses) ∙ sv in
-          let row = variables-at (λ w. list_all (numbered_pair_apart p f sigma w) (numbered_variables f.hypotheses)) u f.hypotheses k tu in
-          let pair = variables-at (numbered_pair_apart p f sigma u) v f.hypotheses row tv in
-          sym (texts-placed u v) ∙ sym (ap (λ (c : Bool). not c || texts u v) listed) ∙ pair)
+      let tu = sym (placed-typed (types_number u) 0 f.hypotheses) ∙ su in
+      let tv = sym (placed-typed (types_number v) 0 f.hypotheses) ∙ sv in
+      let row = variables-at (λ w. list_all (numbered_pair_apart p f sigma w) (numbered_variables f.hypotheses)) u f.hypotheses k tu in
+      let pair = variables-at (numbered_pair_apart p f sigma u) v f.hypotheses row tv in
+      sym (texts-placed u v) ∙ sym (ap (λ (c : Bool). not c || texts u v) listed) ∙ pair)
 
   groups-hold : keeps_numbers_apart p f sigma ≡ true → are_groups_apart p entries groups ≡ true
   groups-hold k =
       groups-from f.hypotheses (λ g. is_group_apart p entries (parts_of g)) groups placed (λ g pg inside.
-          parts-from f.hypotheses (λ a. list_all (are_parts_apart p entries a) (parts_of g)) (parts_of g) pg (λ a ata hasa.
-              parts-from f.hypotheses (are_parts_apart p entries a) (parts_of g) pg (λ b atb hasb.
-                  parts-hold k g inside a b ata atb hasa hasb (nat_eq (symbol_of a) (symbol_of b)) refl)))
+      parts-from f.hypotheses (λ a. list_all (are_parts_apart p entries a) (parts_of g)) (parts_of g) pg (λ a ata hasa.
+      parts-from f.hypotheses (are_parts_apart p entries a) (parts_of g) pg (λ b atb hasb.
+      parts-hold k g inside a b ata atb hasa hasb (nat_eq (symbol_of a) (symbol_of b)) refl)))
 
   pub groups-apart-is : are_groups_apart p entries groups ≡ keeps_numbers_apart p f sigma
   groups-apart-is = same-test (are_groups_apart p entries groups) (keeps_numbers_apart p f sigma) frame-holds groups-hold

@@ -1,3 +1,4 @@
+mod Alone
 mod Apartness
 mod Cuts
 mod Fillings

@@ -1,7 +1,8 @@
 -- An assertion whose variables have the places of their `$f` asks and gives what its frame does.
 use Rattle.std.proofs.Common.{◌≡◌, ℕ, zero, suc, ◌+◌, ◌<◌, Bool, true, false, List, [], ◌∷◌, ◌++◌, length, take, drop, get_or, map, flat_map, nat_eq, Option, Some, None, cond, refl, ap, ◌∙◌, sym, subst, arith, rules, inl, inr, ⊎_elim}
 use Rattle.std.specs.Prelude.{not, ◌&&◌, ◌||◌, IfSome, All}
-use Rattle.std.specs.List.{position_from, list_any, list_all}
+use Rattle.std.specs.List.{position_from, list_any, list_all, AllByRecursion}
+use Rattle.std.proofs.lemmas.List.Elements.{All-from_recursion}
 use Rattle.std.specs.Global.{Vec}
 use Rattle.std.proofs.lemmas.List.{get_or-drop, drop-drop}
 use Rattle.mm_frame.specs.Numbered.{NumberedHypothesis, numbered_floating, numbered_essential, NumberedFrame, NumberedPlace, NumberedBinding, numbers_behind_first, numbered_bindings, numbered_text, numbers_substituted, same_numbers, begins_with, agrees, all_agree, numbered_variables, numbered_texts_apart, numbered_pair_apart, keeps_numbers_apart}
@@ -12,7 +13,7 @@ use Rattle.mm_verify.specs.declared.parts.Wanted.{Wanted}
 use Rattle.mm_verify.specs.declared.parts.Wanted.TheVariants as wanted
 use Rattle.mm_verify.specs.Places.{place_of, place_in, symbol_of, parts_of, symbols_in, ArePlaced}
 use Rattle.mm_verify.specs.Resolved.{wanted_hypothesis, hypotheses_of, parts_in}
-use Rattle.mm_verify.specs.Filling.{text_at, part_text, filled, is_wanted, are_wanted, places_apart, are_parts_apart, is_group_apart, are_groups_apart}
+use Rattle.mm_verify.specs.Filling.{IsWithin, AreWithin, text_at, part_text, filled, is_wanted, are_wanted, places_apart, are_parts_apart, is_group_apart, are_groups_apart}
 
 -- what entries give a symbol, by the place of its `$f`
 abbrev pub at_place : List (List ℕ) → ℕ → Option ℕ → List ℕ
@@ -115,3 +116,25 @@ both-true false b h = absurd (cc)
 
 pub and-true : (a b : Bool) → a ≡ true → b ≡ true → (a && b) ≡ true
 and-true a b h k = ap (λ (c : Bool). c && b) h ∙ k
+
+-- parts that have their places ask for entries that there are
+
+pub placed-within : (hypotheses : List NumberedHypothesis) (n : ℕ) (parts : List Part) → length hypotheses ≡ n → ArePlaced hypotheses parts → AreWithin n parts
+placed-within hypotheses n parts long placed = All-from_recursion (IsWithin n) parts (each parts placed)
+  where
+    one : (p : Part) → place_in p ≡ place_of hypotheses (symbol_of p) → IsWithin n p
+    one p at =
+        subst (λ (o : Option ℕ). IfSome o (λ i. i < n)) (sym at)
+        (subst (λ (m : ℕ). IfSome (place_of hypotheses (symbol_of p)) (λ i. i < m)) (omega (arith, long))
+        (place-within (types_number (symbol_of p)) 0 hypotheses))
+
+    each : (parts : List Part) → ArePlaced hypotheses parts → AllByRecursion (IsWithin n) parts
+    each [] placed = tt
+    each (p ∷ ps) placed = (one p (first-placed hypotheses p ps placed), each ps (others-placed hypotheses p ps placed))
+
+pub placed-within-each : {X : Type 0} (f : X → List Part) (hypotheses : List NumberedHypothesis) (n : ℕ) (xs : List X) → length hypotheses ≡ n → ArePlaced hypotheses (flat_map f xs) → All (λ x. AreWithin n (f x)) xs
+placed-within-each f hypotheses n xs long placed = All-from_recursion (λ x. AreWithin n (f x)) xs (each xs placed)
+  where
+    each : (xs : List _) → ArePlaced hypotheses (flat_map f xs) → AllByRecursion (λ x. AreWithin n (f x)) xs
+    each [] placed = tt
+    each (x ∷ xs) placed = (placed-within hypotheses n (f x) long (placed-front hypotheses (f x) (flat_map f xs) placed), each xs (placed-behind hypotheses (f x) (flat_map f xs) placed))

@@ -7,6 +7,7 @@ use Rattle.mm_verify.specs.declared.parts.Part.{Part}
 use Rattle.mm_verify.specs.declared.parts.Part.TheVariants as part
 use Rattle.mm_verify.specs.declared.parts.Wanted.{Wanted}
 use Rattle.mm_verify.specs.declared.parts.Wanted.TheVariants as wanted
+use Rattle.mm_verify.specs.Resolved.{parts_in}
 use Rattle.mm_verify.specs.Places.{symbol_of, place_in, parts_of}
 
 -- the text of the entry at a place: what stands behind its typecode
@@ -26,6 +27,12 @@ IsWithin n p = IfSome (place_in p) (λ i. i < n)
 
 abbrev pub AreWithin : ℕ → List Part → Type 0
 AreWithin n parts = All (IsWithin n) parts
+
+abbrev pub HasWithin : ℕ → Wanted → Type 0
+HasWithin n w = AreWithin n (parts_in w)
+
+abbrev pub GroupWithin : ℕ → Vec Part → Type 0
+GroupWithin n group = AreWithin n (parts_of group)
 
 -- an entry is what is wanted
 abbrev pub is_wanted : List (List ℕ) → Wanted → List ℕ → Bool

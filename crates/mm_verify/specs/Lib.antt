@@ -4,3 +4,4 @@ pub mod Places
 pub mod Resolved
 pub mod AssertionView
 pub mod Filling
+pub mod Applied

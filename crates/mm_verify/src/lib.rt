@@ -1,7 +1,10 @@
 //! Whether a Metamath database is valid, and its first fault where it is not.
 #![tactic(auto)]
 
+mod applying;
 mod assertion;
+mod checking;
 mod filling;
 mod parts;
+mod place;
 mod stack;
