@@ -5,3 +5,4 @@ pub mod Resolved
 pub mod AssertionView
 pub mod Filling
 pub mod Applied
+pub mod Running

@@ -5,6 +5,7 @@ mod applying;
 mod assertion;
 mod checking;
 mod filling;
+mod machine;
 mod parts;
 mod place;
 mod stack;
