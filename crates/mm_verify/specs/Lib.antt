@@ -6,3 +6,4 @@ pub mod AssertionView
 pub mod Filling
 pub mod Applied
 pub mod Running
+pub mod Reading

@@ -5,6 +5,7 @@ mod applying;
 mod assertion;
 mod checking;
 mod filling;
+mod letters;
 mod machine;
 mod parts;
 mod place;

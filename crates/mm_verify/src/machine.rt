@@ -1,20 +1,22 @@
 // Proofs as steps on a stack.
 ghost use Rattle.std.specs.Prelude.{◌≡◌, Some, IfOk, [], map};
-ghost use Rattle.mm_frame.specs.NumberedSteps.{saves_last, gives_saved, numbered_saving, numbered_saving_after};
+ghost use Rattle.mm_frame.specs.NumberedSteps.{gives, saves_last, gives_saved, numbered_saving, numbered_saving_after};
+ghost use Rattle.mm_frame.specs.FramesHeld.{hypothesis_held};
 ghost use Rattle.mm_verify.specs.Applied.{Answers};
-ghost use Rattle.mm_verify.specs.Running.{step_of, saving_of, left_fault as left_fault_of, steps_fault};
+ghost use Rattle.mm_verify.specs.Running.{said_by, step_of, saving_of, left_fault as left_fault_of, steps_fault};
 
 use crate::applying::apply;
 use crate::assertion::Assertion;
 use crate::place::Place;
 use crate::stack::Stack;
+use mm_frame::Hyp;
 use std::alloc::{AllocError, Global};
 
 /// A step of a proof, by what it does to the stack.
 #[derive(Clone, Copy)]
 pub(crate) enum Step<'a> {
     /// Puts the statement of a hypothesis on top.
-    Gives(&'a [u32]),
+    Gives(&'a Hyp<'a>),
     /// Applies an assertion to the last entries.
     Applies(&'a Assertion<'a>),
     /// Saves the last entry.
@@ -57,14 +59,22 @@ impl Machine {
         ensures { IfOk result (Answers (numbered_saving_after (P.place place.now) (step_of step.entry) (saving_of self.old)) (saving_of self.old) (saving_of self.new)) }
     {
         match step {
-            Step::Gives(statement) => {
-                self.stack.push(statement)?;
-                Ok(true)
-            }
+            Step::Gives(hyp) => self.give(place, hyp),
             Step::Applies(assertion) => apply(place, assertion, &mut self.stack, &mut self.buffer),
             Step::Saves => self.save(place),
             Step::Repeats(number) => self.repeat(place, number),
         }
+    }
+
+    /// Puts the statement of a hypothesis on top.
+    fn give<P: Place>(&mut self, place: &P, hyp: &Hyp<'_>) -> Result<bool, AllocError>
+        ensures { IfOk result (Answers (numbered_saving_after (P.place place.now) (gives (said_by (hypothesis_held hyp.now))) (saving_of self.old)) (saving_of self.old) (saving_of self.new)) }
+    {
+        match hyp {
+            Hyp::Floating(_label, typecode, variable) => self.stack.push(&[*typecode, *variable])?,
+            Hyp::Essential(_label, statement) => self.stack.push(statement)?,
+        }
+        Ok(true)
     }
 
     /// Saves the last entry, where there is one.
