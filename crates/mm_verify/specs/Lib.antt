@@ -6,4 +6,6 @@ pub mod AssertionView
 pub mod Filling
 pub mod Applied
 pub mod Running
+pub mod Digits
+pub mod Meaning
 pub mod Reading

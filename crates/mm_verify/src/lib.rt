@@ -4,6 +4,7 @@
 mod applying;
 mod assertion;
 mod checking;
+mod digits;
 mod filling;
 mod letters;
 mod machine;
