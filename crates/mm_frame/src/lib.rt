@@ -6,6 +6,20 @@
 //! comes first, and that a text without one is valid. `Stack` computes the same.
 #![tactic(auto)]
 
+mod add;
+mod declare;
+mod forms;
+mod frames;
+mod judge;
 mod laws;
+mod mandatory;
+mod scopes;
 
+pub use declare::{Added, FrameEnd};
+pub use forms::{Form, Keyword, Plain, read_form};
+pub use frames::{Frame, Hyp};
 pub use laws::{database_laws, proof_laws, tried};
+pub use scopes::Scopes;
+
+#[cfg(test)]
+mod examples;
