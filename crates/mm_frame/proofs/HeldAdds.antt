@@ -1,12 +1,11 @@
 -- What adding a symbol and closing a block do, step by step.
 use Rattle.std.proofs.Common.{◌≡◌, ℕ, Bool, List, length, take, sym, ap, ◌∙◌, subst}
-use Rattle.std.specs.Prelude.{Option}
 use Rattle.std.specs.Global.{Vec}
 use Rattle.std.proofs.lemmas.List.{take-map}
 use Rattle.mm_text.specs.Bytes.{Token}
-use Rattle.mm_frame.specs.Numbered.{NumberedHypothesis, NumberedFrame}
+use Rattle.mm_frame.specs.Numbered.{NumberedHypothesis}
 use Rattle.mm_frame.specs.FramesHeld.{hypothesis_held, hypotheses_held, items_of, groups_of}
-use Rattle.mm_frame.specs.Held.{HeldSymbol, Held}
+use Rattle.mm_frame.specs.Held.{Held}
 use Rattle.mm_frame.specs.HeldSteps.{symbol_name, AppendsSymbol, Names, AddsSymbol}
 use Rattle.mm_frame.specs.declared.scopes.OpenBlock.{OpenBlock}
 use Rattle.mm_frame.specs.declared.frames.Hyp.{Hyp}

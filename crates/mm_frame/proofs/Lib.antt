@@ -16,3 +16,12 @@ pub mod ClosedFrames
 pub mod Repeats
 pub mod HeldAdds
 pub mod Groups
+pub mod Namings
+pub mod StandTests
+pub mod StandFaults
+pub mod StandAdds
+pub mod StandScopes
+pub mod StandFrames
+pub mod StandStatements
+pub mod Taken
+pub mod StandReads

@@ -1,6 +1,6 @@
 -- Tokens that stand twice, looked for from the end.
-use Rattle.std.proofs.Common.{◌≡◌, ℕ, ◌+◌, ◌-◌, ◌<◌, ◌≤◌, zero, suc, length, drop, Bool, true, false, List, [], ◌∷◌, slice_index_or, drop-cons, refl, ap, sym, ◌∙◌, arith, is_some, cond}
-use Rattle.std.specs.Prelude.{◌||◌, Option, Some, None, bytes_eq}
+use Rattle.std.proofs.Common.{◌≡◌, ℕ, ◌-◌, ◌<◌, ◌≤◌, zero, suc, length, drop, Bool, true, false, List, [], ◌∷◌, slice_index_or, drop-cons, refl, ap, sym, ◌∙◌, arith, is_some, cond}
+use Rattle.std.specs.Prelude.{◌||◌, Option, Some, bytes_eq}
 use Rattle.std.proofs.lemmas.List.{drop-map}
 use Rattle.mm_text.specs.Bytes.{Token, has_token}
 use Rattle.mm_text.specs.Reader.{word_of, words_of}
@@ -29,7 +29,7 @@ words-before bytes ts at d some within =
 pub repeated-found : (bytes : List ℕ) (ts : List MmToken) (at : ℕ) (d : MmToken) (w : Token) → 0 < at → at ≤ length ts → w ≡ word_of bytes (slice_index_or ts (at - 1) d) → has_token (words_of bytes (drop at ts)) w ≡ true → has_repeated (words_of bytes ts) ≡ true
 repeated-found bytes ts at d w some within is found =
     let here : has_repeated (words_of bytes (drop (at - 1) ts)) ≡ true =
-        ap has_repeated (words-before bytes ts at d some within) ∙ first-true _ (has_repeated (words_of bytes (drop at ts))) (ap (λ u. has_token (words_of bytes (drop at ts)) u) (sym is) ∙ found) in
+    ap has_repeated (words-before bytes ts at d some within) ∙ first-true _ (has_repeated (words_of bytes (drop at ts))) (ap (λ u. has_token (words_of bytes (drop at ts)) u) (sym is) ∙ found) in
     has_repeated-drop (at - 1) (words_of bytes ts) (ap has_repeated (drop-map (word_of bytes) (at - 1) ts) ∙ here)
 
 both-false : (a b : Bool) → a ≡ false → b ≡ false → (a || b) ≡ false

@@ -1,6 +1,6 @@
 -- Hypotheses and frames as they are held: symbols by their numbers, and the pairs that have to stay
 -- apart as one list of variables for each `$d`.
-use Rattle.std.specs.Prelude.{ℕ, Bool, true, false, not, ◌&&◌, nat_eq, List, map}
+use Rattle.std.specs.Prelude.{ℕ, Bool, false, not, ◌&&◌, nat_eq, List, map}
 use Rattle.std.specs.Global.{Vec}
 use Rattle.std.specs.List.{list_any}
 use Rattle.mm_text.specs.Bytes.{Token}

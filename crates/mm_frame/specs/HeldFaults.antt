@@ -1,6 +1,6 @@
 -- The fault of a statement, or what it declares, by what scopes hold: cited by the clauses of private
 -- functions alone. Laws say that it is the fault that the definitions give.
-use Rattle.std.specs.Prelude.{◌≡◌, ℕ, Bool, true, false, not, ◌||◌, if◌then◌else◌, List, [], ◌∷◌, Option, Some, None, is_some, is_none, Result, Ok, Err}
+use Rattle.std.specs.Prelude.{◌≡◌, ℕ, Bool, true, false, not, ◌||◌, if◌then◌else◌, List, [], ◌∷◌, Option, Some, None, is_some, Result, Ok, Err}
 use Rattle.std.specs.List.{list_any, list_all}
 use Rattle.mm_text.specs.Bytes.{Token}
 use Rattle.mm_text.specs.FaultKinds.{inner_constant, redeclared, not_active, bad_typecode, second_float, bad_disjoint, bad_label}

@@ -1,5 +1,5 @@
 -- What adding a declaration does to what scopes hold: cited by the clauses of private functions alone.
-use Rattle.std.specs.Prelude.{◌≡◌, ℕ, Bool, if◌then◌else◌, List, [], ◌∷◌, ◌++◌, length, take, slice_set, Option, Some, None, bytes_eq}
+use Rattle.std.specs.Prelude.{◌≡◌, ℕ, Bool, true, false, if◌then◌else◌, List, [], ◌∷◌, ◌++◌, length, take, slice_set, Option, Some, None, bytes_eq}
 use Rattle.mm_text.specs.Bytes.{Token}
 use Rattle.mm_frame.specs.Numbered.{NumberedHypothesis, numbered_floating, numbered_essential, NumberedFrame}
 use Rattle.mm_frame.specs.FramesHeld.{number_label}
@@ -80,3 +80,23 @@ ClosesBlock old new (Some block) = (old.blocks ≡ new.blocks ++ block ∷ []) �
   disjoint = take block.disjoint old.disjoint;
   blocks = new.blocks;
 })
+
+-- each token gets a number and the name of a constant
+abbrev pub AddsConstants : Held → List Token → Held → Type 0
+AddsConstants old [] new = new ≡ old
+AddsConstants old (token ∷ tokens) new = (n : ℕ) × (mid : Held) × AddsSymbol old token false n mid × AddsConstants mid tokens new
+
+-- a variable that is new gets a number, and each becomes active
+abbrev pub VariableStep : Held → Token → Option Name → Held → Type 0
+VariableStep old token None new = (n : ℕ) × (mid : Held) × AddsSymbol old token true n mid × Activates mid n new
+VariableStep old token (Some (Variable n)) new = Activates old n new
+VariableStep old token (Some (Constant n)) new = new ≡ old
+VariableStep old token (Some (Hypothesis i)) new = new ≡ old
+VariableStep old token (Some (Assertion i)) new = new ≡ old
+
+abbrev pub AddsVariable : Held → Token → Held → Type 0
+AddsVariable old token new = VariableStep old token (old.names token) new
+
+abbrev pub AddsVariables : Held → List Token → Held → Type 0
+AddsVariables old [] new = new ≡ old
+AddsVariables old (token ∷ tokens) new = (mid : Held) × AddsVariable old token mid × AddsVariables mid tokens new

@@ -1,5 +1,5 @@
 -- Tests of tokens by what scopes hold.
-use Rattle.std.specs.Prelude.{ℕ, Bool, true, false, not, ◌&&◌, ◌||◌, nat_eq, if◌then◌else◌, List, [], ◌∷◌, ◌++◌, slice_index, slice_get, Option, Some, None, is_some, is_none}
+use Rattle.std.specs.Prelude.{ℕ, Bool, true, false, ◌&&◌, nat_eq, if◌then◌else◌, List, [], ◌∷◌, ◌++◌, slice_index, slice_get, Option, Some, None, is_some, is_none}
 use Rattle.mm_text.specs.Bytes.{Token}
 use Rattle.mm_text.specs.Labels.{is_label}
 use Rattle.mm_frame.specs.Numbered.{NumberedHypothesis}

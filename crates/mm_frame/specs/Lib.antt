@@ -20,3 +20,7 @@ pub mod HeldTests
 pub mod HeldFaults
 pub mod HeldSteps
 pub mod HeldFrames
+pub mod Judging
+pub mod Standing
+pub mod Takes
+pub mod HeldReads

@@ -6,14 +6,17 @@ ghost use Rattle.mm_frame.specs.Held.{held, Held};
 ghost use Rattle.mm_frame.specs.FramesHeld.{hypothesis_held, frame_held};
 ghost use Rattle.mm_frame.specs.HeldSteps.{symbol_name, AppendsSymbol, Names, AddsSymbol, Activates, AddsHypothesis, AddsDisjoint, AddsAssertion, OpensBlock, ClosesBlock};
 
-use std::alloc::{AllocError, Global};
-
 use crate::frames::{Frame, Hyp};
 use crate::scopes::{Name, OpenBlock, Scopes, Symbol};
+use std::alloc::{AllocError, Global};
 
 impl<'a> Scopes<'a> {
     /// Gives a token a number and its name.
-    pub(crate) fn add_symbol(&mut self, word: &'a [u8], is_variable: bool) -> Result<u32, AllocError>
+    pub(crate) fn add_symbol(
+        &mut self,
+        word: &'a [u8],
+        is_variable: bool,
+    ) -> Result<u32, AllocError>
         ensures { IfOk result (λ n. AddsSymbol (held self.old) word.now is_variable n (held self.new)) }
     {
         let Ok(n) = u32::try_from(self.symbols.len()) else {
@@ -126,5 +129,9 @@ impl<'a> Scopes<'a> {
 fn symbol_name(is_variable: bool, n: u32) -> Name
     ensures { result ≡ symbol_name is_variable n }
 {
-    if is_variable { Name::Variable(n) } else { Name::Constant(n) }
+    if is_variable {
+        Name::Variable(n)
+    } else {
+        Name::Constant(n)
+    }
 }

@@ -57,11 +57,7 @@ pub fn read_form<'t>(bytes: &[u8], tokens: &'t [MmToken]) -> Option<Form<'t>>
 }
 
 /// The form of labels and of the tokens from a keyword on.
-fn labelled_form<'t>(
-    bytes: &[u8],
-    labels: &'t [MmToken],
-    rest: &'t [MmToken],
-) -> Option<Form<'t>>
+fn labelled_form<'t>(bytes: &[u8], labels: &'t [MmToken], rest: &'t [MmToken]) -> Option<Form<'t>>
     ensures { option_map (form_read bytes.now) result ≡ labelled_form (words_of bytes.now labels.now) (words_of bytes.now rest.now) }
 {
     let (first, rest) = rest.split_first()?;
@@ -162,7 +158,11 @@ fn theorem_proof<'t>(bytes: &[u8], rest: &'t [MmToken]) -> Option<&'t [MmToken]>
         return None;
     }
     let (proof, end) = split_at_dollar(bytes, rest);
-    if is_end(bytes, end) { Some(proof) } else { None }
+    if is_end(bytes, end) {
+        Some(proof)
+    } else {
+        None
+    }
 }
 
 /// Whether the statement has to name a symbol.

@@ -11,15 +11,14 @@ ghost use Rattle.mm_frame.specs.Held.{held};
 ghost use Rattle.mm_frame.specs.HeldTests.{numbers_in, is_active_in, constant_in, label_in, redeclares_constant, redeclares_variable};
 ghost use Rattle.mm_frame.specs.HeldFaults.{Judges, stated_held, floating_in, stated_in, disjoint_in, constants_fault, variables_fault};
 
+use crate::frames::Hyp;
+use crate::scopes::{Name, Need, Scopes};
+use mm_text::MmToken;
 use std::alloc::{AllocError, Global};
 use std::collections::BTreeMap;
 
-use mm_text::MmToken;
-
-use crate::frames::Hyp;
-use crate::scopes::{Name, Need, Scopes};
-
 /// Why a statement is not taken: it has a fault of this kind, or there is not enough memory.
+#[derive(Clone, Copy)]
 pub(crate) enum Refusal {
     Fault(u8),
     Memory,
@@ -91,7 +90,7 @@ impl<'a> Scopes<'a> {
     }
 
     /// The hypothesis of a `$f`.
-    fn floating(
+    pub(crate) fn floating(
         &self,
         bytes: &'a [u8],
         labels: &[MmToken],
@@ -121,7 +120,7 @@ impl<'a> Scopes<'a> {
     }
 
     /// The label and the symbols of an `$e`, `$a` or `$p`.
-    fn stated(
+    pub(crate) fn stated(
         &self,
         alloc: Global,
         bytes: &'a [u8],
@@ -145,7 +144,7 @@ impl<'a> Scopes<'a> {
     }
 
     /// The variables of a `$d`.
-    fn separated(
+    pub(crate) fn separated(
         &self,
         alloc: Global,
         bytes: &'a [u8],
@@ -210,7 +209,7 @@ impl<'a> Scopes<'a> {
     }
 
     /// The fault of a `$c`, if it has one.
-    fn constants_fault(
+    pub(crate) fn constants_fault(
         &self,
         alloc: Global,
         bytes: &'a [u8],
@@ -230,7 +229,7 @@ impl<'a> Scopes<'a> {
     }
 
     /// The fault of a `$v`, if it has one.
-    fn variables_fault(
+    pub(crate) fn variables_fault(
         &self,
         alloc: Global,
         bytes: &'a [u8],

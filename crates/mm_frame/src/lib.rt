@@ -7,6 +7,7 @@
 #![tactic(auto)]
 
 mod add;
+mod declare;
 mod forms;
 mod frames;
 mod judge;
@@ -14,7 +15,11 @@ mod laws;
 mod mandatory;
 mod scopes;
 
+pub use declare::{Added, FrameEnd};
 pub use forms::{Form, Keyword, Plain, read_form};
 pub use frames::{Frame, Hyp};
 pub use laws::{database_laws, proof_laws, tried};
 pub use scopes::Scopes;
+
+#[cfg(test)]
+mod examples;

@@ -8,12 +8,11 @@ ghost use Rattle.mm_frame.specs.FramesHeld.{has_number, in_group, in_groups, ite
 ghost use Rattle.mm_frame.specs.HeldFaults.{stated_held};
 ghost use Rattle.mm_frame.specs.HeldFrames.{is_needed_number, is_mandatory_number, IsHeldFrame};
 
-use std::alloc::{AllocError, Global};
-use std::collections::BTreeSet;
-
 use crate::frames::{Frame, Hyp};
 use crate::judge::Stated;
 use crate::scopes::Scopes;
+use std::alloc::{AllocError, Global};
+use std::collections::BTreeSet;
 
 impl<'a> Scopes<'a> {
     /// The frame of an assertion with this label and these symbols.
@@ -60,7 +59,11 @@ impl<'a> Scopes<'a> {
     }
 
     /// The variables of each active `$d` that are among these.
-    fn apart_within(&self, alloc: Global, needed: &BTreeSet<u32>) -> Result<Vec<Vec<u32>>, AllocError>
+    fn apart_within(
+        &self,
+        alloc: Global,
+        needed: &BTreeSet<u32>,
+    ) -> Result<Vec<Vec<u32>>, AllocError>
         ensures { IfOk result (λ v. (a b : ℕ) → in_groups (groups_of v.items) a b ≡ (in_groups (held self.now).disjoint a b && (contains nat_cmp needed.now a && contains nat_cmp needed.now b))) }
     {
         let mut groups = Vec::new(alloc);
@@ -86,8 +89,13 @@ impl<'a> Hyp<'a> {
         ensures { IfOk result (λ h. hypothesis_held h ≡ hypothesis_held self.now) }
     {
         match self {
-            Hyp::Floating(label, typecode, variable) => Ok(Hyp::Floating(label, *typecode, *variable)),
-            Hyp::Essential(label, statement) => Ok(Hyp::Essential(label, Vec::from_slice(alloc, statement)?)),
+            Hyp::Floating(label, typecode, variable) => Ok(Hyp::Floating(
+                label, *typecode, *variable,
+            )),
+            Hyp::Essential(label, statement) => Ok(Hyp::Essential(
+                label,
+                Vec::from_slice(alloc, statement)?,
+            )),
         }
     }
 }

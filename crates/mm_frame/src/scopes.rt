@@ -1,15 +1,19 @@
 // What a database has declared so far, and what of it is active.
 
-ghost use Rattle.std.specs.Prelude.{◌≡◌, IfOk, option_map, bytes_eq, if◌then◌else◌, Some};
-ghost use Rattle.mm_text.specs.Bytes.{Token};
+ghost use Rattle.std.specs.Prelude.{◌≡◌, ℕ, option_map, slice_get};
 ghost use Rattle.mm_frame.specs.Held.{held, named};
-ghost use Rattle.mm_frame.specs.FramesHeld.{in_group, in_groups};
+ghost use Rattle.mm_frame.specs.FramesHeld.{in_group, in_groups, hypothesis_held, frame_held};
+ghost use Rattle.mm_frame.specs.Database.{Context, empty_context};
+ghost use Rattle.mm_frame.specs.Standing.{Stands, Tells, FrameFound};
+ghost use Rattle.mm_frame.specs.Validity.{first_open};
+ghost use Rattle.mm_frame.specs.Proofs.{active_hypothesis};
+ghost use Rattle.mm_frame.specs.Numbered.{named_hypothesis};
+ghost use Rattle.mm_frame.specs.HeldReads.{frame_named, symbol_is_variable, first_block, hypothesis_at, hypothesis_named};
 ghost use Rattle.mm_frame.specs.HeldTests.{is_held_active, is_held_typed, number_in};
 
+use crate::frames::{Frame, Hyp};
 use std::alloc::{AllocError, Global};
 use std::collections::BTreeMap;
-
-use crate::frames::{Frame, Hyp};
 
 /// What a token names. Symbols, hypotheses and assertions have numbers in the order in which they came.
 #[derive(Clone, Copy)]
@@ -68,6 +72,23 @@ pub(crate) enum Need {
 }
 
 impl<'a> Scopes<'a> {
+    /// The scopes of a database without statements. Takes no memory yet.
+    pub fn new(alloc: Global) -> Self
+        ensures { Stands (held result) empty_context }
+    {
+        Scopes {
+            names: BTreeMap::new(alloc),
+            symbols: Vec::new(alloc),
+            places: Vec::new(alloc),
+            types: Vec::new(alloc),
+            variables: Vec::new(alloc),
+            hyps: Vec::new(alloc),
+            disjoint: Vec::new(alloc),
+            blocks: Vec::new(alloc),
+            frames: Vec::new(alloc),
+        }
+    }
+
     /// What the token names.
     pub(crate) fn name(&self, word: &'a [u8]) -> Option<Name>
         ensures { result ≡ named self.now word.now }
@@ -102,7 +123,11 @@ impl<'a> Scopes<'a> {
         ensures { result ≡ number_in (held self.now) need word.now }
     {
         match self.name(word)? {
-            Name::Constant(n) => if need == Need::Variable { None } else { Some(n) },
+            Name::Constant(n) => if need == Need::Variable {
+                None
+            } else {
+                Some(n)
+            },
             Name::Variable(n) => {
                 if self.is_active_variable(n) && (need != Need::Typed || self.has_type(n)) {
                     Some(n)
@@ -114,8 +139,95 @@ impl<'a> Scopes<'a> {
         }
     }
 
-    /// Whether the two symbols are a pair of an active `$d`.
+    /// The token with this number, none exactly where no symbol has it. Takes no memory.
+    pub fn token(&self, symbol: u32) -> Option<&'a [u8]>
+        ensures { option_map (λ t. t.now) result ≡ option_map (λ s. s.token) (slice_get (held self.now).symbols symbol) }
+    {
+        let symbol = self.symbols.get(symbol as usize)?;
+        Some(symbol.token)
+    }
+
+    /// Whether the symbol was declared by a `$v`. Takes no memory.
+    pub fn is_variable(&self, symbol: u32) -> bool
+        ensures { Tells (held self.now) (λ c name. result ≡ c.variables (name symbol)) }
+    {
+        self.has_variable(symbol)
+    }
+
+    fn has_variable(&self, symbol: u32) -> bool
+        ensures { result ≡ symbol_is_variable (slice_get (held self.now).symbols symbol) }
+    {
+        match self.symbols.get(symbol as usize) {
+            None => false,
+            Some(symbol) => symbol.is_variable,
+        }
+    }
+
+    /// The byte of the first `${` that is not closed, none exactly where there is none. Takes no memory.
+    pub fn unclosed(&self) -> Option<usize>
+        ensures { (c : Context) → Stands (held self.now) c → result ≡ first_open c.blocks }
+    {
+        self.first_block()
+    }
+
+    fn first_block(&self) -> Option<usize>
+        ensures { result ≡ first_block (held self.now).blocks }
+    {
+        let block = self.blocks.first()?;
+        Some(block.at)
+    }
+
+    /// The active hypothesis with this label, none exactly where there is none. Takes no memory.
+    pub fn active(&self, label: &'a [u8]) -> Option<&Hyp<'a>>
+        ensures { Tells (held self.now) (λ c name. active_hypothesis c label.now ≡ option_map (λ h. named_hypothesis name (hypothesis_held h.now)) result) }
+    {
+        self.hypothesis(label)
+    }
+
+    fn hypothesis(&self, label: &'a [u8]) -> Option<&Hyp<'a>>
+        ensures { option_map (λ h. hypothesis_held h.now) result ≡ hypothesis_named (held self.now) label.now }
+    {
+        match self.name(label)? {
+            Name::Hypothesis(place) => self.hypothesis_at(place, label),
+            Name::Constant(_) | Name::Variable(_) | Name::Assertion(_) => None,
+        }
+    }
+
+    fn hypothesis_at(&self, place: usize, label: &'a [u8]) -> Option<&Hyp<'a>>
+        ensures { option_map (λ h. hypothesis_held h.now) result ≡ hypothesis_at label.now (slice_get (held self.now).hypotheses place) }
+    {
+        let hyp = self.hyps.get(place)?;
+        if hyp.label() == label {
+            Some(hyp)
+        } else {
+            None
+        }
+    }
+
+    /// The frame of the assertion with this label, none exactly where there is none. Takes no memory.
+    pub fn assertion(&self, label: &'a [u8]) -> Option<&Frame<'a>>
+        ensures { Tells (held self.now) (λ c name. FrameFound name (option_map (λ f. frame_held f.now) result) (c.frames label.now)) }
+    {
+        self.frame_named(label)
+    }
+
+    fn frame_named(&self, label: &'a [u8]) -> Option<&Frame<'a>>
+        ensures { option_map (λ f. frame_held f.now) result ≡ frame_named (held self.now) label.now }
+    {
+        match self.name(label)? {
+            Name::Assertion(place) => self.frames.get(place),
+            Name::Constant(_) | Name::Variable(_) | Name::Hypothesis(_) => None,
+        }
+    }
+
+    /// Whether the two symbols are a pair of an active `$d`. Takes no memory.
     pub fn apart(&self, a: u32, b: u32) -> bool
+        ensures { Tells (held self.now) (λ c name. result ≡ c.scope.apart (name a) (name b)) }
+    {
+        self.are_grouped(a, b)
+    }
+
+    fn are_grouped(&self, a: u32, b: u32) -> bool
         ensures { result ≡ in_groups (held self.now).disjoint a b }
     {
         for group in &self.disjoint {

@@ -1,7 +1,5 @@
-use Rattle.std.proofs.Common.{◌≡◌, ℕ, false, true, arith, is_some, ap, sym, ◌∙◌, drop}
+use Rattle.std.proofs.Common.{arith, is_some, ap, sym, ◌∙◌}
 use Rattle.std.proofs.lemmas.Map.Text.{btree_map_updates_str}
-use Rattle.mm_text.specs.Bytes.{has_token}
-use Rattle.mm_text.specs.Reader.{words_of}
 use Rattle.mm_frame.proofs.Repeats.{repeated-found, not-repeated, kept-more}
 use Rattle.mm_frame.proofs.judge.has_repeated.Goals as goal
 

@@ -1,4 +1,4 @@
-use Rattle.std.proofs.Common.{◌≡◌, ◌<◌, suc, ◌+◌, length, drop, get_or, drop-cons, add-one, ap, sym, ◌∙◌, arith, true, cond}
+use Rattle.std.proofs.Common.{◌≡◌, ◌<◌, suc, ◌+◌, length, drop, get_or, drop-cons, ap, sym, ◌∙◌, arith, true, cond}
 use Rattle.std.specs.Prelude.{nat_eq, ◌||◌}
 use Rattle.std.specs.Ordering.{nat_cmp}
 use Rattle.std.specs.BTreeSet.{contains}
@@ -13,7 +13,7 @@ loop-n-preserved c = λ n.
     let within : i < length c.args.numbers.now = omega arith in
     let next : suc i ≡ i + 1 = omega arith in
     set-step (contains nat_cmp c.loop-n.set n) (contains nat_cmp c.insert.new.self n) (nat_eq x n) (has_number (drop (i + 1) c.args.numbers.now) n)
-        (c.in_ok-insert.ensures.updates.0 n ∙ ap (λ b. cond b true (contains nat_cmp c.loop-n.set n)) (cmp-eq x n))
+    (c.in_ok-insert.ensures.updates.0 n ∙ ap (λ b. cond b true (contains nat_cmp c.loop-n.set n)) (cmp-eq x n))
     ∙ ap (λ k. contains nat_cmp c.loop-n.set n || (nat_eq x n || has_number (drop k c.args.numbers.now) n)) (sym next)
     ∙ ap (λ xs. contains nat_cmp c.loop-n.set n || has_number xs n) (sym (drop-cons c.args.numbers.now i 0 within))
     ∙ c.loop-n.invariant n

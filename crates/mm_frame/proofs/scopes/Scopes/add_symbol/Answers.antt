@@ -1,8 +1,7 @@
-use Rattle.std.proofs.Common.{◌≡◌, arith, ap, sym, ◌∙◌, length, rules, subst}
+use Rattle.std.proofs.Common.{arith, subst}
 use Rattle.std.proofs.lemmas.List.{length-map}
-use Rattle.mm_text.specs.Bytes.{Token}
 use Rattle.mm_frame.specs.Held.{held, symbol_held}
-use Rattle.mm_frame.specs.HeldSteps.{symbol_name, Names}
+use Rattle.mm_frame.specs.HeldSteps.{Names}
 use Rattle.mm_frame.specs.declared.scopes.Name.{Name}
 use Rattle.mm_frame.proofs.HeldAdds.{adds-symbol}
 use Rattle.mm_frame.proofs.scopes.Scopes.add_symbol.Goals as goal

@@ -3,7 +3,7 @@ use Rattle.std.specs.Prelude.{◌&&◌, ◌||◌, filter}
 use Rattle.std.specs.Global.{Vec}
 use Rattle.std.specs.Ordering.{nat_cmp}
 use Rattle.std.specs.BTreeSet.{contains}
-use Rattle.mm_frame.specs.FramesHeld.{in_group, in_groups, groups_of}
+use Rattle.mm_frame.specs.FramesHeld.{in_groups, groups_of}
 use Rattle.mm_frame.proofs.Groups.{groups-step}
 use Rattle.mm_frame.proofs.scopes.Scopes.apart_within.Goals as goal
 
