@@ -1,5 +1,7 @@
 -- Letters of a compressed proof that are read.
-use Rattle.std.specs.Prelude.{◌≡◌, ℕ, Bool, true, false, List, ◌++◌, map, Option, None, option_map}
+use Rattle.std.specs.Prelude.{◌≡◌, ℕ, Bool, true, false, List, ◌++◌, map, flat_map, Option, None, option_map}
+use Rattle.mm_text.specs.Reader.{words_of}
+use Rattle.mm_text.specs.declared.tokens.MmToken.{MmToken}
 use Rattle.mm_frame.specs.NumberedSteps.{NumberedStep}
 use Rattle.mm_verify.specs.declared.letters.ReadSteps.{ReadSteps}
 use Rattle.mm_verify.specs.Running.{step_of}
@@ -19,3 +21,7 @@ meant r letters = behind_steps (map step_of r.steps.items) (left_meanings (map s
 abbrev pub ReadsOn : ReadSteps → List ℕ → ReadSteps → Bool → Type 0
 ReadsOn old letters new true = (others : List ℕ) → meant old (letters ++ others) ≡ meant new others
 ReadsOn old letters new false = (others : List ℕ) → meant old (letters ++ others) ≡ None
+
+-- the letters of some tokens in a row
+abbrev pub letters_of : List ℕ → List MmToken → List ℕ
+letters_of bytes tokens = flat_map (λ t. t) (words_of bytes tokens)

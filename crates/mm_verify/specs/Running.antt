@@ -1,5 +1,6 @@
 -- Steps of a proof one behind another.
 use Rattle.std.specs.Prelude.{◌≡◌, ℕ, Bool, if◌then◌else◌, List, [], ◌∷◌, map, Option, Some, None, option_map, option_and_then}
+use Rattle.std.specs.Global.{Vec}
 use Rattle.std.specs.Cmp.Lexicographic.{pointwise}
 use Rattle.mm_frame.specs.Numbered.{NumberedPlace, NumberedHypothesis, numbered_floating, numbered_essential, same_numbers}
 use Rattle.mm_frame.specs.FramesHeld.{hypothesis_held}
@@ -21,6 +22,9 @@ step_of (step.Gives hyp) = gives (said_by (hypothesis_held hyp.now))
 step_of (step.Applies assertion) = applies (assertion_frame assertion.now)
 step_of step.Saves = saves_last
 step_of (step.Repeats number) = gives_saved number
+
+abbrev pub steps_in : Vec Step → List NumberedStep
+steps_in v = map step_of v.items
 
 abbrev pub saving_of : Machine → NumberedSaving
 saving_of m = numbered_saving m.stack m.saved

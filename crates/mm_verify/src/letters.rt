@@ -1,8 +1,9 @@
 // The letters of compressed proofs.
-ghost use Rattle.std.specs.Prelude.{◌≤◌, length};
+ghost use Rattle.std.specs.Prelude.{◌≤◌, length, ◌≡◌, IfOk, map, option_map, option_and_then};
 
 use crate::digits::{Behind, Letter, extended, meaning, read_letter, value};
 use crate::machine::Step;
+use mm_text::MmToken;
 use std::alloc::{AllocError, Global};
 
 /// The steps that letters stand for, as far as they are read. The table has the steps of the first
@@ -21,7 +22,9 @@ impl<'a> ReadSteps<'a> {
     ghost use Rattle.std.specs.Prelude.{◌≡◌, ℕ, ◌∷◌, [], IfOk, map};
     ghost use Rattle.mm_text.specs.Compressed.{letter_of, last_digit, digit, saves};
     ghost use Rattle.mm_verify.specs.Running.{step_of};
-    ghost use Rattle.mm_verify.specs.Reading.{ReadsOn};
+    ghost use Rattle.std.specs.Prelude.{option_map};
+    ghost use Rattle.mm_verify.specs.Running.{steps_in};
+    ghost use Rattle.mm_verify.specs.Reading.{meant, letters_of, ReadsOn};
 
     /// Nothing is read.
     fn new(alloc: Global, table: Vec<Step<'a>>) -> ReadSteps<'a>
@@ -92,5 +95,58 @@ impl<'a> ReadSteps<'a> {
         self.behind = Behind::Save;
         self.saved += 1;
         Ok(true)
+    }
+
+    /// Reads the letters of a token.
+    fn take_word(&mut self, word: &[u8]) -> Result<bool, AllocError>
+        ensures { IfOk result (ReadsOn self.old word.now self.new) }
+    {
+        for byte in word {
+            if !self.take_letter(*byte)? {
+                return Ok(false);
+            }
+        }
+        Ok(true)
+    }
+
+    /// Reads the letters of tokens.
+    fn take_words(&mut self, bytes: &[u8], tokens: &[MmToken]) -> Result<bool, AllocError>
+        ensures { IfOk result (ReadsOn self.old (letters_of bytes.now tokens.now) self.new) }
+    {
+        for token in tokens {
+            if !self.take_word(token.word(bytes))? {
+                return Ok(false);
+            }
+        }
+        Ok(true)
+    }
+
+    /// All steps, where the letters may end here.
+    fn ended(self) -> Option<Vec<Step<'a>>>
+        ensures { option_map steps_in result ≡ meant self.entry [] }
+    {
+        match self.behind {
+            Behind::Number | Behind::Save => Some(self.steps),
+            Behind::Nothing | Behind::Digits(_) => None,
+        }
+    }
+}
+
+/// The steps that the letters of some tokens stand for: none exactly where they stand for none. The
+/// table has the steps of the first numbers; the next numbers are those of the saved entries, in order.
+/// It takes time in the number of letters.
+pub(crate) fn read_letters<'a>(
+    alloc: Global,
+    table: Vec<Step<'a>>,
+    bytes: &[u8],
+    tokens: &[MmToken],
+) -> Result<Option<Vec<Step<'a>>>, AllocError>
+    ensures { IfOk result (λ r. option_map steps_in r ≡ option_and_then (numbered_meanings (map step_of table.entry.items) 0) (steps_of (letters_of bytes.now tokens.now))) }
+{
+    let mut read = ReadSteps::new(alloc, table);
+    if read.take_words(bytes, tokens)? {
+        Ok(read.ended())
+    } else {
+        Ok(None)
     }
 }
