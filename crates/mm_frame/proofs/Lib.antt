@@ -25,3 +25,4 @@ pub mod StandFrames
 pub mod StandStatements
 pub mod Taken
 pub mod StandReads
+pub mod StandSteps

@@ -24,3 +24,4 @@ pub mod Judging
 pub mod Standing
 pub mod Takes
 pub mod HeldReads
+pub mod StandingLaws

@@ -18,7 +18,7 @@ mod scopes;
 pub use declare::{Added, FrameEnd};
 pub use forms::{Form, Keyword, Plain, read_form};
 pub use frames::{Frame, Hyp};
-pub use laws::{database_laws, proof_laws, tried};
+pub use laws::{database_laws, proof_laws, scope_laws, tried};
 pub use scopes::Scopes;
 
 #[cfg(test)]

@@ -149,7 +149,8 @@ impl<'a> Scopes<'a> {
 
     /// Whether the symbol was declared by a `$v`. Takes no memory.
     pub fn is_variable(&self, symbol: u32) -> bool
-        ensures { Tells (held self.now) (λ c name. result ≡ c.variables (name symbol)) }
+        ensures held { result ≡ symbol_is_variable (slice_get (held self.now).symbols symbol) }
+        ensures tells { Tells (held self.now) (λ c name. result ≡ c.variables (name symbol)) }
     {
         self.has_variable(symbol)
     }
@@ -179,7 +180,8 @@ impl<'a> Scopes<'a> {
 
     /// The active hypothesis with this label, none exactly where there is none. Takes no memory.
     pub fn active(&self, label: &'a [u8]) -> Option<&Hyp<'a>>
-        ensures { Tells (held self.now) (λ c name. active_hypothesis c label.now ≡ option_map (λ h. named_hypothesis name (hypothesis_held h.now)) result) }
+        ensures held { option_map (λ h. hypothesis_held h.now) result ≡ hypothesis_named (held self.now) label.now }
+        ensures tells { Tells (held self.now) (λ c name. active_hypothesis c label.now ≡ option_map (λ h. named_hypothesis name (hypothesis_held h.now)) result) }
     {
         self.hypothesis(label)
     }
@@ -206,7 +208,8 @@ impl<'a> Scopes<'a> {
 
     /// The frame of the assertion with this label, none exactly where there is none. Takes no memory.
     pub fn assertion(&self, label: &'a [u8]) -> Option<&Frame<'a>>
-        ensures { Tells (held self.now) (λ c name. FrameFound name (option_map (λ f. frame_held f.now) result) (c.frames label.now)) }
+        ensures held { option_map (λ f. frame_held f.now) result ≡ frame_named (held self.now) label.now }
+        ensures tells { Tells (held self.now) (λ c name. FrameFound name (option_map (λ f. frame_held f.now) result) (c.frames label.now)) }
     {
         self.frame_named(label)
     }
@@ -222,7 +225,8 @@ impl<'a> Scopes<'a> {
 
     /// Whether the two symbols are a pair of an active `$d`. Takes no memory.
     pub fn apart(&self, a: u32, b: u32) -> bool
-        ensures { Tells (held self.now) (λ c name. result ≡ c.scope.apart (name a) (name b)) }
+        ensures held { result ≡ in_groups (held self.now).disjoint a b }
+        ensures tells { Tells (held self.now) (λ c name. result ≡ c.scope.apart (name a) (name b)) }
     {
         self.are_grouped(a, b)
     }

@@ -128,9 +128,15 @@ fn texts_have_their_statements(rt: HostRuntime) {
         let mut reader = MmTokens::new(text.as_bytes());
         let mut tokens = Vec::new(rt.alloc());
         for (from, len) in begins {
-            assert!(rt; reader.next_statement(&mut tokens) == Ok(MmFound::Statement), "{text}");
+            assert!(rt;
+                reader.next_statement(&mut tokens) == Ok(MmFound::Statement),
+                "{text}"
+            );
             assert_eq!(rt; tokens.len(), *len, "{text}");
-            assert!(rt; tokens.first().map(|token| token.from) == Some(*from), "{text}");
+            assert!(rt;
+                tokens.first().map(|token| token.from) == Some(*from),
+                "{text}"
+            );
         }
         let end = unended.map_or(MmFound::End, MmFound::Unended);
         assert!(rt; reader.next_statement(&mut tokens) == Ok(end), "{text}");

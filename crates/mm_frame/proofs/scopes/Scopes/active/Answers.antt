@@ -6,5 +6,5 @@ use Rattle.mm_frame.specs.FramesHeld.{hypothesis_held}
 use Rattle.mm_frame.proofs.StandReads.{hypothesis-found, map-twice}
 use Rattle.mm_frame.proofs.scopes.Scopes.active.Goals as goal
 
-pub returns : goal.returns
-returns a = λ c name w naming names. hypothesis-found (held a.args.self.now) c name w naming names a.args.label.now ∙ ap (option_map (named_hypothesis name)) (sym a.hypothesis.ensures) ∙ map-twice (λ h. hypothesis_held h.now) (named_hypothesis name) a.hypothesis.result
+pub returns-clause-tells : goal.returns-clause-tells
+returns-clause-tells a = λ c name w naming names. hypothesis-found (held a.args.self.now) c name w naming names a.args.label.now ∙ ap (option_map (named_hypothesis name)) (sym a.hypothesis.ensures) ∙ map-twice (λ h. hypothesis_held h.now) (named_hypothesis name) a.hypothesis.result
