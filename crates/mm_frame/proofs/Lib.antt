@@ -26,3 +26,4 @@ pub mod StandStatements
 pub mod Taken
 pub mod StandReads
 pub mod StandSteps
+mod FramesKept

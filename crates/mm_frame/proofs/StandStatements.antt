@@ -353,7 +353,7 @@ plain-added old c Theorem ls ws ps at said new w judged follows = go (stated_in 
 -- the end of a block
 
 closed-added : (old : Held) (c : Context) (blocks : List Block) (new : Held) (o : Option OpenBlock) → Stands old c → c.blocks ≡ blocks → is_open_in old.blocks ≡ true → ClosesBlock old new o → Stands new (with_block_closed c blocks)
-closed-added old c blocks new None w is opened taken = absurd (let none : is_open_in old.blocks ≡ false = ap is_open_in taken in let z : ⊥ = cc in z)
+closed-added old c blocks new None w is opened taken = absurd (let none : is_open_in old.blocks ≡ false = ap is_open_in taken.0 in let z : ⊥ = cc in z)
 closed-added old c [] new (Some o) w is opened taken = absurd (let none : is_open_in old.blocks ≡ false = sym (test-open old c w) ∙ ap is_open is in let z : ⊥ = cc in z)
 closed-added old c (b ∷ bs) new (Some o) w is opened taken = block-closed old c b bs o new w is taken
 

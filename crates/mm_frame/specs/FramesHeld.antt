@@ -40,6 +40,9 @@ frame_held f = record {
   statement = f.statement.items;
 }
 
+abbrev pub frames_held : List Frame → List NumberedFrame
+frames_held frames = map frame_held frames
+
 abbrev pub number_label : NumberedHypothesis → Token
 number_label (numbered_floating label typecode variable) = label
 number_label (numbered_essential label statement) = label

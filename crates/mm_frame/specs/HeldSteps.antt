@@ -73,7 +73,7 @@ OpensBlock old at new = new ≡ record old { blocks = old.blocks ++ block_at old
 
 -- the inmost block, which is the last, is taken away with what became active in it
 abbrev pub ClosesBlock : Held → Held → Option OpenBlock → Type 0
-ClosesBlock old new None = old.blocks ≡ []
+ClosesBlock old new None = (old.blocks ≡ []) × (new ≡ old)
 ClosesBlock old new (Some block) = (old.blocks ≡ new.blocks ++ block ∷ []) × (new ≡ record old {
   variables = take block.variables old.variables;
   hypotheses = take block.hyps old.hypotheses;

@@ -1,5 +1,5 @@
 -- What scopes do with one statement.
-use Rattle.std.specs.Prelude.{◌≡◌, ℕ, Some, None, Result, Ok, Err}
+use Rattle.std.specs.Prelude.{◌≡◌, ℕ, length, take, Some, None, Result, Ok, Err}
 use Rattle.mm_text.specs.FaultKinds.{fault}
 use Rattle.mm_text.specs.Statements.{Statement}
 use Rattle.mm_frame.specs.Forms.{form_of}
@@ -19,6 +19,10 @@ abbrev pub Takes : Context → Statement → Held → Held → Result Added Fram
 Takes c s old new (Ok added) = (declaration_fault c (form_of s.tokens) ≡ None) × Stands new (context_after c s)
 Takes c s old new (Err (Fault f)) = (declaration_fault c (form_of s.tokens) ≡ Some f.kind) × (f.at ≡ s.at) × (new ≡ old)
 Takes c s old new (Err Memory) = Unit {0}
+
+-- no frame is lost or changed
+abbrev pub KeepsFrames : Held → Held → Type 0
+KeepsFrames old new = take (length old.frames) new.frames ≡ old.frames
 
 -- cited by a private function alone
 abbrev pub end_at : Refusal → ℕ → FrameEnd

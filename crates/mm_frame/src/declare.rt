@@ -7,7 +7,7 @@ ghost use Rattle.mm_frame.specs.HeldFaults.{Judges};
 ghost use Rattle.mm_frame.specs.HeldSteps.{AddsConstants, VariableStep, AddsVariable, AddsVariables};
 ghost use Rattle.mm_frame.specs.Database.{Context};
 ghost use Rattle.mm_frame.specs.Standing.{Stands};
-ghost use Rattle.mm_frame.specs.Takes.{Takes, end_at};
+ghost use Rattle.mm_frame.specs.Takes.{Takes, KeepsFrames, end_at};
 ghost use Rattle.mm_frame.specs.Judging.{said_by, judged_plain, judged_form, Follows, OrFault};
 
 use crate::forms::{Form, Keyword, Plain, read_form};
@@ -67,7 +67,8 @@ impl<'a> Scopes<'a> {
         bytes: &'a [u8],
         tokens: &[MmToken],
     ) -> Result<Added, FrameEnd>
-        ensures { (c : Context) → Stands (held self.old) c → Takes c (statement_of bytes.now tokens.now) (held self.old) (held self.new) result }
+        ensures takes { (c : Context) → Stands (held self.old) c → Takes c (statement_of bytes.now tokens.now) (held self.old) (held self.new) result }
+        ensures frames { IfOk result (λ _. KeepsFrames (held self.old) (held self.new)) }
     {
         let at = first_byte(tokens);
         let Some(form) = read_form(bytes, tokens) else {

@@ -1,8 +1,8 @@
 // What a database has declared so far, and what of it is active.
 
-ghost use Rattle.std.specs.Prelude.{◌≡◌, ℕ, option_map, slice_get};
+ghost use Rattle.std.specs.Prelude.{◌≡◌, ℕ, option_map, slice_get, option_and_then, map};
 ghost use Rattle.mm_frame.specs.Held.{held, named};
-ghost use Rattle.mm_frame.specs.FramesHeld.{in_group, in_groups, hypothesis_held, frame_held};
+ghost use Rattle.mm_frame.specs.FramesHeld.{frames_held, in_group, in_groups, hypothesis_held, frame_held};
 ghost use Rattle.mm_frame.specs.Database.{Context, empty_context};
 ghost use Rattle.mm_frame.specs.Standing.{Stands, Tells, FrameFound};
 ghost use Rattle.mm_frame.specs.Validity.{first_open};
@@ -219,6 +219,24 @@ impl<'a> Scopes<'a> {
     {
         match self.name(label)? {
             Name::Assertion(place) => self.frames.get(place),
+            Name::Constant(_) | Name::Variable(_) | Name::Hypothesis(_) => None,
+        }
+    }
+
+    /// The frames of all assertions, in order.
+    pub fn frames(&self) -> &[Frame<'a>]
+        ensures { frames_held result.now ≡ (held self.now).frames }
+    {
+        &self.frames
+    }
+
+    /// The number, from 0, that the assertion with this label has among the frames, none exactly where
+    /// there is none. Takes no memory.
+    pub fn assertion_number(&self, label: &'a [u8]) -> Option<usize>
+        ensures { option_and_then (slice_get (held self.now).frames) result ≡ frame_named (held self.now) label.now }
+    {
+        match self.name(label)? {
+            Name::Assertion(place) => Some(place),
             Name::Constant(_) | Name::Variable(_) | Name::Hypothesis(_) => None,
         }
     }
