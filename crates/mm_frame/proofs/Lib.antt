@@ -27,3 +27,4 @@ pub mod Taken
 pub mod StandReads
 pub mod StandSteps
 mod FramesKept
+mod Proposed

@@ -203,7 +203,7 @@ no-fault-variables false None s said e = (refl, cc)
 no-fault-variables false (Some k) s said e = absurd (cc)
 
 -- the only label
-label-is : (h : Held) (ls : List Token) (l : Token) → label_in h ls ≡ Some l → (first_label ls ≡ l) × (h.names l ≡ None)
+pub label-is : (h : Held) (ls : List Token) (l : Token) → label_in h ls ≡ Some l → (first_label ls ≡ l) × (h.names l ≡ None)
 label-is h [] l e = absurd (cc)
 label-is h (m ∷ []) l e = go (is_label m) (h.names m) refl e
   where
@@ -275,7 +275,7 @@ stated-label h ls ws ns s (Some l) a b e =
     let same : record { label = l; symbols = ns } ≡ s = cc in
     subst (λ (r : Statement). StatedRead h ls ws r) same (record { numbers = a; labelled = b })
 
-stated-read : (h : Held) (ls ws : List Token) (s : Statement) → stated_in h ls ws ≡ Ok s → StatedRead h ls ws s
+pub stated-read : (h : Held) (ls ws : List Token) (s : Statement) → stated_in h ls ws ≡ Ok s → StatedRead h ls ws s
 stated-read h ls ws s g = go (numbers_in h need.Typed ws) refl g
   where
     begun : (b : Bool) (ns : List ℕ) → numbers_in h need.Typed ws ≡ Some ns → (if b then statement_under ns (label_in h ls) else Err 7) ≡ Ok s → StatedRead h ls ws s

@@ -25,3 +25,4 @@ pub mod Standing
 pub mod Takes
 pub mod HeldReads
 pub mod StandingLaws
+pub mod Proposing

@@ -227,7 +227,7 @@ impl<'a, 't> Said<'a, 't> {
 }
 
 /// The end at the statement with this first byte.
-fn end_at(refusal: Refusal, at: usize) -> FrameEnd
+pub(crate) fn end_at(refusal: Refusal, at: usize) -> FrameEnd
     ensures { result ≡ end_at refusal at }
 {
     match refusal {
@@ -237,7 +237,7 @@ fn end_at(refusal: Refusal, at: usize) -> FrameEnd
 }
 
 /// The byte of a statement's first token.
-fn first_byte(tokens: &[MmToken]) -> usize
+pub(crate) fn first_byte(tokens: &[MmToken]) -> usize
     ensures { (bytes : List ℕ) → result ≡ (statement_of bytes tokens.now).at }
 {
     match tokens.first() {
