@@ -1,8 +1,10 @@
 mod Alone
 mod Apartness
+mod Clashing
 mod Cuts
 mod FewSteps
 mod Fillings
 mod ReadLetters
+mod ReadProofs
 mod Placing
 mod Resolving

@@ -9,3 +9,5 @@ pub mod Running
 pub mod Digits
 pub mod Meaning
 pub mod Reading
+pub mod Citing
+pub mod ProofSteps

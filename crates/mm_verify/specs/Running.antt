@@ -2,7 +2,8 @@
 use Rattle.std.specs.Prelude.{◌≡◌, ℕ, Bool, if◌then◌else◌, List, [], ◌∷◌, map, Option, Some, None, option_map, option_and_then}
 use Rattle.std.specs.Global.{Vec}
 use Rattle.std.specs.Cmp.Lexicographic.{pointwise}
-use Rattle.mm_frame.specs.Numbered.{NumberedPlace, NumberedHypothesis, numbered_floating, numbered_essential, same_numbers}
+use Rattle.mm_frame.specs.Numbered.{NumberedPlace, same_numbers}
+use Rattle.mm_frame.specs.StandingLaws.{symbols_of}
 use Rattle.mm_frame.specs.FramesHeld.{hypothesis_held}
 use Rattle.mm_frame.specs.NumberedSteps.{NumberedStep, gives, applies, saves_last, gives_saved, NumberedSaving, numbered_saving, numbered_saving_after}
 use Rattle.mm_verify.specs.declared.machine.Machine.{Machine}
@@ -12,13 +13,8 @@ use Rattle.mm_verify.specs.declared.machine.ProofFault.{ProofFault}
 use Rattle.mm_verify.specs.declared.machine.ProofFault.TheVariants as fault
 use Rattle.mm_verify.specs.AssertionView.{assertion_frame}
 
--- the statement of a hypothesis
-abbrev pub said_by : NumberedHypothesis → List ℕ
-said_by (numbered_floating label typecode variable) = typecode ∷ (variable ∷ [])
-said_by (numbered_essential label statement) = statement
-
 abbrev pub step_of : Step → NumberedStep
-step_of (step.Gives hyp) = gives (said_by (hypothesis_held hyp.now))
+step_of (step.Gives hyp) = gives (symbols_of (hypothesis_held hyp.now))
 step_of (step.Applies assertion) = applies (assertion_frame assertion.now)
 step_of step.Saves = saves_last
 step_of (step.Repeats number) = gives_saved number

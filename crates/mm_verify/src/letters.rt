@@ -1,5 +1,5 @@
 // The letters of compressed proofs.
-ghost use Rattle.std.specs.Prelude.{◌≤◌, length, ◌≡◌, IfOk, map, option_map, option_and_then};
+ghost use Rattle.std.specs.Prelude.{◌≤◌, length};
 
 use crate::digits::{Behind, Letter, extended, meaning, read_letter, value};
 use crate::machine::Step;
@@ -27,7 +27,7 @@ impl<'a> ReadSteps<'a> {
     ghost use Rattle.mm_verify.specs.Reading.{meant, letters_of, ReadsOn};
 
     /// Nothing is read.
-    fn new(alloc: Global, table: Vec<Step<'a>>) -> ReadSteps<'a>
+    pub(crate) fn new(alloc: Global, table: Vec<Step<'a>>) -> ReadSteps<'a>
         ensures table { result.table ≡ table.entry }
         ensures steps { result.steps.items ≡ [] }
         ensures behind { result.behind ≡ Nothing }
@@ -110,7 +110,11 @@ impl<'a> ReadSteps<'a> {
     }
 
     /// Reads the letters of tokens.
-    fn take_words(&mut self, bytes: &[u8], tokens: &[MmToken]) -> Result<bool, AllocError>
+    pub(crate) fn take_words(
+        &mut self,
+        bytes: &[u8],
+        tokens: &[MmToken],
+    ) -> Result<bool, AllocError>
         ensures { IfOk result (ReadsOn self.old (letters_of bytes.now tokens.now) self.new) }
     {
         for token in tokens {
@@ -122,31 +126,12 @@ impl<'a> ReadSteps<'a> {
     }
 
     /// All steps, where the letters may end here.
-    fn ended(self) -> Option<Vec<Step<'a>>>
+    pub(crate) fn ended(self) -> Option<Vec<Step<'a>>>
         ensures { option_map steps_in result ≡ meant self.entry [] }
     {
         match self.behind {
             Behind::Number | Behind::Save => Some(self.steps),
             Behind::Nothing | Behind::Digits(_) => None,
         }
-    }
-}
-
-/// The steps that the letters of some tokens stand for: none exactly where they stand for none. The
-/// table has the steps of the first numbers; the next numbers are those of the saved entries, in order.
-/// It takes time in the number of letters.
-pub(crate) fn read_letters<'a>(
-    alloc: Global,
-    table: Vec<Step<'a>>,
-    bytes: &[u8],
-    tokens: &[MmToken],
-) -> Result<Option<Vec<Step<'a>>>, AllocError>
-    ensures { IfOk result (λ r. option_map steps_in r ≡ option_and_then (numbered_meanings (map step_of table.entry.items) 0) (steps_of (letters_of bytes.now tokens.now))) }
-{
-    let mut read = ReadSteps::new(alloc, table);
-    if read.take_words(bytes, tokens)? {
-        Ok(read.ended())
-    } else {
-        Ok(None)
     }
 }

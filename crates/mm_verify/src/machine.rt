@@ -2,8 +2,9 @@
 ghost use Rattle.std.specs.Prelude.{◌≡◌, Some, IfOk, [], map};
 ghost use Rattle.mm_frame.specs.NumberedSteps.{gives, saves_last, gives_saved, numbered_saving, numbered_saving_after};
 ghost use Rattle.mm_frame.specs.FramesHeld.{hypothesis_held};
+ghost use Rattle.mm_frame.specs.StandingLaws.{symbols_of};
 ghost use Rattle.mm_verify.specs.Applied.{Answers};
-ghost use Rattle.mm_verify.specs.Running.{said_by, step_of, saving_of, left_fault as left_fault_of, steps_fault};
+ghost use Rattle.mm_verify.specs.Running.{step_of, saving_of, left_fault as left_fault_of, steps_fault};
 
 use crate::applying::apply;
 use crate::assertion::Assertion;
@@ -68,7 +69,7 @@ impl Machine {
 
     /// Puts the statement of a hypothesis on top.
     fn give<P: Place>(&mut self, place: &P, hyp: &Hyp<'_>) -> Result<bool, AllocError>
-        ensures { IfOk result (Answers (numbered_saving_after (P.place place.now) (gives (said_by (hypothesis_held hyp.now))) (saving_of self.old)) (saving_of self.old) (saving_of self.new)) }
+        ensures { IfOk result (Answers (numbered_saving_after (P.place place.now) (gives (symbols_of (hypothesis_held hyp.now))) (saving_of self.old)) (saving_of self.old) (saving_of self.new)) }
     {
         match hyp {
             Hyp::Floating(_label, typecode, variable) => self.stack.push(&[*typecode, *variable])?,
