@@ -14,7 +14,7 @@ use Rattle.mm_frame.specs.FramesHeld.{frame_held}
 use Rattle.mm_frame.specs.FormsRead.{form_read, keyword_read}
 use Rattle.mm_frame.specs.Held.{Held}
 use Rattle.mm_frame.specs.HeldFaults.{Statement, Judges, stated_held, stated_in}
-use Rattle.mm_frame.specs.HeldFrames.{IsHeldFrame}
+use Rattle.mm_frame.specs.HeldFrames.{is_needed_number, is_mandatory_number, IsHeldFrame}
 use Rattle.mm_frame.specs.Judging.{judged_form, judged_plain, saying_states, error_of}
 use Rattle.mm_frame.specs.Standing.{NamesSymbols, Stands}
 use Rattle.mm_frame.specs.Takes.{end_at}
@@ -67,5 +67,7 @@ module _ (h : Held) (c : Context) (bytes : List ℕ) (ts : List MmToken) (p : Pl
     symbols = symbols;
     form = theorem-is ∙ ap (λ q. Some (plain labels proves symbols (words_of bytes q.now))) (sym proof);
     well = fault-is ∙ ap (λ r. error_of (saying_states r)) judged;
+    mandatory = is_mandatory_number (is_needed_number h.hypotheses s.symbols);
+    hypotheses = held.hypotheses;
     frame = frame-is s (frame_held t.frame) judged held;
   }
