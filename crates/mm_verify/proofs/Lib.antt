@@ -8,3 +8,4 @@ mod ReadLetters
 mod ReadProofs
 mod Placing
 mod Resolving
+mod StepsNamed

@@ -11,3 +11,4 @@ pub mod Meaning
 pub mod Reading
 pub mod Citing
 pub mod ProofSteps
+pub mod Judging
