@@ -9,3 +9,4 @@ mod ReadProofs
 mod Placing
 mod Resolving
 mod StepsNamed
+mod KindsNamed
