@@ -26,3 +26,4 @@ pub mod Takes
 pub mod HeldReads
 pub mod StandingLaws
 pub mod Proposing
+pub mod AddedView

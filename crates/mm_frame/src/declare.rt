@@ -1,6 +1,6 @@
 // One statement after another is judged and added.
 
-ghost use Rattle.std.specs.Prelude.{◌≡◌, ℕ, List, IfOk};
+ghost use Rattle.std.specs.Prelude.{◌≡◌, ℕ, List, IfOk, option_map, Some};
 ghost use Rattle.mm_text.specs.Reader.{words_of, statement_of};
 ghost use Rattle.mm_frame.specs.Held.{held};
 ghost use Rattle.mm_frame.specs.HeldFaults.{Judges};
@@ -8,6 +8,9 @@ ghost use Rattle.mm_frame.specs.HeldSteps.{AddsConstants, VariableStep, AddsVari
 ghost use Rattle.mm_frame.specs.Database.{Context};
 ghost use Rattle.mm_frame.specs.Standing.{Stands};
 ghost use Rattle.mm_frame.specs.Takes.{Takes, KeepsFrames, end_at};
+ghost use Rattle.mm_frame.specs.Forms.{form_of};
+ghost use Rattle.mm_frame.specs.FormsRead.{form_read};
+ghost use Rattle.mm_frame.specs.AddedView.{form_added};
 ghost use Rattle.mm_frame.specs.Judging.{said_by, judged_plain, judged_form, Follows, OrFault};
 
 use crate::forms::{Form, Keyword, Plain, read_form};
@@ -69,6 +72,7 @@ impl<'a> Scopes<'a> {
     ) -> Result<Added, FrameEnd>
         ensures takes { (c : Context) → Stands (held self.old) c → Takes c (statement_of bytes.now tokens.now) (held self.old) (held self.new) result }
         ensures frames { IfOk result (λ _. KeepsFrames (held self.old) (held self.new)) }
+        ensures added { IfOk result (λ a. option_map form_added (form_of (statement_of bytes.now tokens.now).tokens) ≡ Some a) }
     {
         let at = first_byte(tokens);
         let Some(form) = read_form(bytes, tokens) else {
@@ -78,7 +82,7 @@ impl<'a> Scopes<'a> {
             Err(refusal) => return Err(end_at(refusal, at)),
             Ok(said) => said,
         };
-        let added = said.added();
+        let added = added_by(&form);
         match self.add(alloc, bytes, at, said) {
             Err(AllocError) => Err(FrameEnd::Memory),
             Ok(()) => Ok(added),
@@ -213,16 +217,18 @@ impl<'a> Scopes<'a> {
     }
 }
 
-impl<'a, 't> Said<'a, 't> {
-    /// What adding it adds.
-    fn added(&self) -> Added {
-        match self {
-            Said::Opens | Said::Closes => Added::Block,
-            Said::Constants(_) | Said::Variables(_) => Added::Symbols,
-            Said::Hypothesis(_) => Added::Hypothesis,
-            Said::Disjoint(_) => Added::Disjoint,
-            Said::Assertion(_) => Added::Assertion,
-        }
+/// What a statement of this form adds.
+fn added_by(form: &Form<'_>) -> Added
+    ensures { (bytes : List ℕ) → result ≡ form_added (form_read bytes form.now) }
+{
+    match form {
+        Form::BlockStart | Form::BlockEnd => Added::Block,
+        Form::Plain(plain) => match plain.keyword {
+            Keyword::Constants | Keyword::Variables => Added::Symbols,
+            Keyword::Floating | Keyword::Essential => Added::Hypothesis,
+            Keyword::Disjoint => Added::Disjoint,
+            Keyword::Axiom | Keyword::Theorem => Added::Assertion,
+        },
     }
 }
 

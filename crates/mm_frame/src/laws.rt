@@ -1,7 +1,7 @@
 // Laws on the definitions, and the definitions tried on small texts.
 ghost use Rattle.mm_frame.specs.Cases.{TriedCases};
 ghost use Rattle.mm_frame.specs.Numbered.{AppliedIsNamed};
-ghost use Rattle.mm_frame.specs.FrameLaws.{AppendedIsFine, AppendedStates, FineWhereActive, FirstFaultIsComputed, PlainTokensSay, ProofTokensSay, SavingIsExpanding, StacksAreForests, ValidIsFaultless, WrittenIsFine};
+ghost use Rattle.mm_frame.specs.FrameLaws.{AppendedIsFine, AppendedStates, FaultlessIsFine, FineWhereActive, FirstFaultIsComputed, PlainTokensSay, ProofTokensSay, SavingIsExpanding, StacksAreForests, ValidIsFaultless, WrittenIsFine};
 ghost use Rattle.mm_frame.specs.NumberedSteps.{StepIsNamed};
 ghost use Rattle.mm_frame.specs.Orderly.{EmptyIsOrderly, OrderlyAfter};
 ghost use Rattle.mm_frame.specs.Sharing.{SharingIsExact};
@@ -21,6 +21,7 @@ pub fn proof_laws()
     ensures saving { SavingIsExpanding }
     ensures sharing { SharingIsExact }
     ensures valid { ValidIsFaultless }
+    ensures fine { FaultlessIsFine }
     ensures active { FineWhereActive }
     ensures empty { EmptyIsOrderly }
     ensures orderly { OrderlyAfter }

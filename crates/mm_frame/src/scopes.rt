@@ -1,6 +1,6 @@
 // What a database has declared so far, and what of it is active.
 
-ghost use Rattle.std.specs.Prelude.{◌≡◌, ℕ, option_map, slice_get, option_and_then, map};
+ghost use Rattle.std.specs.Prelude.{◌≡◌, ℕ, option_map, slice_get, option_and_then, map, []};
 ghost use Rattle.mm_frame.specs.Held.{held, named};
 ghost use Rattle.mm_frame.specs.FramesHeld.{frames_held, in_group, in_groups, hypothesis_held, frame_held};
 ghost use Rattle.mm_frame.specs.Database.{Context, empty_context};
@@ -74,7 +74,8 @@ pub(crate) enum Need {
 impl<'a> Scopes<'a> {
     /// The scopes of a database without statements. Takes no memory yet.
     pub fn new(alloc: Global) -> Self
-        ensures { Stands (held result) empty_context }
+        ensures stands { Stands (held result) empty_context }
+        ensures frames { (held result).frames ≡ [] }
     {
         Scopes {
             names: BTreeMap::new(alloc),
