@@ -141,15 +141,15 @@ module _ (laws : Laws) (h : Held) (c : Context) (name : ℕ → Token) (stands :
         table : AreNamed name c (map (λ l. cites l) (mandatory_labels f ++ listed)) (given_steps n.hypotheses ++ ns)
         table =
             subst (λ (ls : List Token). AreNamed name c (map (λ l. cites l) (ls ++ listed)) (given_steps n.hypotheses ++ ns)) (sym labels-are)
-                (subst (λ (ss : List Step). AreNamed name c ss (given_steps n.hypotheses ++ ns)) (sym (cites-append (labels_in n.hypotheses) listed))
-                    (named-append name c (map (λ l. cites l) (labels_in n.hypotheses)) (map (λ l. cites l) listed) (given_steps n.hypotheses) ns given a))
+            (subst (λ (ss : List Step). AreNamed name c ss (given_steps n.hypotheses ++ ns)) (sym (cites-append (labels_in n.hypotheses) listed))
+            (named-append name c (map (λ l. cites l) (labels_in n.hypotheses)) (map (λ l. cites l) listed) (given_steps n.hypotheses) ns given a))
 
         meant : (ks : List CompressedStep) (o : Option (List Step)) (q : Option (List NumberedStep)) → steps_of letters ≡ Some ks → meanings (mandatory_labels f ++ listed) 0 ks ≡ o → MeanNamed name c o q → TextNamed (option_map (expansion (arity c)) o) q
         meant ks o None e m w = subst (λ (x : Option (List Step)). TextNamed (option_map (expansion (arity c)) x) None) (sym w) tt
         meant ks o (Some qs) e m w =
             let steps : compressed_steps f listed letters ≡ Some w.0 = ap (option_and_then (meanings (mandatory_labels f ++ listed) 0)) e ∙ m ∙ w.1 in
             subst (λ (x : Option (List Step)). TextNamed (option_map (expansion (arity c)) x) (Some qs)) (sym w.1)
-                (sym (laws.saving c f listed letters w.0 steps) ∙ runs w.0 qs w.2)
+            (sym (laws.saving c f listed letters w.0 steps) ∙ runs w.0 qs w.2)
 
         go : (o : Option (List CompressedStep)) → steps_of letters ≡ o → TextNamed (option_map (expansion (arity c)) (option_and_then (meanings (mandatory_labels f ++ listed) 0) o)) (option_and_then (numbered_meanings (given_steps n.hypotheses ++ ns) 0) o)
         go None e = tt
@@ -185,7 +185,7 @@ module _ (laws : Laws) (h : Held) (c : Context) (name : ℕ → Token) (stands :
         cite false e (Some ns) a =
             let listed-well : are_listed c (mandatory_labels f) (before_close tokens) ≡ true = listed-are (before_close tokens) ∙ ap (λ (b : Bool). b && not (clashes (labels_in n.hypotheses) (before_close tokens))) a.0 ∙ ap (λ (b : Bool). not b) e in
             subst (λ (b : Bool). TextNamed (if b then option_map (expansion (arity c)) (compressed_steps f (before_close tokens) (flat_map (λ t. t) (behind_close tokens))) else None) (lettered n.hypotheses (flat_map (λ t. t) (behind_close tokens)) ns)) (sym listed-well)
-                (letters-named (before_close tokens) (flat_map (λ t. t) (behind_close tokens)) ns a.1)
+            (letters-named (before_close tokens) (flat_map (λ t. t) (behind_close tokens)) ns a.1)
 
         ends : (b : Bool) → TextNamed (if b && are_listed c (mandatory_labels f) (before_close tokens) then option_map (expansion (arity c)) (compressed_steps f (before_close tokens) (flat_map (λ t. t) (behind_close tokens))) else None) (if b then option_and_then (lettered n.hypotheses (flat_map (λ t. t) (behind_close tokens))) (listed_steps h n.hypotheses (before_close tokens)) else None)
         ends true = cite (clashes (labels_in n.hypotheses) (before_close tokens)) refl (all_cited h (before_close tokens)) (all-cited-named (before_close tokens))

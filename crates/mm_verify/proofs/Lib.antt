@@ -10,3 +10,5 @@ mod Placing
 mod Resolving
 mod StepsNamed
 mod KindsNamed
+mod CheckedStatements
+mod MoreFrames

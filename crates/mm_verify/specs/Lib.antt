@@ -12,3 +12,7 @@ pub mod Reading
 pub mod Citing
 pub mod ProofSteps
 pub mod Judging
+pub mod Checking
+pub mod Stating
+pub mod Counting
+pub mod Verifying

@@ -9,6 +9,7 @@ use crate::place::Place;
 use mm_frame::Scopes;
 
 /// What is declared before a statement, and its assertions as steps use them, in order.
+#[derive(Drop)]
 pub(crate) struct Known<'s, 'a> {
     scopes: &'s Scopes<'a>,
     assertions: &'s [Assertion<'a>],
