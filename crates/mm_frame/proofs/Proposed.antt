@@ -1,11 +1,10 @@
 -- A `$p` that was judged is to be what the definitions say.
-use Rattle.std.proofs.Common.{◌≡◌, ℕ, List, refl, ap, sym, ◌∙◌, subst, arith}
-use Rattle.std.specs.Prelude.{Option, Some, None, Ok, Err}
+use Rattle.std.proofs.Common.{◌≡◌, ℕ, List, ap, sym, ◌∙◌, subst}
+use Rattle.std.specs.Prelude.{Some, Ok, Err}
 use Rattle.mm_text.specs.Bytes.{Token}
 use Rattle.mm_text.specs.Reader.{words_of, statement_of}
 use Rattle.mm_text.specs.declared.tokens.MmToken.{MmToken}
 use Rattle.mm_frame.specs.Forms.{proves, plain, form_of}
-use Rattle.mm_frame.specs.Forms as forms
 use Rattle.mm_frame.specs.Frames.{frame_of}
 use Rattle.mm_frame.specs.Database.{Context, first_label}
 use Rattle.mm_frame.specs.Validity.{declaration_fault}
@@ -15,7 +14,7 @@ use Rattle.mm_frame.specs.FormsRead.{form_read, keyword_read}
 use Rattle.mm_frame.specs.Held.{Held}
 use Rattle.mm_frame.specs.HeldFaults.{Statement, Judges, stated_held, stated_in}
 use Rattle.mm_frame.specs.HeldFrames.{is_needed_number, is_mandatory_number, IsHeldFrame}
-use Rattle.mm_frame.specs.Judging.{judged_form, judged_plain, saying_states, error_of}
+use Rattle.mm_frame.specs.Judging.{judged_plain, saying_states, error_of}
 use Rattle.mm_frame.specs.Standing.{NamesSymbols, Stands}
 use Rattle.mm_frame.specs.Takes.{end_at}
 use Rattle.mm_frame.specs.Proposing.{IsProposed, Proposes}

@@ -1,18 +1,14 @@
 -- The laws on scopes that stand for a context.
-use Rattle.std.proofs.Common.{◌≡◌, ℕ, true, false, List, [], ◌∷◌, refl, ap, sym, ◌∙◌, subst, is_some}
-use Rattle.std.specs.Prelude.{◌||◌, map, slice_get, Option, Some, None, option_map, bytes_eq, if◌then◌else◌}
-use Rattle.std.proofs.lemmas.Slice.Eq.{bytes_eq-Decides}
+use Rattle.std.proofs.Common.{◌≡◌, ℕ, refl, ap, sym, ◌∙◌, is_some}
+use Rattle.std.specs.Prelude.{◌||◌, Option, Some, None, option_map}
 use Rattle.mm_text.specs.Bytes.{Token}
 use Rattle.mm_frame.specs.Frames.{Hypothesis, Frame, statement_of}
-use Rattle.mm_frame.specs.Database.{Context}
-use Rattle.mm_frame.specs.Expansion.{is_citable}
 use Rattle.mm_frame.specs.Proofs.{active_hypothesis}
-use Rattle.mm_frame.specs.Numbered.{NumberedHypothesis, numbered_floating, numbered_essential, NumberedFrame, IsNaming, named, named_hypothesis, IsNamedFrame}
+use Rattle.mm_frame.specs.Numbered.{NumberedHypothesis, numbered_floating, numbered_essential, NumberedFrame, named, named_hypothesis}
 use Rattle.mm_frame.specs.NumberedSteps.{NamesFrame}
-use Rattle.mm_frame.specs.Orderly.{IsOrderly}
 use Rattle.mm_frame.specs.Held.{Held}
-use Rattle.mm_frame.specs.HeldReads.{hypothesis_at, hypothesis_by_name, hypothesis_named, frame_by_name, frame_named}
-use Rattle.mm_frame.specs.Standing.{NamesSymbols, FrameFound, Stands}
+use Rattle.mm_frame.specs.HeldReads.{hypothesis_by_name, frame_by_name}
+use Rattle.mm_frame.specs.Standing.{FrameFound}
 use Rattle.mm_frame.specs.StandingLaws.{symbols_of, NamingExists, PlaceStands, HypothesisStands, FrameCited, NothingCited}
 use Rattle.mm_frame.specs.declared.scopes.Name.{Name}
 use Rattle.mm_frame.specs.declared.scopes.Name.TheVariants.{Constant, Variable, Hypothesis as HypothesisName, Assertion}

@@ -1,5 +1,5 @@
 -- The groups of an assertion are kept apart just where its frame's pairs are.
-use Rattle.std.proofs.Common.{◌≡◌, ℕ, zero, suc, ◌+◌, ◌<◌, Bool, true, false, List, [], ◌∷◌, ◌++◌, length, take, drop, get_or, map, flat_map, nat_eq, Option, Some, None, cond, refl, ap, ◌∙◌, sym, subst, arith, rules}
+use Rattle.std.proofs.Common.{◌≡◌, ℕ, ◌+◌, Bool, true, false, List, [], ◌∷◌, length, map, flat_map, nat_eq, Option, Some, None, cond, refl, ap, ◌∙◌, sym, arith}
 use Rattle.std.specs.Prelude.{not, ◌&&◌, ◌||◌, is_some}
 use Rattle.std.specs.List.{position_from, list_any, list_all}
 use Rattle.std.specs.Global.{Vec}
@@ -7,7 +7,7 @@ use Rattle.mm_frame.specs.Numbered.{NumberedHypothesis, numbered_floating, numbe
 use Rattle.mm_frame.specs.FramesHeld.{types_number, has_number, in_group, in_groups}
 use Rattle.mm_verify.specs.declared.parts.Part.{Part}
 use Rattle.mm_verify.specs.Places.{place_of, place_in, symbol_of, parts_of, symbols_in, ArePlaced}
-use Rattle.mm_verify.specs.Filling.{text_at, places_apart, are_parts_apart, is_group_apart, are_groups_apart}
+use Rattle.mm_verify.specs.Filling.{places_apart, are_parts_apart, is_group_apart, are_groups_apart}
 use Rattle.mm_verify.proofs.Resolving.{same-test, both-true, and-true, first-placed, others-placed, placed-front, placed-behind, at_place, bound, sigma-place}
 
 eq-from : (a b : ℕ) → nat_eq a b ≡ true → a ≡ b

@@ -1,18 +1,17 @@
 -- Laws on the faults of statements.
-use Rattle.std.proofs.Common.{◌≡◌, ℕ, Bool, true, false, List, [], ◌∷◌, map, Option, Some, None, refl, ap, sym, ◌∙◌, subst}
-use Rattle.std.specs.Prelude.{if◌then◌else◌, is_none, option_map, Result, Ok, Err}
+use Rattle.std.proofs.Common.{◌≡◌, ℕ, Bool, true, false, List, Option, Some, None, refl, ap, sym, ◌∙◌, subst}
+use Rattle.std.specs.Prelude.{option_map, Ok, Err}
 use Rattle.mm_text.specs.Bytes.{Token}
-use Rattle.mm_text.specs.FaultKinds.{bad_proof_text}
 use Rattle.mm_text.specs.Statements.{Statement}
 use Rattle.mm_text.specs.Reader.{words_of}
-use Rattle.mm_frame.specs.Forms.{Keyword, declares_constants, declares_variables, types_variable, assumes, separates, asserts, proves, Form, block_start, block_end, plain, form_of}
+use Rattle.mm_frame.specs.Forms.{declares_constants, declares_variables, types_variable, assumes, separates, asserts, proves, Form, block_start, block_end, plain, form_of}
 use Rattle.mm_frame.specs.Frames.{frame_of}
-use Rattle.mm_frame.specs.Database.{Context, first_label, context_after}
-use Rattle.mm_frame.specs.Validity.{or_else, Task, task, task_of, task_fault, declaration_fault, proof_text_fault, form_fault, statement_fault}
+use Rattle.mm_frame.specs.Database.{Context, first_label}
+use Rattle.mm_frame.specs.Validity.{or_else, task, task_fault, declaration_fault, proof_text_fault, statement_fault}
 use Rattle.mm_frame.specs.FrameLaws.{FaultlessIsFine}
 use Rattle.mm_frame.specs.Orderly.{IsOrderly, OrderlyAfter}
 use Rattle.mm_frame.specs.FramesHeld.{frame_held}
-use Rattle.mm_frame.specs.Held.{Held, held}
+use Rattle.mm_frame.specs.Held.{Held}
 use Rattle.mm_frame.specs.Standing.{Stands}
 use Rattle.mm_frame.specs.StandingLaws.{place_of, NamingExists}
 use Rattle.mm_frame.specs.Takes.{Takes}
@@ -30,7 +29,7 @@ use Rattle.mm_verify.specs.declared.ends.VerifyEnd.TheVariants.{Invalid, Memory}
 use Rattle.mm_verify.specs.ProofSteps.{proof_steps}
 use Rattle.mm_verify.specs.Judging.{proof_kind}
 use Rattle.mm_verify.specs.Stating.{stated_for, end_for}
-use Rattle.mm_verify.specs.Checking.{HasFrames, IsBehind, form_stated, Checks, ChecksProof, Declares}
+use Rattle.mm_verify.specs.Checking.{form_stated, Checks, ChecksProof, Declares}
 use Rattle.mm_verify.proofs.KindsNamed.{Laws, kind-named}
 
 declared-fault : (c : Context) (tokens : List Token) (kind : ℕ) → declaration_fault c (form_of tokens) ≡ Some kind → statement_fault c tokens ≡ Some kind

@@ -1,6 +1,6 @@
 -- Laws on lists in pieces.
-use Rattle.std.proofs.Common.{◌≡◌, ℕ, zero, suc, ◌+◌, ◌-◌, ◌<◌, ◌≤◌, List, [], ◌∷◌, ◌++◌, length, take, drop, get_or, refl, ap, ◌∙◌, sym, subst, arith, rules, length-append, length-take, length-drop, append_assoc}
-use Rattle.std.proofs.lemmas.List.{take-append-le, drop-append-le, take_all, take_at, drop_at, take-take, length-take-le, get_or_default}
+use Rattle.std.proofs.Common.{◌≡◌, ℕ, zero, suc, ◌+◌, ◌-◌, ◌<◌, ◌≤◌, List, [], ◌∷◌, ◌++◌, length, take, drop, get_or, refl, ap, ◌∙◌, sym, subst, arith, length-append, length-drop}
+use Rattle.std.proofs.lemmas.List.{take-append-le, take_all, drop_at, take-take, get_or_default}
 use Rattle.std.proofs.lemmas.Slice.{between_is}
 use Rattle.mm_verify.specs.Cut.{cut, AreEnds, start_of}
 

@@ -1,5 +1,5 @@
 -- There are not more steps than memory has room for.
-use Rattle.std.proofs.Common.{◌+◌, ◌≤◌, ◌<◌, ◌^◌, length, arith, rules}
+use Rattle.std.proofs.Common.{◌+◌, ◌≤◌, ◌<◌, ◌^◌, length, arith}
 use Rattle.std.specs.Global.{Vec}
 use Rattle.mm_verify.specs.declared.letters.ReadSteps.{ReadSteps}
 

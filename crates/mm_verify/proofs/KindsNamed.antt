@@ -11,9 +11,9 @@ use Rattle.mm_frame.specs.Frames.{Hypothesis, label_of, Frame}
 use Rattle.mm_frame.specs.Database.{Context}
 use Rattle.mm_frame.specs.Proofs.{Expression}
 use Rattle.mm_frame.specs.Expansion.{arity, is_citable, Step, cites, meanings, has_repeated, before_close, behind_close, are_listed, mandatory_labels, compressed_steps, compressed_labels, expansion, labels_of}
-use Rattle.mm_frame.specs.Stack.{stack_after, compressed_stack, saving, saving_after}
+use Rattle.mm_frame.specs.Stack.{stack_after, saving, saving_after}
 use Rattle.mm_frame.specs.Numbered.{NumberedHypothesis, numbered_floating, numbered_essential, NumberedFrame, IsNaming, named, named_hypothesis, IsNamedFrame}
-use Rattle.mm_frame.specs.NumberedSteps.{NumberedStep, gives, applies, NumberedSaving, numbered_saving, named_saving, IsNamedStep, StepIsNamed}
+use Rattle.mm_frame.specs.NumberedSteps.{NumberedStep, numbered_saving, named_saving, IsNamedStep, StepIsNamed}
 use Rattle.mm_frame.specs.FrameLaws.{SavingIsExpanding}
 use Rattle.mm_frame.specs.Orderly.{IsOrderly}
 use Rattle.mm_frame.specs.Validity.{or_else, Task, task_of, task_fault, stack_fault}
@@ -21,12 +21,12 @@ use Rattle.mm_frame.specs.FramesHeld.{number_label}
 use Rattle.mm_frame.specs.Held.{Held}
 use Rattle.mm_frame.specs.HeldReads.{hypothesis_named, hypothesis_by_name, hypothesis_at, frame_named}
 use Rattle.mm_frame.specs.Standing.{NamesSymbols, Stands}
-use Rattle.mm_frame.specs.StandingLaws.{symbols_of, place_of, PlaceStands, HypothesisStands, FrameCited, NothingCited}
+use Rattle.mm_frame.specs.StandingLaws.{place_of, PlaceStands, HypothesisStands, FrameCited, NothingCited}
 use Rattle.mm_verify.specs.Meaning.{with_meaning, numbered_meanings}
-use Rattle.mm_verify.specs.Running.{numbered_saving_behind, left_fault}
+use Rattle.mm_verify.specs.Running.{numbered_saving_behind}
 use Rattle.mm_verify.specs.Citing.{cited, cited_at, all_cited}
 use Rattle.mm_verify.specs.ProofSteps.{given_steps, labels_in, clashes, listed_steps, lettered, compressed_proof, proof_steps}
-use Rattle.mm_verify.specs.Judging.{kind_of, proof_kind}
+use Rattle.mm_verify.specs.Judging.{proof_kind}
 use Rattle.mm_verify.proofs.StepsNamed.{AreNamed, named-append, run-named, labels-run, MeanNamed, meanings-named, left-named, clashes-are}
 
 -- the laws of the definitions that the steps of a proof need

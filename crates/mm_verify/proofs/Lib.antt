@@ -12,3 +12,4 @@ mod StepsNamed
 mod KindsNamed
 mod CheckedStatements
 mod MoreFrames
+mod VerdictLaws

@@ -1,5 +1,5 @@
 -- One more assertion for one more frame.
-use Rattle.std.proofs.Common.{◌≡◌, ℕ, ◌+◌, ◌<◌, List, [], ◌∷◌, ◌++◌, length, take, get_or, map, refl, ap, ◌∙◌, sym, arith}
+use Rattle.std.proofs.Common.{◌≡◌, ℕ, ◌<◌, List, [], ◌∷◌, ◌++◌, length, take, get_or, map, ap, ◌∙◌, sym, arith}
 use Rattle.std.proofs.lemmas.List.{take_more, map-append, get_or-map, length_push, length-map}
 use Rattle.mm_frame.specs.Numbered.{NumberedFrame}
 use Rattle.mm_frame.specs.FramesHeld.{frame_held, frames_held}

@@ -1,5 +1,5 @@
 -- Laws on the places of variables.
-use Rattle.std.proofs.Common.{◌≡◌, ℕ, suc, ◌+◌, ◌<◌, Bool, true, false, List, [], ◌∷◌, ◌++◌, length, take, drop, get_or, map, flat_map, Option, Some, None, cond, refl, ap, ◌∙◌, sym, subst, arith, rules}
+use Rattle.std.proofs.Common.{◌≡◌, ℕ, suc, ◌+◌, ◌<◌, Bool, true, false, List, [], ◌∷◌, ◌++◌, length, take, get_or, map, Option, Some, None, cond, refl, ap, ◌∙◌, sym, arith}
 use Rattle.std.proofs.lemmas.List.{take_more, length-take-le}
 use Rattle.std.specs.List.{position_from}
 use Rattle.std.specs.Ordering.{nat_cmp}
@@ -7,7 +7,7 @@ use Rattle.std.specs.BTreeMap.{BTreeMap, get}
 use Rattle.mm_frame.specs.Numbered.{NumberedHypothesis}
 use Rattle.mm_frame.specs.FramesHeld.{types_number}
 use Rattle.mm_verify.specs.declared.parts.Part.{Part}
-use Rattle.mm_verify.specs.Places.{first_place, place_of, place_in, symbol_of, ArePlaced, AreLocated, Locates}
+use Rattle.mm_verify.specs.Places.{first_place, place_of, symbol_of, ArePlaced, AreLocated, Locates}
 
 pub position_from-push : {K : Type 0} (t : K → Bool) (i : ℕ) (xs : List K) (x : K) → position_from t i (xs ++ x ∷ []) ≡ first_place (position_from t i xs) (t x) (i + length xs)
 position_from-push t i [] x = here (t x)

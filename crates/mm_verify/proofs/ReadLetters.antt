@@ -1,6 +1,6 @@
 -- Laws on the letters of compressed proofs.
-use Rattle.std.proofs.Common.{◌≡◌, ℕ, zero, suc, ◌+◌, ◌-◌, ◌*◌, ◌<◌, ◌≤◌, Bool, true, false, List, [], ◌∷◌, ◌++◌, length, get_or, Option, Some, None, refl, ap, ◌∙◌, sym, subst, arith, rules, append_assoc}
-use Rattle.std.specs.Prelude.{nat_lt, if◌then◌else◌, option_map, option_and_then}
+use Rattle.std.proofs.Common.{◌≡◌, ℕ, zero, suc, ◌+◌, ◌-◌, ◌*◌, ◌<◌, ◌≤◌, Bool, true, false, List, [], ◌∷◌, ◌++◌, length, get_or, Option, Some, None, refl, ap, ◌∙◌, sym, arith, append_assoc}
+use Rattle.std.specs.Prelude.{nat_lt, if◌then◌else◌, option_and_then}
 use Rattle.mm_text.specs.Compressed.{Letter, last_digit, digit, saves, no_letter, letter_of, Before, beginning, digits, a_number, a_save, value_before, before_next, CompressedStep, numbered, save, steps_of_letter, joined_steps, steps_from}
 use Rattle.mm_frame.specs.NumberedSteps.{NumberedStep, saves_last, gives_saved}
 use Rattle.mm_verify.specs.Meaning.{numbered_meaning, with_meaning, numbered_meanings, left_meanings}

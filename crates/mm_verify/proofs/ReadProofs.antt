@@ -1,9 +1,9 @@
 -- Laws on the texts of proofs.
-use Rattle.std.proofs.Common.{◌≡◌, ℕ, Bool, true, false, List, [], ◌∷◌, ◌++◌, map, flat_map, Option, Some, None, refl, ap, sym, ◌∙◌, subst}
-use Rattle.std.specs.Prelude.{option_map, option_and_then, if◌then◌else◌, codes}
+use Rattle.std.proofs.Common.{◌≡◌, ℕ, Bool, true, List, [], ◌∷◌, ◌++◌, map, flat_map, Option, Some, None, refl, ap, sym, ◌∙◌}
+use Rattle.std.specs.Prelude.{option_and_then, if◌then◌else◌, codes}
 use Rattle.std.specs.Global.{Vec}
 use Rattle.mm_text.specs.Bytes.{Token, has_token}
-use Rattle.mm_text.specs.Compressed.{beginning, steps_of}
+use Rattle.mm_text.specs.Compressed.{steps_of}
 use Rattle.mm_frame.specs.Expansion.{before_close, behind_close}
 use Rattle.mm_frame.specs.Numbered.{NumberedHypothesis}
 use Rattle.mm_frame.specs.NumberedSteps.{NumberedStep}

@@ -1,19 +1,18 @@
 -- An assertion whose variables have the places of their `$f` asks and gives what its frame does.
-use Rattle.std.proofs.Common.{◌≡◌, ℕ, zero, suc, ◌+◌, ◌<◌, Bool, true, false, List, [], ◌∷◌, ◌++◌, length, take, drop, get_or, map, flat_map, nat_eq, Option, Some, None, cond, refl, ap, ◌∙◌, sym, subst, arith, rules, inl, inr, ⊎_elim}
-use Rattle.std.specs.Prelude.{not, ◌&&◌, ◌||◌, IfSome, All}
-use Rattle.std.specs.List.{position_from, list_any, list_all, AllByRecursion}
+use Rattle.std.proofs.Common.{◌≡◌, ℕ, suc, ◌+◌, ◌<◌, Bool, true, false, List, [], ◌∷◌, ◌++◌, length, drop, get_or, map, flat_map, nat_eq, Option, Some, None, cond, refl, ap, ◌∙◌, sym, subst, arith}
+use Rattle.std.specs.Prelude.{◌&&◌, IfSome, All}
+use Rattle.std.specs.List.{position_from, AllByRecursion}
 use Rattle.std.proofs.lemmas.List.Elements.{All-from_recursion}
-use Rattle.std.specs.Global.{Vec}
 use Rattle.std.proofs.lemmas.List.{get_or-drop, drop-drop}
-use Rattle.mm_frame.specs.Numbered.{NumberedHypothesis, numbered_floating, numbered_essential, NumberedFrame, NumberedPlace, NumberedBinding, numbers_behind_first, numbered_bindings, numbered_text, numbers_substituted, same_numbers, begins_with, agrees, all_agree, numbered_variables, numbered_texts_apart, numbered_pair_apart, keeps_numbers_apart}
-use Rattle.mm_frame.specs.FramesHeld.{types_number, has_number, in_group, in_groups}
+use Rattle.mm_frame.specs.Numbered.{NumberedHypothesis, numbered_floating, numbered_essential, numbers_behind_first, numbered_bindings, numbered_text, numbers_substituted, same_numbers, agrees, all_agree}
+use Rattle.mm_frame.specs.FramesHeld.{types_number}
 use Rattle.mm_verify.specs.declared.parts.Part.{Part}
 use Rattle.mm_verify.specs.declared.parts.Part.TheVariants as part
 use Rattle.mm_verify.specs.declared.parts.Wanted.{Wanted}
 use Rattle.mm_verify.specs.declared.parts.Wanted.TheVariants as wanted
-use Rattle.mm_verify.specs.Places.{place_of, place_in, symbol_of, parts_of, symbols_in, ArePlaced}
+use Rattle.mm_verify.specs.Places.{place_of, place_in, symbol_of, ArePlaced}
 use Rattle.mm_verify.specs.Resolved.{wanted_hypothesis, hypotheses_of, parts_in}
-use Rattle.mm_verify.specs.Filling.{IsWithin, AreWithin, text_at, part_text, filled, is_wanted, are_wanted, places_apart, are_parts_apart, is_group_apart, are_groups_apart}
+use Rattle.mm_verify.specs.Filling.{IsWithin, AreWithin, text_at, part_text, filled, is_wanted, are_wanted}
 
 -- what entries give a symbol, by the place of its `$f`
 abbrev pub at_place : List (List ℕ) → ℕ → Option ℕ → List ℕ

@@ -1,17 +1,17 @@
 -- Steps over numbers that are steps over tokens.
-use Rattle.std.proofs.Common.{◌≡◌, ℕ, zero, suc, ◌+◌, ◌-◌, Bool, true, false, List, [], ◌∷◌, ◌++◌, length, map, nat_eq, Option, Some, None, refl, ap, sym, ◌∙◌, subst}
-use Rattle.std.specs.Prelude.{nat_lt, not, ◌&&◌, ◌||◌, if◌then◌else◌, is_some, option_map, option_and_then, MatchOption, bytes_eq}
-use Rattle.std.specs.List.{list_any, list_all}
+use Rattle.std.proofs.Common.{◌≡◌, ℕ, zero, suc, ◌+◌, ◌-◌, Bool, true, false, List, [], ◌∷◌, ◌++◌, map, nat_eq, Option, Some, None, refl, ap, sym, ◌∙◌, subst}
+use Rattle.std.specs.Prelude.{nat_lt, ◌&&◌, ◌||◌, if◌then◌else◌, option_map, option_and_then, MatchOption}
+use Rattle.std.specs.List.{list_any}
 use Rattle.std.specs.Cmp.Lexicographic.{pointwise}
 use Rattle.mm_text.specs.Bytes.{Token, has_token}
-use Rattle.mm_text.specs.FaultKinds.{bad_step, bad_conclusion}
+use Rattle.mm_text.specs.FaultKinds.{bad_conclusion}
 use Rattle.mm_text.specs.Compressed.{CompressedStep, numbered, save}
 use Rattle.mm_frame.specs.Database.{Context}
 use Rattle.mm_frame.specs.Proofs.{Expression}
-use Rattle.mm_frame.specs.Expansion.{arity, is_citable, Step, cites, saves, repeats, meaning, meaning_of, saved_after, meanings, with_step, has_repeated}
-use Rattle.mm_frame.specs.Stack.{same_expression, same_expressions, stack_after, stack_after_step, Saving, saving, saving_after, saving_after_step}
+use Rattle.mm_frame.specs.Expansion.{arity, Step, cites, saves, repeats, meaning, meaning_of, saved_after, meanings, with_step, has_repeated}
+use Rattle.mm_frame.specs.Stack.{same_expression, same_expressions, stack_after, stack_after_step, saving, saving_after}
 use Rattle.mm_frame.specs.Numbered.{NumberedPlace, IsNaming, named, IsNamedPlace, same_numbers}
-use Rattle.mm_frame.specs.NumberedSteps.{NumberedStep, gives_saved, saves_last, NumberedSaving, numbered_saving_after, named_saving, IsNamedStep, StepIsNamed}
+use Rattle.mm_frame.specs.NumberedSteps.{NumberedStep, gives_saved, NumberedSaving, numbered_saving_after, named_saving, IsNamedStep, StepIsNamed}
 use Rattle.mm_frame.specs.Validity.{stack_fault}
 use Rattle.mm_verify.specs.Meaning.{numbered_meaning, with_meaning, numbered_meaning_of, saved_behind, numbered_meanings}
 use Rattle.mm_verify.specs.declared.machine.ProofFault.TheVariants as fault

@@ -1,7 +1,7 @@
 -- What checking one statement does and answers.
-use Rattle.std.specs.Prelude.{◌≡◌, ℕ, Bool, true, false, List, map, option_map, Option, Some, None, Result, Ok, Err}
+use Rattle.std.specs.Prelude.{◌≡◌, Bool, true, false, map, option_map, Option, Some, None, Result, Ok, Err}
 use Rattle.mm_text.specs.Statements.{Statement}
-use Rattle.mm_frame.specs.Forms.{Keyword, declares_constants, declares_variables, types_variable, assumes, separates, asserts, proves, Form, block_start, block_end, plain, form_of}
+use Rattle.mm_frame.specs.Forms.{Keyword, asserts, proves, Form, block_start, block_end, plain, form_of}
 use Rattle.mm_frame.specs.Database.{Context, context_after}
 use Rattle.mm_frame.specs.Validity.{declaration_fault, statement_fault}
 use Rattle.mm_frame.specs.Orderly.{IsOrderly}

@@ -1,5 +1,5 @@
 -- The steps that the text of a proof names, by what scopes hold.
-use Rattle.std.specs.Prelude.{ℕ, Bool, false, ◌||◌, if◌then◌else◌, List, [], ◌∷◌, ◌++◌, map, flat_map, Option, Some, None, option_and_then, codes, bytes_eq}
+use Rattle.std.specs.Prelude.{ℕ, Bool, false, ◌||◌, if◌then◌else◌, List, [], ◌∷◌, ◌++◌, map, flat_map, Option, None, option_and_then, codes, bytes_eq}
 use Rattle.mm_text.specs.Bytes.{Token, has_token}
 use Rattle.mm_text.specs.Compressed.{steps_of}
 use Rattle.mm_frame.specs.Expansion.{before_close, behind_close}

@@ -1,5 +1,5 @@
 -- Assertions whose variables have the places of their `$f`.
-use Rattle.std.specs.Prelude.{List, [], map, flat_map}
+use Rattle.std.specs.Prelude.{List, [], map}
 use Rattle.mm_frame.specs.Numbered.{NumberedHypothesis, numbered_floating, numbered_essential}
 use Rattle.mm_verify.specs.declared.parts.Part.{Part}
 use Rattle.mm_verify.specs.declared.parts.Wanted.{Wanted}

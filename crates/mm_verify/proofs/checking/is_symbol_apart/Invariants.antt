@@ -1,4 +1,4 @@
-use Rattle.std.specs.Prelude.{◌≡◌, true, take, drop}
+use Rattle.std.specs.Prelude.{◌≡◌, true, take}
 use Rattle.std.specs.List.{list_all}
 use Rattle.mm_frame.specs.Numbered.{numbers_apart}
 use Rattle.mm_verify.proofs.checking.is_symbol_apart.Given as goal

@@ -1,4 +1,4 @@
-use Rattle.std.proofs.Common.{rules, arith, ◌≡◌, ◌∙◌, ◌-◌, ◌<◌, ◌≤◌, ap, sym, ℕ, map, length, Bool, true, false, Some, None}
+use Rattle.std.proofs.Common.{rules, arith, ◌≡◌, ◌∙◌, ◌-◌, ◌<◌, ◌≤◌, ap, sym, map, length, Bool, true, false, Some, None}
 use Rattle.std.specs.Prelude.{nat_lt, if◌then◌else◌}
 use Rattle.std.proofs.lemmas.List.{length-map, get_or-map}
 use Rattle.mm_frame.specs.NumberedSteps.{gives_saved}

@@ -1,6 +1,4 @@
-use Rattle.std.proofs.Common.{rules, ◌≡◌, ◌<◌, ℕ, refl, length, drop, get_or}
-use Rattle.mm_verify.specs.declared.parts.Part.{Part}
-use Rattle.mm_verify.specs.Filling.{part_text}
+use Rattle.std.proofs.Common.{rules, drop}
 use Rattle.mm_verify.proofs.Fillings.{not_filled, filled_behind}
 use Rattle.mm_verify.proofs.filling.is_filled.Goals as goal
 

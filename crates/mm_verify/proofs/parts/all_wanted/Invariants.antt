@@ -1,4 +1,4 @@
-use Rattle.std.specs.Prelude.{◌≡◌, map, flat_map, take}
+use Rattle.std.specs.Prelude.{◌≡◌, flat_map, take}
 use Rattle.mm_frame.specs.FramesHeld.{hypotheses_held}
 use Rattle.mm_verify.specs.Places.{AreLocated}
 use Rattle.mm_verify.specs.Resolved.{hypotheses_of, parts_in}

@@ -1,4 +1,4 @@
-use Rattle.std.proofs.Common.{rules, arith, ◌≡◌, ◌∙◌, ◌<◌, ap, sym, ℕ, Option, length, take, map}
+use Rattle.std.proofs.Common.{rules, arith, ◌∙◌, ◌<◌, ap, sym, ℕ, Option, length, map}
 use Rattle.std.proofs.lemmas.List.{get_or-map, length-map}
 use Rattle.mm_frame.specs.FramesHeld.{hypothesis_held, types_number}
 use Rattle.mm_verify.specs.Places.{first_place}

@@ -1,5 +1,5 @@
 use Rattle.std.specs.Prelude.{map, take}
-use Rattle.mm_frame.specs.FramesHeld.{hypothesis_held, types_number}
+use Rattle.mm_frame.specs.FramesHeld.{hypothesis_held}
 use Rattle.mm_verify.specs.Places.{Locates}
 use Rattle.mm_verify.proofs.parts.places.Given as goal
 

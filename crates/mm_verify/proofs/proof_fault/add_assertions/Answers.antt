@@ -1,4 +1,4 @@
-use Rattle.std.proofs.Common.{rules, arith, ◌≡◌, ◌<◌, ◌++◌, ◌∷◌, [], List, length, take, map, get_or, subst, sym, ap, ◌∙◌}
+use Rattle.std.proofs.Common.{rules, ◌≡◌, ◌<◌, ◌++◌, ◌∷◌, [], List, length, take, map, get_or, subst, sym}
 use Rattle.mm_frame.specs.Held.{held}
 use Rattle.mm_verify.specs.declared.assertion.Assertion.{Assertion}
 use Rattle.mm_verify.specs.AssertionView.{assertion_frame}

@@ -1,5 +1,4 @@
 use Rattle.std.specs.Prelude.{◌≡◌, ◌-◌, map, take, length}
-use Rattle.mm_frame.specs.FramesHeld.{frames_held}
 use Rattle.mm_frame.specs.Held.{held}
 use Rattle.mm_verify.specs.AssertionView.{assertion_frame}
 use Rattle.mm_verify.proofs.proof_fault.add_assertions.Given as goal

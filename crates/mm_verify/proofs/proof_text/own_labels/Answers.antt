@@ -1,4 +1,4 @@
-use Rattle.std.proofs.Common.{rules, ◌≡◌, ◌∙◌, ◌+◌, ap, sym, List, take, map, is_some}
+use Rattle.std.proofs.Common.{◌∙◌, ◌+◌, ap, sym, List, take}
 use Rattle.std.proofs.lemmas.Map.Text.{btree_map_updates_str}
 use Rattle.mm_text.specs.Bytes.{Token, has_token}
 use Rattle.mm_frame.specs.FramesHeld.{number_label, hypothesis_held}

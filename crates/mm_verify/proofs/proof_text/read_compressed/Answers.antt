@@ -1,12 +1,10 @@
-use Rattle.std.proofs.Common.{rules, ◌≡◌, ◌∙◌, ap, sym, subst, List, map, Option, Some, None, Bool}
+use Rattle.std.proofs.Common.{◌≡◌, ◌∙◌, ap, subst, List, map, Option, Some, None, Bool}
 use Rattle.std.specs.Prelude.{IfOk, option_map, if◌then◌else◌}
 use Rattle.mm_text.specs.Reader.{words_of}
 use Rattle.mm_frame.specs.FramesHeld.{hypotheses_held}
 use Rattle.mm_frame.specs.Held.{held}
 use Rattle.mm_frame.specs.NumberedSteps.{NumberedStep}
 use Rattle.mm_verify.specs.Running.{step_of, steps_in}
-use Rattle.mm_verify.specs.Reading.{behind_steps}
-use Rattle.mm_verify.specs.ProofSteps.{listed_steps}
 use Rattle.mm_verify.proofs.ReadProofs.{compressed-is}
 use Rattle.mm_verify.proofs.proof_text.read_compressed.Goals as goal
 

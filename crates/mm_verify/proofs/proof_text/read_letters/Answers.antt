@@ -1,4 +1,4 @@
-use Rattle.std.proofs.Common.{rules, ◌≡◌, ◌∙◌, ap, sym, subst, List, ℕ, [], ◌++◌, Bool, append-nil}
+use Rattle.std.proofs.Common.{◌∙◌, ap, sym, subst, List, ℕ, [], Bool, append-nil}
 use Rattle.mm_verify.specs.Reading.{meant, letters_of, ReadsOn}
 use Rattle.mm_verify.proofs.ReadProofs.{started}
 use Rattle.mm_verify.proofs.proof_text.read_letters.Goals as goal

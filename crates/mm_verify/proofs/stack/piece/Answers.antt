@@ -1,5 +1,4 @@
-use Rattle.std.proofs.Common.{rules, arith, sym, ◌≡◌, ◌≤◌, length, slice_index_or}
-use Rattle.mm_verify.specs.Cut.{start_of}
+use Rattle.std.proofs.Common.{rules, arith, sym, ◌≤◌, length}
 use Rattle.mm_verify.proofs.Cuts.{start_high, end_low, end_high, get_or-cut}
 use Rattle.mm_verify.proofs.stack.piece.Goals as goal
 

@@ -1,4 +1,4 @@
-use Rattle.std.proofs.Common.{rules, ◌≡◌, ◌∙◌, ap, sym, subst, refl}
+use Rattle.std.proofs.Common.{rules, ◌≡◌, refl}
 use Rattle.std.specs.Prelude.{Some}
 use Rattle.mm_text.specs.Reader.{words_of}
 use Rattle.mm_frame.specs.Forms.{form_of}

@@ -1,4 +1,4 @@
-use Rattle.std.proofs.Common.{rules, ◌≡◌, ◌∙◌, ap, subst, sym, List, ℕ, Bool, drop, length}
+use Rattle.std.proofs.Common.{◌∙◌, ap, subst, sym, List, drop, length}
 use Rattle.std.specs.Prelude.{All}
 use Rattle.mm_verify.specs.declared.parts.Wanted.{Wanted}
 use Rattle.mm_verify.specs.Resolved.{hypotheses_of, parts_in}

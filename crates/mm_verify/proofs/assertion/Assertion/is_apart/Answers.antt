@@ -1,4 +1,4 @@
-use Rattle.std.proofs.Common.{rules, ◌≡◌, ◌∙◌, ap, subst, sym, refl, List, ℕ, Bool, drop, length}
+use Rattle.std.proofs.Common.{◌∙◌, ap, subst, sym, refl, List, drop, length}
 use Rattle.std.specs.Prelude.{All}
 use Rattle.std.specs.Global.{Vec}
 use Rattle.mm_verify.specs.declared.parts.Part.{Part}

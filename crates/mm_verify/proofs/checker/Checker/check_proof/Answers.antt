@@ -1,10 +1,8 @@
-use Rattle.std.proofs.Common.{◌≡◌, ◌∙◌, sym, subst, Option, Some, None}
+use Rattle.std.proofs.Common.{◌∙◌, sym, subst, Option}
 use Rattle.std.specs.Prelude.{Ok}
 use Rattle.mm_text.specs.Reader.{statement_of}
 use Rattle.mm_frame.specs.Held.{held}
 use Rattle.mm_frame.specs.Proposing.{IsProposed, Proposes}
-use Rattle.mm_frame.specs.Database.{Context}
-use Rattle.mm_frame.specs.Standing.{Stands}
 use Rattle.mm_frame.specs.declared.theorem.Theorem.{Theorem}
 use Rattle.mm_verify.proofs.KindsNamed.{Laws}
 use Rattle.mm_verify.proofs.CheckedStatements.{theorem-kind, proof_refused, is-stated}

@@ -1,4 +1,3 @@
-use Rattle.std.proofs.Common.{rules, ◌≡◌, ◌∙◌, sym, ap, subst}
 use Rattle.mm_text.specs.Reader.{statement_of}
 use Rattle.mm_frame.specs.Held.{held}
 use Rattle.mm_verify.proofs.CheckedStatements.{declare_refused}

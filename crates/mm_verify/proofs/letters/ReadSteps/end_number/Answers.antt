@@ -1,4 +1,4 @@
-use Rattle.std.proofs.Common.{rules, arith, ◌≡◌, ◌∙◌, ◌+◌, ◌-◌, ◌*◌, ◌^◌, ◌≤◌, ap, sym, ℕ, List, map, length, Option, None}
+use Rattle.std.proofs.Common.{rules, arith, ◌∙◌, ◌+◌, ◌-◌, ◌*◌, ◌^◌, ◌≤◌, ap, List, map, Option}
 use Rattle.std.proofs.lemmas.List.{length-map}
 use Rattle.mm_text.specs.Compressed.{value_before, a_number}
 use Rattle.mm_frame.specs.NumberedSteps.{NumberedStep}

@@ -1,5 +1,5 @@
 use Rattle.std.specs.Prelude.{◌≡◌, ℕ, List, ◌++◌, drop}
-use Rattle.mm_verify.specs.Reading.{meant, letters_of}
+use Rattle.mm_verify.specs.Reading.{meant}
 use Rattle.mm_verify.proofs.letters.ReadSteps.take_word.Given as goal
 
 abbrev pub invariant-loop-byte : goal.invariant-loop-byte

@@ -1,4 +1,4 @@
-use Rattle.std.proofs.Common.{rules, arith, subst, sym, ap, ◌≡◌, ◌<◌, ◌+◌, List, ℕ, length, drop}
+use Rattle.std.proofs.Common.{arith, subst, sym, ap, ◌<◌, List, ℕ, length, drop}
 use Rattle.mm_verify.proofs.Cuts.{above_within}
 use Rattle.mm_verify.proofs.stack.Stack.entry_above.Goals as goal
 

@@ -1,4 +1,4 @@
-use Rattle.std.proofs.Common.{rules, ◌≡◌, List, ℕ, [], ◌∷◌, ◌++◌, length, ◌∙◌, sym, ap}
+use Rattle.std.proofs.Common.{rules, ◌≡◌, List, ℕ, [], ◌∷◌, ◌++◌, length, ◌∙◌, ap}
 use Rattle.mm_verify.proofs.Cuts.{pushed_ends, pushed_cut}
 use Rattle.mm_verify.proofs.stack.Stack.push.Goals as goal
 

@@ -1,4 +1,4 @@
-use Rattle.std.proofs.Common.{rules, arith, subst, ◌≡◌, ◌≤◌, List, ℕ, take, length, ap, sym, ◌∙◌, length-take}
+use Rattle.std.proofs.Common.{arith, subst, ◌≡◌, ◌≤◌, List, ℕ, take, length, ap, sym, ◌∙◌}
 use Rattle.std.proofs.lemmas.List.{length-take-le}
 use Rattle.mm_verify.specs.Cut.{cut, AreEnds, start_of}
 use Rattle.mm_verify.proofs.Cuts.{AreEnds-take, cut-take, start_high, length_cut}
