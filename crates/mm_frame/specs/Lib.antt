@@ -27,3 +27,4 @@ pub mod HeldReads
 pub mod StandingLaws
 pub mod Proposing
 pub mod AddedView
+pub mod CitedView

@@ -22,6 +22,15 @@ pub struct Frame<'a> {
     pub statement: Vec<u32>,
 }
 
+/// What a label cites.
+#[derive(Clone, Copy)]
+pub enum Cited<'s, 'a> {
+    /// An active hypothesis.
+    Hypothesis(&'s Hyp<'a>),
+    /// An assertion, by its number from 0 among the frames.
+    Assertion(usize),
+}
+
 impl<'a> Hyp<'a> {
     /// Its label.
     pub fn label(&self) -> &'a [u8]

@@ -21,7 +21,7 @@ mod theorem;
 
 pub use declare::{Added, FrameEnd};
 pub use forms::{Form, Keyword, Plain, read_form};
-pub use frames::{Frame, Hyp};
+pub use frames::{Cited, Frame, Hyp};
 pub use laws::{database_laws, proof_laws, scope_laws, tried};
 pub use scopes::Scopes;
 pub use theorem::Theorem;

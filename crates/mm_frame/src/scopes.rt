@@ -2,6 +2,7 @@
 
 ghost use Rattle.std.specs.Prelude.{◌≡◌, ℕ, option_map, slice_get, option_and_then, map, []};
 ghost use Rattle.mm_frame.specs.Held.{held, named};
+ghost use Rattle.mm_frame.specs.CitedView.{cited_hypothesis, cited_assertion};
 ghost use Rattle.mm_frame.specs.FramesHeld.{frames_held, in_group, in_groups, hypothesis_held, frame_held};
 ghost use Rattle.mm_frame.specs.Database.{Context, empty_context};
 ghost use Rattle.mm_frame.specs.Standing.{Stands, Tells, FrameFound};
@@ -11,7 +12,7 @@ ghost use Rattle.mm_frame.specs.Numbered.{named_hypothesis};
 ghost use Rattle.mm_frame.specs.HeldReads.{frame_named, symbol_is_variable, first_block, hypothesis_at, hypothesis_named};
 ghost use Rattle.mm_frame.specs.HeldTests.{is_held_active, is_held_typed, number_in};
 
-use crate::frames::{Frame, Hyp};
+use crate::frames::{Cited, Frame, Hyp};
 use std::alloc::{AllocError, Global};
 use std::collections::BTreeMap;
 
@@ -231,14 +232,16 @@ impl<'a> Scopes<'a> {
         &self.frames
     }
 
-    /// The number, from 0, that the assertion with this label has among the frames, none exactly where
-    /// there is none. Takes no memory.
-    pub fn assertion_number(&self, label: &'a [u8]) -> Option<usize>
-        ensures { option_and_then (slice_get (held self.now).frames) result ≡ frame_named (held self.now) label.now }
+    /// What a label cites, found by one look-up: none exactly where it is neither that of an active
+    /// hypothesis nor that of an assertion. Takes no memory.
+    pub fn cited(&self, label: &'a [u8]) -> Option<Cited<'_, 'a>>
+        ensures hypothesis { cited_hypothesis result ≡ hypothesis_named (held self.now) label.now }
+        ensures assertion { option_and_then (slice_get (held self.now).frames) (cited_assertion result) ≡ frame_named (held self.now) label.now }
     {
         match self.name(label)? {
-            Name::Assertion(place) => Some(place),
-            Name::Constant(_) | Name::Variable(_) | Name::Hypothesis(_) => None,
+            Name::Hypothesis(place) => Some(Cited::Hypothesis(self.hypothesis_at(place, label)?)),
+            Name::Assertion(place) => Some(Cited::Assertion(place)),
+            Name::Constant(_) | Name::Variable(_) => None,
         }
     }
 

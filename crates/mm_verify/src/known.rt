@@ -6,7 +6,7 @@ ghost use Rattle.mm_verify.specs.AssertionView.{assertion_frame};
 use crate::assertion::Assertion;
 use crate::machine::Step;
 use crate::place::Place;
-use mm_frame::Scopes;
+use mm_frame::{Cited, Scopes};
 
 /// What is declared before a statement, and its assertions as steps use them, in order.
 #[derive(Drop)]
@@ -33,12 +33,13 @@ impl<'s, 'a> Known<'s, 'a> {
     pub(crate) fn cite(&self, label: &'a [u8]) -> Option<Step<'s>>
         ensures { option_map step_of result ≡ cited_at (held self.now.scopes.now) label.now }
     {
-        if let Some(hyp) = self.scopes.active(label) {
-            return Some(Step::Gives(hyp));
+        match self.scopes.cited(label)? {
+            Cited::Hypothesis(hyp) => Some(Step::Gives(hyp)),
+            Cited::Assertion(place) => {
+                let assertion = self.assertions.get(place)?;
+                Some(Step::Applies(assertion))
+            }
         }
-        let place = self.scopes.assertion_number(label)?;
-        let assertion = self.assertions.get(place)?;
-        Some(Step::Applies(assertion))
     }
 }
 
