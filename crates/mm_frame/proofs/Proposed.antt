@@ -1,22 +1,26 @@
 -- A `$p` that was judged is to be what the definitions say.
-use Rattle.std.proofs.Common.{◌≡◌, ℕ, List, ap, sym, ◌∙◌, subst}
-use Rattle.std.specs.Prelude.{Some, Ok, Err}
+use Rattle.std.proofs.Common.{◌≡◌, ℕ, List, [], ◌∷◌, length, take, refl, ap, sym, ◌∙◌, subst}
+use Rattle.std.specs.Prelude.{Option, Some, Ok, Err}
 use Rattle.mm_text.specs.Bytes.{Token}
 use Rattle.mm_text.specs.Reader.{words_of, statement_of}
 use Rattle.mm_text.specs.declared.tokens.MmToken.{MmToken}
 use Rattle.mm_frame.specs.Forms.{proves, plain, form_of}
+use Rattle.mm_frame.specs.Forms as forms
 use Rattle.mm_frame.specs.Frames.{frame_of}
-use Rattle.mm_frame.specs.Database.{Context, first_label}
+use Rattle.mm_text.specs.Statements.{Statement as StatementOfTokens}
+use Rattle.std.proofs.lemmas.List.{take_at}
+use Rattle.mm_frame.specs.HeldSteps.{AddsAssertion}
+use Rattle.mm_frame.specs.Database.{Context, first_label, with_assertion, after_form, context_after}
 use Rattle.mm_frame.specs.Validity.{declaration_fault}
 use Rattle.mm_frame.specs.Numbered.{NumberedFrame, IsNaming, IsNamedFrame}
 use Rattle.mm_frame.specs.FramesHeld.{frame_held}
 use Rattle.mm_frame.specs.FormsRead.{form_read, keyword_read}
 use Rattle.mm_frame.specs.Held.{Held}
 use Rattle.mm_frame.specs.HeldFaults.{Statement, Judges, stated_held, stated_in}
-use Rattle.mm_frame.specs.HeldFrames.{is_needed_number, is_mandatory_number, IsHeldFrame}
+use Rattle.mm_frame.specs.HeldFrames.{IsHeldFrame}
 use Rattle.mm_frame.specs.Judging.{judged_plain, saying_states, error_of}
 use Rattle.mm_frame.specs.Standing.{NamesSymbols, Stands}
-use Rattle.mm_frame.specs.Takes.{end_at}
+use Rattle.mm_frame.specs.Takes.{KeepsFrames, end_at}
 use Rattle.mm_frame.specs.Proposing.{IsProposed, Proposes}
 use Rattle.mm_frame.specs.declared.scopes.Need.TheVariants as need
 use Rattle.mm_frame.specs.declared.forms.Plain.{Plain}
@@ -30,7 +34,7 @@ use Rattle.mm_frame.specs.declared.declare.FrameEnd.{FrameEnd}
 use Rattle.mm_frame.specs.declared.theorem.Theorem.{Theorem}
 use Rattle.mm_frame.proofs.Taken.{statement-tokens}
 use Rattle.mm_frame.proofs.StandFaults.{form-fault, numbers-named}
-use Rattle.mm_frame.proofs.StandFrames.{frame-named}
+use Rattle.mm_frame.proofs.StandFrames.{frame-named, assertion-added}
 use Rattle.mm_frame.proofs.StandStatements.{label-is, stated-read}
 
 module _ (h : Held) (c : Context) (bytes : List ℕ) (ts : List MmToken) (p : Plain) (stands : Stands h c) (form : Some (form_read bytes (code.Plain p)) ≡ form_of (words_of bytes ts)) (theorem : p.keyword ≡ keyword.Theorem) where
@@ -66,7 +70,22 @@ module _ (h : Held) (c : Context) (bytes : List ℕ) (ts : List MmToken) (p : Pl
     symbols = symbols;
     form = theorem-is ∙ ap (λ q. Some (plain labels proves symbols (words_of bytes q.now))) (sym proof);
     well = fault-is ∙ ap (λ r. error_of (saying_states r)) judged;
-    mandatory = is_mandatory_number (is_needed_number h.hypotheses s.symbols);
-    hypotheses = held.hypotheses;
+    stated = s;
+    label = (label-is h labels s.label (stated-read h labels symbols s judged).labelled).0;
+    free = (label-is h labels s.label (stated-read h labels symbols s judged).labelled).1;
+    numbers = λ name names. numbers-named h c stands name names need.Typed symbols s.symbols (stated-read h labels symbols s judged).numbers;
+    held = held;
     frame = frame-is s (frame_held t.frame) judged held;
   }
+
+-- a theorem that is added as it was proposed
+pub theorem_added : (bytes : List ℕ) (old : Held) (c : Context) (s : StatementOfTokens) (t : Theorem) (new : Held) → Stands old c → IsProposed bytes old c s t → AddsAssertion old (frame_held t.frame) new → Stands new (context_after c s)
+theorem_added bytes old c s t new stands p adds =
+    subst (λ (o : Option forms.Form). Stands new (after_form c s.at o)) (sym p.form)
+    (subst (λ (l : Token). Stands new (with_assertion c l p.symbols)) (sym p.label)
+    (assertion-added old c p.stated (frame_held t.frame) p.symbols new stands p.free p.held p.numbers adds))
+
+pub theorem_keeps : (old : Held) (f : NumberedFrame) (new : Held) → AddsAssertion old f new → KeepsFrames old new
+theorem_keeps old f new adds =
+    ap (λ (fs : List NumberedFrame). take (length old.frames) fs) (ap (λ (x : Held). x.frames) adds.rest)
+    ∙ take_at old.frames (f ∷ []) (length old.frames) refl

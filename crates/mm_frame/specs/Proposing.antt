@@ -1,5 +1,5 @@
 -- What a statement is to be, where it is a `$p`.
-use Rattle.std.specs.Prelude.{◌≡◌, ℕ, Bool, true, false, List, filter, Option, Some, None, Result, Ok, Err}
+use Rattle.std.specs.Prelude.{◌≡◌, ℕ, Bool, true, false, List, map, Option, Some, None, Result, Ok, Err}
 use Rattle.mm_text.specs.Bytes.{Token}
 use Rattle.mm_text.specs.Statements.{Statement}
 use Rattle.mm_text.specs.Reader.{words_of}
@@ -7,9 +7,11 @@ use Rattle.mm_frame.specs.Forms.{Keyword, declares_constants, declares_variables
 use Rattle.mm_frame.specs.Frames.{frame_of}
 use Rattle.mm_frame.specs.Database.{Context, first_label}
 use Rattle.mm_frame.specs.Validity.{declaration_fault}
-use Rattle.mm_frame.specs.Numbered.{NumberedHypothesis, IsNaming, IsNamedFrame}
+use Rattle.mm_frame.specs.Numbered.{IsNaming, IsNamedFrame}
 use Rattle.mm_frame.specs.FramesHeld.{frame_held}
 use Rattle.mm_frame.specs.Held.{Held}
+use Rattle.mm_frame.specs.HeldFaults.{Statement as Stated}
+use Rattle.mm_frame.specs.HeldFrames.{IsHeldFrame}
 use Rattle.mm_frame.specs.Standing.{NamesSymbols}
 use Rattle.mm_frame.specs.declared.declare.FrameEnd.{FrameEnd}
 use Rattle.mm_frame.specs.declared.declare.FrameEnd.TheVariants.{Fault, Memory}
@@ -36,8 +38,11 @@ pub record IsProposed (bytes : List ℕ) (h : Held) (c : Context) (s : Statement
   pub symbols : List Token
   pub form : form_of s.tokens ≡ Some (plain labels proves symbols (words_of bytes t.proof.now))
   pub well : declaration_fault c (form_of s.tokens) ≡ None
-  pub mandatory : NumberedHypothesis → Bool
-  pub hypotheses : (frame_held t.frame).hypotheses ≡ filter mandatory h.hypotheses
+  pub stated : Stated
+  pub label : first_label labels ≡ stated.label
+  pub free : h.names stated.label ≡ None
+  pub numbers : (name : ℕ → Token) → NamesSymbols name h.symbols → map name stated.symbols ≡ symbols
+  pub held : IsHeldFrame h stated (frame_held t.frame)
   pub frame : (name : ℕ → Token) → IsNaming name → NamesSymbols name h.symbols → IsNamedFrame name (frame_held t.frame) (frame_of c.scope (first_label labels) symbols)
 
 abbrev pub Proposes : List ℕ → Held → Context → Statement → Result (Option Theorem) FrameEnd → Type 0

@@ -12,7 +12,7 @@ use crate::frames::Frame;
 use crate::judge::Refusal;
 use crate::scopes::Scopes;
 use mm_text::MmToken;
-use std::alloc::Global;
+use std::alloc::{AllocError, Global};
 
 /// A `$p`: the frame that it is to have, and the tokens of its proof.
 #[derive(Drop)]
@@ -22,7 +22,11 @@ pub struct Theorem<'a, 't> {
 }
 
 impl<'a> Scopes<'a> {
-    ghost use Rattle.mm_frame.specs.Proposing.{Proposes};
+    ghost use Rattle.std.specs.Prelude.{IfOk, List};
+    ghost use Rattle.mm_text.specs.Statements.{Statement};
+    ghost use Rattle.mm_frame.specs.Database.{context_after};
+    ghost use Rattle.mm_frame.specs.Takes.{KeepsFrames};
+    ghost use Rattle.mm_frame.specs.Proposing.{IsProposed, Proposes};
 
     /// The theorem that a statement is to be, whose tokens stand in `bytes`: none exactly where it is
     /// no `$p`, or its keywords are not well placed. Where it has a fault of kinds 4 to 11, the first
@@ -54,6 +58,18 @@ impl<'a> Scopes<'a> {
                 frame,
                 proof: plain.proof,
             })),
+        }
+    }
+
+    /// Adds a theorem as it was proposed. After want of memory the scopes may have a part of it, and are
+    /// to be let go.
+    pub fn add_theorem(&mut self, theorem: Theorem<'a, '_>) -> Result<(), AllocError>
+        ensures stands { IfOk result (λ _. (bytes : List ℕ) (c : Context) (s : Statement) → Stands (held self.old) c → IsProposed bytes (held self.old) c s theorem.entry → Stands (held self.new) (context_after c s)) }
+        ensures frames { IfOk result (λ _. KeepsFrames (held self.old) (held self.new)) }
+    {
+        match self.add_assertion(theorem.frame) {
+            Err(_) => Err(AllocError),
+            Ok(()) => Ok(()),
         }
     }
 }

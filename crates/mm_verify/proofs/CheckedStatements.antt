@@ -1,6 +1,6 @@
 -- Laws on the faults of statements.
-use Rattle.std.proofs.Common.{◌≡◌, ℕ, Bool, true, false, List, Option, Some, None, refl, ap, sym, ◌∙◌, subst}
-use Rattle.std.specs.Prelude.{option_map, Ok, Err}
+use Rattle.std.proofs.Common.{◌≡◌, ℕ, false, List, Option, Some, None, refl, ap, sym, ◌∙◌, subst}
+use Rattle.std.specs.Prelude.{option_map, Result, Ok, Err, IfOk, IfErr}
 use Rattle.mm_text.specs.Bytes.{Token}
 use Rattle.mm_text.specs.Statements.{Statement}
 use Rattle.mm_text.specs.Reader.{words_of}
@@ -11,7 +11,8 @@ use Rattle.mm_frame.specs.Validity.{or_else, task, task_fault, declaration_fault
 use Rattle.mm_frame.specs.FrameLaws.{FaultlessIsFine}
 use Rattle.mm_frame.specs.Orderly.{IsOrderly, OrderlyAfter}
 use Rattle.mm_frame.specs.FramesHeld.{frame_held}
-use Rattle.mm_frame.specs.Held.{Held}
+use Rattle.mm_frame.specs.Held.{Held, held}
+use Rattle.mm_frame.specs.HeldFrames.{is_needed_number, is_mandatory_number}
 use Rattle.mm_frame.specs.Standing.{Stands}
 use Rattle.mm_frame.specs.StandingLaws.{place_of, NamingExists}
 use Rattle.mm_frame.specs.Takes.{Takes}
@@ -29,7 +30,7 @@ use Rattle.mm_verify.specs.declared.ends.VerifyEnd.TheVariants.{Invalid, Memory}
 use Rattle.mm_verify.specs.ProofSteps.{proof_steps}
 use Rattle.mm_verify.specs.Judging.{proof_kind}
 use Rattle.mm_verify.specs.Stating.{stated_for, end_for}
-use Rattle.mm_verify.specs.Checking.{form_stated, Checks, ChecksProof, Declares}
+use Rattle.mm_verify.specs.Checking.{form_stated, IsBehind, Checks, Declares, Adds}
 use Rattle.mm_verify.proofs.KindsNamed.{Laws, kind-named}
 
 declared-fault : (c : Context) (tokens : List Token) (kind : ℕ) → declaration_fault c (form_of tokens) ≡ Some kind → statement_fault c tokens ≡ Some kind
@@ -62,12 +63,12 @@ theorem-kind laws exists h c bytes s t stands orderly p =
     let words = words_of bytes t.proof.now in
     ap (λ (o : Option ℕ). or_else (or_else o (proof_text_fault c (form_of s.tokens))) (task_fault c (task c (form_of s.tokens)))) p.well
     ∙ ap (λ (o : Option Form). or_else (or_else None (proof_text_fault c o)) (task_fault c (task c o))) p.form
-    ∙ kind-named laws h c name.name stands orderly name.naming name.names (frame_held t.frame) f (p.frame name.name name.naming name.names) p.mandatory p.hypotheses words
+    ∙ kind-named laws h c name.name stands orderly name.naming name.names (frame_held t.frame) f (p.frame name.name name.naming name.names) (is_mandatory_number (is_needed_number h.hypotheses p.stated.symbols)) p.held.hypotheses words
 
-pub proof_refused : (bytes : List ℕ) (h : Held) (c : Context) (s : Statement) (end : FrameEnd) (v : VerifyEnd) → Proposes bytes h c s (Err end) → v ≡ end_for end → ChecksProof c s (Err v)
-proof_refused bytes h c s (frame.Fault f) v p is =
-    subst (λ (x : VerifyEnd). ChecksProof c s (Err x)) (sym is) (declared-fault c s.tokens f.kind p.0, p.1)
-proof_refused bytes h c s frame.Memory v p is = subst (λ (x : VerifyEnd). ChecksProof c s (Err x)) (sym is) tt
+pub proof_refused : (bytes : List ℕ) (h : Held) (c : Context) (s : Statement) (k : Checker) (end : FrameEnd) (v : VerifyEnd) → Proposes bytes h c s (Err end) → v ≡ end_for end → Checks c s k (Err v)
+proof_refused bytes h c s k (frame.Fault f) v p is =
+    subst (λ (x : VerifyEnd). Checks c s k (Err x)) (sym is) (declared-fault c s.tokens f.kind p.0, p.1)
+proof_refused bytes h c s k frame.Memory v p is = subst (λ (x : VerifyEnd). Checks c s k (Err x)) (sym is) tt
 
 -- what was proposed was a theorem
 pub is-stated : (bytes : List ℕ) (h : Held) (c : Context) (s : Statement) (t : Theorem) → IsProposed bytes h c s t → form_stated (form_of s.tokens) ≡ stated.Theorem
@@ -77,33 +78,33 @@ is-stated bytes h c s t p = ap form_stated p.form
 same : (x a : Added) → Some x ≡ Some a → x ≡ a
 same x a e = cc
 
-stated-is : (o : Option Form) (a : Added) → is_theorem o ≡ false → option_map form_added o ≡ Some a → stated_for false a ≡ form_stated o
+stated-is : (o : Option Form) (a : Added) → is_theorem o ≡ false → option_map form_added o ≡ Some a → stated_for a ≡ form_stated o
 stated-is None a e k = absurd (cc)
-stated-is (Some block_start) a e k = sym (ap (stated_for false) (same _ a k))
-stated-is (Some block_end) a e k = sym (ap (stated_for false) (same _ a k))
-stated-is (Some (plain ls declares_constants ss ws)) a e k = sym (ap (stated_for false) (same _ a k))
-stated-is (Some (plain ls declares_variables ss ws)) a e k = sym (ap (stated_for false) (same _ a k))
-stated-is (Some (plain ls types_variable ss ws)) a e k = sym (ap (stated_for false) (same _ a k))
-stated-is (Some (plain ls assumes ss ws)) a e k = sym (ap (stated_for false) (same _ a k))
-stated-is (Some (plain ls separates ss ws)) a e k = sym (ap (stated_for false) (same _ a k))
-stated-is (Some (plain ls asserts ss ws)) a e k = sym (ap (stated_for false) (same _ a k))
+stated-is (Some block_start) a e k = sym (ap stated_for (same _ a k))
+stated-is (Some block_end) a e k = sym (ap stated_for (same _ a k))
+stated-is (Some (plain ls declares_constants ss ws)) a e k = sym (ap stated_for (same _ a k))
+stated-is (Some (plain ls declares_variables ss ws)) a e k = sym (ap stated_for (same _ a k))
+stated-is (Some (plain ls types_variable ss ws)) a e k = sym (ap stated_for (same _ a k))
+stated-is (Some (plain ls assumes ss ws)) a e k = sym (ap stated_for (same _ a k))
+stated-is (Some (plain ls separates ss ws)) a e k = sym (ap stated_for (same _ a k))
+stated-is (Some (plain ls asserts ss ws)) a e k = sym (ap stated_for (same _ a k))
 stated-is (Some (plain ls proves ss ws)) a e k = absurd (cc)
 
-pub checked_is : FaultlessIsFine → OrderlyAfter → (c : Context) (s : Statement) (b : Bool) (a : Added) (new : Checker) (v : Stated) → IsOrderly c → ChecksProof c s (Ok b) → Declares c s new (Ok a) → v ≡ stated_for b a → Checks c s new (Ok v)
-checked_is fine after c s true a new v orderly p d is =
-    (p.0, record { stands = d.1; orderly = after c s orderly (fine c s.tokens p.0); frames = d.2 }, is ∙ sym p.1)
-checked_is fine after c s false a new v orderly p d is =
+pub declared_is : FaultlessIsFine → OrderlyAfter → (c : Context) (s : Statement) (a : Added) (new : Checker) (v : Stated) → IsOrderly c → is_theorem (form_of s.tokens) ≡ false → Declares c s new (Ok a) → v ≡ stated_for a → Checks c s new (Ok v)
+declared_is fine after c s a new v orderly p d is =
     let none = not-theorem c s.tokens p ∙ d.0 in
     (none, record { stands = d.1; orderly = after c s orderly (fine c s.tokens none); frames = d.2 }, is ∙ stated-is (form_of s.tokens) a p d.3)
 
-pub declared_refused : (c : Context) (s : Statement) (b : Bool) (new : Checker) (v : VerifyEnd) → ChecksProof c s (Ok b) → Declares c s new (Err v) → Checks c s new (Err v)
-declared_refused c s b new Memory p d = tt
-declared_refused c s true new (Invalid f) p d = absurd (let some = declared-fault c s.tokens f.kind d.0 in let none = p.0 in let z : ⊥ = cc in z)
-declared_refused c s false new (Invalid f) p d = (not-theorem c s.tokens p ∙ d.0, d.1)
+pub declared_refused : (c : Context) (s : Statement) (new : Checker) (v : VerifyEnd) → is_theorem (form_of s.tokens) ≡ false → Declares c s new (Err v) → Checks c s new (Err v)
+declared_refused c s new Memory p d = tt
+declared_refused c s new (Invalid f) p d = (not-theorem c s.tokens p ∙ d.0, d.1)
 
-pub proof_refused_checks : (c : Context) (s : Statement) (new : Checker) (v : VerifyEnd) → ChecksProof c s (Err v) → Checks c s new (Err v)
-proof_refused_checks c s new Memory p = tt
-proof_refused_checks c s new (Invalid f) p = p
+-- a theorem whose proof has no fault, and that is added
+pub theorem_checked : FaultlessIsFine → OrderlyAfter → (bytes : List ℕ) (old : Checker) (c : Context) (s : Statement) (t : Theorem) (new : Checker) (r : Result Stated VerifyEnd) → IsBehind old c → IsProposed bytes (held old.scopes) c s t → statement_fault c s.tokens ≡ None → IfOk r (λ a. a ≡ stated.Theorem) → IfOk r (λ x. Adds old t new) → IfErr r (λ e. e ≡ Memory) → Checks c s new r
+theorem_checked fine after bytes old c s t new (Ok a) behind p none stated adds memory =
+    (none, record { stands = adds.1 bytes c s behind.stands p; orderly = after c s behind.orderly (fine c s.tokens none); frames = adds.0 }, stated ∙ sym (is-stated bytes (held old.scopes) c s t p))
+theorem_checked fine after bytes old c s t new (Err Memory) behind p none stated adds memory = tt
+theorem_checked fine after bytes old c s t new (Err (Invalid f)) behind p none stated adds memory = absurd (let e = memory in let z : ⊥ = cc in z)
 
 pub declare_refused : (c : Context) (s : Statement) (old new : Held) (k : Checker) (end : FrameEnd) (v : VerifyEnd) → Takes c s old new (Err end) → v ≡ end_for end → Declares c s k (Err v)
 declare_refused c s old new k (frame.Fault f) v p is = subst (λ (x : VerifyEnd). Declares c s k (Err x)) (sym is) (p.0, p.1)

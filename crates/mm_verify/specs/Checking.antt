@@ -1,11 +1,12 @@
 -- What checking one statement does and answers.
-use Rattle.std.specs.Prelude.{◌≡◌, Bool, true, false, map, option_map, Option, Some, None, Result, Ok, Err}
+use Rattle.std.specs.Prelude.{◌≡◌, ℕ, List, map, option_map, Option, Some, None, Result, Ok, Err}
 use Rattle.mm_text.specs.Statements.{Statement}
 use Rattle.mm_frame.specs.Forms.{Keyword, asserts, proves, Form, block_start, block_end, plain, form_of}
 use Rattle.mm_frame.specs.Database.{Context, context_after}
 use Rattle.mm_frame.specs.Validity.{declaration_fault, statement_fault}
 use Rattle.mm_frame.specs.Orderly.{IsOrderly}
-use Rattle.mm_frame.specs.Proposing.{is_theorem}
+use Rattle.mm_frame.specs.Proposing.{IsProposed}
+use Rattle.mm_frame.specs.declared.theorem.Theorem.{Theorem}
 use Rattle.mm_frame.specs.AddedView.{form_added}
 use Rattle.mm_frame.specs.declared.declare.Added.{Added}
 use Rattle.mm_frame.specs.Held.{held}
@@ -44,15 +45,13 @@ Checks c s new (Ok a) = (statement_fault c s.tokens ≡ None) × IsBehind new (c
 Checks c s new (Err (Invalid f)) = (statement_fault c s.tokens ≡ Some f.kind) × (f.at ≡ s.at)
 Checks c s new (Err Memory) = Unit {0}
 
--- the part of it on proofs: true for a theorem, whose proof has no fault
-abbrev pub ChecksProof : Context → Statement → Result Bool VerifyEnd → Type 0
-ChecksProof c s (Ok true) = (statement_fault c s.tokens ≡ None) × (form_stated (form_of s.tokens) ≡ stated.Theorem)
-ChecksProof c s (Ok false) = is_theorem (form_of s.tokens) ≡ false
-ChecksProof c s (Err (Invalid f)) = (statement_fault c s.tokens ≡ Some f.kind) × (f.at ≡ s.at)
-ChecksProof c s (Err Memory) = Unit {0}
-
 -- the part of it on declarations
 abbrev pub Declares : Context → Statement → Checker → Result Added VerifyEnd → Type 0
 Declares c s new (Ok a) = (declaration_fault c (form_of s.tokens) ≡ None) × Stands (held new.scopes) (context_after c s) × HasFrames new × (option_map form_added (form_of s.tokens) ≡ Some a)
 Declares c s new (Err (Invalid f)) = (declaration_fault c (form_of s.tokens) ≡ Some f.kind) × (f.at ≡ s.at)
 Declares c s new (Err Memory) = Unit {0}
+
+-- a theorem is behind the checker, as what it was proposed to be
+abbrev pub Adds : Checker → Theorem → Checker → Type 0
+Adds old t new =
+    HasFrames new × ((bytes : List ℕ) (c : Context) (s : Statement) → Stands (held old.scopes) c → IsProposed bytes (held old.scopes) c s t → Stands (held new.scopes) (context_after c s))

@@ -7,16 +7,13 @@ use crate::ends::{Stated, VerifyEnd};
 use mm_frame::{Added, FrameEnd};
 use mm_text::MmToken;
 
-/// What a statement is, by whether it is a `$p` and what it added.
-pub(crate) fn stated(is_theorem: bool, added: Added) -> Stated
-    ensures { result ≡ stated_for is_theorem added }
+/// What a statement is that is no `$p`, by what it added.
+pub(crate) fn stated(added: Added) -> Stated
+    ensures { result ≡ stated_for added }
 {
-    if is_theorem {
-        Stated::Theorem
-    } else if added == Added::Assertion {
-        Stated::Axiom
-    } else {
-        Stated::Nothing
+    match added {
+        Added::Assertion => Stated::Axiom,
+        Added::Block | Added::Symbols | Added::Hypothesis | Added::Disjoint => Stated::Nothing,
     }
 }
 

@@ -4,7 +4,7 @@ use crate::answers::{first_byte, stated, verify_end};
 use crate::assertion::Assertion;
 use crate::ends::{Stated, VerifyEnd};
 use crate::proof_fault::{add_assertions, proof_fault};
-use mm_frame::{Added, Scopes};
+use mm_frame::{Added, Scopes, Theorem};
 use mm_text::{MmFault, MmToken};
 use std::alloc::Global;
 
@@ -16,14 +16,16 @@ pub(crate) struct Checker<'a> {
 }
 
 impl<'a> Checker<'a> {
-    ghost use Rattle.std.specs.Prelude.{◌≡◌};
+    ghost use Rattle.std.specs.Prelude.{◌≡◌, IfOk, IfErr};
+    ghost use Rattle.mm_frame.specs.Proposing.{IsProposed};
+    ghost use Rattle.mm_verify.specs.declared.ends.Stated.TheVariants.{Theorem as IsTheorem};
+    ghost use Rattle.mm_verify.specs.declared.ends.VerifyEnd.TheVariants.{Memory};
     ghost use Rattle.mm_text.specs.Reader.{statement_of};
     ghost use Rattle.mm_frame.specs.Database.{Context, empty_context};
     ghost use Rattle.mm_frame.specs.Validity.{first_open};
-    ghost use Rattle.mm_frame.specs.Orderly.{IsOrderly};
     ghost use Rattle.mm_frame.specs.Held.{held};
     ghost use Rattle.mm_frame.specs.Standing.{Stands};
-    ghost use Rattle.mm_verify.specs.Checking.{HasFrames, IsBehind, Checks, ChecksProof, Declares};
+    ghost use Rattle.mm_verify.specs.Checking.{HasFrames, IsBehind, Checks, Declares, Adds};
 
     /// Nothing is declared.
     pub(crate) fn new(alloc: Global) -> Checker<'a>
@@ -48,40 +50,56 @@ impl<'a> Checker<'a> {
         ensures { (c : Context) → IsBehind self.old c → Checks c (statement_of bytes.now tokens.now) self.new result }
     {
         mm_frame::proof_laws();
-        let is_theorem = match self.check_proof(alloc, bytes, tokens) {
-            Err(end) => return Err(end),
-            Ok(is_theorem) => is_theorem,
+        let theorem = match self.scopes.theorem(alloc, bytes, tokens) {
+            Err(end) => return Err(verify_end(end)),
+            Ok(theorem) => theorem,
         };
-        match self.declare(alloc, bytes, tokens) {
-            Err(end) => Err(end),
-            Ok(added) => Ok(stated(is_theorem, added)),
+        match theorem {
+            Some(theorem) => self.prove(alloc, bytes, tokens, theorem),
+            None => match self.declare(alloc, bytes, tokens) {
+                Err(end) => Err(end),
+                Ok(added) => Ok(stated(added)),
+            },
         }
     }
 
-    /// Whether a statement is a `$p` without fault. Of a `$p` with a fault the first one is answered.
-    fn check_proof(
-        &self,
+    /// Checks the proof of a theorem, and adds it; else answers the fault of the proof.
+    fn prove(
+        &mut self,
         alloc: Global,
         bytes: &'a [u8],
         tokens: &[MmToken],
-    ) -> Result<bool, VerifyEnd>
-        requires frames { HasFrames self.now }
-        ensures { (c : Context) → Stands (held self.now.scopes) c → IsOrderly c → ChecksProof c (statement_of bytes.now tokens.now) result }
+        theorem: Theorem<'a, '_>,
+    ) -> Result<Stated, VerifyEnd>
+        requires frames { HasFrames self.old }
+        ensures { (c : Context) → IsBehind self.old c → IsProposed bytes.now (held self.old.scopes) c (statement_of bytes.now tokens.now) theorem.entry → Checks c (statement_of bytes.now tokens.now) self.new result }
     {
         mm_frame::proof_laws();
         mm_frame::scope_laws();
-        let theorem = match self.scopes.theorem(alloc, bytes, tokens) {
-            Err(end) => return Err(verify_end(end)),
-            Ok(None) => return Ok(false),
-            Ok(Some(theorem)) => theorem,
-        };
         match proof_fault(alloc, &self.scopes, &self.assertions, bytes, &theorem) {
             Err(_) => Err(VerifyEnd::Memory),
             Ok(Some(kind)) => Err(VerifyEnd::Invalid(MmFault {
                 kind,
                 at: first_byte(tokens),
             })),
-            Ok(None) => Ok(true),
+            Ok(None) => self.add(alloc, theorem),
+        }
+    }
+
+    /// Adds a theorem.
+    fn add(&mut self, alloc: Global, theorem: Theorem<'a, '_>) -> Result<Stated, VerifyEnd>
+        requires frames { HasFrames self.old }
+        ensures stated { IfOk result (λ a. a ≡ IsTheorem) }
+        ensures added { IfOk result (λ _. Adds self.old theorem.entry self.new) }
+        ensures memory { IfErr result (λ end. end ≡ Memory) }
+    {
+        match self.scopes.add_theorem(theorem) {
+            Err(_) => return Err(VerifyEnd::Memory),
+            Ok(()) => {}
+        }
+        match add_assertions(alloc, &self.scopes, &mut self.assertions) {
+            Err(_) => Err(VerifyEnd::Memory),
+            Ok(()) => Ok(Stated::Theorem),
         }
     }
 
