@@ -13,3 +13,17 @@ pub mod Writing
 pub mod Orderly
 pub mod NumberedSteps
 pub mod Sharing
+pub mod FormsRead
+pub mod FramesHeld
+pub mod Held
+pub mod HeldTests
+pub mod HeldFaults
+pub mod HeldSteps
+pub mod HeldFrames
+pub mod Judging
+pub mod Standing
+pub mod Takes
+pub mod HeldReads
+pub mod StandingLaws
+pub mod Proposing
+pub mod AddedView
