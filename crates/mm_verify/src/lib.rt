@@ -1,4 +1,10 @@
 //! Whether a Metamath database is valid, and its first fault where it is not.
+//!
+//! `verify` reads a text statement by statement. `Checker` judges each: scopes take what it declares, and a
+//! proof is read into steps (`proof_text`, `letters`) and run on a stack (`machine`, `applying`, `checking`).
+//! Symbols are numbers. An `Assertion` knows for each of its variables which entry of the stack gives its
+//! text (`parts`), so that a step fills texts in without a look-up. The contract of `verify` is the
+//! definition of validity of the crate `mm_frame`, in both directions.
 #![tactic(auto)]
 
 mod answers;
@@ -18,6 +24,8 @@ mod place;
 mod proof_fault;
 mod proof_text;
 mod stack;
+#[cfg(test)]
+mod tests;
 mod verdicts;
 
 pub use ends::{Report, VerifyEnd};
