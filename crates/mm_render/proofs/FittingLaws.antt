@@ -12,14 +12,12 @@ use Rattle.mm_frame.specs.Frames.{Frame, frame_of}
 use Rattle.mm_frame.specs.Database.{Context, context_after, after_form, with_declared}
 use Rattle.mm_frame.specs.Proofs.{IsProof}
 use Rattle.mm_frame.specs.Validity.{task, form_fault, is_new_label, IsFine}
-use Rattle.mm_frame.specs.FrameLaws.{Adds, written_statements, plain_tokens}
-use Rattle.mm_frame.specs.Writing.{Leaves, MayBeStated}
+use Rattle.mm_frame.specs.FrameLaws.{Adds, plain_tokens}
+use Rattle.mm_frame.specs.Writing.{MayBeStated}
 use Rattle.mm_frame.proofs.WrittenForms.{plain_tokens_say}
-use Rattle.mm_frame.proofs.Continued.{axiom_is_fine, continued_leaves}
+use Rattle.mm_frame.proofs.Continued.{axiom_is_fine}
 use Rattle.mm_header.specs.Header.{header_rows}
-use Rattle.mm_header.specs.HeaderText.{header_bytes}
 use Rattle.mm_header.specs.HeaderContext.{header_context, header_labels}
-use Rattle.mm_header.proofs.HeaderValid.{header_fine, header_ends}
 use Rattle.ml_pat.specs.Named.{AreDistinct, IsNoneOf}
 use Rattle.mm_render.specs.Labels.{name_label}
 use Rattle.mm_render.specs.Tokens.{name_of}

@@ -19,7 +19,7 @@ use Rattle.mm_render.specs.Tokens.{name_of, own_naming}
 use Rattle.mm_render.specs.Derivations.{holds_text, derivation_tree}
 use Rattle.mm_render.specs.Statements.{all_name_statements}
 use Rattle.mm_render.specs.Stating.{FitsStated, closed_over, stated_assertion, axiom_statement, theorem_statement, closed_citing, ArePlaced}
-use Rattle.mm_render.specs.Keeping.{FitsWhen, Fits, Gains, MayState, axiom_at, with_stated, EmptyFits, BegunFits, DeclaredFits}
+use Rattle.mm_render.specs.Keeping.{FitsWhen, Gains, MayState, axiom_at, with_stated, EmptyFits, BegunFits, DeclaredFits}
 use Rattle.mm_render.specs.Places.{Places, stated_cites, lemma_statement, MayProve}
 use Rattle.mm_render.proofs.LeafLaws.{EachLeaf-implied}
 use Rattle.mm_render.proofs.AgreeLaws.{agreeing, text-agrees}

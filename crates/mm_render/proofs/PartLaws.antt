@@ -1,8 +1,7 @@
 -- Parts on a stack.
 use Rattle.std.proofs.Common.{◌≡◌, ℕ, ◌+◌, ◌*◌, ◌<◌, ◌≤◌, Bool, true, false, List, [], ◌∷◌, ◌++◌, map, refl, ap, ◌∙◌, sym, append_assoc, append-nil, arith}
-use Rattle.std.specs.Prelude.{◌==◌, ◌||◌, if◌then◌else◌, flat_map}
+use Rattle.std.specs.Prelude.{◌==◌, ◌||◌, if◌then◌else◌}
 use Rattle.std.proofs.lemmas.Grind.{flat_map-append}
-use Rattle.std.proofs.lemmas.Bool.{false≢true}
 use Rattle.std.specs.Borrow.{Bor}
 use Rattle.mm_text.specs.Bytes.{Token}
 use Rattle.mm_text.specs.TextLaws.{written}
@@ -14,7 +13,7 @@ use Rattle.ml_kernel.specs.StepsIn.{steps_in, all_steps}
 use Rattle.mm_render.specs.Tokens.{Naming}
 use Rattle.mm_render.specs.Trees.{trees_of, instance_tree, premise_trees, row_tree, rule_label, fresh_tree, pattern_at, variable_at}
 use Rattle.mm_render.specs.Labels.{own_labels}
-use Rattle.mm_render.specs.Parts.{all_labels, instance_labels, trees_before, trees_behind, part_tokens, parts_tokens, part_weight, parts_weight, proof_of, proofs_of, PutsParts, PartIsTaken, rest_of_row}
+use Rattle.mm_render.specs.Parts.{all_labels, instance_labels, trees_before, trees_behind, part_tokens, parts_tokens, part_weight, parts_weight, proof_of, PutsParts, PartIsTaken, rest_of_row}
 use Rattle.mm_render.specs.Derivations.{derivation_trees}
 use Rattle.mm_render.specs.Stating.{closed_citing}
 use Rattle.mm_render.proofs.WrittenTogether.{written-append}

@@ -1,5 +1,5 @@
 -- Patterns are the same where their numbers are, and a pattern that was stated stands at its place.
-use Rattle.std.proofs.Common.{◌≡◌, ℕ, ◌+◌, ◌<◌, ◌≤◌, Bool, true, false, List, [], ◌∷◌, length, drop, get_or, drop-cons, zero, suc, refl, ap, ◌∙◌, sym, subst, arith, Option, Some, None, slice_get, nat_lt}
+use Rattle.std.proofs.Common.{◌≡◌, ℕ, ◌+◌, ◌<◌, Bool, true, false, List, [], ◌∷◌, length, drop, get_or, drop-cons, zero, suc, refl, ap, ◌∙◌, sym, subst, arith, Option, Some, None, slice_get, nat_lt}
 use Rattle.std.specs.Prelude.{◌==◌, ◌||◌, if◌then◌else◌}
 use Rattle.std.specs.List.{list_any}
 use Rattle.std.proofs.lemmas.Bool.{false≢true}

@@ -1,8 +1,7 @@
 -- Small patterns with their tokens and proofs.
-use Rattle.std.specs.Prelude.{◌≡◌, ℕ, ◌==◌, if◌then◌else◌, List, [], ◌∷◌, codes}
-use Rattle.mm_text.specs.Bytes.{Token}
+use Rattle.std.specs.Prelude.{◌≡◌, ◌==◌, if◌then◌else◌, [], ◌∷◌, codes}
 use Rattle.mm_frame.specs.Proofs.{postorder}
-use Rattle.ml_pat.specs.Patterns.{bot, imp, ev, app, all, ex, next, fun, equal, var, constant}
+use Rattle.ml_pat.specs.Patterns.{bot, imp, app, all, ex, fun, equal, var, constant}
 use Rattle.ml_kernel.specs.ProofRows.{pattern, variable, sort}
 use Rattle.ml_kernel.specs.Theorems.{row, own_axiom, no_derivation, more_derivations}
 use Rattle.mm_render.specs.Tokens.{Naming, tokens_of, object_token}

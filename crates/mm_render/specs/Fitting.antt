@@ -1,5 +1,5 @@
 -- What a text has declared that has declared the header and some names.
-use Rattle.std.specs.Prelude.{◌≡◌, ℕ, ◌<◌, ◌≤◌, ◌^◌, true, false, ◌||◌, List, [], ◌∷◌, length, Some}
+use Rattle.std.specs.Prelude.{◌≡◌, ℕ, ◌<◌, ◌≤◌, ◌^◌, false, ◌||◌, List, [], ◌∷◌, length, Some}
 use Rattle.mm_text.specs.Bytes.{Token, has_token}
 use Rattle.mm_frame.specs.Frames.{Frame}
 use Rattle.mm_frame.specs.Database.{Context}

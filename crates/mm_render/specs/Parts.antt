@@ -6,7 +6,7 @@ use Rattle.mm_frame.specs.Proofs.{ProofTree, postorder}
 use Rattle.ml_pat.specs.Patterns.{Pattern}
 use Rattle.ml_kernel.specs.ProofRows.{Instance}
 use Rattle.ml_kernel.specs.Theorems.{Derivation, Derivations}
-use Rattle.ml_kernel.specs.StepsIn.{steps_in, all_steps}
+use Rattle.ml_kernel.specs.StepsIn.{steps_in}
 use Rattle.mm_render.specs.Tokens.{Naming}
 use Rattle.mm_render.specs.Labels.{own_labels}
 use Rattle.mm_render.specs.Trees.{instance_tree, fresh_tree, substitution_tree, predicate_tree, pattern_at, variable_at, rule_label}

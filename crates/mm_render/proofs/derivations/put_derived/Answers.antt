@@ -1,4 +1,4 @@
-use Rattle.std.proofs.Common.{List, ℕ, ◌≡◌, ◌∷◌, ◌<◌, ◌-◌, ◌*◌, ap, drop, arith}
+use Rattle.std.proofs.Common.{List, ◌≡◌, ◌∷◌, ◌<◌, ◌-◌, ◌*◌, ap, drop, arith}
 use Rattle.ml_kernel.specs.StepsIn.{all_steps}
 use Rattle.ml_kernel.specs.Theorems.{Derivation, derivations}
 use Rattle.mm_render.specs.Parts.{proofs_of}

@@ -1,7 +1,6 @@
 use Rattle.std.proofs.Common.{List, ◌≡◌, ◌+◌, ◌*◌, ◌++◌, ap, ◌∙◌, sym, subst}
 use Rattle.mm_text.specs.TextLaws.{written}
 use Rattle.ml_kernel.specs.declared.derivations.Inst.{Inst}
-use Rattle.ml_kernel.specs.ProofRows.{Instance}
 use Rattle.ml_kernel.specs.StepView.{instances_of, derivation_of}
 use Rattle.ml_kernel.specs.StepsIn.{all_steps}
 use Rattle.ml_kernel.specs.Theorems.{Derivation, derivations, row}
