@@ -1,0 +1,6 @@
+-- Laws of what is read.
+pub mod Heads
+pub mod Steps
+pub mod Lists
+pub mod PlainLaws
+pub mod Sorts

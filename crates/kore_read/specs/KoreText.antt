@@ -1,0 +1,16 @@
+-- Which tree the bytes of a Kore text spell: the tokens spell the tree by the grammar, up to the end,
+-- each place in the tree is the byte of its first token, and at most 500 brackets `(` and `{` are
+-- open at once.
+use Rattle.std.specs.Prelude.{ℕ, List, [], false}
+use Rattle.kore_text.specs.TokenStream.{end, tokens_of}
+use Rattle.kore_text.specs.Trees.{PatternTree, DefinitionTree}
+use Rattle.kore_text.specs.Grammar.{Takes, spell_pattern, spell_definition}
+use Rattle.kore_text.specs.Faults.{IsShallow}
+
+-- the bytes spell this pattern
+abbrev pub ReadsPattern : List ℕ → PatternTree → Type 0
+ReadsPattern bytes p = IsShallow 0 (tokens_of bytes) × ((e : ℕ) × Takes (spell_pattern false p []) (tokens_of bytes) (end e))
+
+-- the bytes spell this definition
+abbrev pub ReadsDefinition : List ℕ → DefinitionTree → Type 0
+ReadsDefinition bytes d = IsShallow 0 (tokens_of bytes) × ((e : ℕ) × Takes (spell_definition d []) (tokens_of bytes) (end e))

@@ -1,0 +1,7 @@
+-- What a reader of the contracts has to believe, lowest first.
+pub mod Plain
+pub mod KoreText
+-- What only private functions cite.
+pub mod Known
+pub mod Streams
+pub mod Reading
