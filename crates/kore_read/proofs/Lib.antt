@@ -4,3 +4,4 @@ pub mod Steps
 pub mod Lists
 pub mod PlainLaws
 pub mod Sorts
+pub mod Patterns

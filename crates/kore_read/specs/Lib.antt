@@ -2,6 +2,7 @@
 pub mod Plain
 pub mod KoreText
 -- What only private functions cite.
+pub mod Told
 pub mod Known
 pub mod Streams
 pub mod Reading

@@ -167,6 +167,10 @@ impl<T: Drop> From<AllocFailed<T>> for ReadFault {
 }
 
 impl From<TextFault> for ReadFault {
+    ghost use Rattle.kore_read.specs.Told.{told};
+
+    ghost from_gives = { λ fault given. given ≡ told fault };
+
     fn from(fault: TextFault) -> ReadFault {
         match fault {
             TextFault::Lex(at) => ReadFault::Lex(at),
