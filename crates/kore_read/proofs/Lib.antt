@@ -5,3 +5,6 @@ pub mod Lists
 pub mod PlainLaws
 pub mod Sorts
 pub mod Patterns
+pub mod Sequences
+pub mod Declared
+pub mod Tops

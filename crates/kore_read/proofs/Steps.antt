@@ -8,7 +8,7 @@ use Rattle.kore_text.specs.declared.tokens.Next.{Next}
 use Rattle.kore_text.specs.declared.tokens.Next.TheVariants as next
 use Rattle.kore_text.specs.TokenStream.{token_of}
 use Rattle.kore_read.specs.Known.{first}
-use Rattle.kore_read.specs.Streams.{after, place, seen, is_done, has_mark, is_over, head_of}
+use Rattle.kore_read.specs.Streams.{after, place, seen, is_done, has_mark, is_over, head_of, keyword_of, is_declared}
 use Rattle.kore_read.specs.Reading.{Has, behind_comma}
 use Rattle.kore_read.specs.declared.reader.Head.{Head}
 use Rattle.kore_read.specs.declared.reader.Head.TheVariants as head
@@ -48,21 +48,21 @@ after_done (end e) h = refl
 after_done (fault e) h = refl
 after_done (token t p s) h = let z : false ≡ true = h in absurd (let y : ⊥ = cc in y)
 
-pub some-left : (s : Stream) → is_done (seen s) ≡ false → 1 ≤ count s
+pub some_left : (s : Stream) → is_done (seen s) ≡ false → 1 ≤ count s
 unfolding count
-some-left (end e) h = let z : true ≡ false = h in absurd (let y : ⊥ = cc in y)
-some-left (fault e) h = let z : true ≡ false = h in absurd (let y : ⊥ = cc in y)
-some-left (token t p s) h = omega arith
+some_left (end e) h = let z : true ≡ false = h in absurd (let y : ⊥ = cc in y)
+some_left (fault e) h = let z : true ≡ false = h in absurd (let y : ⊥ = cc in y)
+some_left (token t p s) h = omega arith
 
 pub marked : (c : ℕ) (s : Stream) → has_mark c (seen s) ≡ true → 1 ≤ count s
 marked c (end e) h = let z : false ≡ true = h in absurd (let y : ⊥ = cc in y)
 marked c (fault e) h = let z : false ≡ true = h in absurd (let y : ⊥ = cc in y)
-marked c (token t p s) h = some-left (token t p s) refl
+marked c (token t p s) h = some_left (token t p s) refl
 
 pub not_over : (c : ℕ) (s : Stream) → is_over c (seen s) ≡ false → 1 ≤ count s
 not_over c (end e) h = let z : true ≡ false = h in absurd (let y : ⊥ = cc in y)
 not_over c (fault e) h = let z : true ≡ false = h in absurd (let y : ⊥ = cc in y)
-not_over c (token t p s) h = some-left (token t p s) refl
+not_over c (token t p s) h = some_left (token t p s) refl
 
 pub count_comma : (first : Bool) (c : ℕ) (s : Stream) → count (behind_comma first c s) ≤ count s
 count_comma first c s = pick (is_over c (seen s)) first where
@@ -75,10 +75,10 @@ count_comma first c s = pick (is_over c (seen s)) first where
 pub headed : (s : Stream) (h : Head) → head_of (seen s) ≡ h → (head.Nothing ≡ h → ⊥) → 1 ≤ count s
 headed (end e) h e' n = absurd (n e')
 headed (fault e) h e' n = absurd (n e')
-headed (token t p s) h e' n = some-left (token t p s) refl
+headed (token t p s) h e' n = some_left (token t p s) refl
 
 pub first-some : (n : Next) (s : Stream) (k : TokenKind) (at : ℕ) (bytes : Bor (List ℕ)) → n ≡ next.Token k at bytes → 1 ≤ count (first n s)
-first-some n s k at bytes e = subst (λ m. 1 ≤ count (first m s)) (sym e) (some-left (token (token_of k bytes.now) at s) refl)
+first-some n s k at bytes e = subst (λ m. 1 ≤ count (first m s)) (sym e) (some_left (token (token_of k bytes.now) at s) refl)
 
 pub not-true : (b c : Bool) → c ≡ not b → c ≡ true → b ≡ false
 not-true false c e h = refl
@@ -87,3 +87,9 @@ not-true true c e h = let z : false ≡ true = sym e ∙ h in absurd (let y : �
 pub not-false : (b c : Bool) → c ≡ not b → c ≡ false → b ≡ true
 not-false true c e h = refl
 not-false false c e h = let z : true ≡ false = sym e ∙ h in absurd (let y : ⊥ = cc in y)
+
+-- what begins a declaration is a token
+pub keyed : (s : Stream) → is_declared (keyword_of (seen s)) ≡ true → 1 ≤ count s
+keyed (end e) h = let z : false ≡ true = h in absurd (let y : ⊥ = cc in y)
+keyed (fault e) h = let z : false ≡ true = h in absurd (let y : ⊥ = cc in y)
+keyed (token t p s) h = some_left (token t p s) refl

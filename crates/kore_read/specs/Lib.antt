@@ -4,5 +4,6 @@ pub mod KoreText
 -- What only private functions cite.
 pub mod Told
 pub mod Known
+pub mod Keywords
 pub mod Streams
 pub mod Reading

@@ -4,8 +4,8 @@ use Rattle.kore_read.specs.declared.reader.Reader.{Reader}
 use Rattle.kore_read.specs.Known.{first}
 use Rattle.kore_text.specs.TokenStream.{identifier, Stream}
 use Rattle.kore_text.specs.Left.{left as behind, size as count}
-use Rattle.kore_text.specs.Trees.{Declaration}
-use Rattle.kore_text.specs.Grammar.{Want, any, Spelling, listed, in_order, Takes, spell_declaration}
+use Rattle.kore_text.specs.Trees.{SortTree, AxiomDeclaration, Declaration}
+use Rattle.kore_text.specs.Grammar.{Want, any, Spelling, listed, in_order, Takes, keyword, spell_signature, spell_statement, spell_declaration}
 use Rattle.kore_text.specs.Apart.{Apart}
 use Rattle.kore_read.specs.Streams.{after, seen, is_over}
 
@@ -36,6 +36,14 @@ behind_comma first close s = if is_over close (seen s) then after s else (if fir
 -- it closes a list
 abbrev pub is_closing : ℕ → Bool
 is_closing c = (c == 125) || (c == 41) || (c == 93)
+
+-- sorts in parentheses, a colon and a sort
+abbrev pub spell_signature_pair : List SortTree × SortTree → Spelling
+spell_signature_pair x k = spell_signature x.0 x.1 k
+
+-- an axiom or a claim, by its keyword
+abbrev pub spell_stated : List ℕ → AxiomDeclaration → Spelling
+spell_stated word d k = keyword d.at word ∷ spell_statement d k
 
 -- declarations, up to and with the word that ends a module
 abbrev pub spell_body : List Declaration → Spelling

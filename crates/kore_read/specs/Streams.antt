@@ -1,9 +1,11 @@
 -- What stands at the head of the tokens that are left: cited by the clauses of private functions alone.
 use Rattle.std.specs.Prelude.{◌≡◌, ℕ, Bool, true, false, ◌||◌, Option, Some, None, List, []}
-use Rattle.std.specs.Str.{bytes_eq}
 use Rattle.kore_text.specs.declared.names.Built.{Built}
 use Rattle.kore_text.specs.TokenStream.{Token, identifier, set_identifier, builtin, string_token, Stream, end, fault, token}
 use Rattle.kore_text.specs.Table.{is_mark}
+use Rattle.kore_read.specs.declared.reader.Keyword.{Keyword}
+use Rattle.kore_read.specs.declared.reader.Keyword.TheVariants as keyword
+use Rattle.kore_read.specs.Keywords.{keyword_at}
 use Rattle.kore_read.specs.declared.reader.Head.{Head}
 use Rattle.kore_read.specs.declared.reader.Head.TheVariants as head
 
@@ -29,11 +31,6 @@ seen (token t p s) = Some t
 abbrev pub has_mark : ℕ → Option Token → Bool
 has_mark c None = false
 has_mark c (Some t) = is_mark c t
-
--- it is this word
-abbrev pub has_word : List ℕ → Option Token → Bool
-has_word w (Some (identifier n)) = bytes_eq n w
-has_word w _ = false
 
 -- there is none
 abbrev pub is_done : Option Token → Bool
@@ -75,3 +72,19 @@ abbrev pub is_textual : Head → Bool
 is_textual head.Text = true
 is_textual head.Nothing = true
 is_textual _ = false
+
+-- which declaration it begins
+abbrev pub keyword_of : Option Token → Keyword
+keyword_of (Some (identifier n)) = keyword_at n
+keyword_of _ = keyword.Nothing
+
+-- it begins a claim, or no declaration
+abbrev pub is_claimed : Keyword → Bool
+is_claimed keyword.Claim = true
+is_claimed keyword.Nothing = true
+is_claimed _ = false
+
+-- it begins a declaration
+abbrev pub is_declared : Keyword → Bool
+is_declared keyword.Nothing = false
+is_declared _ = true

@@ -6,6 +6,7 @@ ghost use Rattle.std.specs.Str.{is_utf8};
 ghost use Rattle.kore_lex.specs.Value.{IsString};
 ghost use Rattle.kore_read.specs.Known.{name_bytes, set_name_bytes, string_bytes_of};
 ghost use Rattle.kore_text.specs.TokenStream.{tokens_of};
+ghost use Rattle.kore_read.specs.Keywords.{keyword_at};
 
 use crate::text::Text;
 use kore_lex::{TokenKind, text_value};
@@ -33,9 +34,21 @@ pub(crate) enum Head {
     Nothing,
 }
 
+/// What begins a declaration; `Sort` and `Symbol` with whether it is hooked.
+#[derive(Clone, Copy)]
+pub(crate) enum Keyword {
+    Import,
+    Sort(bool),
+    Symbol(bool),
+    Alias,
+    Axiom,
+    Claim,
+    Nothing,
+}
+
 impl<'a> Reader<'a> {
     ghost use Rattle.kore_read.specs.Reading.{left, size, behind_comma};
-    ghost use Rattle.kore_read.specs.Streams.{after, place, seen, has_mark, has_word, is_done, is_over, name_of, set_name_of, text_of, head_of};
+    ghost use Rattle.kore_read.specs.Streams.{after, place, seen, has_mark, is_done, is_over, name_of, set_name_of, text_of, head_of, keyword_of};
 
     /// The whole text.
     #[tactic(auto, using(crate::proofs::Heads::comes_first, crate::proofs::Heads::comes_name, crate::proofs::Heads::comes_set_name, crate::proofs::Heads::comes_string))]
@@ -53,8 +66,10 @@ impl<'a> Reader<'a> {
     }
 
     /// Whether no token is left.
+    #[tactic(auto, using(crate::proofs::Steps::some_left))]
     pub(crate) fn is_done(&self) -> bool
-        ensures { result ≡ is_done (seen (left self.now)) }
+        ensures same { result ≡ is_done (seen (left self.now)) }
+        ensures some { result ≡ false → 1 ≤ size self.now }
     {
         match self.next {
             Next::Token(_, _, _) => false,
@@ -73,16 +88,6 @@ impl<'a> Reader<'a> {
         }
     }
 
-    /// Whether the next token is this word.
-    pub(crate) fn has_word(&self, word: &[u8]) -> bool
-        ensures { result ≡ has_word word.now (seen (left self.now)) }
-    {
-        match self.next {
-            Next::Token(TokenKind::Ident, _, bytes) => bytes == word,
-            _ => false,
-        }
-    }
-
     /// What the next token begins.
     pub(crate) fn head(&self) -> Head
         ensures { result ≡ head_of (seen (left self.now)) }
@@ -96,6 +101,16 @@ impl<'a> Reader<'a> {
                 None => Head::Nothing,
             },
             _ => Head::Nothing,
+        }
+    }
+
+    /// Which declaration the next token begins.
+    pub(crate) fn keyword(&self) -> Keyword
+        ensures { result ≡ keyword_of (seen (left self.now)) }
+    {
+        match self.next {
+            Next::Token(TokenKind::Ident, _, bytes) => keyword_at(bytes),
+            _ => Keyword::Nothing,
         }
     }
 
@@ -230,4 +245,29 @@ fn behind_first(bytes: &[u8]) -> &[u8]
     ensures { result.now ≡ drop 1 bytes.now }
 {
     if bytes.is_empty() { bytes } else { &bytes[1..] }
+}
+
+/// Which declaration this word begins.
+fn keyword_at(word: &[u8]) -> Keyword
+    ensures { result ≡ keyword_at word.now }
+{
+    if word == b"import".as_slice() {
+        Keyword::Import
+    } else if word == b"sort".as_slice() {
+        Keyword::Sort(false)
+    } else if word == b"hooked-sort".as_slice() {
+        Keyword::Sort(true)
+    } else if word == b"symbol".as_slice() {
+        Keyword::Symbol(false)
+    } else if word == b"hooked-symbol".as_slice() {
+        Keyword::Symbol(true)
+    } else if word == b"alias".as_slice() {
+        Keyword::Alias
+    } else if word == b"axiom".as_slice() {
+        Keyword::Axiom
+    } else if word == b"claim".as_slice() {
+        Keyword::Claim
+    } else {
+        Keyword::Nothing
+    }
 }

@@ -6,4 +6,4 @@ use Rattle.kore_read.proofs.reader.Reader.pass.Goals as goal
 
 pub returns-then-is_done-clause-shorter : goal.returns-then-is_done-clause-shorter
 returns-then-is_done-clause-shorter c =
-    ap count (after_done (left c.args.self.now) (sym c.is_done.ensures ∙ c.if-is_done.true)) ∙ count_after (left c.args.self.now)
+    ap count (after_done (left c.args.self.now) (sym c.is_done.ensures.same ∙ c.if-is_done.true)) ∙ count_after (left c.args.self.now)
