@@ -26,6 +26,8 @@ loop-self-preserved c = record {
 }
 
 pub returns : goal.returns
-returns c =
-    definition-read (map plain_pattern c.loop-self.attrs.items) (map plain_module c.loop-self.modules.items) (left c.args.self.now) (left c.loop-self.self)
-    c.loop-self.invariant (sym c.is_done.ensures.same ∙ c.loop-self-test.false)
+returns c = record {
+  exact =
+      definition-read (map plain_pattern c.in_ok-attrs.attrs.items) (map plain_module c.loop-self.modules.items) (left c.args.self.now) (left c.loop-self.self)
+      c.loop-self.invariant (sym c.is_done.ensures.same ∙ c.loop-self-test.false);
+}
