@@ -1,11 +1,11 @@
 -- What is read at a declaration, by its keyword.
-use Rattle.std.proofs.Common.{◌≡◌, ℕ, Bool, true, false, not, IsTrue, List, [], ◌∷◌, map, Some, refl, ap, sym, ◌∙◌, subst, Vec, Global}
+use Rattle.std.proofs.Common.{◌≡◌, ℕ, Bool, true, false, not, IsTrue, List, [], ◌∷◌, map, Some, refl, ap, sym, ◌∙◌, subst}
 use Rattle.std.specs.Prelude.{codes}
-use Rattle.kore_text.specs.TokenStream.{Token, identifier, mark, assign, Stream, end, fault, token}
+use Rattle.kore_text.specs.TokenStream.{Token, identifier, mark, assign, Stream, end}
 use Rattle.kore_text.specs.Trees.{SortTree, PatternTree, ImportDeclaration, SortDeclaration, SymbolDeclaration, AliasDeclaration, AxiomDeclaration, ModuleTree, DefinitionTree}
 use Rattle.kore_text.specs.Trees.{element_variable, set_variable, string, symbol_applied, connected, binding, domain_value, folded}
 use Rattle.kore_text.specs.Trees.{Declaration, import_declaration, sort_declaration, symbol_declaration, alias_declaration, axiom_declaration, claim_declaration}
-use Rattle.kore_text.specs.Grammar.{Want, placed, any, given, listed, in_order, keyword, sort_word, symbol_word, spell_name, spell_names, spell_sort, spell_pattern, spell_attributes, spell_signature, spell_alias, spell_statement, spell_declaration, spell_body, spell_module, spell_definition, is_some_module}
+use Rattle.kore_text.specs.Grammar.{Want, placed, any, listed, in_order, sort_word, symbol_word, spell_name, spell_names, spell_sort, spell_pattern, spell_attributes, spell_signature, spell_declaration, spell_body, spell_module, spell_definition, is_some_module}
 use Rattle.kore_text.specs.Apart.{Apart}
 use Rattle.kore_read.specs.declared.reader.Keyword.{Keyword}
 use Rattle.kore_read.specs.declared.reader.Keyword.TheVariants as key
@@ -15,7 +15,7 @@ use Rattle.kore_read.specs.Reading.{Has, Reads, spell_list, spell_signature_pair
 use Rattle.kore_read.specs.Reading.{spell_body as spell_declared}
 use Rattle.kore_read.proofs.Steps.{any-step, placed-step, given-step, end-step}
 use Rattle.kore_read.proofs.Lists.{Begins}
-use Rattle.kore_read.proofs.Sequences.{Follows, No, Parted, follows-end}
+use Rattle.kore_read.proofs.Sequences.{Follows, No, follows-end}
 
 -- a token and the stream behind it
 pub any-to : (t : Token) (k : List Want) (s s1 e : Stream) → s1 ≡ after s → Has (any t ∷ k) s e → (seen s ≡ Some t) × Has k s1 e

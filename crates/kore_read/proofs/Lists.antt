@@ -1,11 +1,11 @@
 -- A list that is read item by item.
-use Rattle.std.proofs.Common.{◌≡◌, ℕ, zero, suc, Bool, true, false, not, ◌||◌, ◌==◌, List, [], ◌∷◌, ◌++◌, map, length, Some, refl, ap, sym, ◌∙◌, subst, append_assoc, arith, Vec, Global, vec_len, if◌then◌else◌, rules}
+use Rattle.std.proofs.Common.{◌≡◌, ℕ, Bool, true, false, not, ◌||◌, ◌==◌, List, [], ◌∷◌, ◌++◌, map, length, Some, refl, ap, sym, ◌∙◌, subst, append_assoc, arith, Vec, Global, vec_len, if◌then◌else◌, rules}
 use Rattle.std.proofs.lemmas.List.{append-nil, map-append}
-use Rattle.kore_text.specs.TokenStream.{Token, mark, Stream}
+use Rattle.kore_text.specs.TokenStream.{mark, Stream}
 use Rattle.kore_text.specs.Grammar.{Want, any, Spelling, listed, more_listed}
 use Rattle.kore_text.specs.Apart.{Apart}
 use Rattle.kore_text.specs.Table.{is_mark}
-use Rattle.kore_read.specs.Streams.{after, seen, is_over, has_mark}
+use Rattle.kore_read.specs.Streams.{after, seen, is_over}
 use Rattle.kore_read.specs.Reading.{Has, Reads, spell_list, behind_comma, is_closing}
 use Rattle.kore_read.proofs.Steps.{any-step, not-true, not-false}
 

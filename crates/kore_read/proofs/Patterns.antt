@@ -1,5 +1,5 @@
 -- What is read at a pattern, by its head.
-use Rattle.std.proofs.Common.{◌≡◌, ◌==◌, ℕ, Bool, true, false, ◌||◌, ◌&&◌, IsTrue, List, [], ◌∷◌, map, Option, Some, None, refl, ap, sym, ◌∙◌, subst}
+use Rattle.std.proofs.Common.{◌≡◌, ◌==◌, ℕ, Bool, true, false, ◌&&◌, List, [], ◌∷◌, map, Some, refl, ap, sym, ◌∙◌, subst}
 use Rattle.kore_text.specs.declared.names.Op.{Op}
 use Rattle.kore_text.specs.declared.names.Binder.{Binder}
 use Rattle.kore_text.specs.declared.names.Built.TheVariants as built
@@ -7,14 +7,14 @@ use Rattle.kore_text.specs.TokenStream.{Token, identifier, set_identifier, built
 use Rattle.kore_text.specs.Trees.{SortTree, SortTrees, sort_trees, sort_count}
 use Rattle.kore_text.specs.Trees.{PatternTree, element_variable, set_variable, string, symbol_applied, connected, binding, domain_value, folded}
 use Rattle.kore_text.specs.Trees.{PatternTrees, no_patterns, pattern_then, pattern_trees, pattern_count, listed_patterns}
-use Rattle.kore_text.specs.Grammar.{Want, placed, any, given, listed, Spelling, takes, binder_sorts, binds_sets, is_variable, is_foldable, spell_sort, spell_sorts, spell_pattern, spell_patterns, spell_variable, spell_applied}
+use Rattle.kore_text.specs.Grammar.{Want, placed, any, listed, Spelling, takes, binder_sorts, binds_sets, is_variable, is_foldable, spell_sort, spell_sorts, spell_pattern, spell_patterns, spell_applied}
 use Rattle.kore_text.specs.Apart.{Apart}
 use Rattle.kore_read.specs.declared.reader.Head.{Head}
 use Rattle.kore_read.specs.declared.reader.Head.TheVariants as head
 use Rattle.kore_read.specs.Streams.{after, place, seen, has_mark, is_over, name_of, set_name_of, text_of, head_of, is_textual}
 use Rattle.kore_read.specs.Reading.{Has, Reads, spell_list}
 use Rattle.kore_read.proofs.Steps.{any-step, placed-step, given-step}
-use Rattle.kore_read.proofs.Lists.{Begins, reads-is}
+use Rattle.kore_read.proofs.Lists.{Begins}
 use Rattle.kore_read.proofs.Sorts.{sorts-exact, contrary}
 
 pub spell_patterns-trees : (b : Bool) (ps : List PatternTree) → spell_patterns b (pattern_trees ps) ≡ map (spell_pattern b) ps
@@ -89,7 +89,6 @@ no-mark close (folded p l q) = refl
 -- no list is over where a pattern begins
 pub begins-pattern : (b : Bool) (close : ℕ) → Begins (spell_pattern b) close
 begins-pattern b close = record { open_at = λ t k s e h. ap (is_over close) (begins-with b t k s e h) ∙ no-mark close t }
-
 
 -- a pattern by its head
 by-set : (t : PatternTree) → head_of_tree t ≡ head.SetName → (p : ℕ) × (n : List ℕ) × (s : SortTree) × (t ≡ set_variable p n s)

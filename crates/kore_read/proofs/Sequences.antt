@@ -1,5 +1,5 @@
 -- Things that are read one after the other, without marks between them.
-use Rattle.std.proofs.Common.{◌≡◌, ◌≤◌, ℕ, List, [], ◌∷◌, ◌++◌, map, refl, ap, sym, ◌∙◌, subst, append_assoc, Vec, Global}
+use Rattle.std.proofs.Common.{◌≡◌, List, [], ◌∷◌, ◌++◌, map, refl, ap, sym, ◌∙◌, subst, append_assoc, Vec, Global}
 use Rattle.std.proofs.lemmas.List.{append-nil, map-append}
 use Rattle.kore_text.specs.TokenStream.{Stream}
 use Rattle.kore_text.specs.Grammar.{Want, Spelling, in_order}

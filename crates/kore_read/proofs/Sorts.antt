@@ -1,10 +1,9 @@
 -- What is read at a sort.
-use Rattle.std.proofs.Common.{◌≡◌, ℕ, Bool, true, false, ◌||◌, List, [], ◌∷◌, map, Some, None, refl, ap, sym, ◌∙◌, subst}
-use Rattle.kore_text.specs.TokenStream.{Token, identifier, mark, Stream, end, fault, token}
+use Rattle.std.proofs.Common.{◌≡◌, ℕ, Bool, true, false, List, [], ◌∷◌, map, refl, ap, sym, ◌∙◌, subst}
+use Rattle.kore_text.specs.TokenStream.{identifier, mark, Stream, end, fault, token}
 use Rattle.kore_text.specs.Trees.{SortTree, sort_parameter, sort_applied, SortTrees, no_sorts, sort_then, sort_trees, listed_sorts}
 use Rattle.kore_text.specs.Grammar.{Want, placed, any, given, listed, spell_sort, spell_sorts}
 use Rattle.kore_text.specs.Apart.{Apart}
-use Rattle.kore_text.specs.Table.{is_mark}
 use Rattle.kore_read.specs.Streams.{after, place, seen, has_mark, is_over, name_of}
 use Rattle.kore_read.specs.Reading.{Has, Reads, spell_list}
 use Rattle.kore_read.proofs.Steps.{any-step, placed-step, given-step, end-step}

@@ -1,6 +1,6 @@
 -- One token that is taken.
-use Rattle.std.proofs.Common.{◌≡◌, ◌≤◌, ◌-◌, ℕ, zero, suc, Bool, true, false, List, [], ◌∷◌, Some, None, refl, ap, sym, ◌∙◌, subst, arith, IsTrue, Bor, not, ◌||◌, if◌then◌else◌}
-use Rattle.kore_text.specs.TokenStream.{Token, identifier, set_identifier, builtin, string_token, mark, Stream, end, fault, token}
+use Rattle.std.proofs.Common.{◌≡◌, ◌≤◌, ◌-◌, ℕ, Bool, true, false, List, [], ◌∷◌, Some, refl, ap, sym, ◌∙◌, subst, arith, IsTrue, Bor, not, if◌then◌else◌}
+use Rattle.kore_text.specs.TokenStream.{Token, Stream, end, fault, token}
 use Rattle.kore_text.specs.Left.{size as count}
 use Rattle.kore_text.specs.Grammar.{Want, placed, any, given, Takes}
 use Rattle.kore_lex.specs.declared.lexer.TokenKind.{TokenKind}

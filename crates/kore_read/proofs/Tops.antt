@@ -1,9 +1,9 @@
 -- The whole text.
-use Rattle.std.proofs.Common.{◌≡◌, ℕ, Bool, false, List, [], Option, Some, None, Result, Ok, Err, sym, subst}
+use Rattle.std.proofs.Common.{◌≡◌, ℕ, Bool, false, List, [], Some, None, sym, subst}
 use Rattle.kore_text.specs.TokenStream.{Stream, end, tokens_of}
 use Rattle.kore_text.specs.Trees.{PatternTree, DefinitionTree}
 use Rattle.kore_text.specs.Grammar.{Takes, spell_pattern, spell_definition}
-use Rattle.kore_text.specs.Faults.{IsShallow, IsFirstFault, IsPattern, IsDefinition}
+use Rattle.kore_text.specs.Faults.{IsFirstFault, IsPattern, IsDefinition}
 use Rattle.kore_text.specs.declared.faults.TextFault.{TextFault}
 use Rattle.kore_text.specs.declared.faults.TextFault.TheVariants as text_fault
 use Rattle.kore_read.specs.KoreText.{ReadsPattern, ReadsDefinition, IsFault}

@@ -1,7 +1,7 @@
 -- Which tree the bytes of a Kore text spell: the tokens spell the tree by the grammar, up to the end,
 -- each place in the tree is the byte of its first token, and at most 500 brackets `(` and `{` are
 -- open at once. Where they spell none, the first fault of the text is told.
-use Rattle.std.specs.Prelude.{ℕ, List, [], false, Result, Ok, Err, Some, Option}
+use Rattle.std.specs.Prelude.{ℕ, List, [], false, Result, Ok, Err, Some}
 use Rattle.kore_text.specs.TokenStream.{end, tokens_of, Stream}
 use Rattle.kore_text.specs.Trees.{PatternTree, DefinitionTree}
 use Rattle.kore_text.specs.Grammar.{Takes, spell_pattern, spell_definition}

@@ -1,5 +1,5 @@
 -- What is left of a text while it is read: cited by the clauses of private functions alone.
-use Rattle.std.specs.Prelude.{◌≡◌, ℕ, Bool, List, [], ◌∷◌, map, if◌then◌else◌, codes, ◌==◌, ◌||◌}
+use Rattle.std.specs.Prelude.{◌≡◌, ℕ, Bool, List, ◌∷◌, map, if◌then◌else◌, codes, ◌==◌, ◌||◌}
 use Rattle.kore_read.specs.declared.reader.Reader.{Reader}
 use Rattle.kore_read.specs.Known.{first}
 use Rattle.kore_text.specs.TokenStream.{identifier, Stream}

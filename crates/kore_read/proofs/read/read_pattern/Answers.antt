@@ -1,4 +1,4 @@
-use Rattle.std.proofs.Common.{None, subst}
+use Rattle.std.proofs.Common.{subst}
 use Rattle.kore_text.specs.TokenStream.{tokens_of}
 use Rattle.kore_text.specs.Faults.{IsFirstFault, IsPattern}
 use Rattle.kore_read.specs.Plain.{plain_pattern}

@@ -1,4 +1,4 @@
-use Rattle.std.proofs.Common.{arith, map, sym, ◌∙◌, ap, refl, ◌≤◌}
+use Rattle.std.proofs.Common.{arith, map, sym, ◌∙◌, refl, ◌≤◌}
 use Rattle.kore_read.specs.Plain.{plain_sort, plain_pattern}
 use Rattle.kore_text.specs.Grammar.{spell_pattern}
 use Rattle.kore_read.specs.Reading.{left, size}
@@ -82,8 +82,17 @@ binding-pattern-requires t c =
 pub binding-pattern-requires-2 : goal.binding-pattern-requires-2
 binding-pattern-requires-2 t c =
     let n : 1 ≤ size c.args.self.now = headed (left c.args.self.now) _ c.requires (λ e. let z : ⊥ = cc in z) in (
-      omega (arith, n, c.decreases, c.pass-at.ensures.shorter, c.pass.ensures.shorter, c.in_ok-sorts.ensures.shorter, c.pass-2.ensures.shorter,
-      c.in_ok-variable.ensures.shorter, c.pass-3.ensures.shorter),
+      omega (
+        arith,
+        n,
+        c.decreases,
+        c.pass-at.ensures.shorter,
+        c.pass.ensures.shorter,
+        c.in_ok-sorts.ensures.shorter,
+        c.pass-2.ensures.shorter,
+        c.in_ok-variable.ensures.shorter,
+        c.pass-3.ensures.shorter,
+      ),
       tt,
     )
 

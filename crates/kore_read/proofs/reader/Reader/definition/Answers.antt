@@ -1,4 +1,4 @@
-use Rattle.std.proofs.Common.{arith, map, sym, ◌∙◌, []}
+use Rattle.std.proofs.Common.{map, sym, ◌∙◌, []}
 use Rattle.kore_text.specs.TokenStream.{end}
 use Rattle.kore_text.specs.Grammar.{spell_module}
 use Rattle.kore_read.specs.Plain.{plain_pattern, plain_module}

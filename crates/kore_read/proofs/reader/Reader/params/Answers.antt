@@ -1,4 +1,4 @@
-use Rattle.std.proofs.Common.{arith, List, ℕ, map, sym, ◌∙◌, ap, subst, refl}
+use Rattle.std.proofs.Common.{arith, List, ℕ, map, sym, subst, refl}
 use Rattle.kore_text.specs.Grammar.{spell_name}
 use Rattle.kore_read.specs.Streams.{after}
 use Rattle.kore_read.specs.Reading.{left}
