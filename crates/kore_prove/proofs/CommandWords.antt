@@ -1,7 +1,11 @@
 -- Words of a command, one by one.
-use Rattle.std.proofs.Common.{◌≡◌, ℕ, ◌<◌, ◌≤◌, List, [], ◌∷◌, length, get_or, map, refl, arith, IfNone, Option, Some, None}
+use Rattle.std.proofs.Common.{◌≡◌, ℕ, ◌<◌, ◌≤◌, List, [], ◌∷◌, length, get_or, map, refl, sym, ◌∙◌, ap, subst, arith, IfNone, Option, Some, None}
 use Rattle.std.specs.Prelude.{codes}
-use Rattle.kore_prove.specs.Words.{IsLimit, IsRunCommand}
+use Rattle.kore_prove.specs.Words.{IsLimit, IsRunCommand, IsVerifyCommand, IsNoCommand, NamesCommand}
+use Rattle.kore_prove.specs.declared.words.Command.{Command}
+use Rattle.kore_prove.specs.declared.words.Command.TheVariants as command
+use Rattle.kore_prove.specs.declared.words.RunWords.{RunWords}
+use Rattle.std.specs.Borrow.{Bor}
 
 -- a list of five items is the list of its items
 pub five_items : {X : Type 0} (xs : List X) (a b c d e : X) → 5 ≤ length xs → length xs < 6 → a ≡ get_or xs 0 a → b ≡ get_or xs 1 b → c ≡ get_or xs 2 c → d ≡ get_or xs 3 d → e ≡ get_or xs 4 e → xs ≡ a ∷ b ∷ c ∷ d ∷ e ∷ []
@@ -28,3 +32,38 @@ no_limit bytes words run definition term option number are bad definition' term'
 pub none_holds : {X P : Type 0} (o : Option X) → P → IfNone o P
 none_holds None p = p
 none_holds (Some x) p = tt
+
+-- a list of two items is the list of its items
+pub two_items : {X : Type 0} (xs : List X) (a b : X) → 2 ≤ length xs → length xs < 3 → a ≡ get_or xs 0 a → b ≡ get_or xs 1 b → xs ≡ a ∷ b ∷ []
+two_items [] a b low high ia ib = absurd (omega arith)
+two_items (p ∷ []) a b low high ia ib = absurd (omega arith)
+two_items (p ∷ q ∷ []) a b low high ia ib = cc
+two_items (p ∷ q ∷ r ∷ rs) a b low high ia ib = absurd (omega arith)
+
+-- two words of a verification
+pub verify_command : {X : Type 0} (bytes : X → List ℕ) (words : List X) (verify file : X) → words ≡ verify ∷ file ∷ [] → bytes verify ≡ codes "verify" → IsVerifyCommand (map bytes words) (bytes file)
+verify_command bytes words verify file are is = rw (are, is) refl
+
+-- the words of `verify` name one file
+pub one_file : (words : List (List ℕ)) (file file' : List ℕ) → IsVerifyCommand words file → IsVerifyCommand words file' → file ≡ file'
+one_file words file file' a b =
+    let same : codes "verify" ∷ file ∷ [] ≡ codes "verify" ∷ file' ∷ [] = sym a ∙ b in cc
+
+-- no words are both commands
+pub not_both : (words : List (List ℕ)) (definition term : List ℕ) (limit : ℕ) (file : List ℕ) → IsRunCommand words definition term limit → IsVerifyCommand words file → ⊥
+not_both words definition term limit file run verify =
+    let same : codes "run" ∷ definition ∷ term ∷ codes "--limit" ∷ run.number ∷ [] ≡ codes "verify" ∷ file ∷ [] = sym run.words_are ∙ verify in
+    let lengths : length (codes "run" ∷ definition ∷ term ∷ codes "--limit" ∷ run.number ∷ []) ≡ length (codes "verify" ∷ file ∷ []) = ap length same in
+    omega (arith, lengths)
+
+-- the command that the words name, by what it is
+pub named_run : (words : List (List ℕ)) (named : Command) (run : RunWords) → NamesCommand words named → named ≡ command.Run run → IsRunCommand words run.definition.now run.term.now run.limit
+named_run words named run names is = subst (λ (d : Command). NamesCommand words d) is names
+
+pub named_file : (words : List (List ℕ)) (named : Command) (file : Bor (List ℕ)) → NamesCommand words named → named ≡ command.Verify file → IsVerifyCommand words file.now
+named_file words named file names is = subst (λ (d : Command). NamesCommand words d) is names
+
+-- words that name a command are one
+pub some_command : (words : List (List ℕ)) (named : Command) → NamesCommand words named → IsNoCommand words → ⊥
+some_command words (command.Run run) names none = none.no_run run.definition.now run.term.now run.limit names
+some_command words (command.Verify file) names none = none.no_verification file.now names

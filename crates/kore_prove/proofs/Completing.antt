@@ -1,4 +1,4 @@
--- A call that can run and that meets no fault prints a run, unless memory is wanting.
+-- A call that can run, or verify, and that meets no fault prints a run or a verdict, unless memory is wanting.
 use Rattle.std.proofs.Common.{◌≡◌, ℕ, ◌<◌, ◌≤◌, ◌^◌, ◌⊎◌, inl, inr, List, [], ◌∷◌, length, codes, Option, None, Some, refl, sym, ◌∙◌, ap, subst, arith}
 use Rattle.std.specs.List.{filter_map}
 use Rattle.desk_io.specs.Told.{Told, Holds, Lacks, HoldsMore, file_of}
@@ -11,10 +11,11 @@ use Rattle.rule_core.specs.declared.rules.Program.{Program}
 use Rattle.rule_core.specs.declared.signature.Signature.{Signature}
 use Rattle.kore_prove.specs.Acceptance.{Each, IsRuleOf, IsAccepted, IsStartSort, IsAcceptedTerm, IsSymbolEntry, symbol_declared, axiom_declared, sort_number}
 use Rattle.kore_prove.specs.Runnable.{IsProgramOf, AcceptsTree}
-use Rattle.kore_prove.specs.Words.{IsRunCommand}
+use Rattle.kore_prove.specs.Words.{IsRunCommand, IsVerifyCommand, IsNoCommand}
 use Rattle.kore_prove.specs.Reports.{Ending, out_of_memory, bad_words, read_fault, write_fault, no_such_file, definition_refused, term_refused, too_large, end_code, Reports}
-use Rattle.kore_prove.specs.Causes.{Course, RunCause, IsNoCommand, definition_limit, term_limit}
-use Rattle.kore_prove.specs.Readiness.{CanRun, IsReady}
+use Rattle.kore_prove.specs.Causes.{Course, RunCause, Verification, VerifyCause, definition_limit, term_limit, database_limit}
+use Rattle.kore_prove.specs.Readiness.{CanRun, CanVerify, IsReady, IsReadyToVerify}
+use Rattle.kore_prove.proofs.CommandWords.{one_file, not_both}
 use Rattle.kore_prove.proofs.Determined.{SameSignature, same_meaning, same_rule, one_rewriting, one_main}
 use Rattle.kore_prove.proofs.MainModule.{main-within}
 use Rattle.kore_prove.proofs.OneDefinition.{one_signature, few_entries}
@@ -128,7 +129,45 @@ pub ends_without_memory : (words : List (List ℕ)) (c : Course) (limit : ℕ) (
 ends_without_memory words c limit e before after old new code command cause said ready reads writes =
     inr (inr (ended words c.told c limit e before after old new code refl ready command cause said reads writes))
 
--- words that can run are a command
+-- such a call that is to verify has no end but want of memory
+no_verify_cause : (words : List (List ℕ)) (told : Told) (r : CanVerify words told) (v : Verification) (e : Ending) → v.told ≡ Some told → IsVerifyCommand words v.file → (Rose v.reads v.reads' → ⊥) → (Rose v.writes v.writes' → ⊥) → VerifyCause v e → end_code e ≡ 1
+no_verify_cause words told r v out_of_memory is command reads writes h = refl
+no_verify_cause words told r v bad_words is command reads writes h = absurd h
+no_verify_cause words told r v read_fault is command reads writes h = absurd (reads h)
+no_verify_cause words told r v write_fault is command reads writes h = absurd (writes h)
+no_verify_cause words told r v (no_such_file name) is command reads writes h =
+    let same = one_file words r.file v.file r.command command ∙ sym h.0 in
+    absurd (not_lacking told r.file name r.bytes same r.held (subst (λ (o : Option Told). Lacks o name) is h.1))
+no_verify_cause words told r v (definition_refused number byte) is command reads writes h = absurd h
+no_verify_cause words told r v (term_refused number byte) is command reads writes h = absurd h
+no_verify_cause words told r v (too_large name) is command reads writes h =
+    let same = one_file words r.file v.file r.command command ∙ sym h.0 in
+    absurd (not_more told r.file name r.bytes database_limit same r.held r.within (subst (λ (o : Option Told). HoldsMore o name database_limit) is h.1))
+
+verify_ended : (words : List (List ℕ)) (told : Option Told) (v : Verification) (e : Ending) (before after : Option (List ℕ)) (old new code : ℕ) → v.told ≡ told → IsReadyToVerify words told → IsVerifyCommand words v.file → VerifyCause v e → Reports e before after old new code → (Rose v.reads v.reads' → ⊥) → (Rose v.writes v.writes' → ⊥) → code ≡ 1
+verify_ended words None v e before after old new code is ready command cause said reads writes = absurd ready
+verify_ended words (Some told) v e before after old new code is ready command cause said reads writes =
+    code_of e before after old new code said (no_verify_cause words told ready v e is command reads writes cause)
+
+pub verify_ends_without_memory : (words : List (List ℕ)) (v : Verification) (e : Ending) (before after : Option (List ℕ)) (old new code : ℕ) → IsVerifyCommand words v.file → VerifyCause v e → Reports e before after old new code → IsReadyToVerify words v.told → (Rose v.reads v.reads' → ⊥) → (Rose v.writes v.writes' → ⊥)
+    → (code ≡ 0) ⊎ (code ≡ 12) ⊎ (code ≡ 1)
+verify_ends_without_memory words v e before after old new code command cause said ready reads writes =
+    inr (inr (verify_ended words v.told v e before after old new code refl ready command cause said reads writes))
+
+-- words that can run are a command, and not `verify` and a file
 pub ready_command : (words : List (List ℕ)) (told : Option Told) → IsReady words told → IsNoCommand words → ⊥
 ready_command words None ready none = absurd ready
-ready_command words (Some told) ready none = none ready.definition ready.term ready.limit ready.command
+ready_command words (Some told) ready none = none.no_run ready.definition ready.term ready.limit ready.command
+
+pub ready_to_run : (words : List (List ℕ)) (told : Option Told) (file : List ℕ) → IsReady words told → IsVerifyCommand words file → ⊥
+ready_to_run words None file ready verify = absurd ready
+ready_to_run words (Some told) file ready verify = not_both words ready.definition ready.term ready.limit file ready.command verify
+
+-- words that can verify are a command, and no run command
+pub ready_verify_command : (words : List (List ℕ)) (told : Option Told) → IsReadyToVerify words told → IsNoCommand words → ⊥
+ready_verify_command words None ready none = absurd ready
+ready_verify_command words (Some told) ready none = none.no_verification ready.file ready.command
+
+pub ready_to_verify : (words : List (List ℕ)) (told : Option Told) (definition term : List ℕ) (limit : ℕ) → IsReadyToVerify words told → IsRunCommand words definition term limit → ⊥
+ready_to_verify words None definition term limit ready run = absurd ready
+ready_to_verify words (Some told) definition term limit ready run = not_both words definition term limit ready.file run ready.command

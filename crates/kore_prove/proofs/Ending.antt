@@ -9,7 +9,7 @@ use Rattle.kore_prove.specs.declared.accept.Refusal.{Refusal}
 use Rattle.kore_prove.specs.declared.accept.Refusal.TheVariants as refusal
 use Rattle.kore_prove.specs.declared.files.FileEnd.{FileEnd}
 use Rattle.kore_prove.specs.declared.files.FileEnd.TheVariants as file
-use Rattle.kore_prove.specs.PrintedRun.{PrintsRun}
+use Rattle.kore_prove.specs.PrintedRun.{PrintsRun, IsCodeOfRun}
 use Rattle.kore_prove.specs.Reports.{Ending, out_of_memory, bad_words, read_fault, write_fault, no_such_file, definition_refused, term_refused, too_large, end_code, Reports}
 use Rattle.kore_prove.specs.Causes.{FileCause}
 
@@ -21,26 +21,30 @@ pub same_files : (told : Option Told) → KeepsFiles told told
 same_files None = tt
 same_files (Some told) = (told.unread, refl)
 
--- no end has the exit code of a run
-no_run_code : (e : Ending) (code : ℕ) → code ≡ end_code e → (code ≡ 0) ⊎ (code ≡ 10) → ⊥
-no_run_code out_of_memory code is h = grind arith
-no_run_code bad_words code is h = grind arith
-no_run_code read_fault code is h = grind arith
-no_run_code write_fault code is h = grind arith
-no_run_code (no_such_file name) code is h = grind arith
-no_run_code (definition_refused number byte) code is h = grind arith
-no_run_code (term_refused number byte) code is h = grind arith
-no_run_code (too_large name) code is h = grind arith
+-- no end has the exit code of a run or of a verdict
+no_done_code : (e : Ending) (code : ℕ) → code ≡ end_code e → (code ≡ 0) ⊎ (code ≡ 10) ⊎ (code ≡ 12) → ⊥
+no_done_code out_of_memory code is h = grind arith
+no_done_code bad_words code is h = grind arith
+no_done_code read_fault code is h = grind arith
+no_done_code write_fault code is h = grind arith
+no_done_code (no_such_file name) code is h = grind arith
+no_done_code (definition_refused number byte) code is h = grind arith
+no_done_code (term_refused number byte) code is h = grind arith
+no_done_code (too_large name) code is h = grind arith
 
-code_of_no_run : (e : Ending) (before after : Option (List ℕ)) (old new code : ℕ) → Reports e before after old new code → (code ≡ 0) ⊎ (code ≡ 10) → ⊥
-code_of_no_run e before after old new code (inl said) h = no_run_code e code said.0 h
-code_of_no_run e before after old new code (inr cut) h = no_run_code out_of_memory code cut.0 h
+pub code_of_no_end : (e : Ending) (before after : Option (List ℕ)) (old new code : ℕ) → Reports e before after old new code → (code ≡ 0) ⊎ (code ≡ 10) ⊎ (code ≡ 12) → ⊥
+code_of_no_end e before after old new code (inl said) h = no_done_code e code said.0 h
+code_of_no_end e before after old new code (inr cut) h = no_done_code out_of_memory code cut.0 h
+
+code_of_run : (words : List (List ℕ)) (code : ℕ) → IsCodeOfRun words code → (code ≡ 0) ⊎ (code ≡ 10) ⊎ (code ≡ 12)
+code_of_run words code (inl ten) = inr (inl ten)
+code_of_run words code (inr zero) = inl zero.0
 
 -- a call that reports an end claims no printed run
 pub prints_no_run : (words : List (List ℕ)) (told : Option Told) (output output' : Option (List ℕ)) (e : Ending) (before after : Option (List ℕ)) (old new code : ℕ) → Reports e before after old new code → PrintsRun words told output output' code
 prints_no_run words None output output' e before after old new code r = tt
 prints_no_run words (Some told) None output' e before after old new code r = tt
-prints_no_run words (Some told) (Some bytes) output' e before after old new code r = λ h. absurd (code_of_no_run e before after old new code r h)
+prints_no_run words (Some told) (Some bytes) output' e before after old new code r = λ h. absurd (code_of_no_end e before after old new code r (code_of_run words code h))
 
 kept_holds : (told told' : Option Told) (name bytes : List ℕ) → KeepsFiles told told' → Holds told' name bytes → Holds told name bytes
 kept_holds None told' name bytes kept h = tt

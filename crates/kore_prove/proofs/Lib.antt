@@ -19,3 +19,4 @@ pub mod PrintedTerms
 pub mod Pieces
 pub mod Ending
 pub mod Completing
+pub mod Verifying

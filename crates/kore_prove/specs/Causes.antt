@@ -3,6 +3,7 @@ use Rattle.std.specs.Prelude.{◌≡◌, ℕ, ◌<◌, ◌^◌, length, ◌⊎�
 use Rattle.desk_io.specs.Told.{Told, Holds, Lacks, HoldsMore}
 use Rattle.desk_io.specs.Sent.{SameBytes}
 use Rattle.desk_io.specs.Counts.{Rose}
+use Rattle.desk_io.specs.declared.read.ReadEnd.{ReadEnd}
 use Rattle.desk_io.specs.declared.read.ReadEnd.TheVariants as read
 use Rattle.term_core.specs.Patterns.{Pattern}
 use Rattle.kore_ast.specs.Trees.{PatternTree, DefinitionTree}
@@ -17,15 +18,18 @@ use Rattle.kore_prove.specs.Acceptance.{IsAccepted, IsAcceptedTerm, sort_number}
 use Rattle.kore_text.specs.Faults.{IsDefinition, IsPattern}
 use Rattle.kore_prove.specs.Refusals.{IsRefusal}
 use Rattle.kore_prove.specs.Files.{HoldsProgram}
-use Rattle.kore_prove.specs.Words.{IsRunCommand}
+use Rattle.kore_prove.specs.Words.{IsRunCommand, IsVerifyCommand, IsNoCommand}
 use Rattle.kore_prove.specs.Reports.{Ending, out_of_memory, bad_words, read_fault, write_fault, no_such_file, definition_refused, term_refused, too_large, Reports}
 
--- the greatest numbers of bytes of a definition and of a term
+-- the greatest numbers of bytes of a definition, of a term and of a database
 abbrev pub definition_limit : ℕ
 definition_limit = 33554432
 
 abbrev pub term_limit : ℕ
 term_limit = 1048576
+
+abbrev pub database_limit : ℕ
+database_limit = 268435456
 
 -- no definition that the bytes spell is accepted
 abbrev pub IsNoDefinition : List ℕ → Type 0
@@ -80,6 +84,34 @@ RunCause c (term_refused number byte) =
 RunCause c (too_large name) =
     ((name ≡ c.definition) × HoldsMore c.told name definition_limit) ⊎ ((name ≡ c.term) × HoldsMore c.told name term_limit)
 
+-- The file of that name was not read whole: it is not there; a fault was counted; or it has more bytes than the limit.
+abbrev pub UnreadCause : Option Told → List ℕ → ℕ → ℕ → ℕ → ReadEnd → Type 0
+UnreadCause told name limit reads reads' read.NoFile = Lacks told name
+UnreadCause told name limit reads reads' read.Failed = Rose reads reads'
+UnreadCause told name limit reads reads' read.TooLarge = HoldsMore told name limit
+UnreadCause told name limit reads reads' read.Memory = Unit {0}
+
+-- What is known of a verify command whose file has this name: what the desk told at first, and the counts of its faults
+-- and of the output's before and after.
+pub record Verification : Type 0 where
+  pub file : List ℕ
+  pub told : Option Told
+  pub reads : ℕ
+  pub reads' : ℕ
+  pub writes : ℕ
+  pub writes' : ℕ
+
+-- the end of such a command has its cause
+abbrev pub VerifyCause : Verification → Ending → Type 0
+VerifyCause v out_of_memory = Unit {0}
+VerifyCause v bad_words = ⊥
+VerifyCause v read_fault = Rose v.reads v.reads'
+VerifyCause v write_fault = Rose v.writes v.writes'
+VerifyCause v (no_such_file name) = (name ≡ v.file) × Lacks v.told name
+VerifyCause v (definition_refused number byte) = ⊥
+VerifyCause v (term_refused number byte) = ⊥
+VerifyCause v (too_large name) = (name ≡ v.file) × HoldsMore v.told name database_limit
+
 -- what the output told grew by some bytes
 abbrev pub Grows : Option (List ℕ) → Option (List ℕ) → Type 0
 Grows None after = Unit {0}
@@ -112,10 +144,6 @@ pub record Call : Type 0 where
   pub errors : Option (List ℕ)
   pub errors' : Option (List ℕ)
 
--- the words are no command
-abbrev pub IsNoCommand : List (List ℕ) → Type 0
-IsNoCommand words = (definition term : List ℕ) (limit : ℕ) → IsRunCommand words definition term limit → ⊥
-
 -- the course of a call whose words name these files
 abbrev pub course_of : Call → List ℕ → List ℕ → Course
 course_of c definition term = record {
@@ -128,15 +156,33 @@ course_of c definition term = record {
   writes' = c.writes';
 }
 
--- the words are bad exactly at this end, or they are a run command whose end has its cause
+-- the verification of a call whose words name this file
+abbrev pub verification_of : Call → List ℕ → Verification
+verification_of c file = record {
+  file = file;
+  told = c.told;
+  reads = c.reads;
+  reads' = c.reads';
+  writes = c.writes;
+  writes' = c.writes';
+}
+
+-- the words are bad exactly at this end, or they are a command whose end has its cause
 abbrev pub HasCause : Call → Ending → Type 0
 HasCause c e =
     ((e ≡ bad_words) × IsNoCommand c.words)
     ⊎ ((definition : List ℕ) × (term : List ℕ) × (limit : ℕ) × IsRunCommand c.words definition term limit × RunCause (course_of c definition term) e)
+    ⊎ ((file : List ℕ) × IsVerifyCommand c.words file × VerifyCause (verification_of c file) e)
 
--- The call printed a run and said nothing on the error stream; or it ended otherwise, by a cause, kept the output and said
--- why.
+-- the words are a command, and the code says that it came to its lines on the output
+abbrev pub IsDone : List (List ℕ) → ℕ → Type 0
+IsDone words code =
+    ((definition : List ℕ) × (term : List ℕ) × (limit : ℕ) × IsRunCommand words definition term limit × ((code ≡ 0) ⊎ (code ≡ 10)))
+    ⊎ ((file : List ℕ) × IsVerifyCommand words file × ((code ≡ 0) ⊎ (code ≡ 12)))
+
+-- The call printed a run or a verdict and said nothing on the error stream; or it ended otherwise, by a cause, kept the
+-- output and said why.
 abbrev pub Ends : Call → ℕ → Type 0
 Ends c code =
-    (((code ≡ 0) ⊎ (code ≡ 10)) × SameBytes c.errors c.errors')
+    (IsDone c.words code × SameBytes c.errors c.errors')
     ⊎ ((e : Ending) × HasCause c e × KeepsOutput e c.output c.output' × Reports e c.errors c.errors' c.complaints c.complaints' code)

@@ -9,3 +9,4 @@ pub mod Files
 pub mod Reports
 pub mod Causes
 pub mod Readiness
+pub mod Verdicts

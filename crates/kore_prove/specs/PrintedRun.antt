@@ -11,7 +11,7 @@ use Rattle.rule_core.specs.ProgramView.{rewrite_rules}
 use Rattle.rule_core.specs.declared.rules.Program.{Program}
 use Rattle.rule_core.specs.declared.rules.Outcome.{Outcome}
 use Rattle.rule_core.specs.Runs.{Run, stuck, limited, IsRunOf}
-use Rattle.kore_prove.specs.Words.{IsRunCommand}
+use Rattle.kore_prove.specs.Words.{IsRunCommand, IsNoVerification}
 use Rattle.kore_prove.specs.Acceptance.{IsAccepted, IsAcceptedTerm}
 use Rattle.kore_prove.specs.Lines.{lines_of, run_of}
 
@@ -57,12 +57,16 @@ abbrev pub code_of : Run → ℕ
 code_of (stuck n t) = 0
 code_of (limited n t) = 10
 
+-- the exit code is one of a run; `verify` and a file have code 0 too
+abbrev pub IsCodeOfRun : List (List ℕ) → ℕ → Type 0
+IsCodeOfRun words code = (code ≡ 10) ⊎ ((code ≡ 0) × IsNoVerification words)
+
 -- With the exit codes of a run, the words name two files and a limit, the output grew by the two lines of the run that
 -- they give, and the code is that of its end. Of a desk or an output that tells nothing nothing is said.
 abbrev pub PrintsRun : List (List ℕ) → Option Told → Option (List ℕ) → Option (List ℕ) → ℕ → Type 0
 PrintsRun words None before after code = Unit {0}
 PrintsRun words (Some told) None after code = Unit {0}
 PrintsRun words (Some told) (Some before) after code =
-    (code ≡ 0) ⊎ (code ≡ 10)
+    IsCodeOfRun words code
     → (definition_name : List ℕ) × (term_name : List ℕ) × (limit : ℕ) × (printed : List ℕ) × (run : Run) × IsRunCommand words definition_name term_name limit
     × IsPrintedRun definition_name term_name limit told printed run × (after ≡ Some (before ++ printed)) × (code ≡ code_of run)

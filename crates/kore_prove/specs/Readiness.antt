@@ -1,4 +1,4 @@
--- Which calls come to a printed run, unless a fault is counted or memory is wanting.
+-- Which calls come to a printed run or to a verdict, unless a fault is counted or memory is wanting.
 use Rattle.std.specs.Prelude.{ℕ, ◌≤◌, List, length, Option, Some, None}
 use Rattle.desk_io.specs.Told.{Told, Holds}
 use Rattle.term_core.specs.Patterns.{Pattern}
@@ -7,8 +7,8 @@ use Rattle.kore_ast.specs.KoreText.{ReadsPattern, ReadsDefinition}
 use Rattle.rule_core.specs.Rules.{RewriteRule}
 use Rattle.rule_core.specs.declared.signature.Signature.{Signature}
 use Rattle.kore_prove.specs.Acceptance.{IsAccepted, IsAcceptedTerm}
-use Rattle.kore_prove.specs.Causes.{definition_limit, term_limit}
-use Rattle.kore_prove.specs.Words.{IsRunCommand}
+use Rattle.kore_prove.specs.Causes.{definition_limit, term_limit, database_limit}
+use Rattle.kore_prove.specs.Words.{IsRunCommand, IsVerifyCommand}
 
 -- The words are a run command; both files that they name are there, within their limits; the definition is accepted, and the
 -- term is accepted as a term of it.
@@ -38,3 +38,16 @@ pub record CanRun (words : List (List ℕ)) (told : Told) : Type 0 where
 abbrev pub IsReady : List (List ℕ) → Option Told → Type 0
 IsReady words None = ⊥
 IsReady words (Some told) = CanRun words told
+
+-- the words are `verify` and a file, which is there, within its limit
+pub record CanVerify (words : List (List ℕ)) (told : Told) : Type 0 where
+  pub file : List ℕ
+  pub command : IsVerifyCommand words file
+  pub bytes : List ℕ
+  pub held : Holds (Some told) file bytes
+  pub within : length bytes ≤ database_limit
+
+-- the desk tells its files, and the words can verify one of them
+abbrev pub IsReadyToVerify : List (List ℕ) → Option Told → Type 0
+IsReadyToVerify words None = ⊥
+IsReadyToVerify words (Some told) = CanVerify words told

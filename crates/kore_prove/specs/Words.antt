@@ -1,5 +1,7 @@
 -- The words of the command line.
 use Rattle.std.specs.Prelude.{◌≡◌, ℕ, ◌+◌, ◌-◌, ◌*◌, ◌≤◌, List, [], ◌∷◌, length, All, fold, codes}
+use Rattle.kore_prove.specs.declared.words.Command.{Command}
+use Rattle.kore_prove.specs.declared.words.Command.TheVariants as command
 
 -- one digit, `0` to `9`
 abbrev pub IsDigit : ℕ → Type 0
@@ -22,3 +24,21 @@ pub record IsRunCommand (words : List (List ℕ)) (definition term : List ℕ) (
   pub number : List ℕ
   pub words_are : words ≡ codes "run" ∷ definition ∷ term ∷ codes "--limit" ∷ number ∷ []
   pub is_limit : IsLimit number limit
+
+-- the words are `verify FILE`
+abbrev pub IsVerifyCommand : List (List ℕ) → List ℕ → Type 0
+IsVerifyCommand words file = words ≡ codes "verify" ∷ file ∷ []
+
+-- the words are not `verify` and a file
+abbrev pub IsNoVerification : List (List ℕ) → Type 0
+IsNoVerification words = (file : List ℕ) → IsVerifyCommand words file → ⊥
+
+-- the words are no command
+pub record IsNoCommand (words : List (List ℕ)) : Type 0 where
+  pub no_run : (definition term : List ℕ) (limit : ℕ) → IsRunCommand words definition term limit → ⊥
+  pub no_verification : IsNoVerification words
+
+-- the words name this command
+abbrev pub NamesCommand : List (List ℕ) → Command → Type 0
+NamesCommand words (command.Run run) = IsRunCommand words run.definition.now run.term.now run.limit
+NamesCommand words (command.Verify file) = IsVerifyCommand words file.now

@@ -1,19 +1,21 @@
-// The top call: words, files, the run and its lines.
+// The top call: words, files, the run and its lines, the verdict.
 ghost use Rattle.std.specs.Prelude.{◌≡◌, IsFalse, List, ℕ, Option, ◌≤◌, ◌^◌, [], Some, All, IfOk, IfErr, ◌⊎◌, map, string_bytes, ◌≢◌};
 ghost use Rattle.term_core.specs.Patterns.{instance_of, FitsWithin};
 ghost use Rattle.term_core.specs.RulePatterns.{plain_pattern};
 ghost use Rattle.desk_io.specs.Counts.{Rose};
 ghost use Rattle.desk_io.specs.Told.{KeepsFiles};
-ghost use Rattle.kore_prove.specs.Causes.{Course, definition_limit, term_limit, FileCause, IsRefusedDefinition, IsRefusedTerm, Ends, IsNoCommand, RunCause, KeepsOutput};
+ghost use Rattle.kore_prove.specs.Causes.{Course, definition_limit, term_limit, FileCause, IsRefusedDefinition, IsRefusedTerm, Ends, RunCause, KeepsOutput};
 ghost use Rattle.kore_prove.specs.Files.{HoldsProgram};
 ghost use Rattle.rule_core.specs.declared.rules.Program.{Program};
-ghost use Rattle.kore_prove.specs.Readiness.{IsReady};
+ghost use Rattle.kore_prove.specs.Readiness.{IsReady, IsReadyToVerify};
 ghost use Rattle.kore_prove.specs.Reports.{plain_end, Reports};
 ghost use Rattle.kore_prove.specs.Runnable.{IsShowable, IsRunnable};
 ghost use Rattle.rule_core.specs.Trial.{IsInTrialOrder};
 ghost use Rattle.rule_core.specs.ProgramView.{rewrite_rules};
 ghost use Rattle.kore_prove.specs.PrintedRun.{PrintsRun, PrintsRunOf, HasLines, code_of};
 ghost use Rattle.kore_prove.specs.Lines.{run_of};
+ghost use Rattle.kore_prove.specs.Verdicts.{PrintsVerdict};
+ghost use Rattle.kore_prove.specs.Words.{IsNoCommand};
 ghost use Rattle.term_core.specs.Terms.{Tree};
 
 use crate::accept::Refusal;
@@ -21,7 +23,8 @@ use crate::files::{FileEnd, read_program, read_start};
 use crate::lines::run_lines;
 use crate::report::{End, send_report};
 use crate::run::run;
-use crate::words::{RunWords, read_words};
+use crate::verification::verify_command;
+use crate::words::{Command, RunWords, read_words};
 use desk_io::{Desk, DeskFault, ReadEnd, Sink, send_whole};
 use rule_core::{Outcome, Program};
 use std::alloc::{AllocError, Global};
@@ -33,9 +36,10 @@ pub struct Status {
     pub code: u8,
 }
 
-/// Runs the command that the words name: reads its files from the desk, runs the term, and prints
-/// the two lines of the run to `out`. Where it does not come to that, `err` gets one line that says
-/// why. The status has the exit code: 0 where the run is stuck, 10 where it reached its limit.
+/// Does what the words name: reads its files from the desk, and runs the term and prints the two
+/// lines of the run to `out`, or verifies the database and prints the line of the verdict. Where it
+/// does not come to that, `err` gets one line that says why. The status has the exit code: 0 where
+/// the run is stuck, 10 where it reached its limit; 0 where the database is valid, 12 where it is not.
 pub fn kore_main<D: Desk, O: Sink, E: Sink>(
     alloc: Global,
     words: &[String],
@@ -45,6 +49,8 @@ pub fn kore_main<D: Desk, O: Sink, E: Sink>(
 ) -> Status
     requires none_created { IsFalse (D.created desk.old) }
     ensures printed_run { PrintsRun
+        (map string_bytes words.now) (D.told desk.old) (O.bytes out.old) (O.bytes out.new) result.code }
+    ensures verdict { PrintsVerdict
         (map string_bytes words.now) (D.told desk.old) (O.bytes out.old) (O.bytes out.new) result.code }
     ensures ends { Ends (record {
       words = map string_bytes words.now;
@@ -64,16 +70,28 @@ pub fn kore_main<D: Desk, O: Sink, E: Sink>(
         → (Rose (D.read_faults desk.old) (D.read_faults desk.new) → ⊥)
         → (Rose (O.faults out.old) (O.faults out.new) → ⊥)
         → (result.code ≡ 0) ⊎ (result.code ≡ 10) ⊎ (result.code ≡ 1) }
+    ensures complete_verdict { IsReadyToVerify (map string_bytes words.now) (D.told desk.old)
+        → (Rose (D.read_faults desk.old) (D.read_faults desk.new) → ⊥)
+        → (Rose (O.faults out.old) (O.faults out.new) → ⊥)
+        → (result.code ≡ 0) ⊎ (result.code ≡ 12) ⊎ (result.code ≡ 1) }
     ensures bad_words { IsNoCommand (map string_bytes words.now) → (result.code ≡ 2) ⊎ (result.code ≡ 1) }
     ensures files { KeepsFiles (D.told desk.old) (D.told desk.new) }
     ensures created { D.created desk.new ≡ D.created desk.old }
 {
     match read_words(words) {
-        Some(command) => match run_command(alloc, &command, desk, out) {
-            Ok(outcome) => Status {
-                code: exit_code(outcome),
+        Some(command) => match command {
+            Command::Run(named) => match run_command(alloc, &named, desk, out) {
+                Ok(outcome) => Status {
+                    code: exit_code(outcome),
+                },
+                Err(end) => report(err, &end),
             },
-            Err(end) => report(err, &end),
+            Command::Verify(file) => match verify_command(alloc, file, desk, out) {
+                Ok(verdict) => Status {
+                    code: verdict.code(),
+                },
+                Err(end) => report(err, &end),
+            },
         },
         None => report(err, &End::BadWords),
     }
@@ -90,7 +108,7 @@ fn exit_code(outcome: Outcome) -> u8
     }
 }
 
-/// Says on `err` why the call did not come to a run's lines. Where memory is wanting for that too,
+/// Says on `err` why the call came to no run and no verdict. Where memory is wanting for that too,
 /// the status is that of want of memory.
 fn report<E: Sink>(err: &mut E, end: &End) -> Status
     ensures { Reports (plain_end end.now)

@@ -1,4 +1,4 @@
-// What the program says on the error stream where a call ends without a run.
+// What the program says on the error stream where a call comes to no run and no verdict.
 ghost use Rattle.std.specs.Prelude.{◌≡◌, ◌≤◌, ◌++◌, [], ◌∷◌, List, ℕ, OnOk, OnErr, IsErrOf};
 ghost use Rattle.std.specs.List.{flat_map};
 ghost use Rattle.std.specs.Borrow.{Bor};
@@ -9,7 +9,7 @@ ghost use Rattle.kore_prove.specs.Reports.{end_code, plain_end, refusal, report_
 use desk_io::{DeskFault, Sink, send_whole};
 use itoa::Buffer;
 
-/// Why a call ended without a run.
+/// Why a call came to no run and no verdict.
 #[derive(Clone, Copy, Debug, PartialEq, Eq)]
 pub enum End<'a> {
     /// Memory was wanting.
@@ -93,8 +93,8 @@ fn send_refusal<E: Sink>(err: &mut E, what: &str, number: u8, byte: u32) -> Resu
     send_pieces(err, &pieces)
 }
 
-/// Sends pieces one after the other.
-fn send_pieces<E: Sink>(err: &mut E, pieces: &[&str]) -> Result<(), DeskFault>
+/// Sends pieces one after the other. After an error some bytes from their front are sent, maybe none.
+pub fn send_pieces<E: Sink>(err: &mut E, pieces: &[&str]) -> Result<(), DeskFault>
     ensures sent { OnOk result (Appends
         (E.bytes err.old) (E.bytes err.new) (flat_map (λ (p : Bor (List ℕ)). p.now) pieces.now)) }
     ensures prefix { OnErr result (AppendsFront

@@ -1,6 +1,15 @@
 // The words of the command line.
 ghost use Rattle.std.specs.Prelude.{ℕ, List, map, All, IfSome, IfNone, IsTrue, ◌↔◌, string_bytes};
-ghost use Rattle.kore_prove.specs.Words.{IsRunCommand, IsLimit, IsDigit};
+ghost use Rattle.kore_prove.specs.Words.{IsRunCommand, IsVerifyCommand, IsNoVerification, IsNoCommand, NamesCommand, IsLimit, IsDigit};
+
+/// What the words ask for.
+#[derive(Clone, Copy)]
+pub enum Command<'a> {
+    /// To run a term.
+    Run(RunWords<'a>),
+    /// To verify the database in the file of this name.
+    Verify(&'a str),
+}
 
 /// What a call is to run: the name of a file with a definition, the name of a file with a term, and
 /// the greatest number of steps.
@@ -15,7 +24,32 @@ pub struct RunWords<'a> {
 const MAX_LIMIT: u32 = 1_000_000;
 
 /// What the words ask for, or nothing where they are no command.
-pub fn read_words(words: &[String]) -> Option<RunWords<'_>>
+pub fn read_words(words: &[String]) -> Option<Command<'_>>
+    ensures command { IfSome result (NamesCommand (map string_bytes words.now)) }
+    ensures bad { IfNone result (IsNoCommand (map string_bytes words.now)) }
+{
+    match run_words(words) {
+        Some(run) => Some(Command::Run(run)),
+        None => match verify_words(words) {
+            Some(file) => Some(Command::Verify(file)),
+            None => None,
+        },
+    }
+}
+
+/// The file that is to be verified, where the words ask for that.
+fn verify_words(words: &[String]) -> Option<&str>
+    ensures command { IfSome result (λ file. IsVerifyCommand (map string_bytes words.now) file.now) }
+    ensures bad { IfNone result (IsNoVerification (map string_bytes words.now)) }
+{
+    match words {
+        [verify, file] if verify.as_str() == "verify" => Some(file.as_str()),
+        _ => None,
+    }
+}
+
+/// What is to be run, where the words ask for that.
+fn run_words(words: &[String]) -> Option<RunWords<'_>>
     ensures command { IfSome result (λ r.
         IsRunCommand (map string_bytes words.now) r.definition.now r.term.now r.limit) }
     ensures bad { IfNone result ((definition term : List ℕ) (limit : ℕ) →

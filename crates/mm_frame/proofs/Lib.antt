@@ -13,3 +13,18 @@ pub mod TypedOnce
 pub mod NamedSteps
 pub mod Shared
 pub mod ClosedFrames
+pub mod Repeats
+pub mod HeldAdds
+pub mod Groups
+pub mod Namings
+pub mod StandTests
+pub mod StandFaults
+pub mod StandAdds
+pub mod StandScopes
+pub mod StandFrames
+pub mod StandStatements
+pub mod Taken
+pub mod StandReads
+pub mod StandSteps
+mod FramesKept
+mod Proposed

@@ -12,7 +12,7 @@ use Rattle.mm_frame.specs.Assertions.{assertions_in, assertions_of, typings_in, 
 use Rattle.mm_frame.specs.Proofs.{Expression, Forms}
 use Rattle.mm_frame.specs.Expansion.{Step, arity, compressed_steps, expansion}
 use Rattle.mm_frame.specs.Stack.{stack_after, compressed_stack}
-use Rattle.mm_frame.specs.Validity.{IsFine, AreFine, IsValid, IsFirstFault, first_fault}
+use Rattle.mm_frame.specs.Validity.{statement_fault, IsFine, AreFine, IsValid, IsFirstFault, first_fault}
 
 -- a stack accepts just the labels that are the postorder of a forest, and is left with what it proves
 abbrev pub StacksAreForests : Type 0
@@ -27,6 +27,10 @@ ValidIsFaultless = (bytes : List ℕ) → IsValid bytes ↔ (first_fault bytes �
 -- the fault that is computed is the first one
 abbrev pub FirstFaultIsComputed : Type 0
 FirstFaultIsComputed = (bytes : List ℕ) (f : MmFault) → IsFirstFault bytes f ↔ (first_fault bytes ≡ Some f)
+
+-- a statement of which no fault is computed is without fault
+abbrev pub FaultlessIsFine : Type 0
+FaultlessIsFine = (c : Context) (tokens : List Token) → statement_fault c tokens ≡ None → IsFine c tokens
 
 -- statements, and others behind them
 abbrev pub in_front : List Statement → Statements → Statements

@@ -1,10 +1,11 @@
 // Laws on the definitions, and the definitions tried on small texts.
 ghost use Rattle.mm_frame.specs.Cases.{TriedCases};
 ghost use Rattle.mm_frame.specs.Numbered.{AppliedIsNamed};
-ghost use Rattle.mm_frame.specs.FrameLaws.{AppendedIsFine, AppendedStates, FineWhereActive, FirstFaultIsComputed, PlainTokensSay, ProofTokensSay, SavingIsExpanding, StacksAreForests, ValidIsFaultless, WrittenIsFine};
+ghost use Rattle.mm_frame.specs.FrameLaws.{AppendedIsFine, AppendedStates, FaultlessIsFine, FineWhereActive, FirstFaultIsComputed, PlainTokensSay, ProofTokensSay, SavingIsExpanding, StacksAreForests, ValidIsFaultless, WrittenIsFine};
 ghost use Rattle.mm_frame.specs.NumberedSteps.{StepIsNamed};
 ghost use Rattle.mm_frame.specs.Orderly.{EmptyIsOrderly, OrderlyAfter};
 ghost use Rattle.mm_frame.specs.Sharing.{SharingIsExact};
+ghost use Rattle.mm_frame.specs.StandingLaws.{FrameCited, HypothesisStands, NamingExists, NothingCited, PlaceStands};
 ghost use Rattle.mm_frame.specs.Writing.{AxiomIsFine, ClosedHasNone, ContinuedLeaves, LeavesIsValid, TheoremIsFine};
 
 /// The definitions say of some small texts what the Metamath book says of them: which are valid, and
@@ -20,6 +21,7 @@ pub fn proof_laws()
     ensures saving { SavingIsExpanding }
     ensures sharing { SharingIsExact }
     ensures valid { ValidIsFaultless }
+    ensures fine { FaultlessIsFine }
     ensures active { FineWhereActive }
     ensures empty { EmptyIsOrderly }
     ensures orderly { OrderlyAfter }
@@ -41,4 +43,15 @@ pub fn database_laws()
     ensures axiom { AxiomIsFine }
     ensures theorem { TheoremIsFine }
     ensures closed { ClosedHasNone }
+{}
+
+/// Of scopes that stand for a context: some naming gives their symbols their tokens, and under each one
+/// their variables and pairs, the hypotheses that are active and the frames of assertions are those of
+/// the context, so that a step of a proof over their numbers is the step over its tokens.
+pub fn scope_laws()
+    ensures naming { NamingExists }
+    ensures place { PlaceStands }
+    ensures hypothesis { HypothesisStands }
+    ensures frame { FrameCited }
+    ensures nothing { NothingCited }
 {}

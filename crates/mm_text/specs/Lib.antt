@@ -12,3 +12,4 @@ pub mod TextLaws
 pub mod Cases
 pub mod Places
 pub mod Letters
+pub mod Reader

@@ -3,7 +3,7 @@
 //! The definitions stand in `specs/`: `Tokens` and `Statements` say what the tokens and the
 //! statements of a text are and where it breaks, `Labels` what a label is spelled with, and
 //! `Compressed` what the letters of a compressed proof say. The laws on them are the contract of
-//! `text_laws` and `number_laws`. `MmTokens` reads the tokens of a text, and `read_number` and `push_number` read and
+//! `text_laws` and `number_laws`. `MmTokens` reads the tokens and the statements of a text, and `read_number` and `push_number` read and
 //! write the numbers of compressed proofs.
 #![tactic(auto)]
 
@@ -11,11 +11,13 @@ mod fault;
 mod laws;
 mod numbers;
 mod pieces;
+mod statements;
 mod tokens;
 
 pub use fault::MmFault;
 pub use laws::{letter_laws, number_laws, place_laws, text_laws, tried};
 pub use numbers::{push_number, read_number};
+pub use statements::{MmFound, MmReadEnd};
 pub use tokens::{MmToken, MmTokens};
 
 #[cfg(test)]

@@ -107,3 +107,38 @@ fn other_letters_are_no_number(rt: HostRuntime) {
         assert_eq!(rt; read_number(letters.as_bytes()), None, "{letters}");
     }
 }
+
+/// A text, the bytes at which its statements begin with how many tokens they have, and the byte of a
+/// statement that has no end.
+type Statements<'a> = (&'a str, &'a [(usize, usize)], Option<usize>);
+
+const STATEMENTS: [Statements; 7] = [
+    ("", &[], None),
+    (" $( a $. $) ", &[], None),
+    ("$c a $. $v x $.", &[(0, 3), (8, 3)], None),
+    ("${ ${ $} $}", &[(0, 1), (3, 1), (6, 1), (9, 1)], None),
+    ("$( a $) a ${ $} $. $.", &[(8, 4), (19, 1)], None),
+    ("$c a$. $.", &[(0, 3)], None),
+    ("${ $c a ", &[(0, 1)], Some(3)),
+];
+
+#[test]
+fn texts_have_their_statements(rt: HostRuntime) {
+    for (text, begins, unended) in STATEMENTS {
+        let mut reader = MmTokens::new(text.as_bytes());
+        let mut tokens = Vec::new(rt.alloc());
+        for (from, len) in begins {
+            assert!(rt;
+                reader.next_statement(&mut tokens) == Ok(MmFound::Statement),
+                "{text}"
+            );
+            assert_eq!(rt; tokens.len(), *len, "{text}");
+            assert!(rt;
+                tokens.first().map(|token| token.from) == Some(*from),
+                "{text}"
+            );
+        }
+        let end = unended.map_or(MmFound::End, MmFound::Unended);
+        assert!(rt; reader.next_statement(&mut tokens) == Ok(end), "{text}");
+    }
+}

@@ -13,6 +13,19 @@ pub struct MmToken {
     pub to: usize,
 }
 
+impl MmToken {
+    ghost use Rattle.std.specs.List.{slice_range};
+
+    /// The bytes of the token in its text, as far as the text has them.
+    pub fn word<'a>(&self, bytes: &'a [u8]) -> &'a [u8]
+        ensures { result.now ≡ slice_range bytes.now self.now.from self.now.to }
+    {
+        let to = self.to.min(bytes.len());
+        let from = self.from.min(to);
+        &bytes[from..to]
+    }
+}
+
 /// The tokens of a text from a place on.
 #[derive(Drop)]
 pub struct MmTokens<'a> {
@@ -32,6 +45,13 @@ impl<'a> MmTokens<'a> {
         ensures all { left result ≡ tokens_from 0 bytes.now }
     {
         MmTokens { bytes, at: 0 }
+    }
+
+    /// The text.
+    pub fn text(&self) -> &'a [u8]
+        ensures { result.now ≡ self.now.bytes.now }
+    {
+        self.bytes
     }
 
     /// The next token, or none exactly at the end; takes no memory. A fault is a byte that may not

@@ -1,6 +1,6 @@
 use Rattle.mm_text.specs.Statements.{statements_of}
 use Rattle.mm_frame.specs.Database.{empty_context}
-use Rattle.mm_frame.proofs.Faults.{fine_where_active, faultless_valid, valid_faultless, IsFirstFaultIn-computed, computed-IsFirstFaultIn}
+use Rattle.mm_frame.proofs.Faults.{IsFine-statement, fine_where_active, faultless_valid, valid_faultless, IsFirstFaultIn-computed, computed-IsFirstFaultIn}
 use Rattle.mm_frame.proofs.Named.{applied_is_named}
 use Rattle.mm_frame.proofs.NamedSteps.{step_is_named}
 use Rattle.mm_frame.proofs.Saved.{saving_is_expanding}
@@ -39,3 +39,6 @@ returns-clause-step a = step_is_named
 
 pub returns-clause-sharing : goal.returns-clause-sharing
 returns-clause-sharing a = sharing_is_exact
+
+pub returns-clause-fine : goal.returns-clause-fine
+returns-clause-fine a = IsFine-statement

@@ -2,7 +2,7 @@ use Rattle.std.proofs.Common.{◌≡◌, sym, ◌∙◌, string_bytes}
 use Rattle.std.specs.Prelude.{codes}
 use Rattle.std.proofs.lemmas.Slice.Eq.{bytes_eq-Decides}
 use Rattle.kore_prove.proofs.CommandWords.{five_items, run_command, no_limit, none_holds}
-use Rattle.kore_prove.proofs.words.read_words.Goals as goal
+use Rattle.kore_prove.proofs.words.run_words.Goals as goal
 
 pub returns-in_err-limit-in-len5-clause-bad : goal.returns-in_err-limit-in-len5-clause-bad
 returns-in_err-limit-in-len5-clause-bad c =

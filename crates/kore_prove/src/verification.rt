@@ -1,0 +1,169 @@
+// The verdict on a database, and its line.
+ghost use Rattle.std.specs.Prelude.{◌≡◌, ◌≤◌, List, ℕ, Option, IfOk, IfErr, OnOk, OnErr, IsErrOf};
+ghost use Rattle.desk_io.specs.Told.{KeepsFiles};
+ghost use Rattle.desk_io.specs.Sent.{Appends, AppendsFront};
+ghost use Rattle.desk_io.specs.Counts.{Rose};
+ghost use Rattle.kore_prove.specs.Causes.{UnreadCause, Verification, VerifyCause, KeepsOutput, database_limit};
+ghost use Rattle.kore_prove.specs.Reports.{plain_end};
+ghost use Rattle.kore_prove.specs.Verdicts.{IsVerdictOn, HoldsDatabase, PrintsVerdictOn, verdict_code, verdict_line, valid_line, invalid_line};
+
+use crate::report::{End, send_pieces};
+use desk_io::{Desk, DeskFault, ReadEnd, Sink, read_file};
+use itoa::Buffer;
+use mm_text::MmFault;
+use mm_verify::{Report, VerifyEnd, verify};
+use std::alloc::{AllocError, Global};
+
+/// The greatest number of bytes of a database.
+const DATABASE_LIMIT: usize = 268_435_456;
+
+/// What a database is found to be.
+#[derive(Clone, Copy)]
+pub enum Verdict {
+    /// Valid, with so many `$a` and `$p` statements.
+    Valid(Report),
+    /// Invalid, by this first fault.
+    Invalid(MmFault),
+}
+
+impl Verdict {
+    /// The exit code.
+    pub fn code(&self) -> u8
+        ensures { result ≡ verdict_code self.now }
+    {
+        match self {
+            Verdict::Valid(_) => 0,
+            Verdict::Invalid(_) => 12,
+        }
+    }
+}
+
+/// Verifies the database in the file of that name, and prints the line of the verdict to `out`.
+pub fn verify_command<'a, D: Desk, O: Sink>(
+    alloc: Global,
+    file: &'a str,
+    desk: &mut D,
+    out: &mut O,
+) -> Result<Verdict, End<'a>>
+    ensures printed { IfOk result (PrintsVerdictOn
+        file.now (D.told desk.old) (O.bytes out.old) (O.bytes out.new)) }
+    ensures cause { IfErr result (λ end. VerifyCause (record {
+      file = file.now;
+      told = D.told desk.old;
+      reads = D.read_faults desk.old;
+      reads' = D.read_faults desk.new;
+      writes = O.faults out.old;
+      writes' = O.faults out.new;
+    }) (plain_end end)) }
+    ensures output { IfErr result (λ end.
+        KeepsOutput (plain_end end) (O.bytes out.old) (O.bytes out.new)) }
+    ensures files { KeepsFiles (D.told desk.old) (D.told desk.new) }
+    ensures created { D.created desk.new ≡ D.created desk.old }
+{
+    let verdict = match read_verdict(alloc, desk, file) {
+        Ok(verdict) => verdict,
+        Err(end) => return Err(unread_end(end, file)),
+    };
+    match send_verdict(out, &verdict) {
+        Ok(()) => Ok(verdict),
+        Err(DeskFault::Failed) => Err(End::WriteFault),
+        Err(DeskFault::Memory) => Err(End::OutOfMemory),
+    }
+}
+
+/// The verdict on the database in the file of that name.
+fn read_verdict<D: Desk>(alloc: Global, desk: &mut D, name: &str) -> Result<Verdict, ReadEnd>
+    ensures found { IfOk result (HoldsDatabase (D.told desk.old) name.now) }
+    ensures cause { IfErr result (UnreadCause
+        (D.told desk.old) name.now DATABASE_LIMIT (D.read_faults desk.old) (D.read_faults desk.new)) }
+    ensures files { KeepsFiles (D.told desk.old) (D.told desk.new) }
+    ensures created { D.created desk.new ≡ D.created desk.old }
+{
+    match read_file(alloc, desk, name, DATABASE_LIMIT) {
+        Ok(bytes) => match verdict_on(alloc, &bytes) {
+            Ok(verdict) => Ok(verdict),
+            Err(_) => Err(ReadEnd::Memory),
+        },
+        Err(end) => Err(end),
+    }
+}
+
+/// The verdict on these bytes.
+fn verdict_on(alloc: Global, bytes: &[u8]) -> Result<Verdict, AllocError>
+    ensures { IfOk result (IsVerdictOn bytes.now) }
+{
+    match verify(alloc, bytes) {
+        Ok(report) => Ok(Verdict::Valid(report)),
+        Err(end) => match end {
+            VerifyEnd::Invalid(fault) => Ok(Verdict::Invalid(fault)),
+            VerifyEnd::Memory => Err(AllocError),
+        },
+    }
+}
+
+/// The end of a call whose file was not read.
+fn unread_end(end: ReadEnd, name: &str) -> End<'_>
+    ensures cause { (v : Verification) → v.file ≡ name.now
+        → UnreadCause v.told v.file database_limit v.reads v.reads' end
+        → VerifyCause v (plain_end result) }
+    ensures output { (output : Option (List ℕ)) → KeepsOutput (plain_end result) output output }
+{
+    match end {
+        ReadEnd::NoFile => End::NoSuchFile(name),
+        ReadEnd::Failed => End::ReadFault,
+        ReadEnd::TooLarge => End::TooLarge(name),
+        ReadEnd::Memory => End::OutOfMemory,
+    }
+}
+
+/// Sends the line of a verdict. After an error some bytes from its front are sent, maybe none. It
+/// fails only where the sink counted a fault.
+fn send_verdict<O: Sink>(out: &mut O, verdict: &Verdict) -> Result<(), DeskFault>
+    ensures sent { OnOk result (Appends (O.bytes out.old) (O.bytes out.new) (verdict_line verdict.now)) }
+    ensures prefix { OnErr result
+        (AppendsFront (O.bytes out.old) (O.bytes out.new) (verdict_line verdict.now)) }
+    ensures failed { IsErrOf result DeskFault.Failed → Rose (O.faults out.old) (O.faults out.new) }
+{
+    match verdict {
+        Verdict::Valid(report) => send_valid(out, report.axioms, report.theorems),
+        Verdict::Invalid(fault) => send_invalid(out, fault.kind, fault.at),
+    }
+}
+
+/// Sends the line of a valid database.
+fn send_valid<O: Sink>(out: &mut O, axioms: u64, theorems: u64) -> Result<(), DeskFault>
+    ensures sent { OnOk result (Appends (O.bytes out.old) (O.bytes out.new) (valid_line axioms theorems)) }
+    ensures prefix { OnErr result
+        (AppendsFront (O.bytes out.old) (O.bytes out.new) (valid_line axioms theorems)) }
+    ensures failed { IsErrOf result DeskFault.Failed → Rose (O.faults out.old) (O.faults out.new) }
+{
+    let mut first = Buffer::new();
+    let mut second = Buffer::new();
+    let pieces = [
+        "valid ",
+        first.format(axioms),
+        " ",
+        second.format(theorems),
+        "\n",
+    ];
+    send_pieces(out, &pieces)
+}
+
+/// Sends the line of a database with this first fault.
+fn send_invalid<O: Sink>(out: &mut O, kind: u8, byte: usize) -> Result<(), DeskFault>
+    ensures sent { OnOk result (Appends (O.bytes out.old) (O.bytes out.new) (invalid_line kind byte)) }
+    ensures prefix { OnErr result
+        (AppendsFront (O.bytes out.old) (O.bytes out.new) (invalid_line kind byte)) }
+    ensures failed { IsErrOf result DeskFault.Failed → Rose (O.faults out.old) (O.faults out.new) }
+{
+    let mut first = Buffer::new();
+    let mut second = Buffer::new();
+    let pieces = [
+        "invalid ",
+        first.format(kind),
+        " at ",
+        second.format(byte),
+        "\n",
+    ];
+    send_pieces(out, &pieces)
+}

@@ -1,0 +1,86 @@
+-- Groups of numbers, restricted and appended.
+use Rattle.std.proofs.Common.{◌≡◌, ℕ, ◌<◌, length, Bool, true, false, not, List, [], ◌∷◌, ◌++◌, refl, ap, sym, ◌∙◌, arith}
+use Rattle.std.specs.Prelude.{◌&&◌, ◌||◌, nat_eq, filter, if◌then◌else◌}
+use Rattle.std.specs.Cmp.{unsigned_tied}
+use Rattle.std.specs.Ordering.{is_eq, nat_cmp}
+use Rattle.std.proofs.lemmas.Bool.{eqb-true, eq-eqb}
+use Rattle.std.specs.List.{list_any}
+use Rattle.mm_frame.specs.FramesHeld.{has_number, in_group, in_groups}
+
+pub list_any-append : {X : Type 0} (f : X → Bool) (xs : List X) (x : X) → list_any f (xs ++ x ∷ []) ≡ (list_any f xs || f x)
+list_any-append f [] x = or-false (f x)
+  where
+    or-false : (b : Bool) → (b || false) ≡ (false || b)
+    or-false true = refl
+    or-false false = refl
+list_any-append f (y ∷ ys) x = ap (λ b. f y || b) (list_any-append f ys x) ∙ or-assoc (f y) (list_any f ys) (f x)
+  where
+    or-assoc : (a b c : Bool) → (a || (b || c)) ≡ ((a || b) || c)
+    or-assoc true b c = refl
+    or-assoc false b c = refl
+
+pub in_groups-push : (groups : List (List ℕ)) (group : List ℕ) (a b : ℕ) → in_groups (groups ++ group ∷ []) a b ≡ (in_groups groups a b || in_group a b group)
+in_groups-push groups group a b = list_any-append (in_group a b) groups group
+
+nothing : (b : Bool) → (b && false) ≡ false
+nothing true = refl
+nothing false = refl
+
+one-number : (n a b : ℕ) (p q : Bool) → nat_eq n a ≡ p → nat_eq n b ≡ q → (not (nat_eq a b) && ((p || false) && (q || false))) ≡ false
+one-number n a b false q e f = nothing (not (nat_eq a b))
+one-number n a b true false e f = nothing (not (nat_eq a b))
+one-number n a b true true e f = let same : nat_eq a b ≡ true = eq-eqb a b (sym (eqb-true n a e) ∙ eqb-true n b f) in rw same refl
+
+-- a group with fewer than two numbers has no pair
+pub short-group : (group : List ℕ) (a b : ℕ) → length group < 2 → in_group a b group ≡ false
+short-group [] a b short = nothing (not (nat_eq a b))
+short-group (n ∷ []) a b short = one-number n a b (nat_eq n a) (nat_eq n b) refl refl
+short-group (n ∷ (m ∷ ns)) a b short = absurd (omega arith)
+
+pub cmp-eq : (x y : ℕ) → is_eq (nat_cmp x y) ≡ nat_eq x y
+cmp-eq x y = unsigned_tied x y
+
+has_number-filter : (p : ℕ → Bool) (group : List ℕ) (a : ℕ) → has_number (filter p group) a ≡ (has_number group a && p a)
+has_number-filter p [] a = refl
+has_number-filter p (n ∷ group) a = step (p n) (nat_eq n a) refl refl (has_number-filter p group a)
+  where
+    step : (b e : Bool) → p n ≡ b → nat_eq n a ≡ e → has_number (filter p group) a ≡ (has_number group a && p a) → has_number (if b then n ∷ filter p group else filter p group) a ≡ ((e || has_number group a) && p a)
+    step true true is same h = rw same (sym (ap p (sym (eqb-true n a same)) ∙ is))
+    step true false is same h = rw same h
+    step false true is same h = h ∙ (let no : p a ≡ false = ap p (sym (eqb-true n a same)) ∙ is in rw no (nothing (has_number group a)))
+    step false false is same h = h
+
+in_group-filter : (p : ℕ → Bool) (group : List ℕ) (a b : ℕ) → in_group a b (filter p group) ≡ (in_group a b group && (p a && p b))
+in_group-filter p group a b =
+    ap (λ x. not (nat_eq a b) && (x && has_number (filter p group) b)) (has_number-filter p group a)
+    ∙ ap (λ x. not (nat_eq a b) && ((has_number group a && p a) && x)) (has_number-filter p group b)
+    ∙ spread (not (nat_eq a b)) (has_number group a) (has_number group b) (p a) (p b)
+  where
+    spread : (d x y u v : Bool) → (d && ((x && u) && (y && v))) ≡ ((d && (x && y)) && (u && v))
+    spread false x y u v = refl
+    spread true false y u v = refl
+    spread true true false true v = refl
+    spread true true false false v = refl
+    spread true true true u v = refl
+
+-- one more group, restricted: what was found before, in it, and in the rest
+pub groups-step : (p : ℕ → Bool) (before : Bool) (groups : List (List ℕ)) (group kept : List ℕ) (a b : ℕ) → kept ≡ filter p group → ((before || in_group a b kept) || (in_groups groups a b && (p a && p b))) ≡ (before || (in_groups (group ∷ groups) a b && (p a && p b)))
+groups-step p before groups group kept a b is =
+    ap (λ (k : List ℕ). (before || in_group a b k) || (in_groups groups a b && (p a && p b))) is
+    ∙ ap (λ x. (before || x) || (in_groups groups a b && (p a && p b))) (in_group-filter p group a b)
+    ∙ mix before (in_group a b group) (in_groups groups a b) (p a && p b)
+  where
+    mix : (b x y w : Bool) → ((b || (x && w)) || (y && w)) ≡ (b || ((x || y) && w))
+    mix true x y w = refl
+    mix false true y true = refl
+    mix false true y false = nothing y
+    mix false false y w = refl
+
+-- one more number in a set
+pub set-step : (old new first rest : Bool) → new ≡ (if first then true else old) → (new || rest) ≡ (old || (first || rest))
+set-step old new true rest is = is-true old rest is
+  where
+    is-true : (old rest : Bool) → new ≡ true → (new || rest) ≡ (old || true)
+    is-true true rest h = rw h refl
+    is-true false rest h = rw h refl
+set-step old new false rest is = rw is refl

@@ -1,0 +1,53 @@
+-- Hypotheses and frames as they are held: symbols by their numbers, and the pairs that have to stay
+-- apart as one list of variables for each `$d`.
+use Rattle.std.specs.Prelude.{ℕ, Bool, false, not, ◌&&◌, nat_eq, List, map}
+use Rattle.std.specs.Global.{Vec}
+use Rattle.std.specs.List.{list_any}
+use Rattle.mm_text.specs.Bytes.{Token}
+use Rattle.mm_frame.specs.Numbered.{NumberedHypothesis, numbered_floating, numbered_essential, NumberedFrame}
+use Rattle.mm_frame.specs.declared.frames.Hyp.{Hyp}
+use Rattle.mm_frame.specs.declared.frames.Hyp.TheVariants.{Floating, Essential}
+use Rattle.mm_frame.specs.declared.frames.Frame.{Frame}
+
+abbrev pub has_number : List ℕ → ℕ → Bool
+has_number numbers n = list_any (λ m. nat_eq m n) numbers
+
+-- two different numbers of one group
+abbrev pub in_group : ℕ → ℕ → List ℕ → Bool
+in_group a b group = not (nat_eq a b) && (has_number group a && has_number group b)
+
+abbrev pub in_groups : List (List ℕ) → ℕ → ℕ → Bool
+in_groups groups a b = list_any (in_group a b) groups
+
+abbrev pub items_of : Vec ℕ → List ℕ
+items_of v = v.items
+
+abbrev pub hypothesis_held : Hyp → NumberedHypothesis
+hypothesis_held (Floating label typecode variable) = numbered_floating label.now typecode variable
+hypothesis_held (Essential label statement) = numbered_essential label.now statement.items
+
+abbrev pub hypotheses_held : List Hyp → List NumberedHypothesis
+hypotheses_held hyps = map hypothesis_held hyps
+
+abbrev pub groups_of : List (Vec ℕ) → List (List ℕ)
+groups_of groups = map items_of groups
+
+abbrev pub frame_held : Frame → NumberedFrame
+frame_held f = record {
+  label = f.label.now;
+  hypotheses = hypotheses_held f.hyps.items;
+  apart = in_groups (groups_of f.apart.items);
+  statement = f.statement.items;
+}
+
+abbrev pub frames_held : List Frame → List NumberedFrame
+frames_held frames = map frame_held frames
+
+abbrev pub number_label : NumberedHypothesis → Token
+number_label (numbered_floating label typecode variable) = label
+number_label (numbered_essential label statement) = label
+
+-- it is a `$f` of the variable
+abbrev pub types_number : ℕ → NumberedHypothesis → Bool
+types_number n (numbered_floating label typecode variable) = nat_eq variable n
+types_number n (numbered_essential label statement) = false

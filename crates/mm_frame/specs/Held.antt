@@ -1,0 +1,46 @@
+-- What scopes hold: names with what they name, symbols by their numbers, and what is active in lists.
+use Rattle.std.specs.Prelude.{ℕ, Bool, List, map, Option}
+use Rattle.std.specs.BTreeMap.{get_by}
+use Rattle.std.specs.Cmp.Lexicographic.{slice_cmp}
+use Rattle.std.specs.Ordering.{nat_cmp}
+use Rattle.mm_text.specs.Bytes.{Token}
+use Rattle.mm_frame.specs.Numbered.{NumberedHypothesis, NumberedFrame}
+use Rattle.mm_frame.specs.FramesHeld.{hypotheses_held, groups_of, frame_held}
+use Rattle.mm_frame.specs.declared.scopes.Name.{Name}
+use Rattle.mm_frame.specs.declared.scopes.Symbol.{Symbol}
+use Rattle.mm_frame.specs.declared.scopes.OpenBlock.{OpenBlock}
+use Rattle.mm_frame.specs.declared.scopes.Scopes.{Scopes}
+
+pub record HeldSymbol : Type 0 where
+  pub token : Token
+  pub is_variable : Bool
+
+pub record Held : Type 0 where
+  pub names : Token → Option Name
+  pub symbols : List HeldSymbol
+  pub places : List ℕ
+  pub types : List ℕ
+  pub variables : List ℕ
+  pub hypotheses : List NumberedHypothesis
+  pub disjoint : List (List ℕ)
+  pub blocks : List OpenBlock
+  pub frames : List NumberedFrame
+
+abbrev pub symbol_held : Symbol → HeldSymbol
+symbol_held s = record { token = s.token.now; is_variable = s.is_variable }
+
+abbrev pub named : Scopes → Token → Option Name
+named s token = get_by (λ k. slice_cmp nat_cmp token k.now) s.names
+
+abbrev pub held : Scopes → Held
+held s = record {
+  names = named s;
+  symbols = map symbol_held s.symbols.items;
+  places = s.places.items;
+  types = s.types.items;
+  variables = s.variables.items;
+  hypotheses = hypotheses_held s.hyps.items;
+  disjoint = groups_of s.disjoint.items;
+  blocks = s.blocks.items;
+  frames = map frame_held s.frames.items;
+}

@@ -1,0 +1,102 @@
+-- What adding a declaration does to what scopes hold: cited by the clauses of private functions alone.
+use Rattle.std.specs.Prelude.{◌≡◌, ℕ, Bool, true, false, if◌then◌else◌, List, [], ◌∷◌, ◌++◌, length, take, slice_set, Option, Some, None, bytes_eq}
+use Rattle.mm_text.specs.Bytes.{Token}
+use Rattle.mm_frame.specs.Numbered.{NumberedHypothesis, numbered_floating, numbered_essential, NumberedFrame}
+use Rattle.mm_frame.specs.FramesHeld.{number_label}
+use Rattle.mm_frame.specs.Held.{HeldSymbol, Held}
+use Rattle.mm_frame.specs.declared.scopes.Name.{Name}
+use Rattle.mm_frame.specs.declared.scopes.Name.TheVariants.{Constant, Variable, Hypothesis, Assertion}
+use Rattle.mm_frame.specs.declared.scopes.OpenBlock.{OpenBlock}
+
+-- the token gets a name, and the others keep theirs
+abbrev pub Renames : (Token → Option Name) → Token → Name → (Token → Option Name) → Type 0
+Renames old token name new = (t : Token) → new t ≡ (if bytes_eq token t then Some name else old t)
+
+abbrev pub symbol_name : Bool → ℕ → Name
+symbol_name is_variable n = if is_variable then Variable n else Constant n
+
+abbrev pub symbol : Token → Bool → HeldSymbol
+symbol token is_variable = record { token = token; is_variable = is_variable }
+
+abbrev pub AppendsSymbol : Held → Token → Bool → Held → Type 0
+AppendsSymbol old token is_variable new = new ≡ record old {
+  symbols = old.symbols ++ symbol token is_variable ∷ [];
+  places = old.places ++ 0 ∷ [];
+  types = old.types ++ 0 ∷ [];
+}
+
+pub record Names (old : Held) (token : Token) (name : Name) (new : Held) : Type 0 where
+  pub names : Renames old.names token name new.names
+  pub rest : new ≡ record old { names = new.names }
+
+pub record AddsSymbol (old : Held) (token : Token) (is_variable : Bool) (n : ℕ) (new : Held) : Type 0 where
+  pub number : n ≡ length old.symbols
+  pub names : Renames old.names token (symbol_name is_variable n) new.names
+  pub rest : new ≡ record old {
+    names = new.names;
+    symbols = old.symbols ++ symbol token is_variable ∷ [];
+    places = old.places ++ 0 ∷ [];
+    types = old.types ++ 0 ∷ [];
+  }
+
+abbrev pub Activates : Held → ℕ → Held → Type 0
+Activates old n new = new ≡ record old {
+  variables = old.variables ++ n ∷ [];
+  places = slice_set old.places n (length old.variables);
+}
+
+-- the places of the `$f` of variables, with another hypothesis at a place
+abbrev pub types_with : List ℕ → ℕ → NumberedHypothesis → List ℕ
+types_with types place (numbered_floating label typecode variable) = slice_set types variable place
+types_with types place (numbered_essential label statement) = types
+
+pub record AddsHypothesis (old : Held) (h : NumberedHypothesis) (new : Held) : Type 0 where
+  pub names : Renames old.names (number_label h) (Hypothesis (length old.hypotheses)) new.names
+  pub rest : new ≡ record old {
+    names = new.names;
+    hypotheses = old.hypotheses ++ h ∷ [];
+    types = types_with old.types (length old.hypotheses) h;
+  }
+
+abbrev pub AddsDisjoint : Held → List ℕ → Held → Type 0
+AddsDisjoint old variables new = new ≡ record old { disjoint = old.disjoint ++ variables ∷ [] }
+
+pub record AddsAssertion (old : Held) (f : NumberedFrame) (new : Held) : Type 0 where
+  pub names : Renames old.names f.label (Assertion (length old.frames)) new.names
+  pub rest : new ≡ record old { names = new.names; frames = old.frames ++ f ∷ [] }
+
+abbrev pub block_at : Held → ℕ → OpenBlock
+block_at h at = record { at = at; variables = length h.variables; hyps = length h.hypotheses; disjoint = length h.disjoint }
+
+abbrev pub OpensBlock : Held → ℕ → Held → Type 0
+OpensBlock old at new = new ≡ record old { blocks = old.blocks ++ block_at old at ∷ [] }
+
+-- the inmost block, which is the last, is taken away with what became active in it
+abbrev pub ClosesBlock : Held → Held → Option OpenBlock → Type 0
+ClosesBlock old new None = (old.blocks ≡ []) × (new ≡ old)
+ClosesBlock old new (Some block) = (old.blocks ≡ new.blocks ++ block ∷ []) × (new ≡ record old {
+  variables = take block.variables old.variables;
+  hypotheses = take block.hyps old.hypotheses;
+  disjoint = take block.disjoint old.disjoint;
+  blocks = new.blocks;
+})
+
+-- each token gets a number and the name of a constant
+abbrev pub AddsConstants : Held → List Token → Held → Type 0
+AddsConstants old [] new = new ≡ old
+AddsConstants old (token ∷ tokens) new = (n : ℕ) × (mid : Held) × AddsSymbol old token false n mid × AddsConstants mid tokens new
+
+-- a variable that is new gets a number, and each becomes active
+abbrev pub VariableStep : Held → Token → Option Name → Held → Type 0
+VariableStep old token None new = (n : ℕ) × (mid : Held) × AddsSymbol old token true n mid × Activates mid n new
+VariableStep old token (Some (Variable n)) new = Activates old n new
+VariableStep old token (Some (Constant n)) new = new ≡ old
+VariableStep old token (Some (Hypothesis i)) new = new ≡ old
+VariableStep old token (Some (Assertion i)) new = new ≡ old
+
+abbrev pub AddsVariable : Held → Token → Held → Type 0
+AddsVariable old token new = VariableStep old token (old.names token) new
+
+abbrev pub AddsVariables : Held → List Token → Held → Type 0
+AddsVariables old [] new = new ≡ old
+AddsVariables old (token ∷ tokens) new = (mid : Held) × AddsVariable old token mid × AddsVariables mid tokens new

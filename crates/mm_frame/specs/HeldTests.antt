@@ -1,0 +1,104 @@
+-- Tests of tokens by what scopes hold.
+use Rattle.std.specs.Prelude.{ℕ, Bool, true, false, ◌&&◌, nat_eq, if◌then◌else◌, List, [], ◌∷◌, ◌++◌, slice_index, slice_get, Option, Some, None, is_some, is_none}
+use Rattle.mm_text.specs.Bytes.{Token}
+use Rattle.mm_text.specs.Labels.{is_label}
+use Rattle.mm_frame.specs.Numbered.{NumberedHypothesis}
+use Rattle.mm_frame.specs.FramesHeld.{types_number}
+use Rattle.mm_frame.specs.Held.{Held}
+use Rattle.mm_frame.specs.declared.scopes.Name.{Name}
+use Rattle.mm_frame.specs.declared.scopes.Name.TheVariants.{Constant, Variable, Hypothesis, Assertion}
+use Rattle.mm_frame.specs.declared.scopes.Need.{Need}
+use Rattle.mm_frame.specs.declared.scopes.Need.TheVariants as need
+
+abbrev pub is_number : ℕ → Option ℕ → Bool
+is_number n None = false
+is_number n (Some m) = nat_eq m n
+
+-- the variable stands at its place
+abbrev pub is_held_active : Held → ℕ → Bool
+is_held_active h n = is_number n (slice_get h.variables (slice_index h.places n))
+
+abbrev pub types_in : ℕ → Option NumberedHypothesis → Bool
+types_in n None = false
+types_in n (Some hypothesis) = types_number n hypothesis
+
+-- its `$f` stands at its place
+abbrev pub is_held_typed : Held → ℕ → Bool
+is_held_typed h n = types_in n (slice_get h.hypotheses (slice_index h.types n))
+
+abbrev pub number_if : Bool → ℕ → Option ℕ
+number_if test n = if test then Some n else None
+
+abbrev pub variable_if : Held → Need → ℕ → Option ℕ
+variable_if h need.Active n = number_if (is_held_active h n) n
+variable_if h need.Variable n = number_if (is_held_active h n) n
+variable_if h need.Typed n = number_if (is_held_active h n && is_held_typed h n) n
+
+abbrev pub constant_if : Need → ℕ → Option ℕ
+constant_if need.Active n = Some n
+constant_if need.Variable n = None
+constant_if need.Typed n = Some n
+
+abbrev pub name_number : Held → Need → Option Name → Option ℕ
+name_number h need None = None
+name_number h need (Some (Constant n)) = constant_if need n
+name_number h need (Some (Variable n)) = variable_if h need n
+name_number h need (Some (Hypothesis i)) = None
+name_number h need (Some (Assertion i)) = None
+
+-- the number of a symbol that is what it has to be
+abbrev pub number_in : Held → Need → Token → Option ℕ
+number_in h need token = name_number h need (h.names token)
+
+abbrev pub is_in : Held → Need → Token → Bool
+is_in h need token = is_some (number_in h need token)
+
+-- a constant or an active variable
+abbrev pub is_active_in : Held → Token → Bool
+is_active_in h token = is_in h need.Active token
+
+abbrev pub with_number : Option ℕ → Option (List ℕ) → Option (List ℕ)
+with_number None numbers = None
+with_number (Some n) None = None
+with_number (Some n) (Some numbers) = Some (n ∷ numbers)
+
+-- the numbers of symbols that are each what it has to be
+abbrev pub numbers_in : Held → Need → List Token → Option (List ℕ)
+numbers_in h need [] = Some []
+numbers_in h need (token ∷ tokens) = with_number (number_in h need token) (numbers_in h need tokens)
+
+abbrev pub constant_named : Option Name → Option ℕ
+constant_named None = None
+constant_named (Some (Constant n)) = Some n
+constant_named (Some (Variable n)) = None
+constant_named (Some (Hypothesis i)) = None
+constant_named (Some (Assertion i)) = None
+
+-- the number of a constant
+abbrev pub constant_in : Held → Token → Option ℕ
+constant_in h token = constant_named (h.names token)
+
+-- the only label, where it may be one and names nothing yet
+abbrev pub label_in : Held → List Token → Option Token
+label_in h [] = None
+label_in h (label ∷ []) = if is_label label && is_none (h.names label) then Some label else None
+label_in h (label ∷ (other ∷ labels)) = None
+
+abbrev pub redeclares_constant : Held → Token → Bool
+redeclares_constant h token = is_some (h.names token)
+
+abbrev pub names_active : Held → Option Name → Bool
+names_active h None = false
+names_active h (Some (Constant n)) = true
+names_active h (Some (Variable n)) = is_held_active h n
+names_active h (Some (Hypothesis i)) = true
+names_active h (Some (Assertion i)) = true
+
+-- the token names something that is no inactive variable
+abbrev pub redeclares_variable : Held → Token → Bool
+redeclares_variable h token = names_active h (h.names token)
+
+-- numbers in front of others
+abbrev pub ahead : List ℕ → Option (List ℕ) → Option (List ℕ)
+ahead front None = None
+ahead front (Some numbers) = Some (front ++ numbers)

@@ -1,0 +1,52 @@
+-- What a statement is to be, where it is a `$p`.
+use Rattle.std.specs.Prelude.{◌≡◌, ℕ, Bool, true, false, List, map, Option, Some, None, Result, Ok, Err}
+use Rattle.mm_text.specs.Bytes.{Token}
+use Rattle.mm_text.specs.Statements.{Statement}
+use Rattle.mm_text.specs.Reader.{words_of}
+use Rattle.mm_frame.specs.Forms.{Keyword, declares_constants, declares_variables, types_variable, assumes, separates, asserts, proves, Form, block_start, block_end, plain, form_of}
+use Rattle.mm_frame.specs.Frames.{frame_of}
+use Rattle.mm_frame.specs.Database.{Context, first_label}
+use Rattle.mm_frame.specs.Validity.{declaration_fault}
+use Rattle.mm_frame.specs.Numbered.{IsNaming, IsNamedFrame}
+use Rattle.mm_frame.specs.FramesHeld.{frame_held}
+use Rattle.mm_frame.specs.Held.{Held}
+use Rattle.mm_frame.specs.HeldFaults.{Statement as Stated}
+use Rattle.mm_frame.specs.HeldFrames.{IsHeldFrame}
+use Rattle.mm_frame.specs.Standing.{NamesSymbols}
+use Rattle.mm_frame.specs.declared.declare.FrameEnd.{FrameEnd}
+use Rattle.mm_frame.specs.declared.declare.FrameEnd.TheVariants.{Fault, Memory}
+use Rattle.mm_frame.specs.declared.theorem.Theorem.{Theorem}
+
+abbrev pub is_proving : Keyword → Bool
+is_proving declares_constants = false
+is_proving declares_variables = false
+is_proving types_variable = false
+is_proving assumes = false
+is_proving separates = false
+is_proving asserts = false
+is_proving proves = true
+
+abbrev pub is_theorem : Option Form → Bool
+is_theorem None = false
+is_theorem (Some block_start) = false
+is_theorem (Some block_end) = false
+is_theorem (Some (plain labels keyword symbols proof)) = is_proving keyword
+
+-- a `$p` without fault of kinds 3 to 11, with its frame and the tokens of its proof
+pub record IsProposed (bytes : List ℕ) (h : Held) (c : Context) (s : Statement) (t : Theorem) : Type 0 where
+  pub labels : List Token
+  pub symbols : List Token
+  pub form : form_of s.tokens ≡ Some (plain labels proves symbols (words_of bytes t.proof.now))
+  pub well : declaration_fault c (form_of s.tokens) ≡ None
+  pub stated : Stated
+  pub label : first_label labels ≡ stated.label
+  pub free : h.names stated.label ≡ None
+  pub numbers : (name : ℕ → Token) → NamesSymbols name h.symbols → map name stated.symbols ≡ symbols
+  pub held : IsHeldFrame h stated (frame_held t.frame)
+  pub frame : (name : ℕ → Token) → IsNaming name → NamesSymbols name h.symbols → IsNamedFrame name (frame_held t.frame) (frame_of c.scope (first_label labels) symbols)
+
+abbrev pub Proposes : List ℕ → Held → Context → Statement → Result (Option Theorem) FrameEnd → Type 0
+Proposes bytes h c s (Ok None) = is_theorem (form_of s.tokens) ≡ false
+Proposes bytes h c s (Ok (Some t)) = IsProposed bytes h c s t
+Proposes bytes h c s (Err (Fault f)) = (declaration_fault c (form_of s.tokens) ≡ Some f.kind) × (f.at ≡ s.at)
+Proposes bytes h c s (Err Memory) = Unit {0}

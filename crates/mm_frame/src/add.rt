@@ -1,0 +1,137 @@
+// A statement without fault is added to what is declared.
+
+ghost use Rattle.std.specs.Prelude.{◌≡◌, ◌++◌, ◌∷◌, [], ℕ, cond, Some, IfOk, length, bytes_eq};
+ghost use Rattle.mm_text.specs.Bytes.{Token};
+ghost use Rattle.mm_frame.specs.Held.{held, Held};
+ghost use Rattle.mm_frame.specs.FramesHeld.{hypothesis_held, frame_held};
+ghost use Rattle.mm_frame.specs.HeldSteps.{symbol_name, AppendsSymbol, Names, AddsSymbol, Activates, AddsHypothesis, AddsDisjoint, AddsAssertion, OpensBlock, ClosesBlock};
+
+use crate::frames::{Frame, Hyp};
+use crate::scopes::{Name, OpenBlock, Scopes, Symbol};
+use std::alloc::{AllocError, Global};
+
+impl<'a> Scopes<'a> {
+    /// Gives a token a number and its name.
+    pub(crate) fn add_symbol(
+        &mut self,
+        word: &'a [u8],
+        is_variable: bool,
+    ) -> Result<u32, AllocError>
+        ensures { IfOk result (λ n. AddsSymbol (held self.old) word.now is_variable n (held self.new)) }
+    {
+        let Ok(n) = u32::try_from(self.symbols.len()) else {
+            return Err(AllocError);
+        };
+        self.push_symbol(word, is_variable)?;
+        self.rename(word, symbol_name(is_variable, n))?;
+        Ok(n)
+    }
+
+    /// Appends a symbol.
+    fn push_symbol(&mut self, word: &'a [u8], is_variable: bool) -> Result<(), AllocError>
+        ensures { IfOk result (λ _. AppendsSymbol (held self.old) word.now is_variable (held self.new)) }
+    {
+        self.places.push(0)?;
+        self.types.push(0)?;
+        self.symbols.push(Symbol {
+            token: word,
+            is_variable,
+        })?;
+        Ok(())
+    }
+
+    /// Gives a token a name.
+    fn rename(&mut self, word: &'a [u8], name: Name) -> Result<(), AllocError>
+        ensures { IfOk result (λ _. Names (held self.old) word.now name (held self.new)) }
+    {
+        self.names.insert(word, name)?;
+        Ok(())
+    }
+
+    /// Makes a variable active.
+    pub(crate) fn activate(&mut self, n: u32) -> Result<(), AllocError>
+        ensures { IfOk result (λ _. Activates (held self.old) n (held self.new)) }
+    {
+        let place = self.variables.len();
+        self.variables.push(n)?;
+        if (n as usize) < self.places.len() {
+            self.places[n as usize] = place;
+        }
+        Ok(())
+    }
+
+    /// Makes a hypothesis active.
+    pub(crate) fn add_hypothesis(&mut self, hyp: Hyp<'a>) -> Result<(), AllocError>
+        ensures { IfOk result (λ _. AddsHypothesis (held self.old) (hypothesis_held hyp.entry) (held self.new)) }
+    {
+        let place = self.hyps.len();
+        self.rename(hyp.label(), Name::Hypothesis(place))?;
+        if let Hyp::Floating(_, _, variable) = &hyp {
+            let n = *variable as usize;
+            if n < self.types.len() {
+                self.types[n] = place;
+            }
+        }
+        if self.hyps.push(hyp).is_err() {
+            return Err(AllocError);
+        }
+        Ok(())
+    }
+
+    /// Keeps variables apart from each other.
+    pub(crate) fn add_disjoint(&mut self, variables: Vec<u32>) -> Result<(), AllocError>
+        ensures { IfOk result (λ _. AddsDisjoint (held self.old) variables.items (held self.new)) }
+    {
+        if self.disjoint.push(variables).is_err() {
+            return Err(AllocError);
+        }
+        Ok(())
+    }
+
+    /// Adds the frame of an assertion.
+    pub(crate) fn add_assertion(&mut self, frame: Frame<'a>) -> Result<(), AllocError>
+        ensures { IfOk result (λ _. AddsAssertion (held self.old) (frame_held frame.entry) (held self.new)) }
+    {
+        let place = self.frames.len();
+        self.rename(frame.label, Name::Assertion(place))?;
+        if self.frames.push(frame).is_err() {
+            return Err(AllocError);
+        }
+        Ok(())
+    }
+
+    /// Opens a block.
+    pub(crate) fn open_block(&mut self, at: usize) -> Result<(), AllocError>
+        ensures { IfOk result (λ _. OpensBlock (held self.old) at (held self.new)) }
+    {
+        self.blocks.push(OpenBlock {
+            at,
+            variables: self.variables.len(),
+            hyps: self.hyps.len(),
+            disjoint: self.disjoint.len(),
+        })?;
+        Ok(())
+    }
+
+    /// Closes the inmost block, and gives it; none where no block is open.
+    pub(crate) fn close_block(&mut self) -> Option<OpenBlock>
+        ensures { ClosesBlock (held self.old) (held self.new) result }
+    {
+        let block = self.blocks.pop()?;
+        self.variables.truncate(block.variables);
+        self.hyps.truncate(block.hyps);
+        self.disjoint.truncate(block.disjoint);
+        Some(block)
+    }
+}
+
+/// The name of a symbol with this number.
+fn symbol_name(is_variable: bool, n: u32) -> Name
+    ensures { result ≡ symbol_name is_variable n }
+{
+    if is_variable {
+        Name::Variable(n)
+    } else {
+        Name::Constant(n)
+    }
+}

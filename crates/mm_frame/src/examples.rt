@@ -1,0 +1,168 @@
+// Worked examples: small databases and the first fault of their declarations.
+
+use super::*;
+use mm_text::{MmFault, MmFound, MmReadEnd, MmTokens};
+use std::alloc::{AllocError, Global};
+use std::process::Abort;
+use std::test::Fail;
+
+/// The most statements of a database below.
+const MOST: usize = 40;
+
+/// The first fault of a text, those of proofs left out.
+pub(crate) fn first_fault(alloc: Global, text: &[u8]) -> Result<Option<MmFault>, AllocError> {
+    let mut scopes = Scopes::new(alloc);
+    let mut reader = MmTokens::new(text);
+    let mut tokens = Vec::new(alloc);
+    for _ in 0..MOST {
+        match reader.next_statement(&mut tokens) {
+            Err(MmReadEnd::Fault(fault)) => return Ok(Some(fault)),
+            Err(MmReadEnd::Memory) => return Err(AllocError),
+            Ok(MmFound::Unended(at)) => return Ok(Some(MmFault { kind: 3, at })),
+            Ok(MmFound::End) => {
+                return Ok(match scopes.unclosed() {
+                    None => None,
+                    Some(at) => Some(MmFault { kind: 10, at }),
+                });
+            }
+            Ok(MmFound::Statement) => match scopes.statement(alloc, text, &tokens) {
+                Err(FrameEnd::Fault(fault)) => return Ok(Some(fault)),
+                Err(FrameEnd::Memory) => return Err(AllocError),
+                Ok(_) => {}
+            },
+        }
+    }
+    Err(AllocError)
+}
+
+const FAULTS: [(&str, Option<(u8, usize)>); 58] = [
+    ("", None),
+    (" $( a comment $) ", None),
+    (
+        "$c t $. $v x y $. fx $f t x $. fy $f t y $. ax $a t x y $.",
+        None,
+    ),
+    (
+        "$c t $. ${ $v x $. fx $f t x $. $} $v x $. gx $f t x $.",
+        None,
+    ),
+    ("$c t $. ${ $v x $. $} ${ $v x $. fx $f t x $. $}", None),
+    ("$c t $. $v x $. ${ fx $f t x $. $} gx $f t x $.", None),
+    (
+        "$c t $. $v x y $. fx $f t x $. $d x y $. ${ h $e t x $. a $a t $. $}",
+        None,
+    ),
+    ("$c t $. p $p t $= anything at all $.", None),
+    ("$c t \x01 $.", Some((1, 5))),
+    ("$( \x01 $) $c t $.", Some((1, 3))),
+    ("$c t $. $( ", Some((2, 8))),
+    ("$( a$(b $) ", Some((2, 0))),
+    ("$c t $) $.", Some((2, 5))),
+    ("$x $. $)", Some((3, 0))),
+    ("$c t $. $x t $.", Some((3, 8))),
+    ("$[ set.mm $]", Some((3, 0))),
+    ("$c t $. $v x", Some((3, 8))),
+    ("$.", Some((3, 0))),
+    ("l $.", Some((3, 0))),
+    ("$c $.", Some((3, 0))),
+    ("$v $.", Some((3, 0))),
+    ("l ${ $.", Some((3, 0))),
+    ("$c t $a $.", Some((3, 0))),
+    ("$c t $. p $p t $.", Some((3, 8))),
+    ("$c t $. p $p t $= a $f $.", Some((3, 8))),
+    ("$c t $. p $a t $= a $.", Some((3, 8))),
+    ("${ $c t $. $}", Some((4, 3))),
+    ("$c t t $.", Some((5, 0))),
+    ("$c t $. $c t $.", Some((5, 8))),
+    ("$c t $. $v t $.", Some((5, 8))),
+    ("$c t $. $v x $. $v x $.", Some((5, 16))),
+    ("$v x x $.", Some((5, 0))),
+    ("${ $v x $. $} $c x $.", Some((5, 14))),
+    ("$c t $. a $a t $. $c a $.", Some((5, 18))),
+    ("$c t $. a $a t $. $v a $.", Some((5, 18))),
+    ("$c t $. ax $a t u $.", Some((6, 8))),
+    ("$c t $. $v x $. ax $a t x $.", Some((6, 16))),
+    ("$c t $. $v x $. ax $e t x $.", Some((6, 16))),
+    ("$c t $. ${ $v x $. $} fx $f t x $.", Some((6, 22))),
+    ("$c t $. $v x $. $d x t $.", Some((6, 16))),
+    ("$c t $. ax $a ax $.", Some((6, 8))),
+    ("$c t $. $v x $. fx $f t x $. ax $a x $.", Some((7, 29))),
+    ("$c t $. ax $a $.", Some((7, 8))),
+    ("$c t $. $v x $. fx $f t x x $.", Some((7, 16))),
+    ("$c t $. $v x $. fx $f x t $.", Some((7, 16))),
+    ("$c t $. $v x $. fx $f t x $. gx $f t x $.", Some((8, 29))),
+    ("$c t $. $v x $. fx $f t x $. $d x $.", Some((9, 29))),
+    ("$v x $. $d x x $.", Some((9, 8))),
+    ("$d $.", Some((9, 0))),
+    ("$c t $. $}", Some((10, 8))),
+    ("$c t $. ${ ${ $} ${", Some((10, 8))),
+    ("$c t $. $a t $.", Some((11, 8))),
+    ("l $c t $.", Some((11, 0))),
+    ("$c t $. a b $a t $.", Some((11, 8))),
+    ("$c t $. a/b $a t $.", Some((11, 8))),
+    ("$c t $. a $a t $. a $a t $.", Some((11, 18))),
+    ("$c t $. t $a t $.", Some((11, 8))),
+    ("$c t $. a b $a u $. $)", Some((6, 8))),
+];
+
+#[test]
+fn texts_have_their_first_fault(rt: HostRuntime) -> Result<(), Fail> {
+    for (text, expected) in FAULTS {
+        let found = first_fault(rt.alloc(), text.as_bytes())?;
+        match (found, expected) {
+            (None, None) => {}
+            (Some(fault), Some((kind, at))) => {
+                assert_eq!(rt; fault.kind, kind, "{text}");
+                assert_eq!(rt; fault.at, at, "{text}");
+            }
+            _ => panic!(rt; "another answer: {text}"),
+        }
+    }
+    Ok(())
+}
+
+const SCOPED: &str =
+    "$c t $. $v x y z $. fz $f t z $. fx $f t x $. ${ $v w $. fw $f t w $. fy $f t y $. $d x y w $. h $e t y $. a $a t x $. $}";
+
+/// The scopes behind the statements of a text, as far as they have no fault.
+pub(crate) fn scopes_of(alloc: Global, text: &[u8]) -> Result<Scopes<'_>, AllocError> {
+    let mut scopes = Scopes::new(alloc);
+    let mut reader = MmTokens::new(text);
+    let mut tokens = Vec::new(alloc);
+    for _ in 0..MOST {
+        match reader.next_statement(&mut tokens) {
+            Ok(MmFound::Statement) => match scopes.statement(alloc, text, &tokens) {
+                Ok(_) => {}
+                Err(_) => return Err(AllocError),
+            },
+            Ok(_) => return Ok(scopes),
+            Err(_) => return Err(AllocError),
+        }
+    }
+    Err(AllocError)
+}
+
+#[test]
+fn a_block_takes_back_what_was_active_and_keeps_its_assertions(
+    rt: HostRuntime,
+) -> Result<(), Fail> {
+    let scopes = scopes_of(rt.alloc(), SCOPED.as_bytes())?;
+    assert!(rt; scopes.active(b"fx").is_some());
+    assert!(rt; scopes.active(b"fy").is_none());
+    assert!(rt; scopes.active(b"a").is_none());
+    assert!(rt; !scopes.apart(1, 2));
+    assert!(rt; !scopes.is_variable(0));
+    assert!(rt; scopes.is_variable(4));
+    assert!(rt; scopes.unclosed().is_none());
+    assert!(rt; scopes.token(4) == Some(b"w".as_slice()));
+    assert!(rt; scopes.token(5).is_none());
+    match scopes.assertion(b"a") {
+        None => panic!(rt; "no frame"),
+        Some(frame) => {
+            assert_eq!(rt; frame.statement.as_slice(), [0, 1].as_slice());
+            assert_eq!(rt; frame.hyps.len(), 3);
+            assert_eq!(rt; frame.apart.len(), 1);
+        }
+    }
+    Ok(())
+}

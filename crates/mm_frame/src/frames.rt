@@ -1,0 +1,54 @@
+// Hypotheses and frames.
+
+ghost use Rattle.std.specs.Prelude.{◌≡◌};
+ghost use Rattle.mm_frame.specs.FramesHeld.{types_number, number_label, hypothesis_held};
+
+/// A hypothesis, whose symbols are numbers.
+#[derive(Drop)]
+pub enum Hyp<'a> {
+    /// A `$f`: its label, typecode and variable.
+    Floating(&'a [u8], u32, u32),
+    /// An `$e`: its label and statement.
+    Essential(&'a [u8], Vec<u32>),
+}
+
+/// The frame of an assertion: its label, its mandatory hypotheses in order, the variables that have to
+/// stay apart from each other, as one list for each `$d`, and its statement.
+#[derive(Drop)]
+pub struct Frame<'a> {
+    pub label: &'a [u8],
+    pub hyps: Vec<Hyp<'a>>,
+    pub apart: Vec<Vec<u32>>,
+    pub statement: Vec<u32>,
+}
+
+/// What a label cites.
+#[derive(Clone, Copy)]
+pub enum Cited<'s, 'a> {
+    /// An active hypothesis.
+    Hypothesis(&'s Hyp<'a>),
+    /// An assertion, by its number from 0 among the frames.
+    Assertion(usize),
+}
+
+impl<'a> Hyp<'a> {
+    /// Its label.
+    pub fn label(&self) -> &'a [u8]
+        ensures { result.now ≡ number_label (hypothesis_held self.now) }
+    {
+        match self {
+            Hyp::Floating(label, _, _) => label,
+            Hyp::Essential(label, _) => label,
+        }
+    }
+
+    /// Whether it types this variable.
+    pub fn types(&self, n: u32) -> bool
+        ensures { result ≡ types_number n (hypothesis_held self.now) }
+    {
+        match self {
+            Hyp::Floating(_, _, variable) => *variable == n,
+            Hyp::Essential(_, _) => false,
+        }
+    }
+}

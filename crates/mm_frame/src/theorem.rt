@@ -1,0 +1,75 @@
+// Theorems before they are added.
+
+ghost use Rattle.std.specs.Prelude.{◌≡◌, ℕ};
+ghost use Rattle.mm_text.specs.Reader.{statement_of};
+ghost use Rattle.mm_frame.specs.Database.{Context};
+ghost use Rattle.mm_frame.specs.Held.{held};
+ghost use Rattle.mm_frame.specs.Standing.{Stands};
+
+use crate::declare::{FrameEnd, end_at, first_byte};
+use crate::forms::{Form, Keyword, read_form};
+use crate::frames::Frame;
+use crate::judge::Refusal;
+use crate::scopes::Scopes;
+use mm_text::MmToken;
+use std::alloc::{AllocError, Global};
+
+/// A `$p`: the frame that it is to have, and the tokens of its proof.
+#[derive(Drop)]
+pub struct Theorem<'a, 't> {
+    pub frame: Frame<'a>,
+    pub proof: &'t [MmToken],
+}
+
+impl<'a> Scopes<'a> {
+    ghost use Rattle.std.specs.Prelude.{IfOk, List};
+    ghost use Rattle.mm_text.specs.Statements.{Statement};
+    ghost use Rattle.mm_frame.specs.Database.{context_after};
+    ghost use Rattle.mm_frame.specs.Takes.{KeepsFrames};
+    ghost use Rattle.mm_frame.specs.Proposing.{IsProposed, Proposes};
+
+    /// The theorem that a statement is to be, whose tokens stand in `bytes`: none exactly where it is
+    /// no `$p`, or its keywords are not well placed. Where it has a fault of kinds 4 to 11, the first
+    /// of these, with the byte of its first token. Nothing is added.
+    pub fn theorem<'t>(
+        &self,
+        alloc: Global,
+        bytes: &'a [u8],
+        tokens: &'t [MmToken],
+    ) -> Result<Option<Theorem<'a, 't>>, FrameEnd>
+        ensures { (c : Context) → Stands (held self.now) c → Proposes bytes.now (held self.now) c (statement_of bytes.now tokens.now) result }
+    {
+        let Some(form) = read_form(bytes, tokens) else {
+            return Ok(None);
+        };
+        let Form::Plain(plain) = form else {
+            return Ok(None);
+        };
+        if plain.keyword != Keyword::Theorem {
+            return Ok(None);
+        }
+        let stated = match self.stated(alloc, bytes, plain.labels, plain.symbols) {
+            Err(refusal) => return Err(end_at(refusal, first_byte(tokens))),
+            Ok(stated) => stated,
+        };
+        match self.frame(alloc, stated) {
+            Err(_) => Err(FrameEnd::Memory),
+            Ok(frame) => Ok(Some(Theorem {
+                frame,
+                proof: plain.proof,
+            })),
+        }
+    }
+
+    /// Adds a theorem as it was proposed. After want of memory the scopes may have a part of it, and are
+    /// to be let go.
+    pub fn add_theorem(&mut self, theorem: Theorem<'a, '_>) -> Result<(), AllocError>
+        ensures stands { IfOk result (λ _. (bytes : List ℕ) (c : Context) (s : Statement) → Stands (held self.old) c → IsProposed bytes (held self.old) c s theorem.entry → Stands (held self.new) (context_after c s)) }
+        ensures frames { IfOk result (λ _. KeepsFrames (held self.old) (held self.new)) }
+    {
+        match self.add_assertion(theorem.frame) {
+            Err(_) => Err(AllocError),
+            Ok(()) => Ok(()),
+        }
+    }
+}

@@ -1,0 +1,61 @@
+-- What reading the next statement of a text gives.
+use Rattle.std.specs.Prelude.{◌≡◌, ℕ, ◌<◌, Bool, true, false, List, [], ◌∷◌, map, Result, Ok, Err}
+use Rattle.std.specs.List.{slice_range}
+use Rattle.mm_text.specs.Bytes.{Token}
+use Rattle.mm_text.specs.Tokens.{Tokens}
+use Rattle.mm_text.specs.Next.{left}
+use Rattle.mm_text.specs.Statements.{Statement, statement, Statements, no_statement, unended, bad_statement, next_statement, Reading, between, within, ends_statement, is_whole, statements_in}
+use Rattle.mm_text.specs.declared.tokens.MmToken.{MmToken}
+use Rattle.mm_text.specs.declared.tokens.MmTokens.{MmTokens}
+use Rattle.mm_text.specs.declared.statements.MmFound.{MmFound}
+use Rattle.mm_text.specs.declared.statements.MmFound.TheVariants.{Statement as Found, End, Unended}
+use Rattle.mm_text.specs.declared.statements.MmReadEnd.{MmReadEnd}
+use Rattle.mm_text.specs.declared.statements.MmReadEnd.TheVariants.{Fault, Memory}
+
+-- the bytes of a token of a text, and of some
+abbrev pub word_of : List ℕ → MmToken → Token
+word_of bytes t = slice_range bytes t.from t.to
+
+abbrev pub words_of : List ℕ → List MmToken → List Token
+words_of bytes tokens = map (word_of bytes) tokens
+
+-- the statement that these tokens make
+abbrev pub statement_of : List ℕ → List MmToken → Statement
+statement_of bytes [] = statement 0 []
+statement_of bytes (t ∷ tokens) = statement t.from (words_of bytes (t ∷ tokens))
+
+-- the statements that are left
+abbrev pub statements_left : MmTokens → Statements
+statements_left reader = statements_in between (left reader)
+
+-- The tokens make the first of these statements, and those are the others; or there is none, by the
+-- text's end, by a statement without an end, or by a fault.
+abbrev pub Finds : List ℕ → Statements → Statements → List MmToken → Result MmFound MmReadEnd → Type 0
+Finds bytes before behind tokens (Ok Found) = before ≡ next_statement (statement_of bytes tokens) behind
+Finds bytes before behind tokens (Ok End) = before ≡ no_statement
+Finds bytes before behind tokens (Ok (Unended at)) = before ≡ unended at
+Finds bytes before behind tokens (Err (Fault f)) = before ≡ bad_statement f
+Finds bytes before behind tokens (Err Memory) = Unit {0}
+
+-- a statement takes bytes
+abbrev pub Passes : ℕ → ℕ → Result MmFound MmReadEnd → Type 0
+Passes old new (Ok Found) = old < new
+Passes old new (Ok End) = Unit {0}
+Passes old new (Ok (Unended at)) = Unit {0}
+Passes old new (Err end) = Unit {0}
+
+-- The rest is cited by the clauses of private functions and by proofs alone.
+
+-- a statement ends with this token, which is its first or another one
+abbrev pub ends_after : Bool → Token → Bool
+ends_after true word = is_whole word
+ends_after false word = ends_statement word
+
+-- a statement that has begun with these tokens
+abbrev pub begun : List ℕ → List MmToken → Reading
+begun bytes [] = between
+begun bytes (t ∷ tokens) = within t.from (words_of bytes (t ∷ tokens))
+
+abbrev pub found_at_end : List MmToken → MmFound
+found_at_end [] = End
+found_at_end (t ∷ tokens) = Unended t.from

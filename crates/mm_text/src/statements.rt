@@ -1,0 +1,92 @@
+// The statements of a text, one after another.
+
+ghost use Rattle.std.specs.Prelude.{◌≡◌};
+ghost use Rattle.mm_text.specs.Reader.{ends_after, found_at_end};
+ghost use Rattle.mm_text.specs.Statements.{ends_statement, is_whole};
+
+use crate::fault::MmFault;
+use crate::tokens::{MmToken, MmTokens};
+
+/// What was found where a statement may begin.
+#[derive(Clone, Copy, PartialEq, Eq)]
+pub enum MmFound {
+    /// A statement.
+    Statement,
+    /// The end of the text.
+    End,
+    /// A statement that has no end, by the byte of its first token.
+    Unended(usize),
+}
+
+/// Why no statement was read.
+#[derive(Clone, Copy, PartialEq, Eq)]
+pub enum MmReadEnd {
+    /// A byte or a comment that breaks the text, of kind 1 or 2.
+    Fault(MmFault),
+    /// There was not enough memory.
+    Memory,
+}
+
+impl<'a> MmTokens<'a> {
+    ghost use Rattle.mm_text.specs.Reader.{statements_left, Finds, Passes};
+
+    /// Reads the next statement, whose tokens replace those that the list had. Where there is none, it
+    /// answers how the text ends, or its first fault (1 or 2), and the list has the tokens before it.
+    pub fn next_statement(&mut self, tokens: &mut Vec<MmToken>) -> Result<MmFound, MmReadEnd>
+        ensures text { self.new.bytes.now ≡ self.old.bytes.now }
+        ensures finds { Finds self.old.bytes.now (statements_left self.old) (statements_left self.new) tokens.new.items result }
+        ensures passes { Passes self.old.at self.new.at result }
+    {
+        tokens.clear();
+        loop {
+            match self.next() {
+                Err(fault) => return Err(MmReadEnd::Fault(fault)),
+                Ok(None) => return Ok(found_at_end(tokens)),
+                Ok(Some(token)) => {
+                    let ends = ends_here(tokens.is_empty(), token.word(self.text()));
+                    if tokens.push(token).is_err() {
+                        return Err(MmReadEnd::Memory);
+                    }
+                    if ends {
+                        return Ok(MmFound::Statement);
+                    }
+                }
+            }
+        }
+    }
+}
+
+/// What the end of the text makes of the tokens of a statement.
+fn found_at_end(tokens: &[MmToken]) -> MmFound
+    ensures { result ≡ found_at_end tokens.now }
+{
+    match tokens.first() {
+        None => MmFound::End,
+        Some(token) => MmFound::Unended(token.from),
+    }
+}
+
+/// Whether a statement ends with this token, which is its first one or another one.
+fn ends_here(is_first: bool, word: &[u8]) -> bool
+    ensures { result ≡ ends_after is_first word.now }
+{
+    if is_first {
+        is_whole(word)
+    } else {
+        ends_statement(word)
+    }
+}
+
+/// Whether the token is `$.`.
+fn ends_statement(word: &[u8]) -> bool
+    ensures { result ≡ ends_statement word.now }
+{
+    word == b"$.".as_slice()
+}
+
+/// Whether the token is a statement where it is the first.
+fn is_whole(word: &[u8]) -> bool
+    ensures { result ≡ is_whole word.now }
+{
+    word == b"${".as_slice() || word == b"$}".as_slice() || ends_statement(word)
+}

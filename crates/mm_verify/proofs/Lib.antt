@@ -1,0 +1,15 @@
+mod Alone
+mod Apartness
+mod Clashing
+mod Cuts
+mod FewSteps
+mod Fillings
+mod ReadLetters
+mod ReadProofs
+mod Placing
+mod Resolving
+mod StepsNamed
+mod KindsNamed
+mod CheckedStatements
+mod MoreFrames
+mod VerdictLaws

@@ -1,0 +1,17 @@
+-- A list in pieces, by the places where they end.
+use Rattle.std.specs.Prelude.{◌≡◌, ℕ, zero, suc, ◌-◌, ◌≤◌, List, [], ◌∷◌, take, drop, slice_index_or}
+
+-- the pieces from a place on
+abbrev pub cut : List ℕ → ℕ → List ℕ → List (List ℕ)
+cut symbols from [] = []
+cut symbols from (to ∷ ends) = take (to - from) (drop from symbols) ∷ cut symbols to ends
+
+-- the places do not fall, and the last one is the end of the list, which has this length
+abbrev pub AreEnds : ℕ → ℕ → List ℕ → Type 0
+AreEnds whole from [] = from ≡ whole
+AreEnds whole from (to ∷ ends) = (from ≤ to) × AreEnds whole to ends
+
+-- where the piece with this number begins
+abbrev pub start_of : ℕ → List ℕ → ℕ → ℕ
+start_of from ends zero = from
+start_of from ends (suc i) = slice_index_or ends i from

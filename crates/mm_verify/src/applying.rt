@@ -1,0 +1,38 @@
+// Steps that apply assertions.
+ghost use Rattle.std.specs.Prelude.{◌≡◌, ◌-◌, ◌≤◌, length, drop, take, ◌++◌, IfOk, OnOk, OnErr};
+ghost use Rattle.mm_frame.specs.Numbered.{numbered_applied};
+ghost use Rattle.mm_frame.specs.NumberedSteps.{numbers_after_frame};
+ghost use Rattle.mm_verify.specs.AssertionView.{assertion_frame};
+ghost use Rattle.mm_verify.specs.Applied.{bindings_in, Answers};
+
+use crate::assertion::Assertion;
+use crate::place::Place;
+use crate::stack::Stack;
+use std::alloc::AllocError;
+
+/// Applies an assertion: the last entries of the stack, one for each mandatory hypothesis, give way to
+/// what the assertion gives from them. Answers whether it does; where not, the stack is as before. The
+/// buffer is for the new entry, so that a step need not ask for room of its own. It takes time in the
+/// length of the entries and of the new one, but for what `$d` asks for.
+pub(crate) fn apply<P: Place>(
+    place: &P,
+    assertion: &Assertion<'_>,
+    stack: &mut Stack,
+    buffer: &mut Vec<u32>,
+) -> Result<bool, AllocError>
+    ensures step { IfOk result (Answers (numbers_after_frame (P.place place.now) (assertion_frame assertion.now) (length (assertion_frame assertion.now).hypotheses) stack.old) stack.old stack.new) }
+{
+    let count = assertion.count();
+    if stack.len() < count {
+        return Ok(false);
+    }
+    let base = stack.len() - count;
+    if !assertion.is_met(place, stack, base) {
+        return Ok(false);
+    }
+    buffer.clear();
+    assertion.conclude(stack, base, buffer)?;
+    stack.truncate(base);
+    stack.push(buffer)?;
+    Ok(true)
+}

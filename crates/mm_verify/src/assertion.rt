@@ -1,0 +1,93 @@
+// Assertions as steps of proofs use them.
+ghost use Rattle.std.specs.Prelude.{flat_map};
+ghost use Rattle.mm_verify.specs.Places.{ArePlaced, parts_of};
+ghost use Rattle.mm_verify.specs.Resolved.{hypotheses_of, parts_in};
+
+use crate::checking::{are_groups_apart, are_wanted};
+use crate::filling::fill;
+use crate::parts::{Part, Wanted, all_wanted, groups_located, located, places};
+use crate::place::Place;
+use crate::stack::Stack;
+use mm_frame::Frame;
+use std::alloc::{AllocError, Global};
+
+/// An assertion, each of whose variables knows which entry gives its text. `assertion_frame` is its frame.
+#[derive(Drop)]
+pub(crate) struct Assertion<'a> {
+    label: &'a [u8],
+    wanted: Vec<Wanted<'a>>,
+    apart: Vec<Vec<Part>>,
+    conclusion: Vec<Part>,
+    ghost wanted_placed: { ArePlaced (hypotheses_of wanted.items) (flat_map parts_in wanted.items) },
+    ghost apart_placed: { ArePlaced (hypotheses_of wanted.items) (flat_map parts_of apart.items) },
+    ghost conclusion_placed: { ArePlaced (hypotheses_of wanted.items) conclusion.items },
+}
+
+impl<'a> Assertion<'a> {
+    ghost use Rattle.std.specs.Prelude.{◌≡◌, ◌++◌, length, drop, IfOk, OnOk};
+    ghost use Rattle.mm_frame.specs.Numbered.{numbers_substituted, all_agree, keeps_numbers_apart};
+    ghost use Rattle.mm_verify.specs.Applied.{bindings_in, is_met as met};
+    ghost use Rattle.mm_frame.specs.FramesHeld.{frame_held};
+    ghost use Rattle.mm_verify.specs.AssertionView.{assertion_frame};
+
+    /// The assertion with this frame. It takes time in the frame's size, but for a factor of the
+    /// logarithm of the number of its variables.
+    pub(crate) fn of(alloc: Global, frame: &Frame<'a>) -> Result<Assertion<'a>, AllocError>
+        ensures { IfOk result (λ a. assertion_frame a ≡ frame_held frame.now) }
+    {
+        let places = places(alloc, &frame.hyps)?;
+        let conclusion = located(alloc, &places, &frame.statement)?;
+        let apart = groups_located(alloc, &places, &frame.apart)?;
+        let wanted = all_wanted(alloc, &places, &frame.hyps)?;
+        Ok(Assertion {
+            label: frame.label,
+            wanted,
+            apart,
+            conclusion,
+        })
+    }
+
+    /// How many mandatory hypotheses it has.
+    pub(crate) fn count(&self) -> usize
+        ensures { result ≡ length (assertion_frame self.now).hypotheses }
+    {
+        self.wanted.len()
+    }
+
+    /// Whether the entries from `base` on, one for each mandatory hypothesis, are what it asks for.
+    pub(crate) fn is_met<P: Place>(&self, place: &P, stack: &Stack, base: usize) -> bool
+        requires { length (assertion_frame self.now).hypotheses ≡ length (drop base stack.now) }
+        ensures { result ≡ met (P.place place.now) (assertion_frame self.now) (drop base stack.now) }
+    {
+        self.agrees(stack, base) && self.is_apart(place, stack, base)
+    }
+
+    /// Whether the entries are of the right typecodes and what the `$e` ask for.
+    fn agrees(&self, stack: &Stack, base: usize) -> bool
+        requires { length (assertion_frame self.now).hypotheses ≡ length (drop base stack.now) }
+        ensures { result ≡ all_agree (bindings_in (assertion_frame self.now) (drop base stack.now)) (assertion_frame self.now).hypotheses (drop base stack.now) }
+    {
+        are_wanted(&self.wanted, stack, base)
+    }
+
+    /// Whether the texts keep apart what `$d` asks for.
+    fn is_apart<P: Place>(&self, place: &P, stack: &Stack, base: usize) -> bool
+        requires { length (assertion_frame self.now).hypotheses ≡ length (drop base stack.now) }
+        ensures { result ≡ keeps_numbers_apart (P.place place.now) (assertion_frame self.now) (bindings_in (assertion_frame self.now) (drop base stack.now)) }
+    {
+        are_groups_apart(place, &self.apart, stack, base)
+    }
+
+    /// Appends its statement, with the texts that the entries from `base` on give its variables.
+    pub(crate) fn conclude(
+        &self,
+        stack: &Stack,
+        base: usize,
+        to: &mut Vec<u32>,
+    ) -> Result<(), AllocError>
+        requires { length (assertion_frame self.now).hypotheses ≡ length (drop base stack.now) }
+        ensures { OnOk result (to.new.items ≡ to.old.items ++ numbers_substituted (bindings_in (assertion_frame self.now) (drop base stack.now)) (assertion_frame self.now).statement) }
+    {
+        fill(&self.conclusion, stack, base, to)
+    }
+}

@@ -1,0 +1,86 @@
+// Letters and the numbers that they make.
+ghost use Rattle.std.specs.Prelude.{◌≡◌, ◌≤◌, ◌-◌, ◌*◌, ◌+◌, ◌^◌, map, option_map, MatchOption};
+ghost use Rattle.mm_text.specs.Compressed.{letter_of, value_before};
+ghost use Rattle.mm_verify.specs.Running.{step_of};
+ghost use Rattle.mm_verify.specs.Digits.{before_of, letter_is, IsLetter};
+ghost use Rattle.mm_verify.specs.Meaning.{numbered_meaning};
+
+use crate::machine::Step;
+
+/// A letter.
+#[derive(Clone, Copy, PartialEq, Eq)]
+pub(crate) enum Letter {
+    /// `A` to `T`: the last digit of a number, 1 to 20.
+    Last(u8),
+    /// `U` to `Y`: a digit before it, 1 to 5.
+    Leading(u8),
+    /// `Z`.
+    Save,
+    /// Any other byte.
+    Other,
+}
+
+/// What stands before a letter.
+#[derive(Clone, Copy, PartialEq, Eq)]
+pub(crate) enum Behind {
+    /// Nothing.
+    Nothing,
+    /// Digits with this value, which are no number yet.
+    Digits(u64),
+    /// The last digit of a number.
+    Number,
+    /// A `Z`.
+    Save,
+}
+
+/// The value of the digits before a letter.
+pub(crate) fn value(behind: Behind) -> u64
+    ensures { result ≡ value_before (before_of behind) }
+{
+    match behind {
+        Behind::Digits(value) => value,
+        Behind::Nothing | Behind::Number | Behind::Save => 0,
+    }
+}
+
+/// A number with one more digit, in a place of this factor: none where it is past 2^64 - 1.
+pub(crate) fn extended(value: u64, factor: u64, digit: u8) -> Option<u64>
+    ensures { MatchOption result (2 ^ 64 ≤ factor * value + digit) (λ n. n ≡ factor * value + digit) }
+{
+    match value.checked_mul(factor) {
+        Some(product) => product.checked_add(digit as u64),
+        None => None,
+    }
+}
+
+/// The step that a number from 1 on stands for: one of the table, or a saved entry again.
+pub(crate) fn meaning<'a>(table: &[Step<'a>], saved: usize, number: u64) -> Option<Step<'a>>
+    requires { 1 ≤ number }
+    ensures { option_map step_of result ≡ numbered_meaning (map step_of table.now) saved (number - 1) }
+{
+    let place = number - 1;
+    let count = table.len() as u64;
+    if place < count {
+        Some(table[place as usize])
+    } else if place - count < saved as u64 {
+        Some(Step::Repeats((place - count) as usize))
+    } else {
+        None
+    }
+}
+
+/// The letter that a byte is.
+pub(crate) fn read_letter(byte: u8) -> Letter
+    ensures is { letter_is result ≡ letter_of byte }
+    ensures some { IsLetter result }
+{
+    if b'A' <= byte && byte <= b'T' {
+        Letter::Last(byte - b'@')
+    } else if b'U' <= byte && byte <= b'Y' {
+        Letter::Leading(byte - b'T')
+    } else if byte == b'Z' {
+        Letter::Save
+    } else {
+        Letter::Other
+    }
+}

@@ -1,0 +1,58 @@
+// What a proof may cite.
+ghost use Rattle.std.specs.Prelude.{◌≡◌, map};
+ghost use Rattle.mm_frame.specs.Held.{held};
+ghost use Rattle.mm_verify.specs.AssertionView.{assertion_frame};
+
+use crate::assertion::Assertion;
+use crate::machine::Step;
+use crate::place::Place;
+use mm_frame::{Cited, Scopes};
+
+/// What is declared before a statement, and its assertions as steps use them, in order.
+#[derive(Drop)]
+pub(crate) struct Known<'s, 'a> {
+    scopes: &'s Scopes<'a>,
+    assertions: &'s [Assertion<'a>],
+    ghost same: { map assertion_frame assertions.now ≡ (held scopes.now).frames },
+}
+
+impl<'s, 'a> Known<'s, 'a> {
+    ghost use Rattle.std.specs.Prelude.{option_map};
+    ghost use Rattle.mm_verify.specs.Running.{step_of};
+    ghost use Rattle.mm_verify.specs.Citing.{cited_at};
+
+    /// What is known of these scopes, whose assertions these are.
+    pub(crate) fn new(scopes: &'s Scopes<'a>, assertions: &'s [Assertion<'a>]) -> Known<'s, 'a>
+        requires { map assertion_frame assertions.now ≡ (held scopes.now).frames }
+        ensures { result.scopes.now ≡ scopes.now }
+    {
+        Known { scopes, assertions }
+    }
+
+    /// The step of a label: none exactly where it cites no active hypothesis and no assertion.
+    pub(crate) fn cite(&self, label: &'a [u8]) -> Option<Step<'s>>
+        ensures { option_map step_of result ≡ cited_at (held self.now.scopes.now) label.now }
+    {
+        match self.scopes.cited(label)? {
+            Cited::Hypothesis(hyp) => Some(Step::Gives(hyp)),
+            Cited::Assertion(place) => {
+                let assertion = self.assertions.get(place)?;
+                Some(Step::Applies(assertion))
+            }
+        }
+    }
+}
+
+impl Place for Known<'_, '_> {
+    ghost use Rattle.mm_frame.specs.StandingLaws.{place_of};
+
+    ghost place = { λ known. place_of (held known.scopes.now) };
+
+    fn is_variable(&self, symbol: u32) -> bool {
+        self.scopes.is_variable(symbol)
+    }
+
+    fn apart(&self, a: u32, b: u32) -> bool {
+        self.scopes.apart(a, b)
+    }
+}

@@ -1,0 +1,137 @@
+// The letters of compressed proofs.
+ghost use Rattle.std.specs.Prelude.{◌≤◌, length};
+
+use crate::digits::{Behind, Letter, extended, meaning, read_letter, value};
+use crate::machine::Step;
+use mm_text::MmToken;
+use std::alloc::{AllocError, Global};
+
+/// The steps that letters stand for, as far as they are read. The table has the steps of the first
+/// numbers.
+#[derive(Drop)]
+pub(crate) struct ReadSteps<'a> {
+    table: Vec<Step<'a>>,
+    steps: Vec<Step<'a>>,
+    behind: Behind,
+    saved: usize,
+    ghost few: { saved ≤ length steps.items },
+}
+
+impl<'a> ReadSteps<'a> {
+    ghost use Rattle.mm_verify.specs.declared.digits.Behind.TheVariants.{Nothing};
+    ghost use Rattle.std.specs.Prelude.{◌≡◌, ℕ, ◌∷◌, [], IfOk, map};
+    ghost use Rattle.mm_text.specs.Compressed.{letter_of, last_digit, digit, saves};
+    ghost use Rattle.mm_verify.specs.Running.{step_of};
+    ghost use Rattle.std.specs.Prelude.{option_map};
+    ghost use Rattle.mm_verify.specs.Running.{steps_in};
+    ghost use Rattle.mm_verify.specs.Reading.{meant, letters_of, ReadsOn};
+
+    /// Nothing is read.
+    pub(crate) fn new(alloc: Global, table: Vec<Step<'a>>) -> ReadSteps<'a>
+        ensures table { result.table ≡ table.entry }
+        ensures steps { result.steps.items ≡ [] }
+        ensures behind { result.behind ≡ Nothing }
+        ensures saved { result.saved ≡ 0 }
+    {
+        ReadSteps {
+            table,
+            steps: Vec::new(alloc),
+            behind: Behind::Nothing,
+            saved: 0,
+        }
+    }
+
+    /// Reads a letter, where it may stand and what it completes stands for a step.
+    fn take_letter(&mut self, byte: u8) -> Result<bool, AllocError>
+        ensures { IfOk result (ReadsOn self.old (byte ∷ []) self.new) }
+    {
+        match read_letter(byte) {
+            Letter::Last(d) => self.end_number(d),
+            Letter::Leading(d) => Ok(self.add_digit(d)),
+            Letter::Save => self.save(),
+            Letter::Other => Ok(false),
+        }
+    }
+
+    /// Reads the last digit of a number.
+    fn end_number(&mut self, d: u8) -> Result<bool, AllocError>
+        requires { 1 ≤ d }
+        ensures { IfOk result (λ done. (b : ℕ) → letter_of b ≡ last_digit d → ReadsOn self.old (b ∷ []) self.new done) }
+    {
+        let Some(number) = extended(value(self.behind), 20, d) else {
+            return Ok(false);
+        };
+        match meaning(&self.table, self.saved, number) {
+            None => Ok(false),
+            Some(step) => {
+                self.steps.push(step)?;
+                self.behind = Behind::Number;
+                Ok(true)
+            }
+        }
+    }
+
+    /// Reads a digit before the last one.
+    fn add_digit(&mut self, d: u8) -> bool
+        ensures { (b : ℕ) → letter_of b ≡ digit d → ReadsOn self.old (b ∷ []) self.new result }
+    {
+        match extended(value(self.behind), 5, d) {
+            None => false,
+            Some(value) => {
+                self.behind = Behind::Digits(value);
+                true
+            }
+        }
+    }
+
+    /// Reads a `Z`.
+    fn save(&mut self) -> Result<bool, AllocError>
+        ensures { IfOk result (λ done. (b : ℕ) → letter_of b ≡ saves → ReadsOn self.old (b ∷ []) self.new done) }
+    {
+        if self.behind != Behind::Number {
+            return Ok(false);
+        }
+        self.steps.push(Step::Saves)?;
+        self.behind = Behind::Save;
+        self.saved += 1;
+        Ok(true)
+    }
+
+    /// Reads the letters of a token.
+    fn take_word(&mut self, word: &[u8]) -> Result<bool, AllocError>
+        ensures { IfOk result (ReadsOn self.old word.now self.new) }
+    {
+        for byte in word {
+            if !self.take_letter(*byte)? {
+                return Ok(false);
+            }
+        }
+        Ok(true)
+    }
+
+    /// Reads the letters of tokens.
+    pub(crate) fn take_words(
+        &mut self,
+        bytes: &[u8],
+        tokens: &[MmToken],
+    ) -> Result<bool, AllocError>
+        ensures { IfOk result (ReadsOn self.old (letters_of bytes.now tokens.now) self.new) }
+    {
+        for token in tokens {
+            if !self.take_word(token.word(bytes))? {
+                return Ok(false);
+            }
+        }
+        Ok(true)
+    }
+
+    /// All steps, where the letters may end here.
+    pub(crate) fn ended(self) -> Option<Vec<Step<'a>>>
+        ensures { option_map steps_in result ≡ meant self.entry [] }
+    {
+        match self.behind {
+            Behind::Number | Behind::Save => Some(self.steps),
+            Behind::Nothing | Behind::Digits(_) => None,
+        }
+    }
+}

@@ -1,0 +1,132 @@
+// Proofs as steps on a stack.
+ghost use Rattle.std.specs.Prelude.{◌≡◌, Some, IfOk, [], map};
+ghost use Rattle.mm_frame.specs.NumberedSteps.{gives, saves_last, gives_saved, numbered_saving, numbered_saving_after};
+ghost use Rattle.mm_frame.specs.FramesHeld.{hypothesis_held};
+ghost use Rattle.mm_frame.specs.StandingLaws.{symbols_of};
+ghost use Rattle.mm_verify.specs.Applied.{Answers};
+ghost use Rattle.mm_verify.specs.Running.{step_of, saving_of, left_fault as left_fault_of, steps_fault};
+
+use crate::applying::apply;
+use crate::assertion::Assertion;
+use crate::place::Place;
+use crate::stack::Stack;
+use mm_frame::Hyp;
+use std::alloc::{AllocError, Global};
+
+/// A step of a proof, by what it does to the stack.
+#[derive(Clone, Copy)]
+pub(crate) enum Step<'a> {
+    /// Puts the statement of a hypothesis on top.
+    Gives(&'a Hyp<'a>),
+    /// Applies an assertion to the last entries.
+    Applies(&'a Assertion<'a>),
+    /// Saves the last entry.
+    Saves,
+    /// Puts the saved entry with this number, from 0, on top.
+    Repeats(usize),
+}
+
+/// A stack with the entries that were saved, and a buffer for new ones.
+#[derive(Drop)]
+pub(crate) struct Machine {
+    stack: Stack,
+    saved: Stack,
+    buffer: Vec<u32>,
+}
+
+/// Why steps do not prove a statement.
+#[derive(Clone, Copy, PartialEq, Eq)]
+pub(crate) enum ProofFault {
+    /// A step does not fit.
+    Step,
+    /// The entries left are not the statement alone.
+    Conclusion,
+}
+
+impl Machine {
+    /// Nothing on the stack, and nothing saved.
+    fn new(alloc: Global) -> Machine
+        ensures { saving_of result ≡ numbered_saving [] [] }
+    {
+        Machine {
+            stack: Stack::new(alloc),
+            saved: Stack::new(alloc),
+            buffer: Vec::new(alloc),
+        }
+    }
+
+    /// Does a step. Answers whether it fits; where not, nothing changes.
+    fn take<P: Place>(&mut self, place: &P, step: Step<'_>) -> Result<bool, AllocError>
+        ensures { IfOk result (Answers (numbered_saving_after (P.place place.now) (step_of step.entry) (saving_of self.old)) (saving_of self.old) (saving_of self.new)) }
+    {
+        match step {
+            Step::Gives(hyp) => self.give(place, hyp),
+            Step::Applies(assertion) => apply(place, assertion, &mut self.stack, &mut self.buffer),
+            Step::Saves => self.save(place),
+            Step::Repeats(number) => self.repeat(place, number),
+        }
+    }
+
+    /// Puts the statement of a hypothesis on top.
+    fn give<P: Place>(&mut self, place: &P, hyp: &Hyp<'_>) -> Result<bool, AllocError>
+        ensures { IfOk result (Answers (numbered_saving_after (P.place place.now) (gives (symbols_of (hypothesis_held hyp.now))) (saving_of self.old)) (saving_of self.old) (saving_of self.new)) }
+    {
+        match hyp {
+            Hyp::Floating(_label, typecode, variable) => self.stack.push(&[*typecode, *variable])?,
+            Hyp::Essential(_label, statement) => self.stack.push(statement)?,
+        }
+        Ok(true)
+    }
+
+    /// Saves the last entry, where there is one.
+    fn save<P: Place>(&mut self, place: &P) -> Result<bool, AllocError>
+        ensures { IfOk result (Answers (numbered_saving_after (P.place place.now) saves_last (saving_of self.old)) (saving_of self.old) (saving_of self.new)) }
+    {
+        let count = self.stack.len();
+        if count == 0 {
+            return Ok(false);
+        }
+        self.saved.push(self.stack.entry(count - 1))?;
+        Ok(true)
+    }
+
+    /// Puts a saved entry on top, where there is one of this number.
+    fn repeat<P: Place>(&mut self, place: &P, number: usize) -> Result<bool, AllocError>
+        ensures { IfOk result (Answers (numbered_saving_after (P.place place.now) (gives_saved number) (saving_of self.old)) (saving_of self.old) (saving_of self.new)) }
+    {
+        if number >= self.saved.len() {
+            return Ok(false);
+        }
+        self.stack.push(self.saved.entry(number))?;
+        Ok(true)
+    }
+
+    /// What is wrong with what is left, where the statement has to be left alone.
+    fn left_fault(&self, conclusion: &[u32]) -> Option<ProofFault>
+        ensures { result ≡ left_fault_of conclusion.now (Some (saving_of self.now)) }
+    {
+        if self.stack.len() == 1 && *self.stack.entry(0) == *conclusion {
+            None
+        } else {
+            Some(ProofFault::Conclusion)
+        }
+    }
+}
+
+/// Why steps do not prove a statement at a place, if they do not.
+pub(crate) fn check_steps<P: Place>(
+    alloc: Global,
+    place: &P,
+    steps: &[Step<'_>],
+    conclusion: &[u32],
+) -> Result<Option<ProofFault>, AllocError>
+    ensures { IfOk result (λ f. f ≡ steps_fault (P.place place.now) (map step_of steps.now) conclusion.now) }
+{
+    let mut machine = Machine::new(alloc);
+    for step in steps {
+        if !machine.take(place, *step)? {
+            return Ok(Some(ProofFault::Step));
+        }
+    }
+    Ok(machine.left_fault(conclusion))
+}

@@ -1,0 +1,18 @@
+// What a step of a proof asks of the place where the proof stands.
+ghost use Rattle.std.specs.Prelude.{◌≡◌};
+
+/// The place of a proof in a database.
+pub(crate) trait Place {
+    ghost use Rattle.mm_frame.specs.Numbered.{NumberedPlace};
+
+    // Which symbols are variables, and which pairs of them an active `$d` keeps apart.
+    ghost place: { Self → NumberedPlace };
+
+    /// Whether the symbol was declared by `$v`.
+    fn is_variable(&self, symbol: u32) -> bool
+        ensures { result ≡ (place self.now).is_variable symbol };
+
+    /// Whether the two symbols are a pair of an active `$d`.
+    fn apart(&self, a: u32, b: u32) -> bool
+        ensures { result ≡ (place self.now).apart a b };
+}

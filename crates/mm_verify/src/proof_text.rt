@@ -1,0 +1,201 @@
+// The texts of proofs, as steps.
+ghost use Rattle.std.specs.Prelude.{◌≡◌, ◌↔◌, ◌++◌, ◌||◌, map, IfOk, IfSome, IsNone, Some, None, true, false, option_map, option_and_then, if◌then◌else◌, codes};
+ghost use Rattle.std.specs.Prelude.{is_some};
+ghost use Rattle.std.specs.BTreeMap.{get_by};
+ghost use Rattle.std.specs.Cmp.Lexicographic.{slice_cmp};
+ghost use Rattle.std.specs.Ordering.{nat_cmp};
+ghost use Rattle.mm_text.specs.Bytes.{Token, has_token};
+ghost use Rattle.mm_text.specs.Reader.{words_of};
+ghost use Rattle.mm_text.specs.Compressed.{steps_of};
+ghost use Rattle.mm_frame.specs.Expansion.{before_close, behind_close};
+ghost use Rattle.mm_frame.specs.FramesHeld.{hypotheses_held};
+ghost use Rattle.mm_frame.specs.Held.{held};
+ghost use Rattle.mm_verify.specs.Running.{step_of, steps_in};
+ghost use Rattle.mm_verify.specs.Meaning.{numbered_meanings};
+ghost use Rattle.mm_verify.specs.Reading.{letters_of, behind_steps};
+ghost use Rattle.mm_verify.specs.Citing.{all_cited};
+ghost use Rattle.mm_verify.specs.ProofSteps.{given_steps, clashes, listed_steps, compressed_proof, proof_steps, labels_in};
+
+use crate::known::Known;
+use crate::letters::ReadSteps;
+use crate::machine::Step;
+use mm_frame::Hyp;
+use mm_text::MmToken;
+use std::alloc::{AllocError, Global};
+use std::collections::BTreeMap;
+
+/// The steps of a proof of an assertion with these mandatory hypotheses: none exactly where its text
+/// names no steps. It takes time in the number of the proof's tokens and letters, but for a factor of
+/// the logarithm of the number of labels.
+pub(crate) fn read_proof<'s, 'a>(
+    alloc: Global,
+    known: &Known<'s, 'a>,
+    bytes: &'a [u8],
+    hyps: &'s [Hyp<'a>],
+    proof: &[MmToken],
+) -> Result<Option<Vec<Step<'s>>>, AllocError>
+    ensures { IfOk result (λ r. option_map steps_in r ≡ proof_steps (held known.now.scopes.now) (hypotheses_held hyps.now) (words_of bytes.now proof.now)) }
+{
+    match proof {
+        [] => Ok(None),
+        [first, rest @ ..] => {
+            if first.word(bytes) == b"(".as_slice() {
+                read_compressed(alloc, known, bytes, hyps, rest)
+            } else {
+                read_normal(alloc, known, bytes, proof)
+            }
+        }
+    }
+}
+
+/// The steps of a proof that is a list of labels.
+fn read_normal<'s, 'a>(
+    alloc: Global,
+    known: &Known<'s, 'a>,
+    bytes: &'a [u8],
+    proof: &[MmToken],
+) -> Result<Option<Vec<Step<'s>>>, AllocError>
+    ensures { IfOk result (λ r. option_map steps_in r ≡ all_cited (held known.now.scopes.now) (words_of bytes.now proof.now)) }
+{
+    let mut steps = Vec::new(alloc);
+    if cite_all(known, bytes, proof, &mut steps)? {
+        Ok(Some(steps))
+    } else {
+        Ok(None)
+    }
+}
+
+/// Appends the steps of labels, where each cites something.
+fn cite_all<'s, 'a>(
+    known: &Known<'s, 'a>,
+    bytes: &'a [u8],
+    labels: &[MmToken],
+    steps: &mut Vec<Step<'s>>,
+) -> Result<bool, AllocError>
+    ensures { IfOk result (λ all. behind_steps (map step_of steps.old.items) (all_cited (held known.now.scopes.now) (words_of bytes.now labels.now)) ≡ (if all then Some (map step_of steps.new.items) else None)) }
+{
+    for label in labels {
+        match known.cite(label.word(bytes)) {
+            None => return Ok(false),
+            Some(step) => steps.push(step)?,
+        }
+    }
+    Ok(true)
+}
+
+/// The steps of a compressed proof, by the tokens behind its `(`.
+fn read_compressed<'s, 'a>(
+    alloc: Global,
+    known: &Known<'s, 'a>,
+    bytes: &'a [u8],
+    hyps: &'s [Hyp<'a>],
+    tokens: &[MmToken],
+) -> Result<Option<Vec<Step<'s>>>, AllocError>
+    ensures { IfOk result (λ r. option_map steps_in r ≡ compressed_proof (held known.now.scopes.now) (hypotheses_held hyps.now) (words_of bytes.now tokens.now)) }
+{
+    match split_at_close(bytes, tokens) {
+        None => Ok(None),
+        Some((listed, letters)) => {
+            let mut table = given(alloc, hyps)?;
+            if read_listed(alloc, known, bytes, hyps, listed, &mut table)? {
+                read_letters(alloc, table, bytes, letters)
+            } else {
+                Ok(None)
+            }
+        }
+    }
+}
+
+/// The tokens before the first `)`, and those behind it.
+fn split_at_close<'t>(bytes: &[u8], tokens: &'t [MmToken]) -> Option<(&'t [MmToken], &'t [MmToken])>
+    ensures found { IfSome result (λ r. (has_token (words_of bytes.now tokens.now) (codes ")") ≡ true) × (words_of bytes.now r.0.now ≡ before_close (words_of bytes.now tokens.now)) × (words_of bytes.now r.1.now ≡ behind_close (words_of bytes.now tokens.now))) }
+    ensures none { result ≡ None → has_token (words_of bytes.now tokens.now) (codes ")") ≡ false }
+{
+    let mut at = 0;
+    while at < tokens.len() {
+        if tokens[at].word(bytes) == b")".as_slice() {
+            return Some((&tokens[..at], &tokens[at + 1..]));
+        }
+        at += 1;
+    }
+    None
+}
+
+/// The steps of mandatory hypotheses.
+fn given<'s, 'a>(alloc: Global, hyps: &'s [Hyp<'a>]) -> Result<Vec<Step<'s>>, AllocError>
+    ensures { IfOk result (λ v. map step_of v.items ≡ given_steps (hypotheses_held hyps.now)) }
+{
+    let mut steps = Vec::with_capacity(alloc, hyps.len())?;
+    for hyp in hyps {
+        steps.push(Step::Gives(hyp))?;
+    }
+    Ok(steps)
+}
+
+/// Appends the steps of the labels that a compressed proof lists, where each cites something, and none
+/// stands twice or is that of a mandatory hypothesis.
+fn read_listed<'s, 'a>(
+    alloc: Global,
+    known: &Known<'s, 'a>,
+    bytes: &'a [u8],
+    hyps: &'s [Hyp<'a>],
+    listed: &[MmToken],
+    table: &mut Vec<Step<'s>>,
+) -> Result<bool, AllocError>
+    ensures { IfOk result (λ all. behind_steps (map step_of table.old.items) (listed_steps (held known.now.scopes.now) (hypotheses_held hyps.now) (words_of bytes.now listed.now)) ≡ (if all then Some (map step_of table.new.items) else None)) }
+{
+    if has_clash(alloc, bytes, hyps, listed)? {
+        return Ok(false);
+    }
+    cite_all(known, bytes, listed, table)
+}
+
+/// Whether a label stands twice or is that of a mandatory hypothesis.
+fn has_clash<'a>(
+    alloc: Global,
+    bytes: &'a [u8],
+    hyps: &[Hyp<'a>],
+    labels: &[MmToken],
+) -> Result<bool, AllocError>
+    ensures { IfOk result (λ r. r ≡ clashes (labels_in (hypotheses_held hyps.now)) (words_of bytes.now labels.now)) }
+{
+    let mut seen = own_labels(alloc, hyps)?;
+    let mut at = labels.len();
+    while at > 0 {
+        at -= 1;
+        if seen.insert(labels[at].word(bytes), ())?.is_some() {
+            return Ok(true);
+        }
+    }
+    Ok(false)
+}
+
+/// The labels of hypotheses.
+fn own_labels<'a>(alloc: Global, hyps: &[Hyp<'a>]) -> Result<BTreeMap<&'a [u8], ()>, AllocError>
+    ensures { IfOk result (λ s. (t : Token) → is_some (get_by (λ k. slice_cmp nat_cmp t k.now) s) ≡ has_token (labels_in (hypotheses_held hyps.now)) t) }
+{
+    let mut labels = BTreeMap::new(alloc);
+    for hyp in hyps {
+        labels.insert(hyp.label(), ())?;
+    }
+    Ok(labels)
+}
+
+/// The steps that the letters of some tokens stand for: none exactly where they stand for none. The
+/// table has the steps of the first numbers; the next numbers are those of the saved entries, in order.
+/// It takes time in the number of letters.
+pub(crate) fn read_letters<'a>(
+    alloc: Global,
+    table: Vec<Step<'a>>,
+    bytes: &[u8],
+    tokens: &[MmToken],
+) -> Result<Option<Vec<Step<'a>>>, AllocError>
+    ensures { IfOk result (λ r. option_map steps_in r ≡ option_and_then (numbered_meanings (map step_of table.entry.items) 0) (steps_of (letters_of bytes.now tokens.now))) }
+{
+    let mut read = ReadSteps::new(alloc, table);
+    if read.take_words(bytes, tokens)? {
+        Ok(read.ended())
+    } else {
+        Ok(None)
+    }
+}
