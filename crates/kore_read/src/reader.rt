@@ -31,6 +31,7 @@ pub(crate) enum Head {
     SetName,
     Text,
     Builtin(Built),
+    /// No pattern; it never stands where a pattern is to come in a good text.
     Nothing,
 }
 
@@ -43,6 +44,7 @@ pub(crate) enum Keyword {
     Alias,
     Axiom,
     Claim,
+    /// No declaration.
     Nothing,
 }
 
