@@ -64,8 +64,8 @@ impl Theory {
         Thm::of_axiom(alloc, no, pattern)
     }
 
-    // The axiom with this number.
-    fn at(&self, no: AxiomNo) -> &MPat
+    /// The axiom with this number. No pattern variable stands in it.
+    pub fn at(&self, no: AxiomNo) -> &MPat
         requires { no.0 < length self.now }
         ensures axiom { slice_get self.now no.0 ≡ Some result.now }
         ensures no_meta { HasNoMeta result.now }

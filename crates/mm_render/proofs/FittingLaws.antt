@@ -1,4 +1,4 @@
--- What fits, with what `begin` and `declare` append.
+-- What holds behind the declarations of names.
 use Rattle.std.proofs.Common.{◌≡◌, ℕ, ◌+◌, ◌<◌, ◌≤◌, ◌^◌, Bool, true, false, List, [], ◌∷◌, ◌++◌, length, take, drop, zero, suc, refl, ap, ◌∙◌, sym, subst, arith, append_assoc, append-nil, length-append, ◌⊎◌, inl, inr, Option, Some, None}
 use Rattle.std.specs.Prelude.{◌||◌, not, if◌then◌else◌, bytes_eq, IfSome}
 use Rattle.std.specs.List.{list_all}
@@ -24,11 +24,8 @@ use Rattle.ml_pat.specs.Named.{AreDistinct, IsNoneOf}
 use Rattle.mm_render.specs.Labels.{name_label}
 use Rattle.mm_render.specs.Tokens.{name_of}
 use Rattle.mm_render.specs.Statements.{IsName, sort_name, symbol_name, value_name, kind_front, NameKind, typecode_of, name_statements, all_name_statements}
-use Rattle.mm_render.specs.Fitting.{AreNames, name_frame, Holds, FitsWhen, EmptyFits, BegunFits, DeclaredFits}
+use Rattle.mm_render.specs.Fitting.{AreNames, name_frame, Holds}
 use Rattle.mm_render.proofs.NameLaws.{NameFacts, name_facts, name_label-is_label, name_label-plain, name_label-clean, name_label-differs, no_label_among}
-
-pub empty_fits : EmptyFits
-empty_fits names = refl
 
 or_false : (b : Bool) → b ≡ (b || false)
 or_false true = refl
@@ -61,9 +58,6 @@ header_holds = record {
   free = λ i le lt. header_free i;
   no_label = header_no_label;
 }
-
-pub begun_fits : BegunFits
-begun_fits names bytes empty = subst (λ (text : List ℕ). FitsWhen true [] (text ++ header_bytes)) (sym empty) (header_context, record { white = header_ends; fine = header_fine; closed = header_closed }, header_holds)
 
 -- one declaration
 
@@ -312,20 +306,3 @@ pub length-front : (n : ℕ) (ts : List Token) → n ≤ length ts → length (t
 length-front zero ts h = refl
 length-front (suc n) [] h = absurd (omega (arith, h))
 length-front (suc n) (t ∷ ts) h = ap suc (length-front n ts (omega (arith, h)))
-
-pub declared_fits : DeclaredFits
-declared_fits names k bytes all_names distinct few begun within fits = go k.begun begun fits
-  where
-    go : (b : Bool) → b ≡ true → FitsWhen b (take k.named names) bytes → FitsWhen b (take (length names) names) (bytes ++ written_statements (all_name_statements k.named (drop k.named names)))
-    go false never fit = absurd (false≢true never)
-    go true is (c, leaves, w) =
-        let whole : take k.named names ++ drop k.named names ≡ names = take-drop k.named names in
-        let count : length (take k.named names) ≡ k.named = length-front k.named names within in
-        let left : Context = behind_names c (length (take k.named names)) (drop k.named names) in
-        let adds : Adds c (length bytes) (all_name_statements (length (take k.named names)) (drop k.named names)) left = adds_names (take k.named names) (drop k.named names) c (length bytes) w leaves.closed (subst AreNames (sym whole) all_names) (subst AreDistinct (sym whole) distinct) (subst (λ (ts : List Token). length ts < 2 ^ 64) (sym whole) few) in
-        let holds : Holds (take k.named names ++ drop k.named names) left = names_hold (take k.named names) (drop k.named names) c w (subst AreNames (sym whole) all_names) (subst AreDistinct (sym whole) distinct) (subst (λ (ts : List Token). length ts < 2 ^ 64) (sym whole) few) in
-        let closed : left.blocks ≡ [] = closed_names c (length (take k.named names)) (drop k.named names) ∙ leaves.closed in (
-          left,
-          subst (λ (n : ℕ). Leaves (bytes ++ written_statements (all_name_statements n (drop k.named names))) left) count (continued_leaves bytes c left (all_name_statements (length (take k.named names)) (drop k.named names)) leaves adds closed),
-          subst (λ (ts : List Token). Holds ts left) (whole ∙ sym (take-all names)) holds,
-        )

@@ -20,3 +20,6 @@ pub mod AgreeLaws
 pub mod SpeltLaws
 pub mod StatedLaws
 pub mod NamedStatements
+pub mod KeepingLaws
+pub mod PlaceLaws
+pub mod PartLaws

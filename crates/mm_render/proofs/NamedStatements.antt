@@ -17,7 +17,7 @@ use Rattle.mm_render.specs.Tokens.{own_naming}
 use Rattle.mm_render.specs.Derivations.{holds_text}
 use Rattle.mm_render.specs.Statements.{IsName, typecode_of, all_name_statements}
 use Rattle.mm_render.specs.Fitting.{AreNames}
-use Rattle.mm_render.specs.Stating.{FitsStated, closed_over, AreClosedOver, HoldsStated, AppendsToStated, NamesFitStated, StatedIsValid}
+use Rattle.mm_render.specs.Stating.{FitsStated, closed_over, AreClosedOver, HoldsStated, NamesFitStated, StatedIsValid}
 use Rattle.mm_render.proofs.LeafLaws.{EachLeaf-implied}
 use Rattle.mm_render.proofs.AgreeLaws.{agreeing, text-agrees}
 use Rattle.mm_render.proofs.NameLaws.{name_label-is_label}
@@ -43,7 +43,7 @@ more_closed : (done : List Token) (t : Token) (ps : List Pattern) → AreClosedO
 more_closed done t [] h = tt
 more_closed done t (p ∷ ps) h = (more_leaves done t p h.0, more_closed done t ps h.1)
 
-closed_at : (done : List Token) (ps : List Pattern) (k : ℕ) (p : Pattern) → AreClosedOver done ps → slice_get ps k ≡ Some p → EachLeaf (closed_over done) p
+pub closed_at : (done : List Token) (ps : List Pattern) (k : ℕ) (p : Pattern) → AreClosedOver done ps → slice_get ps k ≡ Some p → EachLeaf (closed_over done) p
 closed_at done [] k p all h = absurd (let z : ⊥ = cc in z)
 closed_at done (q ∷ ps) zero p all h = subst (λ (r : Pattern). EachLeaf (closed_over done) r) (let same : q ≡ p = cc in same) all.0
 closed_at done (q ∷ ps) (suc k) p all h = closed_at done ps k p all.1 h
@@ -91,7 +91,8 @@ names_fit_stated declared more stated bytes (c, leaves, w) names distinct few = 
 )
 
 -- the same for the names from a number on
-pub declared_fits_stated : (names : List Token) (n : ℕ) → AreNames names → AreDistinct names → length names < 2 ^ 64 → n ≤ length names → AppendsToStated (take n names) names (written_statements (all_name_statements n (drop n names)))
+pub declared_fits_stated : (names : List Token) (n : ℕ) → AreNames names → AreDistinct names → length names < 2 ^ 64 → n ≤ length names → (stated : List Pattern) (bytes : List ℕ) → FitsStated (take n names) stated bytes
+    → FitsStated names stated (bytes ++ written_statements (all_name_statements n (drop n names)))
 declared_fits_stated names n all distinct few within stated bytes fits =
     let whole : take n names ++ drop n names ≡ names = take-drop n names in
     let count : length (take n names) ≡ n = length-front n names within in

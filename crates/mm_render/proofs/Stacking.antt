@@ -58,7 +58,7 @@ pub put_none : (old : List Work) (f : List Token → ℕ → List Token) → ((n
 put_none old f none names k = (ap (λ ts. ts ++ stack_tokens names k old) (sym (none names k)), omega arith)
 
 -- what is left of a list from one place before
-pub drop_at : (ws : List Work) (i : ℕ) (w : Work) → 0 < i → i ≤ length ws → w ≡ get_or ws (i - 1) w → drop (i - 1) ws ≡ w ∷ drop i ws
+pub drop_at : {A : Type 0} (ws : List A) (i : ℕ) (w : A) → 0 < i → i ≤ length ws → w ≡ get_or ws (i - 1) w → drop (i - 1) ws ≡ w ∷ drop i ws
 drop_at ws i w some within is =
     let lt : i - 1 < length ws = omega arith in
     let next : suc (i - 1) ≡ i = omega arith in
@@ -67,6 +67,10 @@ drop_at ws i w some within is =
 pub on_ok : {A E : Type 0} {P Q : Type 0} (r : Result A E) → (P → Q) → OnOk r P → OnOk r Q
 on_ok (Ok a) f h = f h
 on_ok (Err e) f h = tt
+
+pub both_ok : {A E : Type 0} {P Q R : Type 0} (r : Result A E) → (P → Q → R) → OnOk r P → OnOk r Q → OnOk r R
+both_ok (Ok a) f p q = f p q
+both_ok (Err e) f p q = tt
 
 -- a step of writing
 pub written_next : (names : List Token) (k : ℕ) (w : Work) (before popped new : List Work) (start text text' : List ℕ) (all : List Token) → before ≡ popped ++ w ∷ [] → IsTaken names k w popped new text text'

@@ -13,3 +13,7 @@ pub mod Derivations
 pub mod Fitting
 pub mod RenderLaws
 pub mod Stating
+pub mod Keeping
+pub mod Places
+pub mod PlaceTable
+pub mod Parts

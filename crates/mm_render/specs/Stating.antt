@@ -56,11 +56,6 @@ pub record HoldsStated (declared : List Token) (stated : List Pattern) (c : Cont
 abbrev pub FitsStated : List Token → List Pattern → List ℕ → Type 0
 FitsStated declared stated bytes = (c : Context) × Leaves bytes c × HoldsStated declared stated c
 
--- each text that fits some names and any statements fits, with what was appended, other names and the same statements
-abbrev pub AppendsToStated : List Token → List Token → List ℕ → Type 0
-AppendsToStated old new appended =
-    (stated : List Pattern) (bytes : List ℕ) → FitsStated old stated bytes → FitsStated new stated (bytes ++ appended)
-
 -- the statement of an axiom, and of a theorem with its proof
 abbrev pub axiom_statement : List Token → ℕ → Pattern → List Token
 axiom_statement declared k p = plain_tokens (statement_label k ∷ []) asserts (holds_text (own_naming declared) p)

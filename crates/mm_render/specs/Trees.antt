@@ -176,13 +176,13 @@ instance_tree l (sort s) = cite (l.sort s) []
 -- what stands for the variable of a rule at a place
 abbrev pub pattern_of_instance : Instance → Pattern
 pattern_of_instance (pattern p) = p
-pattern_of_instance (variable x) = var x
+pattern_of_instance (variable x) = bot
 pattern_of_instance (sort s) = bot
 
 abbrev pub variable_of_instance : Instance → ℕ
 variable_of_instance (pattern p) = 0
 variable_of_instance (variable x) = x
-variable_of_instance (sort s) = s
+variable_of_instance (sort s) = 0
 
 abbrev pub pattern_at : List Instance → ℕ → Pattern
 pattern_at is i = pattern_of_instance (slice_index_or is i (sort 0))

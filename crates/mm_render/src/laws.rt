@@ -1,6 +1,6 @@
 // Laws on the definitions, and the definitions tried on small patterns.
 ghost use Rattle.mm_render.specs.Cases.{TriedCases};
-ghost use Rattle.mm_render.specs.Fitting.{BegunFits, DeclaredFits, EmptyFits};
+ghost use Rattle.mm_render.specs.Keeping.{BegunFits, DeclaredFits, EmptyFits};
 ghost use Rattle.mm_render.specs.Stating.{AxiomFits, AxiomIsGained, HeaderFitsStated, NamesFitStated, StatedIsValid, TheoremFits, TheoremIsGained};
 ghost use Rattle.mm_render.specs.RenderLaws.{DerivationsAreProved, FreshnessIsProved, PatternsParse, PredicatesAreProved, RulesAreProved, SubstitutionIsProved};
 

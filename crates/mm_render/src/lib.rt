@@ -5,21 +5,25 @@
 //! recursion (`specs/Trees`, `specs/Derivations`). `proof_laws` says that these are proofs in every database that has the header
 //! and the declarations that they cite (`specs/Serving`).
 //!
-//! **What follows what.** A text fits what a renderer keeps where it is valid and has declared that (`specs/Fitting`). `begin`
-//! appends the header and `declare` names, and a text that fits, with these behind it, fits. `closed_laws` says the same of an
-//! axiom or a theorem without variables and hypotheses (`specs/Stating`), and that just that assertion is gained; no call writes
-//! these yet.
+//! **What follows what.** A text fits what a renderer keeps where it is valid and has declared and stated that
+//! (`specs/Keeping`, `specs/Stating`). `begin` appends the header, `declare` names, `axiom` an axiom and `lemma` a theorem with
+//! its proof, both without variables and hypotheses as yet; a text that fits, with these behind it, fits, and has gained just
+//! that axiom or theorem. `closed_laws` says the same of any such axiom and derivation, whoever wrote them.
 //!
 //! **How it is written.** What is still to be written lies on a stack of works, each of which comes apart into smaller ones, so
-//! that deep patterns need no recursion (`specs/Writing`).
+//! that deep patterns and derivations need no recursion (`specs/Writing`, `specs/Parts`).
 #![tactic(auto)]
 
+mod derivations;
 mod freshness;
 mod laws;
 mod patterns;
+mod places;
 mod renderer;
+mod rules;
 mod searching;
 mod stacks;
+mod statements;
 mod substitution;
 mod words;
 mod works;

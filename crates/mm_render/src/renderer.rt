@@ -1,17 +1,23 @@
 // What is written: whole statements, behind a text that fits.
-ghost use Rattle.std.specs.Prelude.{◌≡◌, ◌≤◌, [], ◌++◌, IsTrue, OnErr, OnOk, drop, length, option_copied, take, unwrap_or};
+ghost use Rattle.std.specs.Prelude.{◌≡◌, ◌<◌, ◌≤◌, [], ◌∷◌, ◌++◌, false, IsTrue, OnErr, OnOk, drop, length, option_copied, take, unwrap_or};
 ghost use Rattle.mm_frame.specs.FrameLaws.{written_statements};
 ghost use Rattle.mm_header.specs.HeaderText.{header_bytes};
-ghost use Rattle.mm_render.specs.Fitting.{AppendsFitting, AppendsFittingNames, AreNames};
+ghost use Rattle.mm_render.specs.Fitting.{AreNames};
+ghost use Rattle.mm_render.specs.Keeping.{AppendsFitting, AppendsFittingNames, Gains, MayState, axiom_at, with_stated};
 ghost use Rattle.mm_render.specs.Kept.{header_kept, nothing_kept};
+ghost use Rattle.mm_render.specs.Places.{StatesLemma};
 ghost use Rattle.mm_render.specs.Tokens.{name_of};
-ghost use Rattle.mm_render.specs.Stating.{AppendsToStated};
+ghost use Rattle.mm_render.specs.Stating.{axiom_statement, stated_assertion};
 ghost use Rattle.mm_render.specs.Statements.{all_name_statements, name_statements, typecode_of};
 
+use crate::places::pattern_key;
+use crate::statements::{push_axiom, push_theorem};
 use crate::words::{Word, push_words};
-use ml_pat::Names;
+use ml_kernel::{AxiomNo, Lemma, Theory};
+use ml_pat::{MPat, Names};
 use mm_header::header_text;
-use std::alloc::AllocError;
+use std::alloc::{AllocError, Global};
+use std::collections::BTreeMap;
 use std::marker::Model;
 
 /// What was written of a proof file. Contracts see it as what it keeps.
@@ -19,17 +25,17 @@ use std::marker::Model;
 pub struct Renderer {
     begun: bool,
     named: u64,
+    stated: Vec<MPat>,
+    places: BTreeMap<Vec<u8>, u64>,
 }
 
 impl Model for Renderer {
-    ghost use Rattle.mm_render.specs.Fitting.{AppendsFitting, AppendsFittingNames, AreNames};
     ghost use Rattle.mm_render.specs.Kept.{Kept, kept_code};
 
     ghost Value = { Kept };
 
     ghost coded = { kept_code };
 
-    ghost use Rattle.mm_render.specs.Fitting.{AppendsFitting, AppendsFittingNames, AreNames};
     ghost use Rattle.mm_render.specs.KeptView.{kept_of};
 
     ghost view = { kept_of };
@@ -37,12 +43,14 @@ impl Model for Renderer {
 
 impl Renderer {
     /// Nothing was written.
-    pub fn new() -> Renderer
+    pub fn new(alloc: Global) -> Renderer
         ensures { result ≡ nothing_kept }
     {
         Renderer {
             begun: false,
             named: 0,
+            stated: Vec::new(alloc),
+            places: BTreeMap::new(alloc),
         }
     }
 
@@ -68,8 +76,6 @@ impl Renderer {
         ensures kept { OnOk result (self.new ≡ record self.old { named = length names.now }) }
         ensures fits { OnOk result (AreNames names.now → IsTrue self.old.begun →
             AppendsFittingNames names.now self.old self.new (written_statements (all_name_statements self.old.named (drop self.old.named names.now)))) }
-        ensures stated { OnOk result (AreNames names.now →
-            AppendsToStated (take self.old.named names.now) names.now (written_statements (all_name_statements self.old.named (drop self.old.named names.now)))) }
         ensures unchanged { OnErr result (to.new.items ≡ to.old.items) }
         ensures as_before { OnErr result (self.new ≡ self.old) }
     {
@@ -78,6 +84,72 @@ impl Renderer {
         push_names(&mut text, names, self.named)?;
         to.extend_from_slice(&text)?;
         self.named = names.count();
+        Ok(())
+    }
+
+    /// States an axiom of a theory under the next label. Where it is closed over the names that were declared, each text that
+    /// fits fits with it behind, and has gained just this axiom. Where memory is wanting, nothing changes.
+    pub fn axiom(
+        &mut self,
+        names: &Names,
+        theory: &Theory,
+        no: AxiomNo,
+        to: &mut Vec<u8>,
+    ) -> Result<(), AllocError>
+        requires { no.0 < length theory.now }
+        ensures text { OnOk result (to.new.items ≡ to.old.items ++ written_statements (axiom_statement names.now (length self.old.stated) (axiom_at theory.now no.0) ∷ [])) }
+        ensures kept { OnOk result (self.new ≡ with_stated self.old (axiom_at theory.now no.0)) }
+        ensures gains { OnOk result (MayState names.now self.old (axiom_at theory.now no.0) →
+            Gains names.now self.old self.new (written_statements (axiom_statement names.now (length self.old.stated) (axiom_at theory.now no.0) ∷ []))
+            (stated_assertion false (take self.old.named names.now) (length self.old.stated) (axiom_at theory.now no.0))) }
+        ensures unchanged { OnErr result (to.new.items ≡ to.old.items) }
+        ensures as_before { OnErr result (self.new ≡ self.old) }
+    {
+        let pattern = theory.at(no).share()?;
+        let mut text = Vec::new(*to.allocator());
+        push_axiom(&mut text, names, self.stated.len() as u64, &pattern)?;
+        self.keep(names, pattern, &text, to)
+    }
+
+    /// States a lemma under the next label, with its proof. Where it has no hypotheses, is closed over the names that were
+    /// declared and cites only what was stated before, each text that fits fits with it behind, and has gained just this
+    /// theorem. Where memory is wanting, nothing changes.
+    pub fn lemma(
+        &mut self,
+        names: &Names,
+        lemma: &Lemma,
+        to: &mut Vec<u8>,
+    ) -> Result<(), AllocError>
+        ensures states { OnOk result (StatesLemma names.now self.old self.new lemma.now to.old.items to.new.items) }
+        ensures kept { OnOk result (self.new ≡ with_stated self.old lemma.now.conclusion) }
+        ensures unchanged { OnErr result (to.new.items ≡ to.old.items) }
+        ensures as_before { OnErr result (self.new ≡ self.old) }
+    {
+        let _premises = lemma.hypotheses();
+        let pattern = lemma.conclusion().share()?;
+        let mut text = Vec::new(*to.allocator());
+        push_theorem(&mut text, names, &self.places, &self.stated, lemma)?;
+        self.keep(names, pattern, &text, to)
+    }
+
+    // Adds the text of a statement, and keeps what was stated. Where memory is wanting, nothing changes.
+    fn keep(
+        &mut self,
+        names: &Names,
+        pattern: MPat,
+        text: &[u8],
+        to: &mut Vec<u8>,
+    ) -> Result<(), AllocError>
+        ensures text { OnOk result (to.new.items ≡ to.old.items ++ text.now) }
+        ensures kept { OnOk result (self.new ≡ with_stated self.old pattern) }
+        ensures unchanged { OnErr result (to.new.items ≡ to.old.items) }
+        ensures as_before { OnErr result (self.new ≡ self.old) }
+    {
+        let key = pattern_key(*to.allocator(), names, &pattern)?;
+        self.stated.reserve(1)?;
+        self.places.insert(key, self.stated.len() as u64)?;
+        to.extend_from_slice(text)?;
+        self.stated.push(pattern).unwrap();
         Ok(())
     }
 }

@@ -19,7 +19,7 @@ pub(crate) fn put_steps<'a>(
 }
 
 /// Puts works on a stack, the first on top.
-fn put_all<'a>(stack: &mut Vec<Work<'a>>, parts: &[Work<'a>]) -> Result<(), AllocError>
+pub(crate) fn put_all<'a>(stack: &mut Vec<Work<'a>>, parts: &[Work<'a>]) -> Result<(), AllocError>
     ensures { OnOk result (PutsMore (λ names k. all_tokens names k parts.now) stack.old.items stack.new.items) }
 {
     let mut left = parts.len();

@@ -1,6 +1,9 @@
 // Worked examples, written by hand.
+ghost use Rattle.std.specs.Prelude.{◌≡◌, ◌<◌, IfOk, length};
+
 use crate::renderer::Renderer;
-use crate::works::{Work, write_work};
+use crate::works::{Work, write_works};
+use ml_kernel::{AxiomNo, Lemma, Theory, Thm};
 use ml_pat::{ConstNo, MPat, MSort, Names, VarNo};
 use std::alloc::{AllocError, Global};
 use std::test::Fail;
@@ -18,7 +21,7 @@ pub(crate) fn three_names(alloc: Global) -> Result<Names, AllocError> {
 pub(crate) fn text_of(alloc: Global, work: Work<'_>) -> Result<Vec<u8>, AllocError> {
     let names = three_names(alloc)?;
     let mut text = Vec::new(alloc);
-    write_work(&mut text, &names, 7, work)?;
+    write_works(&mut text, &names, 7, &[work])?;
     Ok(text)
 }
 
@@ -105,7 +108,7 @@ fn proves_a_substitution(rt: HostRuntime) -> Result<(), Fail> {
 fn declares_names(rt: HostRuntime) -> Result<(), Fail> {
     let alloc = rt.alloc();
     let names = three_names(alloc)?;
-    let mut renderer = Renderer::new();
+    let mut renderer = Renderer::new(rt.alloc());
     let mut text = Vec::new(alloc);
     renderer.declare(&names, &mut text)?;
     assert_eq!(rt;
@@ -117,9 +120,69 @@ fn declares_names(rt: HostRuntime) -> Result<(), Fail> {
 
 #[test]
 fn begins_with_the_header(rt: HostRuntime) -> Result<(), Fail> {
-    let mut renderer = Renderer::new();
+    let mut renderer = Renderer::new(rt.alloc());
     let mut text = Vec::new(rt.alloc());
     renderer.begin(&mut text)?;
     assert_eq!(rt; text.len(), 5968);
+    Ok(())
+}
+
+// The theory whose only axiom is f applied to a.
+pub(crate) fn one_axiom(alloc: Global) -> Result<Theory, AllocError>
+    ensures { IfOk result (λ theory. length theory ≡ 1) }
+{
+    let mut theory = Theory::new(alloc);
+    let f = MPat::constant(alloc, ConstNo(2))?;
+    let a = MPat::constant(alloc, ConstNo(1))?;
+    theory.add(MPat::app(alloc, &f, &a)?)?;
+    Ok(theory)
+}
+
+// From an axiom follows that it holds at some time.
+pub(crate) fn some_time(alloc: Global, theory: &Theory) -> Result<Lemma, AllocError>
+    requires { 0 < length theory.now }
+{
+    let axiom = theory.axiom(alloc, AxiomNo(0))?;
+    let now = axiom.conclusion().share()?;
+    let later = MPat::ev(alloc, &now)?;
+    let step = Thm::ev_1(alloc, &now)?;
+    Lemma::close(Thm::mp(alloc, &axiom, &step, &now, &later)?)
+}
+
+// The axiom, and the lemma by it.
+pub(crate) fn stated(alloc: Global) -> Result<Vec<u8>, AllocError> {
+    let names = three_names(alloc)?;
+    let theory = one_axiom(alloc)?;
+    let lemma = some_time(alloc, &theory)?;
+    let mut renderer = Renderer::new(alloc);
+    let mut text = Vec::new(alloc);
+    renderer.axiom(&names, &theory, AxiomNo(0), &mut text)?;
+    renderer.lemma(&names, &lemma, &mut text)?;
+    Ok(text)
+}
+
+#[test]
+fn states_an_axiom(rt: HostRuntime) -> Result<(), Fail> {
+    let alloc = rt.alloc();
+    let names = three_names(alloc)?;
+    let theory = one_axiom(alloc)?;
+    let mut renderer = Renderer::new(alloc);
+    let mut text = Vec::new(alloc);
+    renderer.axiom(&names, &theory, AxiomNo(0), &mut text)?;
+    assert_eq!(rt;
+        text.as_slice(),
+        b"t.0 $a |- ( \\app f:f f:a ) $. ".as_slice()
+    );
+    Ok(())
+}
+
+// The lemma cites the axiom by its label.
+#[test]
+fn proves_a_lemma(rt: HostRuntime) -> Result<(), Fail> {
+    let text = stated(rt.alloc())?;
+    assert_eq!(rt;
+        text.as_slice(),
+        b"t.0 $a |- ( \\app f:f f:a ) $. t.1 $p |- ( \\ev ( \\app f:f f:a ) ) $= n.2 n.1 w.app n.2 n.1 w.app w.ev t.0 n.2 n.1 w.app ev.1 mp $. ".as_slice()
+    );
     Ok(())
 }

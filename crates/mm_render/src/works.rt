@@ -2,10 +2,11 @@
 // that a deep pattern costs no stack of calls.
 ghost use Rattle.std.specs.Prelude.{◌≡◌, ◌++◌, OnOk};
 ghost use Rattle.mm_text.specs.TextLaws.{written};
-ghost use Rattle.mm_render.specs.Writing.{IsTaken, work_tokens};
+ghost use Rattle.mm_render.specs.Writing.{IsTaken, all_tokens};
 
 use crate::freshness::{expand_fresh, expand_predicate, expand_unchanged};
 use crate::patterns::{expand_syntax, expand_text};
+use crate::stacks::put_all;
 use crate::substitution::expand_substituted;
 use crate::words::{Word, push_word};
 use ml_pat::{MPat, Names, VarNo};
@@ -30,17 +31,18 @@ pub(crate) enum Work<'a> {
     Predicate(&'a MPat),
 }
 
-/// Writes a work, in the block of the statement with the number `serial`, in time linear in what is written.
-pub(crate) fn write_work(
+/// Writes works one behind the other, in the block of the statement with the number `serial`, in time linear in what is
+/// written.
+pub(crate) fn write_works(
     to: &mut Vec<u8>,
     names: &Names,
     serial: u64,
-    work: Work<'_>,
+    works: &[Work<'_>],
 ) -> Result<(), AllocError>
-    ensures { OnOk result (to.new.items ≡ to.old.items ++ written (work_tokens names.now serial work.entry)) }
+    ensures { OnOk result (to.new.items ≡ to.old.items ++ written (all_tokens names.now serial works.now)) }
 {
     let mut stack = Vec::new(*to.allocator());
-    stack.push(work)?;
+    put_all(&mut stack, works)?;
     while let Some(next) = stack.pop() {
         write_step(to, names, serial, &mut stack, next)?;
     }

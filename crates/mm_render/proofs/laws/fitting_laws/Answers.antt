@@ -1,4 +1,4 @@
-use Rattle.mm_render.proofs.FittingLaws.{empty_fits, begun_fits, declared_fits}
+use Rattle.mm_render.proofs.KeepingLaws.{empty_fits, begun_fits, declared_fits}
 use Rattle.mm_render.proofs.laws.fitting_laws.Goals as goal
 
 pub returns-clause-empty : goal.returns-clause-empty

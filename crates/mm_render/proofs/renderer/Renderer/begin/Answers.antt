@@ -1,11 +1,11 @@
-use Rattle.std.proofs.Common.{◌≡◌, ◌++◌, ℕ, true, take, ap, ◌∙◌, sym, subst, rules}
+use Rattle.std.proofs.Common.{◌++◌, true, ap, ◌∙◌, sym, subst}
 use Rattle.mm_header.specs.HeaderText.{header_bytes}
-use Rattle.mm_render.specs.Fitting.{Fits, FitsWhen}
+use Rattle.mm_render.specs.Keeping.{Fits}
 use Rattle.mm_render.specs.Kept.{Kept}
-use Rattle.mm_render.proofs.FittingLaws.{begun_fits}
+use Rattle.mm_render.proofs.KeepingLaws.{begun_fits}
 use Rattle.mm_render.proofs.renderer.Renderer.begin.Goals as goal
 
 pub returns-clause-fits : goal.returns-clause-fits
 returns-clause-fits c names bytes fits =
-    let none : c.self.inside.named ≡ 0 = search rules in
-    subst (λ (n : ℕ). FitsWhen true (take n names) (bytes ++ header_bytes)) (sym none) (begun_fits names bytes (subst (λ (k : Kept). Fits names k bytes) c.requires fits))
+    subst (λ (k : Kept). Fits names k (bytes ++ header_bytes)) (sym (ap (λ (k : Kept). let b : Kept = record k { begun = true } in b) (c.self.view_is ∙ c.requires)))
+    (begun_fits names bytes (subst (λ (k : Kept). Fits names k bytes) c.requires fits))

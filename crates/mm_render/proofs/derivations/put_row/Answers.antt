@@ -1,0 +1,19 @@
+use Rattle.std.proofs.Common.{[], ◌∷◌, ◌++◌, ◌+◌, ◌*◌, refl, ap, sym, arith}
+use Rattle.ml_kernel.specs.StepView.{instances_of}
+use Rattle.ml_kernel.specs.StepsIn.{all_steps}
+use Rattle.ml_kernel.specs.Theorems.{derivations}
+use Rattle.mm_render.specs.Labels.{own_labels}
+use Rattle.mm_render.specs.Trees.{rule_label}
+use Rattle.mm_render.specs.Parts.{all_labels, trees_behind, proofs_of, rest_of_row, PutsParts}
+use Rattle.mm_render.proofs.Stacking.{on_ok}
+use Rattle.mm_render.proofs.PartLaws.{part_one, parts_front}
+use Rattle.mm_render.proofs.derivations.put_row.Goals as goal
+
+pub returns : goal.returns
+returns c = on_ok c.put_derived.result (λ above. parts_front (λ names k place. all_labels (trees_behind (own_labels k) c.args.no (instances_of c.args.instances.now)) ++ rule_label c.args.no ∷ []) (λ names k place. proofs_of k place (derivations c.args.parts.now)) (λ names k place. rest_of_row k place c.args.no (instances_of c.args.instances.now) (derivations c.args.parts.now))
+    2 (3 * all_steps (derivations c.args.parts.now)) (3 * all_steps (derivations c.args.parts.now) + 2) c.args.stack.now.items c.put_behind.new.stack.items c.put_derived.new.stack.items
+    (parts_front (λ names k place. rule_label c.args.no ∷ []) (λ names k place. all_labels (trees_behind (own_labels k) c.args.no (instances_of c.args.instances.now))) (λ names k place. all_labels (trees_behind (own_labels k) c.args.no (instances_of c.args.instances.now)) ++ rule_label c.args.no ∷ [])
+    1 1 2 c.args.stack.now.items c.push.new.self.items c.put_behind.new.stack.items
+    (part_one (λ names k place. rule_label c.args.no ∷ []) 1 _ c.args.stack.now.items c.push.new.self.items c.in_ok-push.ensures.items (λ names k place. ap (λ t. t ∷ []) (sym c.rule_label.ensures)) (omega arith))
+    c.in_ok-put_behind.ensures (λ names k place. refl) (omega arith))
+    above (λ names k place. refl) (omega arith)) c.put_derived.ensures

@@ -1,0 +1,79 @@
+-- What of a derivation is still to be written: cited by the clauses of private functions alone.
+use Rattle.std.specs.Prelude.{◌≡◌, ℕ, ◌+◌, ◌*◌, ◌<◌, ◌≤◌, ◌==◌, ◌||◌, if◌then◌else◌, List, [], ◌∷◌, ◌++◌, flat_map}
+use Rattle.mm_text.specs.Bytes.{Token}
+use Rattle.mm_text.specs.TextLaws.{written}
+use Rattle.mm_frame.specs.Proofs.{ProofTree, postorder}
+use Rattle.ml_pat.specs.Patterns.{Pattern}
+use Rattle.ml_kernel.specs.ProofRows.{Instance}
+use Rattle.ml_kernel.specs.Theorems.{Derivation, Derivations}
+use Rattle.ml_kernel.specs.StepsIn.{steps_in, all_steps}
+use Rattle.mm_render.specs.Tokens.{Naming}
+use Rattle.mm_render.specs.Labels.{own_labels}
+use Rattle.mm_render.specs.Trees.{instance_tree, fresh_tree, substitution_tree, predicate_tree, pattern_at, variable_at, rule_label}
+use Rattle.mm_render.specs.Derivations.{derivation_tree, derivation_trees}
+use Rattle.mm_render.specs.Stating.{closed_citing}
+use Rattle.mm_render.specs.Writing.{work_tokens}
+use Rattle.mm_render.specs.declared.derivations.Part.{Part}
+use Rattle.mm_render.specs.declared.derivations.Part.TheVariants as part
+
+-- the labels of trees, one behind the other
+abbrev pub all_labels : List ProofTree → List Token
+all_labels trees = flat_map postorder trees
+
+-- the proof by a derivation in the block of a statement, and those by some
+abbrev pub proof_of : ℕ → (Pattern → ℕ) → Derivation → List Token
+proof_of k place d = postorder (derivation_tree (own_labels k) (closed_citing place) d)
+
+abbrev pub proofs_of : ℕ → (Pattern → ℕ) → Derivations → List Token
+proofs_of k place ds = all_labels (derivation_trees (own_labels k) (closed_citing place) ds)
+
+-- what stands for the variables of a rule
+abbrev pub instance_labels : ℕ → List Instance → List Token
+instance_labels k is = flat_map (λ i. postorder (instance_tree (own_labels k) i)) is
+
+-- the judgements of a rule, before and behind the proofs of what it concludes from
+abbrev pub trees_before : Naming → ℕ → List Instance → List ProofTree
+trees_before l n is =
+    if n == 13 then substitution_tree l (variable_at is 3) (pattern_at is 1) (pattern_at is 0) (pattern_at is 2) ∷ [] else
+    if n == 15 then [] else
+    if n == 17 then
+    substitution_tree l (variable_at is 5) (pattern_at is 0) (pattern_at is 2) (pattern_at is 3) ∷
+    substitution_tree l (variable_at is 5) (pattern_at is 1) (pattern_at is 2) (pattern_at is 4) ∷ []
+    else
+    if (n == 20) || ((n == 22) || (n == 23)) then predicate_tree l (pattern_at is 2) ∷ [] else []
+
+abbrev pub trees_behind : Naming → ℕ → List Instance → List ProofTree
+trees_behind l n is = if n == 13 then [] else if n == 15 then fresh_tree l (variable_at is 2) (pattern_at is 1) ∷ [] else []
+
+-- what a part writes
+abbrev pub part_tokens : List Token → ℕ → (Pattern → ℕ) → Part → List Token
+part_tokens names k place (part.Plain w) = work_tokens names k w
+part_tokens names k place (part.Derived d) = proof_of k place d.now
+
+-- a stack of parts, the top last
+abbrev pub parts_tokens : List Token → ℕ → (Pattern → ℕ) → List Part → List Token
+parts_tokens names k place [] = []
+parts_tokens names k place (p ∷ ps) = parts_tokens names k place ps ++ part_tokens names k place p
+
+-- a step of a derivation weighs more than what it comes to
+abbrev pub part_weight : Part → ℕ
+part_weight (part.Plain w) = 1
+part_weight (part.Derived d) = 3 * steps_in d.now
+
+abbrev pub parts_weight : List Part → ℕ
+parts_weight [] = 0
+parts_weight (p ∷ ps) = parts_weight ps + part_weight p
+
+-- parts that write these tokens were put on a stack, with at most this weight
+pub record PutsParts (written_tokens : List Token → ℕ → (Pattern → ℕ) → List Token) (more : ℕ) (old new : List Part) : Type 0 where
+  pub tokens : (names : List Token) (k : ℕ) (place : Pattern → ℕ) → parts_tokens names k place new ≡ written_tokens names k place ++ parts_tokens names k place old
+  pub weight : parts_weight new ≤ parts_weight old + more
+
+-- a part was taken from a stack: it is written, or the parts that are left of it were put on the stack
+pub record PartIsTaken (names : List Token) (k : ℕ) (place : Pattern → ℕ) (p : Part) (old new : List Part) (text text' : List ℕ) : Type 0 where
+  pub tokens : text' ++ written (parts_tokens names k place new) ≡ text ++ written (part_tokens names k place p ++ parts_tokens names k place old)
+  pub weight : parts_weight new < parts_weight old + part_weight p
+
+-- what is left of a rule: the proofs of what it concludes from, its judgement behind them and its label
+abbrev pub rest_of_row : ℕ → (Pattern → ℕ) → ℕ → List Instance → Derivations → List Token
+rest_of_row k place n is ds = proofs_of k place ds ++ (all_labels (trees_behind (own_labels k) n is) ++ rule_label n ∷ [])

@@ -1,0 +1,151 @@
+// The proof by a derivation. What of it is still to be written lies on a stack, so that a deep derivation costs no stack of
+// calls.
+ghost use Rattle.std.specs.Prelude.{◌≡◌, ◌+◌, ◌*◌, [], ◌∷◌, ◌++◌, OnOk};
+ghost use Rattle.mm_text.specs.TextLaws.{written};
+ghost use Rattle.ml_pat.specs.Patterns.{bot};
+ghost use Rattle.ml_kernel.specs.StepView.{instances_of};
+ghost use Rattle.ml_kernel.specs.StepsIn.{all_steps};
+ghost use Rattle.ml_kernel.specs.Theorems.{derivations};
+ghost use Rattle.mm_render.specs.Labels.{own_labels, statement_label};
+ghost use Rattle.mm_render.specs.Parts.{all_labels, PartIsTaken, proof_of, proofs_of, PutsParts, rest_of_row, trees_behind};
+ghost use Rattle.mm_render.specs.Places.{place_by};
+ghost use Rattle.mm_render.specs.PlaceTable.{supposed_by};
+
+use crate::places::place_of;
+use crate::rules::{EX_EL, pattern_at, rule_label, variable_at, write_before, write_instances};
+use crate::words::{Word, push_word};
+use crate::works::{Work, write_works};
+use ml_kernel::{Deriv, DerivStep, Inst};
+use ml_pat::{MPat, Names};
+use std::alloc::AllocError;
+use std::collections::BTreeMap;
+
+/// What of a derivation is still to be written.
+#[derive(Clone, Copy)]
+pub(crate) enum Part<'a> {
+    /// What no derivation stands in.
+    Plain(Work<'a>),
+    /// The proof by a derivation.
+    Derived(&'a Deriv),
+}
+
+/// Writes the proof by a derivation, in the block of the statement with the number `serial`, where these patterns were stated
+/// before.
+pub(crate) fn write_derivation(
+    to: &mut Vec<u8>,
+    names: &Names,
+    serial: u64,
+    places: &BTreeMap<Vec<u8>, u64>,
+    stated: &[MPat],
+    derivation: &Deriv,
+) -> Result<(), AllocError>
+    ensures { OnOk result (to.new.items ≡ to.old.items ++ written (proof_of serial (place_by (supposed_by places.now) stated.now) derivation.now)) }
+{
+    let nothing = MPat::bot(*to.allocator())?;
+    let mut stack = Vec::new(*to.allocator());
+    stack.push(Part::Derived(derivation))?;
+    while let Some(next) = stack.pop() {
+        write_part(
+            to, names, serial, places, stated, &nothing, &mut stack, next,
+        )?;
+    }
+    Ok(())
+}
+
+/// Writes a part, or takes a step of a derivation apart.
+fn write_part<'a>(
+    to: &mut Vec<u8>,
+    names: &Names,
+    serial: u64,
+    places: &BTreeMap<Vec<u8>, u64>,
+    stated: &[MPat],
+    nothing: &'a MPat,
+    stack: &mut Vec<Part<'a>>,
+    part: Part<'a>,
+) -> Result<(), AllocError>
+    requires { nothing.now ≡ bot }
+    ensures { OnOk result (PartIsTaken names.now serial (place_by (supposed_by places.now) stated.now) part.entry stack.old.items stack.new.items to.old.items to.new.items) }
+{
+    let derivation = match part {
+        Part::Plain(work) => return write_works(to, names, serial, &[work]),
+        Part::Derived(derivation) => derivation,
+    };
+    match derivation.step() {
+        DerivStep::Hyp(_) => push_word(to, names, serial, Word::Stated(0)),
+        DerivStep::Axiom(_, p) => write_citation(to, names, serial, places, stated, p),
+        DerivStep::Cited(lemma, _, _) => write_citation(
+            to,
+            names,
+            serial,
+            places,
+            stated,
+            lemma.conclusion(),
+        ),
+        DerivStep::Row(no, instances, parts) => {
+            write_instances(to, names, serial, instances)?;
+            write_before(to, names, serial, *no, instances, nothing)?;
+            put_row(stack, *no, instances, nothing, parts)
+        }
+    }
+}
+
+/// Writes the label under which a pattern was stated.
+fn write_citation(
+    to: &mut Vec<u8>,
+    names: &Names,
+    serial: u64,
+    places: &BTreeMap<Vec<u8>, u64>,
+    stated: &[MPat],
+    pattern: &MPat,
+) -> Result<(), AllocError>
+    ensures { OnOk result (to.new.items ≡ to.old.items ++ written (statement_label (place_by (supposed_by places.now) stated.now pattern.now) ∷ [])) }
+{
+    let place = place_of(*to.allocator(), names, places, stated, pattern)?;
+    push_word(to, names, serial, Word::Stated(place))
+}
+
+/// Puts derivations on a stack, the first on top.
+fn put_derived<'a>(stack: &mut Vec<Part<'a>>, parts: &'a [Deriv]) -> Result<(), AllocError>
+    ensures { OnOk result (PutsParts (λ names k place. proofs_of k place (derivations parts.now)) (3 * all_steps (derivations parts.now)) stack.old.items stack.new.items) }
+{
+    let mut left = parts.len();
+    while left > 0 {
+        left -= 1;
+        stack.push(Part::Derived(&parts[left]))?;
+    }
+    Ok(())
+}
+
+/// Puts on a stack what is left of a rule: the proofs of what it concludes from, the judgement behind them and its label.
+fn put_row<'a>(
+    stack: &mut Vec<Part<'a>>,
+    no: u8,
+    instances: &'a [Inst],
+    nothing: &'a MPat,
+    parts: &'a [Deriv],
+) -> Result<(), AllocError>
+    requires { nothing.now ≡ bot }
+    ensures { OnOk result (PutsParts (λ names k place. rest_of_row k place no (instances_of instances.now) (derivations parts.now)) (3 * all_steps (derivations parts.now) + 2) stack.old.items stack.new.items) }
+{
+    stack.push(Part::Plain(Work::One(Word::Fixed(rule_label(no)))))?;
+    put_behind(stack, no, instances, nothing)?;
+    put_derived(stack, parts)
+}
+
+/// Puts on a stack the judgement of a rule behind the proofs of what it concludes from, where it has one.
+fn put_behind<'a>(
+    stack: &mut Vec<Part<'a>>,
+    no: u8,
+    instances: &'a [Inst],
+    nothing: &'a MPat,
+) -> Result<(), AllocError>
+    requires { nothing.now ≡ bot }
+    ensures { OnOk result (PutsParts (λ names k place. all_labels (trees_behind (own_labels k) no (instances_of instances.now))) 1 stack.old.items stack.new.items) }
+{
+    if no != EX_EL {
+        return Ok(());
+    }
+    let judged = Work::Fresh(variable_at(instances, 2), pattern_at(instances, 1, nothing));
+    stack.push(Part::Plain(judged))?;
+    Ok(())
+}

@@ -1,0 +1,61 @@
+// Where a pattern was stated. A table has the place of each pattern under the bytes of the proof that it is one, so that it is
+// found in time linear in these and in the logarithm of how many there are. What the table says is looked at, and counts where
+// the pattern stands there: that no two patterns have the same bytes is not relied on.
+ghost use Rattle.std.specs.Prelude.{◌≡◌, IfOk};
+ghost use Rattle.mm_render.specs.Places.{pattern_key, place_by, place_in};
+ghost use Rattle.mm_render.specs.PlaceTable.{supposed_by};
+
+use crate::works::{Work, write_works};
+use ml_pat::{MPat, Names};
+use std::alloc::{AllocError, Global};
+use std::collections::BTreeMap;
+
+/// A place of the pattern among those that were stated; behind them all where it is none of them.
+pub(crate) fn place_of(
+    alloc: Global,
+    names: &Names,
+    places: &BTreeMap<Vec<u8>, u64>,
+    stated: &[MPat],
+    pattern: &MPat,
+) -> Result<u64, AllocError>
+    ensures { IfOk result (λ place. place ≡ place_by (supposed_by places.now) stated.now pattern.now) }
+{
+    let key = pattern_key(alloc, names, pattern)?;
+    let Some(place) = places.get(key.as_slice()) else {
+        return Ok(first_place(stated, pattern));
+    };
+    let Some(other) = stated.get(*place as usize) else {
+        return Ok(first_place(stated, pattern));
+    };
+    if other.same(pattern) {
+        return Ok(*place);
+    }
+    Ok(first_place(stated, pattern))
+}
+
+/// The bytes of the proof that the pattern is one.
+pub(crate) fn pattern_key(
+    alloc: Global,
+    names: &Names,
+    pattern: &MPat,
+) -> Result<Vec<u8>, AllocError>
+    ensures { IfOk result (λ key. key.items ≡ pattern_key pattern.now) }
+{
+    let mut key = Vec::new(alloc);
+    write_works(&mut key, names, 0, &[Work::Syntax(pattern)])?;
+    Ok(key)
+}
+
+/// The first place of the pattern among those that were stated; behind them all where it is none of them.
+fn first_place(stated: &[MPat], pattern: &MPat) -> u64
+    ensures { result ≡ place_in stated.now pattern.now }
+{
+    let mut place = 0;
+    for other in stated {
+        if other.same(pattern) {
+            return place;
+        }
+        place += 1;
+    }
+    place
+}
