@@ -22,6 +22,6 @@ returns-in_default c = (
       ∙ ap (λ r. token (token_of c.in-Ok.token.kind (take (c.in-Ok.token.to - c.in-Ok.token.from) (drop c.in-Ok.token.from c.args.self.now.text.now))) c.in-Ok.token.from (named c.args.self.now.text.now r)) (sym c.next.ensures.rest),
   c.in_default.not-End,
   subst (λ (text : List ℕ). IsToken c.in-Ok.token.kind (take (c.in-Ok.token.to - c.in-Ok.token.from) (drop c.in-Ok.token.from text))) c.args.self.now.same
-    (c.in-Ok.ensures.longest c.in_default.not-End).0,
+      (c.in-Ok.ensures.longest c.in_default.not-End).0,
   λ k. subst (λ (text : List ℕ). IsString (take (c.in-Ok.token.to - c.in-Ok.token.from) (drop c.in-Ok.token.from text))) c.args.self.now.same (c.in-Ok.ensures.string k),
 )
