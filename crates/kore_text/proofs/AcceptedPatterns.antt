@@ -12,7 +12,8 @@ use Rattle.kore_text.specs.Trees.{PatternTree, element_variable, set_variable, s
 use Rattle.kore_text.specs.Trees.{PatternTrees, no_patterns, pattern_then, pattern_count}
 use Rattle.kore_text.specs.Grammar.{Want, placed, any, Spelling, listed, more_listed, Takes, sorts_of, arguments_of, takes, is_count, binder_sorts, binds_sets, is_variable, is_associative, is_foldable, spell_sort, spell_sorts, spell_pattern, spell_patterns}
 use Rattle.kore_text.specs.Table.{turn, step, passes, run, empty_fold, folded_arguments, exactly, argument_symbols, built_symbols}
-use Rattle.kore_text.proofs.Reaching.{Reaches, done, after, by-token, any-placed, mark-goes, mark-then, Apart, IsPlain, AllGo, first-goes, pass-step}
+use Rattle.kore_text.proofs.Reaching.{Reaches, done, after, by-token, any-placed, mark-goes, mark-then, IsPlain, AllGo, first-goes, pass-step}
+use Rattle.kore_text.specs.Apart.{Apart}
 use Rattle.kore_text.specs.declared.names.Binder.{Binder}
 use Rattle.kore_text.proofs.Reaching.{unmarked}
 use Rattle.kore_text.proofs.Accepting.{both, number-is, sort-goes, sorts-go, plain-pattern, pattern-step, set-step, string-step, built-step, colon-step, brace-step, text-step, folded-step, folded-built-step, empty-step, empty-built-step, colon-goes, variable-goes, single, sorts-exactly, arguments-go, arguments-folded}

@@ -15,7 +15,8 @@ use Rattle.kore_text.specs.Trees.{PatternTree, element_variable, set_variable, s
 use Rattle.kore_text.specs.Trees.{PatternTrees, no_patterns, pattern_then, pattern_count}
 use Rattle.kore_text.specs.Grammar.{Want, placed, any, given, Spelling, listed, more_listed, Takes, sorts_of, is_count, is_variable, is_associative, spell_name, spell_sort, spell_sorts, spell_pattern, spell_patterns}
 use Rattle.kore_text.specs.Table.{turn, step, folded_arguments, exactly, argument_symbols, built_symbols}
-use Rattle.kore_text.proofs.Reaching.{Reaches, done, after, by-token, any-placed, mark-then, Apart, tail-goes, is_plain, IsPlain, apart-more, Goes, AllGo, more-goes, first-goes, exactly-goes}
+use Rattle.kore_text.proofs.Reaching.{Reaches, done, after, by-token, any-placed, mark-then, tail-goes, is_plain, IsPlain, apart-more, Goes, AllGo, more-goes, first-goes, exactly-goes}
+use Rattle.kore_text.specs.Apart.{Apart}
 
 -- both parts of a test
 pub both : (a b : Bool) → IsTrue (a && b) → (a ≡ true) × (b ≡ true)

@@ -9,6 +9,7 @@ use Rattle.kore_text.specs.declared.symbols.Symbol.{Symbol}
 use Rattle.kore_text.specs.declared.symbols.Symbol.TheVariants as symbol
 use Rattle.kore_text.specs.TokenStream.{Token, identifier, set_identifier, builtin, string_token, mark, assign, Stream, end, fault, token}
 use Rattle.kore_text.specs.Grammar.{Want, placed, any, given, Spelling, listed, more_listed, Takes}
+use Rattle.kore_text.specs.Apart.{Apart}
 use Rattle.kore_text.specs.Table.{byte_of, symbol_of, is_mark, is_fold, turn, step, passes, run, more_exactly, exactly}
 
 abbrev pub is_nil : List Symbol → Bool
@@ -80,15 +81,6 @@ mark-goes c w s e h = by-token (symbol.Mark c) [] (mark c) w w s e refl (mark-st
 pub mark-then : (c : ℕ) (fs : List Symbol) (v w : List Want) (s e : Stream) → Takes (any (mark c) ∷ v) s e
     → ((q : Stream) → Takes v q e → Reaches fs w q e) → Reaches (symbol.Mark c ∷ fs) w s e
 mark-then c fs v w s e h go = after (symbol.Mark c) fs v w s e (mark-goes c v s e h) go
-
--- no opening brace follows
-abbrev pub Apart : List Want → Stream → Type 0
-Apart [] (end x) = Unit {0}
-Apart [] (fault x) = ⊥
-Apart [] (token t p s) = ⊥
-Apart (given b ∷ ws) e = Apart ws e
-Apart (any t ∷ ws) e = is_mark 123 t ≡ false
-Apart (placed p t ∷ ws) e = is_mark 123 t ≡ false
 
 -- this mark comes next
 abbrev pub comes : ℕ → Stream → Bool

@@ -1,6 +1,8 @@
 -- What is left of a text while its tokens are taken.
 use Rattle.std.specs.Prelude.{◌≡◌, ◌≢◌, ℕ, suc, zero, drop}
-use Rattle.kore_lex.specs.declared.lexer.TokenKind.TheVariants.{End}
+use Rattle.kore_lex.specs.declared.lexer.TokenKind.TheVariants.{End, Text}
+use Rattle.kore_lex.specs.Tokens.{IsToken}
+use Rattle.kore_lex.specs.Value.{IsString}
 use Rattle.kore_lex.specs.Lexed.{lexed}
 use Rattle.kore_text.specs.TokenStream.{Stream, end, fault, token, token_of, named}
 use Rattle.kore_text.specs.declared.tokens.Tokens.{Tokens}
@@ -13,7 +15,8 @@ left r = named r.text.now (lexed r.lexer.at (drop r.lexer.at r.lexer.text.now))
 
 -- the answer is what comes first in the one stream, and the other is what follows it
 abbrev pub Comes : Next → Stream → Stream → Type 0
-Comes (next.Token kind at bytes) s r = (s ≡ token (token_of kind bytes.now) at r) × (kind ≢ End)
+Comes (next.Token kind at bytes) s r =
+    (s ≡ token (token_of kind bytes.now) at r) × (kind ≢ End) × IsToken kind bytes.now × (kind ≡ Text → IsString bytes.now)
 Comes (next.End at) s r = s ≡ end at
 Comes (next.Fault at) s r = s ≡ fault at
 

@@ -6,5 +6,6 @@ pub mod Faults
 pub mod Left
 -- What only private functions cite.
 pub mod Table
+pub mod Apart
 pub mod Stacks
 pub mod Finding

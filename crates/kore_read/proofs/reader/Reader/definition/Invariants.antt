@@ -1,0 +1,11 @@
+use Rattle.std.proofs.Common.{map}
+use Rattle.kore_read.specs.Plain.{plain_pattern, plain_module}
+use Rattle.kore_read.specs.Reading.{left, size}
+use Rattle.kore_read.proofs.Declared.{Defined}
+use Rattle.kore_read.proofs.reader.Reader.definition.Given as goal
+
+abbrev pub invariant-loop-self : goal.invariant-loop-self
+invariant-loop-self l = Defined (map plain_pattern l.attrs.items) (map plain_module l.modules.items) (left l.fn.self) (left l.self)
+
+abbrev pub decreases-loop-self : goal.decreases-loop-self
+decreases-loop-self l = size l.self

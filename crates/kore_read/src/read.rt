@@ -1,0 +1,41 @@
+// The two readers.
+
+ghost use Rattle.std.specs.Prelude.{◌≡◌, ◌<◌, ◌^◌, length, IfOk};
+ghost use Rattle.kore_text.specs.Trees.{PatternTree, DefinitionTree};
+ghost use Rattle.kore_read.specs.Plain.{plain_pattern, plain_definition};
+ghost use Rattle.kore_read.specs.KoreText.{ReadsPattern, ReadsDefinition, PatternFault, DefinitionFault};
+
+use crate::reader::Reader;
+use crate::tree::{Definition, Pat, ReadFault};
+use kore_text::{definition_fault, pattern_fault};
+use std::alloc::Global;
+
+/// The definition that the bytes (fewer than 2^32) spell, read to their end, or their first fault.
+/// Time is linear in the bytes; nothing recurses but for the nesting of brackets, of which at most
+/// 500 are open at once.
+pub fn read_definition(alloc: Global, bytes: &[u8]) -> Result<Definition, ReadFault>
+    requires { length bytes.now < 2 ^ 32 }
+    ensures found { IfOk result (λ d. ReadsDefinition bytes.now (plain_definition d)) }
+    ensures only { IfOk result (λ d. (t : DefinitionTree) → ReadsDefinition bytes.now t → t ≡ plain_definition d) }
+    ensures fault { DefinitionFault bytes.now result }
+{
+    match definition_fault(alloc, bytes)? {
+        Some(fault) => Err(ReadFault::from(fault)),
+        None => Ok(Reader::new(alloc, bytes).definition()?),
+    }
+}
+
+/// The pattern that the bytes (fewer than 2^32) spell, read to their end, or their first fault. Time
+/// is linear in the bytes; nothing recurses but for the nesting of brackets, of which at most 500
+/// are open at once.
+pub fn read_pattern(alloc: Global, bytes: &[u8]) -> Result<Pat, ReadFault>
+    requires { length bytes.now < 2 ^ 32 }
+    ensures found { IfOk result (λ p. ReadsPattern bytes.now (plain_pattern p)) }
+    ensures only { IfOk result (λ p. (t : PatternTree) → ReadsPattern bytes.now t → t ≡ plain_pattern p) }
+    ensures fault { PatternFault bytes.now result }
+{
+    match pattern_fault(alloc, bytes)? {
+        Some(fault) => Err(ReadFault::from(fault)),
+        None => Ok(Reader::new(alloc, bytes).pattern()?),
+    }
+}
