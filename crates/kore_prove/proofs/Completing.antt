@@ -10,7 +10,7 @@ use Rattle.rule_core.specs.Rules.{RewriteRule}
 use Rattle.rule_core.specs.declared.rules.Program.{Program}
 use Rattle.rule_core.specs.declared.signature.Signature.{Signature}
 use Rattle.kore_prove.specs.Acceptance.{Each, IsRuleOf, IsAccepted, IsStartSort, IsAcceptedTerm, IsSymbolEntry, symbol_declared, axiom_declared, sort_number}
-use Rattle.kore_prove.specs.Runnable.{IsProgramOf, AcceptsTree}
+use Rattle.kore_prove.specs.Runnable.{AcceptsTree}
 use Rattle.kore_prove.specs.Words.{IsRunCommand, IsVerifyCommand, IsNoCommand}
 use Rattle.kore_prove.specs.Reports.{Ending, out_of_memory, bad_words, read_fault, write_fault, no_such_file, definition_refused, term_refused, too_large, end_code, Reports}
 use Rattle.kore_prove.specs.Causes.{Course, RunCause, Verification, VerifyCause, definition_limit, term_limit, database_limit}

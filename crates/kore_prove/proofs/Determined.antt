@@ -1,22 +1,22 @@
 -- What a text determines: a tree names one sort, means one pattern of one sort, and declares one signature.
-use Rattle.std.proofs.Common.{◌≡◌, ℕ, ◌+◌, ◌<◌, ◌≤◌, List, [], ◌∷◌, ◌++◌, map, length, Option, Some, None, Bool, true, false, cond, option_map, slice_get, refl, sym, ◌∙◌, ap, subst, arith, zero, suc}
+use Rattle.std.proofs.Common.{◌≡◌, ℕ, ◌+◌, ◌≤◌, List, [], ◌∷◌, length, Option, Some, None, cond, option_map, slice_get, refl, sym, ◌∙◌, ap, subst, arith, zero, suc}
 use Rattle.std.specs.List.{filter_map, position_from}
 use Rattle.std.specs.Str.{bytes_eq}
 use Rattle.kore_ast.specs.Trees.{SortTree, sort_applied, no_sorts, sort_trees}
 use Rattle.kore_ast.specs.Trees.{PatternTree, element_variable, set_variable, string, symbol_applied, connected, binding, domain_value, folded, PatternTrees, no_patterns, pattern_then, pattern_trees}
 use Rattle.kore_ast.specs.Trees.{SortDeclaration, SymbolDeclaration, AxiomDeclaration, Declaration, ModuleTree, DefinitionTree}
-use Rattle.kore_ast.specs.declared.tree.Op.TheVariants.{And, Top, Rewrites}
+use Rattle.kore_ast.specs.declared.tree.Op.TheVariants.{And, Rewrites}
 use Rattle.term_core.specs.declared.ids.SortId.{SortId}
 use Rattle.term_core.specs.Patterns.{Pattern, Patterns}
 use Rattle.rule_core.specs.Rules.{RewriteRule}
-use Rattle.rule_core.specs.Named.{number_of, names_of}
+use Rattle.rule_core.specs.Named.{number_of}
 use Rattle.rule_core.specs.declared.signature.Signature.{Signature}
 use Rattle.rule_core.specs.declared.signature.SortInfo.{SortInfo}
 use Rattle.rule_core.specs.declared.signature.SymInfo.{SymInfo}
 use Rattle.rule_core.specs.declared.signature.SortRef.{SortRef}
 use Rattle.rule_core.specs.declared.signature.SortRef.TheVariants.{Sort}
 use Rattle.rule_core.specs.declared.signature.SortKind.{SortKind}
-use Rattle.kore_prove.specs.Acceptance.{Each, NamesSort, NamesSortOf, Denotes, AllDenote, IsSortEntry, IsSymbolEntry, IsTopOf, IsSide, IsSideOf, IsRewriting, IsRuleOf, IsOnlyModule, HasDeclarations}
+use Rattle.kore_prove.specs.Acceptance.{Each, NamesSort, NamesSortOf, Denotes, AllDenote, IsSortEntry, IsSymbolEntry, IsSide, IsSideOf, IsRewriting, IsRuleOf, HasDeclarations}
 
 pub one_sort : (sorts : List (List ℕ × SortInfo)) (tree : SortTree) (s r : ℕ) → NamesSort sorts tree s → NamesSort sorts tree r → s ≡ r
 one_sort sorts tree s r a b =

@@ -1,5 +1,5 @@
 -- Ends of a call that prints no run, and their causes.
-use Rattle.std.proofs.Common.{◌≡◌, ℕ, ◌≤◌, ◌⊎◌, inl, inr, List, Option, None, Some, refl, sym, ◌∙◌, subst, arith}
+use Rattle.std.proofs.Common.{◌≡◌, ℕ, ◌≤◌, ◌⊎◌, inl, inr, List, Option, None, Some, refl, subst, arith}
 use Rattle.desk_io.specs.Told.{Told, Holds, Lacks, HoldsMore, KeepsFiles}
 use Rattle.desk_io.specs.Sent.{SameBytes}
 use Rattle.desk_io.specs.declared.read.ReadEnd.TheVariants as read

@@ -10,7 +10,7 @@ use Rattle.kore_ast.specs.declared.tree.SortForm.{SortForm}
 use Rattle.kore_ast.specs.declared.tree.SortForm.TheOpen.{SortForm-F}
 use Rattle.kore_ast.specs.declared.tree.SortForm.TheOpen as sort_layer
 use Rattle.kore_ast.specs.declared.tree.SortForm.TheVariants as sort_form
-use Rattle.kore_ast.specs.declared.tree.SortForm.TheFolds.{fold-SortForm, fold-roll-Sort, fold-roll-SortForm}
+use Rattle.kore_ast.specs.declared.tree.SortForm.TheFolds.{fold-roll-Sort, fold-roll-SortForm}
 use Rattle.kore_ast.specs.declared.tree.SortForm.TheViews.{out-SortForm, roll-SortForm, roll-out-SortForm}
 use Rattle.kore_ast.specs.declared.tree.Pat.{Pat}
 use Rattle.kore_ast.specs.declared.tree.PatForm.{PatForm}
@@ -19,7 +19,7 @@ use Rattle.kore_ast.specs.declared.tree.PatForm.TheOpen as layer
 use Rattle.kore_ast.specs.declared.tree.PatForm.TheVariants as form
 use Rattle.kore_ast.specs.declared.tree.PatForm.TheFolds.{fold-PatForm, fold-roll-Pat, fold-roll-PatForm}
 use Rattle.kore_ast.specs.declared.tree.PatForm.TheViews.{out-PatForm, roll-PatForm, roll-out-PatForm}
-use Rattle.kore_prove.proofs.TreesOfForms.{plain-App, plain-Built, tree-App, tree-Built, tree-sort}
+use Rattle.kore_prove.proofs.TreesOfForms.{tree-App, tree-Built, tree-sort}
 
 pub record IsApp (pat : Pat) (name : List ℕ) (ss : SortTrees) (ps : PatternTrees) : Type 0 where
   pub sorts : Vec Sort

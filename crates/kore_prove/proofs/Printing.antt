@@ -1,6 +1,6 @@
 -- From the parts of a call to what it printed.
-use Rattle.std.proofs.Common.{◌≡◌, ℕ, List, ◌++◌, Option, Some, None, refl, sym, ◌∙◌, ap, subst, ◌⊎◌}
-use Rattle.desk_io.specs.Told.{Told, file_of, Holds, KeepsFiles}
+use Rattle.std.proofs.Common.{◌≡◌, ℕ, List, Option, Some, None, subst}
+use Rattle.desk_io.specs.Told.{Told, KeepsFiles}
 use Rattle.desk_io.specs.Sent.{Appends}
 use Rattle.term_core.specs.Terms.{Tree}
 use Rattle.term_core.specs.Patterns.{Pattern}

@@ -1,8 +1,8 @@
 -- A step by the rule that was found.
-use Rattle.std.proofs.Common.{◌≡◌, ℕ, ◌<◌, ◌≤◌, List, [], length, get_or, slice_get, Option, Some, All, refl, sym, ◌∙◌, ap, subst, arith, vec_len}
+use Rattle.std.proofs.Common.{◌≡◌, ℕ, ◌<◌, List, [], length, get_or, Option, Some, All, sym, ◌∙◌, ap, subst}
 use Rattle.std.proofs.lemmas.List.{nil_from_length}
 use Rattle.std.proofs.lemmas.Option.{slice_get_within}
-use Rattle.term_core.specs.Terms.{Tree, height}
+use Rattle.term_core.specs.Terms.{Tree}
 use Rattle.term_core.specs.Patterns.{Pattern, instance_of, FitsWithin}
 use Rattle.term_core.specs.RulePatterns.{plain_pattern}
 use Rattle.rule_core.specs.Rules.{RewriteRule}

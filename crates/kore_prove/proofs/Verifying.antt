@@ -1,17 +1,17 @@
 -- From the parts of a verification to what it printed.
-use Rattle.std.proofs.Common.{◌≡◌, ℕ, ◌⊎◌, inl, inr, List, Option, None, Some, refl, sym, ◌∙◌, subst, arith}
+use Rattle.std.proofs.Common.{◌≡◌, ℕ, ◌⊎◌, inl, inr, List, Option, None, Some, subst, arith}
 use Rattle.desk_io.specs.Told.{Told}
 use Rattle.desk_io.specs.Sent.{Appends}
 use Rattle.mm_text.specs.Statements.{statements_of}
 use Rattle.mm_text.specs.declared.fault.MmFault.{MmFault}
 use Rattle.mm_frame.specs.Database.{empty_context}
-use Rattle.mm_frame.specs.Assertions.{axiom_count, theorem_count}
-use Rattle.mm_frame.specs.Validity.{IsValid, IsFirstFault, first_fault}
+use Rattle.mm_frame.specs.Assertions.{axiom_count}
+use Rattle.mm_frame.specs.Validity.{IsFirstFault, first_fault}
 use Rattle.mm_frame.proofs.Faults.{valid_faultless, computed-IsFirstFaultIn}
 use Rattle.kore_prove.specs.declared.verification.Verdict.{Verdict}
 use Rattle.kore_prove.specs.declared.verification.Verdict.TheVariants as verdict
 use Rattle.kore_prove.specs.Words.{IsRunCommand, IsVerifyCommand}
-use Rattle.kore_prove.specs.PrintedRun.{PrintsRun, IsCodeOfRun}
+use Rattle.kore_prove.specs.PrintedRun.{PrintsRun}
 use Rattle.kore_prove.specs.Reports.{Ending, Reports}
 use Rattle.kore_prove.specs.Verdicts.{IsInvalidBy, HoldsDatabase, SaysValid, SaysInvalid, PrintsVerdictOn, PrintsVerdict, verdict_line, verdict_code, valid_line}
 use Rattle.kore_prove.proofs.CommandWords.{one_file, not_both}

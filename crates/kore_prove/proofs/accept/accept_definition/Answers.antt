@@ -1,5 +1,4 @@
-use Rattle.std.proofs.Common.{rules, map, ◌≡◌, ◌<◌, ◌^◌, refl, length}
-use Rattle.std.specs.List.{filter_map}
+use Rattle.std.proofs.Common.{rules, map, refl}
 use Rattle.std.proofs.lemmas.List.Sorted.{IsPermutation-map, All-permutation}
 use Rattle.std.proofs.lemmas.Result.{err_from_is_err_and}
 use Rattle.kore_ast.specs.Plain.{plain_definition, plain_declaration}
@@ -8,8 +7,7 @@ use Rattle.rule_core.specs.declared.signature.Signature.{Signature}
 use Rattle.kore_prove.specs.Acceptance.{IsSortEntry, IsSymbolEntry, sort_declared, symbol_declared, sort_number}
 use Rattle.kore_prove.specs.Runnable.{IsRunnable}
 use Rattle.kore_prove.proofs.MainModule.{main-within}
-use Rattle.kore_prove.proofs.OneDefinition.{few_entries, no_sorts_left, same_sorts, same_symbols, same_signature, same_rules}
-use Rattle.kore_prove.proofs.Determined.{SameSignature}
+use Rattle.kore_prove.proofs.OneDefinition.{few_entries, no_sorts_left, same_sorts, same_symbols, same_rules}
 use Rattle.kore_prove.proofs.Pairings.{Each-empty}
 use Rattle.kore_prove.proofs.WordsOfCases.{if_none, passed_on}
 use Rattle.kore_prove.proofs.accept.accept_definition.Goals as goal

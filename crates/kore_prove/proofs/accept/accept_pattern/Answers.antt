@@ -1,6 +1,5 @@
 use Rattle.kore_ast.specs.Plain.{plain_pattern as tree_of}
 use Rattle.kore_prove.proofs.Meanings.{denoted-showable}
-use Rattle.kore_prove.proofs.WordsOfCases.{on_true}
 use Rattle.kore_prove.proofs.accept.accept_pattern.Goals as goal
 
 pub returns-then-is_start_sort-clause-accepted : goal.returns-then-is_start_sort-clause-accepted

@@ -1,5 +1,5 @@
 use Rattle.std.proofs.lemmas.Grind.{common_steps}
-use Rattle.std.proofs.Common.{arith, rules, length, ◌≡◌}
+use Rattle.std.proofs.Common.{arith, length, ◌≡◌}
 use Rattle.kore_ast.specs.Plain.{plain_sort, plain_pattern}
 use Rattle.kore_ast.specs.declared.tree.Op.TheVariants.{Rewrites}
 use Rattle.kore_prove.proofs.Sides.{same_two, named_by}

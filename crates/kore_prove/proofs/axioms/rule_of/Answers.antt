@@ -1,10 +1,10 @@
 use Rattle.kore_prove.proofs.WordsOfCases.{if_none, passed_on}
 use Rattle.std.proofs.lemmas.Result.{err_from_is_err_and}
 use Rattle.std.proofs.lemmas.Bool.{false≢true}
-use Rattle.std.proofs.Common.{rules, ◌≡◌, [], Some, ◌∙◌, true, false, refl, sym}
+use Rattle.std.proofs.Common.{rules, ◌≡◌, [], ◌∙◌, true, false, refl, sym}
 use Rattle.std.proofs.lemmas.List.{nil_from_length}
 use Rattle.kore_ast.specs.Plain.{plain_pattern, plain_axiom_decl}
-use Rattle.kore_prove.specs.Acceptance.{IsRewriting, sort_number}
+use Rattle.kore_prove.specs.Acceptance.{sort_number}
 use Rattle.kore_prove.proofs.Sides.{after-shallow, side-showable, rule_sides}
 use Rattle.kore_prove.proofs.axioms.rule_of.Goals as goal
 

@@ -1,8 +1,8 @@
-use Rattle.std.proofs.Common.{rules, string_bytes, ◌≡◌, [], map, true, Some, length, ◌≤◌, refl, arith}
+use Rattle.std.proofs.Common.{rules, string_bytes, ◌≡◌, [], map, true, length, ◌≤◌, refl, arith}
 use Rattle.std.proofs.lemmas.Result.{err_from_is_err_and}
 use Rattle.std.proofs.lemmas.List.{nil_from_length, length-map}
 use Rattle.kore_ast.specs.Plain.{plain_pattern, plain_sort}
-use Rattle.kore_prove.specs.Acceptance.{Each, IsConstructorAlone, NamesSort, NamesSortOf}
+use Rattle.kore_prove.specs.Acceptance.{Each, IsConstructorAlone, NamesSortOf}
 use Rattle.kore_prove.proofs.WordsOfCases.{if_none, passed_on}
 use Rattle.kore_prove.proofs.declared.add_symbol.Goals as goal
 

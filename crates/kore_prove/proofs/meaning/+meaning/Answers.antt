@@ -9,7 +9,7 @@ use Rattle.std.proofs.lemmas.Grind.{common_steps}
 use Rattle.std.proofs.lemmas.Result.{err_from_is_err_and}
 use Rattle.std.proofs.lemmas.Option.{same_Some}
 use Rattle.std.proofs.lemmas.Bool.{false≢true}
-use Rattle.std.proofs.Common.{rules, ◌≡◌, [], arith, true, ◌∙◌, ◌<◌, ℕ, map, length, false, Some, None, refl, sym, ap, subst, slice_get}
+use Rattle.std.proofs.Common.{rules, ◌≡◌, [], arith, true, ◌∙◌, ℕ, map, false, Some, refl, sym, ap, subst, slice_get}
 use Rattle.std.proofs.lemmas.List.{nil_from_length}
 use Rattle.rule_core.specs.declared.signature.SortRef.TheVariants.{Param, Sort}
 use Rattle.term_core.proofs.PlainPatterns.{plain-Ctor}

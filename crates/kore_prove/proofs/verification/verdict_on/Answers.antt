@@ -1,6 +1,5 @@
-use Rattle.std.proofs.Common.{◌≡◌, sym, ◌∙◌, ap, Err, Result}
+use Rattle.std.proofs.Common.{◌∙◌, ap, Err}
 use Rattle.mm_verify.specs.declared.ends.VerifyEnd.{VerifyEnd}
-use Rattle.mm_verify.specs.declared.ends.Report.{Report}
 use Rattle.kore_prove.proofs.Verifying.{invalid_by}
 use Rattle.kore_prove.proofs.verification.verdict_on.Goals as goal
 
