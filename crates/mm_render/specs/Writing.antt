@@ -72,6 +72,31 @@ quantified_steps k x y s p bound other = postorder (
     then cite bound (syntax_tree l p ∷ cite (l.object x) [] ∷ cite (l.sort s) [] ∷ [])
     else cite other (syntax_tree l p ∷ cite (l.object x) [] ∷ cite (l.object y) [] ∷ cite (l.sort s) [] ∷ fresh_tree l x p ∷ []))
 
+abbrev pub fresh_two_steps : ℕ → ℕ → Pattern → Pattern → Token → List Token
+fresh_two_steps k x p q label = postorder (
+    let l : Naming = own_labels k in
+    cite label (syntax_tree l p ∷ syntax_tree l q ∷ cite (l.object x) [] ∷ fresh_tree l x p ∷ fresh_tree l x q ∷ []))
+
+abbrev pub fresh_one_steps : ℕ → ℕ → Pattern → Token → List Token
+fresh_one_steps k x p label = postorder (
+    let l : Naming = own_labels k in
+    cite label (syntax_tree l p ∷ cite (l.object x) [] ∷ fresh_tree l x p ∷ []))
+
+abbrev pub fresh_sorted_steps : ℕ → ℕ → Pattern → ℕ → Token → List Token
+fresh_sorted_steps k x p s label = postorder (
+    let l : Naming = own_labels k in
+    cite label (syntax_tree l p ∷ cite (l.object x) [] ∷ cite (l.sort s) [] ∷ fresh_tree l x p ∷ []))
+
+abbrev pub predicate_two_steps : ℕ → Pattern → Pattern → Token → List Token
+predicate_two_steps k p q label = postorder (
+    let l : Naming = own_labels k in
+    cite label (syntax_tree l p ∷ syntax_tree l q ∷ predicate_tree l p ∷ predicate_tree l q ∷ []))
+
+abbrev pub predicate_under_steps : ℕ → ℕ → ℕ → Pattern → Token → List Token
+predicate_under_steps k x s p label = postorder (
+    let l : Naming = own_labels k in
+    cite label (syntax_tree l p ∷ cite (l.object x) [] ∷ cite (l.sort s) [] ∷ predicate_tree l p ∷ []))
+
 abbrev pub two_steps : ℕ → ℕ → Pattern → Pattern → Pattern → Pattern → Token → List Token
 two_steps k x u p q r label = postorder (
     let l : Naming = own_labels k in

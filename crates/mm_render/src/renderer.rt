@@ -125,6 +125,7 @@ impl Renderer {
         ensures unchanged { OnErr result (to.new.items ≡ to.old.items) }
         ensures as_before { OnErr result (self.new ≡ self.old) }
     {
+        // Its contract tells that the lemma's derivation concludes what the lemma does.
         let _premises = lemma.hypotheses();
         let pattern = lemma.conclusion().share()?;
         let mut text = Vec::new(*to.allocator());
