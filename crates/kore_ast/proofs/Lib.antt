@@ -1,14 +1,10 @@
-pub mod Words
-pub mod Lexing
-pub mod HeadLaws
-pub mod FaultLaws
-pub mod ConnectiveLaws
-pub mod ReaderLaws
+-- Laws of what is read.
+pub mod Heads
+pub mod Steps
 pub mod Lists
-pub mod Chains
-pub mod Sequences
-pub mod Vectors
 pub mod PlainLaws
-pub mod SortLaws
-pub mod PatternLaws
-pub mod DeclarationLaws
+pub mod Sorts
+pub mod Patterns
+pub mod Sequences
+pub mod Declared
+pub mod Tops

@@ -1,39 +1,13 @@
 -- A list that is read item by item.
-use Rattle.std.proofs.Common.{◌≡◌, ◌≤◌, ℕ, Bool, true, false, List, [], ◌∷◌, ◌++◌, map, refl, ap, sym, ◌∙◌, arith, subst, append_assoc, rules}
-use Rattle.std.proofs.lemmas.List.{append-nil}
-use Rattle.kore_ast.specs.declared.reader.Reader.{Reader}
-use Rattle.kore_ast.specs.Pieces.{Token, mark}
-use Rattle.kore_ast.specs.Lexed.{Stream, end, fault, token}
-use Rattle.kore_ast.specs.Grammar.{Want, placed, any, Spelling, listed, more_listed}
-use Rattle.kore_ast.specs.Heads.{has_mark}
-use Rattle.kore_ast.specs.KoreText.{HasTokens}
-use Rattle.kore_ast.specs.Reading.{left, size, Has, Took, Refuses, Another, spell_list}
-use Rattle.kore_ast.proofs.ReaderLaws.{unmarked}
-
--- a token that was taken, and what is left
-pub took-any : (t : Token) (old new : Reader) → Took t old new → (k : List Want) → Has k new → Has (any t ∷ k) old
-took-any t old new h k g = subst (HasTokens (any t ∷ k) old.depth) (sym h.is)
-    (refl, subst (λ d. d ≤ 500) h.depth new.shallow, subst (λ d. HasTokens k d (left new)) h.depth g)
-
-pub took-placed : (t : Token) (old new : Reader) → Took t old new → (k : List Want) → Has k new → Has (placed old.at t ∷ k) old
-took-placed t old new h k g = subst (HasTokens (placed old.at t ∷ k) old.depth) (sym h.is)
-    (refl, refl, subst (λ d. d ≤ 500) h.depth new.shallow, subst (λ d. HasTokens k d (left new)) h.depth g)
-
-pub any-took : (t u : Token) (old new : Reader) → Took t old new → (k : List Want) → Has (any u ∷ k) old → (t ≡ u) × Has k new
-any-took t u old new h k g =
-    let x = subst (HasTokens (any u ∷ k) old.depth) h.is g in
-    (x.0, subst (λ d. HasTokens k d (left new)) (sym h.depth) x.2)
-
-pub placed-took : (t u : Token) (p : ℕ) (old new : Reader) → Took t old new → (k : List Want) → Has (placed p u ∷ k) old
-    → (t ≡ u) × (old.at ≡ p) × Has k new
-placed-took t u p old new h k g =
-    let x = subst (HasTokens (placed p u ∷ k) old.depth) h.is g in
-    (x.0, x.1, subst (λ d. HasTokens k d (left new)) (sym h.depth) x.3)
-
-pub any-placed : (t : Token) (p : ℕ) (k : List Want) (n : ℕ) (s : Stream) → HasTokens (placed p t ∷ k) n s → HasTokens (any t ∷ k) n s
-any-placed t p k n (end e) h = absurd h
-any-placed t p k n (fault e) h = absurd h
-any-placed t p k n (token u at s) h = (h.0, h.2, h.3)
+use Rattle.std.proofs.Common.{◌≡◌, ℕ, Bool, true, false, not, ◌||◌, ◌==◌, List, [], ◌∷◌, ◌++◌, map, length, Some, refl, ap, sym, ◌∙◌, subst, append_assoc, arith, Vec, Global, vec_len, if◌then◌else◌, rules}
+use Rattle.std.proofs.lemmas.List.{append-nil, map-append}
+use Rattle.kore_text.specs.TokenStream.{mark, Stream}
+use Rattle.kore_text.specs.Grammar.{Want, any, Spelling, listed, more_listed}
+use Rattle.kore_text.specs.Apart.{Apart}
+use Rattle.kore_text.specs.Table.{is_mark}
+use Rattle.kore_ast.specs.Streams.{after, seen, is_over}
+use Rattle.kore_ast.specs.Reading.{Has, Reads, spell_list, behind_comma, is_closing}
+use Rattle.kore_ast.proofs.Steps.{any-step, not-true, not-false}
 
 abbrev pub is_empty : {T : Type 0} → List T → Bool
 is_empty [] = true
@@ -45,121 +19,141 @@ go_on spell close [] rest k = listed (map spell rest) close k
 go_on spell close (d ∷ ds) rest k = more_listed (map spell rest) close k
 
 -- these items of a list were read
-pub record Keeps {T : Type 0} (spell : T → Spelling) (close : ℕ) (done : List T) (old new : Reader) : Type 0 where
-  pub sound : (rest : List T) (k : List Want) → Has (go_on spell close done rest k) new → Has (spell_list spell close (done ++ rest) k) old
-  pub complete : (all : List T) (k : List Want) → Has (spell_list spell close all k) old
-      → (rest : List T) × ((all ≡ done ++ rest) × Has (go_on spell close done rest k) new)
-  pub shorter : size new ≤ size old
+pub record Keeps {T : Type 0} (spell : T → Spelling) (close : ℕ) (done : List T) (s r : Stream) : Type 0 where
+  pub complete : (all : List T) (k : List Want) (e : Stream) → Has (spell_list spell close all k) s e
+      → (rest : List T) × ((all ≡ done ++ rest) × Has (go_on spell close done rest k) r e)
 
-pub keeps-start : {T : Type 0} (spell : T → Spelling) (close : ℕ) (r : Reader) → Keeps spell close [] r r
-keeps-start spell close r =
-    record { sound = λ rest k h. h; complete = λ all k h. (all, (refl, h)); shorter = omega arith }
-
--- an item that was read
-pub record Item {T : Type 0} (spell : T → Spelling) (t : T) (old new : Reader) : Type 0 where
-  pub sound : (k : List Want) → Has k new → Has (spell t k) old
-  pub complete : (u : T) (k : List Want) → Has (spell u k) old → (u ≡ t) × Has k new
-
-to-next : {T : Type 0} (spell : T → Spelling) (close : ℕ) (done : List T) (t : T) (rest : List T) (mid next : Reader) (k : List Want)
-    → Another (is_empty done) close true mid next → Has (spell t (more_listed (map spell rest) close k)) next
-    → Has (go_on spell close done (t ∷ rest) k) mid
-to-next spell close [] t rest mid next k a h = subst (λ r. Has (spell t (more_listed (map spell rest) close k)) r) a.0 h
-to-next spell close (d ∷ ds) t rest mid next k a h = took-any (mark 44) mid next a.0 _ h
+pub keeps-start : {T : Type 0} (spell : T → Spelling) (close : ℕ) (s : Stream) → Keeps spell close [] s s
+keeps-start spell close s = record { complete = λ all k e h. (all, (refl, h)) }
 
 go_on-more : {T : Type 0} (spell : T → Spelling) (close : ℕ) (done : List T) (t : T) (rest : List T) (k : List Want)
     → go_on spell close (done ++ (t ∷ [])) rest k ≡ more_listed (map spell rest) close k
 go_on-more spell close [] t rest k = refl
 go_on-more spell close (d ∷ ds) t rest k = refl
 
--- where another item comes, the list goes on with one
-from-next : {T : Type 0} (spell : T → Spelling) (close : ℕ) (done rest : List T) (mid next : Reader) (k : List Want)
-    → Another (is_empty done) close true mid next → Has (go_on spell close done rest k) mid
-    → (u : T) × (us : List T) × ((rest ≡ u ∷ us) × Has (spell u (more_listed (map spell us) close k)) next)
-from-next spell close [] [] mid next k a h = absurd (unmarked close mid a.1 k h)
-from-next spell close [] (u ∷ us) mid next k a h =
-    (u, us, (refl, subst (λ r. Has (spell u (more_listed (map spell us) close k)) r) (sym a.0) h))
-from-next spell close (d ∷ ds) [] mid next k a h = absurd (unmarked close mid a.1 k h)
-from-next spell close (d ∷ ds) (u ∷ us) mid next k a h =
-    (u, us, (refl, (any-took (mark 44) (mark 44) mid next a.0 _ h).1))
+same-byte : (c : ℕ) → is_mark c (mark c) ≡ true
+same-byte c = search rules
 
-pub keeps-more : {T : Type 0} (spell : T → Spelling) (close : ℕ) (done : List T) (t : T) (old mid next last : Reader)
-    → Keeps spell close done old mid → Another (is_empty done) close true mid next → Item spell t next last
-    → size last ≤ size mid → Keeps spell close (done ++ (t ∷ [])) old last
-keeps-more {T} spell close done t old mid next last h a i s = record {
-  sound = λ rest k g.
-      subst (λ xs. Has (spell_list spell close xs k) old) (sym (append_assoc done (t ∷ []) rest))
-      (h.sound (t ∷ rest) k (to-next spell close done t rest mid next k a
-      (i.sound _ (subst (λ ws. Has ws last) (go_on-more spell close done t rest k) g))));
-  complete = λ all k g.
-      let c = h.complete all k g in
-      let n = from-next spell close done c.0 mid next k a c.1.1 in
-      let e = i.complete n.0 (more_listed (map spell n.1) close k) n.2.1 in (
-        n.1,
+-- the closing mark is no item
+closed : (close : ℕ) (k : List Want) (s e : Stream) → is_over close (seen s) ≡ false → Has (any (mark close) ∷ k) s e → ⊥
+closed close k s e n h =
+    let x = any-step (mark close) k s e h in
+    let z : false ≡ true = sym n ∙ ap (is_over close) x.0 ∙ same-byte close in let y : ⊥ = cc in y
+
+-- where another item comes, the list goes on with one
+from-next : {T : Type 0} (spell : T → Spelling) (close : ℕ) (done rest : List T) (s e : Stream) (k : List Want)
+    → is_over close (seen s) ≡ false → Has (go_on spell close done rest k) s e
+    → (u : T) × (us : List T) × ((rest ≡ u ∷ us) × Has (spell u (more_listed (map spell us) close k)) (if is_empty done then s else after s) e)
+from-next spell close [] [] s e k n h = absurd (closed close k s e n h)
+from-next spell close [] (u ∷ us) s e k n h = (u, us, (refl, h))
+from-next spell close (d ∷ ds) [] s e k n h = absurd (closed close k s e n h)
+from-next spell close (d ∷ ds) (u ∷ us) s e k n h = (u, us, (refl, (any-step (mark 44) _ s e h).1))
+
+-- no opening brace follows an item
+apart-more : {T : Type 0} (spell : T → Spelling) (close : ℕ) (us : List T) (k : List Want) (e : Stream) → is_mark 123 (mark close) ≡ false
+    → Apart (more_listed (map spell us) close k) e
+apart-more spell close [] k e h = h
+apart-more spell close (u ∷ us) k e h = refl
+
+pub keeps-more : {T : Type 0} (spell : T → Spelling) (close : ℕ) (done : List T) (t : T) (s mid last : Stream) → is_mark 123 (mark close) ≡ false
+    → Keeps spell close done s mid → is_over close (seen mid) ≡ false → Reads spell t (if is_empty done then mid else after mid) last
+    → Keeps spell close (done ++ (t ∷ [])) s last
+keeps-more {T} spell close done t s mid last a h n i = record {
+  complete = λ all k e g.
+      let c = h.complete all k e g in
+      let m = from-next spell close done c.0 mid e k n c.1.1 in
+      let x = i.exact m.0 (more_listed (map spell m.1) close k) e (apart-more spell close m.1 k e a) m.2.1 in (
+        m.1,
         (
-          c.1.0 ∙ ap (λ xs. done ++ xs) n.2.0 ∙ ap (λ x. done ++ (x ∷ n.1)) e.0 ∙ sym (append_assoc done (t ∷ []) n.1),
-          subst (λ ws. Has ws last) (sym (go_on-more spell close done t n.1 k)) e.1,
+          c.1.0 ∙ ap (λ xs. done ++ xs) m.2.0 ∙ ap (λ y. done ++ (y ∷ m.1)) x.0 ∙ sym (append_assoc done (t ∷ []) m.1),
+          subst (λ ws. Has ws last e) (sym (go_on-more spell close done t m.1 k)) x.1,
         ),
       );
-  shorter = omega (arith, h.shorter, s);
 }
 
--- a thing of the kind does not begin with this mark
-abbrev pub Begins : {T : Type 0} → (T → Spelling) → ℕ → Type 0
-Begins {T} spell c = (u : T) (k : List Want) (r : Reader) → Has (spell u k) r → has_mark c (left r) ≡ true → ⊥
+-- a thing of the kind begins where a list is not over
+pub record Begins {T : Type 0} (spell : T → Spelling) (close : ℕ) : Type 0 where
+  pub open_at : (u : T) (k : List Want) (s e : Stream) → Has (spell u k) s e → is_over close (seen s) ≡ false
 
-to-end : {T : Type 0} (spell : T → Spelling) (close : ℕ) (done : List T) (mid new : Reader) (k : List Want)
-    → Took (mark close) mid new → Has k new → Has (go_on spell close done [] k) mid
-to-end spell close [] mid new k a h = took-any (mark close) mid new a k h
-to-end spell close (d ∷ ds) mid new k a h = took-any (mark close) mid new a k h
+contrary : (b : Bool) → b ≡ true → b ≡ false → ⊥
+contrary b h e = let z : true ≡ false = sym h ∙ e in let y : ⊥ = cc in y
 
-from-end : {T : Type 0} (spell : T → Spelling) (close : ℕ) (done rest : List T) (mid new : Reader) (k : List Want)
-    → Begins spell close → (close ≡ 44 → ⊥) → has_mark close (left mid) ≡ true
-    → Took (mark close) mid new → Has (go_on spell close done rest k) mid → (rest ≡ []) × Has k new
-from-end spell close [] [] mid new k b n m a h = (refl, (any-took (mark close) (mark close) mid new a k h).1)
-from-end spell close [] (u ∷ us) mid new k b n m a h = absurd (b u _ mid h m)
-from-end spell close (d ∷ ds) [] mid new k b n m a h = (refl, (any-took (mark close) (mark close) mid new a k h).1)
-from-end spell close (d ∷ ds) (u ∷ us) mid new k b n m a h =
-    let e : mark close ≡ mark 44 = (any-took (mark close) (mark 44) mid new a _ h).0 in
-    absurd (n (let f : close ≡ 44 = cc in f))
+from-end : {T : Type 0} (spell : T → Spelling) (close : ℕ) (done rest : List T) (s e : Stream) (k : List Want)
+    → Begins spell close → is_over close (Some (mark 44)) ≡ false → is_over close (seen s) ≡ true → Has (go_on spell close done rest k) s e
+    → (rest ≡ []) × Has k (after s) e
+from-end spell close [] [] s e k b c o h = (refl, (any-step (mark close) k s e h).1)
+from-end spell close [] (u ∷ us) s e k b c o h = absurd (contrary _ o (b.open_at u _ s e h))
+from-end spell close (d ∷ ds) [] s e k b c o h = (refl, (any-step (mark close) k s e h).1)
+from-end spell close (d ∷ ds) (u ∷ us) s e k b c o h =
+    absurd (contrary _ o (ap (is_over close) (any-step (mark 44) _ s e h).0 ∙ c))
 
-pub took-has_mark : (c : ℕ) (old new : Reader) → Took (mark c) old new → has_mark c (left old) ≡ true
-took-has_mark c old new h = ap (has_mark c) h.is ∙ search rules
-
-pub keeps-end : {T : Type 0} (spell : T → Spelling) (close : ℕ) (done : List T) (old mid new : Reader)
-    → Begins spell close → (close ≡ 44 → ⊥)
-    → Keeps spell close done old mid → Took (mark close) mid new → Item (spell_list spell close) done old new
-keeps-end spell close done old mid new b n h a = record {
-  sound = λ k g.
-      subst (λ xs. Has (spell_list spell close xs k) old) (append-nil done)
-      (h.sound [] k (to-end spell close done mid new k a g));
-  complete = λ all k g.
-      let c = h.complete all k g in
-      let e = from-end spell close done c.0 mid new k b n (took-has_mark close mid new a) a c.1.1 in
-      (c.1.0 ∙ ap (λ xs. done ++ xs) e.0 ∙ append-nil done, e.1);
+pub keeps-end : {T : Type 0} (spell : T → Spelling) (close : ℕ) (done : List T) (s mid : Stream)
+    → Begins spell close → is_over close (Some (mark 44)) ≡ false → Keeps spell close done s mid → is_over close (seen mid) ≡ true
+    → Reads (spell_list spell close) done s (after mid)
+keeps-end spell close done s mid b n h o = record {
+  exact = λ all k e a g.
+      let c = h.complete all k e g in
+      let x = from-end spell close done c.0 mid e k b n o c.1.1 in
+      (c.1.0 ∙ ap (λ xs. done ++ xs) x.0 ∙ append-nil done, x.1);
 }
 
--- behind an item neither a comma nor the closing mark
-stopped : {T : Type 0} (spell : T → Spelling) (close : ℕ) (done rest : List T) (mid : Reader) (k : List Want)
-    → is_empty done ≡ false → Refuses (mark close) mid → Refuses (mark 44) mid → Has (go_on spell close done rest k) mid → ⊥
-stopped spell close [] rest mid k e r s h = let z : ⊥ = cc in z
-stopped spell close (d ∷ ds) [] mid k e r s h = r k h
-stopped spell close (d ∷ ds) (u ∷ us) mid k e r s h = s _ h
+-- what a closing mark is not
+pub record Closing (c : ℕ) : Type 0 where
+  pub apart : is_mark 123 (mark c) ≡ false
+  pub comma : is_over c (Some (mark 44)) ≡ false
 
-pub keeps-stop : {T : Type 0} (spell : T → Spelling) (close : ℕ) (done : List T) (old mid : Reader)
-    → Keeps spell close done old mid → is_empty done ≡ false → Refuses (mark close) mid → Refuses (mark 44) mid
-    → (all : List T) (k : List Want) → Has (spell_list spell close all k) old → ⊥
-keeps-stop spell close done old mid h e r s all k g =
-    let c = h.complete all k g in stopped spell close done c.0 mid k e r s c.1.1
+pick : (c n : ℕ) (P : ℕ → Type 0) → (c == n) ≡ true → P n → P c
+pick c n P e h = let f : c ≡ n = search (rules, e) in subst P (sym f) h
 
--- an item that is none
-pub keeps-fail : {T : Type 0} (spell : T → Spelling) (close : ℕ) (done : List T) (old mid next : Reader)
-    → Keeps spell close done old mid → Another (is_empty done) close true mid next
-    → ((u : T) (k : List Want) → Has (spell u k) next → ⊥)
-    → (all : List T) (k : List Want) → Has (spell_list spell close all k) old → ⊥
-keeps-fail spell close done old mid next h a f all k g =
-    let c = h.complete all k g in
-    let n = from-next spell close done c.0 mid next k a c.1.1 in f n.0 _ n.2.1
+decide : (c : ℕ) (a b d : Bool) → (c == 125) ≡ a → (c == 41) ≡ b → (c == 93) ≡ d → (a || b || d) ≡ true → Closing c
+decide c true b d e f g h = pick c 125 Closing e (record { apart = refl; comma = refl })
+decide c false true d e f g h = pick c 41 Closing f (record { apart = refl; comma = refl })
+decide c false false true e f g h = pick c 93 Closing g (record { apart = refl; comma = refl })
+decide c false false false e f g h = let z : false ≡ true = h in absurd (let y : ⊥ = cc in y)
 
-pub another-size : (first : Bool) (close : ℕ) (mid next : Reader) → Another first close true mid next → size next ≤ size mid
-another-size true close mid next a = subst (λ r. size r ≤ size mid) (sym a.0) (omega arith)
-another-size false close mid next a = omega (arith, a.0.shorter)
+pub closing : (c : ℕ) → is_closing c ≡ true → Closing c
+closing c h = decide c (c == 125) (c == 41) (c == 93) refl refl refl h
+
+not_zero : (n : ℕ) → (n ≡ 0 → ⊥) → (n == 0) ≡ false
+not_zero n h = search (rules, h)
+
+empty-list : {X T : Type 0} (f : X → T) (xs : List X) (n : ℕ) (b : Bool) → length xs ≡ n → b ≡ (n == 0) → b ≡ is_empty (map f xs)
+empty-list f [] n b h e = e ∙ ap (λ m. m == 0) (sym h)
+empty-list f (x ∷ xs) n b h e = e ∙ not_zero n (λ z. omega (arith, h, z))
+
+-- a vector without items
+pub empty-vec : {X T : Type 0} (f : X → T) (v : Vec X Global) (b : Bool) → b ≡ (vec_len v == 0) → b ≡ is_empty (map f v.items)
+empty-vec f v b e = empty-list f v.items v.len b (sym v.ok.0) e
+
+pub reads-is : {T : Type 0} (spell : T → Spelling) (x y : T) (s r : Stream) → x ≡ y → Reads spell x s r → Reads spell y s r
+reads-is spell x y s r e h = subst (λ v. Reads spell v s r) e h
+
+comma-later : (a b c : Bool) (close : ℕ) (mid : Stream) → is_over close (seen mid) ≡ false → a ≡ b
+    → behind_comma a close mid ≡ (if b then mid else after mid)
+comma-later a b c close mid o e = subst (λ v. (if v then after mid else (if a then mid else after mid)) ≡ (if b then mid else after mid)) (sym o)
+    (ap (λ v. if v then mid else after mid) e)
+
+-- another item was read
+pub list-more : {X T : Type 0} (plain : X → T) (spell : T → Spelling) (close : ℕ) (v w : Vec X Global) (x : X) (s mid next last : Stream) (first comes : Bool)
+    → is_closing close ≡ true → first ≡ (vec_len v == 0) → comes ≡ not (is_over close (seen mid)) → comes ≡ true → next ≡ behind_comma first close mid
+    → Reads spell (plain x) next last → w.items ≡ v.items ++ (x ∷ []) → Keeps spell close (map plain v.items) s mid
+    → Keeps spell close (map plain w.items) s last
+list-more plain spell close v w x s mid next last first comes c f n o g i p h =
+    let q : is_over close (seen mid) ≡ false = not-true (is_over close (seen mid)) comes n o in
+    let j = subst (λ u. Reads spell (plain x) u last) (g ∙ comma-later first (is_empty (map plain v.items)) first close mid q (empty-vec plain v first f)) i in
+    subst (λ xs. Keeps spell close xs s last) (sym (map-append plain v.items (x ∷ [])) ∙ ap (map plain) (sym p))
+    (keeps-more spell close (map plain v.items) (plain x) s mid last (closing close c).apart h q j)
+
+-- the list is over
+pub list-done : {X T : Type 0} (plain : X → T) (spell : T → Spelling) (close : ℕ) (v : Vec X Global) (s mid next : Stream) (first comes : Bool)
+    → is_closing close ≡ true → Begins spell close → comes ≡ not (is_over close (seen mid)) → comes ≡ false → next ≡ behind_comma first close mid
+    → Keeps spell close (map plain v.items) s mid → Reads (spell_list spell close) (map plain v.items) s next
+list-done plain spell close v s mid next first comes c b n o g h =
+    let q : is_over close (seen mid) ≡ true = not-false (is_over close (seen mid)) comes n o in
+    let e : next ≡ after mid = g ∙ ap (λ u. if u then after mid else (if first then mid else after mid)) q in
+    subst (λ u. Reads (spell_list spell close) (map plain v.items) s u) (sym e)
+    (keeps-end spell close (map plain v.items) s mid b (closing close c).comma h q)
+
+pub list-start : {X T : Type 0} (plain : X → T) (spell : T → Spelling) (close : ℕ) (v : Vec X Global) (s : Stream) → v.items ≡ []
+    → Keeps spell close (map plain v.items) s s
+list-start plain spell close v s e = subst (λ xs. Keeps spell close (map plain xs) s s) (sym e) (keeps-start spell close s)

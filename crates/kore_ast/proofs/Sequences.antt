@@ -1,65 +1,61 @@
 -- Things that are read one after the other, without marks between them.
-use Rattle.std.proofs.Common.{◌≡◌, ◌≤◌, List, [], ◌∷◌, ◌++◌, map, refl, ap, sym, ◌∙◌, arith, subst, append_assoc}
-use Rattle.std.proofs.lemmas.List.{append-nil}
-use Rattle.kore_ast.specs.declared.reader.Reader.{Reader}
-use Rattle.kore_ast.specs.Grammar.{Want, Spelling, in_order}
-use Rattle.kore_ast.specs.Reading.{Has, size}
-use Rattle.kore_ast.proofs.Lists.{Item}
-use Rattle.kore_ast.proofs.Chains.{No}
+use Rattle.std.proofs.Common.{◌≡◌, List, [], ◌∷◌, ◌++◌, map, refl, ap, sym, ◌∙◌, subst, append_assoc, Vec, Global}
+use Rattle.std.proofs.lemmas.List.{append-nil, map-append}
+use Rattle.kore_text.specs.TokenStream.{Stream}
+use Rattle.kore_text.specs.Grammar.{Want, Spelling, in_order}
+use Rattle.kore_text.specs.Apart.{Apart}
+use Rattle.kore_ast.specs.Reading.{Has, Reads}
 
--- these things of a sequence were read, whose end is one of these
-pub record Sequence {T : Type 0} (spell : T → Spelling) (ends : List Want → Type 0) (done : List T) (old new : Reader) : Type 0 where
-  pub sound : (rest : List T) (k : List Want) → Has (in_order (map spell rest) k) new → Has (in_order (map spell (done ++ rest)) k) old
-  pub complete : (all : List T) (k : List Want) → ends k → Has (in_order (map spell all) k) old
-      → (rest : List T) × ((all ≡ done ++ rest) × Has (in_order (map spell rest) k) new)
-  pub shorter : size new ≤ size old
+-- these things of a sequence were read, in front of these wishes
+pub record Follows {T : Type 0} (spell : T → Spelling) (done : List T) (k : List Want) (e s r : Stream) : Type 0 where
+  pub complete : (all : List T) → Has (in_order (map spell all) k) s e
+      → (rest : List T) × ((all ≡ done ++ rest) × Has (in_order (map spell rest) k) r e)
 
-pub sequence-start : {T : Type 0} (spell : T → Spelling) (ends : List Want → Type 0) (r : Reader) → Sequence spell ends [] r r
-sequence-start spell ends r =
-    record { sound = λ rest k h. h; complete = λ all k e h. (all, (refl, h)); shorter = omega arith }
+-- nothing of the kind is spelled there
+abbrev pub No : {T : Type 0} → (T → Spelling) → Stream → Type 0
+No {T} spell s = (u : T) (k : List Want) (e : Stream) → Has (spell u k) s e → ⊥
 
-one-more : {T : Type 0} (spell : T → Spelling) (ends : List Want → Type 0) (rest : List T) (mid : Reader) (k : List Want)
-    → ((j : List Want) → ends j → Has j mid → ⊥) → ends k → Has (in_order (map spell rest) k) mid
-    → (u : T) × (us : List T) × ((rest ≡ u ∷ us) × Has (spell u (in_order (map spell us) k)) mid)
-one-more spell ends [] mid k n e h = absurd (n k e h)
-one-more spell ends (u ∷ us) mid k n e h = (u, us, (refl, h))
+-- no opening brace follows
+abbrev pub Parted : {T : Type 0} → (T → Spelling) → List Want → Stream → Type 0
+Parted {T} spell k e = (us : List T) → Apart (in_order (map spell us) k) e
 
-pub sequence-more : {T : Type 0} (spell : T → Spelling) (ends : List Want → Type 0) (done : List T) (t : T) (old mid last : Reader)
-    → Sequence spell ends done old mid → ((j : List Want) → ends j → Has j mid → ⊥) → Item spell t mid last
-    → size last ≤ size mid → Sequence spell ends (done ++ (t ∷ [])) old last
-sequence-more {T} spell ends done t old mid last h n i s = record {
-  sound = λ rest k g.
-      subst (λ xs. Has (in_order (map spell xs) k) old) (sym (append_assoc done (t ∷ []) rest))
-      (h.sound (t ∷ rest) k (i.sound (in_order (map spell rest) k) g));
-  complete = λ all k e g.
-      let c = h.complete all k e g in
-      let m = one-more spell ends c.0 mid k n e c.1.1 in
-      let x = i.complete m.0 (in_order (map spell m.1) k) m.2.1 in
+pub follows-start : {T : Type 0} (spell : T → Spelling) (k : List Want) (e s : Stream) → Follows spell [] k e s s
+follows-start spell k e s = record { complete = λ all h. (all, (refl, h)) }
+
+one-more : {T : Type 0} (spell : T → Spelling) (rest : List T) (k : List Want) (e mid : Stream) → (Has k mid e → ⊥) → Has (in_order (map spell rest) k) mid e
+    → (u : T) × (us : List T) × ((rest ≡ u ∷ us) × Has (spell u (in_order (map spell us) k)) mid e)
+one-more spell [] k e mid n h = absurd (n h)
+one-more spell (u ∷ us) k e mid n h = (u, us, (refl, h))
+
+pub follows-more : {T : Type 0} (spell : T → Spelling) (done : List T) (t : T) (k : List Want) (e s mid last : Stream)
+    → Follows spell done k e s mid → (Has k mid e → ⊥) → Parted spell k e → Reads spell t mid last → Follows spell (done ++ (t ∷ [])) k e s last
+follows-more {T} spell done t k e s mid last h n a i = record {
+  complete = λ all g.
+      let c = h.complete all g in
+      let m = one-more spell c.0 k e mid n c.1.1 in
+      let x = i.exact m.0 (in_order (map spell m.1) k) e (a m.1) m.2.1 in
       (m.1, (c.1.0 ∙ ap (λ xs. done ++ xs) m.2.0 ∙ ap (λ y. done ++ (y ∷ m.1)) x.0 ∙ sym (append_assoc done (t ∷ []) m.1), x.1));
-  shorter = omega (arith, h.shorter, s);
 }
 
-pub sequence-fail : {T : Type 0} (spell : T → Spelling) (ends : List Want → Type 0) (done : List T) (old mid : Reader)
-    → Sequence spell ends done old mid → ((j : List Want) → ends j → Has j mid → ⊥) → No spell mid
-    → (all : List T) (k : List Want) → ends k → Has (in_order (map spell all) k) old → ⊥
-sequence-fail spell ends done old mid h n f all k e g =
-    let c = h.complete all k e g in
-    let m = one-more spell ends c.0 mid k n e c.1.1 in f m.0 (in_order (map spell m.1) k) m.2.1
+none-more : {T : Type 0} (spell : T → Spelling) (rest : List T) (k : List Want) (e mid : Stream) → No spell mid → Has (in_order (map spell rest) k) mid e
+    → (rest ≡ []) × Has k mid e
+none-more spell [] k e mid n h = (refl, h)
+none-more spell (u ∷ us) k e mid n h = absurd (n u (in_order (map spell us) k) e h)
 
-none-more : {T : Type 0} (spell : T → Spelling) (rest : List T) (mid : Reader) (k : List Want)
-    → No spell mid → Has (in_order (map spell rest) k) mid → (rest ≡ []) × Has k mid
-none-more spell [] mid k n h = (refl, h)
-none-more spell (u ∷ us) mid k n h = absurd (n u (in_order (map spell us) k) h)
-
-pub sequence-all : {T : Type 0} (spell : T → Spelling) (ends : List Want → Type 0) (done : List T) (old mid : Reader)
-    → Sequence spell ends done old mid → (k : List Want) → Has k mid → Has (in_order (map spell done) k) old
-sequence-all spell ends done old mid h k g =
-    subst (λ xs. Has (in_order (map spell xs) k) old) (append-nil done) (h.sound [] k g)
-
-pub sequence-end : {T : Type 0} (spell : T → Spelling) (ends : List Want → Type 0) (done : List T) (old mid : Reader)
-    → Sequence spell ends done old mid → No spell mid
-    → (all : List T) (k : List Want) → ends k → Has (in_order (map spell all) k) old → (all ≡ done) × Has k mid
-sequence-end spell ends done old mid h n all k e g =
-    let c = h.complete all k e g in
-    let x = none-more spell c.0 mid k n c.1.1 in
+pub follows-end : {T : Type 0} (spell : T → Spelling) (done : List T) (k : List Want) (e s mid : Stream) → Follows spell done k e s mid → No spell mid
+    → (all : List T) → Has (in_order (map spell all) k) s e → (all ≡ done) × Has k mid e
+follows-end spell done k e s mid h n all g =
+    let c = h.complete all g in
+    let x = none-more spell c.0 k e mid n c.1.1 in
     (c.1.0 ∙ ap (λ xs. done ++ xs) x.0 ∙ append-nil done, x.1)
+
+pub vector-start : {X T : Type 0} (plain : X → T) (spell : T → Spelling) (v : Vec X Global) (k : List Want) (e s : Stream) → v.items ≡ []
+    → Follows spell (map plain v.items) k e s s
+vector-start plain spell v k e s p = subst (λ xs. Follows spell (map plain xs) k e s s) (sym p) (follows-start spell k e s)
+
+pub vector-more : {X T : Type 0} (plain : X → T) (spell : T → Spelling) (v w : Vec X Global) (x : X) (k : List Want) (e s mid last : Stream)
+    → w.items ≡ v.items ++ (x ∷ []) → Follows spell (map plain v.items) k e s mid → (Has k mid e → ⊥) → Parted spell k e → Reads spell (plain x) mid last
+    → Follows spell (map plain w.items) k e s last
+vector-more plain spell v w x k e s mid last p h n a i =
+    subst (λ xs. Follows spell xs k e s last) (sym (map-append plain v.items (x ∷ [])) ∙ ap (map plain) (sym p))
+    (follows-more spell (map plain v.items) (plain x) k e s mid last h n a i)

@@ -1,38 +1,34 @@
--- Which tree the bytes of a Kore text spell: the text is white space and tokens, each token the
--- longest at its place, the tokens spell the tree by the grammar, each place in the tree is the
--- byte of its first token, and at most 500 brackets `(` and `{` are open at once.
-use Rattle.std.specs.Prelude.{◌≡◌, ℕ, ◌+◌, ◌-◌, ◌≤◌, ◌==◌, ◌||◌, IsTrue, List, [], ◌∷◌, if◌then◌else◌}
-use Rattle.kore_ast.specs.Pieces.{Token, identifier, builtin, mark}
-use Rattle.kore_ast.specs.Lexed.{Stream, end, fault, token, lexed}
-use Rattle.kore_ast.specs.Trees.{PatternTree, DefinitionTree}
-use Rattle.kore_ast.specs.Grammar.{Want, placed, any, given, spell_pattern, spell_definition}
-
--- the brackets `(` and `{` that are open behind a token, where so many are open before it
-abbrev pub opened : Token → ℕ → ℕ
-opened (mark c) n =
-    if (c == 40) || (c == 123) then n + 1 else (if (c == 41) || (c == 125) then n - 1 else n)
-opened (identifier cs) n = n
-opened (builtin cs) n = n
-
--- the tokens are those of the wishes, in order and up to the end, the conditions hold, and with so
--- many brackets open at the head at most 500 are open anywhere
-abbrev pub HasTokens : List Want → ℕ → Stream → Type 0
-HasTokens [] n (end e) = Unit {0}
-HasTokens [] n (fault e) = ⊥
-HasTokens [] n (token t at s) = ⊥
-HasTokens (given b ∷ ws) n s = IsTrue b × HasTokens ws n s
-HasTokens (any u ∷ ws) n (end e) = ⊥
-HasTokens (any u ∷ ws) n (fault e) = ⊥
-HasTokens (any u ∷ ws) n (token t at s) = (t ≡ u) × (opened t n ≤ 500) × HasTokens ws (opened t n) s
-HasTokens (placed p u ∷ ws) n (end e) = ⊥
-HasTokens (placed p u ∷ ws) n (fault e) = ⊥
-HasTokens (placed p u ∷ ws) n (token t at s) =
-    (t ≡ u) × (at ≡ p) × (opened t n ≤ 500) × HasTokens ws (opened t n) s
+-- Which tree the bytes of a Kore text spell: the tokens spell the tree by the grammar, up to the end,
+-- each place in the tree is the byte of its first token, and at most 500 brackets `(` and `{` are
+-- open at once. Where they spell none, the first fault of the text is told.
+use Rattle.std.specs.Prelude.{ℕ, List, [], false, Result, Ok, Err, Some}
+use Rattle.kore_text.specs.TokenStream.{end, tokens_of, Stream}
+use Rattle.kore_text.specs.Trees.{PatternTree, DefinitionTree}
+use Rattle.kore_text.specs.Grammar.{Takes, spell_pattern, spell_definition}
+use Rattle.kore_text.specs.Faults.{IsShallow, IsFirstFault, IsPattern, IsDefinition}
+use Rattle.kore_text.specs.declared.faults.TextFault.TheVariants as text_fault
+use Rattle.kore_ast.specs.declared.tree.ReadFault.{ReadFault}
+use Rattle.kore_ast.specs.declared.tree.ReadFault.TheVariants as read_fault
 
 -- the bytes spell this pattern
-unfoldable pub ReadsPattern : List ℕ → PatternTree → Type 0
-ReadsPattern bytes p = HasTokens (spell_pattern p []) 0 (lexed 0 bytes)
+abbrev pub ReadsPattern : List ℕ → PatternTree → Type 0
+ReadsPattern bytes p = IsShallow 0 (tokens_of bytes) × ((e : ℕ) × Takes (spell_pattern false p []) (tokens_of bytes) (end e))
 
 -- the bytes spell this definition
-unfoldable pub ReadsDefinition : List ℕ → DefinitionTree → Type 0
-ReadsDefinition bytes d = HasTokens (spell_definition d []) 0 (lexed 0 bytes)
+abbrev pub ReadsDefinition : List ℕ → DefinitionTree → Type 0
+ReadsDefinition bytes d = IsShallow 0 (tokens_of bytes) × ((e : ℕ) × Takes (spell_definition d []) (tokens_of bytes) (end e))
+
+-- the fault that is told is the first of the text; nothing is said where memory was wanting
+abbrev pub IsFault : (Stream → Type 0) → List ℕ → ReadFault → Type 0
+IsFault L bytes (read_fault.Lex at) = IsFirstFault L 0 (tokens_of bytes) (Some (text_fault.Lex at))
+IsFault L bytes (read_fault.Syntax at) = IsFirstFault L 0 (tokens_of bytes) (Some (text_fault.Syntax at))
+IsFault L bytes (read_fault.Deep at) = IsFirstFault L 0 (tokens_of bytes) (Some (text_fault.Deep at))
+IsFault L bytes read_fault.Memory = Unit {0}
+
+abbrev pub PatternFault : {X : Type 0} → List ℕ → Result X ReadFault → Type 0
+PatternFault bytes (Ok x) = Unit {0}
+PatternFault bytes (Err f) = IsFault IsPattern bytes f
+
+abbrev pub DefinitionFault : {X : Type 0} → List ℕ → Result X ReadFault → Type 0
+DefinitionFault bytes (Ok x) = Unit {0}
+DefinitionFault bytes (Err f) = IsFault IsDefinition bytes f

@@ -1,11 +1,11 @@
 -- The tree that a value of the program's types is, without memory.
 use Rattle.std.specs.Prelude.{ℕ, map}
-use Rattle.kore_ast.specs.Trees.{SortTree, sort_parameter, sort_applied, sort_trees}
-use Rattle.kore_ast.specs.Trees.{PatternTree, element_variable, set_variable, string, symbol_applied}
-use Rattle.kore_ast.specs.Trees.{connected, binding, domain_value, folded, pattern_trees}
-use Rattle.kore_ast.specs.Trees.{ImportDeclaration, SortDeclaration, SymbolDeclaration, AliasDeclaration, AxiomDeclaration}
-use Rattle.kore_ast.specs.Trees.{Declaration, import_declaration, sort_declaration, symbol_declaration, alias_declaration, axiom_declaration, claim_declaration}
-use Rattle.kore_ast.specs.Trees.{ModuleTree, DefinitionTree}
+use Rattle.kore_text.specs.Trees.{SortTree, sort_parameter, sort_applied, sort_trees}
+use Rattle.kore_text.specs.Trees.{PatternTree, element_variable, set_variable, string, symbol_applied}
+use Rattle.kore_text.specs.Trees.{connected, binding, domain_value, folded, pattern_trees}
+use Rattle.kore_text.specs.Trees.{ImportDeclaration, SortDeclaration, SymbolDeclaration, AliasDeclaration, AxiomDeclaration}
+use Rattle.kore_text.specs.Trees.{Declaration, import_declaration, sort_declaration, symbol_declaration, alias_declaration, axiom_declaration, claim_declaration}
+use Rattle.kore_text.specs.Trees.{ModuleTree, DefinitionTree}
 use Rattle.kore_ast.specs.declared.tree.Sort.{Sort}
 use Rattle.kore_ast.specs.declared.tree.SortForm.TheOpen.{SortForm-F, Sort-F}
 use Rattle.kore_ast.specs.declared.tree.SortForm.TheOpen as sort_layer
@@ -84,6 +84,8 @@ plain_alias_decl d = record {
   params = d.params.items;
   args = map plain_sort d.args.items;
   result = plain_sort d.result;
+  left_name = d.left_name;
+  left_sorts = map plain_sort d.left_sorts.items;
   vars = map plain_pattern d.vars.items;
   body = plain_pattern d.body;
   attributes = map plain_pattern d.attrs.items;

@@ -1,93 +1,49 @@
 -- What is left of a text while it is read: cited by the clauses of private functions alone.
-use Rattle.std.specs.Prelude.{◌≡◌, ◌<◌, ℕ, ◌-◌, Bool, true, false, List, ◌∷◌, map, length, drop, Result, Ok, Err, codes}
+use Rattle.std.specs.Prelude.{◌≡◌, ℕ, Bool, List, ◌∷◌, map, if◌then◌else◌, codes, ◌==◌, ◌||◌}
 use Rattle.kore_ast.specs.declared.reader.Reader.{Reader}
-use Rattle.kore_ast.specs.declared.terms.Head.{Head}
-use Rattle.kore_ast.specs.declared.terms.Head.TheVariants.{Symbol, Connective}
-use Rattle.kore_ast.specs.declared.tree.ReadFault.{ReadFault}
-use Rattle.kore_ast.specs.Pieces.{Token, identifier, builtin, mark}
-use Rattle.kore_ast.specs.Trees.{SortTree, sort_trees, PatternTree, symbol_applied, connected, pattern_trees, Declaration}
-use Rattle.kore_ast.specs.Lexed.{Stream, token, lexed}
-use Rattle.kore_ast.specs.Grammar.{Want, placed, any, Spelling, listed, in_order, name_of, takes, spell_name, spell_names, spell_sort, spell_declaration}
-use Rattle.kore_ast.specs.Faults.{AtNotBuilt}
-use Rattle.kore_ast.specs.KoreText.{opened, HasTokens}
-use Rattle.kore_ast.specs.Heads.{has_mark}
+use Rattle.kore_ast.specs.Known.{first}
+use Rattle.kore_text.specs.TokenStream.{identifier, Stream}
+use Rattle.kore_text.specs.Left.{left as behind, size as count}
+use Rattle.kore_text.specs.Trees.{SortTree, AxiomDeclaration, Declaration}
+use Rattle.kore_text.specs.Grammar.{Want, any, Spelling, listed, in_order, Takes, keyword, spell_signature, spell_statement, spell_declaration}
+use Rattle.kore_text.specs.Apart.{Apart}
+use Rattle.kore_ast.specs.Streams.{after, seen, is_over}
 
--- the tokens that are left
+-- the tokens that are left, and their number
 abbrev pub left : Reader → Stream
-left r = lexed r.at (drop r.at r.text.now)
+left r = first r.next (behind r.tokens)
 
--- the bytes that are left
 abbrev pub size : Reader → ℕ
-size r = length r.text.now - r.at
+size r = count (left r)
 
--- what is left are these tokens
-abbrev pub Has : List Want → Reader → Type 0
-Has k r = HasTokens k r.depth (left r)
+-- from the one stream up to the other the tokens are those of the wishes
+pub record Has (k : List Want) (s e : Stream) : Type 0 where
+  pub takes : Takes k s e
 
--- one token was taken
-pub record Took (t : Token) (old new : Reader) : Type 0 where
-  pub is : left old ≡ token t old.at (left new)
-  pub depth : new.depth ≡ opened t old.depth
-  pub shorter : size new < size old
-
--- no text that goes on with this token is left
-abbrev pub Refuses : Token → Reader → Type 0
-Refuses t r = (k : List Want) → Has (any t ∷ k) r → ⊥
-
--- what completes the rest completes the whole
-abbrev pub Spells : {X : Type 0} → (X → Spelling) → Reader → Result X ReadFault → Reader → Type 0
-Spells spelled old (Ok x) new = (k : List Want) → Has k new → Has (spelled x k) old
-Spells spelled old (Err e) new = Unit {0}
-
--- at the head of a list (first or not) with this closing mark: another item comes, or none
-abbrev pub Another : Bool → ℕ → Bool → Reader → Reader → Type 0
-Another first close false old new = Took (mark close) old new
-Another true close true old new = (new ≡ old) × (has_mark close (left old) ≡ false)
-Another false close true old new = Took (mark 44) old new × (has_mark close (left old) ≡ false)
-
--- whatever tree is spelled there is the one that was read
-abbrev pub Exact : {X T : Type 0} → (T → Spelling) → (X → T) → Reader → Result X ReadFault → Reader → Type 0
-Exact {X} {T} spell plain old (Ok x) new = (t : T) (k : List Want) → Has (spell t k) old → (t ≡ plain x) × Has k new
-Exact {X} {T} spell plain old (Err e) new = AtNotBuilt e ((t : T) (k : List Want) → Has (spell t k) old → ⊥)
+-- whatever is spelled at the one stream, where no opening brace follows, is this thing, and what
+-- comes behind it is spelled at the other
+pub record Reads {T : Type 0} (spell : T → Spelling) (x : T) (s r : Stream) : Type 0 where
+  pub exact : (t : T) (k : List Want) (e : Stream) → Apart k e → Has (spell t k) s e → (t ≡ x) × Has k r e
 
 -- a list from behind its opening bracket
 abbrev pub spell_list : {T : Type 0} → (T → Spelling) → ℕ → List T → Spelling
 spell_list spell close xs k = listed (map spell xs) close k
 
--- the token of a pattern's head
-abbrev pub head_token : Head → Token
-head_token (Symbol n) = identifier n
-head_token (Connective o) = builtin (name_of o)
+-- what is left where an item of a list is looked for, the first or a later one
+abbrev pub behind_comma : Bool → ℕ → Stream → Stream
+behind_comma first close s = if is_over close (seen s) then after s else (if first then s else after s)
 
--- the pattern with this head
-abbrev pub headed : Head → ℕ → List SortTree → List PatternTree → PatternTree
-headed (Symbol n) at ss ps = symbol_applied at n (sort_trees ss) (pattern_trees ps)
-headed (Connective o) at ss ps = connected at o (sort_trees ss) (pattern_trees ps)
-
--- a head takes so many sorts and arguments
-abbrev pub head_takes : Head → ℕ → ℕ → Bool
-head_takes (Symbol n) sorts arguments = true
-head_takes (Connective o) sorts arguments = takes o sorts arguments
-
--- a mark
-abbrev pub spell_mark : ℕ → Unit {0} → Spelling
-spell_mark c u k = any (mark c) ∷ k
-
--- a keyword at its place
-abbrev pub spell_word : List ℕ → ℕ → Spelling
-spell_word word at k = placed at (identifier word) ∷ k
-
--- one thing and then another
-abbrev pub spell_then : {A B : Type 0} → (A → Spelling) → (B → Spelling) → A × B → Spelling
-spell_then f g x k = f x.0 (g x.1 k)
-
--- a keyword, a name and names in braces
-abbrev pub spell_heading : List ℕ → ((ℕ × List ℕ) × List (List ℕ)) → Spelling
-spell_heading word = spell_then (spell_then (spell_word word) spell_name) spell_names
+-- it closes a list
+abbrev pub is_closing : ℕ → Bool
+is_closing c = (c == 125) || (c == 41) || (c == 93)
 
 -- sorts in parentheses, a colon and a sort
-abbrev pub spell_signature : ((Unit {0} × List SortTree) × Unit {0}) × SortTree → Spelling
-spell_signature = spell_then (spell_then (spell_then (spell_mark 40) (spell_list spell_sort 41)) (spell_mark 58)) spell_sort
+abbrev pub spell_signature_pair : List SortTree × SortTree → Spelling
+spell_signature_pair x k = spell_signature x.0 x.1 k
+
+-- an axiom or a claim, by its keyword
+abbrev pub spell_stated : List ℕ → AxiomDeclaration → Spelling
+spell_stated word d k = keyword d.at word ∷ spell_statement d k
 
 -- declarations, up to and with the word that ends a module
 abbrev pub spell_body : List Declaration → Spelling

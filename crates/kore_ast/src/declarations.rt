@@ -1,28 +1,30 @@
 // Reading declarations, modules and definitions.
 
-ghost use Rattle.std.specs.Prelude.{◌≡◌, ◌≤◌, ◌<◌, ℕ, List, [], length, map, IfOk, OnOk};
-ghost use Rattle.kore_ast.specs.Trees.{DefinitionTree};
-ghost use Rattle.kore_ast.specs.Plain.{plain_sort, plain_pattern, plain_sort_decl, plain_symbol_decl, plain_axiom_decl, plain_declaration, plain_module, plain_definition};
-ghost use Rattle.kore_ast.specs.Grammar.{spell_names, spell_attributes, spell_sort_declaration, spell_symbol_declaration, spell_axiom_declaration, spell_declaration, spell_module, spell_definition};
-ghost use Rattle.kore_ast.specs.Faults.{OnNotBuilt};
-ghost use Rattle.kore_ast.specs.Reading.{size, Has, Spells, Exact, spell_heading, spell_signature, spell_body};
+ghost use Rattle.std.specs.Prelude.{◌≡◌, ◌≤◌, ◌-◌, ℕ, [], List, map, IfOk, OnOk, IsTrue};
+ghost use Rattle.kore_ast.specs.Plain.{plain_sort, plain_pattern, plain_import, plain_sort_decl, plain_symbol_decl, plain_alias_decl, plain_axiom_decl, plain_declaration, plain_module, plain_definition};
+ghost use Rattle.kore_text.specs.Grammar.{spell_names, spell_attributes, spell_declaration, spell_module, spell_definition};
+ghost use Rattle.kore_text.specs.Trees.{DefinitionTree, import_declaration, sort_declaration, symbol_declaration, alias_declaration};
+ghost use Rattle.kore_text.specs.TokenStream.{end};
+ghost use Rattle.kore_ast.specs.declared.reader.Keyword.TheVariants as keywords;
+ghost use Rattle.kore_ast.specs.Streams.{seen, keyword_of, is_declared};
+ghost use Rattle.kore_ast.specs.Reading.{left, size, Has, Reads, spell_signature_pair, spell_stated, spell_body};
 
-use crate::reader::Reader;
+use crate::reader::{Keyword, Reader};
 use crate::text::Text;
 use crate::tree::{
-    AxiomDecl, Decl, Definition, Module, Pat, ReadFault, Sort, SortDecl, SymbolDecl,
+    AliasDecl, AxiomDecl, Decl, Definition, ImportDecl, Module, Pat, Sort, SortDecl, SymbolDecl,
 };
+use std::alloc::AllocError;
 
 impl<'a> Reader<'a> {
     /// Names in braces.
-    fn params(&mut self) -> Result<Vec<Text>, ReadFault>
-        ensures spells { Spells (λ x. spell_names x.items) self.old result self.new }
-        ensures exact { Exact spell_names (λ x. x.items) self.old result self.new }
-        ensures shorter { OnOk result (size self.new < size self.old) }
+    fn params(&mut self) -> Result<Vec<Text>, AllocError>
+        ensures exact { IfOk result (λ x. Reads spell_names x.items (left self.old) (left self.new)) }
+        ensures shorter { OnOk result (size self.new ≤ size self.old - 1) }
     {
-        self.take_mark(b'{')?;
+        self.pass();
         let mut params = Vec::new(self.alloc);
-        while self.another(params.is_empty(), b'}')? {
+        while self.another(params.is_empty(), b'}') {
             let (_, name) = self.name()?;
             params.push(name)?;
         }
@@ -30,53 +32,52 @@ impl<'a> Reader<'a> {
     }
 
     /// Attributes in brackets.
-    fn attributes(&mut self) -> Result<Vec<Pat>, ReadFault>
-        ensures spells { Spells (λ x. spell_attributes (map plain_pattern x.items)) self.old result self.new }
-        ensures exact { Exact spell_attributes (λ x. map plain_pattern x.items) self.old result self.new }
-        ensures shorter { OnOk result (size self.new < size self.old) }
+    #[tactic(auto, using(crate::proofs::Declared::attributes_read))]
+    fn attributes(&mut self) -> Result<Vec<Pat>, AllocError>
+        ensures exact { IfOk result (λ x. Reads spell_attributes (map plain_pattern x.items) (left self.old) (left self.new)) }
+        ensures shorter { OnOk result (size self.new ≤ size self.old - 1) }
     {
-        self.take_mark(b'[')?;
-        let attrs = self.patterns(b']')?;
-        Ok(attrs)
-    }
-
-    /// This keyword, a name and names in braces.
-    fn heading(&mut self, word: &[u8]) -> Result<(u32, Text, Vec<Text>), ReadFault>
-        requires { 1 ≤ length word.now }
-        ensures spells { Spells (λ x. spell_heading word.now ((x.0, x.1), x.2.items)) self.old result self.new }
-        ensures exact { Exact (spell_heading word.now) (λ x. ((x.0, x.1), x.2.items)) self.old result self.new }
-        ensures shorter { OnOk result (size self.new < size self.old) }
-    {
-        let at = self.keyword(word)?;
-        let (_, name) = self.name()?;
-        let params = self.params()?;
-        Ok((at, name, params))
+        self.pass();
+        self.patterns(b']')
     }
 
     /// Sorts in parentheses, a colon and a sort.
-    fn signature(&mut self) -> Result<(Vec<Sort>, Sort), ReadFault>
-        ensures spells { Spells (λ x. spell_signature (((tt, map plain_sort x.0.items), tt), plain_sort x.1)) self.old result self.new }
-        ensures exact { Exact spell_signature (λ x. (((tt, map plain_sort x.0.items), tt), plain_sort x.1)) self.old result self.new }
-        ensures shorter { OnOk result (size self.new < size self.old) }
+    fn signature(&mut self) -> Result<(Vec<Sort>, Sort), AllocError>
+        ensures exact { IfOk result (λ x. Reads spell_signature_pair (map plain_sort x.0.items, plain_sort x.1) (left self.old) (left self.new)) }
+        ensures shorter { OnOk result (size self.new ≤ size self.old - 1) }
     {
-        self.take_mark(b'(')?;
+        self.pass();
         let args = self.sorts(b')')?;
-        self.take_mark(b':')?;
+        self.pass();
         let result = self.sort()?;
         Ok((args, result))
     }
 
-    /// The declaration of a sort.
-    fn sort_decl(&mut self) -> Result<SortDecl, ReadFault>
-        ensures spells { Spells (λ x. spell_sort_declaration (plain_sort_decl x)) self.old result self.new }
-        ensures exact { Exact spell_sort_declaration plain_sort_decl self.old result self.new }
-        ensures shorter { OnOk result (size self.new < size self.old) }
+    /// The import of a module.
+    fn import_decl(&mut self) -> Result<ImportDecl, AllocError>
+        requires { keyword_of (seen (left self.old)) ≡ keywords.Import }
+        ensures exact { IfOk result (λ x. Reads spell_declaration (import_declaration (plain_import x)) (left self.old) (left self.new)) }
+        ensures shorter { OnOk result (size self.new ≤ size self.old - 1) }
     {
-        let (at, name, params) = self.heading(b"sort")?;
+        let at = self.pass();
+        let (_, name) = self.name()?;
+        let attrs = self.attributes()?;
+        Ok(ImportDecl { at, name, attrs })
+    }
+
+    /// The declaration of a sort.
+    fn sort_decl(&mut self, hooked: bool) -> Result<SortDecl, AllocError>
+        requires { keyword_of (seen (left self.old)) ≡ keywords.Sort hooked }
+        ensures exact { IfOk result (λ x. Reads spell_declaration (sort_declaration (plain_sort_decl x)) (left self.old) (left self.new)) }
+        ensures shorter { OnOk result (size self.new ≤ size self.old - 1) }
+    {
+        let at = self.pass();
+        let (_, name) = self.name()?;
+        let params = self.params()?;
         let attrs = self.attributes()?;
         Ok(SortDecl {
             at,
-            hooked: false,
+            hooked,
             name,
             params,
             attrs,
@@ -84,32 +85,67 @@ impl<'a> Reader<'a> {
     }
 
     /// The declaration of a symbol.
-    fn symbol_decl(&mut self) -> Result<SymbolDecl, ReadFault>
-        ensures spells { Spells (λ x. spell_symbol_declaration (plain_symbol_decl x)) self.old result self.new }
-        ensures exact { Exact spell_symbol_declaration plain_symbol_decl self.old result self.new }
-        ensures shorter { OnOk result (size self.new < size self.old) }
+    fn symbol_decl(&mut self, hooked: bool) -> Result<SymbolDecl, AllocError>
+        requires { keyword_of (seen (left self.old)) ≡ keywords.Symbol hooked }
+        ensures exact { IfOk result (λ x. Reads spell_declaration (symbol_declaration (plain_symbol_decl x)) (left self.old) (left self.new)) }
+        ensures shorter { OnOk result (size self.new ≤ size self.old - 1) }
     {
-        let (at, name, params) = self.heading(b"symbol")?;
-        let (args, sort) = self.signature()?;
+        let at = self.pass();
+        let (_, name) = self.name()?;
+        let params = self.params()?;
+        let (args, result) = self.signature()?;
         let attrs = self.attributes()?;
         Ok(SymbolDecl {
+            at,
+            hooked,
+            name,
+            params,
+            args,
+            result,
+            attrs,
+        })
+    }
+
+    /// The declaration of an alias.
+    fn alias_decl(&mut self) -> Result<AliasDecl, AllocError>
+        requires { keyword_of (seen (left self.old)) ≡ keywords.Alias }
+        ensures exact { IfOk result (λ x. Reads spell_declaration (alias_declaration (plain_alias_decl x)) (left self.old) (left self.new)) }
+        ensures shorter { OnOk result (size self.new ≤ size self.old - 1) }
+    {
+        let at = self.pass();
+        let (_, name) = self.name()?;
+        let params = self.params()?;
+        let (args, result) = self.signature()?;
+        self.pass();
+        let (_, left_name) = self.name()?;
+        self.pass();
+        let left_sorts = self.sorts(b'}')?;
+        self.pass();
+        let vars = self.patterns(b')')?;
+        self.pass();
+        let body = self.pattern()?;
+        let attrs = self.attributes()?;
+        Ok(AliasDecl {
             at,
             hooked: false,
             name,
             params,
             args,
-            result: sort,
+            result,
+            left_name,
+            left_sorts,
+            vars,
+            body,
             attrs,
         })
     }
 
-    /// An axiom.
-    fn axiom_decl(&mut self) -> Result<AxiomDecl, ReadFault>
-        ensures spells { Spells (λ x. spell_axiom_declaration (plain_axiom_decl x)) self.old result self.new }
-        ensures exact { Exact spell_axiom_declaration plain_axiom_decl self.old result self.new }
-        ensures shorter { OnOk result (size self.new < size self.old) }
+    /// An axiom or a claim.
+    fn axiom_decl(&mut self) -> Result<AxiomDecl, AllocError>
+        ensures exact { IfOk result (λ x. (word : List ℕ) → Reads (spell_stated word) (plain_axiom_decl x) (left self.old) (left self.new)) }
+        ensures shorter { OnOk result (size self.new ≤ size self.old - 1) }
     {
-        let at = self.keyword(b"axiom")?;
+        let at = self.pass();
         let params = self.params()?;
         let pat = self.pattern()?;
         let attrs = self.attributes()?;
@@ -122,45 +158,53 @@ impl<'a> Reader<'a> {
     }
 
     /// A declaration.
-    fn declaration(&mut self) -> Result<Decl, ReadFault>
-        ensures spells { Spells (λ x. spell_declaration (plain_declaration x)) self.old result self.new }
-        ensures exact { Exact spell_declaration plain_declaration self.old result self.new }
-        ensures shorter { OnOk result (size self.new < size self.old) }
+    #[tactic(auto, using(crate::proofs::Declared::axiom_read, crate::proofs::Declared::claim_read))]
+    fn declaration(&mut self) -> Result<Decl, AllocError>
+        ensures exact { IfOk result (λ x. Reads spell_declaration (plain_declaration x) (left self.old) (left self.new)) }
+        ensures shorter { OnOk result (size self.new ≤ size self.old - 1) }
     {
-        if self.has_word(b"sort") {
-            let decl = self.sort_decl()?;
-            return Ok(Decl::SortDecl(decl));
+        match self.keyword() {
+            Keyword::Import => Ok(Decl::Import(self.import_decl()?)),
+            Keyword::Sort(hooked) => Ok(Decl::SortDecl(self.sort_decl(hooked)?)),
+            Keyword::Symbol(hooked) => Ok(Decl::SymbolDecl(self.symbol_decl(hooked)?)),
+            Keyword::Alias => Ok(Decl::Alias(self.alias_decl()?)),
+            Keyword::Axiom => Ok(Decl::Axiom(self.axiom_decl()?)),
+            Keyword::Claim | Keyword::Nothing => Ok(Decl::Claim(self.axiom_decl()?)),
         }
-        if self.has_word(b"symbol") {
-            let decl = self.symbol_decl()?;
-            return Ok(Decl::SymbolDecl(decl));
+    }
+
+    /// Whether a declaration comes.
+    #[tactic(auto, using(crate::proofs::Steps::keyed))]
+    fn has_declaration(&self) -> bool
+        ensures same { result ≡ is_declared (keyword_of (seen (left self.now))) }
+        ensures some { IsTrue result → 1 ≤ size self.now }
+    {
+        match self.keyword() {
+            Keyword::Nothing => false,
+            _ => true,
         }
-        let decl = self.axiom_decl()?;
-        Ok(Decl::Axiom(decl))
     }
 
     /// Declarations up to and with the word that ends their module.
-    fn body(&mut self) -> Result<Vec<Decl>, ReadFault>
-        ensures spells { Spells (λ x. spell_body (map plain_declaration x.items)) self.old result self.new }
-        ensures exact { Exact spell_body (λ x. map plain_declaration x.items) self.old result self.new }
-        ensures shorter { OnOk result (size self.new < size self.old) }
+    fn body(&mut self) -> Result<Vec<Decl>, AllocError>
+        ensures exact { IfOk result (λ x. Reads spell_body (map plain_declaration x.items) (left self.old) (left self.new)) }
+        ensures shorter { OnOk result (size self.new ≤ size self.old - 1) }
     {
         let mut decls = Vec::new(self.alloc);
-        while !self.has_word(b"endmodule") {
+        while self.has_declaration() {
             let decl = self.declaration()?;
             decls.push(decl)?;
         }
-        self.keyword(b"endmodule")?;
+        self.pass();
         Ok(decls)
     }
 
     /// A module.
-    fn module(&mut self) -> Result<Module, ReadFault>
-        ensures spells { Spells (λ x. spell_module (plain_module x)) self.old result self.new }
-        ensures exact { Exact spell_module plain_module self.old result self.new }
-        ensures shorter { OnOk result (size self.new < size self.old) }
+    fn module(&mut self) -> Result<Module, AllocError>
+        ensures exact { IfOk result (λ x. Reads spell_module (plain_module x) (left self.old) (left self.new)) }
+        ensures shorter { OnOk result (size self.new ≤ size self.old - 1) }
     {
-        let at = self.keyword(b"module")?;
+        let at = self.pass();
         let (_, name) = self.name()?;
         let decls = self.body()?;
         let attrs = self.attributes()?;
@@ -173,19 +217,14 @@ impl<'a> Reader<'a> {
     }
 
     /// A definition, up to the end of the text.
-    pub(crate) fn definition(&mut self) -> Result<Definition, ReadFault>
-        ensures found { IfOk result (λ d. Has (spell_definition (plain_definition d) []) self.old) }
-        ensures only { IfOk result (λ d. (e : DefinitionTree) → Has (spell_definition e []) self.old → e ≡ plain_definition d) }
-        ensures not_built { OnNotBuilt result ((e : DefinitionTree) → Has (spell_definition e []) self.old → ⊥) }
+    pub(crate) fn definition(&mut self) -> Result<Definition, AllocError>
+        ensures exact { IfOk result (λ x. (t : DefinitionTree) (e : ℕ) → Has (spell_definition t []) (left self.old) (end e) → t ≡ plain_definition x) }
     {
         let attrs = self.attributes()?;
         let mut modules = Vec::new(self.alloc);
-        while !self.at_end() {
+        while !self.is_done() {
             let module = self.module()?;
             modules.push(module)?;
-        }
-        if modules.is_empty() {
-            return Err(ReadFault::NotBuilt);
         }
         Ok(Definition { attrs, modules })
     }

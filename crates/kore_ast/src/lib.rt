@@ -1,13 +1,11 @@
-// Trees of Kore text, and their reader.
+// Trees of Kore text, and their reader, for the whole grammar.
 //
-// `read_definition` and `read_pattern` answer the tree that the bytes spell by the grammar of
-// the Kore language document. The definitions stand in `specs/`: `Pieces` and `Lexed` cut bytes
-// into tokens, `Trees` and `Plain` give the trees without memory, `Grammar` spells a tree, and
-// `KoreText` says which tree bytes spell.
+// `read_definition` and `read_pattern` answer the tree that the bytes spell by the grammar of the
+// Kore language document, or the first fault. The tokens, the spelling of each tree and the first
+// fault are defined in `kore_text`; `Plain` gives the trees without memory, and `KoreText` says
+// which tree bytes spell.
 #![tactic(auto)]
 
-mod bytes;
-mod connectives;
 mod declarations;
 mod read;
 mod reader;
@@ -15,11 +13,12 @@ mod terms;
 mod text;
 mod tree;
 
+pub use kore_text::{Binder, Op};
 pub use read::{read_definition, read_pattern};
 pub use text::Text;
 pub use tree::{
-    AliasDecl, AxiomDecl, Binder, Decl, Definition, ImportDecl, Module, Op, Pat, PatForm,
-    ReadFault, Sort, SortDecl, SortForm, SymbolDecl,
+    AliasDecl, AxiomDecl, Decl, Definition, ImportDecl, Module, Pat, PatForm, ReadFault, Sort,
+    SortDecl, SortForm, SymbolDecl,
 };
 
 #[cfg(test)]

@@ -1,209 +1,275 @@
-// The reader of tokens: what is left of a text, from a token on.
+// The reader of tokens: what is left of a text, from a token on. It reads texts of which it is known
+// that they are good, so it looks at a token only where more than one can come.
 
-ghost use Rattle.std.specs.Prelude.{◌≡◌, ◌≤◌, ◌<◌, ◌+◌, ◌^◌, true, false, length, drop};
-ghost use Rattle.kore_ast.specs.Heads.{begins_space};
+ghost use Rattle.std.specs.Prelude.{◌≡◌, true, false, ◌<◌, ◌≤◌, ◌-◌, IsTrue, ◌^◌, length, not, IfOk, OnOk, drop};
+ghost use Rattle.std.specs.Str.{is_utf8};
+ghost use Rattle.kore_lex.specs.Value.{IsString};
+ghost use Rattle.kore_ast.specs.Known.{name_bytes, set_name_bytes, string_bytes_of};
+ghost use Rattle.kore_text.specs.TokenStream.{tokens_of};
+ghost use Rattle.kore_ast.specs.Keywords.{keyword_at};
 
-use crate::bytes;
 use crate::text::Text;
-use crate::tree::{Op, ReadFault};
-use std::alloc::Global;
-
-/// The most brackets `(` and `{` that may be open at once.
-const MOST_OPEN: usize = 500;
+use kore_lex::{TokenKind, text_value};
+use kore_text::{Built, Next, Tokens};
+use std::alloc::{AllocError, Global};
 
 /// A text from a token, or the end, on.
 #[derive(Drop)]
 pub(crate) struct Reader<'a> {
     pub(crate) alloc: Global,
-    text: &'a [u8],
-    at: usize,
-    // the brackets `(` and `{` that are open
-    depth: usize,
-    ghost small: { length text.now < 2 ^ 32 },
-    ghost within: { at ≤ length text.now },
-    ghost at_token: { begins_space (drop at text.now) ≡ false },
-    ghost shallow: { depth ≤ 500 },
+    tokens: Tokens<'a>,
+    next: Next<'a>,
+    ghost names: { is_utf8 (name_bytes next) ≡ true },
+    ghost set_names: { is_utf8 (set_name_bytes next) ≡ true },
+    ghost strings: { IsString (string_bytes_of next) },
+}
+
+/// What begins a pattern.
+#[derive(Clone, Copy)]
+pub(crate) enum Head {
+    Name,
+    SetName,
+    Text,
+    Builtin(Built),
+    /// No pattern; it never stands where a pattern is to come in a good text.
+    Nothing,
+}
+
+/// What begins a declaration; `Sort` and `Symbol` with whether it is hooked.
+#[derive(Clone, Copy)]
+pub(crate) enum Keyword {
+    Import,
+    Sort(bool),
+    Symbol(bool),
+    Alias,
+    Axiom,
+    Claim,
+    /// No declaration.
+    Nothing,
 }
 
 impl<'a> Reader<'a> {
-    ghost use Rattle.std.specs.Prelude.{ℕ, List, [], ◌↔◌, IsTrue, IfOk, OnOk, OnErr, codes};
-    ghost use Rattle.kore_ast.specs.Faults.{OnNotBuilt};
-    ghost use Rattle.kore_ast.specs.Pieces.{is_mark, identifier, builtin, mark};
-    ghost use Rattle.kore_ast.specs.Lexed.{lexed};
-    ghost use Rattle.kore_ast.specs.declared.tree.Op.{Op};
-    ghost use Rattle.kore_ast.specs.Grammar.{name_of, spell_name};
-    ghost use Rattle.kore_ast.specs.Heads.{identifier_of, builtin_of, has_mark, is_close, is_end};
-    ghost use Rattle.kore_ast.specs.KoreText.{opened};
-    ghost use Rattle.kore_ast.specs.Reading.{left, size, Took, Refuses, Another, Spells, Exact, spell_mark, spell_word};
+    ghost use Rattle.kore_ast.specs.Reading.{left, size, behind_comma};
+    ghost use Rattle.kore_ast.specs.Streams.{after, place, seen, has_mark, is_done, is_over, name_of, set_name_of, text_of, head_of, keyword_of};
 
     /// The whole text.
+    #[tactic(auto, using(crate::proofs::Heads::comes_first, crate::proofs::Heads::comes_name, crate::proofs::Heads::comes_set_name, crate::proofs::Heads::comes_string))]
     pub(crate) fn new(alloc: Global, text: &'a [u8]) -> Reader<'a>
         requires { length text.now < 2 ^ 32 }
-        ensures start { left result ≡ lexed 0 text.now }
-        ensures none_open { result.depth ≡ 0 }
+        ensures { left result ≡ tokens_of text.now }
     {
-        let at = bytes::token_start(text, 0);
+        let mut tokens = Tokens::new(text);
+        let next = tokens.next();
         Reader {
             alloc,
-            text,
-            at,
-            depth: 0,
+            tokens,
+            next,
         }
     }
 
-    /// Whether the text ends here.
-    pub(crate) fn at_end(&self) -> bool
-        ensures { result ≡ is_end (left self.now) }
+    /// Whether no token is left.
+    #[tactic(auto, using(crate::proofs::Steps::some_left))]
+    pub(crate) fn is_done(&self) -> bool
+        ensures same { result ≡ is_done (seen (left self.now)) }
+        ensures some { result ≡ false → 1 ≤ size self.now }
     {
-        self.at == self.text.len()
+        match self.next {
+            Next::Token(_, _, _) => false,
+            _ => true,
+        }
     }
 
     /// Whether the next token is this mark.
     pub(crate) fn has_mark(&self, byte: u8) -> bool
-        requires { is_mark byte ≡ true }
-        ensures { result ≡ has_mark byte (left self.now) }
+        ensures same { result ≡ has_mark byte (seen (left self.now)) }
+        ensures some { IsTrue result → 1 ≤ size self.now }
     {
-        bytes::begins(self.rest(), byte)
-    }
-
-    /// The next token where it is an identifier, else nothing.
-    pub(crate) fn identifier(&self) -> &[u8]
-        ensures { result.now ≡ identifier_of (left self.now) }
-    {
-        bytes::name_at(self.rest())
-    }
-
-    /// The next token's name where it is a built-in name, else nothing.
-    pub(crate) fn builtin(&self) -> &[u8]
-        ensures { result.now ≡ builtin_of (left self.now) }
-    {
-        bytes::builtin_at(self.rest())
-    }
-
-    /// The bytes that are left.
-    fn rest(&self) -> &[u8]
-        ensures { result.now ≡ drop self.now.at self.now.text.now }
-    {
-        bytes::behind(self.text, self.at)
-    }
-
-    /// Goes on behind a token of so many bytes.
-    fn advance(&mut self, len: usize)
-        requires { self.old.at + len ≤ length self.old.text.now }
-        ensures left { left self.new ≡ lexed (self.old.at + len) (drop (self.old.at + len) self.old.text.now) }
-        ensures depth { self.new.depth ≡ self.old.depth }
-        ensures size { size self.new + len ≤ size self.old }
-    {
-        self.at = bytes::token_start(self.text, self.at + len);
-    }
-
-    /// Takes this mark, which comes next.
-    fn pass(&mut self, byte: u8)
-        requires known { is_mark byte ≡ true }
-        requires comes { has_mark byte (left self.old) ≡ true }
-        requires room { opened (mark byte) self.old.depth ≤ 500 }
-        ensures { Took (mark byte) self.old self.new }
-    {
-        let depth = bytes::opened(byte, self.depth);
-        self.advance(1);
-        self.depth = depth;
-    }
-
-    /// Takes this mark.
-    pub(crate) fn take_mark(&mut self, byte: u8) -> Result<(), ReadFault>
-        requires { is_mark byte ≡ true }
-        ensures took { OnOk result (Took (mark byte) self.old self.new) }
-        ensures refused { OnErr result (Refuses (mark byte) self.old) }
-        ensures spells { Spells (spell_mark byte) self.old result self.new }
-        ensures exact { Exact (spell_mark byte) (λ x. x) self.old result self.new }
-    {
-        if !self.has_mark(byte) || bytes::opened(byte, self.depth) > MOST_OPEN {
-            return Err(ReadFault::NotBuilt);
+        match self.next {
+            Next::Token(TokenKind::Punct(mark), _, _) => mark == byte,
+            _ => false,
         }
-        self.pass(byte);
-        Ok(())
+    }
+
+    /// What the next token begins.
+    pub(crate) fn head(&self) -> Head
+        ensures { result ≡ head_of (seen (left self.now)) }
+    {
+        match self.next {
+            Next::Token(TokenKind::Ident, _, _) => Head::Name,
+            Next::Token(TokenKind::SetIdent, _, _) => Head::SetName,
+            Next::Token(TokenKind::Text, _, _) => Head::Text,
+            Next::Token(TokenKind::Builtin, _, bytes) => match Built::of_name(behind_first(bytes)) {
+                Some(built) => Head::Builtin(built),
+                None => Head::Nothing,
+            },
+            _ => Head::Nothing,
+        }
+    }
+
+    /// Which declaration the next token begins.
+    pub(crate) fn keyword(&self) -> Keyword
+        ensures { result ≡ keyword_of (seen (left self.now)) }
+    {
+        match self.next {
+            Next::Token(TokenKind::Ident, _, bytes) => keyword_at(bytes),
+            _ => Keyword::Nothing,
+        }
+    }
+
+    /// The byte at which the next token stands, or the end.
+    fn place(&self) -> u32
+        ensures { result ≡ place (left self.now) }
+    {
+        match self.next {
+            Next::Token(_, at, _) => at,
+            Next::End(at) => at,
+            Next::Fault(at) => at,
+        }
+    }
+
+    /// Goes on behind the next token.
+    #[tactic(auto, using(crate::proofs::Heads::comes_first, crate::proofs::Heads::comes_name, crate::proofs::Heads::comes_set_name, crate::proofs::Heads::comes_string))]
+    fn advance(&mut self)
+        requires { is_done (seen (left self.old)) ≡ false }
+        ensures { left self.new ≡ after (left self.old) }
+    {
+        self.next = self.tokens.next();
+    }
+
+    /// Takes the next token; answers its place.
+    #[tactic(auto, using(crate::proofs::Steps::after_done, crate::proofs::Steps::count_after))]
+    pub(crate) fn pass(&mut self) -> u32
+        ensures at { result ≡ place (left self.old) }
+        ensures rest { left self.new ≡ after (left self.old) }
+        ensures shorter { size self.new ≡ size self.old - 1 }
+    {
+        let at = self.place();
+        if self.is_done() {
+            return at;
+        }
+        self.advance();
+        at
+    }
+
+    /// The name of the next token, where it is an identifier.
+    fn own_name(&self) -> Result<Text, AllocError>
+        ensures { IfOk result (λ n. n ≡ name_of (seen (left self.now))) }
+    {
+        match self.next {
+            Next::Token(TokenKind::Ident, _, bytes) => Text::of_bytes(self.alloc, bytes),
+            _ => Ok(Text::new(String::new(self.alloc))),
+        }
+    }
+
+    /// The name of the next token behind `@`, where it is the identifier of a set variable.
+    fn own_set_name(&self) -> Result<Text, AllocError>
+        ensures { IfOk result (λ n. n ≡ set_name_of (seen (left self.now))) }
+    {
+        match self.next {
+            Next::Token(TokenKind::SetIdent, _, bytes) => {
+                Text::of_bytes(self.alloc, behind_first(bytes))
+            }
+            _ => Ok(Text::new(String::new(self.alloc))),
+        }
+    }
+
+    /// The text of the next token, where it is a string.
+    fn own_text(&self) -> Result<Text, AllocError>
+        ensures { IfOk result (λ t. t ≡ text_of (seen (left self.now))) }
+    {
+        match self.next {
+            Next::Token(TokenKind::Text, _, bytes) => {
+                Ok(Text::new(text_value(self.alloc, bytes)?))
+            }
+            _ => Ok(Text::new(String::new(self.alloc))),
+        }
     }
 
     /// Takes an identifier: its place and its name.
-    pub(crate) fn name(&mut self) -> Result<(u32, Text), ReadFault>
-        ensures took { IfOk result (λ x. (x.0 ≡ self.old.at) × Took (identifier x.1) self.old self.new) }
-        ensures refused { OnNotBuilt result ((n : List ℕ) → Refuses (identifier n) self.old) }
-        ensures spells { Spells (λ x. spell_name x.1) self.old result self.new }
-        ensures exact { Exact spell_name (λ x. x.1) self.old result self.new }
+    pub(crate) fn name(&mut self) -> Result<(u32, Text), AllocError>
+        ensures read { IfOk result (λ x. (x.0 ≡ place (left self.old)) × (x.1 ≡ name_of (seen (left self.old)))) }
+        ensures rest { OnOk result (left self.new ≡ after (left self.old)) }
+        ensures shorter { OnOk result (size self.new ≡ size self.old - 1) }
     {
-        let at = self.at as u32;
-        let name = self.own_identifier()?;
-        self.advance(name.as_str().len());
-        Ok((at, name))
+        let name = self.own_name()?;
+        Ok((self.pass(), name))
     }
 
-    /// The identifier that comes next.
-    fn own_identifier(&self) -> Result<Text, ReadFault>
-        ensures name { IfOk result (λ n. n ≡ identifier_of (left self.now)) }
-        ensures some { IfOk result (λ n. 1 ≤ length n) }
-        ensures none { OnNotBuilt result (identifier_of (left self.now) ≡ []) }
+    /// Takes the identifier of a set variable: its place and its name behind `@`.
+    pub(crate) fn set_name(&mut self) -> Result<(u32, Text), AllocError>
+        ensures read { IfOk result (λ x. (x.0 ≡ place (left self.old)) × (x.1 ≡ set_name_of (seen (left self.old)))) }
+        ensures rest { OnOk result (left self.new ≡ after (left self.old)) }
+        ensures shorter { OnOk result (size self.new ≡ size self.old - 1) }
     {
-        let name = self.identifier();
-        if name.is_empty() {
-            return Err(ReadFault::NotBuilt);
-        }
-        Text::of_bytes(self.alloc, name)
+        let name = self.own_set_name()?;
+        Ok((self.pass(), name))
     }
 
-    /// Whether this word comes next.
-    pub(crate) fn has_word(&self, word: &[u8]) -> bool
-        ensures { IsTrue result ↔ (identifier_of (left self.now) ≡ word.now) }
+    /// Takes a string: its place and its text.
+    pub(crate) fn string(&mut self) -> Result<(u32, Text), AllocError>
+        ensures read { IfOk result (λ x. (x.0 ≡ place (left self.old)) × (x.1 ≡ text_of (seen (left self.old)))) }
+        ensures rest { OnOk result (left self.new ≡ after (left self.old)) }
+        ensures shorter { OnOk result (size self.new ≡ size self.old - 1) }
     {
-        self.identifier() == word
+        let text = self.own_text()?;
+        Ok((self.pass(), text))
     }
 
-    /// Takes this word; answers its place.
-    pub(crate) fn keyword(&mut self, word: &[u8]) -> Result<u32, ReadFault>
-        requires { 1 ≤ length word.now }
-        ensures took { IfOk result (λ at. (at ≡ self.old.at) × Took (identifier word.now) self.old self.new) }
-        ensures refused { OnErr result (Refuses (identifier word.now) self.old) }
-        ensures spells { Spells (spell_word word.now) self.old result self.new }
-        ensures exact { Exact (spell_word word.now) (λ at. at) self.old result self.new }
+    /// Whether a list with this closing mark is over.
+    fn is_over(&self, close: u8) -> bool
+        ensures { result ≡ is_over close (seen (left self.now)) }
     {
-        if !self.has_word(word) {
-            return Err(ReadFault::NotBuilt);
-        }
-        let at = self.at as u32;
-        self.advance(word.len());
-        Ok(at)
-    }
-
-    /// Takes a connective: its place, and which it is.
-    pub(crate) fn connective(&mut self) -> Result<(u32, Op), ReadFault>
-        ensures took { IfOk result (λ x. (x.0 ≡ self.old.at) × Took (builtin (name_of x.1)) self.old self.new) }
-        ensures refused { OnErr result ((o : Op) → Refuses (builtin (name_of o)) self.old) }
-    {
-        let name = self.builtin();
-        let len = name.len();
-        let Some(op) = Op::of_name(name) else {
-            return Err(ReadFault::NotBuilt);
-        };
-        let at = self.at as u32;
-        self.advance(len + 1);
-        Ok((at, op))
+        self.is_done() || self.has_mark(close)
     }
 
     /// Whether another item of a list comes: the first, or one behind a comma, which is taken.
     /// None comes at the closing mark, which is taken too.
-    pub(crate) fn another(&mut self, first: bool, close: u8) -> Result<bool, ReadFault>
-        requires { is_close close ≡ true }
-        ensures comes { IfOk result (λ yes. Another first close yes self.old self.new) }
-        ensures later { OnErr result (first ≡ false) }
-        ensures closed { OnErr result (Refuses (mark close) self.old) }
-        ensures separated { OnErr result (Refuses (mark 44) self.old) }
+    pub(crate) fn another(&mut self, first: bool, close: u8) -> bool
+        ensures comes { result ≡ not (is_over close (seen (left self.old))) }
+        ensures rest { left self.new ≡ behind_comma first close (left self.old) }
+        ensures some { IsTrue result → 1 ≤ size self.old }
+        ensures shorter { size self.new ≤ size self.old }
+        ensures ended { result ≡ false → size self.new ≤ size self.old - 1 }
     {
-        if self.has_mark(close) {
-            self.pass(close);
-            return Ok(false);
+        if self.is_over(close) {
+            self.pass();
+            return false;
         }
         if !first {
-            self.take_mark(b',')?;
+            self.pass();
         }
-        Ok(true)
+        true
+    }
+}
+
+/// The bytes behind the first, which is `@` or `\`.
+fn behind_first(bytes: &[u8]) -> &[u8]
+    ensures { result.now ≡ drop 1 bytes.now }
+{
+    if bytes.is_empty() { bytes } else { &bytes[1..] }
+}
+
+/// Which declaration this word begins.
+fn keyword_at(word: &[u8]) -> Keyword
+    ensures { result ≡ keyword_at word.now }
+{
+    if word == b"import".as_slice() {
+        Keyword::Import
+    } else if word == b"sort".as_slice() {
+        Keyword::Sort(false)
+    } else if word == b"hooked-sort".as_slice() {
+        Keyword::Sort(true)
+    } else if word == b"symbol".as_slice() {
+        Keyword::Symbol(false)
+    } else if word == b"hooked-symbol".as_slice() {
+        Keyword::Symbol(true)
+    } else if word == b"alias".as_slice() {
+        Keyword::Alias
+    } else if word == b"axiom".as_slice() {
+        Keyword::Axiom
+    } else if word == b"claim".as_slice() {
+        Keyword::Claim
+    } else {
+        Keyword::Nothing
     }
 }

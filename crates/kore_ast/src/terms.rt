@@ -1,64 +1,34 @@
 // Reading sorts and patterns. Nothing recurses but for their nesting, and each level stands behind
-// a bracket that is counted.
+// a bracket that was counted.
 
-ghost use Rattle.std.specs.Prelude.{◌≡◌, ◌<◌, ℕ, List, [], true, false, length, map, IfOk, OnOk, OnErr};
-ghost use Rattle.kore_ast.specs.Pieces.{identifier, builtin};
-ghost use Rattle.kore_ast.specs.Trees.{PatternTree};
+ghost use Rattle.std.specs.Prelude.{◌≡◌, ◌≤◌, ◌<◌, ◌-◌, Bool, true, map, IfOk, OnOk, Some};
 ghost use Rattle.kore_ast.specs.Plain.{plain_sort, plain_pattern};
-ghost use Rattle.kore_ast.specs.Grammar.{spell_sort, spell_pattern, name_of};
-ghost use Rattle.kore_ast.specs.Heads.{is_close};
-ghost use Rattle.kore_ast.specs.Faults.{OnNotBuilt};
-ghost use Rattle.kore_ast.specs.declared.tree.Op.{Op};
-ghost use Rattle.kore_ast.specs.Reading.{size, Has, Took, Refuses, Spells, Exact, spell_list, head_token};
+ghost use Rattle.kore_text.specs.Grammar.{spell_sort, spell_pattern};
+ghost use Rattle.kore_ast.specs.Streams.{seen, head_of, is_textual};
+ghost use Rattle.kore_ast.specs.Reading.{left, size, Reads, spell_list, is_closing};
+ghost use Rattle.kore_ast.specs.declared.reader.Head.TheVariants as heads;
+ghost use Rattle.kore_text.specs.declared.names.Built.TheVariants as built;
 
-use crate::reader::Reader;
-use crate::text::Text;
-use crate::tree::{Op, Pat, PatForm, ReadFault, Sort, SortForm};
-
-/// What stands before the sorts of a pattern.
-#[derive(Drop)]
-enum Head {
-    Symbol(Text),
-    Connective(Op),
-}
-
-impl Head {
-    ghost use Rattle.kore_ast.specs.Reading.{headed, head_takes};
-
-    /// The pattern with this head, where the head takes so many sorts and arguments.
-    fn applied(self, at: u32, sorts: Vec<Sort>, arguments: Vec<Pat>) -> Result<Pat, ReadFault>
-        ensures made { IfOk result (λ p. plain_pattern p ≡ headed self at (map plain_sort sorts.items) (map plain_pattern arguments.items)) }
-        ensures fits { OnOk result (head_takes self (length (map plain_sort sorts.items)) (length (map plain_pattern arguments.items)) ≡ true) }
-        ensures unfit { OnErr result (head_takes self (length (map plain_sort sorts.items)) (length (map plain_pattern arguments.items)) ≡ false) }
-    {
-        match self {
-            Head::Symbol(name) => Ok(Pat {
-                at,
-                form: PatForm::App(name, sorts, arguments),
-            }),
-            Head::Connective(op) => {
-                if !op.takes(sorts.len(), arguments.len()) {
-                    return Err(ReadFault::NotBuilt);
-                }
-                Ok(Pat {
-                    at,
-                    form: PatForm::Built(op, sorts, arguments),
-                })
-            }
-        }
-    }
-}
+use crate::reader::{Head, Reader};
+use crate::tree::{Pat, PatForm, Sort, SortForm};
+use kore_text::{Binder, Built, Op};
+use std::alloc::AllocError;
 
 impl<'a> Reader<'a> {
-    /// A sort.
+    /// A sort: a parameter, or a name with sorts in braces.
     #[cycle(sorts)]
-    pub(crate) fn sort(&mut self) -> Result<Sort, ReadFault>
-        ensures spells { Spells (λ x. spell_sort (plain_sort x)) self.old result self.new }
-        ensures exact { Exact spell_sort plain_sort self.old result self.new }
-        ensures shorter { OnOk result (size self.new < size self.old) }
+    pub(crate) fn sort(&mut self) -> Result<Sort, AllocError>
+        ensures exact { IfOk result (λ x. Reads spell_sort (plain_sort x) (left self.old) (left self.new)) }
+        ensures shorter { OnOk result (size self.new ≤ size self.old - 1) }
     {
         let (at, name) = self.name()?;
-        self.take_mark(b'{')?;
+        if !self.has_mark(b'{') {
+            return Ok(Sort {
+                at,
+                form: SortForm::Param(name),
+            });
+        }
+        self.pass();
         let sorts = self.sorts(b'}')?;
         Ok(Sort {
             at,
@@ -68,75 +38,182 @@ impl<'a> Reader<'a> {
 
     /// Sorts from behind their opening bracket up to and with the closing mark.
     #[cycle(sorts)]
-    pub(crate) fn sorts(&mut self, close: u8) -> Result<Vec<Sort>, ReadFault>
-        requires { is_close close ≡ true }
-        ensures spells { Spells (λ x. spell_list spell_sort close (map plain_sort x.items)) self.old result self.new }
-        ensures exact { Exact (spell_list spell_sort close) (λ x. map plain_sort x.items) self.old result self.new }
-        ensures shorter { OnOk result (size self.new < size self.old) }
+    pub(crate) fn sorts(&mut self, close: u8) -> Result<Vec<Sort>, AllocError>
+        requires { is_closing close ≡ true }
+        ensures exact { IfOk result (λ x. Reads (spell_list spell_sort close) (map plain_sort x.items) (left self.old) (left self.new)) }
+        ensures shorter { OnOk result (size self.new ≤ size self.old - 1) }
     {
         let mut sorts = Vec::new(self.alloc);
-        while self.another(sorts.is_empty(), close)? {
+        while self.another(sorts.is_empty(), close) {
             let sort = self.sort()?;
             sorts.push(sort)?;
         }
         Ok(sorts)
     }
 
-    /// The head of a pattern, with its place.
-    fn head(&mut self) -> Result<(u32, Head), ReadFault>
-        ensures took { IfOk result (λ x. (x.0 ≡ self.old.at) × Took (head_token x.1) self.old self.new) }
-        ensures no_name { OnNotBuilt result ((n : List ℕ) → Refuses (identifier n) self.old) }
-        ensures no_connective { OnNotBuilt result ((o : Op) → Refuses (builtin (name_of o)) self.old) }
-    {
-        if self.builtin().is_empty() {
-            let (at, name) = self.name()?;
-            return Ok((at, Head::Symbol(name)));
-        }
-        let (at, op) = self.connective()?;
-        Ok((at, Head::Connective(op)))
-    }
-
     /// A pattern.
     #[cycle(patterns)]
-    pub(crate) fn pattern(&mut self) -> Result<Pat, ReadFault>
-        ensures spells { Spells (λ x. spell_pattern (plain_pattern x)) self.old result self.new }
-        ensures exact { Exact spell_pattern plain_pattern self.old result self.new }
-        ensures shorter { OnOk result (size self.new < size self.old) }
+    pub(crate) fn pattern(&mut self) -> Result<Pat, AllocError>
+        ensures exact { IfOk result (λ x. (b : Bool) → Reads (spell_pattern b) (plain_pattern x) (left self.old) (left self.new)) }
+        ensures shorter { OnOk result (size self.new ≤ size self.old - 1) }
     {
-        let (at, head) = self.head()?;
-        self.take_mark(b'{')?;
+        match self.head() {
+            Head::Name => self.named(),
+            Head::SetName => self.set_variable(),
+            Head::Builtin(Built::Connective(op)) => self.connected(op),
+            Head::Builtin(Built::Binding(binder)) => self.binding(binder),
+            Head::Builtin(Built::Value) => self.domain_value(),
+            Head::Builtin(Built::Fold(left)) => self.fold(left),
+            Head::Text | Head::Nothing => self.text(),
+        }
+    }
+
+    /// An element variable, or a symbol applied.
+    #[cycle(patterns)]
+    fn named(&mut self) -> Result<Pat, AllocError>
+        requires { head_of (seen (left self.old)) ≡ heads.Name }
+        ensures exact { IfOk result (λ x. (b : Bool) → Reads (spell_pattern b) (plain_pattern x) (left self.old) (left self.new)) }
+        ensures shorter { OnOk result (size self.new ≤ size self.old - 1) }
+    {
+        let (at, name) = self.name()?;
+        if self.has_mark(b':') {
+            self.pass();
+            let sort = self.sort()?;
+            return Ok(Pat {
+                at,
+                form: PatForm::Elem(name, sort),
+            });
+        }
+        self.pass();
         let sorts = self.sorts(b'}')?;
-        self.take_mark(b'(')?;
+        self.pass();
         let arguments = self.patterns(b')')?;
-        head.applied(at, sorts, arguments)
+        Ok(Pat {
+            at,
+            form: PatForm::App(name, sorts, arguments),
+        })
+    }
+
+    /// A set variable.
+    fn set_variable(&mut self) -> Result<Pat, AllocError>
+        requires { head_of (seen (left self.old)) ≡ heads.SetName }
+        ensures exact { IfOk result (λ x. (b : Bool) → Reads (spell_pattern b) (plain_pattern x) (left self.old) (left self.new)) }
+        ensures shorter { OnOk result (size self.new ≤ size self.old - 1) }
+    {
+        let (at, name) = self.set_name()?;
+        self.pass();
+        let sort = self.sort()?;
+        Ok(Pat {
+            at,
+            form: PatForm::SetVar(name, sort),
+        })
+    }
+
+    /// A string.
+    fn text(&mut self) -> Result<Pat, AllocError>
+        requires { is_textual (head_of (seen (left self.old))) ≡ true }
+        ensures exact { IfOk result (λ x. (b : Bool) → Reads (spell_pattern b) (plain_pattern x) (left self.old) (left self.new)) }
+        ensures shorter { OnOk result (size self.new ≤ size self.old - 1) }
+    {
+        let (at, text) = self.string()?;
+        Ok(Pat {
+            at,
+            form: PatForm::Text(text),
+        })
+    }
+
+    /// A connective with its sorts and arguments.
+    #[cycle(patterns)]
+    fn connected(&mut self, op: Op) -> Result<Pat, AllocError>
+        requires { head_of (seen (left self.old)) ≡ heads.Builtin (built.Connective op) }
+        ensures exact { IfOk result (λ x. (b : Bool) → Reads (spell_pattern b) (plain_pattern x) (left self.old) (left self.new)) }
+        ensures shorter { OnOk result (size self.new ≤ size self.old - 1) }
+    {
+        let at = self.pass();
+        self.pass();
+        let sorts = self.sorts(b'}')?;
+        self.pass();
+        let arguments = self.patterns(b')')?;
+        Ok(Pat {
+            at,
+            form: PatForm::Built(op, sorts, arguments),
+        })
+    }
+
+    /// A binder with its sorts, its variable and its body.
+    #[cycle(patterns)]
+    fn binding(&mut self, binder: Binder) -> Result<Pat, AllocError>
+        requires { head_of (seen (left self.old)) ≡ heads.Builtin (built.Binding binder) }
+        ensures exact { IfOk result (λ x. (b : Bool) → Reads (spell_pattern b) (plain_pattern x) (left self.old) (left self.new)) }
+        ensures shorter { OnOk result (size self.new ≤ size self.old - 1) }
+    {
+        let at = self.pass();
+        self.pass();
+        let sorts = self.sorts(b'}')?;
+        self.pass();
+        let variable = self.pattern()?;
+        self.pass();
+        let body = self.pattern()?;
+        self.pass();
+        let variable = Box::new(self.alloc, variable)?;
+        let body = Box::new(self.alloc, body)?;
+        Ok(Pat {
+            at,
+            form: PatForm::Bound(binder, sorts, variable, body),
+        })
+    }
+
+    /// A domain value.
+    fn domain_value(&mut self) -> Result<Pat, AllocError>
+        requires { head_of (seen (left self.old)) ≡ heads.Builtin built.Value }
+        ensures exact { IfOk result (λ x. (b : Bool) → Reads (spell_pattern b) (plain_pattern x) (left self.old) (left self.new)) }
+        ensures shorter { OnOk result (size self.new ≤ size self.old - 1) }
+    {
+        let at = self.pass();
+        self.pass();
+        let sort = self.sort()?;
+        self.pass();
+        self.pass();
+        let (place, text) = self.string()?;
+        self.pass();
+        Ok(Pat {
+            at,
+            form: PatForm::Value(sort, text, place),
+        })
+    }
+
+    /// A fold.
+    #[cycle(patterns)]
+    fn fold(&mut self, from_left: bool) -> Result<Pat, AllocError>
+        requires { head_of (seen (left self.old)) ≡ heads.Builtin (built.Fold from_left) }
+        ensures exact { IfOk result (λ x. (b : Bool) → Reads (spell_pattern b) (plain_pattern x) (left self.old) (left self.new)) }
+        ensures shorter { OnOk result (size self.new ≤ size self.old - 1) }
+    {
+        let at = self.pass();
+        self.pass();
+        self.pass();
+        self.pass();
+        let folded = self.pattern()?;
+        self.pass();
+        let folded = Box::new(self.alloc, folded)?;
+        Ok(Pat {
+            at,
+            form: PatForm::Fold(from_left, folded),
+        })
     }
 
     /// Patterns from behind their opening bracket up to and with the closing mark.
     #[cycle(patterns)]
-    pub(crate) fn patterns(&mut self, close: u8) -> Result<Vec<Pat>, ReadFault>
-        requires { is_close close ≡ true }
-        ensures spells { Spells (λ x. spell_list spell_pattern close (map plain_pattern x.items)) self.old result self.new }
-        ensures exact { Exact (spell_list spell_pattern close) (λ x. map plain_pattern x.items) self.old result self.new }
-        ensures shorter { OnOk result (size self.new < size self.old) }
+    pub(crate) fn patterns(&mut self, close: u8) -> Result<Vec<Pat>, AllocError>
+        requires { is_closing close ≡ true }
+        ensures exact { IfOk result (λ x. (b : Bool) → Reads (spell_list (spell_pattern b) close) (map plain_pattern x.items) (left self.old) (left self.new)) }
+        ensures shorter { OnOk result (size self.new ≤ size self.old - 1) }
     {
         let mut patterns = Vec::new(self.alloc);
-        while self.another(patterns.is_empty(), close)? {
+        while self.another(patterns.is_empty(), close) {
             let pattern = self.pattern()?;
             patterns.push(pattern)?;
         }
         Ok(patterns)
-    }
-
-    /// A pattern, up to the end of the text.
-    pub(crate) fn whole_pattern(&mut self) -> Result<Pat, ReadFault>
-        ensures found { IfOk result (λ p. Has (spell_pattern (plain_pattern p) []) self.old) }
-        ensures only { IfOk result (λ p. (e : PatternTree) → Has (spell_pattern e []) self.old → e ≡ plain_pattern p) }
-        ensures not_built { OnNotBuilt result ((e : PatternTree) → Has (spell_pattern e []) self.old → ⊥) }
-    {
-        let pattern = self.pattern()?;
-        if !self.at_end() {
-            return Err(ReadFault::NotBuilt);
-        }
-        Ok(pattern)
     }
 }

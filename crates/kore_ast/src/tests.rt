@@ -1,129 +1,81 @@
 // Worked texts: which are read, and what trees they are.
 
 use crate::read::{read_definition, read_pattern};
-use crate::tree::{Decl, Op, PatForm, ReadFault, SortForm};
+use crate::tree::{Decl, PatForm, ReadFault, SortForm};
+use kore_text::Op;
 use std::alloc::{AllocError, Global};
 use std::test::Fail;
 
 /// Longer texts are not tried.
 const LONGEST: usize = 100_000;
 
-/// Whether the text spells a pattern.
-fn is_pattern(alloc: Global, text: &str) -> Result<bool, ReadFault> {
-    if text.len() > LONGEST {
-        return Ok(false);
-    }
-    match read_pattern(alloc, text.as_bytes()) {
-        Ok(_) => Ok(true),
-        Err(ReadFault::NotBuilt) => Ok(false),
-        Err(ReadFault::Memory) => Err(ReadFault::Memory),
-    }
-}
-
-/// Whether the text spells a definition.
-fn is_definition(alloc: Global, text: &str) -> Result<bool, ReadFault> {
-    if text.len() > LONGEST {
-        return Ok(false);
-    }
-    match read_definition(alloc, text.as_bytes()) {
-        Ok(_) => Ok(true),
-        Err(ReadFault::NotBuilt) => Ok(false),
-        Err(ReadFault::Memory) => Err(ReadFault::Memory),
+/// What came of a reading, as the tables write it.
+fn shown<X: Drop>(alloc: Global, read: Result<X, ReadFault>) -> Result<String, AllocError> {
+    match read {
+        Ok(_) => String::from_str(alloc, "read"),
+        Err(ReadFault::Lex(at)) => format!(in alloc; "lex {at}"),
+        Err(ReadFault::Syntax(at)) => format!(in alloc; "syntax {at}"),
+        Err(ReadFault::Deep(at)) => format!(in alloc; "deep {at}"),
+        Err(ReadFault::Memory) => String::from_str(alloc, "memory"),
     }
 }
 
-/// `b{}()` in so many applications of `s`.
-fn nested(alloc: Global, levels: usize) -> Result<String, AllocError> {
-    let mut text = String::new(alloc);
-    for _ in 0..levels {
-        text.push_str("s{}(")?;
+/// What comes of a pattern's text.
+fn of_pattern(alloc: Global, text: &str) -> Result<String, AllocError> {
+    if text.len() > LONGEST {
+        return Ok(String::new(alloc));
     }
-    text.push_str("b{}()")?;
-    for _ in 0..levels {
-        text.push_str(")")?;
+    shown(alloc, read_pattern(alloc, text.as_bytes()))
+}
+
+/// What comes of a definition's text.
+fn of_definition(alloc: Global, text: &str) -> Result<String, AllocError> {
+    if text.len() > LONGEST {
+        return Ok(String::new(alloc));
     }
-    Ok(text)
+    shown(alloc, read_definition(alloc, text.as_bytes()))
 }
 
 #[test]
 fn patterns(rt: HostRuntime) -> Result<(), Fail> {
     let cases = [
-        ("a{}()", true),
-        (" \r\n\ta {\t} ( ) \n", true),
-        ("f'-1{S{},T{S{}}}(a{}(),f{}(a{}()))", true),
-        ("\\and{S{}}(a{}(),\\top{S{}}())", true),
-        ("\\and{S{}}()", true),
-        ("\\in{S{},T{}}(a{}(),b{}())", true),
-        // a connective without its number of sorts or arguments
-        ("\\and{}(a{}(),b{}())", false),
-        ("\\top{S{}}(a{}())", false),
-        ("\\rewrites{S{}}(a{}())", false),
-        ("\\none{S{}}()", false),
-        // a sort parameter, a variable, a string and a domain value
-        ("\\and{S}(a{}(),\\top{S}())", false),
-        ("X:S{}", false),
-        ("\"text\"", false),
-        ("\\dv{S{}}(\"1\")", false),
-        // brackets, commas and the end
-        ("", false),
-        ("a", false),
-        ("a{}", false),
-        ("a{}(", false),
-        ("a{(})", false),
-        ("a{}(b{}()", false),
-        ("a{}(b{}(),)", false),
-        ("a{}(,b{}())", false),
-        ("a{}(b{}() c{}())", false),
-        ("a{}() a{}()", false),
-        ("a{}())", false),
-        // bytes that begin no token
-        ("1{}()", false),
-        ("a_b{}()", false),
-        ("\\1{}()", false),
-        ("a{}();", false),
-        ("a{}() // remark", false),
+        ("a{}()", "read"),
+        (" a // \n{ /* ) */ } (\t) //", "read"),
+        ("f{S,T{U{}}}(X:S{},@Y:T,\\top{S}())", "read"),
+        ("\\exists{S}(X:S,\\mu{}(@Y:S,@Y:S))", "read"),
+        ("\\dv{S{}}(\"\\x41\")", "read"),
+        ("\\left-assoc{}(f{}(a{}(),b{}()))", "read"),
+        ("", "syntax 0"),
+        ("a{}() a{}()", "syntax 6"),
+        ("\"text\"", "syntax 0"),
+        ("a_b{}()", "lex 1"),
     ];
-    for (text, is_built) in cases {
-        assert_eq!(rt; is_pattern(rt.alloc(), text)?, is_built, "{text}");
+    for (text, result) in cases {
+        assert_eq!(rt; of_pattern(rt.alloc(), text)?.as_str(), result, "{text}");
     }
-    Ok(())
-}
-
-#[test]
-fn five_hundred_brackets(rt: HostRuntime) -> Result<(), Fail> {
-    let deepest = nested(rt.alloc(), 499)?;
-    assert!(rt; is_pattern(rt.alloc(), deepest.as_str())?);
-    let deeper = nested(rt.alloc(), 500)?;
-    assert!(rt; !is_pattern(rt.alloc(), deeper.as_str())?);
     Ok(())
 }
 
 #[test]
 fn definitions(rt: HostRuntime) -> Result<(), Fail> {
     let cases = [
-        ("[] module M endmodule []", true),
+        ("[] module M endmodule []", "read"),
         (
-            "[a{}(), b{}()] module M sort S{} [] symbol a{}() : S{} [constructor{}()] \
-             axiom{R} \\rewrites{S{}}(a{}(), a{}()) [] endmodule [] module N endmodule []",
-            true,
+            "[a{}(\"x\"), b{}()] module M import N [] hooked-sort S{A} [] symbol a{}() : S{} [] \
+             axiom{R} \\top{R}() [] claim{} a{}() [c{}(\"\")] endmodule [] module N endmodule []",
+            "read",
         ),
-        ("[] module module sort sort{} [] endmodule []", true),
-        ("", false),
-        ("[]", false),
-        ("[] module M", false),
-        ("[] module M endmodule", false),
-        ("module M endmodule []", false),
-        ("[] module M endmodule [] []", false),
-        ("[] module M sort S{} endmodule []", false),
-        ("[] module M import M [] endmodule []", false),
-        ("[] module M hooked-sort S{} [] endmodule []", false),
-        ("[] module M claim{} a{}() [] endmodule []", false),
-        ("[] module M symbol a{} : S{} [] endmodule []", false),
-        ("[] module M symbol a{}() S{} [] endmodule []", false),
-        ("[] module M axiom a{}() [] endmodule []", false),
+        (
+            "[] module M alias a{}(S) : S where a{S}(X:S) := a{}() [] endmodule []",
+            "read",
+        ),
+        ("[] module module sort sort{} [] endmodule []", "read"),
+        ("", "syntax 0"),
+        ("[a{}(\"x", "lex 5"),
+        ("[] module M", "syntax 11"),
     ];
-    for (text, is_built) in cases {
-        assert_eq!(rt; is_definition(rt.alloc(), text)?, is_built, "{text}");
+    for (text, result) in cases {
+        assert_eq!(rt; of_definition(rt.alloc(), text)?.as_str(), result, "{text}");
     }
     Ok(())
 }

@@ -1,11 +1,9 @@
 // The type of names and texts in trees.
 
-ghost use Rattle.std.specs.Prelude.{◌≡◌, List, ℕ, IfOk, string_bytes};
-ghost use Rattle.std.specs.Str.{IsUtf8};
-ghost use Rattle.kore_ast.specs.Faults.{OnNotBuilt};
+ghost use Rattle.std.specs.Prelude.{◌≡◌, true, List, ℕ, IfOk, string_bytes};
+ghost use Rattle.std.specs.Str.{is_utf8};
 
-use crate::tree::ReadFault;
-use std::alloc::Global;
+use std::alloc::{AllocError, Global};
 use std::marker::Model;
 
 /// A name or a text of a tree. A contract sees the list of its bytes.
@@ -36,10 +34,9 @@ impl Text {
     }
 
     /// The text of these bytes.
-    pub(crate) fn of_bytes(alloc: Global, bytes: &[u8]) -> Result<Text, ReadFault>
-        requires { IsUtf8 bytes.now }
+    pub(crate) fn of_bytes(alloc: Global, bytes: &[u8]) -> Result<Text, AllocError>
+        requires { is_utf8 bytes.now ≡ true }
         ensures same { IfOk result (λ t. t ≡ bytes.now) }
-        ensures memory { OnNotBuilt result ⊥ }
     {
         match str::from_utf8(bytes) {
             Ok(text) => Ok(Text::new(String::from_str(alloc, text)?)),

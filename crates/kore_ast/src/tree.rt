@@ -5,6 +5,7 @@ ghost use Rattle.std.specs.Prelude.{◌≡◌};
 ghost use Rattle.kore_ast.specs.declared.tree.ReadFault.TheVariants.{Memory};
 
 use crate::text::Text;
+use kore_text::{Binder, Op, TextFault};
 use std::alloc::{AllocError, AllocFailed};
 
 /// A definition: its attributes, and its modules in the order of the text, the main one last.
@@ -73,6 +74,9 @@ pub struct AliasDecl {
     pub params: Vec<Text>,
     pub args: Vec<Sort>,
     pub result: Sort,
+    /// The name and the sorts behind `where`.
+    pub left_name: Text,
+    pub left_sorts: Vec<Sort>,
     pub vars: Vec<Pat>,
     pub body: Pat,
     pub attrs: Vec<Pat>,
@@ -133,38 +137,15 @@ pub enum PatForm {
     Fold(bool, Box<Pat>),
 }
 
-/// The connectives whose arguments are patterns. `Member` is `\in`.
-#[derive(Clone, Copy, PartialEq, Eq, Debug)]
-pub enum Op {
-    Top,
-    Bottom,
-    Not,
-    Next,
-    And,
-    Or,
-    Implies,
-    Iff,
-    Rewrites,
-    Ceil,
-    Floor,
-    Equals,
-    Member,
-}
-
-/// The binders.
-#[derive(Clone, Copy, PartialEq, Eq, Debug)]
-pub enum Binder {
-    Exists,
-    Forall,
-    Mu,
-    Nu,
-}
-
 /// Why a text was not read.
 #[derive(Drop, Debug)]
 pub enum ReadFault {
-    /// The bytes spell no tree.
-    NotBuilt,
+    /// What is no token, at its byte.
+    Lex(u32),
+    /// The token that fits no case of the grammar, or the end.
+    Syntax(u32),
+    /// The bracket that opens the 501st level.
+    Deep(u32),
     /// Memory was wanting.
     Memory,
 }
@@ -182,5 +163,19 @@ impl<T: Drop> From<AllocFailed<T>> for ReadFault {
 
     fn from(_error: AllocFailed<T>) -> ReadFault {
         ReadFault::Memory
+    }
+}
+
+impl From<TextFault> for ReadFault {
+    ghost use Rattle.kore_ast.specs.Told.{told};
+
+    ghost from_gives = { λ fault given. given ≡ told fault };
+
+    fn from(fault: TextFault) -> ReadFault {
+        match fault {
+            TextFault::Lex(at) => ReadFault::Lex(at),
+            TextFault::Syntax(at) => ReadFault::Syntax(at),
+            TextFault::Deep(at) => ReadFault::Deep(at),
+        }
     }
 }

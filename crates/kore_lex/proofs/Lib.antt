@@ -4,3 +4,6 @@ pub mod Lexing
 pub mod ValueLaws
 pub mod StringLaws
 pub mod Longest
+pub mod WholePieces
+pub mod AllTokens
+pub mod EachToken

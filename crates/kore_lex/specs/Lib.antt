@@ -4,5 +4,6 @@ pub mod Pieces
 pub mod Lexed
 pub mod Tokens
 pub mod Value
+pub mod TokenLaws
 -- What only private functions cite.
 pub mod Steps

@@ -5,7 +5,7 @@ use Rattle.std.specs.Global.{Vec}
 use Rattle.std.specs.Str.{bytes_eq}
 use Rattle.std.proofs.lemmas.Slice.Eq.{bytes_eq-Decides}
 use Rattle.kore_ast.specs.Plain.{plain_sort, plain_pattern}
-use Rattle.kore_ast.specs.Trees.{PatternTree, symbol_applied, no_sorts, no_patterns, sort_trees, pattern_trees}
+use Rattle.kore_text.specs.Trees.{PatternTree, symbol_applied, no_sorts, no_patterns, sort_trees, pattern_trees}
 use Rattle.kore_ast.specs.declared.tree.Sort.{Sort}
 use Rattle.kore_ast.specs.declared.tree.Pat.{Pat}
 use Rattle.kore_ast.specs.declared.tree.PatForm.TheVariants.{App}

@@ -4,14 +4,14 @@ use Rattle.std.specs.List.{filter_map}
 use Rattle.desk_io.specs.Told.{Told, Holds, Lacks, HoldsMore, file_of}
 use Rattle.desk_io.specs.Counts.{Rose}
 use Rattle.term_core.specs.Patterns.{Pattern}
-use Rattle.kore_ast.specs.Trees.{AxiomDeclaration, DefinitionTree, Declaration, PatternTree}
+use Rattle.kore_text.specs.Trees.{AxiomDeclaration, DefinitionTree, Declaration, PatternTree}
 use Rattle.kore_ast.specs.KoreText.{ReadsDefinition, ReadsPattern}
 use Rattle.rule_core.specs.Rules.{RewriteRule}
 use Rattle.rule_core.specs.declared.rules.Program.{Program}
 use Rattle.rule_core.specs.declared.signature.Signature.{Signature}
 use Rattle.kore_prove.specs.Acceptance.{Each, IsRuleOf, IsAccepted, IsStartSort, IsAcceptedTerm, IsSymbolEntry, symbol_declared, axiom_declared, sort_number}
 use Rattle.kore_prove.specs.Runnable.{AcceptsTree}
-use Rattle.kore_prove.specs.Words.{IsRunCommand, IsVerifyCommand, IsNoCommand}
+use Rattle.kore_prove.specs.Words.{proof_words, IsRunCommand, IsVerifyCommand, IsNoCommand}
 use Rattle.kore_prove.specs.Reports.{Ending, out_of_memory, bad_words, read_fault, write_fault, no_such_file, definition_refused, term_refused, too_large, end_code, Reports}
 use Rattle.kore_prove.specs.Causes.{Course, RunCause, Verification, VerifyCause, definition_limit, term_limit, database_limit}
 use Rattle.kore_prove.specs.Readiness.{CanRun, CanVerify, IsReady, IsReadyToVerify}
@@ -72,29 +72,29 @@ not_more told name name' bytes limit same a few b =
 -- the words of a command name its files
 one_command : (words : List (List ℕ)) (definition term definition' term' : List ℕ) (limit limit' : ℕ) → IsRunCommand words definition term limit → IsRunCommand words definition' term' limit' → (definition ≡ definition') × (term ≡ term')
 one_command words definition term definition' term' limit limit' a b =
-    let same : codes "run" ∷ definition ∷ term ∷ codes "--limit" ∷ a.number ∷ [] ≡ codes "run" ∷ definition' ∷ term' ∷ codes "--limit" ∷ b.number ∷ [] = sym a.words_are ∙ b.words_are in
+    let same : codes "run" ∷ definition ∷ term ∷ codes "--limit" ∷ a.1.number ∷ proof_words a.0 ≡ codes "run" ∷ definition' ∷ term' ∷ codes "--limit" ∷ b.1.number ∷ proof_words b.0 = sym a.1.words_are ∙ b.1.words_are in
     let first : definition ≡ definition' = cc in
     let second : term ≡ term' = cc in (first, second)
 
 -- such a call has no end but want of memory
-no_cause : (words : List (List ℕ)) (told : Told) (r : CanRun words told) (c : Course) (limit : ℕ) (e : Ending) → c.told ≡ Some told → IsRunCommand words c.definition c.term limit → (Rose c.reads c.reads' → ⊥) → (Rose c.writes c.writes' → ⊥) → RunCause c e → end_code e ≡ 1
-no_cause words told r c limit out_of_memory is command reads writes h = refl
-no_cause words told r c limit bad_words is command reads writes h = absurd h
-no_cause words told r c limit read_fault is command reads writes h = absurd (reads h)
-no_cause words told r c limit write_fault is command reads writes h = absurd (writes h)
-no_cause words told r c limit (no_such_file name) is command reads writes h =
+no_cause : (words : List (List ℕ)) (told : Told) (r : CanRun words told) (c : Course) (limit : ℕ) (e : Ending) → c.told ≡ Some told → IsRunCommand words c.definition c.term limit → (Rose c.reads c.reads' → ⊥) → (Rose c.files c.files' → ⊥) → (Rose c.writes c.writes' → ⊥) → RunCause c e → end_code e ≡ 1
+no_cause words told r c limit out_of_memory is command reads files writes h = refl
+no_cause words told r c limit bad_words is command reads files writes h = absurd h
+no_cause words told r c limit read_fault is command reads files writes h = absurd (reads h)
+no_cause words told r c limit write_fault is command reads files writes h = absurd (elim h [ inl out ↦ writes out | inr desk ↦ files desk.0 ])
+no_cause words told r c limit (no_such_file name) is command reads files writes h =
     let names = one_command words r.definition r.term c.definition c.term r.limit limit r.command command in
     let lacks : Lacks (Some told) name = subst (λ (o : Option Told). Lacks o name) is h.1 in
     absurd (elim h.0 [
       | inl one ↦ not_lacking told r.definition name r.definition_bytes (names.0 ∙ sym one) r.definition_held lacks
       | inr one ↦ not_lacking told r.term name r.term_bytes (names.1 ∙ sym one) r.term_held lacks
     ])
-no_cause words told r c limit (definition_refused number byte) is command reads writes h =
+no_cause words told r c limit (definition_refused number byte) is command reads files writes h =
     let names = one_command words r.definition r.term c.definition c.term r.limit limit r.command command in
     let held : Holds (Some told) c.definition h.0 = subst (λ (o : Option Told). Holds o c.definition h.0) is h.1 in
     let same = one_content told r.definition c.definition r.definition_bytes h.0 names.0 r.definition_held held in
     absurd (h.2.1 r.tree r.sig r.top r.rules (subst (λ (bytes : List ℕ). ReadsDefinition bytes r.tree) same r.reads) r.accepted)
-no_cause words told r c limit (term_refused number byte) is command reads writes h =
+no_cause words told r c limit (term_refused number byte) is command reads files writes h =
     let names = one_command words r.definition r.term c.definition c.term r.limit limit r.command command in
     let program = h.0 in
     let found = h.1 in
@@ -107,7 +107,7 @@ no_cause words told r c limit (term_refused number byte) is command reads writes
     let same_term = one_content told r.term c.term r.term_bytes h.2 names.1 r.term_held term_held in
     let few = few_symbols found.0 of.0 program (subst (λ (bytes : List ℕ). length bytes ≤ definition_limit) same r.definition_within) of.1 of.2 in
     absurd (h.4.1 few r.term_tree r.start (subst (λ (bytes : List ℕ). ReadsPattern bytes r.term_tree) same_term r.reads_term) (moved_term of.0 r.sig r.top r.rules program r.term_tree r.start accepted of.2 r.accepted_term))
-no_cause words told r c limit (too_large name) is command reads writes h =
+no_cause words told r c limit (too_large name) is command reads files writes h =
     let names = one_command words r.definition r.term c.definition c.term r.limit limit r.command command in
     absurd (elim h [
       | inl big ↦ not_more told r.definition name r.definition_bytes definition_limit (names.0 ∙ sym big.0) r.definition_held r.definition_within (subst (λ (o : Option Told). HoldsMore o name definition_limit) is big.1)
@@ -118,16 +118,16 @@ code_of : (e : Ending) (before after : Option (List ℕ)) (old new code : ℕ) �
 code_of e before after old new code (inl said) one = said.0 ∙ one
 code_of e before after old new code (inr cut) one = cut.0
 
-ended : (words : List (List ℕ)) (told : Option Told) (c : Course) (limit : ℕ) (e : Ending) (before after : Option (List ℕ)) (old new code : ℕ) → c.told ≡ told → IsReady words told → IsRunCommand words c.definition c.term limit → RunCause c e → Reports e before after old new code → (Rose c.reads c.reads' → ⊥) → (Rose c.writes c.writes' → ⊥) → code ≡ 1
-ended words None c limit e before after old new code is ready command cause said reads writes = absurd ready
-ended words (Some told) c limit e before after old new code is ready command cause said reads writes =
-    code_of e before after old new code said (no_cause words told ready c limit e is command reads writes cause)
+ended : (words : List (List ℕ)) (told : Option Told) (c : Course) (limit : ℕ) (e : Ending) (before after : Option (List ℕ)) (old new code : ℕ) → c.told ≡ told → IsReady words told → IsRunCommand words c.definition c.term limit → RunCause c e → Reports e before after old new code → (Rose c.reads c.reads' → ⊥) → (Rose c.files c.files' → ⊥) → (Rose c.writes c.writes' → ⊥) → code ≡ 1
+ended words None c limit e before after old new code is ready command cause said reads files writes = absurd ready
+ended words (Some told) c limit e before after old new code is ready command cause said reads files writes =
+    code_of e before after old new code said (no_cause words told ready c limit e is command reads files writes cause)
 
 -- a call that can run and whose faults did not rise ends by want of memory, if it prints no run
-pub ends_without_memory : (words : List (List ℕ)) (c : Course) (limit : ℕ) (e : Ending) (before after : Option (List ℕ)) (old new code : ℕ) → IsRunCommand words c.definition c.term limit → RunCause c e → Reports e before after old new code → IsReady words c.told → (Rose c.reads c.reads' → ⊥) → (Rose c.writes c.writes' → ⊥)
+pub ends_without_memory : (words : List (List ℕ)) (c : Course) (limit : ℕ) (e : Ending) (before after : Option (List ℕ)) (old new code : ℕ) → IsRunCommand words c.definition c.term limit → RunCause c e → Reports e before after old new code → IsReady words c.told → (Rose c.reads c.reads' → ⊥) → (Rose c.files c.files' → ⊥) → (Rose c.writes c.writes' → ⊥)
     → (code ≡ 0) ⊎ (code ≡ 10) ⊎ (code ≡ 1)
-ends_without_memory words c limit e before after old new code command cause said ready reads writes =
-    inr (inr (ended words c.told c limit e before after old new code refl ready command cause said reads writes))
+ends_without_memory words c limit e before after old new code command cause said ready reads files writes =
+    inr (inr (ended words c.told c limit e before after old new code refl ready command cause said reads files writes))
 
 -- such a call that is to verify has no end but want of memory
 no_verify_cause : (words : List (List ℕ)) (told : Told) (r : CanVerify words told) (v : Verification) (e : Ending) → v.told ≡ Some told → IsVerifyCommand words v.file → (Rose v.reads v.reads' → ⊥) → (Rose v.writes v.writes' → ⊥) → VerifyCause v e → end_code e ≡ 1

@@ -2,10 +2,10 @@
 use Rattle.std.proofs.Common.{◌≡◌, ℕ, ◌+◌, ◌≤◌, List, [], ◌∷◌, length, Option, Some, None, cond, option_map, slice_get, refl, sym, ◌∙◌, ap, subst, arith, zero, suc}
 use Rattle.std.specs.List.{filter_map, position_from}
 use Rattle.std.specs.Str.{bytes_eq}
-use Rattle.kore_ast.specs.Trees.{SortTree, sort_applied, no_sorts, sort_trees}
-use Rattle.kore_ast.specs.Trees.{PatternTree, element_variable, set_variable, string, symbol_applied, connected, binding, domain_value, folded, PatternTrees, no_patterns, pattern_then, pattern_trees}
-use Rattle.kore_ast.specs.Trees.{SortDeclaration, SymbolDeclaration, AxiomDeclaration, Declaration, ModuleTree, DefinitionTree}
-use Rattle.kore_ast.specs.declared.tree.Op.TheVariants.{And, Rewrites}
+use Rattle.kore_text.specs.Trees.{SortTree, sort_applied, no_sorts, sort_trees}
+use Rattle.kore_text.specs.Trees.{PatternTree, element_variable, set_variable, string, symbol_applied, connected, binding, domain_value, folded, PatternTrees, no_patterns, pattern_then, pattern_trees}
+use Rattle.kore_text.specs.Trees.{SortDeclaration, SymbolDeclaration, AxiomDeclaration, Declaration, ModuleTree, DefinitionTree}
+use Rattle.kore_text.specs.declared.names.Op.TheVariants.{And, Rewrites}
 use Rattle.term_core.specs.declared.ids.SortId.{SortId}
 use Rattle.term_core.specs.Patterns.{Pattern, Patterns}
 use Rattle.rule_core.specs.Rules.{RewriteRule}

@@ -36,7 +36,7 @@ pub code_of_no_end : (e : Ending) (before after : Option (List ℕ)) (old new co
 code_of_no_end e before after old new code (inl said) h = no_done_code e code said.0 h
 code_of_no_end e before after old new code (inr cut) h = no_done_code out_of_memory code cut.0 h
 
-code_of_run : (words : List (List ℕ)) (code : ℕ) → IsCodeOfRun words code → (code ≡ 0) ⊎ (code ≡ 10) ⊎ (code ≡ 12)
+pub code_of_run : (words : List (List ℕ)) (code : ℕ) → IsCodeOfRun words code → (code ≡ 0) ⊎ (code ≡ 10) ⊎ (code ≡ 12)
 code_of_run words code (inl ten) = inr (inl ten)
 code_of_run words code (inr zero) = inl zero.0
 

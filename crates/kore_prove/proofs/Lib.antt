@@ -20,3 +20,7 @@ pub mod Pieces
 pub mod Ending
 pub mod Completing
 pub mod Verifying
+pub mod Names
+pub mod ProvedRuns
+pub mod ProvablePrograms
+pub mod Provable

@@ -1,7 +1,7 @@
 -- The declarations of the only module.
 use Rattle.std.proofs.Common.{◌<◌, ◌^◌, List, [], ◌∷◌, All, length, subst, sym}
 use Rattle.std.proofs.lemmas.List.Elements.{All-head, All-same}
-use Rattle.kore_ast.specs.Trees.{Declaration, DefinitionTree}
+use Rattle.kore_text.specs.Trees.{Declaration, DefinitionTree}
 use Rattle.kore_prove.specs.Acceptance.{HasDeclarations}
 use Rattle.kore_prove.specs.Nesting.{IsShallow, IsWithinLimits}
 

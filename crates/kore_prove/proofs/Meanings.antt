@@ -7,7 +7,7 @@ use Rattle.kore_ast.specs.declared.tree.Sort.{Sort}
 use Rattle.kore_ast.specs.declared.tree.Pat.{Pat}
 use Rattle.kore_ast.specs.declared.tree.PatForm.TheVariants.{App}
 use Rattle.kore_ast.specs.Plain.{plain_sort, plain_pattern}
-use Rattle.kore_ast.specs.Trees.{PatternTree, element_variable, set_variable, string, symbol_applied, connected, binding, domain_value, folded, PatternTrees, no_patterns, pattern_then, no_sorts, sort_trees, pattern_trees}
+use Rattle.kore_text.specs.Trees.{PatternTree, element_variable, set_variable, string, symbol_applied, connected, binding, domain_value, folded, PatternTrees, no_patterns, pattern_then, no_sorts, sort_trees, pattern_trees}
 use Rattle.term_core.specs.Patterns.{Pattern, Patterns, application, no_pattern, more_patterns, patterns, instance_of, instances_of}
 use Rattle.term_core.specs.RulePatterns.{plain_pattern as rule_pattern, plain_patterns as rule_patterns}
 use Rattle.term_core.specs.declared.ids.SortId.{SortId}

@@ -1,7 +1,7 @@
 -- A definition declares one signature.
 use Rattle.std.proofs.Common.{◌≡◌, ◌<◌, ◌^◌, ◌⊎◌, ℕ, List, [], ◌∷◌, Option, length, subst, arith, inl, inr}
 use Rattle.std.specs.List.{filter_map}
-use Rattle.kore_ast.specs.Trees.{Declaration, AxiomDeclaration, DefinitionTree}
+use Rattle.kore_text.specs.Trees.{Declaration, AxiomDeclaration, DefinitionTree}
 use Rattle.rule_core.specs.Rules.{RewriteRule}
 use Rattle.rule_core.specs.declared.signature.Signature.{Signature}
 use Rattle.rule_core.specs.declared.signature.SortInfo.{SortInfo}

@@ -39,7 +39,7 @@ printed_run told definition_name term_name limit program start outcome lines p s
 }
 
 -- the second file is that of the first desk too, whose files it kept
-kept_start : (told : Told) (told' : Option Told) (name : List ℕ) (program : Program) (start : Pattern) → KeepsFiles (Some told) told' → HoldsStart told' name program start → HoldsStart (Some told) name program start
+pub kept_start : (told : Told) (told' : Option Told) (name : List ℕ) (program : Program) (start : Pattern) → KeepsFiles (Some told) told' → HoldsStart told' name program start → HoldsStart (Some told) name program start
 kept_start told told' name program start kept s = let P : Option Told → Type 0 = λ o. HoldsStart o name program start in
     let q : HoldsStart (Some (record told { unread = kept.0 })) name program start = subst P kept.1 s in
     (q.0, q.1, q.2)

@@ -5,13 +5,13 @@ use Rattle.kore_prove.proofs.TreesOfForms.{tree-Built}
 use Rattle.kore_ast.specs.declared.tree.PatForm.TheVariants.{Built}
 use Rattle.kore_ast.specs.declared.tree.Sort.{Sort}
 use Rattle.kore_ast.specs.declared.tree.Pat.{Pat}
-use Rattle.kore_ast.specs.declared.tree.Op.{Op}
+use Rattle.kore_text.specs.declared.names.Op.{Op}
 use Rattle.kore_ast.specs.Plain.{plain_sort, plain_pattern}
 use Rattle.std.specs.Global.{Vec}
 use Rattle.std.proofs.lemmas.List.{length-map}
 use Rattle.std.proofs.Common.{◌≡◌, ℕ, ◌≤◌, [], ◌∷◌, ap, arith, List, refl, sym, ◌∙◌, map, length, subst, Option, Some}
-use Rattle.kore_ast.specs.Trees.{PatternTree, connected, sort_trees, pattern_trees, SortTree, AxiomDeclaration}
-use Rattle.kore_ast.specs.declared.tree.Op.TheVariants.{And, Rewrites}
+use Rattle.kore_text.specs.Trees.{PatternTree, connected, sort_trees, pattern_trees, SortTree, AxiomDeclaration}
+use Rattle.kore_text.specs.declared.names.Op.TheVariants.{And, Rewrites}
 use Rattle.rule_core.specs.declared.signature.Signature.{Signature}
 use Rattle.rule_core.specs.declared.signature.SortInfo.{SortInfo}
 use Rattle.term_core.specs.Patterns.{Pattern}

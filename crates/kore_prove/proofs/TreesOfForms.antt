@@ -1,9 +1,9 @@
 -- The tree of a pattern, by its form.
 use Rattle.std.proofs.Common.{◌≡◌, ℕ, List, map, ◌∙◌, ap, sym}
 use Rattle.std.specs.Global.{Vec}
-use Rattle.kore_ast.specs.Trees.{SortTree, sort_applied, PatternTree, symbol_applied, connected, sort_trees, pattern_trees}
+use Rattle.kore_text.specs.Trees.{SortTree, sort_applied, PatternTree, symbol_applied, connected, sort_trees, pattern_trees}
 use Rattle.kore_ast.specs.Plain.{plain_sort, sort_form_step, sort_step, plain_pattern, pattern_form_step, pattern_step}
-use Rattle.kore_ast.specs.declared.tree.Op.{Op}
+use Rattle.kore_text.specs.declared.names.Op.{Op}
 use Rattle.kore_ast.specs.declared.tree.Sort.{Sort}
 use Rattle.kore_ast.specs.declared.tree.SortForm.{SortForm}
 use Rattle.kore_ast.specs.declared.tree.SortForm.TheOpen as sort_layer

@@ -1,12 +1,14 @@
 -- The cause of each end of a call that prints no run. Of a desk that tells nothing only its counts speak.
-use Rattle.std.specs.Prelude.{◌≡◌, ℕ, ◌<◌, ◌^◌, length, ◌⊎◌, List, ◌++◌, Option, None, Some}
-use Rattle.desk_io.specs.Told.{Told, Holds, Lacks, HoldsMore}
+use Rattle.std.specs.Prelude.{◌≡◌, ◌≢◌, ℕ, ◌<◌, ◌^◌, length, ◌⊎◌, List, ◌++◌, Option, None, Some}
+use Rattle.desk_io.specs.Told.{Told, Holds, Lacks, HoldsMore, KeepsFiles}
 use Rattle.desk_io.specs.Sent.{SameBytes}
 use Rattle.desk_io.specs.Counts.{Rose}
+use Rattle.desk_io.specs.declared.desk.DeskFault.{DeskFault}
+use Rattle.desk_io.specs.declared.desk.DeskFault.TheVariants as fault
 use Rattle.desk_io.specs.declared.read.ReadEnd.{ReadEnd}
 use Rattle.desk_io.specs.declared.read.ReadEnd.TheVariants as read
 use Rattle.term_core.specs.Patterns.{Pattern}
-use Rattle.kore_ast.specs.Trees.{PatternTree, DefinitionTree}
+use Rattle.kore_text.specs.Trees.{PatternTree, DefinitionTree}
 use Rattle.kore_ast.specs.KoreText.{ReadsPattern, ReadsDefinition}
 use Rattle.rule_core.specs.Rules.{RewriteRule}
 use Rattle.rule_core.specs.declared.rules.Program.{Program}
@@ -17,7 +19,7 @@ use Rattle.kore_prove.specs.declared.files.FileEnd.TheVariants as file
 use Rattle.kore_prove.specs.Acceptance.{IsAccepted, IsAcceptedTerm, sort_number}
 use Rattle.kore_text.specs.Faults.{IsDefinition, IsPattern}
 use Rattle.kore_prove.specs.Refusals.{IsRefusal}
-use Rattle.kore_prove.specs.Files.{HoldsProgram}
+use Rattle.kore_prove.specs.Files.{HoldsProgram, HoldsStart}
 use Rattle.kore_prove.specs.Words.{IsRunCommand, IsVerifyCommand, IsNoCommand}
 use Rattle.kore_prove.specs.Reports.{Ending, out_of_memory, bad_words, read_fault, write_fault, no_such_file, definition_refused, term_refused, too_large, Reports}
 
@@ -59,23 +61,29 @@ FileCause IsWhy told name limit reads reads' (file.Refused (refusal.Refused numb
     (bytes : List ℕ) × Holds told name bytes × IsWhy bytes number byte
 FileCause IsWhy told name limit reads reads' (file.Refused refusal.Memory) = Unit {0}
 
--- What is known of a run command whose files have these names: what the desk told at first, and the counts of its faults
--- and of the output's before and after.
+-- What is known of a run command whose files have these names: what the desk told at first, and the counts of its faults in
+-- reading and in writing, and of the output's, before and after.
 pub record Course : Type 0 where
   pub definition : List ℕ
   pub term : List ℕ
   pub told : Option Told
   pub reads : ℕ
   pub reads' : ℕ
+  pub files : ℕ
+  pub files' : ℕ
   pub writes : ℕ
   pub writes' : ℕ
+
+-- both files were read and accepted
+abbrev pub HasRun : Course → Type 0
+HasRun c = (program : Program) × HoldsProgram c.told c.definition program × ((start : Pattern) × HoldsStart c.told c.term program start)
 
 -- the end of such a command has its cause
 abbrev pub RunCause : Course → Ending → Type 0
 RunCause c out_of_memory = Unit {0}
 RunCause c bad_words = ⊥
 RunCause c read_fault = Rose c.reads c.reads'
-RunCause c write_fault = Rose c.writes c.writes'
+RunCause c write_fault = Rose c.writes c.writes' ⊎ (Rose c.files c.files' × HasRun c)
 RunCause c (no_such_file name) = ((name ≡ c.definition) ⊎ (name ≡ c.term)) × Lacks c.told name
 RunCause c (definition_refused number byte) =
     (bytes : List ℕ) × Holds c.told c.definition bytes × IsRefusedDefinition bytes number byte
@@ -128,13 +136,36 @@ KeepsOutput (definition_refused number byte) before after = SameBytes before aft
 KeepsOutput (term_refused number byte) before after = SameBytes before after
 KeepsOutput (too_large name) before after = SameBytes before after
 
--- What is known of a call: its words; what the desk told at first; the counts of faults of the desk, of the output and of
--- the error stream before and after; and what the two streams told before and after.
+-- The desk's files are as before, but where they could not be written or memory was wanting: then the file of a proof may have
+-- been created.
+abbrev pub KeepsFilesAt : Ending → Option Told → Option Told → Type 0
+KeepsFilesAt out_of_memory old new = Unit {0}
+KeepsFilesAt bad_words old new = KeepsFiles old new
+KeepsFilesAt read_fault old new = KeepsFiles old new
+KeepsFilesAt write_fault old new = Unit {0}
+KeepsFilesAt (no_such_file name) old new = KeepsFiles old new
+KeepsFilesAt (definition_refused number byte) old new = KeepsFiles old new
+KeepsFilesAt (term_refused number byte) old new = KeepsFiles old new
+KeepsFilesAt (too_large name) old new = KeepsFiles old new
+
+-- the exit codes of calls that write no file
+abbrev pub IsUnwritten : ℕ → Type 0
+IsUnwritten code = (code ≢ 0) × (code ≢ 1) × (code ≢ 4) × (code ≢ 10)
+
+-- the end of a call that could not write
+abbrev pub fault_end : DeskFault → Ending
+fault_end fault.Failed = write_fault
+fault_end fault.Memory = out_of_memory
+
+-- What is known of a call: its words; what the desk told at first; the counts of faults of the desk in reading and in
+-- writing, of the output and of the error stream before and after; and what the two streams told before and after.
 pub record Call : Type 0 where
   pub words : List (List ℕ)
   pub told : Option Told
   pub reads : ℕ
   pub reads' : ℕ
+  pub files : ℕ
+  pub files' : ℕ
   pub writes : ℕ
   pub writes' : ℕ
   pub output : Option (List ℕ)
@@ -152,6 +183,8 @@ course_of c definition term = record {
   told = c.told;
   reads = c.reads;
   reads' = c.reads';
+  files = c.files;
+  files' = c.files';
   writes = c.writes;
   writes' = c.writes';
 }

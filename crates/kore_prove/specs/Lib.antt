@@ -10,3 +10,7 @@ pub mod Reports
 pub mod Causes
 pub mod Readiness
 pub mod Verdicts
+pub mod Provable
+pub mod ProvedRun
+pub mod ProofFiles
+pub mod Names

@@ -2,7 +2,7 @@
 use Rattle.std.specs.Prelude.{◌≡◌, ℕ, List, [], ◌++◌, Option, Some, None, ◌⊎◌}
 use Rattle.term_core.specs.Terms.{Tree}
 use Rattle.term_core.specs.Patterns.{Pattern, instance_of}
-use Rattle.kore_ast.specs.Trees.{PatternTree, DefinitionTree}
+use Rattle.kore_text.specs.Trees.{PatternTree, DefinitionTree}
 use Rattle.kore_ast.specs.KoreText.{ReadsPattern, ReadsDefinition}
 use Rattle.desk_io.specs.Told.{Told, file_of}
 use Rattle.rule_core.specs.declared.signature.Signature.{Signature}

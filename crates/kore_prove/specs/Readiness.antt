@@ -2,7 +2,7 @@
 use Rattle.std.specs.Prelude.{ℕ, ◌≤◌, List, length, Option, Some, None}
 use Rattle.desk_io.specs.Told.{Told, Holds}
 use Rattle.term_core.specs.Patterns.{Pattern}
-use Rattle.kore_ast.specs.Trees.{PatternTree, DefinitionTree}
+use Rattle.kore_text.specs.Trees.{PatternTree, DefinitionTree}
 use Rattle.kore_ast.specs.KoreText.{ReadsPattern, ReadsDefinition}
 use Rattle.rule_core.specs.Rules.{RewriteRule}
 use Rattle.rule_core.specs.declared.signature.Signature.{Signature}

@@ -4,6 +4,8 @@ use Rattle.kore_text.specs.declared.faults.TextFault.{TextFault}
 use Rattle.kore_text.specs.declared.faults.TextFault.TheVariants.{Lex, Syntax, Deep}
 use Rattle.kore_text.specs.TokenStream.{Stream, tokens_of}
 use Rattle.kore_text.specs.Faults.{IsFirstFault}
+use Rattle.kore_ast.specs.declared.tree.ReadFault.{ReadFault}
+use Rattle.kore_ast.specs.declared.tree.ReadFault.TheVariants as read_fault
 use Rattle.kore_prove.specs.declared.accept.Refusal.{Refusal}
 use Rattle.kore_prove.specs.declared.accept.Refusal.TheVariants.{Refused, Memory}
 
@@ -37,3 +39,10 @@ AtNumber Memory P = Unit {0}
 abbrev pub OnNumber : {X : Type 0} → Result X Refusal → (ℕ → ℕ → Type 0) → Type 0
 OnNumber (Ok x) P = Unit {0}
 OnNumber (Err e) P = AtNumber e P
+
+-- the refusal of a text that was not read, by its fault: cited by the clause of a private function alone
+abbrev pub refused_by : ReadFault → Refusal
+refused_by (read_fault.Lex at) = Refused 1 at
+refused_by (read_fault.Syntax at) = Refused 2 at
+refused_by (read_fault.Deep at) = Refused 3 at
+refused_by read_fault.Memory = Memory

@@ -1,5 +1,5 @@
 -- The words of the command line.
-use Rattle.std.specs.Prelude.{◌≡◌, ℕ, ◌+◌, ◌-◌, ◌*◌, ◌≤◌, List, [], ◌∷◌, length, All, fold, codes}
+use Rattle.std.specs.Prelude.{◌≡◌, ℕ, ◌+◌, ◌-◌, ◌*◌, ◌≤◌, List, [], ◌∷◌, length, All, fold, codes, Option, Some, None, option_copied}
 use Rattle.kore_prove.specs.declared.words.Command.{Command}
 use Rattle.kore_prove.specs.declared.words.Command.TheVariants as command
 
@@ -19,11 +19,24 @@ pub record IsLimit (word : List ℕ) (limit : ℕ) : Type 0 where
   pub value : limit ≡ number_written word
   pub bounded : limit ≤ 1000000
 
--- the words are `run DEF TERM --limit N`, in this order
-pub record IsRunCommand (words : List (List ℕ)) (definition term : List ℕ) (limit : ℕ) : Type 0 where
+-- the words that name the file of a proof, where one is wanted: `--proof FILE`
+abbrev pub proof_words : Option (List ℕ) → List (List ℕ)
+proof_words None = []
+proof_words (Some file) = codes "--proof" ∷ file ∷ []
+
+-- the words are `run DEF TERM --limit N`, in this order, and `--proof FILE` behind them where a proof is wanted
+pub record IsRun (words : List (List ℕ)) (definition term : List ℕ) (limit : ℕ) (proof : Option (List ℕ)) : Type 0 where
   pub number : List ℕ
-  pub words_are : words ≡ codes "run" ∷ definition ∷ term ∷ codes "--limit" ∷ number ∷ []
+  pub words_are : words ≡ codes "run" ∷ definition ∷ term ∷ codes "--limit" ∷ number ∷ proof_words proof
   pub is_limit : IsLimit number limit
+
+-- the words are such a command, with a proof or without
+abbrev pub IsRunCommand : List (List ℕ) → List ℕ → List ℕ → ℕ → Type 0
+IsRunCommand words definition term limit = (proof : Option (List ℕ)) × IsRun words definition term limit proof
+
+-- the words are such a command, whose proof goes to this file
+abbrev pub IsProofCommand : List (List ℕ) → List ℕ → Type 0
+IsProofCommand words file = (definition : List ℕ) × (term : List ℕ) × (limit : ℕ) × IsRun words definition term limit (Some file)
 
 -- the words are `verify FILE`
 abbrev pub IsVerifyCommand : List (List ℕ) → List ℕ → Type 0
@@ -40,5 +53,5 @@ pub record IsNoCommand (words : List (List ℕ)) : Type 0 where
 
 -- the words name this command
 abbrev pub NamesCommand : List (List ℕ) → Command → Type 0
-NamesCommand words (command.Run run) = IsRunCommand words run.definition.now run.term.now run.limit
+NamesCommand words (command.Run run) = IsRun words run.definition.now run.term.now run.limit (option_copied run.proof)
 NamesCommand words (command.Verify file) = IsVerifyCommand words file.now

@@ -1,20 +1,18 @@
 // Acceptance: from the tree of a definition to its program, and from the tree of a term to its pattern.
-ghost use Rattle.kore_prove.specs.declared.accept.Refusal.TheVariants.{Refused, Memory};
-ghost use Rattle.kore_ast.specs.declared.tree.ReadFault.TheVariants.{NotBuilt, Memory as OutOfMemory};
+ghost use Rattle.kore_prove.specs.declared.accept.Refusal.TheVariants.{Memory};
 ghost use Rattle.std.specs.Prelude.{◌≡◌, ◌<◌, ◌≤◌, ◌^◌, ◌↔◌, ℕ, List, Option, length, All, IsTrue, OnOk, IfOk, IfSome, IfNone, map};
 ghost use Rattle.std.specs.List.Sorted.{IsPermutation};
 ghost use Rattle.kore_ast.specs.Plain.{plain_definition, plain_module, plain_declaration, plain_pattern};
 ghost use Rattle.rule_core.specs.ProgramView.{rewrite_rules};
 ghost use Rattle.rule_core.specs.Trial.{IsInTrialOrder};
 ghost use Rattle.term_core.specs.RulePatterns.{plain_pattern as rule_pattern};
-ghost use Rattle.kore_ast.specs.Trees.{Declaration, ModuleTree, DefinitionTree, PatternTree};
-ghost use Rattle.kore_ast.specs.KoreText.{ReadsDefinition, ReadsPattern};
+ghost use Rattle.kore_text.specs.Trees.{Declaration, ModuleTree};
 ghost use Rattle.rule_core.specs.Rules.{RewriteRule};
 ghost use Rattle.term_core.specs.Patterns.{Pattern};
-ghost use Rattle.kore_prove.specs.Refusals.{OnRefused, AtNumber, OnNumber, IsNumbered, IsRefusal};
+ghost use Rattle.kore_prove.specs.Refusals.{OnRefused, OnNumber, refused_by};
 ghost use Rattle.kore_prove.specs.Causes.{IsRefusedDefinition, IsRefusedTerm};
-ghost use Rattle.kore_text.specs.Faults.{IsDefinition, IsPattern};
 ghost use Rattle.kore_prove.specs.Acceptance.{IsAccepted, IsAcceptedTerm, HasDeclarations, IsOnlyModule, IsStartSort, IsBuilt, sort_number};
+ghost use Rattle.kore_prove.specs.Names.{HasPlainNames};
 ghost use Rattle.kore_prove.specs.Nesting.{nesting, IsWithinLimits, HasFewNames};
 ghost use Rattle.kore_prove.specs.Runnable.{AcceptsTree, AcceptsPattern, IsProgramOf, IsStartOf, HasUsualPriority};
 
@@ -22,7 +20,7 @@ use crate::axioms::{declared_rules, first_rule_sort};
 use crate::declared::{declared_sorts, declared_symbols};
 use crate::meaning::meaning;
 use kore_ast::{Decl, Definition, Module, Pat, ReadFault, read_definition, read_pattern};
-use kore_text::{TextFault, definition_fault, pattern_fault};
+use kore_text::{name_laws, text_laws};
 use rule_core::{Program, Rule, Signature};
 use std::alloc::{AllocError, AllocFailed, Global};
 use term_core::{RulePat, SortId};
@@ -58,17 +56,20 @@ impl<T: Drop> From<AllocFailed<T>> for Refusal {
 /// The program of a definition. A text with a fault is refused by the number of the first, 1 for one
 /// of its tokens, 2 for one of its grammar, 3 for too many open brackets, and its byte. `Refused(90, 0)`
 /// comes where the text has no fault and is no definition that is accepted, which `ReadsDefinition` and
-/// `IsAccepted` state; `Memory` where memory was wanting.
+/// `IsAccepted` state; `Memory` where memory was wanting. The names of sorts and symbols have only
+/// printable bytes, and no `$` (clause `names`).
 pub fn accept(alloc: Global, bytes: &[u8]) -> Result<Program, Refusal>
     requires { length bytes.now < 2 ^ 32 }
     ensures program { IfOk result (IsProgramOf bytes.now) }
     ensures few { IfOk result (λ program. HasFewNames program.sig) }
+    ensures names { IfOk result (λ program. HasPlainNames program.sig) }
     ensures refused { OnNumber result (IsRefusedDefinition bytes.now) }
 {
-    match accept_definition_text(alloc, bytes) {
-        Ok(program) => Ok(program),
-        Err(Refusal::Memory) => Err(Refusal::Memory),
-        Err(Refusal::Refused(..)) => Err(definition_refusal(alloc, bytes)),
+    text_laws();
+    name_laws();
+    match read_definition(alloc, bytes) {
+        Ok(definition) => accept_definition(alloc, &definition),
+        Err(fault) => Err(refusal_of(fault)),
     }
 }
 
@@ -80,69 +81,22 @@ pub fn accept_term(alloc: Global, program: &Program, bytes: &[u8]) -> Result<Rul
     ensures start { IfOk result (λ start. IsStartOf bytes.now program.now (rule_pattern start)) }
     ensures refused { OnNumber result (IsRefusedTerm program.now bytes.now) }
 {
-    match accept_term_text(alloc, program, bytes) {
-        Ok(start) => Ok(start),
-        Err(Refusal::Memory) => Err(Refusal::Memory),
-        Err(Refusal::Refused(..)) => Err(term_refusal(alloc, bytes)),
-    }
-}
-
-/// How a text is refused that is no accepted definition.
-fn definition_refusal(alloc: Global, bytes: &[u8]) -> Refusal
-    requires { length bytes.now < 2 ^ 32 }
-    ensures { AtNumber result (IsRefusal IsDefinition bytes.now) }
-{
-    match definition_fault(alloc, bytes) {
-        Ok(fault) => numbered(fault),
-        Err(_) => Refusal::Memory,
-    }
-}
-
-/// How a text is refused that is no accepted term.
-fn term_refusal(alloc: Global, bytes: &[u8]) -> Refusal
-    requires { length bytes.now < 2 ^ 32 }
-    ensures { AtNumber result (IsRefusal IsPattern bytes.now) }
-{
-    match pattern_fault(alloc, bytes) {
-        Ok(fault) => numbered(fault),
-        Err(_) => Refusal::Memory,
-    }
-}
-
-/// The refusal by the first fault of a text.
-fn numbered(fault: Option<TextFault>) -> Refusal
-    ensures { AtNumber result (IsNumbered fault) }
-{
-    match fault {
-        None => NOT_BUILT,
-        Some(TextFault::Lex(at)) => Refusal::Refused(1, at),
-        Some(TextFault::Syntax(at)) => Refusal::Refused(2, at),
-        Some(TextFault::Deep(at)) => Refusal::Refused(3, at),
-    }
-}
-
-/// The program of a definition that is accepted.
-fn accept_definition_text(alloc: Global, bytes: &[u8]) -> Result<Program, Refusal>
-    requires { length bytes.now < 2 ^ 32 }
-    ensures program { IfOk result (IsProgramOf bytes.now) }
-    ensures few { IfOk result (λ program. HasFewNames program.sig) }
-    ensures refused { OnRefused result ((definition : DefinitionTree) (sig : Signature) (top : Option ℕ) (rules : List RewriteRule) → ReadsDefinition bytes.now definition → IsAccepted definition sig top rules → ⊥) }
-{
-    match read_definition(alloc, bytes) {
-        Ok(definition) => accept_definition(alloc, &definition),
-        Err(fault) => Err(refusal_of(fault)),
-    }
-}
-
-/// The pattern of a term that is accepted.
-fn accept_term_text(alloc: Global, program: &Program, bytes: &[u8]) -> Result<RulePat, Refusal>
-    requires { length bytes.now < 2 ^ 32 }
-    ensures start { IfOk result (λ start. IsStartOf bytes.now program.now (rule_pattern start)) }
-    ensures refused { OnRefused result (length program.now.sig.symbols < 2 ^ 32 → (tree : PatternTree) (start : Pattern) → ReadsPattern bytes.now tree → IsAcceptedTerm program.now.sig (sort_number program.now.top) tree start → ⊥) }
-{
+    text_laws();
     match read_pattern(alloc, bytes) {
         Ok(pat) => accept_pattern(alloc, program, &pat),
         Err(fault) => Err(refusal_of(fault)),
+    }
+}
+
+/// The refusal of a text with a fault.
+fn refusal_of(fault: ReadFault) -> Refusal
+    ensures { result ≡ refused_by fault }
+{
+    match fault {
+        ReadFault::Lex(at) => Refusal::Refused(1, at),
+        ReadFault::Syntax(at) => Refusal::Refused(2, at),
+        ReadFault::Deep(at) => Refusal::Refused(3, at),
+        ReadFault::Memory => Refusal::Memory,
     }
 }
 
@@ -167,17 +121,6 @@ fn is_start_sort(top: Option<SortId>, sort: SortId) -> bool
     match top {
         Some(top) => top == sort,
         None => true,
-    }
-}
-
-/// The refusal of what was not read.
-fn refusal_of(fault: ReadFault) -> Refusal
-    ensures not_built { fault ≡ NotBuilt → result ≡ Refused 90 0 }
-    ensures memory { fault ≡ OutOfMemory → result ≡ Memory }
-{
-    match fault {
-        ReadFault::NotBuilt => NOT_BUILT,
-        ReadFault::Memory => Refusal::Memory,
     }
 }
 

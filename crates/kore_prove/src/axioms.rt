@@ -2,7 +2,7 @@
 ghost use Rattle.std.specs.Prelude.{◌≡◌, ◌<◌, ◌≤◌, ◌^◌, ◌↔◌, ◌⊎◌, ℕ, List, Option, Some, None, All, OnOk, ◌++◌, ◌∷◌, [], length, IfOk, IfSome, IfNone, IsTrue, map};
 ghost use Rattle.std.specs.List.{filter_map};
 ghost use Rattle.kore_ast.specs.Plain.{plain_declaration, plain_axiom_decl, plain_pattern, plain_sort};
-ghost use Rattle.kore_ast.specs.Trees.{SortTree, sort_trees, PatternTree, connected, pattern_trees};
+ghost use Rattle.kore_text.specs.Trees.{SortTree, sort_trees, PatternTree, connected, pattern_trees};
 ghost use Rattle.rule_core.specs.Rules.{RewriteRule};
 ghost use Rattle.rule_core.specs.ProgramView.{rewrite_rule};
 ghost use Rattle.term_core.specs.Patterns.{Pattern};

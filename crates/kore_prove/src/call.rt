@@ -1,10 +1,10 @@
 // The top call: words, files, the run and its lines, the verdict.
-ghost use Rattle.std.specs.Prelude.{◌≡◌, IsFalse, List, ℕ, Option, ◌≤◌, ◌^◌, [], Some, All, IfOk, IfErr, ◌⊎◌, map, string_bytes, ◌≢◌};
+ghost use Rattle.std.specs.Prelude.{◌≡◌, IsFalse, List, ℕ, Option, ◌≤◌, ◌^◌, [], Some, All, IfOk, IfErr, ◌⊎◌, map, option_copied, string_bytes, ◌≢◌};
 ghost use Rattle.term_core.specs.Patterns.{instance_of, FitsWithin};
 ghost use Rattle.term_core.specs.RulePatterns.{plain_pattern};
 ghost use Rattle.desk_io.specs.Counts.{Rose};
 ghost use Rattle.desk_io.specs.Told.{KeepsFiles};
-ghost use Rattle.kore_prove.specs.Causes.{Course, definition_limit, term_limit, FileCause, IsRefusedDefinition, IsRefusedTerm, Ends, RunCause, KeepsOutput};
+ghost use Rattle.kore_prove.specs.Causes.{Course, definition_limit, term_limit, FileCause, IsRefusedDefinition, IsRefusedTerm, Ends, RunCause, KeepsOutput, KeepsFilesAt, IsUnwritten, fault_end};
 ghost use Rattle.kore_prove.specs.Files.{HoldsProgram};
 ghost use Rattle.rule_core.specs.declared.rules.Program.{Program};
 ghost use Rattle.kore_prove.specs.Readiness.{IsReady, IsReadyToVerify};
@@ -15,20 +15,19 @@ ghost use Rattle.rule_core.specs.ProgramView.{rewrite_rules};
 ghost use Rattle.kore_prove.specs.PrintedRun.{PrintsRun, PrintsRunOf, HasLines, code_of};
 ghost use Rattle.kore_prove.specs.Lines.{run_of};
 ghost use Rattle.kore_prove.specs.Verdicts.{PrintsVerdict};
-ghost use Rattle.kore_prove.specs.Words.{IsNoCommand};
+ghost use Rattle.kore_prove.specs.ProvedRun.{ProvesRun, ProvesRunOf, KeepsOthers, IsWanted};
+ghost use Rattle.kore_prove.specs.Words.{IsNoCommand, IsProofCommand};
 ghost use Rattle.term_core.specs.Terms.{Tree};
 
 use crate::accept::Refusal;
 use crate::files::{FileEnd, read_program, read_start};
-use crate::lines::run_lines;
+use crate::proof_file::made_lines;
 use crate::report::{End, send_report};
-use crate::run::run;
 use crate::verification::verify_command;
 use crate::words::{Command, RunWords, read_words};
 use desk_io::{Desk, DeskFault, ReadEnd, Sink, send_whole};
-use rule_core::{Outcome, Program};
-use std::alloc::{AllocError, Global};
-use term_core::{RulePat, Subst, Term, instance};
+use rule_core::Outcome;
+use std::alloc::Global;
 
 /// How a call ended: the exit code of the program.
 #[derive(Clone, Copy, PartialEq, Eq, Debug)]
@@ -36,8 +35,8 @@ pub struct Status {
     pub code: u8,
 }
 
-/// Does what the words name: reads its files from the desk, and runs the term and prints the two
-/// lines of the run to `out`, or verifies the database and prints the line of the verdict. Where it
+/// Does what the words name: reads its files from the desk, runs the term, writes the proof of the run
+/// to its file where one is named, and prints the two lines of the run to `out`; or verifies the database and prints the line of the verdict. Where it
 /// does not come to that, `err` gets one line that says why. The status has the exit code: 0 where
 /// the run is stuck, 10 where it reached its limit; 0 where the database is valid, 12 where it is not.
 pub fn kore_main<D: Desk, O: Sink, E: Sink>(
@@ -50,6 +49,8 @@ pub fn kore_main<D: Desk, O: Sink, E: Sink>(
     requires none_created { IsFalse (D.created desk.old) }
     ensures printed_run { PrintsRun
         (map string_bytes words.now) (D.told desk.old) (O.bytes out.old) (O.bytes out.new) result.code }
+    ensures proved_run { ProvesRun
+        (map string_bytes words.now) (D.told desk.old) (D.told desk.new) (O.bytes out.old) (O.bytes out.new) result.code }
     ensures verdict { PrintsVerdict
         (map string_bytes words.now) (D.told desk.old) (O.bytes out.old) (O.bytes out.new) result.code }
     ensures ends { Ends (record {
@@ -57,6 +58,8 @@ pub fn kore_main<D: Desk, O: Sink, E: Sink>(
       told = D.told desk.old;
       reads = D.read_faults desk.old;
       reads' = D.read_faults desk.new;
+      files = D.write_faults desk.old;
+      files' = D.write_faults desk.new;
       writes = O.faults out.old;
       writes' = O.faults out.new;
       output = O.bytes out.old;
@@ -68,6 +71,7 @@ pub fn kore_main<D: Desk, O: Sink, E: Sink>(
     }) result.code }
     ensures complete { IsReady (map string_bytes words.now) (D.told desk.old)
         → (Rose (D.read_faults desk.old) (D.read_faults desk.new) → ⊥)
+        → (Rose (D.write_faults desk.old) (D.write_faults desk.new) → ⊥)
         → (Rose (O.faults out.old) (O.faults out.new) → ⊥)
         → (result.code ≡ 0) ⊎ (result.code ≡ 10) ⊎ (result.code ≡ 1) }
     ensures complete_verdict { IsReadyToVerify (map string_bytes words.now) (D.told desk.old)
@@ -75,7 +79,8 @@ pub fn kore_main<D: Desk, O: Sink, E: Sink>(
         → (Rose (O.faults out.old) (O.faults out.new) → ⊥)
         → (result.code ≡ 0) ⊎ (result.code ≡ 12) ⊎ (result.code ≡ 1) }
     ensures bad_words { IsNoCommand (map string_bytes words.now) → (result.code ≡ 2) ⊎ (result.code ≡ 1) }
-    ensures files { KeepsFiles (D.told desk.old) (D.told desk.new) }
+    ensures others { KeepsOthers (IsProofCommand (map string_bytes words.now)) (D.told desk.old) (D.told desk.new) }
+    ensures files { IsUnwritten result.code → KeepsFiles (D.told desk.old) (D.told desk.new) }
     ensures created { D.created desk.new ≡ D.created desk.old }
 {
     match read_words(words) {
@@ -122,28 +127,37 @@ fn report<E: Sink>(err: &mut E, end: &End) -> Status
     }
 }
 
-/// Runs the term of the one file by the definition of the other, and prints the lines of the run.
+/// Runs the term of the one file by the definition of the other, writes the proof of the run where one
+/// is wanted, and prints the lines of the run.
 fn run_command<'a, D: Desk, O: Sink>(
     alloc: Global,
     command: &RunWords<'a>,
     desk: &mut D,
     out: &mut O,
 ) -> Result<Outcome, End<'a>>
+    requires none_created { IsFalse (D.created desk.old) }
     ensures printed { IfOk result (PrintsRunOf
         command.now.definition.now command.now.term.now command.now.limit
         (D.told desk.old) (O.bytes out.old) (O.bytes out.new)) }
+    ensures proved { IfOk result (ProvesRunOf (option_copied command.now.proof)
+        command.now.definition.now command.now.term.now command.now.limit
+        (D.told desk.old) (D.told desk.new) (O.bytes out.old) (O.bytes out.new)) }
     ensures cause { IfErr result (λ end. RunCause (record {
       definition = command.now.definition.now;
       term = command.now.term.now;
       told = D.told desk.old;
       reads = D.read_faults desk.old;
       reads' = D.read_faults desk.new;
+      files = D.write_faults desk.old;
+      files' = D.write_faults desk.new;
       writes = O.faults out.old;
       writes' = O.faults out.new;
     }) (plain_end end)) }
     ensures output { IfErr result (λ end.
         KeepsOutput (plain_end end) (O.bytes out.old) (O.bytes out.new)) }
-    ensures files { KeepsFiles (D.told desk.old) (D.told desk.new) }
+    ensures others { KeepsOthers (IsWanted (option_copied command.now.proof)) (D.told desk.old) (D.told desk.new) }
+    ensures files { IfErr result (λ end.
+        KeepsFilesAt (plain_end end) (D.told desk.old) (D.told desk.new)) }
     ensures created { D.created desk.new ≡ D.created desk.old }
 {
     let program = match read_program(alloc, desk, command.definition) {
@@ -154,43 +168,24 @@ fn run_command<'a, D: Desk, O: Sink>(
         Ok(start) => start,
         Err(end) => return Err(term_end(end, command.term)),
     };
-    let lines = match lines_of_run(alloc, &program, &start, command.limit) {
+    let lines = match made_lines(alloc, desk, &program, &start, command.limit, command.proof) {
         Ok(lines) => lines,
-        Err(_) => return Err(End::OutOfMemory),
+        Err(fault) => return Err(write_end(fault)),
     };
     match send_whole(out, &lines.1) {
         Ok(()) => Ok(lines.0),
-        Err(DeskFault::Failed) => Err(End::WriteFault),
-        Err(DeskFault::Memory) => Err(End::OutOfMemory),
+        Err(fault) => Err(write_end(fault)),
     }
 }
 
-/// How the run of a start ends, and its two lines.
-fn lines_of_run(
-    alloc: Global,
-    program: &Program,
-    start: &RulePat,
-    limit: u32,
-) -> Result<(Outcome, Vec<u8>), AllocError>
-    requires in_order { IsInTrialOrder (rewrite_rules program.now.rules.items) }
-    requires runnable { All (IsRunnable program.now.sig.symbols) program.now.rules.items }
-    requires showable { IsShowable program.now.sig.symbols (plain_pattern start.now) }
-    ensures run { IfOk result (λ r.
-        HasLines program.now (plain_pattern start.now) limit r.0 r.1.items) }
+/// The end of a call that could not write.
+fn write_end<'a>(fault: DeskFault) -> End<'a>
+    ensures { plain_end result ≡ fault_end fault }
 {
-    let term = start_term(alloc, start)?;
-    let (outcome, last) = run(alloc, program, term, limit)?;
-    let lines = run_lines(alloc, &program.sig.symbols, outcome, &last)?;
-    Ok((outcome, lines))
-}
-
-/// The term that a start without variables is.
-fn start_term(alloc: Global, start: &RulePat) -> Result<Term, AllocError>
-    requires { FitsWithin 500 [] (plain_pattern start.now) }
-    ensures { IfOk result (λ t. instance_of [] (plain_pattern start.now) ≡ Some t) }
-{
-    let subst = Subst::new(alloc, 0)?;
-    instance(alloc, start, &subst)
+    match fault {
+        DeskFault::Failed => End::WriteFault,
+        DeskFault::Memory => End::OutOfMemory,
+    }
 }
 
 /// The end of a call whose definition was not read or not accepted.

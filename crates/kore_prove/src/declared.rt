@@ -4,7 +4,7 @@ ghost use Rattle.rule_core.specs.Named.{number_of, names_of, AreDistinct};
 ghost use Rattle.kore_prove.specs.Refusals.{OnRefused};
 ghost use Rattle.std.specs.List.{filter_map};
 ghost use Rattle.kore_ast.specs.Plain.{plain_declaration, plain_sort, plain_sort_decl, plain_symbol_decl, plain_pattern};
-ghost use Rattle.kore_ast.specs.Trees.{symbol_applied, no_sorts, no_patterns};
+ghost use Rattle.kore_text.specs.Trees.{symbol_applied, no_sorts, no_patterns};
 ghost use Rattle.rule_core.specs.declared.signature.SymKind.TheVariants.{Ctor};
 ghost use Rattle.rule_core.specs.declared.signature.SortRef.TheVariants.{Sort as of_sort};
 ghost use Rattle.kore_prove.specs.Acceptance.{Each, IsSortEntry, IsSymbolEntry, sort_declared, symbol_declared, IsConstructorAlone, NamesSort, NamesSortOf};

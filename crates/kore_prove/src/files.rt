@@ -4,6 +4,7 @@ ghost use Rattle.desk_io.specs.Told.{KeepsFiles};
 ghost use Rattle.term_core.specs.RulePatterns.{plain_pattern};
 ghost use Rattle.kore_prove.specs.Causes.{FileCause, IsRefusedDefinition, IsRefusedTerm};
 ghost use Rattle.kore_prove.specs.Files.{HoldsProgram, HoldsStart};
+ghost use Rattle.kore_prove.specs.Names.{HasPlainNames};
 
 use crate::accept::{Refusal, accept, accept_term};
 use desk_io::{Desk, ReadEnd, read_file};
@@ -26,12 +27,15 @@ pub enum FileEnd {
     Refused(Refusal),
 }
 
-/// The program that the file of that name holds.
+/// The program that the file of that name holds. Its names of sorts and symbols have only printable bytes, and no `$`
+/// (clause `names`).
 pub fn read_program<D: Desk>(alloc: Global, desk: &mut D, name: &str) -> Result<Program, FileEnd>
     ensures found { IfOk result (HoldsProgram (D.told desk.old) name.now) }
+    ensures names { IfOk result (λ program. HasPlainNames program.sig) }
     ensures cause { IfErr result (FileCause IsRefusedDefinition
         (D.told desk.old) name.now DEFINITION_LIMIT (D.read_faults desk.old) (D.read_faults desk.new)) }
     ensures counts { D.read_faults desk.old ≤ D.read_faults desk.new }
+    ensures writes { D.write_faults desk.new ≡ D.write_faults desk.old }
     ensures files { KeepsFiles (D.told desk.old) (D.told desk.new) }
     ensures created { D.created desk.new ≡ D.created desk.old }
 {
@@ -55,6 +59,7 @@ pub fn read_start<D: Desk>(
     ensures cause { IfErr result (FileCause (IsRefusedTerm program.now)
         (D.told desk.old) name.now TERM_LIMIT (D.read_faults desk.old) (D.read_faults desk.new)) }
     ensures counts { D.read_faults desk.old ≤ D.read_faults desk.new }
+    ensures writes { D.write_faults desk.new ≡ D.write_faults desk.old }
     ensures files { KeepsFiles (D.told desk.old) (D.told desk.new) }
     ensures created { D.created desk.new ≡ D.created desk.old }
 {

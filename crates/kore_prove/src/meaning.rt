@@ -1,7 +1,7 @@
 // What a pattern of applications alone means: a pattern of rules, and its sort.
 ghost use Rattle.std.specs.Prelude.{◌≡◌, ◌<◌, ◌^◌, ◌↔◌, ℕ, length, IfOk, IfSome, IfNone, map, Some, None, slice_get, IsTrue};
 ghost use Rattle.kore_ast.specs.Plain.{plain_pattern};
-ghost use Rattle.kore_ast.specs.Trees.{pattern_trees};
+ghost use Rattle.kore_text.specs.Trees.{pattern_trees};
 ghost use Rattle.rule_core.specs.Named.{number_of};
 ghost use Rattle.rule_core.specs.declared.signature.SortRef.TheVariants.{Sort};
 ghost use Rattle.term_core.specs.Patterns.{Pattern, Patterns};

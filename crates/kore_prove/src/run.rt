@@ -1,6 +1,7 @@
 // The run of a term by the rules of a program.
 ghost use Rattle.std.specs.Prelude.{◌≡◌, ◌≤◌, [], Some, IfOk, IsSome, All};
-ghost use Rattle.term_core.specs.Patterns.{instance_of};
+ghost use Rattle.term_core.specs.Patterns.{instance_of, FitsWithin};
+ghost use Rattle.term_core.specs.RulePatterns.{plain_pattern};
 ghost use Rattle.rule_core.specs.Runs.{IsRunOf};
 ghost use Rattle.rule_core.specs.Trial.{IsInTrialOrder};
 ghost use Rattle.rule_core.specs.ProgramView.{rewrite_rules};
@@ -9,7 +10,7 @@ ghost use Rattle.kore_prove.specs.Runnable.{IsShown, IsRunnable, NextBy};
 
 use rule_core::{Outcome, Program, first_match};
 use std::alloc::{AllocError, Global};
-use term_core::{Term, instance};
+use term_core::{RulePat, Subst, Term, instance};
 
 /// Runs a term to its end: how it ends, and the last configuration. Of the configurations only the
 /// present one is kept.
@@ -28,24 +29,38 @@ pub fn run(
     let mut config = start;
     for made in 0..limit {
         match next(alloc, program, &config)? {
-            Some(term) => config = term,
+            Some((_, term)) => config = term,
             None => return Ok((Outcome::Stuck(made), config)),
         }
     }
     Ok((Outcome::Limit(limit), config))
 }
 
-/// The next configuration, where a rule applies.
-fn next(alloc: Global, program: &Program, config: &Term) -> Result<Option<Term>, AllocError>
+/// The next configuration and the place of the rule that leads to it, where a rule applies.
+pub(crate) fn next(
+    alloc: Global,
+    program: &Program,
+    config: &Term,
+) -> Result<Option<(usize, Term)>, AllocError>
     requires in_order { IsInTrialOrder (rewrite_rules program.now.rules.items) }
     requires runnable { All (IsRunnable program.now.sig.symbols) program.now.rules.items }
-    ensures step { IfOk result (NextBy (rewrite_rules program.now.rules.items) program.now.sig.symbols config.now) }
+    ensures step { IfOk result (NextBy program.now.rules.items program.now.sig.symbols config.now) }
 {
     match first_match(alloc, &program.rules, 0, config)? {
         Some((i, subst)) => {
             let rule = &program.rules[i];
-            Ok(Some(instance(alloc, &rule.right, &subst)?))
+            let to = instance(alloc, &rule.right, &subst)?;
+            Ok(Some((i, to)))
         }
         None => Ok(None),
     }
+}
+
+/// The term that a start without variables is.
+pub(crate) fn start_term(alloc: Global, start: &RulePat) -> Result<Term, AllocError>
+    requires { FitsWithin 500 [] (plain_pattern start.now) }
+    ensures { IfOk result (λ t. instance_of [] (plain_pattern start.now) ≡ Some t) }
+{
+    let subst = Subst::new(alloc, 0)?;
+    instance(alloc, start, &subst)
 }

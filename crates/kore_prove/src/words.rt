@@ -1,6 +1,6 @@
 // The words of the command line.
-ghost use Rattle.std.specs.Prelude.{ℕ, List, map, All, IfSome, IfNone, IsTrue, ◌↔◌, string_bytes};
-ghost use Rattle.kore_prove.specs.Words.{IsRunCommand, IsVerifyCommand, IsNoVerification, IsNoCommand, NamesCommand, IsLimit, IsDigit};
+ghost use Rattle.std.specs.Prelude.{◌≡◌, ℕ, List, map, All, IfSome, IfNone, IsTrue, ◌↔◌, codes, option_copied, string_bytes};
+ghost use Rattle.kore_prove.specs.Words.{IsRun, IsRunCommand, IsVerifyCommand, IsNoVerification, IsNoCommand, NamesCommand, IsLimit, IsDigit};
 
 /// What the words ask for.
 #[derive(Clone, Copy)]
@@ -11,13 +11,14 @@ pub enum Command<'a> {
     Verify(&'a str),
 }
 
-/// What a call is to run: the name of a file with a definition, the name of a file with a term, and
-/// the greatest number of steps.
+/// What a call is to run: the name of a file with a definition, the name of a file with a term, the
+/// greatest number of steps, and the name of the file for the proof, where one is wanted.
 #[derive(Clone, Copy)]
 pub struct RunWords<'a> {
     pub definition: &'a str,
     pub term: &'a str,
     pub limit: u32,
+    pub proof: Option<&'a str>,
 }
 
 /// The greatest number of steps that words may name.
@@ -51,22 +52,39 @@ fn verify_words(words: &[String]) -> Option<&str>
 /// What is to be run, where the words ask for that.
 fn run_words(words: &[String]) -> Option<RunWords<'_>>
     ensures command { IfSome result (λ r.
-        IsRunCommand (map string_bytes words.now) r.definition.now r.term.now r.limit) }
+        IsRun (map string_bytes words.now) r.definition.now r.term.now r.limit (option_copied r.proof)) }
     ensures bad { IfNone result ((definition term : List ℕ) (limit : ℕ) →
         IsRunCommand (map string_bytes words.now) definition term limit → ⊥) }
 {
     match words {
-        [run, definition, term, option, number]
-            if run.as_str() == "run" && option.as_str() == "--limit" => {
+        [run, definition, term, option, number] if is_run(run, option) => {
             let limit = read_limit(number.as_str())?;
             Some(RunWords {
                 definition: definition.as_str(),
                 term: term.as_str(),
                 limit,
+                proof: None,
+            })
+        }
+        [run, definition, term, option, number, proof, file]
+            if is_run(run, option) && proof.as_str() == "--proof" => {
+            let limit = read_limit(number.as_str())?;
+            Some(RunWords {
+                definition: definition.as_str(),
+                term: term.as_str(),
+                limit,
+                proof: Some(file.as_str()),
             })
         }
         _ => None,
     }
+}
+
+/// Whether the first word is `run` and the fourth `--limit`.
+fn is_run(first: &String, fourth: &String) -> bool
+    ensures { IsTrue result ↔ (string_bytes first.now ≡ codes "run") × (string_bytes fourth.now ≡ codes "--limit") }
+{
+    first.as_str() == "run" && fourth.as_str() == "--limit"
 }
 
 /// The limit of steps that a word writes.

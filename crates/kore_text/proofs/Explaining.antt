@@ -89,7 +89,7 @@ stuck-case : (t : Token) (p : ℕ) (r : Stream) (k : List Symbol) (x : Bool)
 stuck-case t p r k true h = let y : ⊥ = cc in y
 stuck-case t p r k false h = let y : ⊥ = cc in y
 
-stuck-run : (t : Token) (p : ℕ) (r : Stream) (k : List Symbol) → step k t ≡ None → run (token t p r) None k ≡ None → ⊥
+pub stuck-run : (t : Token) (p : ℕ) (r : Stream) (k : List Symbol) → step k t ≡ None → run (token t p r) None k ≡ None → ⊥
 unfolding run
 stuck-run t p r k m h =
     stuck-case t p r k (is_fold t && passes r empty_fold) (subst (λ mv. (if is_fold t && passes r empty_fold then Some (Syntax p) else onward (run r) p None mv) ≡ None) m h)
@@ -99,7 +99,7 @@ on-case : (t : Token) (p : ℕ) (r : Stream) (k' : List Symbol) (x : Bool)
 on-case t p r k' true h = let y : ⊥ = cc in absurd y
 on-case t p r k' false h = h
 
-on-run : (t : Token) (p : ℕ) (r : Stream) (k k' : List Symbol) → step k t ≡ Some k' → run (token t p r) None k ≡ None → run r None k' ≡ None
+pub on-run : (t : Token) (p : ℕ) (r : Stream) (k k' : List Symbol) → step k t ≡ Some k' → run (token t p r) None k ≡ None → run r None k' ≡ None
 unfolding run
 on-run t p r k k' m h =
     on-case t p r k' (is_fold t && passes r empty_fold) (subst (λ mv. (if is_fold t && passes r empty_fold then Some (Syntax p) else onward (run r) p None mv) ≡ None) m h)

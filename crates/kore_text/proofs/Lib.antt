@@ -11,3 +11,5 @@ pub mod Cutting
 pub mod StackLaws
 pub mod Stepping
 pub mod Looking
+pub mod Faultless
+pub mod Named

@@ -1,5 +1,5 @@
 -- What may follow a sort without braces.
-use Rattle.std.specs.Prelude.{◌≡◌, ℕ, false, List, [], ◌∷◌}
+use Rattle.std.specs.Prelude.{◌≡◌, false, List, [], ◌∷◌}
 use Rattle.kore_text.specs.TokenStream.{Stream, end, fault, token}
 use Rattle.kore_text.specs.Grammar.{Want, placed, any, given}
 use Rattle.kore_text.specs.Table.{is_mark}

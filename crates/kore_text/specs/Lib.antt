@@ -4,6 +4,8 @@ pub mod Trees
 pub mod Grammar
 pub mod Faults
 pub mod Left
+pub mod TextLaws
+pub mod Identifiers
 -- What only private functions cite.
 pub mod Table
 pub mod Apart

@@ -4,12 +4,14 @@
 // grammar of the Kore language document, and else which fault comes first, and where. The
 // definitions stand in `specs/`: `TokenStream` has the tokens of a text, `Trees` the trees without
 // memory, `Grammar` spells a tree, `Faults` says what the first fault of a text is, and `Table`
-// has the moves by which one token at a time is looked at.
+// has the moves by which one token at a time is looked at. `TextLaws` and `Identifiers` have laws on
+// these, which are the contracts of `text_laws` and `name_laws`.
 #![tactic(auto)]
 
 mod expected;
 mod faults;
 mod finder;
+mod laws;
 mod names;
 mod symbols;
 mod tokens;
@@ -17,6 +19,7 @@ mod words;
 
 pub use faults::TextFault;
 pub use finder::{definition_fault, pattern_fault};
+pub use laws::{name_laws, text_laws};
 pub use names::{Binder, Built, Op};
 pub use tokens::{Next, Tokens};
 

@@ -48,6 +48,9 @@ rests_row_one ts n is a t r h = RestsOn-through ts (a ∷ []) t (RestsOn-row n i
 pub rests_row_two : (ts : List Theorem) (n : ℕ) (is : List Instance) (a b t : Theorem) → IsByRow n is (a ∷ b ∷ []) t → RestsOn ts a → RestsOn ts b → RestsOn ts t
 rests_row_two ts n is a b t r h k = RestsOn-through ts (a ∷ b ∷ []) t (RestsOn-row n is (a ∷ b ∷ []) t r) (h, (k, tt))
 
+pub rests_none : (ts : List Theorem) (t : Theorem) → RestsOn [] t → RestsOn ts t
+rests_none ts t r = RestsOn-through ts [] t r tt
+
 pub rests_one : (ts : List Theorem) (a t : Theorem) → RestsOn (a ∷ []) t → RestsOn ts a → RestsOn ts t
 rests_one ts a t r h = RestsOn-through ts (a ∷ []) t r (h, tt)
 

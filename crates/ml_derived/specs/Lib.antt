@@ -1,2 +1,3 @@
 pub mod Implications
 pub mod Resting
+pub mod Derived

@@ -1,7 +1,8 @@
 // Small rules of implication.
 ghost use Rattle.std.specs.Prelude.{◌≡◌, [], ◌∷◌, IfOk};
-ghost use Rattle.ml_pat.specs.Patterns.{imp};
-ghost use Rattle.ml_derived.specs.Implications.{IsImplication, AreLinked, IsChain};
+ghost use Rattle.ml_pat.specs.Patterns.{top, imp, and};
+ghost use Rattle.ml_derived.specs.Derived.{adding_top, chaining, detaching_under, distributing, freeing, lifting};
+ghost use Rattle.ml_derived.specs.Implications.{IsConjunction, IsImplication, AreLinked, HasTopCondition, IsChain, IsChainOf, IsFreed};
 ghost use Rattle.ml_derived.specs.Resting.{RestsOn};
 
 use ml_kernel::Thm;
@@ -12,6 +13,7 @@ use std::alloc::{AllocError, Global};
 pub fn chain(alloc: Global, ab: &Thm, bc: &Thm) -> Result<Thm, AllocError>
     requires { AreLinked ab.now.conclusion bc.now.conclusion }
     ensures conclusion { IfOk result (λ t. IsChain ab.now.conclusion bc.now.conclusion t.conclusion) }
+    ensures derivation { IfOk result (IsChainOf ab.now bc.now) }
     ensures rests { IfOk result (λ t. RestsOn (ab.now ∷ bc.now ∷ []) t) }
 {
     let (p, q) = sides(ab.conclusion());
@@ -31,6 +33,7 @@ pub(crate) fn chained(
     requires ab { ab.now.conclusion ≡ imp p.now q.now }
     requires bc { bc.now.conclusion ≡ imp q.now r.now }
     ensures conclusion { IfOk result (λ t. t.conclusion ≡ imp p.now r.now) }
+    ensures derivation { IfOk result (λ t. t.derivation ≡ chaining p.now q.now r.now ab.now.derivation bc.now.derivation) }
     ensures rests { IfOk result (λ t. RestsOn (ab.now ∷ bc.now ∷ []) t) }
 {
     let lifted = lift(alloc, p, bc)?;
@@ -40,6 +43,7 @@ pub(crate) fn chained(
 // `h -> q`, from q.
 pub(crate) fn lift(alloc: Global, h: &MPat, a: &Thm) -> Result<Thm, AllocError>
     ensures conclusion { IfOk result (λ t. t.conclusion ≡ imp h.now a.now.conclusion) }
+    ensures derivation { IfOk result (λ t. t.derivation ≡ lifting h.now a.now.conclusion a.now.derivation) }
     ensures rests { IfOk result (λ t. RestsOn (a.now ∷ []) t) }
 {
     let q = a.conclusion();
@@ -60,6 +64,7 @@ pub(crate) fn under(
     requires a { a.now.conclusion ≡ imp h.now p.now }
     requires b { b.now.conclusion ≡ imp h.now (imp p.now q.now) }
     ensures conclusion { IfOk result (λ t. t.conclusion ≡ imp h.now q.now) }
+    ensures derivation { IfOk result (λ t. t.derivation ≡ detaching_under h.now p.now q.now a.now.derivation b.now.derivation) }
     ensures rests { IfOk result (λ t. RestsOn (a.now ∷ b.now ∷ []) t) }
 {
     let left = MPat::imp(alloc, h, p)?;
@@ -82,11 +87,49 @@ fn distributed(
     requires left { left.now ≡ imp h.now p.now }
     requires right { right.now ≡ imp h.now q.now }
     ensures conclusion { IfOk result (λ t. t.conclusion ≡ imp left.now right.now) }
+    ensures derivation { IfOk result (λ t. t.derivation ≡ distributing h.now p.now q.now b.now.derivation) }
     ensures rests { IfOk result (λ t. RestsOn (b.now ∷ []) t) }
 {
     let rule = Thm::p_2(alloc, h, p, q)?;
     let sides = MPat::imp(alloc, left, right)?;
     Thm::mp(alloc, b, &rule, b.conclusion(), &sides)
+}
+
+/// `p -> q`, from `p & top -> q`: a condition that always holds is left out.
+pub fn free_of_top(alloc: Global, rule: &Thm) -> Result<Thm, AllocError>
+    requires { HasTopCondition rule.now.conclusion }
+    ensures freed { IfOk result (IsFreed rule.now) }
+    ensures rests { IfOk result (λ t. RestsOn (rule.now ∷ []) t) }
+{
+    let (from, q) = sides(rule.conclusion());
+    let (p, truth) = conjuncts(from);
+    let with_top = add_top(alloc, p, from, truth)?;
+    chained(alloc, &with_top, rule, p, from, q)
+}
+
+// `p -> p & top`; both is `p & top`.
+fn add_top(alloc: Global, p: &MPat, both: &MPat, truth: &MPat) -> Result<Thm, AllocError>
+    requires both { both.now ≡ and p.now truth.now }
+    requires truth { truth.now ≡ top }
+    ensures conclusion { IfOk result (λ t. t.conclusion ≡ imp p.now both.now) }
+    ensures derivation { IfOk result (λ t. t.derivation ≡ adding_top p.now) }
+    ensures rests { IfOk result (λ t. RestsOn [] t) }
+{
+    let holds = Thm::top(alloc)?;
+    let lifted = lift(alloc, p, &holds)?;
+    let joining = Thm::and_3(alloc, p, truth)?;
+    under(alloc, &lifted, &joining, p, truth, both)
+}
+
+// The parts of a conjunction.
+fn conjuncts(p: &MPat) -> (&MPat, &MPat)
+    requires { IsConjunction p.now }
+    ensures { p.now ≡ and result.0.now result.1.now }
+{
+    match p.form() {
+        MForm::And(left, right) => (left, right),
+        _ => unreachable!(),
+    }
 }
 
 // The sides of an implication.

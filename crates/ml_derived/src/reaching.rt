@@ -1,7 +1,10 @@
 // Reaching a pattern in steps.
 ghost use Rattle.std.specs.Prelude.{◌≡◌, [], ◌∷◌, IfOk};
 ghost use Rattle.ml_pat.specs.Patterns.{imp, next, ev};
-ghost use Rattle.ml_derived.specs.Implications.{IsNext, IsOneStepOn, ReachesOneFurther};
+ghost use Rattle.ml_kernel.specs.ProofRows.{pattern};
+ghost use Rattle.ml_kernel.specs.Theorems.{derivations, row};
+ghost use Rattle.ml_derived.specs.Derived.{kept_reaching, reaching_by};
+ghost use Rattle.ml_derived.specs.Implications.{IsNext, IsOneStepOn, IsStepOf, ReachesOneFurther};
 ghost use Rattle.ml_derived.specs.Resting.{RestsOn};
 
 use crate::implications::{chained, sides};
@@ -12,6 +15,7 @@ use std::alloc::{AllocError, Global};
 /// `a -> ev a`.
 pub fn reach_here(alloc: Global, a: &MPat) -> Result<Thm, AllocError>
     ensures conclusion { IfOk result (λ t. t.conclusion ≡ imp a.now (ev a.now)) }
+    ensures derivation { IfOk result (λ t. t.derivation ≡ row 27 (pattern a.now ∷ []) (derivations [])) }
     ensures rests { IfOk result (λ t. RestsOn [] t) }
 {
     Thm::ev_1(alloc, a)
@@ -21,6 +25,7 @@ pub fn reach_here(alloc: Global, a: &MPat) -> Result<Thm, AllocError>
 pub fn reach_step(alloc: Global, sofar: &Thm, step: &Thm) -> Result<Thm, AllocError>
     requires { IsOneStepOn sofar.now.conclusion step.now.conclusion }
     ensures conclusion { IfOk result (λ t. ReachesOneFurther sofar.now.conclusion step.now.conclusion t.conclusion) }
+    ensures derivation { IfOk result (IsStepOf sofar.now step.now) }
     ensures rests { IfOk result (λ t. RestsOn (sofar.now ∷ step.now ∷ []) t) }
 {
     let (a, reached) = sides(sofar.conclusion());
@@ -45,6 +50,7 @@ fn reach_by(
     requires made { made.now ≡ next c.now }
     requires end { end.now ≡ ev c.now }
     ensures conclusion { IfOk result (λ t. t.conclusion ≡ imp b.now end.now) }
+    ensures derivation { IfOk result (λ t. t.derivation ≡ reaching_by b.now c.now step.now.derivation) }
     ensures rests { IfOk result (λ t. RestsOn (step.now ∷ []) t) }
 {
     let here = Thm::ev_1(alloc, c)?;
@@ -66,6 +72,7 @@ fn kept_reaching(
     requires one { one.now.conclusion ≡ imp b.now end.now }
     requires end { end.now ≡ ev c.now }
     ensures conclusion { IfOk result (λ t. t.conclusion ≡ imp (ev b.now) end.now) }
+    ensures derivation { IfOk result (λ t. t.derivation ≡ kept_reaching b.now c.now one.now.derivation) }
     ensures rests { IfOk result (λ t. RestsOn (one.now ∷ []) t) }
 {
     let closing = Thm::ev_2(alloc, c)?;

@@ -1,6 +1,6 @@
 -- The images of rules' patterns and of rules as patterns of matching logic (Chen and Rosu 2019). A constant or a sort of
 -- an image is the number of its token among names; where the names lack a token there is no image.
-use Rattle.std.specs.Prelude.{◌≡◌, ◌<◌, ℕ, Bool, true, false, IsSome, List, [], ◌∷◌, length, slice_get, Option, Some, None, option_map}
+use Rattle.std.specs.Prelude.{◌≡◌, ◌<◌, ℕ, Bool, true, false, IsTrue, IsSome, List, [], ◌∷◌, length, slice_get, Option, Some, None, option_map}
 use Rattle.std.specs.List.{position_from}
 use Rattle.ml_pat.specs.Patterns.{Pattern, top, imp, and, app, at_sort, next, var, constant}
 use Rattle.term_core.specs.Patterns.{Pattern as RulePattern, Patterns as RulePatterns, variable, domain_value, application, injection, call, no_pattern, more_patterns}
@@ -12,7 +12,7 @@ use Rattle.rule_core.specs.declared.rules.Rule.{Rule}
 use Rattle.rule_core.specs.declared.rules.Program.{Program}
 use Rattle.rule_core.specs.Rules.{RewriteRule}
 use Rattle.rule_core.specs.ProgramView.{rewrite_rule}
-use Rattle.ml_image.specs.Tokens.{token_of_sort, token_of_symbol, token_of_value, numbered}
+use Rattle.ml_image.specs.Tokens.{token_of_sort, token_of_symbol, token_of_value, numbered, is_value_at}
 
 -- what two things make, where both are there
 abbrev pub both : {A B C : Type 0} → (A → B → C) → Option A → Option B → Option C
@@ -78,11 +78,12 @@ abbrev pub AreSorts : Signature → List ℕ → Type 0
 AreSorts sig [] = Unit {0}
 AreSorts sig (s ∷ ss) = (s < length sig.sorts) × AreSorts sig ss
 
--- The pattern has an image: its sorts and symbols are the signature's, and it is built of what has images.
+-- The pattern has an image: its sorts and symbols are the signature's, each domain value is one that its sort has, and it is
+-- built of what has images.
 abbrev mutual
   pub HasImage : Signature → RulePattern → Type 0
   HasImage sig (variable x) = Unit {0}
-  HasImage sig (domain_value s v) = s < length sig.sorts
+  HasImage sig (domain_value s v) = (s < length sig.sorts) × IsTrue (is_value_at sig s v)
   HasImage sig (application f ps) = (f < length sig.symbols) × HaveImages sig ps
   HasImage sig (injection a b p) = IsSome (injection_symbol sig) × (AreSorts sig (a ∷ b ∷ []) × HasImage sig p)
   HasImage sig (call f ss ps) = (f < length sig.symbols) × (AreSorts sig ss × HaveImages sig ps)

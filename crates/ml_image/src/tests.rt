@@ -1,8 +1,10 @@
 // Worked examples: the images of a term and of a rule.
-ghost use Rattle.std.specs.Prelude.{◌≡◌, ◌≤◌, [], ◌∷◌, length, IfOk, IfSome, IsSome};
-ghost use Rattle.term_core.specs.Patterns.{application, call, no_pattern, more_patterns};
+ghost use Rattle.std.specs.Prelude.{◌≡◌, ◌≤◌, [], ◌∷◌, length, IfOk, IfSome, IsSome, IsTrue};
+ghost use Rattle.term_core.specs.Terms.{DomainValue};
+ghost use Rattle.term_core.specs.Patterns.{application, call, domain_value, no_pattern, more_patterns};
 ghost use Rattle.term_core.specs.RulePatterns.{plain_pattern};
-ghost use Rattle.ml_image.specs.Images.{HasImageAt, injection_symbol};
+ghost use Rattle.ml_image.specs.Tokens.{is_value_of};
+ghost use Rattle.ml_image.specs.Images.{HasImage, HasImageAt, injection_symbol};
 
 use crate::images::{injection_symbol, rule_image, term_image};
 use ml_pat::{ConstNo, MPat, MSort, Names};
@@ -102,6 +104,23 @@ pub(crate) fn small(alloc: Global) -> Result<Option<Program>, AllocError>
     }))
 }
 
+// A program with one sort, of this kind.
+pub(crate) fn of_kind(alloc: Global, kind: SortKind) -> Result<Program, AllocError>
+    ensures { IfOk result (λ program. (v : DomainValue) → IsTrue (is_value_of kind v) → HasImage program.sig (domain_value 0 v)) }
+{
+    let mut sorts = Table::new(alloc);
+    sorts.insert(String::from_str(alloc, "S")?, SortInfo { kind })?;
+    let sig = Signature {
+        sorts,
+        symbols: Table::new(alloc),
+    };
+    Ok(Program {
+        sig,
+        top: None,
+        rules: Vec::new(alloc),
+    })
+}
+
 fn constant(alloc: Global, number: u64) -> Result<MPat, AllocError> {
     MPat::constant(alloc, ConstNo(number))
 }
@@ -152,16 +171,17 @@ fn makes_the_image_of_an_injection(rt: HostRuntime) -> Result<(), Fail> {
     Ok(())
 }
 
-// -12 of the sort S is `d:S:2d3132`, and true `d:S:74727565`.
+// -12 of a sort S of integers is `d:S:2d3132`, and true of one of truth values `d:S:74727565`.
 #[test]
 fn makes_the_images_of_values(rt: HostRuntime) -> Result<(), Fail> {
     let alloc = rt.alloc();
-    let program = small(alloc)?.ok_or("a program")?;
     let mut names = Names::new(alloc);
+    let integers = of_kind(alloc, SortKind::Int)?;
     let number = RulePat::Value(SortId(0), Value::Int(-12));
+    term_image(alloc, &integers, &mut names, &number)?;
+    let truths = of_kind(alloc, SortKind::Bool)?;
     let yes = RulePat::Value(SortId(0), Value::Bool(true));
-    term_image(alloc, &program, &mut names, &number)?;
-    let image = term_image(alloc, &program, &mut names, &yes)?;
+    let image = term_image(alloc, &truths, &mut names, &yes)?;
     assert!(rt; names.token(0) == Some("d:S:2d3132"));
     assert!(rt; names.token(1) == Some("d:S:74727565"));
     assert!(rt; image.same(&constant(alloc, 1)?));

@@ -1,8 +1,6 @@
 -- Groups of numbers, restricted and appended.
 use Rattle.std.proofs.Common.{◌≡◌, ℕ, ◌<◌, length, Bool, true, false, not, List, [], ◌∷◌, ◌++◌, refl, ap, sym, ◌∙◌, arith}
 use Rattle.std.specs.Prelude.{◌&&◌, ◌||◌, nat_eq, filter, if◌then◌else◌}
-use Rattle.std.specs.Cmp.{unsigned_tied}
-use Rattle.std.specs.Ordering.{is_eq, nat_cmp}
 use Rattle.std.proofs.lemmas.Bool.{eqb-true, eq-eqb}
 use Rattle.std.specs.List.{list_any}
 use Rattle.mm_frame.specs.FramesHeld.{has_number, in_group, in_groups}
@@ -36,9 +34,6 @@ pub short-group : (group : List ℕ) (a b : ℕ) → length group < 2 → in_gro
 short-group [] a b short = nothing (not (nat_eq a b))
 short-group (n ∷ []) a b short = one-number n a b (nat_eq n a) (nat_eq n b) refl refl
 short-group (n ∷ (m ∷ ns)) a b short = absurd (omega arith)
-
-pub cmp-eq : (x y : ℕ) → is_eq (nat_cmp x y) ≡ nat_eq x y
-cmp-eq x y = unsigned_tied x y
 
 has_number-filter : (p : ℕ → Bool) (group : List ℕ) (a : ℕ) → has_number (filter p group) a ≡ (has_number group a && p a)
 has_number-filter p [] a = refl
@@ -77,10 +72,6 @@ groups-step p before groups group kept a b is =
     mix false false y w = refl
 
 -- one more number in a set
-pub set-step : (old new first rest : Bool) → new ≡ (if first then true else old) → (new || rest) ≡ (old || (first || rest))
-set-step old new true rest is = is-true old rest is
-  where
-    is-true : (old rest : Bool) → new ≡ true → (new || rest) ≡ (old || true)
-    is-true true rest h = rw h refl
-    is-true false rest h = rw h refl
-set-step old new false rest is = rw is refl
+pub one-more : (old new first rest : Bool) → new ≡ (old || first) → (new || rest) ≡ (old || (first || rest))
+one-more true new first rest is = rw is refl
+one-more false new first rest is = rw is refl

@@ -28,3 +28,4 @@ pub mod StandReads
 pub mod StandSteps
 mod FramesKept
 mod Proposed
+mod KnownEntries

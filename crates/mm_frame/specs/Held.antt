@@ -1,11 +1,9 @@
 -- What scopes hold: names with what they name, symbols by their numbers, and what is active in lists.
 use Rattle.std.specs.Prelude.{ℕ, Bool, List, map, Option}
-use Rattle.std.specs.BTreeMap.{get_by}
-use Rattle.std.specs.Cmp.Lexicographic.{slice_cmp}
-use Rattle.std.specs.Ordering.{nat_cmp}
 use Rattle.mm_text.specs.Bytes.{Token}
 use Rattle.mm_frame.specs.Numbered.{NumberedHypothesis, NumberedFrame}
 use Rattle.mm_frame.specs.FramesHeld.{hypotheses_held, groups_of, frame_held}
+use Rattle.mm_frame.specs.KnownNames.{name_in}
 use Rattle.mm_frame.specs.declared.scopes.Name.{Name}
 use Rattle.mm_frame.specs.declared.scopes.Symbol.{Symbol}
 use Rattle.mm_frame.specs.declared.scopes.OpenBlock.{OpenBlock}
@@ -30,7 +28,7 @@ abbrev pub symbol_held : Symbol → HeldSymbol
 symbol_held s = record { token = s.token.now; is_variable = s.is_variable }
 
 abbrev pub named : Scopes → Token → Option Name
-named s token = get_by (λ k. slice_cmp nat_cmp token k.now) s.names
+named s token = name_in s.names.ordered token
 
 abbrev pub held : Scopes → Held
 held s = record {

@@ -15,6 +15,9 @@ pub mod NumberedSteps
 pub mod Sharing
 pub mod FormsRead
 pub mod FramesHeld
+pub mod KnownNames
+pub mod NumberSets
+pub mod NumberSetView
 pub mod Held
 pub mod HeldTests
 pub mod HeldFaults

@@ -16,6 +16,8 @@ mod frames;
 mod judge;
 mod laws;
 mod mandatory;
+mod names;
+mod number_set;
 mod scopes;
 mod theorem;
 

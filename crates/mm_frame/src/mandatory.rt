@@ -1,18 +1,17 @@
 // The frame of an assertion.
 
 ghost use Rattle.std.specs.Prelude.{◌≡◌, ℕ, ◌||◌, ◌&&◌, IfOk, filter, if◌then◌else◌, ◌++◌, ◌∷◌, []};
-ghost use Rattle.std.specs.Ordering.{nat_cmp};
-ghost use Rattle.std.specs.BTreeSet.{contains};
 ghost use Rattle.mm_frame.specs.Held.{held};
 ghost use Rattle.mm_frame.specs.FramesHeld.{has_number, in_group, in_groups, items_of, groups_of, hypothesis_held, hypotheses_held, frame_held};
 ghost use Rattle.mm_frame.specs.HeldFaults.{stated_held};
 ghost use Rattle.mm_frame.specs.HeldFrames.{is_needed_number, is_mandatory_number, IsHeldFrame};
+ghost use Rattle.mm_frame.specs.NumberSetView.{is_number_of};
 
 use crate::frames::{Frame, Hyp};
 use crate::judge::Stated;
+use crate::number_set::NumberSet;
 use crate::scopes::Scopes;
 use std::alloc::{AllocError, Global};
-use std::collections::BTreeSet;
 
 impl<'a> Scopes<'a> {
     /// The frame of an assertion with this label and these symbols.
@@ -29,10 +28,10 @@ impl<'a> Scopes<'a> {
     }
 
     /// The symbols of a statement and of the active `$e`.
-    fn needed(&self, alloc: Global, statement: &[u32]) -> Result<BTreeSet<u32>, AllocError>
-        ensures { IfOk result (λ s. (n : ℕ) → contains nat_cmp s n ≡ is_needed_number (held self.now).hypotheses statement.now n) }
+    fn needed(&self, alloc: Global, statement: &[u32]) -> Result<NumberSet, AllocError>
+        ensures { IfOk result (λ s. (n : ℕ) → is_number_of s n ≡ is_needed_number (held self.now).hypotheses statement.now n) }
     {
-        let mut needed = BTreeSet::new(alloc);
+        let mut needed = NumberSet::new(alloc);
         add_numbers(&mut needed, statement)?;
         for hyp in &self.hyps {
             if let Hyp::Essential(_, premise) = hyp {
@@ -43,8 +42,8 @@ impl<'a> Scopes<'a> {
     }
 
     /// The active `$e`, and the active `$f` of these variables.
-    fn mandatory(&self, alloc: Global, needed: &BTreeSet<u32>) -> Result<Vec<Hyp<'a>>, AllocError>
-        ensures { IfOk result (λ v. hypotheses_held v.items ≡ filter (is_mandatory_number (contains nat_cmp needed.now)) (held self.now).hypotheses) }
+    fn mandatory(&self, alloc: Global, needed: &NumberSet) -> Result<Vec<Hyp<'a>>, AllocError>
+        ensures { IfOk result (λ v. hypotheses_held v.items ≡ filter (is_mandatory_number (is_number_of needed.now)) (held self.now).hypotheses) }
     {
         let mut hyps = Vec::new(alloc);
         for hyp in &self.hyps {
@@ -59,12 +58,8 @@ impl<'a> Scopes<'a> {
     }
 
     /// The variables of each active `$d` that are among these.
-    fn apart_within(
-        &self,
-        alloc: Global,
-        needed: &BTreeSet<u32>,
-    ) -> Result<Vec<Vec<u32>>, AllocError>
-        ensures { IfOk result (λ v. (a b : ℕ) → in_groups (groups_of v.items) a b ≡ (in_groups (held self.now).disjoint a b && (contains nat_cmp needed.now a && contains nat_cmp needed.now b))) }
+    fn apart_within(&self, alloc: Global, needed: &NumberSet) -> Result<Vec<Vec<u32>>, AllocError>
+        ensures { IfOk result (λ v. (a b : ℕ) → in_groups (groups_of v.items) a b ≡ (in_groups (held self.now).disjoint a b && (is_number_of needed.now a && is_number_of needed.now b))) }
     {
         let mut groups = Vec::new(alloc);
         for group in &self.disjoint {
@@ -76,11 +71,11 @@ impl<'a> Scopes<'a> {
 
 impl<'a> Hyp<'a> {
     /// Whether it is an `$e`, or the `$f` of one of these variables.
-    fn is_mandatory(&self, needed: &BTreeSet<u32>) -> bool
-        ensures { result ≡ is_mandatory_number (contains nat_cmp needed.now) (hypothesis_held self.now) }
+    fn is_mandatory(&self, needed: &NumberSet) -> bool
+        ensures { result ≡ is_mandatory_number (is_number_of needed.now) (hypothesis_held self.now) }
     {
         match self {
-            Hyp::Floating(_, _, variable) => needed.contains(variable),
+            Hyp::Floating(_, _, variable) => needed.has(*variable),
             Hyp::Essential(_, _) => true,
         }
     }
@@ -101,22 +96,22 @@ impl<'a> Hyp<'a> {
 }
 
 /// Adds the numbers to the set.
-fn add_numbers(set: &mut BTreeSet<u32>, numbers: &[u32]) -> Result<(), AllocError>
-    ensures { IfOk result (λ _. (n : ℕ) → contains nat_cmp set.new n ≡ (contains nat_cmp set.old n || has_number numbers.now n)) }
+fn add_numbers(set: &mut NumberSet, numbers: &[u32]) -> Result<(), AllocError>
+    ensures { IfOk result (λ _. (n : ℕ) → is_number_of set.new n ≡ (is_number_of set.old n || has_number numbers.now n)) }
 {
     for n in numbers {
-        set.insert(*n)?;
+        set.add(*n)?;
     }
     Ok(())
 }
 
 /// The numbers that the set has.
-fn kept_numbers(alloc: Global, set: &BTreeSet<u32>, numbers: &[u32]) -> Result<Vec<u32>, AllocError>
-    ensures { IfOk result (λ v. v.items ≡ filter (contains nat_cmp set.now) numbers.now) }
+fn kept_numbers(alloc: Global, set: &NumberSet, numbers: &[u32]) -> Result<Vec<u32>, AllocError>
+    ensures { IfOk result (λ v. v.items ≡ filter (is_number_of set.now) numbers.now) }
 {
     let mut kept = Vec::new(alloc);
     for n in numbers {
-        push_if(set.contains(n), &mut kept, *n)?;
+        push_if(set.has(*n), &mut kept, *n)?;
     }
     Ok(kept)
 }

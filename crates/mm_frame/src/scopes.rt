@@ -13,8 +13,8 @@ ghost use Rattle.mm_frame.specs.HeldReads.{frame_named, symbol_is_variable, firs
 ghost use Rattle.mm_frame.specs.HeldTests.{is_held_active, is_held_typed, number_in};
 
 use crate::frames::{Cited, Frame, Hyp};
+use crate::names::Names;
 use std::alloc::{AllocError, Global};
-use std::collections::BTreeMap;
 
 /// What a token names. Symbols, hypotheses and assertions have numbers in the order in which they came.
 #[derive(Clone, Copy)]
@@ -50,7 +50,7 @@ pub(crate) struct OpenBlock {
 /// tells.
 #[derive(Drop)]
 pub struct Scopes<'a> {
-    pub(crate) names: BTreeMap<&'a [u8], Name>,
+    pub(crate) names: Names<'a>,
     pub(crate) symbols: Vec<Symbol<'a>>,
     pub(crate) places: Vec<usize>,
     pub(crate) types: Vec<usize>,
@@ -79,7 +79,7 @@ impl<'a> Scopes<'a> {
         ensures frames { (held result).frames ≡ [] }
     {
         Scopes {
-            names: BTreeMap::new(alloc),
+            names: Names::new(alloc),
             symbols: Vec::new(alloc),
             places: Vec::new(alloc),
             types: Vec::new(alloc),
@@ -95,7 +95,7 @@ impl<'a> Scopes<'a> {
     pub(crate) fn name(&self, word: &'a [u8]) -> Option<Name>
         ensures { result ≡ named self.now word.now }
     {
-        self.names.get(&word).copied()
+        self.names.get(word)
     }
 
     /// Whether the variable with this number is active.

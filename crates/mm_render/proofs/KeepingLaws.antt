@@ -3,7 +3,6 @@ use Rattle.std.proofs.Common.{◌≡◌, ℕ, ◌<◌, ◌^◌, Bool, true, fals
 use Rattle.std.specs.Prelude.{codes}
 use Rattle.std.proofs.lemmas.Bool.{false≢true}
 use Rattle.mm_text.specs.Bytes.{Token}
-use Rattle.mm_frame.specs.Assertions.{assertions_of}
 use Rattle.mm_frame.specs.FrameLaws.{written_statements, plain_tokens, proof_tokens}
 use Rattle.mm_frame.specs.Forms.{asserts}
 use Rattle.mm_header.specs.HeaderText.{header_bytes}
@@ -25,7 +24,7 @@ use Rattle.mm_render.proofs.LeafLaws.{EachLeaf-implied}
 use Rattle.mm_render.proofs.AgreeLaws.{agreeing, text-agrees}
 use Rattle.mm_render.proofs.FittingLaws.{name_of-front, take-all, take-drop}
 use Rattle.mm_render.proofs.NamedStatements.{declared_fits_stated, closed_at}
-use Rattle.mm_render.proofs.StatedLaws.{header_fits_stated, axiom_fits, axiom_is_gained, theorem_fits, theorem_is_gained}
+use Rattle.mm_render.proofs.StatedLaws.{GainsJust, header_fits_stated, axiom_fits, axiom_gains_just, theorem_fits, theorem_gains_just}
 
 pub empty_fits : EmptyFits
 empty_fits names = refl
@@ -56,18 +55,19 @@ kept_text names n p h =
 -- from statements that fit to what is kept
 gains : (names : List Token) (k : Kept) (p : Pattern) (proved : Bool) (appended : List ℕ) → MayState names k p
     → ((bytes : List ℕ) → FitsStated (take k.named names) k.stated bytes → FitsStated (take k.named names) (k.stated ++ p ∷ []) (bytes ++ appended))
-    → ((bytes : List ℕ) → FitsStated (take k.named names) k.stated bytes → assertions_of (bytes ++ appended) ≡ assertions_of bytes ++ stated_assertion proved (take k.named names) (length k.stated) p ∷ [])
+    → ((bytes : List ℕ) → FitsStated (take k.named names) k.stated bytes → GainsJust bytes appended (stated_assertion proved (take k.named names) (length k.stated) p))
     → Gains names k (with_stated k p) appended (stated_assertion proved (take k.named names) (length k.stated) p)
 gains names k p proved appended may fit gain = record {
   fits = λ bytes fits. fits_when k.begun may.begun bytes fits;
-  gained = λ bytes fits. gains_when k.begun may.begun bytes fits;
+  gained = λ bytes fits. (gains_when k.begun may.begun bytes fits).0;
+  typings = λ bytes fits. (gains_when k.begun may.begun bytes fits).1;
 }
   where
     fits_when : (b : Bool) → b ≡ true → (bytes : List ℕ) → FitsWhen b (take k.named names) k.stated bytes → FitsWhen b (take k.named names) (k.stated ++ p ∷ []) (bytes ++ appended)
     fits_when false never bytes fits = absurd (false≢true never)
     fits_when true is bytes fits = fit bytes fits
 
-    gains_when : (b : Bool) → b ≡ true → (bytes : List ℕ) → FitsWhen b (take k.named names) k.stated bytes → assertions_of (bytes ++ appended) ≡ assertions_of bytes ++ stated_assertion proved (take k.named names) (length k.stated) p ∷ []
+    gains_when : (b : Bool) → b ≡ true → (bytes : List ℕ) → FitsWhen b (take k.named names) k.stated bytes → GainsJust bytes appended (stated_assertion proved (take k.named names) (length k.stated) p)
     gains_when false never bytes fits = absurd (false≢true never)
     gains_when true is bytes fits = gain bytes fits
 
@@ -84,10 +84,10 @@ axiom_gains names k p few may =
     subst (λ (text : List ℕ). Gains names k (with_stated k p) text (stated_assertion false (take k.named names) (length k.stated) p)) same
     (gains names k p false (written_statements (axiom_statement (take k.named names) (length k.stated) p ∷ [])) may
     (λ bytes fits. axiom_fits (take k.named names) k.stated bytes p fits few may.closed)
-    (λ bytes fits. axiom_is_gained (take k.named names) k.stated bytes p fits few may.closed))
+    (λ bytes fits. axiom_gains_just (take k.named names) k.stated bytes p fits few may.closed))
 
 -- no pattern variable stands in a closed pattern
-closed_no_meta : (declared : List Token) (p : Pattern) → EachLeaf (closed_over declared) p → HasNoMeta p
+pub closed_no_meta : (declared : List Token) (p : Pattern) → EachLeaf (closed_over declared) p → HasNoMeta p
 closed_no_meta declared bot h = tt
 closed_no_meta declared top h = tt
 closed_no_meta declared (var x) h = tt
@@ -125,4 +125,4 @@ lemma_gains names k place t few kept places may =
     subst (λ (text : List ℕ). Gains names k (with_stated k t.conclusion) text (stated_assertion true declared (length k.stated) t.conclusion)) same
     (gains names k t.conclusion true (written_statements (theorem_statement declared (length k.stated) t.conclusion tree ∷ [])) (record { begun = may.begun; closed = may.closed })
     (λ bytes fits. theorem_fits declared k.stated bytes t.conclusion t.derivation (stated_cites k.stated) place fits few may.closed concludes may.used (placed declared k.stated place bytes places fits) may.cites)
-    (λ bytes fits. theorem_is_gained declared k.stated bytes t.conclusion t.derivation (stated_cites k.stated) place fits few may.closed concludes may.used (placed declared k.stated place bytes places fits) may.cites))
+    (λ bytes fits. theorem_gains_just declared k.stated bytes t.conclusion t.derivation (stated_cites k.stated) place fits few may.closed concludes may.used (placed declared k.stated place bytes places fits) may.cites))

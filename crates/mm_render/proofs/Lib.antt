@@ -23,3 +23,8 @@ pub mod NamedStatements
 pub mod KeepingLaws
 pub mod PlaceLaws
 pub mod PartLaws
+pub mod Allowing
+pub mod DeclaredStates
+pub mod HeaderStates
+pub mod ImageLeaves
+pub mod SmallTexts

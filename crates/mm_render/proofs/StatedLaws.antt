@@ -1,5 +1,5 @@
 -- Closed statements behind a text that fits.
-use Rattle.std.proofs.Common.{◌≡◌, ℕ, ◌+◌, ◌<◌, ◌^◌, Bool, true, false, List, [], ◌∷◌, ◌++◌, length, zero, suc, map, refl, ap, ◌∙◌, sym, subst, arith, append_assoc, length-append, ◌⊎◌, inl, inr, Option, Some, None, slice_get}
+use Rattle.std.proofs.Common.{◌≡◌, ℕ, ◌+◌, ◌<◌, ◌^◌, Bool, true, false, List, [], ◌∷◌, ◌++◌, length, zero, suc, map, refl, ap, ◌∙◌, sym, subst, arith, append_assoc, length-append, ◌⊎◌, inl, inr, Option, Some, None, slice_get, append-nil}
 use Rattle.std.proofs.Math.Path.{fun_ext}
 use Rattle.std.specs.Prelude.{◌==◌, ◌&&◌, ◌||◌, not, if◌then◌else◌, codes, bytes_eq, flat_map, Contains}
 use Rattle.std.specs.List.{list_any, list_all}
@@ -24,20 +24,22 @@ use Rattle.mm_header.specs.Header.{header_rows}
 use Rattle.mm_header.specs.HeaderContext.{header_context, header_labels}
 use Rattle.mm_header.proofs.HeaderValid.{header_fine, header_ends}
 use Rattle.ml_pat.specs.Patterns.{Pattern}
+use Rattle.ml_kernel.specs.Theorems.{Derivation}
+use Rattle.ml_kernel.specs.Concluding.{Concludes}
 use Rattle.ml_kernel.proofs.InstanceLaws.{instance-without}
 use Rattle.mm_render.specs.Labels.{name_label, statement_label, own_labels}
 use Rattle.mm_render.specs.Leaves.{EachLeaf}
 use Rattle.mm_render.specs.Serving.{IsAssertion, closed_frame, punctuation, Declares, Serves}
 use Rattle.mm_render.specs.Tokens.{letters_of, text_by, name_of, own_naming}
 use Rattle.mm_render.specs.Trees.{cite}
-use Rattle.mm_render.specs.Derivations.{holds_text, Cites, derivation_tree, AreSound}
+use Rattle.mm_render.specs.Derivations.{holds_text, Cites, CitesOnly, EachUsed, derivation_tree, AreSound}
 use Rattle.mm_render.specs.Statements.{NameKind, sort_name, symbol_name, value_name, kind_front, IsName, typecode_of}
 use Rattle.mm_render.specs.Fitting.{AreNames, Holds}
-use Rattle.mm_frame.specs.Assertions.{Assertion, assertions_in, assertions_of, form_assertion, with_assertion_first}
+use Rattle.mm_frame.specs.Assertions.{Assertion, assertions_in, assertions_of, form_assertion, with_assertion_first, form_typing, typings_in, typings_of, with_typing_first}
 use Rattle.mm_frame.proofs.Stated.{appended_states}
 use Rattle.mm_text.proofs.Writing.{written_statement}
 use Rattle.mm_text.specs.Statements.{Statements, next_statement, statements_from}
-use Rattle.mm_render.specs.Stating.{stated_assertion, AxiomIsGained, TheoremIsGained, closed_over, AreClosedOver, stated_frame, HoldsStated, axiom_statement, theorem_statement, closed_citing, ArePlaced, HeaderFitsStated, AxiomFits, TheoremFits}
+use Rattle.mm_render.specs.Stating.{FitsStated, stated_assertion, AxiomIsGained, TheoremIsGained, closed_over, AreClosedOver, stated_frame, HoldsStated, axiom_statement, theorem_statement, closed_citing, ArePlaced, HeaderFitsStated, AxiomFits, TheoremFits}
 use Rattle.mm_render.proofs.LeafLaws.{EachLeaf-implied, tested_leaves, PassFixed, both_true, list_all-append, list_all-text}
 use Rattle.mm_render.proofs.NameLaws.{name_facts}
 use Rattle.mm_render.proofs.SpeltLaws.{LabelFacts, label_facts, header_spelt, postorder_spelt, labels_clean, labels_plain, labels_go_on, labels_uncompressed, statement_label-is_label, statement_label-differs}
@@ -461,15 +463,27 @@ theorem_fits declared stated bytes q d k place (c, leaves, w) few closed conclud
 
 -- what is gained
 
+-- a text with some bytes behind it has gained just this assertion, and no typing
+abbrev pub GainsJust : List ℕ → List ℕ → Assertion → Type 0
+GainsJust bytes appended a = (assertions_of (bytes ++ appended) ≡ assertions_of bytes ++ a ∷ []) × (typings_of (bytes ++ appended) ≡ typings_of bytes)
+
 -- one written statement of a form that makes an assertion
-gained_one : (c : Context) (bytes : List ℕ) (tokens : List Token) (form : Form) (a : Assertion) → Leaves bytes c → list_all is_plain_token tokens ≡ true → is_one_statement tokens ≡ true → form_of tokens ≡ Some form → form_assertion c (Some form) ≡ Some a
-    → assertions_of (bytes ++ written_statements (tokens ∷ [])) ≡ assertions_of bytes ++ a ∷ []
-gained_one c bytes tokens form a leaves plain_ones one says makes =
+gained_one : (c : Context) (bytes : List ℕ) (tokens : List Token) (form : Form) (a : Assertion) → Leaves bytes c → list_all is_plain_token tokens ≡ true → is_one_statement tokens ≡ true → form_of tokens ≡ Some form → form_assertion c (Some form) ≡ Some a → form_typing (Some form) ≡ None
+    → GainsJust bytes (written_statements (tokens ∷ [])) a
+gained_one c bytes tokens form a leaves plain_ones one says makes types_none =
     let read : statements_from (length bytes) (written tokens ++ []) ≡ next_statement (statement (length bytes) tokens) (statements_from (length bytes + length (written tokens)) []) = written_statement (length bytes) tokens [] plain_ones one in
     let made : form_assertion c (form_of tokens) ≡ Some a = ap (form_assertion c) says ∙ makes in
-    (appended_states bytes (written_statements (tokens ∷ [])) c leaves.white leaves.fine).0
-    ∙ ap (λ (ss : Statements). assertions_of bytes ++ assertions_in c ss) read
-    ∙ ap (λ (o : Option Assertion). assertions_of bytes ++ with_assertion_first o []) made
+    let typed : form_typing (form_of tokens) ≡ None = ap form_typing says ∙ types_none in
+    let both : (assertions_of (bytes ++ written_statements (tokens ∷ [])) ≡ assertions_of bytes ++ assertions_in c (statements_from (length bytes) (written tokens ++ []))) × (typings_of (bytes ++ written_statements (tokens ∷ [])) ≡ typings_of bytes ++ typings_in (statements_from (length bytes) (written tokens ++ []))) =
+    appended_states bytes (written_statements (tokens ∷ [])) c leaves.white leaves.fine in (
+      both.0
+          ∙ ap (λ (ss : Statements). assertions_of bytes ++ assertions_in c ss) read
+          ∙ ap (λ (o : Option Assertion). assertions_of bytes ++ with_assertion_first o []) made,
+      both.1
+          ∙ ap (λ (ss : Statements). typings_of bytes ++ typings_in ss) read
+          ∙ ap (λ (o : Option Hypothesis). typings_of bytes ++ with_typing_first o []) typed
+          ∙ append-nil (typings_of bytes),
+    )
 
 stated_made : (declared : List Token) (stated : List Pattern) (c : Context) (p : Pattern) (proved : Bool) → HoldsStated declared stated c → EachLeaf (closed_over declared) p
     → (let a : Assertion = record { is_proved = proved; frame = frame_of c.scope (statement_label (length stated)) (holds_text (own_naming declared) p) } in a) ≡ stated_assertion proved declared (length stated) p
@@ -477,16 +491,22 @@ stated_made declared stated c p proved w closed =
     ap (λ (f : Frame). let a : Assertion = record { is_proved = proved; frame = f } in a)
     (ap (λ (s : Scope). frame_of s (statement_label (length stated)) (holds_text (own_naming declared) p)) w.base.scope ∙ header_frame (statement_label (length stated)) (holds_text (own_naming declared) p) (all_unneeded declared p w.names closed))
 
-pub axiom_is_gained : AxiomIsGained
-axiom_is_gained declared stated bytes p (c, leaves, w) few closed =
+pub axiom_gains_just : (declared : List Token) (stated : List Pattern) (bytes : List ℕ) (p : Pattern) → FitsStated declared stated bytes → length stated < 2 ^ 64 → EachLeaf (closed_over declared) p
+    → GainsJust bytes (written_statements (axiom_statement declared (length stated) p ∷ [])) (stated_assertion false declared (length stated) p)
+axiom_gains_just declared stated bytes p (c, leaves, w) few closed =
     let may : MayBeStated c (statement_label (length stated)) (codes "|-") (text_by (letters_of (own_naming declared)) p) = closed_may_be_stated declared stated c p w few closed in
     let adds : Adds c (length bytes) (axiom_statement declared (length stated) p ∷ []) (with_statement c (length stated) (holds_text (own_naming declared) p)) = adds_axiom declared stated c (length bytes) p w few closed in
     gained_one c bytes (axiom_statement declared (length stated) p) (plain (statement_label (length stated) ∷ []) asserts (holds_text (own_naming declared) p) []) (stated_assertion false declared (length stated) p) leaves adds.0 adds.1
     (plain_tokens_say (statement_label (length stated) ∷ []) asserts (codes "|-") (text_by (letters_of (own_naming declared)) p) may.clean_label may.clean refl)
-    (ap Some (stated_made declared stated c p false w closed))
+    (ap Some (stated_made declared stated c p false w closed)) refl
 
-pub theorem_is_gained : TheoremIsGained
-theorem_is_gained declared stated bytes q d k place (c, leaves, w) few closed concludes used placed only =
+pub axiom_is_gained : AxiomIsGained
+axiom_is_gained declared stated bytes p fits few closed = (axiom_gains_just declared stated bytes p fits few closed).0
+
+pub theorem_gains_just : (declared : List Token) (stated : List Pattern) (bytes : List ℕ) (q : Pattern) (d : Derivation) (k : Cites) (place : Pattern → ℕ) → FitsStated declared stated bytes → length stated < 2 ^ 64 → EachLeaf (closed_over declared) q
+    → Concludes [] d q → EachUsed (closed_over declared) d → ArePlaced stated k place → CitesOnly k d
+    → GainsJust bytes (written_statements (theorem_statement declared (length stated) q (derivation_tree (own_labels (length stated)) (closed_citing place) d) ∷ [])) (stated_assertion true declared (length stated) q)
+theorem_gains_just declared stated bytes q d k place (c, leaves, w) few closed concludes used placed only =
     let tree : ProofTree = derivation_tree (own_labels (length stated)) (closed_citing place) d in
     let proof : Proves c tree (holds_text (own_naming declared) q) = derivation_proves c (own_labels (length stated)) (own_naming declared) (closed_over declared) [] k (closed_citing place) (serves_closed declared c (length stated) w.base w.names) (closed_sound declared stated c k place w placed) d q concludes used only in
     let may : MayBeStated c (statement_label (length stated)) (codes "|-") (text_by (letters_of (own_naming declared)) q) = closed_may_be_stated declared stated c q w few closed in
@@ -494,4 +514,7 @@ theorem_is_gained declared stated bytes q d k place (c, leaves, w) few closed co
     let spelt : list_all is_label (postorder tree) ≡ true = postorder_spelt c tree (holds_text (own_naming declared) q) w.base.scope w.spelt proof in
     gained_one c bytes (theorem_statement declared (length stated) q tree) (plain (statement_label (length stated) ∷ []) proves (holds_text (own_naming declared) q) (postorder tree)) (stated_assertion true declared (length stated) q) leaves adds.0 adds.1
     (proof_tokens_say (statement_label (length stated) ∷ []) (holds_text (own_naming declared) q) (postorder tree) may.clean_label may.clean (labels_clean (postorder tree) spelt))
-    (ap Some (stated_made declared stated c q true w closed))
+    (ap Some (stated_made declared stated c q true w closed)) refl
+
+pub theorem_is_gained : TheoremIsGained
+theorem_is_gained declared stated bytes q d k place fits few closed concludes used placed only = (theorem_gains_just declared stated bytes q d k place fits few closed concludes used placed only).0

@@ -1,7 +1,7 @@
 -- Which texts fit what a renderer keeps.
 use Rattle.std.specs.Prelude.{◌≡◌, ℕ, ◌<◌, ◌≤◌, ◌^◌, Bool, true, false, IsTrue, List, [], ◌∷◌, ◌++◌, length, take, drop, slice_index_or}
 use Rattle.mm_text.specs.Bytes.{Token}
-use Rattle.mm_frame.specs.Assertions.{Assertion, assertions_of}
+use Rattle.mm_frame.specs.Assertions.{Assertion, assertions_of, typings_of}
 use Rattle.mm_frame.specs.FrameLaws.{written_statements}
 use Rattle.mm_header.specs.HeaderText.{header_bytes}
 use Rattle.ml_pat.specs.Patterns.{Pattern, bot}
@@ -28,10 +28,11 @@ AppendsFittingNames names old new appended = (bytes : List ℕ) → Fits names o
 abbrev pub AppendsFitting : Kept → Kept → List ℕ → Type 0
 AppendsFitting old new appended = (names : List Token) → AppendsFittingNames names old new appended
 
--- and it has gained just this assertion
+-- and it has gained just this assertion, and no typing
 pub record Gains (names : List Token) (old new : Kept) (appended : List ℕ) (a : Assertion) : Type 0 where
   pub fits : AppendsFittingNames names old new appended
   pub gained : (bytes : List ℕ) → Fits names old bytes → assertions_of (bytes ++ appended) ≡ assertions_of bytes ++ a ∷ []
+  pub typings : (bytes : List ℕ) → Fits names old bytes → typings_of (bytes ++ appended) ≡ typings_of bytes
 
 -- what may be stated: the header was written, and the pattern is closed over the names that were declared
 pub record MayState (names : List Token) (k : Kept) (p : Pattern) : Type 0 where

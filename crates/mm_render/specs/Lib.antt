@@ -17,3 +17,6 @@ pub mod Keeping
 pub mod Places
 pub mod PlaceTable
 pub mod Parts
+pub mod Justifying
+pub mod JustifyingLaws
+pub mod JustifyingCases

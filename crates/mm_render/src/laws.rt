@@ -1,12 +1,17 @@
 // Laws on the definitions, and the definitions tried on small patterns.
 ghost use Rattle.mm_render.specs.Cases.{TriedCases};
+ghost use Rattle.mm_render.specs.JustifyingCases.{ConclusionIsNoAxiom, SmallJustifies};
+ghost use Rattle.mm_render.specs.JustifyingLaws.{AllDeclared, AxiomHasOnly, ClosedHasNoMeta, ClosedStays, DeclaredHasOnly, FitsLater, GainedAreOwn, GroundHasNone, HeaderHasOnly, ImageIsClosed, ImageStays, LastIsStated, OwnAxiomStays, RuleImageIsClosed, RuleImageIsOwn, RuleImageStays, StatedStays, TheoremHasOnly, TheoremJustifies};
 ghost use Rattle.mm_render.specs.Keeping.{BegunFits, DeclaredFits, EmptyFits};
 ghost use Rattle.mm_render.specs.Stating.{AxiomFits, AxiomIsGained, HeaderFitsStated, NamesFitStated, StatedIsValid, TheoremFits, TheoremIsGained};
 ghost use Rattle.mm_render.specs.RenderLaws.{DerivationsAreProved, FreshnessIsProved, PatternsParse, PredicatesAreProved, RulesAreProved, SubstitutionIsProved};
 
-/// The definitions say of small patterns what is written for them.
+/// The definitions say of small patterns what is written for them, of a small text that it justifies a run, and of an axiom
+/// that says that one symbol reaches another that no program has it.
 pub fn tried()
     ensures cases { TriedCases }
+    ensures justifies { SmallJustifies }
+    ensures refuses { ConclusionIsNoAxiom }
 {}
 
 /// What is written as a proof that a pattern is one, or of a judgement on it, proves that, in every database that has the
@@ -39,4 +44,38 @@ pub fn fitting_laws()
     ensures empty { EmptyFits }
     ensures begun { BegunFits }
     ensures declared { DeclaredFits }
+{}
+
+/// A text that fits and whose axioms are the header's rows, declarations and axioms of a program still has only these behind
+/// declarations of the program's tokens, axioms that its definition says and theorems. It justifies a run of the program where
+/// its last theorem says that the start reaches the end.
+pub fn justifying_laws()
+    ensures header { HeaderHasOnly }
+    ensures declared { DeclaredHasOnly }
+    ensures axiomatic { AxiomHasOnly }
+    ensures theorem { TheoremHasOnly }
+    ensures justifies { TheoremJustifies }
+{}
+
+/// What is true of images, of what fits and of what was stated stays so when names and statements are added.
+pub fn later_laws()
+    ensures fits { FitsLater }
+    ensures all { AllDeclared }
+    ensures gained { GainedAreOwn }
+    ensures image { ImageStays }
+    ensures rule { RuleImageStays }
+    ensures own { OwnAxiomStays }
+    ensures closed { ClosedStays }
+    ensures stated { StatedStays }
+    ensures last { LastIsStated }
+{}
+
+/// The image of a rule is an axiom of its program. The images of patterns without variables are closed over the names, and have
+/// no pattern variables either.
+pub fn image_laws()
+    ensures own { RuleImageIsOwn }
+    ensures ground { GroundHasNone }
+    ensures image { ImageIsClosed }
+    ensures rule { RuleImageIsClosed }
+    ensures meta { ClosedHasNoMeta }
 {}

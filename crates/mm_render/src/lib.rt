@@ -10,6 +10,11 @@
 //! its proof, both without variables and hypotheses as yet; a text that fits, with these behind it, fits, and has gained just
 //! that axiom or theorem. `closed_laws` says the same of any such axiom and derivation, whoever wrote them.
 //!
+//! **What it justifies.** A database justifies a run of a program where it is valid, assumes nothing but the header's rows,
+//! declarations and what the program's definition says, and its last theorem says that the start reaches the end
+//! (`specs/Justifying`). `justifying_laws` say that a text that fits comes to do so by these calls; `later_laws` and `image_laws`
+//! say what stays true meanwhile, and of which patterns images are closed.
+//!
 //! **How it is written.** What is still to be written lies on a stack of works, each of which comes apart into smaller ones, so
 //! that deep patterns and derivations need no recursion (`specs/Writing`, `specs/Parts`).
 #![tactic(auto)]
@@ -28,7 +33,9 @@ mod substitution;
 mod words;
 mod works;
 
-pub use laws::{closed_laws, fitting_laws, proof_laws, tried};
+pub use laws::{
+    closed_laws, fitting_laws, image_laws, justifying_laws, later_laws, proof_laws, tried,
+};
 pub use renderer::Renderer;
 
 #[cfg(test)]

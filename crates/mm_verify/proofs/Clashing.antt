@@ -23,7 +23,7 @@ clashes-drop others (suc k) [] h = h
 clashes-drop others (suc k) (w ∷ ws) h = or-true (has_token others w || has_token ws w) (clashes others ws) (clashes-drop others k ws h)
 
 -- the tokens from the one before a place on
-words-before : (bytes : List ℕ) (ts : List MmToken) (at : ℕ) (d : MmToken) → 0 < at → at ≤ length ts → words_of bytes (drop (at - 1) ts) ≡ word_of bytes (slice_index_or ts (at - 1) d) ∷ words_of bytes (drop at ts)
+pub words-before : (bytes : List ℕ) (ts : List MmToken) (at : ℕ) (d : MmToken) → 0 < at → at ≤ length ts → words_of bytes (drop (at - 1) ts) ≡ word_of bytes (slice_index_or ts (at - 1) d) ∷ words_of bytes (drop at ts)
 words-before bytes ts at d some within =
     let low : at - 1 < length ts = omega arith in
     let next : suc (at - 1) ≡ at = omega arith in
@@ -56,7 +56,7 @@ seen-more others bytes ts at d w q old new v some within is grown had =
     ∙ sym (ap (λ (us : List Token). has_token others q || has_token us q) (words-before bytes ts at d some within))
 
 -- one more label at the end of some
-has_token-push : (ws : List Token) (w q : Token) → has_token (ws ++ w ∷ []) q ≡ (bytes_eq w q || has_token ws q)
+pub has_token-push : (ws : List Token) (w q : Token) → has_token (ws ++ w ∷ []) q ≡ (bytes_eq w q || has_token ws q)
 has_token-push [] w q = refl
 has_token-push (v ∷ ws) w q = ap (λ (b : Bool). bytes_eq v q || b) (has_token-push ws w q) ∙ or-swap (bytes_eq v q) (bytes_eq w q) (has_token ws q)
 

@@ -1,6 +1,7 @@
 mod Alone
 mod Apartness
 mod Clashing
+mod Scattering
 mod Cuts
 mod FewSteps
 mod Fillings

@@ -11,6 +11,7 @@ pub mod Meaning
 pub mod Reading
 pub mod Citing
 pub mod ProofSteps
+pub mod Marks
 pub mod Judging
 pub mod Checking
 pub mod Stating

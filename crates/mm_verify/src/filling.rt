@@ -1,5 +1,5 @@
 // Statements of assertions with the texts of a stack's entries in the places of variables.
-ghost use Rattle.std.specs.Prelude.{◌≡◌, ◌+◌, ◌-◌, ◌<◌, ◌≤◌, ◌++◌, [], length, drop, OnOk};
+ghost use Rattle.std.specs.Prelude.{◌≡◌, ◌+◌, ◌-◌, ◌<◌, ◌≤◌, ◌++◌, ◌∷◌, [], ℕ, List, false, length, drop, OnOk, MatchOption};
 ghost use Rattle.mm_frame.specs.Numbered.{numbers_behind_first, same_numbers};
 ghost use Rattle.mm_verify.specs.Filling.{part_text, filled, IsWithin, AreWithin};
 
@@ -30,8 +30,8 @@ fn behind_typecode(entry: &[u32]) -> &[u32]
     }
 }
 
-/// Appends the statement of some parts, with the texts of the entries from `base` on. Room for the
-/// whole is asked for at once.
+/// Appends the statement of some parts, with the texts of the entries from `base` on. It takes time in
+/// the length of what is appended.
 pub(crate) fn fill(
     parts: &[Part],
     stack: &Stack,
@@ -41,26 +41,24 @@ pub(crate) fn fill(
     requires within { AreWithin (length (drop base stack.now)) parts.now }
     ensures { OnOk result (to.new.items ≡ to.old.items ++ filled (drop base stack.now) parts.now) }
 {
-    to.reserve(filled_length(parts, stack, base)?)?;
     for part in parts {
-        to.extend_from_slice(text_of(part, stack, base))?;
+        append_part(part, stack, base, to)?;
     }
     Ok(())
 }
 
-/// The length of the statement of some parts; where it is past all memory, memory is wanting.
-fn filled_length(parts: &[Part], stack: &Stack, base: usize) -> Result<usize, AllocError>
-    requires within { AreWithin (length (drop base stack.now)) parts.now }
+/// Appends the text that stands for a part.
+fn append_part(part: &Part, stack: &Stack, base: usize, to: &mut Vec<u32>) -> Result<(), AllocError>
+    requires within { IsWithin (length (drop base stack.now)) part.now }
+    ensures { OnOk result (to.new.items ≡ to.old.items ++ part_text (drop base stack.now) part.now) }
 {
-    let mut sum: usize = 0;
-    for part in parts {
-        let more = text_of(part, stack, base).len();
-        sum = match sum.checked_add(more) {
-            Some(longer) => longer,
-            None => return Err(AllocError),
-        };
+    match part {
+        Part::Kept(symbol) => to.push(*symbol)?,
+        Part::Replaced(_symbol, place) => {
+            to.extend_from_slice(behind_typecode(stack.entry_above(base, *place)))?;
+        }
     }
-    Ok(sum)
+    Ok(())
 }
 
 /// Whether an entry is the statement of some parts.
@@ -70,10 +68,40 @@ pub(crate) fn is_filled(parts: &[Part], stack: &Stack, base: usize, entry: &[u32
 {
     let mut rest = entry;
     for part in parts {
-        match rest.strip_prefix(text_of(part, stack, base)) {
+        match behind_part(part, stack, base, rest) {
             Some(behind) => rest = behind,
             None => return false,
         }
     }
     rest.is_empty()
+}
+
+/// What stands behind the text of a part, where symbols begin with that text.
+fn behind_part<'r>(part: &Part, stack: &Stack, base: usize, symbols: &'r [u32]) -> Option<&'r [u32]>
+    requires within { IsWithin (length (drop base stack.now)) part.now }
+    ensures { (others : List ℕ) → MatchOption result (same_numbers symbols.now (part_text (drop base stack.now) part.now ++ others) ≡ false) (λ r. same_numbers symbols.now (part_text (drop base stack.now) part.now ++ others) ≡ same_numbers r.now others) }
+{
+    match part {
+        Part::Kept(symbol) => behind_symbol(*symbol, symbols),
+        Part::Replaced(_symbol, place) => {
+            behind_text(behind_typecode(stack.entry_above(base, *place)), symbols)
+        }
+    }
+}
+
+/// What stands behind a symbol, where symbols begin with it.
+fn behind_symbol(symbol: u32, symbols: &[u32]) -> Option<&[u32]>
+    ensures { (others : List ℕ) → MatchOption result (same_numbers symbols.now (symbol ∷ others) ≡ false) (λ r. same_numbers symbols.now (symbol ∷ others) ≡ same_numbers r.now others) }
+{
+    match symbols {
+        [first, behind @ ..] => if *first == symbol { Some(behind) } else { None },
+        [] => None,
+    }
+}
+
+/// What stands behind a text, where symbols begin with it.
+fn behind_text<'r>(text: &[u32], symbols: &'r [u32]) -> Option<&'r [u32]>
+    ensures { (others : List ℕ) → MatchOption result (same_numbers symbols.now (text.now ++ others) ≡ false) (λ r. same_numbers symbols.now (text.now ++ others) ≡ same_numbers r.now others) }
+{
+    symbols.strip_prefix(text)
 }

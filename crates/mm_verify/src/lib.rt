@@ -23,6 +23,7 @@ mod parts;
 mod place;
 mod proof_fault;
 mod proof_text;
+mod scattered;
 mod stack;
 #[cfg(test)]
 mod tests;

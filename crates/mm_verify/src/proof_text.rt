@@ -19,6 +19,7 @@ ghost use Rattle.mm_verify.specs.ProofSteps.{given_steps, clashes, listed_steps,
 use crate::known::Known;
 use crate::letters::ReadSteps;
 use crate::machine::Step;
+use crate::scattered::are_scattered;
 use mm_frame::Hyp;
 use mm_text::MmToken;
 use std::alloc::{AllocError, Global};
@@ -159,6 +160,9 @@ fn has_clash<'a>(
 ) -> Result<bool, AllocError>
     ensures { IfOk result (λ r. r ≡ clashes (labels_in (hypotheses_held hyps.now)) (words_of bytes.now labels.now)) }
 {
+    if are_scattered(bytes, hyps, labels) {
+        return Ok(false);
+    }
     let mut seen = own_labels(alloc, hyps)?;
     let mut at = labels.len();
     while at > 0 {

@@ -1,11 +1,23 @@
+use Rattle.std.proofs.Common.{subst, sym}
+use Rattle.kore_text.specs.Trees.{PatternTree}
 use Rattle.kore_text.specs.Faults.{IsPattern}
-use Rattle.kore_prove.specs.Refusals.{IsRefusal}
-use Rattle.kore_prove.specs.Causes.{IsNoTermOf}
-use Rattle.kore_prove.proofs.WordsOfCases.{numbered_and, refused_fact}
+use Rattle.kore_prove.specs.declared.accept.Refusal.{Refusal}
+use Rattle.kore_prove.specs.Acceptance.{IsAcceptedTerm, sort_number}
+use Rattle.kore_prove.specs.Causes.{IsRefusedTerm}
+use Rattle.kore_prove.specs.Refusals.{AtNumber}
+use Rattle.kore_prove.proofs.OpenBrackets.{pattern-shallow}
+use Rattle.kore_prove.proofs.WordsOfCases.{refused_form, refused_fault, spelled_pattern, no_term}
 use Rattle.kore_prove.proofs.accept.accept_term.Goals as goal
 
-pub returns-in-Err-Refused-clause-refused : goal.returns-in-Err-Refused-clause-refused
-returns-in-Err-Refused-clause-refused c =
-    let Q : Type 0 = IsNoTermOf c.args.program.now c.args.bytes.now in
-    numbered_and (IsRefusal IsPattern c.args.bytes.now) Q c.term_refusal.result c.term_refusal.ensures
-    (refused_fact Q c.in-Err-Refused.field-0 c.in-Err-Refused.field-0-0 c.in-Err-Refused.field-0-1 c.in-Err-Refused.field-0-is c.in-Err-Refused.ensures.refused)
+pub accept_pattern-requires : goal.accept_pattern-requires
+accept_pattern-requires c = pattern-shallow _ _ c.in-Ok.ensures.found
+
+pub returns-in-Ok-clause-refused : goal.returns-in-Ok-clause-refused
+returns-in-Ok-clause-refused c =
+    refused_form IsPattern c.args.bytes.now c.accept_pattern.result (spelled_pattern _ _ c.in-Ok.ensures.found) c.accept_pattern.ensures.refused (λ none few tree start reads is.
+    none few start (subst (λ (t : PatternTree). IsAcceptedTerm c.args.program.now.sig (sort_number c.args.program.now.top) t start) (c.in-Ok.ensures.only tree reads) is))
+
+pub returns-in-Err-clause-refused : goal.returns-in-Err-clause-refused
+returns-in-Err-clause-refused c =
+    subst (λ (r : Refusal). AtNumber r (IsRefusedTerm c.args.program.now c.args.bytes.now)) (sym c.refusal_of.ensures)
+    (refused_fault IsPattern c.args.bytes.now c.in-Err.fault c.in-Err.ensures.fault (no_term c.text_laws.ensures.pattern c.args.program.now c.args.bytes.now))

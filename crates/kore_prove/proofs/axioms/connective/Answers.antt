@@ -1,6 +1,6 @@
 use Rattle.std.proofs.lemmas.Grind.{common_steps}
 use Rattle.std.proofs.Common.{rules, ◌≡◌, [], ◌∷◌, ap, arith, length}
-use Rattle.kore_ast.specs.Trees.{sort_trees, pattern_trees}
+use Rattle.kore_text.specs.Trees.{sort_trees, pattern_trees}
 use Rattle.kore_prove.proofs.Attributes.{only_item}
 use Rattle.kore_prove.proofs.Forms.{built-parts}
 use Rattle.kore_prove.proofs.Sides.{one_sort_tree, connective_found}

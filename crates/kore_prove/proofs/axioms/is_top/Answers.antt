@@ -3,7 +3,7 @@ use Rattle.std.proofs.lemmas.Bool.{false≢true}
 use Rattle.std.proofs.lemmas.List.{length-map}
 use Rattle.std.proofs.lemmas.Grind.{common_steps}
 use Rattle.kore_ast.specs.Plain.{plain_sort, plain_pattern}
-use Rattle.kore_ast.specs.declared.tree.Op.TheVariants.{Top}
+use Rattle.kore_text.specs.declared.names.Op.TheVariants.{Top}
 use Rattle.kore_prove.proofs.Sides.{same_connected}
 use Rattle.kore_prove.proofs.axioms.is_top.Goals as goal
 

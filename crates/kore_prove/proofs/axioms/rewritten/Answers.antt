@@ -1,7 +1,7 @@
 use Rattle.std.proofs.lemmas.Grind.{common_steps}
 use Rattle.std.proofs.Common.{arith, length, ◌≡◌}
 use Rattle.kore_ast.specs.Plain.{plain_sort, plain_pattern}
-use Rattle.kore_ast.specs.declared.tree.Op.TheVariants.{Rewrites}
+use Rattle.kore_text.specs.declared.names.Op.TheVariants.{Rewrites}
 use Rattle.kore_prove.proofs.Sides.{same_two, named_by}
 use Rattle.kore_prove.proofs.axioms.rewritten.Goals as goal
 use Rattle.kore_prove.proofs.axioms.rewritten.Goals.{in_default-via-then-sides-lt2, in_default-via-else-sides-lt2+else-sides-lt3}

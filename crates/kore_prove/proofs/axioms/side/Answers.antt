@@ -1,7 +1,7 @@
 use Rattle.std.proofs.lemmas.Grind.{common_steps}
 use Rattle.std.proofs.Common.{arith, length, ◌≡◌}
 use Rattle.kore_ast.specs.Plain.{plain_sort, plain_pattern}
-use Rattle.kore_ast.specs.declared.tree.Op.TheVariants.{And}
+use Rattle.kore_text.specs.declared.names.Op.TheVariants.{And}
 use Rattle.kore_prove.proofs.Sides.{same_two}
 use Rattle.kore_prove.proofs.axioms.side.Goals as goal
 use Rattle.kore_prove.proofs.axioms.side.Goals.{in_default-via-then-args-lt2, in_default-via-else-args-lt2+else-args-lt3}

@@ -2,7 +2,7 @@ use Rattle.std.proofs.Common.{rules, ◌≡◌, ap, ◌∙◌, [], codes, List, 
 use Rattle.std.specs.Str.{bytes_eq}
 use Rattle.std.proofs.lemmas.List.{nil_from_length}
 use Rattle.std.proofs.lemmas.Grind.{common_steps}
-use Rattle.kore_ast.specs.Trees.{no_sorts, no_patterns}
+use Rattle.kore_text.specs.Trees.{no_sorts, no_patterns}
 use Rattle.kore_prove.proofs.Forms.{app-parts, no-sort-trees, no-pattern-trees}
 use Rattle.kore_prove.proofs.Attributes.{constructor_test}
 use Rattle.kore_prove.proofs.declared.is_constructor.Goals as goal

@@ -3,7 +3,7 @@ use Rattle.kore_prove.proofs.WordsOfCases.{passed_on}
 use Rattle.kore_prove.specs.Acceptance.{AllDenote}
 use Rattle.rule_core.specs.Named.{number_of}
 use Rattle.rule_core.specs.declared.signature.SymInfo.{SymInfo}
-use Rattle.kore_ast.specs.Trees.{pattern_trees}
+use Rattle.kore_text.specs.Trees.{pattern_trees}
 use Rattle.kore_ast.specs.Plain.{plain_pattern}
 use Rattle.std.proofs.lemmas.Grind.{common_steps}
 use Rattle.std.proofs.lemmas.Result.{err_from_is_err_and}

@@ -13,11 +13,11 @@ instance-requires c =
     let f = found c.args.program.now.rules.items c.args.config.now c.in-Some.i c.in-Some.subst c.args.program.now.sig.symbols c.index-rule.result.now first c.requires.runnable c.index-rule.ensures in
     fits c.in-Some.subst c.args.program.now.sig.symbols (plain_pattern c.index-rule.result.now.right) f.runnable.right f.empty
 
-pub returns-in_ok-instance-in-Some : goal.returns-in_ok-instance-in-Some
-returns-in_ok-instance-in-Some c =
+pub returns-in_ok-to-in-Some : goal.returns-in_ok-to-in-Some
+returns-in_ok-to-in-Some c =
     let first : IsFirstMatch (rewrite_rules c.args.program.now.rules.items) 0 c.args.config.now c.in-Some.i c.in-Some.subst = search rules in
     let f = found c.args.program.now.rules.items c.args.config.now c.in-Some.i c.in-Some.subst c.args.program.now.sig.symbols c.index-rule.result.now first c.requires.runnable c.index-rule.ensures in
-    record { step = steps c.args.program.now.rules.items c.args.config.now c.in_ok-instance-in-Some.field-0 c.in-Some.i c.in-Some.subst c.args.program.now.sig.symbols c.index-rule.result.now c.requires.in_order f c.in_ok-instance-in-Some.ensures.instance }
+    record { step = steps c.args.program.now.rules.items c.args.config.now c.in_ok-to-in-Some.to c.in-Some.i c.in-Some.subst c.args.program.now.sig.symbols c.index-rule.result.now c.requires.in_order f c.in_ok-to-in-Some.ensures.instance }
 
 pub returns-in-None : goal.returns-in-None
 returns-in-None c =

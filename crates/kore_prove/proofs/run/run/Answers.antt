@@ -10,8 +10,9 @@ loop-made-init c = record { reached = at_start; shown = c.requires.shown }
 
 pub loop-made-preserved : goal.loop-made-preserved
 loop-made-preserved c =
-    let step : Rewrites (rewrite_rules c.args.program.now.rules.items) c.loop-made.config c.in-Some.term × IsShown c.args.program.now.sig.symbols c.in-Some.term = search rules in
+    let step : Rewrites (rewrite_rules c.args.program.now.rules.items) c.loop-made.config c.in-Some.term = search rules in
+    let shown : IsShown c.args.program.now.sig.symbols c.in-Some.term = search rules in
     record {
-      reached = after_step c.loop-made.made c.loop-made.config c.in-Some.term c.loop-made.invariant.reached step.0;
-      shown = step.1;
+      reached = after_step c.loop-made.made c.loop-made.config c.in-Some.term c.loop-made.invariant.reached step;
+      shown = shown;
     }

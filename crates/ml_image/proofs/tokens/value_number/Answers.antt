@@ -12,4 +12,4 @@ returns-clause-number c =
 pub returns-clause-names : goal.returns-clause-names
 returns-clause-names c =
     let token : token_of_value c.args.sig.now c.args.sort.0 (value_of c.args.value.now) ≡ Some c.as_str.result.now = search rules in
-    gained-numbered c.args.sig.now c.args.names.now c.number.new.self c.as_str.result.now c.in_ok-number-in-Some.field-0 (inr (inr (c.args.sort.0, (value_of c.args.value.now, token)))) c.in_ok-number-in-Some.ensures.number
+    gained-numbered c.args.sig.now c.args.names.now c.number.new.self c.as_str.result.now c.in_ok-number-in-Some.field-0 (inr (inr (c.args.sort.0, (value_of c.args.value.now, (c.requires.value, token))))) c.in_ok-number-in-Some.ensures.number

@@ -1,19 +1,24 @@
 use Rattle.std.proofs.Common.{refl}
+use Rattle.mm_render.proofs.SmallTexts.{small_justifies, conclusion_is_no_axiom}
 use Rattle.mm_render.proofs.laws.tried.Goals as goal
 
 -- by computation
-pub returns : goal.returns
-returns c = record {
-  cases = record {
-    application = refl;
-    universal = refl;
-    syntax = refl;
-    bound = refl;
-    other = refl;
-    replaced = refl;
-    equality = refl;
-    schema = refl;
-    instantiated = refl;
-    step = refl;
-  };
+pub returns-clause-cases : goal.returns-clause-cases
+returns-clause-cases c = record {
+  application = refl;
+  universal = refl;
+  syntax = refl;
+  bound = refl;
+  other = refl;
+  replaced = refl;
+  equality = refl;
+  schema = refl;
+  instantiated = refl;
+  step = refl;
 }
+
+pub returns-clause-justifies : goal.returns-clause-justifies
+returns-clause-justifies c = small_justifies
+
+pub returns-clause-refuses : goal.returns-clause-refuses
+returns-clause-refuses c = conclusion_is_no_axiom

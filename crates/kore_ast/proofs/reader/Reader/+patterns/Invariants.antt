@@ -1,18 +1,33 @@
-use Rattle.std.proofs.Common.{◌*◌, ◌+◌, map}
+use Rattle.std.proofs.Common.{◌*◌, ◌+◌, ◌≤◌, Bool, map}
 use Rattle.kore_ast.specs.Plain.{plain_pattern}
-use Rattle.kore_ast.specs.Grammar.{spell_pattern}
-use Rattle.kore_ast.specs.Reading.{size}
+use Rattle.kore_text.specs.Grammar.{spell_pattern}
+use Rattle.kore_ast.specs.Reading.{left, size}
 use Rattle.kore_ast.proofs.Lists.{Keeps}
 use Rattle.kore_ast.proofs.reader.Reader.+patterns.Given as goal
 
 abbrev pub decreases-pattern : goal.decreases-pattern
-decreases-pattern l = 2 * size l.self.now
+decreases-pattern l = 3 * size l.self.now + 1
+
+abbrev pub decreases-named : goal.decreases-named
+decreases-named l = 3 * size l.self.now
+
+abbrev pub decreases-connected : goal.decreases-connected
+decreases-connected l = 3 * size l.self.now
+
+abbrev pub decreases-binding : goal.decreases-binding
+decreases-binding l = 3 * size l.self.now
+
+abbrev pub decreases-fold : goal.decreases-fold
+decreases-fold l = 3 * size l.self.now
 
 abbrev pub decreases-patterns : goal.decreases-patterns
-decreases-patterns l = 2 * size l.self.now + 1
+decreases-patterns l = 3 * size l.self.now + 2
 
-abbrev pub invariant-patterns-loop-patterns : goal.invariant-patterns-loop-patterns
-invariant-patterns-loop-patterns l = Keeps spell_pattern l.close (map plain_pattern l.patterns.items) l.fn.self l.self
+abbrev pub invariant-patterns-loop-self : goal.invariant-patterns-loop-self
+invariant-patterns-loop-self l = record {
+  keeps : (b : Bool) → Keeps (spell_pattern b) l.close (map plain_pattern l.patterns.items) (left l.fn.self) (left l.self);
+  shorter : size l.self ≤ size l.fn.self;
+}
 
-abbrev pub decreases-patterns-loop-patterns : goal.decreases-patterns-loop-patterns
-decreases-patterns-loop-patterns l = size l.self
+abbrev pub decreases-patterns-loop-self : goal.decreases-patterns-loop-self
+decreases-patterns-loop-self l = size l.self

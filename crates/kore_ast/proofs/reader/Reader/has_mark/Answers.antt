@@ -1,9 +1,7 @@
-use Rattle.std.proofs.Common.{◌∙◌, ap, sym}
-use Rattle.kore_ast.specs.Heads.{begins}
-use Rattle.kore_ast.proofs.HeadLaws.{has_mark-lexed}
+use Rattle.kore_text.specs.Left.{left as behind}
+use Rattle.kore_ast.proofs.Steps.{first-some}
 use Rattle.kore_ast.proofs.reader.Reader.has_mark.Goals as goal
 
-pub returns : goal.returns
-returns c =
-    c.begins.ensures ∙ ap (begins c.args.byte) c.rest.ensures
-    ∙ sym (has_mark-lexed c.args.byte c.args.self.now.at _ c.requires c.args.self.now.at_token)
+pub returns-in-Token-Punct-default-default-clause-some : goal.returns-in-Token-Punct-default-default-clause-some
+returns-in-Token-Punct-default-default-clause-some c = λ h.
+    first-some c.args.self.now.next (behind c.args.self.now.tokens) _ _ _ c.in-Token-Punct-default-default.is

@@ -1,10 +1,15 @@
-use Rattle.kore_ast.specs.Grammar.{spell_name}
-use Rattle.kore_ast.specs.Reading.{size}
+use Rattle.std.proofs.Common.{List, ℕ, ◌≤◌, ◌-◌, map}
+use Rattle.kore_text.specs.Grammar.{spell_name}
+use Rattle.kore_ast.specs.Streams.{after}
+use Rattle.kore_ast.specs.Reading.{left, size}
 use Rattle.kore_ast.proofs.Lists.{Keeps}
 use Rattle.kore_ast.proofs.reader.Reader.params.Given as goal
 
-abbrev pub invariant-loop-params : goal.invariant-loop-params
-invariant-loop-params l = Keeps spell_name 125 l.params.items l.initial.self l.self
+abbrev pub invariant-loop-self : goal.invariant-loop-self
+invariant-loop-self l = record {
+  keeps : Keeps spell_name 125 (map (λ (n : List ℕ). n) l.params.items) (after (left l.fn.self)) (left l.self);
+  shorter : size l.self ≤ size l.fn.self - 1;
+}
 
-abbrev pub decreases-loop-params : goal.decreases-loop-params
-decreases-loop-params l = size l.self
+abbrev pub decreases-loop-self : goal.decreases-loop-self
+decreases-loop-self l = size l.self

@@ -1,16 +1,9 @@
-use Rattle.std.proofs.Common.{◌∙◌, ap, sym, arith}
-use Rattle.kore_ast.specs.Pieces.{mark}
-use Rattle.kore_ast.specs.Lexed.{token}
-use Rattle.kore_ast.proofs.ReaderLaws.{mark-next}
+use Rattle.std.proofs.Common.{ap, sym, ◌∙◌}
+use Rattle.kore_text.specs.Left.{size as count}
+use Rattle.kore_ast.specs.Reading.{left}
+use Rattle.kore_ast.proofs.Steps.{after_done, count_after}
 use Rattle.kore_ast.proofs.reader.Reader.pass.Goals as goal
 
-pub advance-requires : goal.advance-requires
-advance-requires c = (mark-next c.args.byte c.args.self.now c.requires.known c.requires.comes).0
-
-pub returns : goal.returns
-returns c = record {
-  is = (mark-next c.args.byte c.args.self.now c.requires.known c.requires.comes).1
-      ∙ ap (token (mark c.args.byte) c.args.self.now.at) (sym c.advance.ensures.left);
-  depth = c.opened-depth.ensures;
-  shorter = omega arith;
-}
+pub returns-then-is_done-clause-shorter : goal.returns-then-is_done-clause-shorter
+returns-then-is_done-clause-shorter c =
+    ap count (after_done (left c.args.self.now) (sym c.is_done.ensures.same ∙ c.if-is_done.true)) ∙ count_after (left c.args.self.now)

@@ -1,8 +1,7 @@
 use Rattle.std.proofs.Common.{◌≡◌, ℕ, ◌<◌, ◌+◌, suc, length, List, ◌∷◌, drop, get_or, drop-cons, ap, sym, ◌∙◌, arith}
 use Rattle.std.specs.Prelude.{◌&&◌, ◌||◌, filter}
 use Rattle.std.specs.Global.{Vec}
-use Rattle.std.specs.Ordering.{nat_cmp}
-use Rattle.std.specs.BTreeSet.{contains}
+use Rattle.mm_frame.specs.NumberSetView.{is_number_of}
 use Rattle.mm_frame.specs.FramesHeld.{in_groups, groups_of}
 use Rattle.mm_frame.proofs.Groups.{groups-step}
 use Rattle.mm_frame.proofs.scopes.Scopes.apart_within.Goals as goal
@@ -12,7 +11,7 @@ loop-group-preserved c = λ a b.
     let xs = c.args.self.now.disjoint.items in
     let i = c.loop-group.group-index in
     let g = c.group-item.result in
-    let p = contains nat_cmp c.args.needed.now in
+    let p = is_number_of c.args.needed.now in
     let before = in_groups (groups_of c.loop-group.groups.items) a b in
     let within : i < length xs = omega arith in
     let next : suc i ≡ i + 1 = omega arith in

@@ -1,6 +1,5 @@
 use Rattle.std.proofs.Common.{◌≡◌, ℕ, drop}
-use Rattle.std.specs.Ordering.{nat_cmp}
-use Rattle.std.specs.BTreeSet.{contains}
+use Rattle.mm_frame.specs.NumberSetView.{is_number_of}
 use Rattle.std.specs.Prelude.{◌||◌}
 use Rattle.std.specs.List.{list_any}
 use Rattle.mm_frame.specs.FramesHeld.{hypotheses_held, has_number}
@@ -8,4 +7,4 @@ use Rattle.mm_frame.specs.HeldFrames.{number_stands_in}
 use Rattle.mm_frame.proofs.scopes.Scopes.needed.Given as goal
 
 abbrev pub invariant-loop-hyp : goal.invariant-loop-hyp
-invariant-loop-hyp l = (n : ℕ) → (contains nat_cmp l.needed n || list_any (number_stands_in n) (hypotheses_held (drop l.hyp-index l.self.hyps.items))) ≡ (has_number l.statement n || list_any (number_stands_in n) (hypotheses_held l.self.hyps.items))
+invariant-loop-hyp l = (n : ℕ) → (is_number_of l.needed n || list_any (number_stands_in n) (hypotheses_held (drop l.hyp-index l.self.hyps.items))) ≡ (has_number l.statement n || list_any (number_stands_in n) (hypotheses_held l.self.hyps.items))

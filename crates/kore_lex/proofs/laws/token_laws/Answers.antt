@@ -1,0 +1,8 @@
+use Rattle.kore_lex.proofs.EachToken.{each-is-token, tokens-few}
+use Rattle.kore_lex.proofs.laws.token_laws.Goals as goal
+
+pub returns-clause-each : goal.returns-clause-each
+returns-clause-each c = each-is-token
+
+pub returns-clause-few : goal.returns-clause-few
+returns-clause-few c = tokens-few

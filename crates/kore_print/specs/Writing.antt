@@ -1,0 +1,30 @@
+-- What the private functions say of the text that they write: cited by their clauses alone.
+use Rattle.std.specs.Prelude.{◌≡◌, ℕ, zero, suc, false, List, [], ◌∷◌, ◌++◌, map}
+use Rattle.kore_text.specs.TokenStream.{Token, mark}
+use Rattle.kore_text.specs.Trees.{SortTree, PatternTree}
+use Rattle.kore_text.specs.Grammar.{Want, any, Spelling, listed, more_listed, spell_sort, spell_pattern}
+use Rattle.kore_print.specs.CanonicalText.{text_of}
+
+-- what is spelled so was added, whatever follows it
+abbrev pub Writes : Spelling → List ℕ → List ℕ → Type 0
+Writes spell old new = (k : List Want) → new ++ text_of k ≡ old ++ text_of (spell k)
+
+-- what stands in front of an item that comes after so many others
+abbrev pub comma_after : ℕ → List ℕ
+comma_after zero = []
+comma_after (suc i) = 44 ∷ []
+
+-- what is left of a list, behind so many items
+abbrev pub listed_after : ℕ → List Spelling → ℕ → Spelling
+listed_after zero fs close = listed fs close
+listed_after (suc i) fs close = more_listed fs close
+
+-- sorts in braces, patterns in parentheses, and a head with its sorts
+abbrev pub spell_in_braces : List SortTree → Spelling
+spell_in_braces ss k = any (mark 123) ∷ listed (map spell_sort ss) 125 k
+
+abbrev pub spell_in_parentheses : List PatternTree → Spelling
+spell_in_parentheses ps k = any (mark 40) ∷ listed (map (spell_pattern false) ps) 41 k
+
+abbrev pub spell_head : Token → List SortTree → Spelling
+spell_head t ss k = any t ∷ spell_in_braces ss k

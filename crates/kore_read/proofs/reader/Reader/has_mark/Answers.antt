@@ -1,7 +1,0 @@
-use Rattle.kore_text.specs.Left.{left as behind}
-use Rattle.kore_read.proofs.Steps.{first-some}
-use Rattle.kore_read.proofs.reader.Reader.has_mark.Goals as goal
-
-pub returns-in-Token-Punct-default-default-clause-some : goal.returns-in-Token-Punct-default-default-clause-some
-returns-in-Token-Punct-default-default-clause-some c = λ h.
-    first-some c.args.self.now.next (behind c.args.self.now.tokens) _ _ _ c.in-Token-Punct-default-default.is

@@ -1,9 +1,0 @@
-use Rattle.std.proofs.Common.{ap, sym, ◌∙◌}
-use Rattle.kore_text.specs.Left.{size as count}
-use Rattle.kore_read.specs.Reading.{left}
-use Rattle.kore_read.proofs.Steps.{after_done, count_after}
-use Rattle.kore_read.proofs.reader.Reader.pass.Goals as goal
-
-pub returns-then-is_done-clause-shorter : goal.returns-then-is_done-clause-shorter
-returns-then-is_done-clause-shorter c =
-    ap count (after_done (left c.args.self.now) (sym c.is_done.ensures.same ∙ c.if-is_done.true)) ∙ count_after (left c.args.self.now)

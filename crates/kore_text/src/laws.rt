@@ -1,0 +1,21 @@
+// Laws on the definitions.
+ghost use Rattle.kore_text.specs.TextLaws.{DefinitionHasNoFault, NoMoreTokensThanBytes, PatternHasNoFault};
+ghost use Rattle.kore_text.specs.Identifiers.{NamesAreIdentifiers, PatternNamesAreIdentifiers};
+
+/// A text that spells a definition or a pattern, with at most 500 brackets open, has no fault, and no
+/// text has more tokens than bytes.
+pub fn text_laws()
+    ensures definition { DefinitionHasNoFault }
+    ensures pattern { PatternHasNoFault }
+    ensures few { NoMoreTokensThanBytes }
+{
+    kore_lex::token_laws();
+}
+
+/// The names in a tree that bytes spell are identifiers.
+pub fn name_laws()
+    ensures definition { NamesAreIdentifiers }
+    ensures pattern { PatternNamesAreIdentifiers }
+{
+    kore_lex::token_laws();
+}

@@ -1,0 +1,11 @@
+use Rattle.std.specs.Prelude.{◌≡◌, length, take}
+use Rattle.mm_frame.specs.FramesHeld.{hypotheses_held}
+use Rattle.mm_verify.specs.Marks.{AreMarked}
+use Rattle.mm_verify.specs.ProofSteps.{labels_in}
+use Rattle.mm_verify.proofs.scattered.mark_hypotheses.Given as goal
+
+abbrev pub invariant-loop-hyp : goal.invariant-loop-hyp
+invariant-loop-hyp l = record {
+  room : length l.marks ≡ 4096;
+  marked : AreMarked (labels_in (hypotheses_held (take l.hyp-index l.hyps))) l.marks;
+}

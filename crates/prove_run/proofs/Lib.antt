@@ -1,0 +1,4 @@
+pub mod PlainNameLaws
+pub mod ScriptLaws
+pub mod ProofLaws
+pub mod StepLaws

@@ -1,0 +1,50 @@
+use Rattle.std.proofs.Common.{◌≡◌, Some, ap, ◌∙◌, sym, subst}
+use Rattle.std.specs.Prelude.{IsTrue}
+use Rattle.rule_core.specs.declared.rules.Program.{Program}
+use Rattle.term_core.specs.RulePatterns.{plain_pattern}
+use Rattle.ml_kernel.specs.Theorems.{Theorem}
+use Rattle.ml_image.specs.Images.{image_of}
+use Rattle.mm_render.specs.Places.{is_stated}
+use Rattle.mm_render.specs.Justifying.{Justifies}
+use Rattle.mm_render.proofs.ImageLeaves.{image_is_closed}
+use Rattle.prove_run.proofs.ScriptLaws.{image_later}
+use Rattle.prove_run.proofs.ProofLaws.{none_left, may_begin}
+use Rattle.prove_run.proofs.proof.Proof.begin.Goals as goal
+
+pub state-requires-clause-proved : goal.state-requires-clause-proved
+state-requires-clause-proved c =
+    let s = c.image.new.self in
+    let image : image_of s.program.now.sig s.names (plain_pattern c.args.start.now) ≡ Some c.in_ok-here.here =
+    subst (λ (program : Program). image_of program.sig s.names (plain_pattern c.args.start.now) ≡ Some c.in_ok-here.here) (sym c.in_ok-here.ensures.continues.program) c.in_ok-here.ensures.image in
+    may_begin s.names s.renderer c.in_ok-reach_here.field-0 c.in_ok-here.here c.in_ok-here.ensures.sound.begun c.in_ok-here.ensures.declared
+    (image_is_closed s.program.now.sig s.names (plain_pattern c.args.start.now) c.in_ok-here.here c.requires.ground image)
+    (none_left c.in_ok-reach_here.field-0.hypotheses c.in_ok-reach_here.ensures.rests.hypotheses) c.in_ok-reach_here.ensures.conclusion c.in_ok-reach_here.ensures.derivation
+
+pub returns : goal.returns
+returns c =
+    let program : c.state.new.self.program.now ≡ c.args.program.now =
+    c.in_ok-sofar.ensures.continues.program ∙ c.in_ok-here.ensures.continues.program ∙ c.in_ok-script.ensures.program in
+    let start = plain_pattern c.args.start.now in
+    let here = c.in_ok-here.here in
+    let image : image_of c.image.new.self.program.now.sig c.image.new.self.names start ≡ Some here =
+    subst (λ (p : Program). image_of p.sig c.image.new.self.names start ≡ Some here) (sym c.in_ok-here.ensures.continues.program) c.in_ok-here.ensures.image in
+    let image_now : image_of c.state.new.self.program.now.sig c.state.new.self.names start ≡ Some here = image_later c.image.new.self c.state.new.self start here c.in_ok-sofar.ensures.continues image in
+    let same : c.in_ok-sofar.sofar ≡ c.in_ok-reach_here.field-0 = c.in_ok-sofar.ensures.lemma in
+    record {
+      same_program = program;
+      sound = c.in_ok-sofar.ensures.sound;
+      declared = c.in_ok-sofar.ensures.declared;
+      has_reached = record {
+        from = here;
+        to = here;
+        from_image = image_now;
+        to_image = image_now;
+        from_ground = c.requires.ground;
+        to_ground = c.requires.ground;
+        says = ap (λ (t : Theorem). t.conclusion) same ∙ c.in_ok-reach_here.ensures.conclusion;
+        no_hypotheses = ap (λ (t : Theorem). t.hypotheses) same ∙ none_left c.in_ok-reach_here.field-0.hypotheses c.in_ok-reach_here.ensures.rests.hypotheses;
+        stated = subst (λ (t : Theorem). IsTrue (is_stated c.state.new.self.renderer.stated t.conclusion)) (sym same) c.in_ok-sofar.ensures.stated;
+      };
+      justifies = subst (λ (p : Program). Justifies c.state.new.self.text.items p start start) program
+          (c.in_ok-sofar.ensures.justified start start here here image_now image_now c.in_ok-reach_here.ensures.conclusion);
+    }

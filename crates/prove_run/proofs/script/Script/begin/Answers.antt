@@ -1,0 +1,24 @@
+use Rattle.std.proofs.Common.{◌≡◌, ℕ, ◌≤◌, List, [], ◌++◌, length, refl, ap, ◌∙◌, sym, subst, arith, rules}
+use Rattle.mm_header.specs.HeaderText.{header_bytes}
+use Rattle.mm_render.specs.Kept.{Kept}
+use Rattle.mm_render.specs.Keeping.{Fits}
+use Rattle.mm_render.specs.Justifying.{HasOnlyAxiomsOf}
+use Rattle.ml_image.specs.Gained.{AreOwnTokens}
+use Rattle.mm_render.proofs.HeaderStates.{header_has_only}
+use Rattle.prove_run.specs.Scripts.{AreStated}
+use Rattle.prove_run.proofs.ScriptLaws.{none_kept}
+use Rattle.prove_run.proofs.script.Script.begin.Goals as goal
+
+pub returns-clause-sound : goal.returns-clause-sound
+returns-clause-sound c =
+    let header : c.begin.new.to.items ≡ header_bytes = c.in_ok-begin.ensures.text ∙ ap (λ (bytes : List ℕ). bytes ++ header_bytes) c.new-text.ensures.items in
+    record {
+      begun = ap (λ (k : Kept). k.begun) c.in_ok-begin.ensures.kept;
+      named = subst (λ (k : Kept). k.named ≤ length c.new.result) (sym c.in_ok-begin.ensures.kept) (omega arith);
+      own = subst (AreOwnTokens c.args.program.now.sig) (sym c.new.ensures) tt;
+      fits = subst (λ (bytes : List ℕ). Fits c.new.result c.begin.new.self bytes) (sym header)
+          (c.in_ok-begin.ensures.fits c.new.result [] (subst (λ (k : Kept). Fits c.new.result k []) (sym c.new-renderer.ensures) refl));
+      only = subst (HasOnlyAxiomsOf c.args.program.now) (sym header) (header_has_only c.args.program.now);
+      places = c.in_ok-axioms.ensures.len ∙ c.len.ensures;
+      axioms = subst (AreStated _ 0) (sym (c.in_ok-axioms.ensures.items_if_clones_equal (λ y h. search rules))) (none_kept _ 0 c.len.result);
+    }

@@ -1,0 +1,3 @@
+pub mod PlainNames
+pub mod Scripts
+pub mod Proving

@@ -1,0 +1,62 @@
+-- What is known of the names, the axioms and the text of a proof while it is written.
+use Rattle.std.specs.Prelude.{◌≡◌, ℕ, suc, ◌<◌, ◌≤◌, true, IsTrue, List, [], ◌∷◌, ◌++◌, length, vec_len, slice_get, Option, Some, None}
+use Rattle.term_core.specs.Patterns.{Pattern as RulePattern}
+use Rattle.term_core.specs.RulePatterns.{plain_pattern}
+use Rattle.rule_core.specs.declared.rules.Rule.{Rule}
+use Rattle.rule_core.specs.declared.rules.Program.{Program}
+use Rattle.ml_pat.specs.Patterns.{Pattern, imp, ev}
+use Rattle.ml_kernel.specs.declared.derivations.AxiomNo.{AxiomNo}
+use Rattle.ml_image.specs.Images.{image_of, IsImageAt}
+use Rattle.ml_image.specs.Gained.{AreOwnTokens}
+use Rattle.mm_render.specs.Keeping.{Fits, axiom_at}
+use Rattle.mm_render.specs.Places.{is_stated}
+use Rattle.mm_render.specs.Justifying.{HasOnlyAxiomsOf, Justifies}
+use Rattle.mm_render.specs.JustifyingLaws.{HasNoVariable}
+use Rattle.prove_run.specs.declared.script.Script.{Script}
+
+-- the axiom with this number is the image of the rule at a place, and it was stated
+pub record HasStated (s : Script) (rule no : ℕ) : Type 0 where
+  pub known : no < length s.theory
+  pub image : IsImageAt s.program.now s.names rule (axiom_at s.theory no)
+  pub stated : IsTrue (is_stated s.renderer.stated (axiom_at s.theory no))
+
+-- the axioms that are kept for the rules from a place on
+abbrev pub AreStated : Script → ℕ → List (Option AxiomNo) → Type 0
+AreStated s i [] = Unit {0}
+AreStated s i (None ∷ kept) = AreStated s (suc i) kept
+AreStated s i (Some named ∷ kept) = HasStated s i named.0 × AreStated s (suc i) kept
+
+-- The text fits what the renderer keeps of the names, which are the program's own, and it has only the program's axioms. The
+-- axiom that is kept for a rule is that of its image.
+pub record IsSound (s : Script) : Type 0 where
+  pub begun : s.renderer.begun ≡ true
+  pub named : s.renderer.named ≤ length s.names
+  pub own : AreOwnTokens s.program.now.sig s.names
+  pub fits : Fits s.names s.renderer s.text.items
+  pub only : HasOnlyAxiomsOf s.program.now s.text.items
+  pub places : vec_len s.axioms ≡ vec_len s.program.now.rules
+  pub axioms : AreStated s 0 s.axioms.items
+
+-- each name is declared
+abbrev pub IsDeclared : Script → Type 0
+IsDeclared s = s.renderer.named ≡ length s.names
+
+-- a list goes on where another ends
+abbrev pub Extends : {X : Type 0} → List X → List X → Type 0
+Extends {X} old new = (more : List X) × (new ≡ old ++ more)
+
+-- the proof of the same program goes on: names and statements were added, and none was lost
+pub record Continues (old new : Script) : Type 0 where
+  pub program : new.program.now ≡ old.program.now
+  pub names : Extends old.names new.names
+  pub stated : Extends old.renderer.stated new.renderer.stated
+
+-- where the pattern says that the image of one pattern reaches that of another, the text justifies the run between them
+abbrev pub Justified : Script → Pattern → Type 0
+Justified s p =
+    (a b : RulePattern) (from to : Pattern) → image_of s.program.now.sig s.names a ≡ Some from → image_of s.program.now.sig s.names b ≡ Some to → p ≡ imp from (ev to) →
+    Justifies s.text.items s.program.now a b
+
+-- no variable stands in the sides of the rule at a place
+abbrev pub AreGroundAt : Program → ℕ → Type 0
+AreGroundAt program i = (r : Rule) → slice_get program.rules.items i ≡ Some r → HasNoVariable (plain_pattern r.left) × HasNoVariable (plain_pattern r.right)
