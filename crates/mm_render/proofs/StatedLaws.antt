@@ -1,6 +1,5 @@
 -- Closed statements behind a text that fits.
 use Rattle.std.proofs.Common.{◌≡◌, ℕ, ◌+◌, ◌<◌, ◌^◌, Bool, true, false, List, [], ◌∷◌, ◌++◌, length, zero, suc, map, refl, ap, ◌∙◌, sym, subst, arith, append_assoc, length-append, ◌⊎◌, inl, inr, Option, Some, None, slice_get, append-nil}
-use Rattle.std.proofs.Math.Path.{fun_ext}
 use Rattle.std.specs.Prelude.{◌==◌, ◌&&◌, ◌||◌, not, if◌then◌else◌, codes, bytes_eq, flat_map, Contains}
 use Rattle.std.specs.List.{list_any, list_all}
 use Rattle.std.proofs.lemmas.Bool.{false≢true}
@@ -35,6 +34,7 @@ use Rattle.mm_render.specs.Trees.{cite}
 use Rattle.mm_render.specs.Derivations.{holds_text, Cites, CitesOnly, EachUsed, derivation_tree, AreSound}
 use Rattle.mm_render.specs.Statements.{NameKind, sort_name, symbol_name, value_name, kind_front, IsName, typecode_of}
 use Rattle.mm_render.specs.Fitting.{AreNames, Holds}
+use Rattle.mm_render.specs.Variables.{is_variable_token}
 use Rattle.mm_frame.specs.Assertions.{Assertion, assertions_in, assertions_of, form_assertion, with_assertion_first, form_typing, typings_in, typings_of, with_typing_first}
 use Rattle.mm_frame.proofs.Stated.{appended_states}
 use Rattle.mm_text.proofs.Writing.{written_statement}
@@ -118,7 +118,21 @@ name_at [] i names lt = absurd (omega (arith, lt))
 name_at (t ∷ ts) zero names lt = names.0
 name_at (t ∷ ts) (suc i) names lt = name_at ts i names.1 (omega (arith, lt))
 
-fixed_constants : map header_context.variables punctuation ≡ map (λ t. false) punctuation
+-- no variable's token is a constant of the header
+pub fixed_variables : (declared : List Token) (c : Context) (ts : List Token) → Holds declared c → map is_variable_token ts ≡ map (λ t. false) ts → map c.variables ts ≡ map header_context.variables ts
+fixed_variables declared c [] w h = refl
+fixed_variables declared c (t ∷ ts) w h =
+    ap (λ (b : Bool). b ∷ map c.variables ts) (w.variables t (ap first_of_bools h)) ∙ ap (λ (bs : List Bool). header_context.variables t ∷ bs) (fixed_variables declared c ts w (ap others_of_bools h))
+  where
+    first_of_bools : List Bool → Bool
+    first_of_bools [] = false
+    first_of_bools (b ∷ bs) = b
+
+    others_of_bools : List Bool → List Bool
+    others_of_bools [] = []
+    others_of_bools (b ∷ bs) = bs
+
+pub fixed_constants : map header_context.variables punctuation ≡ map (λ t. false) punctuation
 unfolding header_context
 fixed_constants = refl
 
@@ -126,13 +140,13 @@ declares : (declared : List Token) (c : Context) (typecode : Token) (i : ℕ) �
 declares declared c typecode i w names lt typed = record {
   stated = assertion_at declared c (name_label i) (closed_frame (name_label i) (typecode ∷ (name_of declared i ∷ []))) w (name_no_active i)
       (w.frames i lt ∙ ap (λ (t : Token). Some (closed_frame (name_label i) (t ∷ (name_of declared i ∷ [])))) typed);
-  constant = w.variables (name_of declared i) ∙ (name_facts (name_of declared i) (name_at declared i names lt)).no_variable;
+  constant = w.variables (name_of declared i) (name_facts (name_of declared i) (name_at declared i names lt)).no_variable_token ∙ (name_facts (name_of declared i) (name_at declared i names lt)).no_variable;
 }
 
 pub serves_closed : (declared : List Token) (c : Context) (k : ℕ) → Holds declared c → AreNames declared → Serves c (own_labels k) (own_naming declared) (closed_over declared)
 serves_closed declared c k w names = record {
   header = λ label f h. assertion_at declared c label f w (header_no_active label f h) (w.rows label f h);
-  fixed = ap (λ (v : Token → Bool). map v punctuation) (fun_ext w.variables) ∙ fixed_constants;
+  fixed = fixed_variables declared c punctuation w refl ∙ fixed_constants;
   sort = λ i h. declares declared c (codes "#Sort") i w names h.0 h.1;
   constant = λ i h. declares declared c (codes "#Pattern") i w names h.0 h.1;
   object = λ x h. absurd h;
@@ -287,7 +301,7 @@ closed_may_be_stated declared stated c p w few closed =
     let spelt : is_label (statement_label (length stated)) ≡ true = statement_label-is_label (length stated) few in
     let free : c.labels (statement_label (length stated)) ≡ false = w.free (length stated) (omega arith) few in
     let constant : c.constants (statement_label (length stated)) ≡ false = w.base.constants (statement_label (length stated)) ∙ both_false (header_context.constants (statement_label (length stated))) (has_token declared (statement_label (length stated))) (header_statement_constant (length stated)) (no_statement_among declared (length stated) w.names) in
-    let variable : c.variables (statement_label (length stated)) ≡ false = w.base.variables (statement_label (length stated)) ∙ header_statement_variable (length stated) in
+    let variable : c.variables (statement_label (length stated)) ≡ false = w.base.variables (statement_label (length stated)) refl ∙ header_statement_variable (length stated) in
     record {
       new = rw (spelt, free, constant, variable) refl;
       constant = w.base.constants (codes "|-") ∙ either_true (header_context.constants (codes "|-")) _ header_turnstile;

@@ -20,3 +20,7 @@ pub mod Parts
 pub mod Justifying
 pub mod JustifyingLaws
 pub mod JustifyingCases
+pub mod Variables
+pub mod Blocks
+pub mod CitedAt
+pub mod Claiming
