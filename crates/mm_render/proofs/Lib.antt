@@ -28,3 +28,8 @@ pub mod DeclaredStates
 pub mod HeaderStates
 pub mod ImageLeaves
 pub mod SmallTexts
+pub mod VariableLaws
+pub mod InsideLaws
+pub mod Separations
+pub mod HeadLaws
+pub mod OpenTexts

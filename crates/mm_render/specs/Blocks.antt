@@ -7,7 +7,6 @@ use Rattle.mm_frame.specs.Forms.{declares_variables, types_variable, separates, 
 use Rattle.mm_frame.specs.Frames.{Hypothesis, floating, essential, Frame}
 use Rattle.mm_frame.specs.Proofs.{ProofTree}
 use Rattle.mm_frame.specs.Assertions.{Assertion}
-use Rattle.mm_frame.specs.Validity.{has_two}
 use Rattle.mm_frame.specs.FrameLaws.{plain_tokens}
 use Rattle.ml_pat.specs.Patterns.{Pattern}
 use Rattle.mm_render.specs.Tokens.{name_of, own_naming}
@@ -16,7 +15,7 @@ use Rattle.mm_render.specs.Leaves.{LeafFacts, EachLeaf}
 use Rattle.mm_render.specs.Derivations.{holds_text}
 use Rattle.mm_render.specs.Statements.{typecode_of}
 use Rattle.mm_render.specs.Stating.{axiom_statement, theorem_statement}
-use Rattle.mm_render.specs.Variables.{Variable, object_variable, pattern_variable, has_variable, are_once, AreNumbered, stands_in, variable_token, variable_label, variable_type, variable_tokens, object_tokens, pattern_tokens}
+use Rattle.mm_render.specs.Variables.{Variable, object_variable, pattern_variable, is_object, has_variable, are_once, AreNumbered, stands_in, variable_token, variable_label, variable_type, variable_tokens, object_tokens, are_several}
 
 -- what an axiom or a lemma claims: its conclusion under its hypotheses, and its variables in the order in which they are typed
 pub record Claim : Type 0 where
@@ -52,9 +51,13 @@ variable_statements k (v ∷ vs) =
     plain_tokens [] declares_variables (variable_token v ∷ []) ∷
     (plain_tokens (variable_label k v ∷ []) types_variable (variable_type v ∷ (variable_token v ∷ [])) ∷ variable_statements k vs)
 
--- the symbols of each `$d`: the object variables, and these with each pattern variable, where they are two at least
+-- what each `$d` keeps apart: the object variables, and these with each pattern variable, where they are two at least
+abbrev pub separated : List Variable → List (List Variable)
+separated vs =
+    filter are_several (filter is_object vs ∷ map (λ v. filter is_object vs ++ v ∷ []) (filter (λ v. not (is_object v)) vs))
+
 abbrev pub separations : List Variable → List (List Token)
-separations vs = filter has_two (object_tokens vs ∷ map (λ m. object_tokens vs ++ m ∷ []) (pattern_tokens vs))
+separations vs = map variable_tokens (separated vs)
 
 abbrev pub separation_statements : List (List Token) → List (List Token)
 separation_statements ds = map (plain_tokens [] separates) ds

@@ -78,12 +78,15 @@ is_variable_token [] = false
 is_variable_token (a ∷ []) = false
 is_variable_token (a ∷ (b ∷ rest)) = (b == 58) && ((a == 120) || (a == 109))
 
--- the tokens of all, of the object variables and of the pattern variables among them
+-- the tokens of all, and of the object variables among them
 abbrev pub variable_tokens : List Variable → List Token
 variable_tokens vs = map variable_token vs
 
 abbrev pub object_tokens : List Variable → List Token
 object_tokens vs = map variable_token (filter is_object vs)
 
-abbrev pub pattern_tokens : List Variable → List Token
-pattern_tokens vs = map variable_token (filter (λ v. std.not (is_object v)) vs)
+-- they are two at least
+abbrev pub are_several : List Variable → Bool
+are_several [] = false
+are_several (v ∷ []) = false
+are_several (v ∷ (w ∷ vs)) = true
