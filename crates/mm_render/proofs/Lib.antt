@@ -33,3 +33,4 @@ pub mod InsideLaws
 pub mod Separations
 pub mod HeadLaws
 pub mod OpenTexts
+pub mod OpenFrames
