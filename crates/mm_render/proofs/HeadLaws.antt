@@ -27,7 +27,7 @@ use Rattle.mm_render.proofs.NameLaws.{NameFacts}
 use Rattle.mm_render.proofs.SpeltLaws.{LabelFacts, label_facts, statement_label-is_label}
 use Rattle.mm_render.proofs.StatedLaws.{both_false, either_true, second_true, not_false, itself, name_no_statement}
 use Rattle.mm_render.proofs.VariableLaws.{VariableFacts, variable_facts, label_differs, label_spelt, premise_differs, premise_spelt, no_variable_among, no_other_among}
-use Rattle.mm_render.proofs.InsideLaws.{inside, AddsAnywhere, AreSymbols, list_any-append, map-append, behind_variable, behind_hypothesis, behind_separation, unlabelled_adds, labelled_adds}
+use Rattle.mm_render.proofs.InsideLaws.{Left, inside, AddsAnywhere, AreSymbols, list_any-append, map-append, behind_variable, behind_hypothesis, behind_separation, unlabelled_adds, labelled_adds}
 use Rattle.mm_render.proofs.Separations.{split_false, new_variable, numbered_front, numbered_behind, absent_token, present_token, EachSeparated, IsSeparated, separated_once, variables_are_symbols, all_among}
 
 -- what stands behind the text before a block
@@ -139,7 +139,7 @@ premise_well d l s ts h g f = rw (f, g, h) refl
 
 -- a variable
 
-variable_adds : (declared : List Token) (k : ℕ) (c : Context) (at : ℕ) (done : List Variable) (v : Variable) (sts : List (List Token)) (left : Context) → IsGround declared k c → AreNumbered done → number_of v < 2 ^ 64 → has_variable done v ≡ false
+variable_adds : (declared : List Token) (k : ℕ) (c : Context) (at : ℕ) (done : List Variable) (v : Variable) (sts : List (List Token)) (left : Left) → IsGround declared k c → AreNumbered done → number_of v < 2 ^ 64 → has_variable done v ≡ false
     → AddsAnywhere (inside c at (variable_tokens (done ++ v ∷ [])) (map (variable_float k) (done ++ v ∷ [])) []) sts left
     → AddsAnywhere (inside c at (variable_tokens done) (map (variable_float k) done) [])
     (plain_tokens [] declares_variables (variable_token v ∷ []) ∷ (plain_tokens (variable_label k v ∷ []) types_variable (variable_type v ∷ (variable_token v ∷ [])) ∷ sts)) left
@@ -161,16 +161,16 @@ variable_adds declared k c at done v sts left w numbered small new behind =
     list_any-append (types (variable_token v)) c.scope.hypotheses (map (variable_float k) done)
     ∙ both_false (list_any (types (variable_token v)) c.scope.hypotheses) (list_any (types (variable_token v)) (map (variable_float k) done)) (ap (λ (s : Scope). list_any (types (variable_token v)) s.hypotheses) w.base.scope ∙ facts.no_type) (typed_tokens k done (variable_token v) ∙ absent) in
     let typecode : c.constants (variable_type v) ≡ true = w.base.constants (variable_type v) ∙ either_true (header_context.constants (variable_type v)) (has_token declared (variable_type v)) facts.typecode in
-    unlabelled_adds (inside c at (variable_tokens done) (map (variable_float k) done) []) declares_variables (variable_token v) [] (plain_tokens (variable_label k v ∷ []) types_variable (variable_type v ∷ (variable_token v ∷ [])) ∷ sts) left refl token
+    unlabelled_adds (inside c at (variable_tokens done) (map (variable_float k) done) []) declares_variables (variable_token v) [] (plain_tokens (variable_label k v ∷ []) types_variable (variable_type v ∷ (variable_token v ∷ [])) ∷ sts) left refl refl token
     (variable_well (inside c at (variable_tokens done) (map (variable_float k) done) []) (variable_token v) constant (both_false (c.scope.variables (variable_token v)) _ outside absent) (both_false (c.labels (variable_token v)) _ (w.no_label v) (no_token_among k done v)))
     (subst (λ (e : Context). AddsAnywhere e (plain_tokens (variable_label k v ∷ []) types_variable (variable_type v ∷ (variable_token v ∷ [])) ∷ sts) left) (sym (behind_variable c at (variable_tokens done) (map (variable_float k) done) [] (variable_token v) ∙ ap (λ (ts : List Token). inside c at ts (map (variable_float k) done) []) tokens))
-    (labelled_adds (inside c at (variable_tokens (done ++ v ∷ [])) (map (variable_float k) done) []) (variable_label k v) types_variable (variable_type v) (variable_token v ∷ []) sts left refl (own_symbols (variable_label k v) own) typing
+    (labelled_adds (inside c at (variable_tokens (done ++ v ∷ [])) (map (variable_float k) done) []) (variable_label k v) types_variable (variable_type v) (variable_token v ∷ []) sts left refl refl (own_symbols (variable_label k v) own) typing
     (float_well (inside c at (variable_tokens (done ++ v ∷ [])) (map (variable_float k) done) []) (variable_label k v) (variable_type v) (variable_token v)
     (new_inside declared k c at (done ++ v ∷ []) (map (variable_float k) done) [] (variable_label k v) w own (w.free.variable v small) (absent_label k done v w.small numbered small new))
     typecode constant (second_true (c.scope.variables (variable_token v)) _ active) untyped)
     (subst (λ (e : Context). AddsAnywhere e sts left) (sym (behind_hypothesis c at (variable_tokens (done ++ v ∷ [])) (map (variable_float k) done) [] (variable_float k v) ∙ ap (λ (hs : List Hypothesis). inside c at (variable_tokens (done ++ v ∷ [])) hs []) floats)) behind)))
 
-pub variables_add : (declared : List Token) (k : ℕ) (c : Context) (at : ℕ) (done more : List Variable) (sts : List (List Token)) (left : Context) → IsGround declared k c → AreNumbered (done ++ more) → are_once (done ++ more) ≡ true
+pub variables_add : (declared : List Token) (k : ℕ) (c : Context) (at : ℕ) (done more : List Variable) (sts : List (List Token)) (left : Left) → IsGround declared k c → AreNumbered (done ++ more) → are_once (done ++ more) ≡ true
     → AddsAnywhere (inside c at (variable_tokens (done ++ more)) (map (variable_float k) (done ++ more)) []) sts left
     → AddsAnywhere (inside c at (variable_tokens done) (map (variable_float k) done) []) (variable_statements k more ++ sts) left
 variables_add declared k c at done [] sts left w numbered once behind = subst (λ (vs : List Variable). AddsAnywhere (inside c at (variable_tokens vs) (map (variable_float k) vs) []) sts left) (append-nil done) behind
@@ -188,7 +188,7 @@ scoped c vs (t ∷ ts) h =
     let both : (has_token vs t ≡ true) × (list_all (has_token vs) ts ≡ true) = split_true (has_token vs t) (list_all (has_token vs) ts) h in
     both_true (c.scope.variables t || has_token vs t) (list_all (λ u. c.scope.variables u || has_token vs u) ts) (second_true (c.scope.variables t) (has_token vs t) both.0) (scoped c vs ts both.1)
 
-pub separations_add : (c : Context) (at : ℕ) (vs : List Variable) (hs : List Hypothesis) (done : List (List Token)) (wss : List (List Variable)) (sts : List (List Token)) (left : Context) → EachSeparated vs wss
+pub separations_add : (c : Context) (at : ℕ) (vs : List Variable) (hs : List Hypothesis) (done : List (List Token)) (wss : List (List Variable)) (sts : List (List Token)) (left : Left) → EachSeparated vs wss
     → AddsAnywhere (inside c at (variable_tokens vs) hs (done ++ map variable_tokens wss)) sts left
     → AddsAnywhere (inside c at (variable_tokens vs) hs done) (separation_statements (map variable_tokens wss) ++ sts) left
 separations_add c at vs hs done [] sts left all behind = subst (λ (ds : List (List Token)). AddsAnywhere (inside c at (variable_tokens vs) hs ds) sts left) (append-nil done) behind
@@ -196,7 +196,7 @@ separations_add c at vs hs done ([] ∷ wss) sts left all behind = absurd (false
 separations_add c at vs hs done ((w ∷ []) ∷ wss) sts left all behind = absurd (false≢true all.0.1)
 separations_add c at vs hs done ((w ∷ (x ∷ ws)) ∷ wss) sts left all behind =
     let ts : List Token = variable_tokens (w ∷ (x ∷ ws)) in
-    unlabelled_adds (inside c at (variable_tokens vs) hs done) separates (variable_token w) (variable_tokens (x ∷ ws)) (separation_statements (map variable_tokens wss) ++ sts) left refl (variables_are_symbols (w ∷ (x ∷ ws)) all.0.0.numbered)
+    unlabelled_adds (inside c at (variable_tokens vs) hs done) separates (variable_token w) (variable_tokens (x ∷ ws)) (separation_statements (map variable_tokens wss) ++ sts) left refl refl (variables_are_symbols (w ∷ (x ∷ ws)) all.0.0.numbered)
     (separation_well (inside c at (variable_tokens vs) hs done) (variable_token w) (variable_tokens (x ∷ ws)) (scoped c (variable_tokens vs) (variable_tokens (w ∷ (x ∷ ws))) (all_among vs (w ∷ (x ∷ ws)) all.0.0.among)) refl (separated_once (w ∷ (x ∷ ws)) all.0.0.once all.0.0.numbered))
     (subst (λ (e : Context). AddsAnywhere e (separation_statements (map variable_tokens wss) ++ sts) left) (sym (behind_separation c at (variable_tokens vs) hs done (variable_tokens (w ∷ (x ∷ ws)))))
     (separations_add c at vs hs (done ++ variable_tokens (w ∷ (x ∷ ws)) ∷ []) wss sts left all.1

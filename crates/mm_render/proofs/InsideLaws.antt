@@ -6,16 +6,17 @@ use Rattle.std.specs.List.{list_any, list_all}
 use Rattle.std.proofs.lemmas.Bool.{false≢true}
 use Rattle.std.proofs.lemmas.Slice.Eq.{bytes_eq-Decides}
 use Rattle.mm_text.specs.Bytes.{Token, has_token}
-use Rattle.mm_text.specs.Statements.{statement, ends_statement, is_whole}
+use Rattle.mm_text.proofs.Writing.{written_statement}
+use Rattle.mm_text.specs.Statements.{statement, statements_from, ends_statement, is_whole}
 use Rattle.mm_text.specs.TextLaws.{is_plain_token, is_one_statement, ends_once, written}
 use Rattle.mm_frame.specs.Forms.{Form, Keyword, declares_constants, declares_variables, types_variable, assumes, separates, asserts, proves, block_start, block_end, plain, form_of, has_dollar}
 use Rattle.mm_frame.specs.Frames.{Hypothesis, label_of, Scope}
 use Rattle.mm_frame.specs.Database.{Block, Context, context_after, after_form, with_declared, with_block_opened, with_block_closed, with_tokens, with_token, with_hypothesis, with_apart, are_different_tokens}
+use Rattle.mm_frame.specs.Assertions.{Assertion, assertions_in, form_assertion, with_assertion_first}
 use Rattle.mm_frame.specs.Proofs.{IsProof}
 use Rattle.mm_frame.specs.Validity.{task, form_fault, declaration_fault, or_else, IsFine}
-use Rattle.mm_frame.specs.FrameLaws.{Adds, are_clean, keyword_token, has_proof, plain_tokens}
+use Rattle.mm_frame.specs.FrameLaws.{Adds, written_statements, are_clean, keyword_token, has_proof, plain_tokens}
 use Rattle.mm_frame.proofs.WrittenForms.{plain_tokens_say}
-use Rattle.mm_render.specs.Blocks.{block}
 use Rattle.mm_render.proofs.LeafLaws.{both_true, split_true, list_all-append}
 use Rattle.mm_render.proofs.StatedLaws.{ends_last, not_false}
 
@@ -109,9 +110,19 @@ behind_separation c at ts hs ds d =
         ∙ ap (λ (x : Bool). c.scope.apart a b || (list_any (λ e. are_different_tokens e a b) ds || x)) (or_false (are_different_tokens d a b))
         ∙ ap (λ (x : Bool). c.scope.apart a b || x) (sym (list_any-append (λ e. are_different_tokens e a b) ds (d ∷ [])))
 
--- statements that add from any byte on
-abbrev pub AddsAnywhere : Context → List (List Token) → Context → Type 0
-AddsAnywhere c sts left = (at : ℕ) → Adds c at sts left
+-- the assertions that written statements make from a context and a byte on
+abbrev pub asserted : Context → ℕ → List (List Token) → List Assertion
+asserted c at [] = []
+asserted c at (tokens ∷ sts) = with_assertion_first (form_assertion c (form_of tokens)) (asserted (context_after c (statement at tokens)) (at + length (written tokens)) sts)
+
+-- the context that statements leave, and the assertions that they make
+pub record Left : Type 0 where
+  pub context : Context
+  pub assertions : List Assertion
+
+-- statements that leave these from any byte on
+abbrev pub AddsAnywhere : Context → List (List Token) → Left → Type 0
+AddsAnywhere c sts left = (at : ℕ) → Adds c at sts left.context × (asserted c at sts ≡ left.assertions)
 
 -- clean tokens end no statement
 
@@ -218,42 +229,80 @@ pub record AreSymbols (ts : List Token) : Type 0 where
   pub plain : list_all is_plain_token ts ≡ true
   pub clean : are_clean ts ≡ true
 
--- one statement without a label, or with one, and what follows it
-pub unlabelled_adds : (c : Context) (k : Keyword) (symbol : Token) (symbols : List Token) (sts : List (List Token)) (left : Context) → has_proof k ≡ false → AreSymbols (symbol ∷ symbols)
-    → declaration_fault c (Some (plain [] k (symbol ∷ symbols) [])) ≡ None → AddsAnywhere (with_declared c [] k (symbol ∷ symbols)) sts left → AddsAnywhere c (plain_tokens [] k (symbol ∷ symbols) ∷ sts) left
-unlabelled_adds c k symbol symbols sts left no_proof w well behind at = (
-  all_plain [] k (symbol ∷ symbols) refl w.plain,
-  one_unlabelled k symbol symbols w.clean,
-  plain_fine c [] k symbol symbols no_proof refl w.clean well,
-  subst (λ (d : Context). Adds d (at + length (written (plain_tokens [] k (symbol ∷ symbols)))) sts left) (sym (ap (after_form c at) (plain_tokens_say [] k symbol symbols refl w.clean no_proof))) (behind _),
-)
+-- one statement that makes no assertion, and what follows it
+then_asserted : (c : Context) (at : ℕ) (tokens : List Token) (form : Form) (sts : List (List Token)) (more : List Assertion) → form_of tokens ≡ Some form → form_assertion c (Some form) ≡ None
+    → asserted (after_form c at (Some form)) (at + length (written tokens)) sts ≡ more → asserted c at (tokens ∷ sts) ≡ more
+then_asserted c at tokens form sts more said none behind =
+    ap (λ (o : Option Form). with_assertion_first (form_assertion c o) (asserted (after_form c at o) (at + length (written tokens)) sts)) said
+    ∙ ap (λ (o : Option Assertion). with_assertion_first o (asserted (after_form c at (Some form)) (at + length (written tokens)) sts)) none ∙ behind
 
-pub labelled_adds : (c : Context) (l : Token) (k : Keyword) (symbol : Token) (symbols : List Token) (sts : List (List Token)) (left : Context) → has_proof k ≡ false → AreSymbols (l ∷ []) → AreSymbols (symbol ∷ symbols)
+pub unlabelled_adds : (c : Context) (k : Keyword) (symbol : Token) (symbols : List Token) (sts : List (List Token)) (left : Left) → has_proof k ≡ false → form_assertion c (Some (plain [] k (symbol ∷ symbols) [])) ≡ None → AreSymbols (symbol ∷ symbols)
+    → declaration_fault c (Some (plain [] k (symbol ∷ symbols) [])) ≡ None → AddsAnywhere (with_declared c [] k (symbol ∷ symbols)) sts left → AddsAnywhere c (plain_tokens [] k (symbol ∷ symbols) ∷ sts) left
+unlabelled_adds c k symbol symbols sts left no_proof none w well behind at =
+    let said : form_of (plain_tokens [] k (symbol ∷ symbols)) ≡ Some (plain [] k (symbol ∷ symbols) []) = plain_tokens_say [] k symbol symbols refl w.clean no_proof in (
+      (
+        all_plain [] k (symbol ∷ symbols) refl w.plain,
+        one_unlabelled k symbol symbols w.clean,
+        plain_fine c [] k symbol symbols no_proof refl w.clean well,
+        subst (λ (d : Context). Adds d (at + length (written (plain_tokens [] k (symbol ∷ symbols)))) sts left.context) (sym (ap (after_form c at) said)) (behind _).0,
+      ),
+      then_asserted c at (plain_tokens [] k (symbol ∷ symbols)) (plain [] k (symbol ∷ symbols) []) sts left.assertions said none (behind _).1,
+    )
+
+pub labelled_adds : (c : Context) (l : Token) (k : Keyword) (symbol : Token) (symbols : List Token) (sts : List (List Token)) (left : Left) → has_proof k ≡ false → form_assertion c (Some (plain (l ∷ []) k (symbol ∷ symbols) [])) ≡ None → AreSymbols (l ∷ []) → AreSymbols (symbol ∷ symbols)
     → declaration_fault c (Some (plain (l ∷ []) k (symbol ∷ symbols) [])) ≡ None → AddsAnywhere (with_declared c (l ∷ []) k (symbol ∷ symbols)) sts left → AddsAnywhere c (plain_tokens (l ∷ []) k (symbol ∷ symbols) ∷ sts) left
-labelled_adds c l k symbol symbols sts left no_proof label w well behind at = (
-  all_plain (l ∷ []) k (symbol ∷ symbols) label.plain w.plain,
-  one_labelled l k symbol symbols (is_clean l (split_true (not (has_dollar l)) true label.clean).0) w.clean,
-  plain_fine c (l ∷ []) k symbol symbols no_proof label.clean w.clean well,
-  subst (λ (d : Context). Adds d (at + length (written (plain_tokens (l ∷ []) k (symbol ∷ symbols)))) sts left) (sym (ap (after_form c at) (plain_tokens_say (l ∷ []) k symbol symbols label.clean w.clean no_proof))) (behind _),
+labelled_adds c l k symbol symbols sts left no_proof none label w well behind at =
+    let said : form_of (plain_tokens (l ∷ []) k (symbol ∷ symbols)) ≡ Some (plain (l ∷ []) k (symbol ∷ symbols) []) = plain_tokens_say (l ∷ []) k symbol symbols label.clean w.clean no_proof in (
+      (
+        all_plain (l ∷ []) k (symbol ∷ symbols) label.plain w.plain,
+        one_labelled l k symbol symbols (is_clean l (split_true (not (has_dollar l)) true label.clean).0) w.clean,
+        plain_fine c (l ∷ []) k symbol symbols no_proof label.clean w.clean well,
+        subst (λ (d : Context). Adds d (at + length (written (plain_tokens (l ∷ []) k (symbol ∷ symbols)))) sts left.context) (sym (ap (after_form c at) said)) (behind _).0,
+      ),
+      then_asserted c at (plain_tokens (l ∷ []) k (symbol ∷ symbols)) (plain (l ∷ []) k (symbol ∷ symbols) []) sts left.assertions said none (behind _).1,
+    )
+
+-- an assertion without fault, and what follows it
+pub assertion_adds : (c : Context) (tokens : List Token) (labels : List Token) (k : Keyword) (symbols proof : List Token) (a : Assertion) (sts : List (List Token)) (left : Context) → list_all is_plain_token tokens ≡ true → is_one_statement tokens ≡ true → IsFine c tokens
+    → form_of tokens ≡ Some (plain labels k symbols proof) → form_assertion c (Some (plain labels k symbols proof)) ≡ Some a
+    → AddsAnywhere (with_declared c labels k symbols) sts (record { context = left; assertions = [] }) → AddsAnywhere c (tokens ∷ sts) (record { context = left; assertions = a ∷ [] })
+assertion_adds c tokens labels k symbols proof a sts left plain_ones one fine said makes behind at = (
+  (plain_ones, one, fine, subst (λ (d : Context). Adds d (at + length (written tokens)) sts left) (sym (ap (after_form c at) said)) (behind _).0),
+  ap (λ (o : Option Form). with_assertion_first (form_assertion c o) (asserted (after_form c at o) (at + length (written tokens)) sts)) said
+      ∙ ap (λ (o : Option Assertion). with_assertion_first o (asserted (after_form c at (Some (plain labels k symbols proof))) (at + length (written tokens)) sts)) makes
+      ∙ ap (λ (more : List Assertion). a ∷ more) (behind _).1,
 )
 
 -- `${`, statements and `$}`
 
-pub block_opens : (c : Context) (sts : List (List Token)) (left : Context) (at : ℕ) → AddsAnywhere (inside c at [] [] []) sts left → Adds c at ((codes "${" ∷ []) ∷ sts) left
+pub block_opens : (c : Context) (sts : List (List Token)) (left : Left) (at : ℕ) → AddsAnywhere (inside c at [] [] []) sts left → Adds c at ((codes "${" ∷ []) ∷ sts) left.context × (asserted c at ((codes "${" ∷ []) ∷ sts) ≡ left.assertions)
 block_opens c sts left at behind = (
-  refl,
-  refl,
-  record { form = refl; proof = tt },
-  subst (λ (d : Context). Adds d (at + length (written (codes "${" ∷ []))) sts left) (sym (opened c at)) (behind _),
+  (
+    refl,
+    refl,
+    record { form = refl; proof = tt },
+    subst (λ (d : Context). Adds d (at + length (written (codes "${" ∷ []))) sts left.context) (sym (opened c at)) (behind _).0,
+  ),
+  ap (λ (d : Context). asserted d (at + length (written (codes "${" ∷ []))) sts) (opened c at) ∙ (behind _).1,
 )
 
-pub block_closes : (c : Context) (b : Block) (bs : List Block) → c.blocks ≡ b ∷ bs → AddsAnywhere c ((codes "$}" ∷ []) ∷ []) (with_block_closed c (b ∷ bs))
+pub block_closes : (c : Context) (b : Block) (bs : List Block) → c.blocks ≡ b ∷ bs → AddsAnywhere c ((codes "$}" ∷ []) ∷ []) (record { context = with_block_closed c (b ∷ bs); assertions = [] })
 block_closes c b bs running at = (
+  (
+    refl,
+    refl,
+    record { form = well; proof = tt },
+    sym (ap (λ (blocks : List Block). with_block_closed c blocks) running),
+  ),
   refl,
-  refl,
-  record { form = well; proof = tt },
-  sym (ap (λ (blocks : List Block). with_block_closed c blocks) running),
 )
   where
     well : form_fault c (form_of (codes "$}" ∷ [])) ≡ None
     well = rw running refl
+
+-- written statements are read as they are, and so is what they assert
+pub asserted_in : (c : Context) (at : ℕ) (sts : List (List Token)) (left : Context) → Adds c at sts left → assertions_in c (statements_from at (written_statements sts)) ≡ asserted c at sts
+asserted_in c at [] left h = refl
+asserted_in c at (tokens ∷ sts) left (plain_ones, one, fine, rest) =
+    ap (assertions_in c) (written_statement at tokens (written_statements sts) plain_ones one)
+    ∙ ap (λ (more : List Assertion). with_assertion_first (form_assertion c (form_of tokens)) more) (asserted_in (context_after c (statement at tokens)) (at + length (written tokens)) sts left rest)

@@ -34,3 +34,4 @@ pub mod Separations
 pub mod HeadLaws
 pub mod OpenTexts
 pub mod OpenFrames
+pub mod BlockLaws

@@ -23,7 +23,7 @@ use Rattle.mm_render.proofs.LeafLaws.{EachLeaf-implied, tested_leaves, PassFixed
 use Rattle.mm_render.proofs.NameLaws.{name_facts}
 use Rattle.mm_render.proofs.StatedLaws.{both_false, either_true, second_true, not_false, has_name, name_at, header_fixed, header_turnstile}
 use Rattle.mm_render.proofs.VariableLaws.{variable_facts, same_is, premise_differs}
-use Rattle.mm_render.proofs.InsideLaws.{inside, AddsAnywhere, AreSymbols, list_any-append, map-append, behind_hypothesis, labelled_adds}
+use Rattle.mm_render.proofs.InsideLaws.{Left, inside, AddsAnywhere, AreSymbols, list_any-append, map-append, behind_hypothesis, labelled_adds}
 use Rattle.mm_render.proofs.Separations.{present_token, each_separated}
 use Rattle.mm_render.proofs.HeadLaws.{IsGround, IsOwnLabel, premise_label_own, new_inside, own_symbols, typed_tokens, premise_well, variables_add, separations_add}
 
@@ -108,7 +108,7 @@ more_ready k vs hs j statement small few w = record {
       ∙ both_false (has_token (map label_of hs) (premise_label k i)) (bytes_eq (premise_label k j) (premise_label k i) || false) (w.new i (omega (arith, le)) lt) (both_false (bytes_eq (premise_label k j) (premise_label k i)) false (premise_differs k j i small few lt (λ same. absurd (omega (arith, le, same)))) refl);
 }
 
-pub premises_add : (declared : List Token) (k : ℕ) (c : Context) (at : ℕ) (vs : List Variable) (hs : List Hypothesis) (ds : List (List Token)) (j : ℕ) (ps : List Pattern) (sts : List (List Token)) (left : Context) → IsGround declared k c → AreNumbered vs → AreReady k vs hs j
+pub premises_add : (declared : List Token) (k : ℕ) (c : Context) (at : ℕ) (vs : List Variable) (hs : List Hypothesis) (ds : List (List Token)) (j : ℕ) (ps : List Pattern) (sts : List (List Token)) (left : Left) → IsGround declared k c → AreNumbered vs → AreReady k vs hs j
     → AreOpenOver declared vs ps → j + length ps < 2 ^ 64 → AddsAnywhere (inside c at (variable_tokens vs) (hs ++ premise_hypotheses declared k j ps) ds) sts left
     → AddsAnywhere (inside c at (variable_tokens vs) hs ds) (premise_statements declared k j ps ++ sts) left
 premises_add declared k c at vs hs ds j [] sts left w numbered ready leaves few behind = subst (λ (gs : List Hypothesis). AddsAnywhere (inside c at (variable_tokens vs) gs ds) sts left) (append-nil hs) behind
@@ -116,7 +116,7 @@ premises_add declared k c at vs hs ds j (p ∷ ps) sts left w numbered ready lea
     let small : j < 2 ^ 64 = omega (arith, few) in
     let own : IsOwnLabel (premise_label k j) = premise_label_own k j w.small small in
     let h : Hypothesis = essential (premise_label k j) (holds_text (own_naming declared) p) in
-    labelled_adds (inside c at (variable_tokens vs) hs ds) (premise_label k j) assumes (codes "|-") (text_by (letters_of (own_naming declared)) p) (premise_statements declared k (j + 1) ps ++ sts) left refl (own_symbols (premise_label k j) own) (open_symbols declared vs p w.names numbered leaves.0)
+    labelled_adds (inside c at (variable_tokens vs) hs ds) (premise_label k j) assumes (codes "|-") (text_by (letters_of (own_naming declared)) p) (premise_statements declared k (j + 1) ps ++ sts) left refl refl (own_symbols (premise_label k j) own) (open_symbols declared vs p w.names numbered leaves.0)
     (premise_well (inside c at (variable_tokens vs) hs ds) (premise_label k j) (codes "|-") (text_by (letters_of (own_naming declared)) p)
     (new_inside declared k c at vs hs ds (premise_label k j) w own (w.free.premise j small) (ready.new j (omega arith) small)) (turnstile_constant declared c w.base) (open_typed declared k c at vs hs ds j p w ready leaves.0))
     (subst (λ (e : Context). AddsAnywhere e (premise_statements declared k (j + 1) ps ++ sts) left) (sym (behind_hypothesis c at (variable_tokens vs) hs ds (essential (premise_label k j) (holds_text (own_naming declared) p))))
@@ -150,7 +150,7 @@ pub own_ready : (declared : List Token) (k : ℕ) (vs : List Variable) (ps : Lis
 own_ready declared k vs ps small few = all_ready declared k vs (map (variable_float k) vs) 0 ps small (omega (arith, few)) (floats_ready k vs)
 
 -- the head of a block, from its `${` on
-pub head_adds : (declared : List Token) (k : ℕ) (c : Context) (at : ℕ) (vs : List Variable) (ps : List Pattern) (sts : List (List Token)) (left : Context) → IsGround declared k c → AreNumbered vs → are_once vs ≡ true → AreOpenOver declared vs ps → length ps < 2 ^ 64
+pub head_adds : (declared : List Token) (k : ℕ) (c : Context) (at : ℕ) (vs : List Variable) (ps : List Pattern) (sts : List (List Token)) (left : Left) → IsGround declared k c → AreNumbered vs → are_once vs ≡ true → AreOpenOver declared vs ps → length ps < 2 ^ 64
     → AddsAnywhere (inside c at (variable_tokens vs) (own_hypotheses declared k vs ps) (separations vs)) sts left → AddsAnywhere (inside c at [] [] []) (head_statements declared k vs ps ++ sts) left
 head_adds declared k c at vs ps sts left w numbered once leaves few behind =
     subst (λ (ss : List (List Token)). AddsAnywhere (inside c at [] [] []) ss left)

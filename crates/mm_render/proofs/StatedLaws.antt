@@ -341,14 +341,14 @@ theorem_plain l symbols proof h g f =
 
 -- what holds behind a statement
 
-abbrev with_statement : Context → ℕ → List Token → Context
+abbrev pub with_statement : Context → ℕ → List Token → Context
 with_statement c k symbols = with_declared c (statement_label k ∷ []) asserts symbols
 
 header_no_statement : (k : ℕ) → header_context.frames (statement_label k) ≡ None
 unfolding header_context header_rows
 header_no_statement k = refl
 
-row_differs : (label : Token) (f : Frame) (k : ℕ) → header_context.frames label ≡ Some f → bytes_eq label (statement_label k) ≡ false
+pub row_differs : (label : Token) (f : Frame) (k : ℕ) → header_context.frames label ≡ Some f → bytes_eq label (statement_label k) ≡ false
 row_differs label f k h = go (bytes_eq label (statement_label k)) refl
   where
     go : (b : Bool) → bytes_eq label (statement_label k) ≡ b → bytes_eq label (statement_label k) ≡ false
