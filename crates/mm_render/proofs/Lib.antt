@@ -28,3 +28,6 @@ pub mod DeclaredStates
 pub mod HeaderStates
 pub mod ImageLeaves
 pub mod SmallTexts
+pub mod OpenCitingTexts
+pub mod OpenCiting
+pub mod OpenCitingDerivations

@@ -24,3 +24,4 @@ pub mod Variables
 pub mod Blocks
 pub mod CitedAt
 pub mod Claiming
+pub mod OpenCiting
