@@ -31,3 +31,4 @@ pub mod SmallTexts
 pub mod OpenCitingTexts
 pub mod OpenCiting
 pub mod OpenCitingDerivations
+pub mod OpenVariableLaws

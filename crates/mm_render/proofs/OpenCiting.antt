@@ -145,7 +145,7 @@ claim_proves c l declared known i s ms trees names w is there none given proved 
     )
 
 -- a claim at a place
-claim_is : (claims : List Claim) (k : ℕ) (s : Claim) → slice_get claims k ≡ Some s → claim_at claims k ≡ s
+pub claim_is : (claims : List Claim) (k : ℕ) (s : Claim) → slice_get claims k ≡ Some s → claim_at claims k ≡ s
 claim_is [] k s h = absurd (let z : ⊥ = cc in z)
 claim_is (r ∷ rs) zero s h = let same : r ≡ s = cc in same
 claim_is (r ∷ rs) (suc k) s h = claim_is rs k s h

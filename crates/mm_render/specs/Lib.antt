@@ -25,3 +25,5 @@ pub mod Blocks
 pub mod CitedAt
 pub mod Claiming
 pub mod OpenCiting
+pub mod OpenVariables
+pub mod OpenCases

@@ -6,6 +6,7 @@ use Rattle.mm_render.specs.Derivations.{derivation_tree}
 use Rattle.mm_render.specs.CitedAt.{claims_citing, citable}
 use Rattle.mm_render.proofs.OpenCiting.{claim_proves, citing_is_sound}
 use Rattle.mm_render.proofs.OpenCitingDerivations.{cited_proves}
+use Rattle.mm_render.proofs.OpenVariableLaws.{needed_are_enough}
 use Rattle.mm_render.proofs.laws.citing_laws.Goals as goal
 
 pub returns-clause-cited : goal.returns-clause-cited
@@ -22,3 +23,10 @@ returns-clause-derivations a c declared known claims k hypotheses place premise_
       cited_proves c (own_labels k) (own_naming declared) (are_known known) hypotheses (citable (are_known known) claims place) (claims_citing k claims place premise_place) w
       (citing_is_sound c declared (are_known known) claims k hypotheses place premise_place names w serves are) d q concludes used cites;
 }
+
+pub returns-clause-enough : goal.returns-clause-enough
+returns-clause-enough a = needed_are_enough
+
+-- by computation
+pub returns-clause-cases : goal.returns-clause-cases
+returns-clause-cases a = record { citation = refl; renamed = refl; needed = refl }
