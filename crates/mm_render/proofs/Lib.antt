@@ -35,3 +35,7 @@ pub mod HeadLaws
 pub mod OpenTexts
 pub mod OpenFrames
 pub mod BlockLaws
+pub mod OpenCitingTexts
+pub mod OpenCiting
+pub mod OpenCitingDerivations
+pub mod OpenVariableLaws
