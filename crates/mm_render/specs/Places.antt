@@ -82,9 +82,13 @@ place_by supposed stated p = place_near (supposed (pattern_key p)) stated p
 abbrev pub Places : List Pattern → (Pattern → ℕ) → Type 0
 Places stated place = (p : Pattern) → IsTrue (is_stated stated p) → slice_get stated (place p) ≡ Some p
 
+-- a lemma as a theorem under the label with a number
+abbrev pub numbered_lemma : List Token → ℕ → (Pattern → ℕ) → Theorem → List Token
+numbered_lemma names k place t = theorem_statement names k t.conclusion (derivation_tree (own_labels k) (closed_citing place) t.derivation)
+
 -- a lemma behind what is kept, as a theorem under the next label
 abbrev pub lemma_statement : List Token → List Pattern → (Pattern → ℕ) → Theorem → List Token
-lemma_statement names stated place t = theorem_statement names (length stated) t.conclusion (derivation_tree (own_labels (length stated)) (closed_citing place) t.derivation)
+lemma_statement names stated place t = numbered_lemma names (length stated) place t
 
 -- A lemma was stated: its statement was appended, where each citation has the label of a place at which the pattern was stated;
 -- and where it may be proved, just this theorem is gained.

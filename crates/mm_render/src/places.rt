@@ -2,35 +2,42 @@
 // found in time linear in these and in the logarithm of how many there are. What the table says is looked at, and counts where
 // the pattern stands there: that no two patterns have the same bytes is not relied on.
 ghost use Rattle.std.specs.Prelude.{◌≡◌, IfOk};
-ghost use Rattle.mm_render.specs.Places.{pattern_key, place_by, place_in};
-ghost use Rattle.mm_render.specs.PlaceTable.{supposed_by};
+ghost use Rattle.mm_render.specs.Places.{pattern_key, place_in};
+ghost use Rattle.mm_render.specs.PlaceTable.{places_at};
 
 use crate::works::{Work, write_works};
 use ml_pat::{MPat, Names};
 use std::alloc::{AllocError, Global};
 use std::collections::BTreeMap;
 
+/// Where a statement stands that is being written.
+#[derive(Clone, Copy)]
+pub(crate) struct Standing<'a> {
+    /// The names that its patterns are made of.
+    pub(crate) names: &'a Names,
+    /// Its number.
+    pub(crate) serial: u64,
+    /// The places of what was stated before.
+    pub(crate) places: &'a BTreeMap<Vec<u8>, u64>,
+    /// What was stated before.
+    pub(crate) stated: &'a [MPat],
+}
+
 /// A place of the pattern among those that were stated; behind them all where it is none of them.
-pub(crate) fn place_of(
-    alloc: Global,
-    names: &Names,
-    places: &BTreeMap<Vec<u8>, u64>,
-    stated: &[MPat],
-    pattern: &MPat,
-) -> Result<u64, AllocError>
-    ensures { IfOk result (λ place. place ≡ place_by (supposed_by places.now) stated.now pattern.now) }
+pub(crate) fn place_of(alloc: Global, at: &Standing<'_>, pattern: &MPat) -> Result<u64, AllocError>
+    ensures { IfOk result (λ place. place ≡ places_at at.now pattern.now) }
 {
-    let key = pattern_key(alloc, names, pattern)?;
-    let Some(place) = places.get(key.as_slice()) else {
-        return Ok(first_place(stated, pattern));
+    let key = pattern_key(alloc, at.names, pattern)?;
+    let Some(place) = at.places.get(key.as_slice()) else {
+        return Ok(first_place(at.stated, pattern));
     };
-    let Some(other) = stated.get(*place as usize) else {
-        return Ok(first_place(stated, pattern));
+    let Some(other) = at.stated.get(*place as usize) else {
+        return Ok(first_place(at.stated, pattern));
     };
     if other.same(pattern) {
         return Ok(*place);
     }
-    Ok(first_place(stated, pattern))
+    Ok(first_place(at.stated, pattern))
 }
 
 /// The bytes of the proof that the pattern is one.

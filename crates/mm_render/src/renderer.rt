@@ -10,7 +10,7 @@ ghost use Rattle.mm_render.specs.Tokens.{name_of};
 ghost use Rattle.mm_render.specs.Stating.{axiom_statement, stated_assertion};
 ghost use Rattle.mm_render.specs.Statements.{all_name_statements, name_statements, typecode_of};
 
-use crate::places::pattern_key;
+use crate::places::{Standing, pattern_key};
 use crate::statements::{push_axiom, push_theorem};
 use crate::words::{Word, push_words};
 use ml_kernel::{AxiomNo, Lemma, Theory};
@@ -129,7 +129,13 @@ impl Renderer {
         let _premises = lemma.hypotheses();
         let pattern = lemma.conclusion().share()?;
         let mut text = Vec::new(*to.allocator());
-        push_theorem(&mut text, names, &self.places, &self.stated, lemma)?;
+        let at = Standing {
+            names,
+            serial: self.stated.len() as u64,
+            places: &self.places,
+            stated: &self.stated,
+        };
+        push_theorem(&mut text, &at, lemma)?;
         self.keep(names, pattern, &text, to)
     }
 
