@@ -27,3 +27,4 @@ pub mod Claiming
 pub mod OpenCiting
 pub mod OpenVariables
 pub mod OpenCases
+pub mod RenderedCases
