@@ -40,3 +40,5 @@ pub mod OpenCitingTexts
 pub mod OpenCiting
 pub mod OpenCitingDerivations
 pub mod OpenVariableLaws
+pub mod AddedVariables
+pub mod ClaimLaws

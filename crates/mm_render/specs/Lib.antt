@@ -26,5 +26,8 @@ pub mod CitedAt
 pub mod Claiming
 pub mod OpenCiting
 pub mod OpenVariables
+pub mod ClaimVariables
+pub mod VariablesView
+pub mod ListedVariables
 pub mod OpenCases
 pub mod RenderedCases

@@ -21,6 +21,7 @@
 //! that deep patterns and derivations need no recursion (`specs/Writing`, `specs/Parts`).
 #![tactic(auto)]
 
+mod claims;
 mod derivations;
 mod freshness;
 mod laws;
@@ -32,9 +33,11 @@ mod searching;
 mod stacks;
 mod statements;
 mod substitution;
+mod variables;
 mod words;
 mod works;
 
+pub use claims::claim_laws;
 pub use laws::{
     citing_laws, closed_laws, fitting_laws, image_laws, justifying_laws, later_laws, proof_laws,
     tried,
