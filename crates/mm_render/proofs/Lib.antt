@@ -42,3 +42,4 @@ pub mod OpenCitingDerivations
 pub mod OpenVariableLaws
 pub mod AddedVariables
 pub mod ClaimLaws
+pub mod HeadTexts

@@ -29,5 +29,6 @@ pub mod OpenVariables
 pub mod ClaimVariables
 pub mod VariablesView
 pub mod ListedVariables
+pub mod HeadText
 pub mod OpenCases
 pub mod RenderedCases
