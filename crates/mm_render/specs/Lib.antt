@@ -30,5 +30,6 @@ pub mod ClaimVariables
 pub mod VariablesView
 pub mod ListedVariables
 pub mod HeadText
+pub mod TheoremText
 pub mod OpenCases
 pub mod RenderedCases

@@ -3,6 +3,7 @@ ghost use Rattle.std.specs.Prelude.{◌≡◌, ◌∷◌, ◌++◌, OnErr, OnOk}
 ghost use Rattle.mm_frame.specs.FrameLaws.{written_statements};
 ghost use Rattle.mm_render.specs.Blocks.{IsClaim, axiom_block};
 ghost use Rattle.mm_render.specs.ClaimVariables.{AreOverNames, OverNamesIsClaim, claim_of};
+ghost use Rattle.mm_render.specs.TheoremText.{TheoremBlockText};
 
 use crate::heads::push_head;
 use crate::statements::push_axiom;
@@ -35,7 +36,8 @@ pub fn write_axiom(
 }
 
 /// A conclusion and hypotheses over declared names, with the variables that stand in them, are a claim, where these have numbers
-/// of 64 bits and the hypotheses are fewer than 2 to the 64.
+/// of 64 bits and the hypotheses are fewer than 2 to the 64. The block of a theorem is its front, its proof and its end.
 pub fn claim_laws()
-    ensures { OverNamesIsClaim }
+    ensures claims { OverNamesIsClaim }
+    ensures theorems { TheoremBlockText }
 {}

@@ -35,6 +35,7 @@ mod searching;
 mod stacks;
 mod statements;
 mod substitution;
+mod theorems;
 mod variables;
 mod words;
 mod works;

@@ -3,6 +3,9 @@ ghost use Rattle.std.specs.Prelude.{◌≡◌, ◌<◌, IfOk, length};
 
 use crate::claims::write_axiom;
 use crate::renderer::Renderer;
+use crate::theorems::{push_theorem_end, push_theorem_front};
+use crate::variables::variables_of_claim;
+use crate::words::{Word, push_words};
 use crate::works::{Work, write_works};
 use ml_kernel::{AxiomNo, Lemma, Theory, Thm};
 use ml_pat::{ConstNo, MPat, MSort, Names, VarNo};
@@ -248,6 +251,35 @@ fn writes_which_variables_stay_apart(rt: HostRuntime) -> Result<(), Fail> {
     assert_eq!(rt;
         text.as_slice(),
         b"${ $v x:5 $. x.0.5 $f #Var x:5 $. $v x:2 $. x.0.2 $f #Var x:2 $. $v m:1 $. m.0.1 $f #Pattern m:1 $. $v m:0 $. m.0.0 $f #Pattern m:0 $. $d x:5 x:2 $. $d x:5 x:2 m:1 $. $d x:5 x:2 m:0 $. t.0 $a |- ( \\all x:5 s:S ( \\imp ( \\imp x:2 ( \\imp m:1 m:0 ) ) ( \\imp x:2 ( \\imp m:1 m:0 ) ) ) ) $. $} ".as_slice()
+    );
+    Ok(())
+}
+
+// The same as a lemma, by the rule for predecessors from its hypothesis, in its block.
+#[test]
+fn writes_the_block_of_a_lemma(rt: HostRuntime) -> Result<(), Fail> {
+    let alloc = rt.alloc();
+    let names = three_names(alloc)?;
+    let x = MPat::var(alloc, VarNo(0))?;
+    let m = MPat::meta(alloc, 0)?;
+    let mut hypotheses = Vec::new(alloc);
+    hypotheses.push(MPat::imp(alloc, &x, &m)?)?;
+    let conclusion = MPat::imp(alloc, &MPat::next(alloc, &x)?, &MPat::next(alloc, &m)?)?;
+    let variables = variables_of_claim(alloc, &hypotheses, &conclusion)?;
+    let mut text = Vec::new(alloc);
+    push_theorem_front(&mut text, &names, 7, &variables, &hypotheses, &conclusion)?;
+    write_works(&mut text, &names, 7, &[Work::Syntax(&x)])?;
+    write_works(&mut text, &names, 7, &[Work::Syntax(&m)])?;
+    push_words(
+        &mut text,
+        &names,
+        7,
+        &[Word::Premise(0), Word::Fixed("next.in")],
+    )?;
+    push_theorem_end(&mut text, &names, 7)?;
+    assert_eq!(rt;
+        text.as_slice(),
+        b"${ $v x:0 $. x.7.0 $f #Var x:0 $. $v m:0 $. m.7.0 $f #Pattern m:0 $. $d x:0 m:0 $. e.7.0 $e |- ( \\imp x:0 m:0 ) $. t.7 $p |- ( \\imp ( \\next x:0 ) ( \\next m:0 ) ) $= x.7.0 w.var m.7.0 e.7.0 next.in $. $} ".as_slice()
     );
     Ok(())
 }
