@@ -27,7 +27,7 @@ use Rattle.mm_render.specs.JustifyingLaws.{AllDeclared, AxiomHasOnly, TheoremHas
 use Rattle.mm_render.proofs.LeafLaws.{EachLeaf-implied}
 use Rattle.mm_render.proofs.FittingLaws.{name_of-front, take-all}
 use Rattle.mm_render.proofs.NamedStatements.{stated_is_valid}
-use Rattle.mm_render.proofs.PlaceLaws.{is_same-of}
+use Rattle.mm_render.proofs.KeyLaws.{is_same-of}
 use Rattle.mm_render.proofs.KeepingLaws.{closed_no_meta}
 
 AreAllowed-append : (program : Program) (xs ys : List Assertion) → AreAllowed program xs → AreAllowed program ys → AreAllowed program (xs ++ ys)

@@ -21,6 +21,7 @@ pub mod SpeltLaws
 pub mod StatedLaws
 pub mod NamedStatements
 pub mod KeepingLaws
+pub mod KeyLaws
 pub mod PlaceLaws
 pub mod PartLaws
 pub mod Allowing

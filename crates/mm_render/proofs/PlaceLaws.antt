@@ -1,152 +1,90 @@
--- Patterns are the same where their numbers are, and a pattern that was stated stands at its place.
-use Rattle.std.proofs.Common.{◌≡◌, ℕ, ◌+◌, ◌<◌, Bool, true, false, List, [], ◌∷◌, length, drop, get_or, drop-cons, zero, suc, refl, ap, ◌∙◌, sym, subst, arith, Option, Some, None, slice_get, nat_lt}
-use Rattle.std.specs.Prelude.{◌==◌, ◌||◌, if◌then◌else◌}
+-- What was stated is found at its place.
+use Rattle.std.proofs.Common.{◌≡◌, ℕ, Bool, true, false, List, [], ◌∷◌, ◌++◌, length, zero, suc, refl, ap, ◌∙◌, sym, Option, Some, slice_get, cond}
+use Rattle.std.specs.Prelude.{◌||◌, unwrap_or, bytes_eq, IsTrue}
+use Rattle.std.specs.BTreeMap.{BTreeMap, Updates}
+use Rattle.std.specs.Cmp.{eq_by_cmp_equiv}
+use Rattle.std.specs.Cmp.Lexicographic.{slice_cmp, nat_list_cmp_total}
+use Rattle.std.specs.Global.{Vec}
 use Rattle.std.specs.List.{list_any}
+use Rattle.std.specs.Map.{KeepsOthers, IsKeyTest, AreApart, lookup}
+use Rattle.std.specs.Ordering.{nat_cmp, is_eq}
 use Rattle.std.proofs.lemmas.Bool.{false≢true}
+use Rattle.std.proofs.lemmas.Map.Text.{is_eq-slice_cmp}
 use Rattle.std.proofs.lemmas.Slice.Eq.{bytes_eq-Decides}
-use Rattle.ml_pat.specs.Patterns.{Pattern, bot, top, imp, not, and, or, equal, member, fun, ex, all, app, at_sort, next, ev, var, meta, constant}
-use Rattle.mm_render.specs.Places.{numbers, is_same, place_in, is_stated, pattern_key, place_at, place_near, place_by, Places}
+use Rattle.ml_pat.specs.Patterns.{Pattern}
+use Rattle.mm_render.specs.Places.{is_same, is_stated, pattern_key, place_by, IsUnder, FindsStated}
+use Rattle.mm_render.specs.PlaceTable.{found_in}
+use Rattle.mm_render.proofs.KeyLaws.{same_is, key_same}
 
--- reading numbers, over a stack of patterns
+-- what a table finds behind an insertion
 
-leaf_of : ℕ → ℕ → Pattern
-leaf_of k n = if k == 0 then bot else (if k == 1 then top else (if k == 2 then var n else (if k == 3 then meta n else constant n)))
-
-over_one : ℕ → ℕ → ℕ → List Pattern → List Pattern
-over_one k x s [] = []
-over_one k x s (p ∷ ps) =
-    (if k == 5 then not p
-    else (if k == 6 then next p
-    else (if k == 7 then ev p
-    else (if k == 8 then fun p s
-    else (if k == 9 then at_sort p s
-    else (if k == 10 then ex x s p
-    else all x s p)))))) ∷ ps
-
-over_two : ℕ → List Pattern → List Pattern
-over_two k [] = []
-over_two k (q ∷ []) = []
-over_two k (q ∷ (p ∷ ps)) =
-    (if k == 12 then imp p q
-    else (if k == 13 then and p q
-    else (if k == 14 then or p q
-    else (if k == 15 then equal p q
-    else (if k == 16 then member p q
-    else app p q))))) ∷ ps
-
-push : ℕ → ℕ → ℕ → List Pattern → List Pattern
-push k a b ps = if nat_lt k 5 then leaf_of k a ∷ ps else (if nat_lt k 12 then over_one k a b ps else over_two k ps)
-
-read : List ℕ → List Pattern → List Pattern
-read [] ps = ps
-read (k ∷ []) ps = ps
-read (k ∷ (a ∷ [])) ps = ps
-read (k ∷ (a ∷ (b ∷ rest))) ps = read rest (push k a b ps)
-
-read-numbers : (p : Pattern) (rest : List ℕ) (ps : List Pattern) → read (numbers p rest) ps ≡ read rest (p ∷ ps)
-unfolding read push leaf_of over_one over_two
-read-numbers bot rest ps = refl
-read-numbers top rest ps = refl
-read-numbers (var x) rest ps = refl
-read-numbers (meta i) rest ps = refl
-read-numbers (constant c) rest ps = refl
-read-numbers (not p) rest ps = read-numbers p _ ps
-read-numbers (next p) rest ps = read-numbers p _ ps
-read-numbers (ev p) rest ps = read-numbers p _ ps
-read-numbers (fun p s) rest ps = read-numbers p _ ps
-read-numbers (at_sort p s) rest ps = read-numbers p _ ps
-read-numbers (ex x s p) rest ps = read-numbers p _ ps
-read-numbers (all x s p) rest ps = read-numbers p _ ps
-read-numbers (imp p q) rest ps = read-numbers p _ ps ∙ read-numbers q _ (p ∷ ps)
-read-numbers (and p q) rest ps = read-numbers p _ ps ∙ read-numbers q _ (p ∷ ps)
-read-numbers (or p q) rest ps = read-numbers p _ ps ∙ read-numbers q _ (p ∷ ps)
-read-numbers (equal p q) rest ps = read-numbers p _ ps ∙ read-numbers q _ (p ∷ ps)
-read-numbers (member p q) rest ps = read-numbers p _ ps ∙ read-numbers q _ (p ∷ ps)
-read-numbers (app p q) rest ps = read-numbers p _ ps ∙ read-numbers q _ (p ∷ ps)
-
-top_of : List Pattern → Pattern
-top_of [] = bot
-top_of (p ∷ ps) = p
-
-read_back : (p : Pattern) → top_of (read (numbers p []) []) ≡ p
-unfolding top_of read
-read_back p = ap top_of (read-numbers p [] [])
-
-pub same_is : (p q : Pattern) → is_same p q ≡ true → p ≡ q
-same_is p q h = sym (read_back p) ∙ ap (λ (ns : List ℕ). top_of (read ns [])) ((bytes_eq-Decides (numbers p []) (numbers q [])).0 h) ∙ read_back q
-
-pub is_same-of : (p q : Pattern) → p ≡ q → is_same p q ≡ true
-is_same-of p q e = (bytes_eq-Decides (numbers p []) (numbers q [])).1 (ap (λ (r : Pattern). numbers r []) e)
-
--- a pattern that was stated stands at its place
-pub stated_there : (stated : List Pattern) (p : Pattern) → is_stated stated p ≡ true → slice_get stated (place_in stated p) ≡ Some p
-stated_there [] p h = absurd (false≢true h)
-stated_there (q ∷ qs) p h = go (is_same q p) refl h (stated_there qs p)
+apart : (bs cs ks : List ℕ) → bytes_eq bs cs ≡ false → is_eq (slice_cmp nat_cmp bs ks) ≡ true → is_eq (slice_cmp nat_cmp cs ks) ≡ false
+apart bs cs ks other same = go (bytes_eq cs ks) refl
   where
-    go : (b : Bool) → is_same q p ≡ b → (b || list_any (λ r. is_same r p) qs) ≡ true → (is_stated qs p ≡ true → slice_get qs (place_in qs p) ≡ Some p) → slice_get (q ∷ qs) (if b then 0 else place_in qs p + 1) ≡ Some p
-    go true is found behind = ap Some (same_is q p is)
-    go false is found behind =
-        let next : suc (place_in qs p) ≡ place_in qs p + 1 = omega arith in
-        subst (λ (n : ℕ). slice_get (q ∷ qs) n ≡ Some p) next (behind found)
+    go : (b : Bool) → bytes_eq cs ks ≡ b → is_eq (slice_cmp nat_cmp cs ks) ≡ false
+    go true is = absurd (false≢true (sym other ∙ (bytes_eq-Decides bs cs).1 ((bytes_eq-Decides bs ks).0 (sym (is_eq-slice_cmp bs ks) ∙ same) ∙ sym ((bytes_eq-Decides cs ks).0 is))))
+    go false is = is_eq-slice_cmp cs ks ∙ is
 
--- looking for a place, one pattern after another
+others_kept : (test : Vec ℕ → Bool) (old new : List (Vec ℕ × ℕ)) → KeepsOthers (λ (a b : Vec ℕ). is_eq (slice_cmp nat_cmp a.items b.items)) test old new → (other : Vec ℕ → Bool)
+    → IsKeyTest (λ (a b : Vec ℕ). is_eq (slice_cmp nat_cmp a.items b.items)) other → AreApart test other → lookup other new ≡ lookup other old
+unfolding KeepsOthers
+others_kept test old new h = h
 
-first_same : (q p : Pattern) (qs : List Pattern) → q ≡ p → place_in (q ∷ qs) p ≡ 0
-first_same q p qs e = go (is_same q p) (is_same-of q p e)
+pub found-insert : (m n : BTreeMap (Vec ℕ) ℕ) (k : Vec ℕ) (w : Option ℕ) → Updates (λ (a b : Vec ℕ). slice_cmp nat_cmp a.items b.items) m n k w
+    → (key : List ℕ) → found_in n key ≡ cond (bytes_eq k.items key) w (found_in m key)
+found-insert m n k w updates key = go (bytes_eq k.items key) refl
   where
-    go : (b : Bool) → b ≡ true → (if b then 0 else place_in qs p + 1) ≡ 0
-    go true is = refl
-    go false is = absurd (false≢true is)
+    go : (b : Bool) → bytes_eq k.items key ≡ b → found_in n key ≡ cond b w (found_in m key)
+    go true same = ap (found_in n) (sym ((bytes_eq-Decides k.items key).0 same)) ∙ updates.1
+    go false other =
+        others_kept _ m.entries n.entries updates.3 (λ (b : Vec ℕ). is_eq (slice_cmp nat_cmp key b.items)) (λ (x y : Vec ℕ). (eq_by_cmp_equiv nat_list_cmp_total).congr key x.items y.items)
+        (λ (b : Vec ℕ). apart k.items key b.items other)
 
-first_other : (q p : Pattern) (qs : List Pattern) → (q ≡ p → ⊥) → place_in (q ∷ qs) p ≡ place_in qs p + 1
-first_other q p qs other = go (is_same q p) refl
+stands_last : (stated : List Pattern) (p : Pattern) → slice_get (stated ++ p ∷ []) (length stated) ≡ Some p
+stands_last [] p = refl
+stands_last (q ∷ stated) p = stands_last stated p
+
+stands_before : (stated : List Pattern) (p q : Pattern) (k : ℕ) → slice_get stated k ≡ Some q → slice_get (stated ++ p ∷ []) k ≡ Some q
+stands_before [] p q k h = absurd (cc)
+stands_before (r ∷ stated) p q zero h = h
+stands_before (r ∷ stated) p q (suc k) h = stands_before stated p q k h
+
+-- a pattern that is stated with one more is that, or was stated
+stated_or_last : (stated : List Pattern) (p q : Pattern) → is_stated (stated ++ p ∷ []) q ≡ true → (p ≡ q → ⊥) → is_stated stated q ≡ true
+stated_or_last [] p q h other = go (is_same p q) refl h
   where
-    go : (b : Bool) → is_same q p ≡ b → (if b then 0 else place_in qs p + 1) ≡ place_in qs p + 1
-    go true is = absurd (other (same_is q p is))
-    go false is = refl
-
-pub place_here : (ps : List Pattern) (i : ℕ) (q p : Pattern) → i < length ps → q ≡ get_or ps i q → q ≡ p → place_in (drop i ps) p ≡ 0
-place_here ps i q p lt is e = ap (λ (rs : List Pattern). place_in rs p) (drop-cons ps i q lt) ∙ first_same (get_or ps i q) p (drop (suc i) ps) (sym is ∙ e)
-
-pub place_next : (ps : List Pattern) (i : ℕ) (q p : Pattern) → i < length ps → q ≡ get_or ps i q → (q ≡ p → ⊥) → place_in (drop i ps) p ≡ place_in (drop (i + 1) ps) p + 1
-place_next ps i q p lt is other =
-    let next : suc i ≡ i + 1 = omega arith in
-    ap (λ (rs : List Pattern). place_in rs p) (drop-cons ps i q lt) ∙ first_other (get_or ps i q) p (drop (suc i) ps) (λ e. other (is ∙ e)) ∙ ap (λ (n : ℕ). place_in (drop n ps) p + 1) next
-
--- whatever is supposed, each pattern that was stated stands at its place
-pub places_by : (supposed : List ℕ → Option ℕ) (stated : List Pattern) → Places stated (place_by supposed stated)
-places_by supposed stated p there = near (supposed (pattern_key p))
+    go : (b : Bool) → is_same p q ≡ b → (b || false) ≡ true → false ≡ true
+    go true same h = absurd (other (same_is p q same))
+    go false same h = h
+stated_or_last (r ∷ stated) p q h other = go (is_same r q) h (λ later. stated_or_last stated p q later other)
   where
-    same_there : (k : ℕ) (q : Pattern) (b : Bool) → slice_get stated k ≡ Some q → is_same q p ≡ b → slice_get stated (if b then k else place_in stated p) ≡ Some p
-    same_there k q true stands is = stands ∙ ap Some (same_is q p is)
-    same_there k q false stands is = stated_there stated p there
+    go : (b : Bool) → (b || list_any (λ (s : Pattern). is_same s q) (stated ++ p ∷ [])) ≡ true → (is_stated (stated ++ p ∷ []) q ≡ true → is_stated stated q ≡ true) → (b || list_any (λ (s : Pattern). is_same s q) stated) ≡ true
+    go true h behind = refl
+    go false h behind = behind h
 
-    at : (k : ℕ) (o : Option Pattern) → slice_get stated k ≡ o → slice_get stated (place_at o k stated p) ≡ Some p
-    at k None stands = stated_there stated p there
-    at k (Some q) stands = same_there k q (is_same q p) stands refl
-
-    near : (o : Option ℕ) → slice_get stated (place_near o stated p) ≡ Some p
-    near None = stated_there stated p there
-    near (Some k) = at k (slice_get stated k) refl
-
--- what is supposed counts where the pattern stands there
-pub place_by-same : (supposed : List ℕ → Option ℕ) (stated : List Pattern) (p : Pattern) (k : ℕ) (q : Pattern) → supposed (pattern_key p) ≡ Some k → slice_get stated k ≡ Some q → q ≡ p → k ≡ place_by supposed stated p
-place_by-same supposed stated p k q is there same =
-    sym (ap (λ (o : Option ℕ). place_near o stated p) is ∙ ap (λ (o : Option Pattern). place_at o k stated p) there ∙ go (is_same q p) (is_same-of q p same))
+-- one statement more, under its bytes
+pub finds_more : (stated : List Pattern) (p : Pattern) (key : List ℕ) (old new : List ℕ → Option ℕ) → FindsStated stated old → key ≡ pattern_key p
+    → ((other : List ℕ) → new other ≡ cond (bytes_eq key other) (Some (length stated)) (old other)) → FindsStated (stated ++ p ∷ []) new
+finds_more stated p key old new finds is inserted = record {
+  places = λ q there. place q there (bytes_eq key (pattern_key q)) refl;
+  only = λ other k found. under other k (bytes_eq key other) refl (sym (inserted other) ∙ found);
+}
   where
-    go : (b : Bool) → b ≡ true → (if b then k else place_in stated p) ≡ k
-    go true found = refl
-    go false found = absurd (false≢true found)
+    place : (q : Pattern) → IsTrue (is_stated (stated ++ p ∷ []) q) → (b : Bool) → bytes_eq key (pattern_key q) ≡ b → slice_get (stated ++ p ∷ []) (place_by new q) ≡ Some q
+    place q there true same =
+        let one : p ≡ q = key_same p q (sym is ∙ (bytes_eq-Decides key (pattern_key q)).0 same) in
+        ap (λ (o : Option ℕ). slice_get (stated ++ p ∷ []) (unwrap_or o 0)) (inserted (pattern_key q) ∙ ap (λ (b : Bool). cond b (Some (length stated)) (old (pattern_key q))) same) ∙ stands_last stated p ∙ ap Some one
+    place q there false other =
+        let apart : p ≡ q → ⊥ = λ e. false≢true (sym other ∙ (bytes_eq-Decides key (pattern_key q)).1 (is ∙ ap pattern_key e)) in
+        ap (λ (o : Option ℕ). slice_get (stated ++ p ∷ []) (unwrap_or o 0)) (inserted (pattern_key q) ∙ ap (λ (b : Bool). cond b (Some (length stated)) (old (pattern_key q))) other)
+        ∙ stands_before stated p q (place_by old q) (finds.places q (stated_or_last stated p q there apart))
 
-pub place_by-other : (supposed : List ℕ → Option ℕ) (stated : List Pattern) (p : Pattern) (k : ℕ) (q : Pattern) → supposed (pattern_key p) ≡ Some k → slice_get stated k ≡ Some q → (q ≡ p → ⊥) → place_in stated p ≡ place_by supposed stated p
-place_by-other supposed stated p k q is there other =
-    sym (ap (λ (o : Option ℕ). place_near o stated p) is ∙ ap (λ (o : Option Pattern). place_at o k stated p) there ∙ go (is_same q p) refl)
-  where
-    go : (b : Bool) → is_same q p ≡ b → (if b then k else place_in stated p) ≡ place_in stated p
-    go true found = absurd (other (same_is q p found))
-    go false found = refl
+    last : (k : ℕ) → Some (length stated) ≡ Some k → length stated ≡ k
+    last k h = cc
 
-pub stands_at : (ps : List Pattern) (i : ℕ) (q : Pattern) → i < length ps → q ≡ get_or ps i q → slice_get ps i ≡ Some q
-stands_at [] i q lt is = absurd (omega (arith, lt))
-stands_at (p ∷ ps) zero q lt is = ap Some (sym is)
-stands_at (p ∷ ps) (suc i) q lt is = stands_at ps i q (omega (arith, lt)) is
+    later : (other : List ℕ) (k : ℕ) → IsUnder stated other k → IsUnder (stated ++ p ∷ []) other k
+    later other k (q, stands, bytes) = (q, stands_before stated p q k stands, bytes)
+
+    under : (other : List ℕ) (k : ℕ) (b : Bool) → bytes_eq key other ≡ b → cond b (Some (length stated)) (old other) ≡ Some k → IsUnder (stated ++ p ∷ []) other k
+    under other k true same found = (p, ap (slice_get (stated ++ p ∷ [])) (sym (last k found)) ∙ stands_last stated p, sym is ∙ (bytes_eq-Decides key other).0 same)
+    under other k false same found = later other k (finds.only other k found)

@@ -20,3 +20,4 @@ pub mod Parts
 pub mod Justifying
 pub mod JustifyingLaws
 pub mod JustifyingCases
+pub mod RenderedCases

@@ -1,9 +1,29 @@
--- The places that a table supposes: cited by the clauses of private functions alone.
-use Rattle.std.specs.Prelude.{ℕ, List, Option}
+-- The places of what was stated, by the bytes of its numbers: cited by the clauses of private functions alone.
+use Rattle.std.specs.Prelude.{◌≡◌, ◌<◌, ℕ, ◌+◌, List, [], ◌∷◌, ◌++◌, Option}
+use Rattle.std.specs.Borrow.{Bor}
 use Rattle.std.specs.BTreeMap.{BTreeMap, get_by}
 use Rattle.std.specs.Cmp.Lexicographic.{slice_cmp}
 use Rattle.std.specs.Global.{Vec}
 use Rattle.std.specs.Ordering.{nat_cmp}
+use Rattle.ml_pat.specs.Patterns.{Pattern}
+use Rattle.mm_render.specs.Places.{all_bytes, numbers, place_by}
+use Rattle.mm_render.specs.Searching.{all_forms, patterns_of}
+use Rattle.mm_render.specs.declared.places.Standing.{Standing}
 
-abbrev pub supposed_by : BTreeMap (Vec ℕ) ℕ → List ℕ → Option ℕ
-supposed_by table key = get_by (λ (k : Vec ℕ). slice_cmp nat_cmp key k.items) table
+-- what a table has under some bytes
+abbrev pub found_in : BTreeMap (Vec ℕ) ℕ → List ℕ → Option ℕ
+found_in table key = get_by (λ (k : Vec ℕ). slice_cmp nat_cmp key k.items) table
+
+-- the places of patterns, for a statement that stands there
+abbrev pub places_at : Standing → Pattern → ℕ
+places_at at = place_by (found_in at.places.now)
+
+-- the numbers of the patterns on a stack, the top last, in front of others
+abbrev pub all_numbers : List Pattern → List ℕ → List ℕ
+all_numbers [] rest = rest
+all_numbers (p ∷ ps) rest = all_numbers ps (numbers p rest)
+
+-- A pattern was taken from a stack: the bytes of its form's numbers were added, and its parts are on the stack.
+pub record FormIsAdded (of_pattern : List ℕ → List ℕ) (size : ℕ) (old new : List (Bor Pattern)) (key key' : List ℕ) : Type 0 where
+  pub bytes : key' ++ all_bytes (all_numbers (patterns_of new) []) ≡ key ++ all_bytes (of_pattern (all_numbers (patterns_of old) []))
+  pub weight : all_forms (patterns_of new) < all_forms (patterns_of old) + size

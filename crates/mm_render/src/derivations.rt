@@ -8,17 +8,15 @@ ghost use Rattle.ml_kernel.specs.StepsIn.{all_steps};
 ghost use Rattle.ml_kernel.specs.Theorems.{derivations};
 ghost use Rattle.mm_render.specs.Labels.{own_labels, statement_label};
 ghost use Rattle.mm_render.specs.Parts.{all_labels, PartIsTaken, proof_of, proofs_of, PutsParts, rest_of_row, trees_behind};
-ghost use Rattle.mm_render.specs.Places.{place_by};
-ghost use Rattle.mm_render.specs.PlaceTable.{supposed_by};
+ghost use Rattle.mm_render.specs.PlaceTable.{places_at};
 
-use crate::places::place_of;
+use crate::places::{Standing, place_of};
 use crate::rules::{EX_EL, pattern_at, rule_label, variable_at, write_before, write_instances};
 use crate::words::{Word, push_word};
 use crate::works::{Work, write_works};
 use ml_kernel::{Deriv, DerivStep, Inst};
-use ml_pat::{MPat, Names};
+use ml_pat::MPat;
 use std::alloc::AllocError;
-use std::collections::BTreeMap;
 
 /// What of a derivation is still to be written.
 #[derive(Clone, Copy)]
@@ -29,25 +27,19 @@ pub(crate) enum Part<'a> {
     Derived(&'a Deriv),
 }
 
-/// Writes the proof by a derivation, in the block of the statement with the number `serial`, where these patterns were stated
-/// before.
+/// Writes the proof by a derivation of the statement that stands there.
 pub(crate) fn write_derivation(
     to: &mut Vec<u8>,
-    names: &Names,
-    serial: u64,
-    places: &BTreeMap<Vec<u8>, u64>,
-    stated: &[MPat],
+    at: &Standing<'_>,
     derivation: &Deriv,
 ) -> Result<(), AllocError>
-    ensures { OnOk result (to.new.items ≡ to.old.items ++ written (proof_of serial (place_by (supposed_by places.now) stated.now) derivation.now)) }
+    ensures { OnOk result (to.new.items ≡ to.old.items ++ written (proof_of at.now.serial (places_at at.now) derivation.now)) }
 {
     let nothing = MPat::bot(*to.allocator())?;
     let mut stack = Vec::new(*to.allocator());
     stack.push(Part::Derived(derivation))?;
     while let Some(next) = stack.pop() {
-        write_part(
-            to, names, serial, places, stated, &nothing, &mut stack, next,
-        )?;
+        write_part(to, at, &nothing, &mut stack, next)?;
     }
     Ok(())
 }
@@ -55,53 +47,36 @@ pub(crate) fn write_derivation(
 /// Writes a part, or takes a step of a derivation apart.
 fn write_part<'a>(
     to: &mut Vec<u8>,
-    names: &Names,
-    serial: u64,
-    places: &BTreeMap<Vec<u8>, u64>,
-    stated: &[MPat],
+    at: &Standing<'_>,
     nothing: &'a MPat,
     stack: &mut Vec<Part<'a>>,
     part: Part<'a>,
 ) -> Result<(), AllocError>
     requires { nothing.now ≡ bot }
-    ensures { OnOk result (PartIsTaken names.now serial (place_by (supposed_by places.now) stated.now) part.entry stack.old.items stack.new.items to.old.items to.new.items) }
+    ensures { OnOk result (PartIsTaken at.now.names.now at.now.serial (places_at at.now) part.entry stack.old.items stack.new.items to.old.items to.new.items) }
 {
     let derivation = match part {
-        Part::Plain(work) => return write_works(to, names, serial, &[work]),
+        Part::Plain(work) => return write_works(to, at.names, at.serial, &[work]),
         Part::Derived(derivation) => derivation,
     };
     match derivation.step() {
-        DerivStep::Hyp(_) => push_word(to, names, serial, Word::Stated(0)),
-        DerivStep::Axiom(_, p) => write_citation(to, names, serial, places, stated, p),
-        DerivStep::Cited(lemma, _, _) => write_citation(
-            to,
-            names,
-            serial,
-            places,
-            stated,
-            lemma.conclusion(),
-        ),
+        DerivStep::Hyp(_) => push_word(to, at.names, at.serial, Word::Stated(0)),
+        DerivStep::Axiom(_, p) => write_citation(to, at, p),
+        DerivStep::Cited(lemma, _, _) => write_citation(to, at, lemma.conclusion()),
         DerivStep::Row(no, instances, parts) => {
-            write_instances(to, names, serial, instances)?;
-            write_before(to, names, serial, *no, instances, nothing)?;
+            write_instances(to, at.names, at.serial, instances)?;
+            write_before(to, at.names, at.serial, *no, instances, nothing)?;
             put_row(stack, *no, instances, nothing, parts)
         }
     }
 }
 
 /// Writes the label under which a pattern was stated.
-fn write_citation(
-    to: &mut Vec<u8>,
-    names: &Names,
-    serial: u64,
-    places: &BTreeMap<Vec<u8>, u64>,
-    stated: &[MPat],
-    pattern: &MPat,
-) -> Result<(), AllocError>
-    ensures { OnOk result (to.new.items ≡ to.old.items ++ written (statement_label (place_by (supposed_by places.now) stated.now pattern.now) ∷ [])) }
+fn write_citation(to: &mut Vec<u8>, at: &Standing<'_>, pattern: &MPat) -> Result<(), AllocError>
+    ensures { OnOk result (to.new.items ≡ to.old.items ++ written (statement_label (places_at at.now pattern.now) ∷ [])) }
 {
-    let place = place_of(*to.allocator(), names, places, stated, pattern)?;
-    push_word(to, names, serial, Word::Stated(place))
+    let place = place_of(*to.allocator(), at, pattern)?;
+    push_word(to, at.names, at.serial, Word::Stated(place))
 }
 
 /// Puts derivations on a stack, the first on top.

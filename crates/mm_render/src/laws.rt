@@ -4,12 +4,14 @@ ghost use Rattle.mm_render.specs.JustifyingCases.{ConclusionIsNoAxiom, SmallJust
 ghost use Rattle.mm_render.specs.JustifyingLaws.{AllDeclared, AxiomHasOnly, ClosedHasNoMeta, ClosedStays, DeclaredHasOnly, FitsLater, GainedAreOwn, GroundHasNone, HeaderHasOnly, ImageIsClosed, ImageStays, LastIsStated, OwnAxiomStays, RuleImageIsClosed, RuleImageIsOwn, RuleImageStays, StatedStays, TheoremHasOnly, TheoremJustifies};
 ghost use Rattle.mm_render.specs.Keeping.{BegunFits, DeclaredFits, EmptyFits};
 ghost use Rattle.mm_render.specs.Stating.{AxiomFits, AxiomIsGained, HeaderFitsStated, NamesFitStated, StatedIsValid, TheoremFits, TheoremIsGained};
+ghost use Rattle.mm_render.specs.RenderedCases.{RenderedCases};
 ghost use Rattle.mm_render.specs.RenderLaws.{DerivationsAreProved, FreshnessIsProved, PatternsParse, PredicatesAreProved, RulesAreProved, SubstitutionIsProved};
 
-/// The definitions say of small patterns what is written for them, of a small text that it justifies a run, and of an axiom
-/// that says that one symbol reaches another that no program has it.
+/// The definitions say of small patterns what is written for them, of a small database that is written that it has no fault, of
+/// a small text that it justifies a run, and of an axiom that says that one symbol reaches another that no program has it.
 pub fn tried()
     ensures cases { TriedCases }
+    ensures rendered { RenderedCases }
     ensures justifies { SmallJustifies }
     ensures refuses { ConclusionIsNoAxiom }
 {}

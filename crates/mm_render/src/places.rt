@@ -1,61 +1,129 @@
-// Where a pattern was stated. A table has the place of each pattern under the bytes of the proof that it is one, so that it is
-// found in time linear in these and in the logarithm of how many there are. What the table says is looked at, and counts where
-// the pattern stands there: that no two patterns have the same bytes is not relied on.
-ghost use Rattle.std.specs.Prelude.{◌≡◌, IfOk};
-ghost use Rattle.mm_render.specs.Places.{pattern_key, place_by, place_in};
-ghost use Rattle.mm_render.specs.PlaceTable.{supposed_by};
+// Where a pattern was stated. A table has the place of each pattern under the bytes of its numbers, in which no two patterns are
+// alike: what a citation costs is linear in the size of its pattern, times the logarithm of how many were stated.
+ghost use Rattle.std.specs.Prelude.{◌≡◌, ◌+◌, [], ◌∷◌, ◌++◌, IfOk, OnOk};
+ghost use Rattle.ml_pat.specs.Patterns.{forms_in};
+ghost use Rattle.mm_render.specs.Places.{all_bytes, number_bytes, numbers, pattern_key};
+ghost use Rattle.mm_render.specs.PlaceTable.{FormIsAdded, places_at};
 
-use crate::works::{Work, write_works};
-use ml_pat::{MPat, Names};
+use ml_pat::{MForm, MPat, Names};
 use std::alloc::{AllocError, Global};
 use std::collections::BTreeMap;
 
-/// A place of the pattern among those that were stated; behind them all where it is none of them.
-pub(crate) fn place_of(
-    alloc: Global,
-    names: &Names,
-    places: &BTreeMap<Vec<u8>, u64>,
-    stated: &[MPat],
-    pattern: &MPat,
-) -> Result<u64, AllocError>
-    ensures { IfOk result (λ place. place ≡ place_by (supposed_by places.now) stated.now pattern.now) }
-{
-    let key = pattern_key(alloc, names, pattern)?;
-    let Some(place) = places.get(key.as_slice()) else {
-        return Ok(first_place(stated, pattern));
-    };
-    let Some(other) = stated.get(*place as usize) else {
-        return Ok(first_place(stated, pattern));
-    };
-    if other.same(pattern) {
-        return Ok(*place);
-    }
-    Ok(first_place(stated, pattern))
+/// Where a statement stands that is being written.
+#[derive(Clone, Copy)]
+pub(crate) struct Standing<'a> {
+    /// The names that its patterns are made of.
+    pub(crate) names: &'a Names,
+    /// Its number.
+    pub(crate) serial: u64,
+    /// The places of what was stated before.
+    pub(crate) places: &'a BTreeMap<Vec<u8>, u64>,
 }
 
-/// The bytes of the proof that the pattern is one.
-pub(crate) fn pattern_key(
-    alloc: Global,
-    names: &Names,
-    pattern: &MPat,
-) -> Result<Vec<u8>, AllocError>
+/// The place of a pattern that was stated before.
+pub(crate) fn place_of(alloc: Global, at: &Standing<'_>, pattern: &MPat) -> Result<u64, AllocError>
+    ensures { IfOk result (λ place. place ≡ places_at at.now pattern.now) }
+{
+    let key = pattern_key(alloc, pattern)?;
+    match at.places.get(key.as_slice()) {
+        Some(place) => Ok(*place),
+        None => Ok(0),
+    }
+}
+
+/// The bytes by which a pattern is looked up. A stack takes the place of recursion.
+pub(crate) fn pattern_key(alloc: Global, pattern: &MPat) -> Result<Vec<u8>, AllocError>
     ensures { IfOk result (λ key. key.items ≡ pattern_key pattern.now) }
 {
     let mut key = Vec::new(alloc);
-    write_works(&mut key, names, 0, &[Work::Syntax(pattern)])?;
+    let mut stack = Vec::new(alloc);
+    stack.push(pattern)?;
+    while let Some(next) = stack.pop() {
+        push_form(&mut key, &mut stack, next)?;
+    }
     Ok(key)
 }
 
-/// The first place of the pattern among those that were stated; behind them all where it is none of them.
-fn first_place(stated: &[MPat], pattern: &MPat) -> u64
-    ensures { result ≡ place_in stated.now pattern.now }
+/// Adds the bytes of a form's numbers, and puts its parts on a stack, the first on top.
+fn push_form<'a>(
+    key: &mut Vec<u8>,
+    stack: &mut Vec<&'a MPat>,
+    pattern: &'a MPat,
+) -> Result<(), AllocError>
+    ensures { OnOk result (FormIsAdded (numbers pattern.now) (forms_in pattern.now) stack.old.items stack.new.items key.old.items key.new.items) }
 {
-    let mut place = 0;
-    for other in stated {
-        if other.same(pattern) {
-            return place;
-        }
-        place += 1;
+    match pattern.form() {
+        MForm::Bot => push_numbers(key, 0, 0, 0),
+        MForm::Top => push_numbers(key, 1, 0, 0),
+        MForm::Var(x) => push_numbers(key, 2, u64::from(x.0), 0),
+        MForm::Meta(i) => push_numbers(key, 3, u64::from(*i), 0),
+        MForm::Const(c) => push_numbers(key, 4, c.0, 0),
+        MForm::Not(p) => push_over(key, stack, 5, 0, 0, p),
+        MForm::Next(p) => push_over(key, stack, 6, 0, 0, p),
+        MForm::Ev(p) => push_over(key, stack, 7, 0, 0, p),
+        MForm::Fun(p, s) => push_over(key, stack, 8, 0, s.0, p),
+        MForm::At(p, s) => push_over(key, stack, 9, 0, s.0, p),
+        MForm::Ex(x, s, p) => push_over(key, stack, 10, u64::from(x.0), s.0, p),
+        MForm::All(x, s, p) => push_over(key, stack, 11, u64::from(x.0), s.0, p),
+        MForm::Imp(p, q) => push_between(key, stack, 12, p, q),
+        MForm::And(p, q) => push_between(key, stack, 13, p, q),
+        MForm::Or(p, q) => push_between(key, stack, 14, p, q),
+        MForm::Equal(p, q) => push_between(key, stack, 15, p, q),
+        MForm::Member(p, q) => push_between(key, stack, 16, p, q),
+        MForm::App(p, q) => push_between(key, stack, 17, p, q),
     }
-    place
+}
+
+/// Adds the numbers of a form over one pattern, and puts that on the stack.
+fn push_over<'a>(
+    key: &mut Vec<u8>,
+    stack: &mut Vec<&'a MPat>,
+    form: u64,
+    variable: u64,
+    sort: u64,
+    p: &'a MPat,
+) -> Result<(), AllocError>
+    ensures { OnOk result (FormIsAdded (λ rest. form ∷ variable ∷ sort ∷ numbers p.now rest) (forms_in p.now + 1) stack.old.items stack.new.items key.old.items key.new.items) }
+{
+    push_numbers(key, form, variable, sort)?;
+    stack.push(p)?;
+    Ok(())
+}
+
+/// Adds the number of a form between two patterns, and puts these on the stack.
+fn push_between<'a>(
+    key: &mut Vec<u8>,
+    stack: &mut Vec<&'a MPat>,
+    form: u64,
+    p: &'a MPat,
+    q: &'a MPat,
+) -> Result<(), AllocError>
+    ensures { OnOk result (FormIsAdded (λ rest. form ∷ 0 ∷ 0 ∷ numbers p.now (numbers q.now rest)) (forms_in p.now + forms_in q.now + 1) stack.old.items stack.new.items key.old.items key.new.items) }
+{
+    push_numbers(key, form, 0, 0)?;
+    stack.push(q)?;
+    stack.push(p)?;
+    Ok(())
+}
+
+/// Adds the bytes of three numbers.
+fn push_numbers(key: &mut Vec<u8>, first: u64, second: u64, third: u64) -> Result<(), AllocError>
+    ensures { OnOk result (key.new.items ≡ key.old.items ++ all_bytes (first ∷ second ∷ third ∷ [])) }
+{
+    push_number(key, first)?;
+    push_number(key, second)?;
+    push_number(key, third)
+}
+
+/// Adds the bytes of a number: seven of its bits in each, the lowest first, and 128 more in each but the last.
+fn push_number(key: &mut Vec<u8>, number: u64) -> Result<(), AllocError>
+    ensures { OnOk result (key.new.items ≡ key.old.items ++ number_bytes number) }
+{
+    let mut left = number;
+    while left >= 128 {
+        key.push((left % 128 + 128) as u8)?;
+        left /= 128;
+    }
+    key.push(left as u8)?;
+    Ok(())
 }

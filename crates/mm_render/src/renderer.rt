@@ -10,7 +10,7 @@ ghost use Rattle.mm_render.specs.Tokens.{name_of};
 ghost use Rattle.mm_render.specs.Stating.{axiom_statement, stated_assertion};
 ghost use Rattle.mm_render.specs.Statements.{all_name_statements, name_statements, typecode_of};
 
-use crate::places::pattern_key;
+use crate::places::{Standing, pattern_key};
 use crate::statements::{push_axiom, push_theorem};
 use crate::words::{Word, push_words};
 use ml_kernel::{AxiomNo, Lemma, Theory};
@@ -26,6 +26,7 @@ pub struct Renderer {
     begun: bool,
     named: u64,
     stated: Vec<MPat>,
+    // The place of each pattern that was stated, under the bytes of its numbers.
     places: BTreeMap<Vec<u8>, u64>,
 }
 
@@ -36,9 +37,11 @@ impl Model for Renderer {
 
     ghost coded = { kept_code };
 
-    ghost use Rattle.mm_render.specs.KeptView.{kept_of};
+    ghost use Rattle.mm_render.specs.KeptView.{kept_of, FindsKept};
 
     ghost view = { kept_of };
+
+    ghost invariant = { FindsKept };
 }
 
 impl Renderer {
@@ -108,7 +111,7 @@ impl Renderer {
         let pattern = theory.at(no).share()?;
         let mut text = Vec::new(*to.allocator());
         push_axiom(&mut text, names, self.stated.len() as u64, &pattern)?;
-        self.keep(names, pattern, &text, to)
+        self.keep(pattern, &text, to)
     }
 
     /// States a lemma under the next label, with its proof. Where it has no hypotheses, is closed over the names that were
@@ -129,27 +132,27 @@ impl Renderer {
         let _premises = lemma.hypotheses();
         let pattern = lemma.conclusion().share()?;
         let mut text = Vec::new(*to.allocator());
-        push_theorem(&mut text, names, &self.places, &self.stated, lemma)?;
-        self.keep(names, pattern, &text, to)
+        let at = Standing {
+            names,
+            serial: self.stated.len() as u64,
+            places: &self.places,
+        };
+        push_theorem(&mut text, &at, lemma)?;
+        self.keep(pattern, &text, to)
     }
 
     // Adds the text of a statement, and keeps what was stated. Where memory is wanting, nothing changes.
-    fn keep(
-        &mut self,
-        names: &Names,
-        pattern: MPat,
-        text: &[u8],
-        to: &mut Vec<u8>,
-    ) -> Result<(), AllocError>
+    fn keep(&mut self, pattern: MPat, text: &[u8], to: &mut Vec<u8>) -> Result<(), AllocError>
         ensures text { OnOk result (to.new.items ≡ to.old.items ++ text.now) }
         ensures kept { OnOk result (self.new ≡ with_stated self.old pattern) }
         ensures unchanged { OnErr result (to.new.items ≡ to.old.items) }
         ensures as_before { OnErr result (self.new ≡ self.old) }
     {
-        let key = pattern_key(*to.allocator(), names, &pattern)?;
+        let key = pattern_key(*to.allocator(), &pattern)?;
         self.stated.reserve(1)?;
+        to.reserve(text.len())?;
         self.places.insert(key, self.stated.len() as u64)?;
-        to.extend_from_slice(text)?;
+        to.extend_from_slice(text).unwrap();
         self.stated.push(pattern).unwrap();
         Ok(())
     }

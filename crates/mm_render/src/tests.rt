@@ -186,3 +186,26 @@ fn proves_a_lemma(rt: HostRuntime) -> Result<(), Fail> {
     );
     Ok(())
 }
+
+// Behind the header stand, byte for byte, the statements of `specs/RenderedCases`, of which the definitions say that they have
+// no fault.
+#[test]
+fn writes_the_database_that_was_judged(rt: HostRuntime) -> Result<(), Fail> {
+    let alloc = rt.alloc();
+    let names = three_names(alloc)?;
+    let theory = one_axiom(alloc)?;
+    let lemma = some_time(alloc, &theory)?;
+    let mut renderer = Renderer::new(alloc);
+    let mut text = Vec::new(alloc);
+    renderer.begin(&mut text)?;
+    renderer.declare(&names, &mut text)?;
+    renderer.axiom(&names, &theory, AxiomNo(0), &mut text)?;
+    renderer.lemma(&names, &lemma, &mut text)?;
+    assert_eq!(rt;
+        text.get(5968..),
+        Some(
+            b"$c s:S $. n.0 $a #Sort s:S $. $c f:a $. n.1 $a #Pattern f:a $. $c f:f $. n.2 $a #Pattern f:f $. t.0 $a |- ( \\app f:f f:a ) $. t.1 $p |- ( \\ev ( \\app f:f f:a ) ) $= n.2 n.1 w.app n.2 n.1 w.app w.ev t.0 n.2 n.1 w.app ev.1 mp $. ".as_slice()
+        )
+    );
+    Ok(())
+}

@@ -3,12 +3,11 @@ use Rattle.ml_pat.specs.Patterns.{Pattern}
 use Rattle.mm_frame.specs.FrameLaws.{written_statements}
 use Rattle.mm_render.specs.Kept.{Kept}
 use Rattle.mm_render.specs.Keeping.{Gains, with_stated}
-use Rattle.mm_render.specs.Places.{lemma_statement, place_by, Places}
-use Rattle.mm_render.specs.PlaceTable.{supposed_by}
+use Rattle.mm_render.specs.Places.{lemma_statement, numbered_lemma, place_by, Places}
+use Rattle.mm_render.specs.PlaceTable.{found_in}
 use Rattle.mm_render.specs.Stating.{stated_assertion}
 use Rattle.mm_render.proofs.Stacking.{on_ok, both_ok}
 use Rattle.mm_render.proofs.KeepingLaws.{lemma_gains}
-use Rattle.mm_render.proofs.PlaceLaws.{places_by}
 use Rattle.mm_render.proofs.renderer.Renderer.lemma.Goals as goal
 
 stated : (c : goal.After-drop-text-2) → c.in_ok-pattern.pattern ≡ c.args.lemma.now.conclusion
@@ -16,13 +15,13 @@ stated c = c.in_ok-pattern.ensures ∙ c.conclusion.ensures
 
 pub returns-clause-states : goal.returns-clause-states
 returns-clause-states c =
-    let before : c.deref.result.now ≡ c.args.self.now.stated = c.deref.ensures.value ∙ ap (λ (k : Kept). k.stated) c.self.view_is in
-    let place : Pattern → ℕ = place_by (supposed_by c.self.inside.places) c.args.self.now.stated in
+    let place : Pattern → ℕ = place_by (found_in c.self.inside.places) in
+    let number : c.len.result ≡ length c.args.self.now.stated = search rules in
     let few : length c.args.self.now.stated < 2 ^ 64 = search rules in
-    let text : c.deref-2.result.now ≡ written_statements (lemma_statement c.args.names.now c.args.self.now.stated place c.args.lemma.now ∷ []) =
-    c.deref-2.ensures.value ∙ c.in_ok-push_theorem.ensures ∙ ap (λ (t : List ℕ). t ++ written_statements (lemma_statement c.args.names.now c.deref.result.now (place_by (supposed_by c.self.inside.places) c.deref.result.now) c.args.lemma.now ∷ [])) c.new-text.ensures.items
-    ∙ ap (λ (ps : List Pattern). written_statements (lemma_statement c.args.names.now ps (place_by (supposed_by c.self.inside.places) ps) c.args.lemma.now ∷ [])) before in
-    let places : Places c.args.self.now.stated place = places_by (supposed_by c.self.inside.places) c.args.self.now.stated in
+    let text : c.deref.result.now ≡ written_statements (lemma_statement c.args.names.now c.args.self.now.stated place c.args.lemma.now ∷ []) =
+    c.deref.ensures.value ∙ c.in_ok-push_theorem.ensures ∙ ap (λ (t : List ℕ). t ++ written_statements (numbered_lemma c.args.names.now c.len.result place c.args.lemma.now ∷ [])) c.new-text.ensures.items
+    ∙ ap (λ (k : ℕ). written_statements (numbered_lemma c.args.names.now k place c.args.lemma.now ∷ [])) number in
+    let places : Places c.args.self.now.stated place = subst (λ (k : Kept). Places k.stated place) c.self.view_is c.self.invariant.places in
     both_ok c.keep.result (λ appended kept. record {
       place = place;
       places = places;
