@@ -15,6 +15,8 @@ pub mod NumberedSteps
 pub mod Sharing
 pub mod FormsRead
 pub mod FramesHeld
+pub mod Places
+pub mod HypothesesView
 pub mod KnownNames
 pub mod NumberSets
 pub mod NumberSetView

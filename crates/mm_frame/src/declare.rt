@@ -62,8 +62,8 @@ impl<'a> Scopes<'a> {
     /// answers the first of these, with the byte of its first token, and changes nothing. Of a proof it
     /// looks at the tokens that have a `$`, and at nothing else.
     ///
-    /// The time is that of the tokens, each looked up once or twice among the names, but for the frame
-    /// of an assertion, which takes that of what is active.
+    /// The time is that of the tokens, each looked up once or twice among the names, and for
+    /// the frame of an assertion that of sorting what the frame has.
     pub fn statement(
         &mut self,
         alloc: Global,

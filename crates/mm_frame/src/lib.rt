@@ -13,6 +13,7 @@ mod add;
 mod declare;
 mod forms;
 mod frames;
+mod hypotheses;
 mod judge;
 mod laws;
 mod mandatory;

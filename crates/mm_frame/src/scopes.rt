@@ -1,6 +1,6 @@
 // What a database has declared so far, and what of it is active.
 
-ghost use Rattle.std.specs.Prelude.{◌≡◌, ℕ, option_map, slice_get, option_and_then, map, []};
+ghost use Rattle.std.specs.Prelude.{◌≡◌, ℕ, option_map, slice_get, slice_index, option_and_then, map, []};
 ghost use Rattle.mm_frame.specs.Held.{held, named};
 ghost use Rattle.mm_frame.specs.CitedView.{cited_hypothesis, cited_assertion};
 ghost use Rattle.mm_frame.specs.FramesHeld.{frames_held, in_group, in_groups, hypothesis_held, frame_held};
@@ -13,6 +13,7 @@ ghost use Rattle.mm_frame.specs.HeldReads.{frame_named, symbol_is_variable, firs
 ghost use Rattle.mm_frame.specs.HeldTests.{is_held_active, is_held_typed, number_in};
 
 use crate::frames::{Cited, Frame, Hyp};
+use crate::hypotheses::Hypotheses;
 use crate::names::Names;
 use std::alloc::{AllocError, Global};
 
@@ -55,7 +56,7 @@ pub struct Scopes<'a> {
     pub(crate) places: Vec<usize>,
     pub(crate) types: Vec<usize>,
     pub(crate) variables: Vec<u32>,
-    pub(crate) hyps: Vec<Hyp<'a>>,
+    pub(crate) hyps: Hypotheses<'a>,
     pub(crate) disjoint: Vec<Vec<u32>>,
     pub(crate) blocks: Vec<OpenBlock>,
     pub(crate) frames: Vec<Frame<'a>>,
@@ -84,7 +85,7 @@ impl<'a> Scopes<'a> {
             places: Vec::new(alloc),
             types: Vec::new(alloc),
             variables: Vec::new(alloc),
-            hyps: Vec::new(alloc),
+            hyps: Hypotheses::new(alloc),
             disjoint: Vec::new(alloc),
             blocks: Vec::new(alloc),
             frames: Vec::new(alloc),
@@ -113,11 +114,17 @@ impl<'a> Scopes<'a> {
     pub(crate) fn has_type(&self, n: u32) -> bool
         ensures { result ≡ is_held_typed (held self.now) n }
     {
-        let place = self.types.get(n as usize).copied().unwrap_or(0);
-        match self.hyps.get(place) {
+        match self.hyps.get(self.type_place(n)) {
             None => false,
             Some(hyp) => hyp.types(n),
         }
+    }
+
+    /// The place that is kept for the `$f` of the variable with this number.
+    pub(crate) fn type_place(&self, n: u32) -> usize
+        ensures { result ≡ slice_index (held self.now).types n }
+    {
+        self.types.get(n as usize).copied().unwrap_or(0)
     }
 
     /// The number of a symbol that is what it has to be.
