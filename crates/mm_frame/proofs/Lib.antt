@@ -19,6 +19,8 @@ pub mod Groups
 pub mod Placing
 pub mod FramePlaces
 pub mod HypothesesKept
+pub mod Listing
+pub mod Apartness
 pub mod Namings
 pub mod StandTests
 pub mod StandFaults

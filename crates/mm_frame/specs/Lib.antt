@@ -17,9 +17,9 @@ pub mod FormsRead
 pub mod FramesHeld
 pub mod Places
 pub mod HypothesesView
+pub mod Listed
+pub mod DisjointView
 pub mod KnownNames
-pub mod NumberSets
-pub mod NumberSetView
 pub mod Held
 pub mod HeldTests
 pub mod HeldFaults

@@ -168,7 +168,7 @@ impl<'a> Scopes<'a> {
             Said::Constants(tokens) => self.add_constants(bytes, tokens),
             Said::Variables(tokens) => self.add_variables(bytes, tokens),
             Said::Hypothesis(hyp) => self.add_hypothesis(hyp),
-            Said::Disjoint(variables) => self.add_disjoint(variables),
+            Said::Disjoint(variables) => self.add_disjoint(alloc, variables),
             Said::Assertion(stated) => {
                 let frame = self.frame(alloc, stated)?;
                 self.add_assertion(frame)

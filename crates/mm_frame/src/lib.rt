@@ -11,6 +11,7 @@
 
 mod add;
 mod declare;
+mod disjoint;
 mod forms;
 mod frames;
 mod hypotheses;
@@ -18,7 +19,6 @@ mod judge;
 mod laws;
 mod mandatory;
 mod names;
-mod number_set;
 mod scopes;
 mod theorem;
 

@@ -6,12 +6,10 @@ ghost use Rattle.mm_frame.specs.Held.{held};
 ghost use Rattle.mm_frame.specs.FramesHeld.{has_number, in_group, in_groups, items_of, groups_of, is_essential, hypothesis_held, hypotheses_held, frame_held};
 ghost use Rattle.mm_frame.specs.HeldFaults.{stated_held};
 ghost use Rattle.mm_frame.specs.HeldFrames.{is_needed_number, is_mandatory_number, premise_at, ArePlaced, typed_places, IsHeldFrame};
-ghost use Rattle.mm_frame.specs.NumberSetView.{is_number_of};
 ghost use Rattle.mm_frame.specs.Places.{places_of, found_at};
 
 use crate::frames::{Frame, Hyp};
 use crate::judge::Stated;
-use crate::number_set::NumberSet;
 use crate::scopes::Scopes;
 use std::alloc::{AllocError, Global};
 
@@ -21,19 +19,18 @@ impl<'a> Scopes<'a> {
         ensures { IfOk result (λ f. ArePlaced (held self.now) → IsHeldFrame (held self.now) (stated_held stated.entry) (frame_held f)) }
     {
         let needed = self.needed(alloc, &stated.statement)?;
-        let mut numbers = NumberSet::new(alloc);
-        add_numbers(&mut numbers, &needed)?;
         Ok(Frame {
             label: stated.label,
             hyps: self.mandatory(alloc, &needed)?,
-            apart: self.apart_within(alloc, &numbers)?,
+            apart: self.disjoint.within(alloc, &needed)?,
             statement: stated.statement,
         })
     }
 
     /// The symbols of a statement and of the active `$e`, ascending and each once.
     fn needed(&self, alloc: Global, statement: &[u32]) -> Result<Vec<u32>, AllocError>
-        ensures { IfOk result (λ v. (n : ℕ) → has_number v.items n ≡ is_needed_number (held self.now).hypotheses statement.now n) }
+        ensures ascending { IfOk result (λ v. IsStrictlyIncreasing v.items) }
+        ensures symbols { IfOk result (λ v. (n : ℕ) → has_number v.items n ≡ is_needed_number (held self.now).hypotheses statement.now n) }
     {
         let mut symbols = self.stated_symbols(alloc, statement)?;
         symbols.sort_unstable();
@@ -102,17 +99,6 @@ impl<'a> Scopes<'a> {
         }
         Ok(hyps)
     }
-
-    /// The variables of each active `$d` that are among these.
-    fn apart_within(&self, alloc: Global, needed: &NumberSet) -> Result<Vec<Vec<u32>>, AllocError>
-        ensures { IfOk result (λ v. (a b : ℕ) → in_groups (groups_of v.items) a b ≡ (in_groups (held self.now).disjoint a b && (is_number_of needed.now a && is_number_of needed.now b))) }
-    {
-        let mut groups = Vec::new(alloc);
-        for group in &self.disjoint {
-            push_group(&mut groups, kept_numbers(alloc, needed, group)?)?;
-        }
-        Ok(groups)
-    }
 }
 
 impl<'a> Hyp<'a> {
@@ -129,48 +115,4 @@ impl<'a> Hyp<'a> {
             )),
         }
     }
-}
-
-/// Adds the numbers to the set.
-fn add_numbers(set: &mut NumberSet, numbers: &[u32]) -> Result<(), AllocError>
-    ensures { IfOk result (λ _. (n : ℕ) → is_number_of set.new n ≡ (is_number_of set.old n || has_number numbers.now n)) }
-{
-    for n in numbers {
-        set.add(*n)?;
-    }
-    Ok(())
-}
-
-/// The numbers that the set has.
-fn kept_numbers(alloc: Global, set: &NumberSet, numbers: &[u32]) -> Result<Vec<u32>, AllocError>
-    ensures { IfOk result (λ v. v.items ≡ filter (is_number_of set.now) numbers.now) }
-{
-    let mut kept = Vec::new(alloc);
-    for n in numbers {
-        push_if(set.has(*n), &mut kept, *n)?;
-    }
-    Ok(kept)
-}
-
-/// Appends the number, if it is to be kept.
-fn push_if(keeps: bool, kept: &mut Vec<u32>, n: u32) -> Result<(), AllocError>
-    ensures { IfOk result (λ _. kept.new.items ≡ (if keeps then kept.old.items ++ n ∷ [] else kept.old.items)) }
-{
-    if keeps {
-        kept.push(n)?;
-    }
-    Ok(())
-}
-
-/// Appends the group, where it has a pair.
-fn push_group(groups: &mut Vec<Vec<u32>>, group: Vec<u32>) -> Result<(), AllocError>
-    ensures { IfOk result (λ _. (a b : ℕ) → in_groups (groups_of groups.new.items) a b ≡ (in_groups (groups_of groups.old.items) a b || in_group a b group.items)) }
-{
-    if group.len() < 2 {
-        return Ok(());
-    }
-    if groups.push(group).is_err() {
-        return Err(AllocError);
-    }
-    Ok(())
 }

@@ -3,7 +3,7 @@
 ghost use Rattle.std.specs.Prelude.{◌≡◌, ℕ, option_map, slice_get, slice_index, option_and_then, map, []};
 ghost use Rattle.mm_frame.specs.Held.{held, named};
 ghost use Rattle.mm_frame.specs.CitedView.{cited_hypothesis, cited_assertion};
-ghost use Rattle.mm_frame.specs.FramesHeld.{frames_held, in_group, in_groups, hypothesis_held, frame_held};
+ghost use Rattle.mm_frame.specs.FramesHeld.{frames_held, in_groups, hypothesis_held, frame_held};
 ghost use Rattle.mm_frame.specs.Database.{Context, empty_context};
 ghost use Rattle.mm_frame.specs.Standing.{Stands, Tells, FrameFound};
 ghost use Rattle.mm_frame.specs.Validity.{first_open};
@@ -12,6 +12,7 @@ ghost use Rattle.mm_frame.specs.Numbered.{named_hypothesis};
 ghost use Rattle.mm_frame.specs.HeldReads.{frame_named, symbol_is_variable, first_block, hypothesis_at, hypothesis_named};
 ghost use Rattle.mm_frame.specs.HeldTests.{is_held_active, is_held_typed, number_in};
 
+use crate::disjoint::Disjoint;
 use crate::frames::{Cited, Frame, Hyp};
 use crate::hypotheses::Hypotheses;
 use crate::names::Names;
@@ -57,7 +58,7 @@ pub struct Scopes<'a> {
     pub(crate) types: Vec<usize>,
     pub(crate) variables: Vec<u32>,
     pub(crate) hyps: Hypotheses<'a>,
-    pub(crate) disjoint: Vec<Vec<u32>>,
+    pub(crate) disjoint: Disjoint,
     pub(crate) blocks: Vec<OpenBlock>,
     pub(crate) frames: Vec<Frame<'a>>,
 }
@@ -86,7 +87,7 @@ impl<'a> Scopes<'a> {
             types: Vec::new(alloc),
             variables: Vec::new(alloc),
             hyps: Hypotheses::new(alloc),
-            disjoint: Vec::new(alloc),
+            disjoint: Disjoint::new(alloc),
             blocks: Vec::new(alloc),
             frames: Vec::new(alloc),
         }
@@ -263,18 +264,6 @@ impl<'a> Scopes<'a> {
     fn are_grouped(&self, a: u32, b: u32) -> bool
         ensures { result ≡ in_groups (held self.now).disjoint a b }
     {
-        for group in &self.disjoint {
-            if in_group(group, a, b) {
-                return true;
-            }
-        }
-        false
+        self.disjoint.are_apart(a, b)
     }
-}
-
-/// Whether the two numbers are different ones of the group.
-fn in_group(group: &[u32], a: u32, b: u32) -> bool
-    ensures { result ≡ in_group a b group.now }
-{
-    a != b && group.contains(&a) && group.contains(&b)
 }
