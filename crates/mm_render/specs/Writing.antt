@@ -5,7 +5,7 @@ use Rattle.mm_text.specs.TextLaws.{written}
 use Rattle.mm_frame.specs.Proofs.{ProofTree, postorder}
 use Rattle.ml_pat.specs.Patterns.{Pattern}
 use Rattle.ml_pat.specs.Judgements.{fresh}
-use Rattle.mm_render.specs.Tokens.{Naming, tokens_of, name_of, object_token, meta_token}
+use Rattle.mm_render.specs.Tokens.{Naming, bracketed, bracket, tokens_of, name_of, object_token, meta_token}
 use Rattle.mm_render.specs.Labels.{name_label, statement_label, object_label, meta_label, premise_label, own_labels}
 use Rattle.mm_render.specs.Trees.{cite, first_part, second_part, syntax_tree, fresh_tree, unchanged_tree, substitution_tree, predicate_tree}
 use Rattle.mm_render.specs.declared.words.Word.{Word}
@@ -63,7 +63,15 @@ abbrev pub PutsMore : (List Token → ℕ → List Token) → List Work → List
 PutsMore tokens old new =
     (names : List Token) (k : ℕ) → (stack_tokens names k new ≡ tokens names k ++ stack_tokens names k old) × (stack_weight names k new ≤ stack_weight names k old + 2 * length (tokens names k))
 
--- The steps that are put on the stack for one form of a pattern.
+-- The tokens and the steps that are put on the stack for one form of a pattern.
+
+abbrev pub quantifier_tokens : List Token → Token → ℕ → ℕ → Pattern → List Token
+quantifier_tokens names connective x s p = bracketed connective (object_token x ∷ (name_of names s ∷ (tokens_of names p ++ bracket)))
+
+abbrev pub quantifier_steps : ℕ → ℕ → ℕ → Pattern → Token → List Token
+quantifier_steps k x s p label = postorder (
+    let l : Naming = own_labels k in
+    cite label (syntax_tree l p ∷ cite (l.object x) [] ∷ cite (l.sort s) [] ∷ []))
 
 abbrev pub quantified_steps : ℕ → ℕ → ℕ → ℕ → Pattern → Token → Token → List Token
 quantified_steps k x y s p bound other = postorder (

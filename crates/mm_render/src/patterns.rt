@@ -1,6 +1,6 @@
 // How the tokens of a pattern and the proof of its syntax come apart.
 ghost use Rattle.std.specs.Prelude.{OnOk};
-ghost use Rattle.mm_render.specs.Writing.{PutsOn};
+ghost use Rattle.mm_render.specs.Writing.{PutsOn, quantifier_steps, quantifier_tokens};
 ghost use Rattle.mm_render.specs.Labels.{own_labels};
 ghost use Rattle.mm_frame.specs.Proofs.{postorder};
 ghost use Rattle.mm_render.specs.Tokens.{tokens_of};
@@ -9,7 +9,7 @@ ghost use Rattle.mm_render.specs.Trees.{syntax_tree};
 use crate::stacks::{put_bracket, put_steps, put_word};
 use crate::words::Word;
 use crate::works::Work;
-use ml_pat::{MForm, MPat};
+use ml_pat::{MForm, MPat, MSort, VarNo};
 use std::alloc::AllocError;
 
 /// The tokens of a pattern.
@@ -34,24 +34,8 @@ pub(crate) fn expand_text<'a>(stack: &mut Vec<Work<'a>>, pat: &'a MPat) -> Resul
             "\\fun",
             &[Work::Text(p), Work::One(Word::Name(s.0))],
         ),
-        MForm::Ex(x, s, p) => put_bracket(
-            stack,
-            "\\ex",
-            &[
-                Work::One(Word::Object(x.0)),
-                Work::One(Word::Name(s.0)),
-                Work::Text(p),
-            ],
-        ),
-        MForm::All(x, s, p) => put_bracket(
-            stack,
-            "\\all",
-            &[
-                Work::One(Word::Object(x.0)),
-                Work::One(Word::Name(s.0)),
-                Work::Text(p),
-            ],
-        ),
+        MForm::Ex(x, s, p) => put_quantifier(stack, "\\ex", *x, *s, p),
+        MForm::All(x, s, p) => put_quantifier(stack, "\\all", *x, *s, p),
         MForm::Var(x) => put_word(stack, Word::Object(x.0)),
         MForm::Meta(i) => put_word(stack, Word::Meta(*i)),
         MForm::Const(c) => put_word(stack, Word::Name(c.0)),
@@ -84,26 +68,52 @@ pub(crate) fn expand_syntax<'a>(stack: &mut Vec<Work<'a>>, pat: &'a MPat) -> Res
             &[Work::Syntax(p), Work::One(Word::Declared(s.0))],
             "w.fun",
         ),
-        MForm::Ex(x, s, p) => put_steps(
-            stack,
-            &[
-                Work::Syntax(p),
-                Work::One(Word::ObjectLabel(x.0)),
-                Work::One(Word::Declared(s.0)),
-            ],
-            "w.ex",
-        ),
-        MForm::All(x, s, p) => put_steps(
-            stack,
-            &[
-                Work::Syntax(p),
-                Work::One(Word::ObjectLabel(x.0)),
-                Work::One(Word::Declared(s.0)),
-            ],
-            "w.all",
-        ),
+        MForm::Ex(x, s, p) => put_quantifier_syntax(stack, *x, *s, p, "w.ex"),
+        MForm::All(x, s, p) => put_quantifier_syntax(stack, *x, *s, p, "w.all"),
         MForm::Var(x) => put_steps(stack, &[Work::One(Word::ObjectLabel(x.0))], "w.var"),
         MForm::Meta(i) => put_word(stack, Word::MetaLabel(*i)),
         MForm::Const(c) => put_word(stack, Word::Declared(c.0)),
     }
+}
+
+/// Puts the tokens of a quantifier on a stack.
+fn put_quantifier<'a>(
+    stack: &mut Vec<Work<'a>>,
+    connective: &'static str,
+    x: VarNo,
+    s: MSort,
+    body: &'a MPat,
+) -> Result<(), AllocError>
+    ensures { OnOk result (PutsOn (λ names k. quantifier_tokens names connective.now x.0 s.0 body.now) stack.old.items stack.new.items) }
+{
+    put_bracket(
+        stack,
+        connective,
+        &[
+            Work::One(Word::Object(x.0)),
+            Work::One(Word::Name(s.0)),
+            Work::Text(body),
+        ],
+    )
+}
+
+/// Puts the proof that a quantifier is a pattern on a stack.
+fn put_quantifier_syntax<'a>(
+    stack: &mut Vec<Work<'a>>,
+    x: VarNo,
+    s: MSort,
+    body: &'a MPat,
+    label: &'static str,
+) -> Result<(), AllocError>
+    ensures { OnOk result (PutsOn (λ names k. quantifier_steps k x.0 s.0 body.now label.now) stack.old.items stack.new.items) }
+{
+    put_steps(
+        stack,
+        &[
+            Work::Syntax(body),
+            Work::One(Word::ObjectLabel(x.0)),
+            Work::One(Word::Declared(s.0)),
+        ],
+        label,
+    )
 }

@@ -151,7 +151,8 @@ impl Renderer {
         let key = pattern_key(*to.allocator(), &pattern)?;
         self.stated.reserve(1)?;
         to.reserve(text.len())?;
-        self.places.insert(key, self.stated.len() as u64)?;
+        let place = self.stated.len() as u64;
+        self.places.insert(key, place)?;
         to.extend_from_slice(text).unwrap();
         self.stated.push(pattern).unwrap();
         Ok(())

@@ -113,7 +113,7 @@ fn declares_names(rt: HostRuntime) -> Result<(), Fail> {
     renderer.declare(&names, &mut text)?;
     assert_eq!(rt;
         text.as_slice(),
-        b"$c s:S $. n.0 $a #Sort s:S $. $c f:a $. n.1 $a #Pattern f:a $. $c f:f $. n.2 $a #Pattern f:f $. ".as_slice()
+        b"$c s:S $.\nn.0 $a #Sort s:S $.\n$c f:a $.\nn.1 $a #Pattern f:a $.\n$c f:f $.\nn.2 $a #Pattern f:f $.\n".as_slice()
     );
     Ok(())
 }
@@ -171,7 +171,7 @@ fn states_an_axiom(rt: HostRuntime) -> Result<(), Fail> {
     renderer.axiom(&names, &theory, AxiomNo(0), &mut text)?;
     assert_eq!(rt;
         text.as_slice(),
-        b"t.0 $a |- ( \\app f:f f:a ) $. ".as_slice()
+        b"t.0 $a |- ( \\app f:f f:a ) $.\n".as_slice()
     );
     Ok(())
 }
@@ -182,7 +182,7 @@ fn proves_a_lemma(rt: HostRuntime) -> Result<(), Fail> {
     let text = stated(rt.alloc())?;
     assert_eq!(rt;
         text.as_slice(),
-        b"t.0 $a |- ( \\app f:f f:a ) $. t.1 $p |- ( \\ev ( \\app f:f f:a ) ) $= n.2 n.1 w.app n.2 n.1 w.app w.ev t.0 n.2 n.1 w.app ev.1 mp $. ".as_slice()
+        b"t.0 $a |- ( \\app f:f f:a ) $.\nt.1 $p |- ( \\ev ( \\app f:f f:a ) ) $= n.2 n.1 w.app n.2 n.1 w.app w.ev t.0 n.2 n.1 w.app ev.1 mp $.\n".as_slice()
     );
     Ok(())
 }
@@ -204,7 +204,7 @@ fn writes_the_database_that_was_judged(rt: HostRuntime) -> Result<(), Fail> {
     assert_eq!(rt;
         text.get(5968..),
         Some(
-            b"$c s:S $. n.0 $a #Sort s:S $. $c f:a $. n.1 $a #Pattern f:a $. $c f:f $. n.2 $a #Pattern f:f $. t.0 $a |- ( \\app f:f f:a ) $. t.1 $p |- ( \\ev ( \\app f:f f:a ) ) $= n.2 n.1 w.app n.2 n.1 w.app w.ev t.0 n.2 n.1 w.app ev.1 mp $. ".as_slice()
+            b"$c s:S $.\nn.0 $a #Sort s:S $.\n$c f:a $.\nn.1 $a #Pattern f:a $.\n$c f:f $.\nn.2 $a #Pattern f:f $.\nt.0 $a |- ( \\app f:f f:a ) $.\nt.1 $p |- ( \\ev ( \\app f:f f:a ) ) $= n.2 n.1 w.app n.2 n.1 w.app w.ev t.0 n.2 n.1 w.app ev.1 mp $.\n".as_slice()
         )
     );
     Ok(())
