@@ -1,8 +1,8 @@
 -- Programs and starts that are accepted have runs with proofs.
 use Rattle.std.proofs.Common.{◌≡◌, ℕ, List, [], ◌∷◌, All, Option, Some, option_map, slice_get, ap, sym, ◌∙◌, subst}
-use Rattle.std.proofs.lemmas.List.Elements.{All-nil, All-cons, All-get_or}
+use Rattle.std.proofs.lemmas.List.Elements.{All-nil, All-cons}
 use Rattle.std.proofs.lemmas.List.Sorted.{All-permutation}
-use Rattle.std.proofs.lemmas.Option.{slice_get_within, slice_get-map, get_or_from_slice_get}
+use Rattle.std.proofs.lemmas.Option.{slice_get_within, slice_get-map}
 use Rattle.std.specs.List.{filter_map}
 use Rattle.kore_text.specs.Trees.{PatternTree, PatternTrees, element_variable, set_variable, string, symbol_applied, connected, binding, domain_value, folded, no_patterns, pattern_then}
 use Rattle.kore_text.specs.Trees.{AxiomDeclaration}
@@ -20,6 +20,7 @@ use Rattle.kore_prove.specs.Acceptance.{Each, Denotes, AllDenote, IsRuleOf, axio
 use Rattle.kore_prove.specs.Names.{IsPlainName, HasPlainNames}
 use Rattle.kore_prove.specs.Provable.{IsBuiltOf, AreBuiltOf, IsProvableRule, IsProvable}
 use Rattle.kore_prove.specs.Runnable.{IsProgramOf, IsStartOf}
+use Rattle.kore_prove.proofs.Pairings.{item_at}
 
 mutual
   -- what a text means is built of the signature's symbols alone
@@ -38,10 +39,6 @@ mutual
   all_built sig no_patterns ps sorts d = subst (λ (qs : Patterns). AreBuiltOf sig qs) (sym d.0) tt
   all_built sig (pattern_then a rest) ps sorts d =
       subst (λ (qs : Patterns). AreBuiltOf sig qs) (sym d.4) (denoted_built sig a d.0 d.2 d.6, all_built sig rest d.1 d.3 d.7)
-
--- what holds of all items holds of the one at a place
-item_at : {X : Type 0} (P : X → Type 0) (xs : List X) (i : ℕ) (x : X) → All P xs → slice_get xs i ≡ Some x → P x
-item_at P xs i x all is = subst P (get_or_from_slice_get xs i x x is) (All-get_or P xs i x (slice_get_within xs i x is) all)
 
 named_plain : {V : Type 0} (entries : List (List ℕ × V)) (n : ℕ) (name : List ℕ) → All IsPlainName (names_of entries) → name_at entries n ≡ Some name → IsPlainName name
 named_plain {V = V} entries n name all is = item_at IsPlainName (names_of entries) n name all (slice_get-map (λ (e : List ℕ × V). e.0) entries n ∙ is)
