@@ -150,7 +150,7 @@ is_clean t h = go (has_dollar t) h
     go true k = absurd (false≢true k)
     go false k = refl
 
-clean_go_on : (ts : List Token) → are_clean ts ≡ true → list_all (λ t. not (ends_statement t)) ts ≡ true
+pub clean_go_on : (ts : List Token) → are_clean ts ≡ true → list_all (λ t. not (ends_statement t)) ts ≡ true
 clean_go_on [] h = refl
 clean_go_on (t ∷ ts) h =
     let both : (not (has_dollar t) ≡ true) × (are_clean ts ≡ true) = split_true (not (has_dollar t)) (are_clean ts) h in

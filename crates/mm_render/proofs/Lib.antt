@@ -35,3 +35,4 @@ pub mod HeadLaws
 pub mod OpenTexts
 pub mod OpenFrames
 pub mod BlockLaws
+pub mod OpenFits
