@@ -36,3 +36,4 @@ pub mod OpenTexts
 pub mod OpenFrames
 pub mod BlockLaws
 pub mod OpenFits
+pub mod OpenServes
