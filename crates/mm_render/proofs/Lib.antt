@@ -37,3 +37,5 @@ pub mod OpenFrames
 pub mod BlockLaws
 pub mod OpenFits
 pub mod OpenServes
+pub mod InstanceTexts
+pub mod CitedLaws

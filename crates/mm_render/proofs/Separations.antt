@@ -112,7 +112,7 @@ abbrev pub AreAmong : List Variable → List Variable → Type 0
 AreAmong vs [] = Unit {0}
 AreAmong vs (w ∷ ws) = (has_variable vs w ≡ true) × AreAmong vs ws
 
-more_among : (v : Variable) (vs ws : List Variable) → AreAmong vs ws → AreAmong (v ∷ vs) ws
+pub more_among : (v : Variable) (vs ws : List Variable) → AreAmong vs ws → AreAmong (v ∷ vs) ws
 more_among v vs [] h = tt
 more_among v vs (w ∷ ws) h = (second_true (same_variable v w) (has_variable vs w) h.0, more_among v vs ws h.1)
 
