@@ -1,13 +1,13 @@
 -- Claims with variables and hypotheses are cited soundly, and a derivation that cites them is a proof.
-use Rattle.std.proofs.Common.{◌≡◌, ℕ, ◌+◌, ◌<◌, ◌^◌, Bool, true, false, List, [], ◌∷◌, ◌++◌, length, zero, suc, map, refl, ap, ◌∙◌, sym, subst, arith, ◌⊎◌, inl, inr, Option, Some, None, slice_get, eqb-true}
-use Rattle.std.specs.Prelude.{◌==◌, ◌&&◌, ◌||◌, not, if◌then◌else◌, slice_index_or, codes, bytes_eq, Contains}
+use Rattle.std.proofs.Common.{◌≡◌, ℕ, ◌+◌, ◌<◌, ◌^◌, Bool, true, false, List, [], ◌∷◌, ◌++◌, length, zero, suc, map, refl, ap, ◌∙◌, sym, subst, ◌⊎◌, inl, inr, Some, slice_get, eqb-true}
+use Rattle.std.specs.Prelude.{◌==◌, ◌&&◌, ◌||◌, not, if◌then◌else◌, slice_index_or, codes, bytes_eq}
 use Rattle.std.specs.List.{list_any, list_all}
 use Rattle.std.proofs.lemmas.Bool.{false≢true}
 use Rattle.mm_text.specs.Bytes.{Token, has_token}
-use Rattle.mm_frame.specs.Frames.{Hypothesis, essential, types, Frame}
+use Rattle.mm_frame.specs.Frames.{Hypothesis, essential, types}
 use Rattle.mm_frame.specs.Database.{Context}
 use Rattle.mm_frame.specs.Proofs.{Expression, substituted, instance_of, typed_variables, symbols_apart, texts_apart, pair_apart, keeps_apart, by_hypothesis, ProofTree, Proves, AllProve}
-use Rattle.mm_frame.specs.Stack.{behind_first, bindings_of, text_of}
+use Rattle.mm_frame.specs.Stack.{bindings_of, text_of}
 use Rattle.ml_pat.specs.Patterns.{Pattern, meta}
 use Rattle.ml_kernel.specs.Lemmas.{instance, instances, HasNoVariable, HaveNoVariables}
 use Rattle.ml_kernel.specs.Theorems.{Derivation, Derivations, hypothesis, own_axiom, row, cited, no_derivation, more_derivations}
@@ -20,13 +20,13 @@ use Rattle.mm_render.specs.Serving.{IsAssertion, Serves, punctuation}
 use Rattle.mm_render.specs.Trees.{trees_of, cite}
 use Rattle.mm_render.specs.Derivations.{holds_text, Citing, derivation_tree, derivation_trees, EachUsed, AllUsed}
 use Rattle.mm_render.specs.Fitting.{AreNames}
-use Rattle.mm_render.specs.Variables.{Variable, object_variable, pattern_variable, is_object, same_variable, has_variable, AreNumbered, variable_token, variable_type, variable_tokens, object_tokens, is_variable_token}
+use Rattle.mm_render.specs.Variables.{Variable, object_variable, pattern_variable, same_variable, has_variable, AreNumbered, variable_token, variable_type, variable_tokens, object_tokens, is_variable_token}
 use Rattle.mm_render.specs.Blocks.{Claim, IsClaim, open_over, AreOpenOver, variable_float, premise_hypotheses, are_apart, open_frame}
 use Rattle.mm_render.specs.CitedAt.{MayCite, EachCited, AllCited, CitesSoundly, variable_tree, claim_at, claim_tree, claims_citing, HasInstance, HaveInstances, IsCitable, citable, ArePremises}
 use Rattle.mm_render.specs.Claiming.{AreClaims, HoldsClaims}
-use Rattle.mm_render.proofs.LeafLaws.{EachLeaf-implied, EachLeaf-absent, both_true, split_true}
+use Rattle.mm_render.proofs.LeafLaws.{EachLeaf-implied, EachLeaf-absent, both_true}
 use Rattle.mm_render.proofs.NameLaws.{name_facts}
-use Rattle.mm_render.proofs.Schemes.{Leaves, under, text-under, text_of-other, leads-by}
+use Rattle.mm_render.proofs.Schemes.{text-under, text_of-other, leads-by}
 use Rattle.mm_render.proofs.RowProofs.{all_proofs}
 use Rattle.mm_render.proofs.RuleLaws.{rule_proves}
 use Rattle.mm_render.proofs.SyntaxLaws.{syntax_proves, typed_proves}

@@ -1,5 +1,5 @@
 -- The text of an instance is the text of the pattern under a substitution that gives its leaves what stands for them.
-use Rattle.std.proofs.Common.{◌≡◌, ℕ, List, [], ◌∷◌, ◌++◌, refl, ap, ◌∙◌}
+use Rattle.std.proofs.Common.{◌≡◌, List, [], ◌∷◌, ◌++◌, refl, ap, ◌∙◌}
 use Rattle.std.specs.Prelude.{codes}
 use Rattle.mm_text.specs.Bytes.{Token}
 use Rattle.mm_frame.specs.Proofs.{Expression}

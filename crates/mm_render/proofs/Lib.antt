@@ -39,3 +39,4 @@ pub mod OpenFits
 pub mod OpenServes
 pub mod InstanceTexts
 pub mod CitedLaws
+pub mod NamedClaims

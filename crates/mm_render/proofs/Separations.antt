@@ -1,6 +1,5 @@
 -- Which variables a block keeps apart.
-use Rattle.std.proofs.Common.{◌≡◌, ℕ, ◌<◌, ◌^◌, Bool, true, false, List, [], ◌∷◌, ◌++◌, length, map, refl, ap, ◌∙◌, sym, subst}
-use Rattle.std.proofs.Math.Path.{fun_ext}
+use Rattle.std.proofs.Common.{◌≡◌, ◌<◌, ◌^◌, Bool, true, false, List, [], ◌∷◌, ◌++◌, map, refl, ap, ◌∙◌, sym}
 use Rattle.std.specs.Prelude.{◌&&◌, ◌||◌, not, if◌then◌else◌, filter, bytes_eq}
 use Rattle.std.specs.List.{list_any, list_all}
 use Rattle.std.proofs.lemmas.Bool.{false≢true}
@@ -11,7 +10,6 @@ use Rattle.mm_frame.specs.Forms.{has_dollar}
 use Rattle.mm_frame.specs.Database.{are_different_tokens}
 use Rattle.mm_frame.specs.Expansion.{has_repeated}
 use Rattle.mm_frame.specs.FrameLaws.{are_clean}
-use Rattle.mm_frame.specs.Validity.{has_two}
 use Rattle.mm_render.specs.Variables.{Variable, object_variable, pattern_variable, is_object, number_of, same_variable, has_variable, are_once, AreNumbered, variable_token, variable_tokens, object_tokens, are_several}
 use Rattle.mm_render.specs.Blocks.{separated, separations, are_apart}
 use Rattle.mm_render.proofs.LeafLaws.{both_true, split_true, not_true}
