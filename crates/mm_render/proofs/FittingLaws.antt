@@ -50,7 +50,7 @@ pub header_holds : Holds [] header_context
 header_holds = record {
   rows = λ label f h. h;
   scope = refl;
-  variables = λ t. refl;
+  variables = λ t h. refl;
   constants = λ t. or_false (header_context.constants t);
   frames = λ i lt. absurd (omega (arith, lt));
   free = λ i le lt. header_free i;
@@ -146,7 +146,7 @@ may_be_stated : (done : List Token) (c : Context) (t : Token) → Holds done c �
 may_be_stated done c t w new =
     let facts : NameFacts t = name_facts t new.name in
     let i : ℕ = length done in
-    let label : is_new_label (with_constant c t) (name_label (length done)) ≡ true = rw (name_label-is_label (length done) new.few, w.free (length done) (omega arith) new.few, label_no_constant done c (length done) w new.names (header_label_constant (length done)), facts.no_label (length done), w.variables (name_label (length done)), header_label_variable (length done)) refl in
+    let label : is_new_label (with_constant c t) (name_label (length done)) ≡ true = rw (name_label-is_label (length done) new.few, w.free (length done) (omega arith) new.few, label_no_constant done c (length done) w new.names (header_label_constant (length done)), facts.no_label (length done), w.variables (name_label (length done)) refl, header_label_variable (length done)) refl in
     let typecode : c.constants (typecode_of t) ≡ true = w.constants (typecode_of t) ∙ either_true (header_context.constants (typecode_of t)) (has_token done (typecode_of t)) facts.typecode in
     let itself : bytes_eq t t ≡ true = (bytes_eq-Decides t t).1 refl in
     let other : c.constants t ≡ false = w.constants t ∙ both_false (header_context.constants t) (has_token done t) facts.no_constant new.other in
@@ -163,7 +163,7 @@ adds_name : (done : List Token) (c : Context) (at : ℕ) (t : Token) (sts : List
 adds_name done c at t sts left w closed new behind =
     let facts : NameFacts t = name_facts t new.name in
     let other : c.constants t ≡ false = w.constants t ∙ both_false (header_context.constants t) (has_token done t) facts.no_constant new.other in
-    let variable : c.variables t ≡ false = w.variables t ∙ facts.no_variable in
+    let variable : c.variables t ≡ false = w.variables t facts.no_variable_token ∙ facts.no_variable in
     let first : IsFine c (plain_tokens [] declares_constants (t ∷ [])) = constant_is_fine c t closed other variable (w.no_label t new.name) facts.clean in
     let second : IsFine (with_constant c t) (plain_tokens (name_label (length done) ∷ []) asserts (typecode_of t ∷ (t ∷ []))) = axiom_is_fine (with_constant c t) (name_label (length done)) (typecode_of t) (t ∷ []) (may_be_stated done c t w new) in (
       plain_three t facts.plain,

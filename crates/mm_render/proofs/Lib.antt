@@ -29,3 +29,15 @@ pub mod DeclaredStates
 pub mod HeaderStates
 pub mod ImageLeaves
 pub mod SmallTexts
+pub mod VariableLaws
+pub mod InsideLaws
+pub mod Separations
+pub mod HeadLaws
+pub mod OpenTexts
+pub mod OpenFrames
+pub mod BlockLaws
+pub mod OpenFits
+pub mod OpenServes
+pub mod InstanceTexts
+pub mod CitedLaws
+pub mod NamedClaims

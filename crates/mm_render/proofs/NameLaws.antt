@@ -15,6 +15,7 @@ use Rattle.mm_header.specs.HeaderContext.{header_context, header_labels}
 use Rattle.mm_render.specs.Labels.{name_label}
 use Rattle.mm_render.specs.Statements.{NameKind, sort_name, symbol_name, value_name, kind_front, is_name_byte, IsName, typecode_of}
 use Rattle.mm_render.specs.Fitting.{name_frame, AreNames}
+use Rattle.mm_render.specs.Variables.{is_variable_token}
 use Rattle.mm_render.proofs.LeafLaws.{both_true, split_true}
 use Rattle.mm_render.proofs.Decimals.{list_all-decimal, decimal-same}
 
@@ -25,6 +26,7 @@ pub record NameFacts (t : Token) : Type 0 where
   pub no_end : ends_statement t ≡ false
   pub no_constant : header_context.constants t ≡ false
   pub no_variable : header_context.variables t ≡ false
+  pub no_variable_token : is_variable_token t ≡ false
   pub no_label : (i : ℕ) → bytes_eq t (name_label i) ≡ false
   pub label_no : (i : ℕ) → bytes_eq (name_label i) t ≡ false
   pub typecode : header_context.constants (typecode_of t) ≡ true
@@ -72,6 +74,7 @@ sort_facts w h = record {
   no_end = refl;
   no_constant = refl;
   no_variable = refl;
+  no_variable_token = refl;
   no_label = λ i. refl;
   label_no = λ i. refl;
   typecode = refl;
@@ -89,6 +92,7 @@ symbol_facts w h = record {
   no_end = refl;
   no_constant = refl;
   no_variable = refl;
+  no_variable_token = refl;
   no_label = λ i. refl;
   label_no = λ i. refl;
   typecode = refl;
@@ -106,6 +110,7 @@ value_facts w h = record {
   no_end = refl;
   no_constant = refl;
   no_variable = refl;
+  no_variable_token = refl;
   no_label = λ i. refl;
   label_no = λ i. refl;
   typecode = refl;

@@ -1,6 +1,5 @@
 -- Closed statements behind a text that fits.
 use Rattle.std.proofs.Common.{◌≡◌, ℕ, ◌+◌, ◌<◌, ◌^◌, Bool, true, false, List, [], ◌∷◌, ◌++◌, length, zero, suc, map, refl, ap, ◌∙◌, sym, subst, arith, append_assoc, length-append, ◌⊎◌, inl, inr, Option, Some, None, slice_get, append-nil}
-use Rattle.std.proofs.Math.Path.{fun_ext}
 use Rattle.std.specs.Prelude.{◌==◌, ◌&&◌, ◌||◌, not, if◌then◌else◌, codes, bytes_eq, flat_map, Contains}
 use Rattle.std.specs.List.{list_any, list_all}
 use Rattle.std.proofs.lemmas.Bool.{false≢true}
@@ -35,6 +34,7 @@ use Rattle.mm_render.specs.Trees.{cite}
 use Rattle.mm_render.specs.Derivations.{holds_text, Cites, CitesOnly, EachUsed, derivation_tree, AreSound}
 use Rattle.mm_render.specs.Statements.{NameKind, sort_name, symbol_name, value_name, kind_front, IsName, typecode_of}
 use Rattle.mm_render.specs.Fitting.{AreNames, Holds}
+use Rattle.mm_render.specs.Variables.{is_variable_token}
 use Rattle.mm_frame.specs.Assertions.{Assertion, assertions_in, assertions_of, form_assertion, with_assertion_first, form_typing, typings_in, typings_of, with_typing_first}
 use Rattle.mm_frame.proofs.Stated.{appended_states}
 use Rattle.mm_text.proofs.Writing.{written_statement}
@@ -42,24 +42,24 @@ use Rattle.mm_text.specs.Statements.{Statements, next_statement, statements_from
 use Rattle.mm_render.specs.Stating.{FitsStated, stated_assertion, AxiomIsGained, TheoremIsGained, closed_over, AreClosedOver, stated_frame, HoldsStated, axiom_statement, theorem_statement, closed_citing, ArePlaced, HeaderFitsStated, AxiomFits, TheoremFits}
 use Rattle.mm_render.proofs.LeafLaws.{EachLeaf-implied, tested_leaves, PassFixed, both_true, list_all-append, list_all-text}
 use Rattle.mm_render.proofs.NameLaws.{name_facts}
-use Rattle.mm_render.proofs.SpeltLaws.{LabelFacts, label_facts, header_spelt, postorder_spelt, labels_clean, labels_plain, labels_go_on, labels_uncompressed, statement_label-is_label, statement_label-differs}
+use Rattle.mm_render.proofs.SpeltLaws.{LabelFacts, label_facts, header_spelt, header_active_spelt, postorder_spelt, labels_clean, labels_plain, labels_go_on, labels_uncompressed, statement_label-is_label, statement_label-differs}
 use Rattle.mm_render.proofs.Schemes.{leads-by}
 use Rattle.mm_render.proofs.DerivationProofs.{derivation_proves}
 use Rattle.mm_render.proofs.FittingLaws.{header_holds, header_closed}
 
-both_false : (a b : Bool) → a ≡ false → b ≡ false → (a || b) ≡ false
+pub both_false : (a b : Bool) → a ≡ false → b ≡ false → (a || b) ≡ false
 both_false a b h k = rw (h, k) refl
 
-either_true : (a b : Bool) → a ≡ true → (a || b) ≡ true
+pub either_true : (a b : Bool) → a ≡ true → (a || b) ≡ true
 either_true a b h = rw h refl
 
 -- the header
 
-header_statement_free : (k : ℕ) → header_context.labels (statement_label k) ≡ false
+pub header_statement_free : (k : ℕ) → header_context.labels (statement_label k) ≡ false
 unfolding header_context header_rows header_labels
 header_statement_free k = refl
 
-no_item : (k : ℕ) (p : Pattern) → slice_get [] k ≡ Some p → ⊥
+pub no_item : (k : ℕ) (p : Pattern) → slice_get [] k ≡ Some p → ⊥
 no_item k p h = cc
 
 pub header_fits_stated : HeaderFitsStated
@@ -99,26 +99,40 @@ none_active frames (h ∷ hs) label f none there = go (bytes_eq (label_of h) lab
     go true is behind = absurd (let never : Some f ≡ None = sym there ∙ ap frames (sym ((bytes_eq-Decides (label_of h) label).0 is)) ∙ ap first_of none in let z : ⊥ = cc in z)
     go false is behind = behind
 
-header_no_active : (label : Token) (f : Frame) → header_context.frames label ≡ Some f → hypothesis_of header_context.scope.hypotheses label ≡ None
+pub header_no_active : (label : Token) (f : Frame) → header_context.frames label ≡ Some f → hypothesis_of header_context.scope.hypotheses label ≡ None
 header_no_active label f h = none_active header_context.frames header_context.scope.hypotheses label f rows_are_no_types h
 
-name_no_active : (i : ℕ) → hypothesis_of header_context.scope.hypotheses (name_label i) ≡ None
+pub name_no_active : (i : ℕ) → hypothesis_of header_context.scope.hypotheses (name_label i) ≡ None
 unfolding header_context
 name_no_active i = refl
 
-statement_no_active : (k : ℕ) → hypothesis_of header_context.scope.hypotheses (statement_label k) ≡ None
+pub statement_no_active : (k : ℕ) → hypothesis_of header_context.scope.hypotheses (statement_label k) ≡ None
 unfolding header_context
 statement_no_active k = refl
 
 assertion_at : (declared : List Token) (c : Context) (label : Token) (f : Frame) → Holds declared c → hypothesis_of header_context.scope.hypotheses label ≡ None → c.frames label ≡ Some f → IsAssertion c label f
 assertion_at declared c label f w none kept = record { kept = kept; no_hypothesis = ap (λ (s : Scope). hypothesis_of s.hypotheses label) w.scope ∙ none }
 
-name_at : (ts : List Token) (i : ℕ) → AreNames ts → i < length ts → IsName (name_of ts i)
+pub name_at : (ts : List Token) (i : ℕ) → AreNames ts → i < length ts → IsName (name_of ts i)
 name_at [] i names lt = absurd (omega (arith, lt))
 name_at (t ∷ ts) zero names lt = names.0
 name_at (t ∷ ts) (suc i) names lt = name_at ts i names.1 (omega (arith, lt))
 
-fixed_constants : map header_context.variables punctuation ≡ map (λ t. false) punctuation
+-- no variable's token is a constant of the header
+pub fixed_variables : (declared : List Token) (c : Context) (ts : List Token) → Holds declared c → map is_variable_token ts ≡ map (λ t. false) ts → map c.variables ts ≡ map header_context.variables ts
+fixed_variables declared c [] w h = refl
+fixed_variables declared c (t ∷ ts) w h =
+    ap (λ (b : Bool). b ∷ map c.variables ts) (w.variables t (ap first_of_bools h)) ∙ ap (λ (bs : List Bool). header_context.variables t ∷ bs) (fixed_variables declared c ts w (ap others_of_bools h))
+  where
+    first_of_bools : List Bool → Bool
+    first_of_bools [] = false
+    first_of_bools (b ∷ bs) = b
+
+    others_of_bools : List Bool → List Bool
+    others_of_bools [] = []
+    others_of_bools (b ∷ bs) = bs
+
+pub fixed_constants : map header_context.variables punctuation ≡ map (λ t. false) punctuation
 unfolding header_context
 fixed_constants = refl
 
@@ -126,13 +140,13 @@ declares : (declared : List Token) (c : Context) (typecode : Token) (i : ℕ) �
 declares declared c typecode i w names lt typed = record {
   stated = assertion_at declared c (name_label i) (closed_frame (name_label i) (typecode ∷ (name_of declared i ∷ []))) w (name_no_active i)
       (w.frames i lt ∙ ap (λ (t : Token). Some (closed_frame (name_label i) (t ∷ (name_of declared i ∷ [])))) typed);
-  constant = w.variables (name_of declared i) ∙ (name_facts (name_of declared i) (name_at declared i names lt)).no_variable;
+  constant = w.variables (name_of declared i) (name_facts (name_of declared i) (name_at declared i names lt)).no_variable_token ∙ (name_facts (name_of declared i) (name_at declared i names lt)).no_variable;
 }
 
 pub serves_closed : (declared : List Token) (c : Context) (k : ℕ) → Holds declared c → AreNames declared → Serves c (own_labels k) (own_naming declared) (closed_over declared)
 serves_closed declared c k w names = record {
   header = λ label f h. assertion_at declared c label f w (header_no_active label f h) (w.rows label f h);
-  fixed = ap (λ (v : Token → Bool). map v punctuation) (fun_ext w.variables) ∙ fixed_constants;
+  fixed = fixed_variables declared c punctuation w refl ∙ fixed_constants;
   sort = λ i h. declares declared c (codes "#Sort") i w names h.0 h.1;
   constant = λ i h. declares declared c (codes "#Pattern") i w names h.0 h.1;
   object = λ x h. absurd h;
@@ -154,7 +168,7 @@ text_passes test declared p fixed turnstile named closed =
       meta = λ i h. absurd h;
     }) closed))
 
-not_false : (b : Bool) → b ≡ false → not b ≡ true
+pub not_false : (b : Bool) → b ≡ false → not b ≡ true
 not_false b h = rw h refl
 
 text_plain : (declared : List Token) (p : Pattern) → AreNames declared → EachLeaf (closed_over declared) p → list_all is_plain_token (holds_text (own_naming declared) p) ≡ true
@@ -166,19 +180,19 @@ text_clean declared p names closed = text_passes (λ t. not (has_dollar t)) decl
 text_goes_on : (declared : List Token) (p : Pattern) → AreNames declared → EachLeaf (closed_over declared) p → list_all (λ t. not (ends_statement t)) (holds_text (own_naming declared) p) ≡ true
 text_goes_on declared p names closed = text_passes (λ t. not (ends_statement t)) declared p refl refl (λ i lt. not_false (ends_statement (name_of declared i)) (name_facts (name_of declared i) (name_at declared i names lt)).no_end) closed
 
-itself : (t : Token) → bytes_eq t t ≡ true
+pub itself : (t : Token) → bytes_eq t t ≡ true
 itself t = (bytes_eq-Decides t t).1 refl
 
-second_true : (a b : Bool) → b ≡ true → (a || b) ≡ true
+pub second_true : (a b : Bool) → b ≡ true → (a || b) ≡ true
 second_true true b h = refl
 second_true false b h = h
 
-has_name : (ts : List Token) (i : ℕ) → i < length ts → has_token ts (name_of ts i) ≡ true
+pub has_name : (ts : List Token) (i : ℕ) → i < length ts → has_token ts (name_of ts i) ≡ true
 has_name [] i lt = absurd (omega (arith, lt))
 has_name (t ∷ ts) zero lt = either_true (bytes_eq t t) (has_token ts t) (itself t)
 has_name (t ∷ ts) (suc i) lt = second_true (bytes_eq t (name_of ts i)) (has_token ts (name_of ts i)) (has_name ts i (omega (arith, lt)))
 
-header_fixed : map header_context.constants punctuation ≡ map (λ t. true) punctuation
+pub header_fixed : map header_context.constants punctuation ≡ map (λ t. true) punctuation
 unfolding header_context
 header_fixed = refl
 
@@ -190,7 +204,7 @@ other_bools : List Bool → List Bool
 other_bools [] = []
 other_bools (b ∷ bs) = bs
 
-typed_fixed : (declared : List Token) (c : Context) (ts : List Token) → Holds declared c → map header_context.constants ts ≡ map (λ t. true) ts → map (is_typed c) ts ≡ map (λ t. true) ts
+pub typed_fixed : (declared : List Token) (c : Context) (ts : List Token) → Holds declared c → map header_context.constants ts ≡ map (λ t. true) ts → map (is_typed c) ts ≡ map (λ t. true) ts
 unfolding first_bool other_bools
 typed_fixed declared c [] w h = refl
 typed_fixed declared c (t ∷ ts) w h =
@@ -198,7 +212,7 @@ typed_fixed declared c (t ∷ ts) w h =
     let constant : c.constants t ≡ true = w.constants t ∙ either_true (header_context.constants t) (has_token declared t) here in
     ap (λ (b : Bool). b ∷ map (is_typed c) ts) (either_true (c.constants t) _ constant) ∙ ap (λ (bs : List Bool). true ∷ bs) (typed_fixed declared c ts w (ap other_bools h))
 
-header_turnstile : header_context.constants (codes "|-") ≡ true
+pub header_turnstile : header_context.constants (codes "|-") ≡ true
 unfolding header_context
 header_turnstile = refl
 
@@ -214,7 +228,7 @@ and_false : (b : Bool) → (b && false) ≡ false
 and_false true = refl
 and_false false = refl
 
-name_no_letter : (t : Token) (a : ℕ) → IsName t → bytes_eq t (a ∷ []) ≡ false
+pub name_no_letter : (t : Token) (a : ℕ) → IsName t → bytes_eq t (a ∷ []) ≡ false
 name_no_letter t a w = go w.kind w.is
   where
     go : (k : NameKind) → t ≡ kind_front k ++ w.rest → bytes_eq t (a ∷ []) ≡ false
@@ -222,7 +236,7 @@ name_no_letter t a w = go w.kind w.is
     go symbol_name is = subst (λ (u : Token). bytes_eq u (a ∷ []) ≡ false) (sym is) (and_false (102 == a))
     go value_name is = subst (λ (u : Token). bytes_eq u (a ∷ []) ≡ false) (sym is) (and_false (100 == a))
 
-none_passes : (test : Token → Bool) (ts : List Token) → list_all (λ t. not (test t)) ts ≡ true → list_any test ts ≡ false
+pub none_passes : (test : Token → Bool) (ts : List Token) → list_all (λ t. not (test t)) ts ≡ true → list_any test ts ≡ false
 none_passes test [] h = refl
 none_passes test (t ∷ ts) h = go (test t) h (none_passes test ts)
   where
@@ -261,7 +275,7 @@ header_frame name symbols h =
 
 -- a closed statement may be stated
 
-name_no_statement : (t : Token) (k : ℕ) → IsName t → bytes_eq t (statement_label k) ≡ false
+pub name_no_statement : (t : Token) (k : ℕ) → IsName t → bytes_eq t (statement_label k) ≡ false
 name_no_statement t k w = go w.kind w.is
   where
     go : (n : NameKind) → t ≡ kind_front n ++ w.rest → bytes_eq t (statement_label k) ≡ false
@@ -269,15 +283,15 @@ name_no_statement t k w = go w.kind w.is
     go symbol_name is = subst (λ (u : Token). bytes_eq u (statement_label k) ≡ false) (sym is) refl
     go value_name is = subst (λ (u : Token). bytes_eq u (statement_label k) ≡ false) (sym is) refl
 
-no_statement_among : (ts : List Token) (k : ℕ) → AreNames ts → has_token ts (statement_label k) ≡ false
+pub no_statement_among : (ts : List Token) (k : ℕ) → AreNames ts → has_token ts (statement_label k) ≡ false
 no_statement_among [] k h = refl
 no_statement_among (t ∷ ts) k h = both_false (bytes_eq t (statement_label k)) (has_token ts (statement_label k)) (name_no_statement t k h.0) (no_statement_among ts k h.1)
 
-header_statement_constant : (k : ℕ) → header_context.constants (statement_label k) ≡ false
+pub header_statement_constant : (k : ℕ) → header_context.constants (statement_label k) ≡ false
 unfolding header_context
 header_statement_constant k = refl
 
-header_statement_variable : (k : ℕ) → header_context.variables (statement_label k) ≡ false
+pub header_statement_variable : (k : ℕ) → header_context.variables (statement_label k) ≡ false
 unfolding header_context
 header_statement_variable k = refl
 
@@ -287,7 +301,7 @@ closed_may_be_stated declared stated c p w few closed =
     let spelt : is_label (statement_label (length stated)) ≡ true = statement_label-is_label (length stated) few in
     let free : c.labels (statement_label (length stated)) ≡ false = w.free (length stated) (omega arith) few in
     let constant : c.constants (statement_label (length stated)) ≡ false = w.base.constants (statement_label (length stated)) ∙ both_false (header_context.constants (statement_label (length stated))) (has_token declared (statement_label (length stated))) (header_statement_constant (length stated)) (no_statement_among declared (length stated) w.names) in
-    let variable : c.variables (statement_label (length stated)) ≡ false = w.base.variables (statement_label (length stated)) ∙ header_statement_variable (length stated) in
+    let variable : c.variables (statement_label (length stated)) ≡ false = w.base.variables (statement_label (length stated)) refl ∙ header_statement_variable (length stated) in
     record {
       new = rw (spelt, free, constant, variable) refl;
       constant = w.base.constants (codes "|-") ∙ either_true (header_context.constants (codes "|-")) _ header_turnstile;
@@ -298,7 +312,7 @@ closed_may_be_stated declared stated c p w few closed =
 
 -- the tokens of a statement
 
-ends_last : (ts : List Token) → list_all (λ t. not (ends_statement t)) ts ≡ true → ends_once (ts ++ codes "$." ∷ []) ≡ true
+pub ends_last : (ts : List Token) → list_all (λ t. not (ends_statement t)) ts ≡ true → ends_once (ts ++ codes "$." ∷ []) ≡ true
 ends_last [] h = refl
 ends_last (t ∷ []) h = go (ends_statement t) h
   where
@@ -310,44 +324,44 @@ ends_last (t ∷ (u ∷ ts)) h = go (ends_statement t) h (ends_last (u ∷ ts))
     go true all behind = absurd (false≢true all)
     go false all behind = behind all
 
-axiom_one : (k : ℕ) (symbols : List Token) → list_all (λ t. not (ends_statement t)) symbols ≡ true → is_one_statement (plain_tokens (statement_label k ∷ []) asserts symbols) ≡ true
+pub axiom_one : (k : ℕ) (symbols : List Token) → list_all (λ t. not (ends_statement t)) symbols ≡ true → is_one_statement (plain_tokens (statement_label k ∷ []) asserts symbols) ≡ true
 axiom_one k symbols h = ends_last (codes "$a" ∷ symbols) h
 
-theorem_one : (k : ℕ) (symbols proof : List Token) → list_all (λ t. not (ends_statement t)) symbols ≡ true → list_all (λ t. not (ends_statement t)) proof ≡ true → is_one_statement (proof_tokens (statement_label k ∷ []) symbols proof) ≡ true
+pub theorem_one : (k : ℕ) (symbols proof : List Token) → list_all (λ t. not (ends_statement t)) symbols ≡ true → list_all (λ t. not (ends_statement t)) proof ≡ true → is_one_statement (proof_tokens (statement_label k ∷ []) symbols proof) ≡ true
 theorem_one k symbols proof h g =
     ap (λ (ts : List Token). ends_once (codes "$p" ∷ ts)) (sym (append_assoc symbols (codes "$=" ∷ proof) (codes "$." ∷ [])))
     ∙ ends_last (codes "$p" ∷ (symbols ++ codes "$=" ∷ proof)) (list_all-append (λ t. not (ends_statement t)) symbols (codes "$=" ∷ proof) h g)
 
-axiom_plain : (l : Token) (symbols : List Token) → is_plain_token l ≡ true → list_all is_plain_token symbols ≡ true → list_all is_plain_token (plain_tokens (l ∷ []) asserts symbols) ≡ true
+pub axiom_plain : (l : Token) (symbols : List Token) → is_plain_token l ≡ true → list_all is_plain_token symbols ≡ true → list_all is_plain_token (plain_tokens (l ∷ []) asserts symbols) ≡ true
 axiom_plain l symbols h g = both_true (is_plain_token l) _ h (list_all-append is_plain_token symbols (codes "$." ∷ []) g refl)
 
-theorem_plain : (l : Token) (symbols proof : List Token) → is_plain_token l ≡ true → list_all is_plain_token symbols ≡ true → list_all is_plain_token proof ≡ true → list_all is_plain_token (proof_tokens (l ∷ []) symbols proof) ≡ true
+pub theorem_plain : (l : Token) (symbols proof : List Token) → is_plain_token l ≡ true → list_all is_plain_token symbols ≡ true → list_all is_plain_token proof ≡ true → list_all is_plain_token (proof_tokens (l ∷ []) symbols proof) ≡ true
 theorem_plain l symbols proof h g f =
     both_true (is_plain_token l) _ h (list_all-append is_plain_token symbols (codes "$=" ∷ (proof ++ codes "$." ∷ [])) g (list_all-append is_plain_token proof (codes "$." ∷ []) f refl))
 
 -- what holds behind a statement
 
-abbrev with_statement : Context → ℕ → List Token → Context
+abbrev pub with_statement : Context → ℕ → List Token → Context
 with_statement c k symbols = with_declared c (statement_label k ∷ []) asserts symbols
 
 header_no_statement : (k : ℕ) → header_context.frames (statement_label k) ≡ None
 unfolding header_context header_rows
 header_no_statement k = refl
 
-row_differs : (label : Token) (f : Frame) (k : ℕ) → header_context.frames label ≡ Some f → bytes_eq label (statement_label k) ≡ false
+pub row_differs : (label : Token) (f : Frame) (k : ℕ) → header_context.frames label ≡ Some f → bytes_eq label (statement_label k) ≡ false
 row_differs label f k h = go (bytes_eq label (statement_label k)) refl
   where
     go : (b : Bool) → bytes_eq label (statement_label k) ≡ b → bytes_eq label (statement_label k) ≡ false
     go true is = absurd (let never : Some f ≡ None = sym h ∙ ap header_context.frames ((bytes_eq-Decides label (statement_label k)).0 is) ∙ header_no_statement k in let z : ⊥ = cc in z)
     go false is = is
 
-if_false : {A : Type 0} (b : Bool) (x y : A) → b ≡ false → (if b then x else y) ≡ y
+pub if_false : {A : Type 0} (b : Bool) (x y : A) → b ≡ false → (if b then x else y) ≡ y
 if_false b x y h = rw h refl
 
-if_true : {A : Type 0} (b : Bool) (x y : A) → b ≡ true → (if b then x else y) ≡ x
+pub if_true : {A : Type 0} (b : Bool) (x y : A) → b ≡ true → (if b then x else y) ≡ x
 if_true b x y h = rw h refl
 
-base_holds : (declared : List Token) (c : Context) (k : ℕ) (symbols : List Token) → Holds declared c → Holds declared (with_statement c k symbols)
+pub base_holds : (declared : List Token) (c : Context) (k : ℕ) (symbols : List Token) → Holds declared c → Holds declared (with_statement c k symbols)
 base_holds declared c k symbols w = record {
   rows = λ label f h. if_false (bytes_eq label (statement_label k)) _ (c.frames label) (row_differs label f k h) ∙ w.rows label f h;
   scope = w.scope;
@@ -426,14 +440,14 @@ adds_theorem : (declared : List Token) (stated : List Pattern) (c : Context) (at
 adds_theorem declared stated c at p tree w few closed proof =
     let may : MayBeStated c (statement_label (length stated)) (codes "|-") (text_by (letters_of (own_naming declared)) p) = closed_may_be_stated declared stated c p w few closed in
     let label : LabelFacts (statement_label (length stated)) = label_facts (statement_label (length stated)) (statement_label-is_label (length stated) few) in
-    let spelt : list_all is_label (postorder tree) ≡ true = postorder_spelt c tree (holds_text (own_naming declared) p) w.base.scope w.spelt proof in (
+    let spelt : list_all is_label (postorder tree) ≡ true = postorder_spelt c tree (holds_text (own_naming declared) p) (header_active_spelt c w.base.scope) w.spelt proof in (
       theorem_plain (statement_label (length stated)) (holds_text (own_naming declared) p) (postorder tree) label.plain (text_plain declared p w.names closed) (labels_plain (postorder tree) spelt),
       theorem_one (length stated) (holds_text (own_naming declared) p) (postorder tree) (text_goes_on declared p w.names closed) (labels_go_on (postorder tree) spelt),
       theorem_is_fine c (statement_label (length stated)) (codes "|-") (text_by (letters_of (own_naming declared)) p) tree may proof (labels_clean (postorder tree) spelt) (labels_uncompressed (postorder tree) spelt),
       sym (ap (after_form c at) (proof_tokens_say (statement_label (length stated) ∷ []) (holds_text (own_naming declared) p) (postorder tree) may.clean_label may.clean (labels_clean (postorder tree) spelt))),
     )
 
-unchanged_text : (tokens : List Token) → flat_map (λ t. t ∷ []) tokens ≡ tokens
+pub unchanged_text : (tokens : List Token) → flat_map (λ t. t ∷ []) tokens ≡ tokens
 unchanged_text [] = refl
 unchanged_text (t ∷ tokens) = ap (λ (ts : List Token). t ∷ ts) (unchanged_text tokens)
 
@@ -511,7 +525,7 @@ theorem_gains_just declared stated bytes q d k place (c, leaves, w) few closed c
     let proof : Proves c tree (holds_text (own_naming declared) q) = derivation_proves c (own_labels (length stated)) (own_naming declared) (closed_over declared) [] k (closed_citing place) (serves_closed declared c (length stated) w.base w.names) (closed_sound declared stated c k place w placed) d q concludes used only in
     let may : MayBeStated c (statement_label (length stated)) (codes "|-") (text_by (letters_of (own_naming declared)) q) = closed_may_be_stated declared stated c q w few closed in
     let adds : Adds c (length bytes) (theorem_statement declared (length stated) q tree ∷ []) (with_statement c (length stated) (holds_text (own_naming declared) q)) = adds_theorem declared stated c (length bytes) q tree w few closed proof in
-    let spelt : list_all is_label (postorder tree) ≡ true = postorder_spelt c tree (holds_text (own_naming declared) q) w.base.scope w.spelt proof in
+    let spelt : list_all is_label (postorder tree) ≡ true = postorder_spelt c tree (holds_text (own_naming declared) q) (header_active_spelt c w.base.scope) w.spelt proof in
     gained_one c bytes (theorem_statement declared (length stated) q tree) (plain (statement_label (length stated) ∷ []) proves (holds_text (own_naming declared) q) (postorder tree)) (stated_assertion true declared (length stated) q) leaves adds.0 adds.1
     (proof_tokens_say (statement_label (length stated) ∷ []) (holds_text (own_naming declared) q) (postorder tree) may.clean_label may.clean (labels_clean (postorder tree) spelt))
     (ap Some (stated_made declared stated c q true w closed)) refl

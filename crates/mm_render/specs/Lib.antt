@@ -21,3 +21,7 @@ pub mod Justifying
 pub mod JustifyingLaws
 pub mod JustifyingCases
 pub mod RenderedCases
+pub mod Variables
+pub mod Blocks
+pub mod CitedAt
+pub mod Claiming

@@ -19,6 +19,7 @@
 //! that deep patterns and derivations need no recursion (`specs/Writing`, `specs/Parts`).
 #![tactic(auto)]
 
+mod blocks;
 mod derivations;
 mod freshness;
 mod laws;
@@ -33,6 +34,7 @@ mod substitution;
 mod words;
 mod works;
 
+pub use blocks::block_laws;
 pub use laws::{
     closed_laws, fitting_laws, image_laws, justifying_laws, later_laws, proof_laws, tried,
 };

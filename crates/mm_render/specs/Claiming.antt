@@ -1,0 +1,103 @@
+-- Statements with variables and hypotheses behind a text that fits: what it has declared, and what may follow.
+use Rattle.std.specs.Prelude.{◌≡◌, ℕ, ◌<◌, ◌≤◌, ◌^◌, true, false, List, [], ◌∷◌, ◌++◌, length, slice_get, Some, None}
+use Rattle.mm_text.specs.Bytes.{Token}
+use Rattle.mm_text.specs.Labels.{is_label}
+use Rattle.mm_frame.specs.Frames.{Frame}
+use Rattle.mm_frame.specs.Database.{Context}
+use Rattle.mm_frame.specs.Proofs.{active_hypothesis}
+use Rattle.mm_frame.specs.Assertions.{assertions_of}
+use Rattle.mm_frame.specs.Validity.{IsValid}
+use Rattle.mm_frame.specs.Writing.{Leaves}
+use Rattle.mm_frame.specs.FrameLaws.{written_statements}
+use Rattle.mm_header.specs.HeaderText.{header_bytes}
+use Rattle.ml_pat.specs.Patterns.{Pattern}
+use Rattle.ml_pat.specs.Named.{AreDistinct}
+use Rattle.ml_kernel.specs.Theorems.{Derivation}
+use Rattle.ml_kernel.specs.Concluding.{Concludes}
+use Rattle.mm_render.specs.Labels.{statement_label, premise_label, own_labels}
+use Rattle.mm_render.specs.Derivations.{derivation_tree, EachUsed}
+use Rattle.mm_render.specs.Statements.{all_name_statements}
+use Rattle.mm_render.specs.Fitting.{AreNames, Holds}
+use Rattle.mm_render.specs.Variables.{Variable, number_of, variable_token, variable_label, are_once, AreNumbered}
+use Rattle.mm_render.specs.Blocks.{Claim, IsClaim, open_over, open_frame, open_assertion, axiom_block, theorem_block}
+use Rattle.mm_render.specs.CitedAt.{EachCited, claims_citing, citable, ArePremises}
+
+-- no label of a block with this number is taken
+pub record IsFree (c : Context) (k : ℕ) : Type 0 where
+  pub statement : c.labels (statement_label k) ≡ false
+  pub variable : (v : Variable) → number_of v < 2 ^ 64 → c.labels (variable_label k v) ≡ false
+  pub premise : (j : ℕ) → j < 2 ^ 64 → c.labels (premise_label k j) ≡ false
+
+abbrev pub AreClaims : List Token → List Claim → Type 0
+AreClaims declared [] = Unit {0}
+AreClaims declared (s ∷ ss) = IsClaim declared s × AreClaims declared ss
+
+-- The header, these names and these claims are declared, each claim under the label of its place. The labels of later blocks
+-- are free; no variable's token is a label. The label of each assertion is well spelt, taken, and that of no active hypothesis.
+pub record HoldsClaims (declared : List Token) (claims : List Claim) (c : Context) : Type 0 where
+  pub base : Holds declared c
+  pub names : AreNames declared
+  pub claimed : AreClaims declared claims
+  pub frames : (k : ℕ) (s : Claim) → slice_get claims k ≡ Some s → c.frames (statement_label k) ≡ Some (open_frame declared k s)
+  pub free : (k : ℕ) → length claims ≤ k → k < 2 ^ 64 → IsFree c k
+  pub no_label : (v : Variable) → c.labels (variable_token v) ≡ false
+  pub spelt : (label : Token) (f : Frame) → c.frames label ≡ Some f → is_label label ≡ true
+  pub labelled : (label : Token) (f : Frame) → c.frames label ≡ Some f → c.labels label ≡ true
+  pub no_hypothesis : (label : Token) (f : Frame) → c.frames label ≡ Some f → active_hypothesis c label ≡ None
+
+-- a text that fits these names and claims
+abbrev pub FitsClaims : List Token → List Claim → List ℕ → Type 0
+FitsClaims declared claims bytes = (c : Context) × Leaves bytes c × HoldsClaims declared claims c
+
+-- A theorem that may be claimed: a derivation from its hypotheses that uses what is declared and the block's variables, and
+-- cites only what was claimed before.
+pub record IsProvable (declared : List Token) (claims : List Claim) (s : Claim) (more : List Variable) (d : Derivation) (place : List Pattern → Pattern → ℕ) (premise_place : Pattern → ℕ) : Type 0 where
+  pub once : are_once (s.variables ++ more) ≡ true
+  pub numbered : AreNumbered (s.variables ++ more)
+  pub concludes : Concludes s.hypotheses d s.conclusion
+  pub used : EachUsed (open_over declared (s.variables ++ more)) d
+  pub cites : EachCited (citable (open_over declared (s.variables ++ more)) claims place) d
+  pub premises : ArePremises s.hypotheses premise_place
+
+-- such a text is valid
+abbrev pub ClaimsAreValid : Type 0
+ClaimsAreValid = (declared : List Token) (claims : List Claim) (bytes : List ℕ) → FitsClaims declared claims bytes → IsValid bytes
+
+-- the header fits no names and no claims
+abbrev pub HeaderFitsClaims : Type 0
+HeaderFitsClaims = FitsClaims [] [] header_bytes
+
+-- a text that fits, with the declarations of more names, fits these
+abbrev pub NamesFitClaims : Type 0
+NamesFitClaims =
+    (declared more : List Token) (claims : List Claim) (bytes : List ℕ) → FitsClaims declared claims bytes →
+    AreNames (declared ++ more) → AreDistinct (declared ++ more) → length (declared ++ more) < 2 ^ 64 →
+    FitsClaims (declared ++ more) claims (bytes ++ written_statements (all_name_statements (length declared) more))
+
+-- a text that fits, with the block of an axiom, fits with one claim more
+abbrev pub AxiomBlockFits : Type 0
+AxiomBlockFits =
+    (declared : List Token) (claims : List Claim) (bytes : List ℕ) (s : Claim) → FitsClaims declared claims bytes →
+    length claims < 2 ^ 64 → IsClaim declared s →
+    FitsClaims declared (claims ++ s ∷ []) (bytes ++ written_statements (axiom_block declared (length claims) s))
+
+-- and so it does with the block of a theorem
+abbrev pub TheoremBlockFits : Type 0
+TheoremBlockFits =
+    (declared : List Token) (claims : List Claim) (bytes : List ℕ) (s : Claim) (more : List Variable) (d : Derivation) (place : List Pattern → Pattern → ℕ) (premise_place : Pattern → ℕ) →
+    FitsClaims declared claims bytes → length claims < 2 ^ 64 → IsClaim declared s → IsProvable declared claims s more d place premise_place →
+    FitsClaims declared (claims ++ s ∷ []) (bytes ++ written_statements (theorem_block declared (length claims) s more (derivation_tree (own_labels (length claims)) (claims_citing (length claims) claims place premise_place) d)))
+
+-- each has gained just that axiom or that theorem
+abbrev pub AxiomBlockIsGained : Type 0
+AxiomBlockIsGained =
+    (declared : List Token) (claims : List Claim) (bytes : List ℕ) (s : Claim) → FitsClaims declared claims bytes →
+    length claims < 2 ^ 64 → IsClaim declared s →
+    assertions_of (bytes ++ written_statements (axiom_block declared (length claims) s)) ≡ assertions_of bytes ++ open_assertion false declared (length claims) s ∷ []
+
+abbrev pub TheoremBlockIsGained : Type 0
+TheoremBlockIsGained =
+    (declared : List Token) (claims : List Claim) (bytes : List ℕ) (s : Claim) (more : List Variable) (d : Derivation) (place : List Pattern → Pattern → ℕ) (premise_place : Pattern → ℕ) →
+    FitsClaims declared claims bytes → length claims < 2 ^ 64 → IsClaim declared s → IsProvable declared claims s more d place premise_place →
+    assertions_of (bytes ++ written_statements (theorem_block declared (length claims) s more (derivation_tree (own_labels (length claims)) (claims_citing (length claims) claims place premise_place) d))) ≡
+    assertions_of bytes ++ open_assertion true declared (length claims) s ∷ []

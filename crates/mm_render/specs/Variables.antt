@@ -1,0 +1,92 @@
+-- The variables of a statement: object variables and pattern variables, each with its number.
+use Rattle.std.specs.Prelude.{ℕ, ◌<◌, ◌^◌, Bool, true, false, ◌==◌, ◌||◌, ◌&&◌, List, [], ◌∷◌, map, filter, codes}
+use Rattle.std.specs.Prelude as std
+use Rattle.std.specs.List.{list_any}
+use Rattle.mm_text.specs.Bytes.{Token}
+use Rattle.ml_pat.specs.Patterns.{Pattern, bot, top, imp, not, and, or, equal, member, fun, ex, all, app, at_sort, next, ev, var, meta, constant}
+use Rattle.mm_render.specs.Tokens.{object_token, meta_token}
+use Rattle.mm_render.specs.Labels.{object_label, meta_label}
+
+pub data Variable : Type 0 where
+  object_variable : ℕ → Variable
+  pattern_variable : ℕ → Variable
+
+abbrev pub is_object : Variable → Bool
+is_object (object_variable i) = true
+is_object (pattern_variable i) = false
+
+abbrev pub number_of : Variable → ℕ
+number_of (object_variable i) = i
+number_of (pattern_variable i) = i
+
+abbrev pub same_variable : Variable → Variable → Bool
+same_variable (object_variable i) (object_variable j) = i == j
+same_variable (object_variable i) (pattern_variable j) = false
+same_variable (pattern_variable i) (object_variable j) = false
+same_variable (pattern_variable i) (pattern_variable j) = i == j
+
+abbrev pub has_variable : List Variable → Variable → Bool
+has_variable vs v = list_any (λ u. same_variable u v) vs
+
+-- no variable stands twice
+abbrev pub are_once : List Variable → Bool
+are_once [] = true
+are_once (v ∷ vs) = std.not (has_variable vs v) && are_once vs
+
+-- each number is one of 64 bits
+abbrev pub AreNumbered : List Variable → Type 0
+AreNumbered [] = Unit {0}
+AreNumbered (v ∷ vs) = (number_of v < 2 ^ 64) × AreNumbered vs
+
+-- the variable stands in the pattern, bound or free
+abbrev pub stands_in : Variable → Pattern → Bool
+stands_in v bot = false
+stands_in v top = false
+stands_in v (imp p q) = stands_in v p || stands_in v q
+stands_in v (not p) = stands_in v p
+stands_in v (and p q) = stands_in v p || stands_in v q
+stands_in v (or p q) = stands_in v p || stands_in v q
+stands_in v (equal p q) = stands_in v p || stands_in v q
+stands_in v (member p q) = stands_in v p || stands_in v q
+stands_in v (fun p s) = stands_in v p
+stands_in v (ex x s p) = same_variable (object_variable x) v || stands_in v p
+stands_in v (all x s p) = same_variable (object_variable x) v || stands_in v p
+stands_in v (app p q) = stands_in v p || stands_in v q
+stands_in v (at_sort p s) = stands_in v p
+stands_in v (next p) = stands_in v p
+stands_in v (ev p) = stands_in v p
+stands_in v (var x) = same_variable (object_variable x) v
+stands_in v (meta i) = same_variable (pattern_variable i) v
+stands_in v (constant c) = false
+
+-- how a variable is written, by which label it is typed in the block of a statement, and as what
+abbrev pub variable_token : Variable → Token
+variable_token (object_variable i) = object_token i
+variable_token (pattern_variable i) = meta_token i
+
+abbrev pub variable_label : ℕ → Variable → Token
+variable_label k (object_variable i) = object_label k i
+variable_label k (pattern_variable i) = meta_label k i
+
+abbrev pub variable_type : Variable → Token
+variable_type (object_variable i) = codes "#Var"
+variable_type (pattern_variable i) = codes "#Pattern"
+
+-- `x:` or `m:` and more
+abbrev pub is_variable_token : Token → Bool
+is_variable_token [] = false
+is_variable_token (a ∷ []) = false
+is_variable_token (a ∷ (b ∷ rest)) = (b == 58) && ((a == 120) || (a == 109))
+
+-- the tokens of all, and of the object variables among them
+abbrev pub variable_tokens : List Variable → List Token
+variable_tokens vs = map variable_token vs
+
+abbrev pub object_tokens : List Variable → List Token
+object_tokens vs = map variable_token (filter is_object vs)
+
+-- they are two at least
+abbrev pub are_several : List Variable → Bool
+are_several [] = false
+are_several (v ∷ []) = false
+are_several (v ∷ (w ∷ vs)) = true
