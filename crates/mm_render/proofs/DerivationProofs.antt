@@ -1,33 +1,32 @@
--- A derivation is written as a proof of what it concludes, by induction.
-use Rattle.std.proofs.Common.{List, [], ◌∷◌, map, refl, subst}
+-- A derivation that cites axioms and lemmas at any patterns is written as a proof of what it concludes.
+use Rattle.std.proofs.Common.{IsTrue, List}
 use Rattle.mm_frame.specs.Database.{Context}
-use Rattle.mm_frame.specs.Proofs.{Proves, AllProve}
+use Rattle.mm_frame.specs.Proofs.{Proves}
 use Rattle.ml_pat.specs.Patterns.{Pattern}
-use Rattle.ml_kernel.specs.Lemmas.{instances}
 use Rattle.ml_kernel.specs.Theorems.{Derivation, Derivations, hypothesis, own_axiom, row, cited, no_derivation, more_derivations}
-use Rattle.ml_kernel.specs.Concluding.{Concludes, AllConclude}
+use Rattle.ml_kernel.specs.Concluding.{Concludes}
 use Rattle.mm_render.specs.Tokens.{Naming}
-use Rattle.mm_render.specs.Trees.{trees_of}
 use Rattle.mm_render.specs.Leaves.{LeafFacts}
 use Rattle.mm_render.specs.Serving.{Serves}
-use Rattle.mm_render.specs.Derivations.{holds_text, Citing, Cites, derivation_tree, derivation_trees, EachUsed, AllUsed, CitesOnly, AllCiteOnly, AreSound}
-use Rattle.mm_render.proofs.RuleLaws.{rule_proves}
+use Rattle.mm_render.specs.Derivations.{holds_text, Citing, Cites, derivation_tree, EachUsed, CitesOnly, AllCiteOnly, AreSound}
+use Rattle.mm_render.specs.CitedAt.{MayCite, EachCited, AllCited}
+use Rattle.mm_render.proofs.OpenCitingDerivations.{cited_proves}
+
+-- these may be cited, at any patterns
+abbrev at_any : Cites → MayCite
+at_any k = record { fact = λ p. IsTrue (k.fact p); lemma = λ own q ms. IsTrue (k.lemma own q) }
 
 mutual
-  pub derivation_proves : (c : Context) (l n : Naming) (known : LeafFacts) (hyps : List Pattern) (k : Cites) (s : Citing) → Serves c l n known → AreSound c n hyps k s → (d : Derivation) (q : Pattern) → Concludes hyps d q → EachUsed known d → CitesOnly k d → Proves c (derivation_tree l s d) (holds_text n q)
-  derivation_proves c l n known hyps k s w sound (hypothesis p) q concludes used only =
-      subst (λ (r : Pattern). Proves c (s.premise p) (holds_text n r)) concludes.1 (sound.premise p concludes.0)
-  derivation_proves c l n known hyps k s w sound (own_axiom i p) q concludes used only =
-      subst (λ (r : Pattern). Proves c (s.fact p) (holds_text n r)) concludes.1 (sound.fact p only)
-  derivation_proves c l n known hyps k s w sound (row i is ds) q (ps, (by_rule, all)) used only =
-      rule_proves c l n known (derivation_trees l s ds) w by_rule used.0 (derivations_prove c l n known hyps k s w sound ds ps all used.1 only)
-  derivation_proves c l n known hyps k s w sound (cited own p d ms ds) q (inner, closed) used only =
-      subst (λ (r : Pattern). Proves c (s.lemma own p ms (derivation_trees l s ds)) (holds_text n r)) closed.1.0
-      (sound.lemma own p ms (derivation_trees l s ds) only.0 closed.0 (derivations_prove c l n known hyps k s w sound ds (instances ms own) closed.1.1 used only.1))
+  cited_at_any : (k : Cites) (d : Derivation) → CitesOnly k d → EachCited (at_any k) d
+  cited_at_any k (hypothesis p) only = tt
+  cited_at_any k (own_axiom i p) only = only
+  cited_at_any k (row i is ds) only = all_cited_at_any k ds only
+  cited_at_any k (cited own p d ms ds) only = (only.0, all_cited_at_any k ds only.1)
 
-  derivations_prove : (c : Context) (l n : Naming) (known : LeafFacts) (hyps : List Pattern) (k : Cites) (s : Citing) → Serves c l n known → AreSound c n hyps k s → (ds : Derivations) (ps : List Pattern) → AllConclude hyps ds ps → AllUsed known ds → AllCiteOnly k ds → AllProve c (trees_of (derivation_trees l s ds)) (map (holds_text n) ps)
-  derivations_prove c l n known hyps k s w sound no_derivation [] all used only = refl
-  derivations_prove c l n known hyps k s w sound no_derivation (p ∷ ps) all used only = absurd all
-  derivations_prove c l n known hyps k s w sound (more_derivations d ds) [] all used only = absurd all
-  derivations_prove c l n known hyps k s w sound (more_derivations d ds) (p ∷ ps) all used only =
-      (holds_text n p, map (holds_text n) ps, refl, derivation_proves c l n known hyps k s w sound d p all.0 used.0 only.0, derivations_prove c l n known hyps k s w sound ds ps all.1 used.1 only.1)
+  all_cited_at_any : (k : Cites) (ds : Derivations) → AllCiteOnly k ds → AllCited (at_any k) ds
+  all_cited_at_any k no_derivation only = tt
+  all_cited_at_any k (more_derivations d ds) only = (cited_at_any k d only.0, all_cited_at_any k ds only.1)
+
+pub derivation_proves : (c : Context) (l n : Naming) (known : LeafFacts) (hyps : List Pattern) (k : Cites) (s : Citing) → Serves c l n known → AreSound c n hyps k s → (d : Derivation) (q : Pattern) → Concludes hyps d q → EachUsed known d → CitesOnly k d → Proves c (derivation_tree l s d) (holds_text n q)
+derivation_proves c l n known hyps k s w sound d q concludes used only =
+    cited_proves c l n known hyps (at_any k) s w (record { premise = sound.premise; fact = sound.fact; lemma = sound.lemma }) d q concludes used (cited_at_any k d only)

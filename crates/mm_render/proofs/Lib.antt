@@ -41,3 +41,7 @@ pub mod OpenServes
 pub mod InstanceTexts
 pub mod CitedLaws
 pub mod NamedClaims
+pub mod OpenCitingTexts
+pub mod OpenCiting
+pub mod OpenCitingDerivations
+pub mod OpenVariableLaws

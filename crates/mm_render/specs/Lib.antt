@@ -25,3 +25,6 @@ pub mod Variables
 pub mod Blocks
 pub mod CitedAt
 pub mod Claiming
+pub mod OpenCiting
+pub mod OpenVariables
+pub mod OpenCases

@@ -3,6 +3,9 @@ ghost use Rattle.mm_render.specs.Cases.{TriedCases};
 ghost use Rattle.mm_render.specs.JustifyingCases.{ConclusionIsNoAxiom, SmallJustifies};
 ghost use Rattle.mm_render.specs.JustifyingLaws.{AllDeclared, AxiomHasOnly, ClosedHasNoMeta, ClosedStays, DeclaredHasOnly, FitsLater, GainedAreOwn, GroundHasNone, HeaderHasOnly, ImageIsClosed, ImageStays, LastIsStated, OwnAxiomStays, RuleImageIsClosed, RuleImageIsOwn, RuleImageStays, StatedStays, TheoremHasOnly, TheoremJustifies};
 ghost use Rattle.mm_render.specs.Keeping.{BegunFits, DeclaredFits, EmptyFits};
+ghost use Rattle.mm_render.specs.OpenCases.{TriedCitations};
+ghost use Rattle.mm_render.specs.OpenCiting.{CitingDerivationsAreProved, CitingIsSound, ClaimsAreCited};
+ghost use Rattle.mm_render.specs.OpenVariables.{NeededAreEnough};
 ghost use Rattle.mm_render.specs.Stating.{AxiomFits, AxiomIsGained, HeaderFitsStated, NamesFitStated, StatedIsValid, TheoremFits, TheoremIsGained};
 ghost use Rattle.mm_render.specs.RenderedCases.{RenderedCases};
 ghost use Rattle.mm_render.specs.RenderLaws.{DerivationsAreProved, FreshnessIsProved, PatternsParse, PredicatesAreProved, RulesAreProved, SubstitutionIsProved};
@@ -38,6 +41,18 @@ pub fn closed_laws()
     ensures theorem { TheoremFits }
     ensures gained { AxiomIsGained }
     ensures proved { TheoremIsGained }
+{}
+
+/// In the block of a statement the label of a claim, over proofs of what stands for its variables and of its hypotheses there,
+/// proves its conclusion there. So hypotheses, axioms and lemmas are cited soundly, and a derivation that cites them is written as
+/// a proof of what it concludes, in every database that has them and declares what they use. A block that declares the variables
+/// that stand in it has those that it needs. And the definitions are tried on a small statement.
+pub fn citing_laws()
+    ensures cases { TriedCitations }
+    ensures cited { ClaimsAreCited }
+    ensures sound { CitingIsSound }
+    ensures derivations { CitingDerivationsAreProved }
+    ensures enough { NeededAreEnough }
 {}
 
 /// A text that fits what a renderer keeps, with what `begin` or `declare` appends behind it, is valid and fits what is kept

@@ -3,7 +3,9 @@
 //! **What is written.** A pattern is a list of tokens (`specs/Tokens`). That it is one, and each judgement on it, has a proof by
 //! the rows of the header, form by form; a rule is its row over the proofs of its hypotheses, and a derivation is written by
 //! recursion (`specs/Trees`, `specs/Derivations`). `proof_laws` says that these are proofs in every database that has the header
-//! and the declarations that they cite (`specs/Serving`).
+//! and the declarations that they cite (`specs/Serving`). `citing_laws` says the same of a derivation that cites statements with
+//! variables and hypotheses (`specs/Blocks`, `specs/CitedAt`, `specs/OpenCiting`), and which variables it needs there
+//! (`specs/OpenVariables`).
 //!
 //! **What follows what.** A text fits what a renderer keeps where it is valid and has declared and stated that
 //! (`specs/Keeping`, `specs/Stating`). `begin` appends the header, `declare` names, `axiom` an axiom and `lemma` a theorem with
@@ -36,7 +38,8 @@ mod works;
 
 pub use blocks::block_laws;
 pub use laws::{
-    closed_laws, fitting_laws, image_laws, justifying_laws, later_laws, proof_laws, tried,
+    citing_laws, closed_laws, fitting_laws, image_laws, justifying_laws, later_laws, proof_laws,
+    tried,
 };
 pub use renderer::Renderer;
 
