@@ -38,7 +38,6 @@ pub mod OpenFrames
 pub mod BlockLaws
 pub mod OpenFits
 pub mod OpenServes
-pub mod InstanceTexts
 pub mod CitedLaws
 pub mod NamedClaims
 pub mod OpenCitingTexts

@@ -67,7 +67,7 @@ same_frame done t k s w =
     ap (λ (hs : List Hypothesis). let f : Frame = record { label = statement_label k; hypotheses = map (variable_float k) s.variables ++ hs; apart = are_apart s.variables; statement = holds_text (own_naming done) s.conclusion } in f) (same_premises done t s.variables k 0 s.hypotheses w.over.1)
     ∙ ap (λ (e : List Token). let f : Frame = record { label = statement_label k; hypotheses = map (variable_float k) s.variables ++ premise_hypotheses (done ++ t ∷ []) k 0 s.hypotheses; apart = are_apart s.variables; statement = e } in f) (same_text done t s.variables s.conclusion w.over.0)
 
-claim_at_place : (declared : List Token) (claims : List Claim) (k : ℕ) (s : Claim) → AreClaims declared claims → slice_get claims k ≡ Some s → IsClaim declared s
+pub claim_at_place : (declared : List Token) (claims : List Claim) (k : ℕ) (s : Claim) → AreClaims declared claims → slice_get claims k ≡ Some s → IsClaim declared s
 claim_at_place declared [] k s all h = absurd (let z : ⊥ = cc in z)
 claim_at_place declared (r ∷ claims) zero s all h = subst (λ (x : Claim). IsClaim declared x) (let same : r ≡ s = cc in same) all.0
 claim_at_place declared (r ∷ claims) (suc k) s all h = claim_at_place declared claims k s all.1 h

@@ -42,7 +42,8 @@ use Rattle.mm_render.proofs.InsideLaws.{AddsAnywhere, asserted, asserted_in, ass
 use Rattle.mm_render.proofs.OpenTexts.{open_symbols, own_hypotheses}
 use Rattle.mm_render.proofs.OpenFrames.{frame_is}
 use Rattle.mm_render.proofs.OpenServes.{serves_inside}
-use Rattle.mm_render.proofs.CitedLaws.{citing_proves, claims_sound}
+use Rattle.mm_render.proofs.CitedLaws.{claims_sound}
+use Rattle.mm_render.proofs.OpenCitingDerivations.{cited_proves}
 use Rattle.mm_render.proofs.BlockLaws.{inside_block, behind_block, block_left, claims_hold, ground, all_more_variables, claim_may_be_stated, block_adds}
 
 pub claims_are_valid : ClaimsAreValid
@@ -192,7 +193,7 @@ claim_proof k claims place premise_place d = derivation_tree (own_labels k) (cla
 theorem_proves : (declared : List Token) (claims : List Claim) (c : Context) (at : ℕ) (s : Claim) (more : List Variable) (d : Derivation) (place : List Pattern → Pattern → ℕ) (premise_place : Pattern → ℕ) → HoldsClaims declared claims c → length claims < 2 ^ 64 → IsClaim declared s → IsProvable declared claims s more d place premise_place
     → Proves (inside_block declared (length claims) c at (s.variables ++ more) s.hypotheses) (claim_proof (length claims) claims place premise_place d) (holds_text (own_naming declared) s.conclusion)
 theorem_proves declared claims c at s more d place premise_place w few claim provable =
-    citing_proves (inside_block declared (length claims) c at (s.variables ++ more) s.hypotheses) (own_labels (length claims)) (own_naming declared) (open_over declared (s.variables ++ more)) s.hypotheses (citable (open_over declared (s.variables ++ more)) claims place) (claims_citing (length claims) claims place premise_place)
+    cited_proves (inside_block declared (length claims) c at (s.variables ++ more) s.hypotheses) (own_labels (length claims)) (own_naming declared) (open_over declared (s.variables ++ more)) s.hypotheses (citable (open_over declared (s.variables ++ more)) claims place) (claims_citing (length claims) claims place premise_place)
     (serves_inside declared claims c at (s.variables ++ more) s.hypotheses w few provable.numbered claim.few)
     (claims_sound declared claims c at (s.variables ++ more) s.hypotheses place premise_place w few provable.numbered claim.few provable.premises) d s.conclusion provable.concludes provable.used provable.cites
 
