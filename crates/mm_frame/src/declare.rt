@@ -63,7 +63,8 @@ impl<'a> Scopes<'a> {
     /// looks at the tokens that have a `$`, and at nothing else.
     ///
     /// The time is that of the tokens, each looked up once or twice among the names, and for
-    /// the frame of an assertion that of sorting what the frame has.
+    /// the frame of an assertion that of sorting what the frame has and of looking through the active
+    /// `$d` that one of its variables is in.
     pub fn statement(
         &mut self,
         alloc: Global,

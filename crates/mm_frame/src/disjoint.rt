@@ -109,8 +109,8 @@ impl Disjoint {
 
     /// What each group has of these numbers, which ascend, where it has two or more of them.
     ///
-    /// The groups are found by the numbers' own lists. Of each the numbers are looked up in the group,
-    /// or the group's in the numbers, whichever are fewer.
+    /// The groups are found by the numbers' own lists. Each of them then takes as many searches as there
+    /// are numbers, or as it has variables, where these are fewer.
     pub(crate) fn within(&self, alloc: Global, numbers: &[u32]) -> Result<Vec<Vec<u32>>, AllocError>
         requires { IsStrictlyIncreasing numbers.now }
         ensures { IfOk result (λ v. (a b : ℕ) → in_groups (groups_of v.items) a b ≡ (in_groups (groups_in self.now) a b && (has_number numbers.now a && has_number numbers.now b))) }

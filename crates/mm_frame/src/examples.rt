@@ -225,17 +225,14 @@ fn frames_have_their_own_hypotheses_in_order_and_their_own_pairs(
             panic!(rt; "no frame: {text}");
         };
         assert_eq!(rt; frame.hyps.len(), hyps.len(), "{text}");
-        for i in 0..hyps.len() {
-            assert!(rt; frame.hyps[i].label() == hyps[i].as_bytes(), "{text}");
+        for (hyp, expected) in frame.hyps.iter().zip(hyps.iter()) {
+            assert!(rt; hyp.label() == expected.as_bytes(), "{text}");
         }
         assert_eq!(rt; frame.apart.len(), pairs.len(), "{text}");
-        for i in 0..pairs.len() {
-            let (a, b) = pairs[i];
-            assert_eq!(rt; frame.apart[i].len(), 2, "{text}");
-            assert!(rt; frame.apart[i].contains(&a), "{text}");
-            assert!(rt; frame.apart[i].contains(&b), "{text}");
-            assert!(rt; scopes.apart(a, b), "{text}");
-            assert!(rt; scopes.apart(b, a), "{text}");
+        for (group, (a, b)) in frame.apart.iter().zip(pairs.iter()) {
+            assert_eq!(rt; group.len(), 2, "{text}");
+            assert!(rt; group.contains(a) && group.contains(b), "{text}");
+            assert!(rt; scopes.apart(*a, *b) && scopes.apart(*b, *a), "{text}");
         }
     }
     Ok(())

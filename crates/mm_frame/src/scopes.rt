@@ -253,7 +253,8 @@ impl<'a> Scopes<'a> {
         }
     }
 
-    /// Whether the two symbols are a pair of an active `$d`. Takes no memory.
+    /// Whether the two symbols are a pair of an active `$d`. Takes no memory, and a search for each
+    /// active `$d` that has the one of them that is in fewer.
     pub fn apart(&self, a: u32, b: u32) -> bool
         ensures held { result ≡ in_groups (held self.now).disjoint a b }
         ensures tells { Tells (held self.now) (λ c name. result ≡ c.scope.apart (name a) (name b)) }
