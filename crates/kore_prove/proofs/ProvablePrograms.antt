@@ -1,5 +1,5 @@
 -- Programs and starts that are accepted have runs with proofs.
-use Rattle.std.proofs.Common.{◌≡◌, ℕ, List, [], ◌∷◌, All, Option, Some, option_map, slice_get, ap, sym, ◌∙◌, subst}
+use Rattle.std.proofs.Common.{◌≡◌, ℕ, ◌<◌, ◌^◌, length, List, [], ◌∷◌, All, Option, Some, option_map, slice_get, ap, sym, ◌∙◌, subst}
 use Rattle.std.proofs.lemmas.List.Elements.{All-nil, All-cons}
 use Rattle.std.proofs.lemmas.List.Sorted.{All-permutation}
 use Rattle.std.proofs.lemmas.Option.{slice_get_within, slice_get-map}
@@ -76,12 +76,13 @@ rule_provable sig rules all i r is =
     record { no_variables = built.variables; left = built.left; right = built.right }
 
 -- a program that is accepted, and has plain names, has runs with proofs
-pub program_provable : (bytes : List ℕ) (program : Program) → IsProgramOf bytes program → HasPlainNames program.sig → IsProvable program
-program_provable bytes program is plain =
+pub program_provable : (bytes : List ℕ) (program : Program) → IsProgramOf bytes program → HasPlainNames program.sig → length program.rules.items < 2 ^ 32 → IsProvable program
+program_provable bytes program is plain few =
     let accepts = is.2 in
     let built = rules_built program.sig _ (filter_map axiom_declared accepts.accepted.declarations) accepts.rules accepts.accepted.rules_are in
     record {
       names = plain_names program.sig plain;
+      few = few;
       rules = rule_provable program.sig program.rules.items
           (All-permutation (IsBuiltRule program.sig) accepts.rules (rewrite_rules program.rules.items) accepts.same_rules built);
     }

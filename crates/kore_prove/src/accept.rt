@@ -62,6 +62,7 @@ pub fn accept(alloc: Global, bytes: &[u8]) -> Result<Program, Refusal>
     requires { length bytes.now < 2 ^ 32 }
     ensures program { IfOk result (IsProgramOf bytes.now) }
     ensures few { IfOk result (λ program. HasFewNames program.sig) }
+    ensures few_rules { IfOk result (λ program. length program.rules.items < 2 ^ 32) }
     ensures names { IfOk result (λ program. HasPlainNames program.sig) }
     ensures refused { OnNumber result (IsRefusedDefinition bytes.now) }
 {
@@ -129,6 +130,7 @@ fn accept_definition(alloc: Global, definition: &Definition) -> Result<Program, 
     requires { All IsWithinLimits (plain_definition definition.now).modules }
     ensures accepted { IfOk result (AcceptsTree (plain_definition definition.now)) }
     ensures few { IfOk result (λ program. HasFewNames program.sig) }
+    ensures few_rules { IfOk result (λ program. length program.rules.items < 2 ^ 32) }
     ensures refused { OnRefused result ((sig : Signature) (top : Option ℕ) (rules : List RewriteRule) → IsAccepted (plain_definition definition.now) sig top rules → ⊥) }
 {
     let Some(decls) = main_declarations(definition) else {

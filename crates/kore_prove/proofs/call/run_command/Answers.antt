@@ -12,7 +12,7 @@ use Rattle.kore_prove.proofs.ProvedRuns.{proves_run_of, start_kept, kept_then, w
 use Rattle.kore_prove.proofs.call.run_command.Goals as goal
 
 pub made_lines-requires-clause-provable : goal.made_lines-requires-clause-provable
-made_lines-requires-clause-provable g c = program_provable c.in-Ok.ensures.found.0 c.in-Ok.program c.in-Ok.ensures.found.2 c.in-Ok.ensures.names
+made_lines-requires-clause-provable g c = program_provable c.in-Ok.ensures.found.0 c.in-Ok.program c.in-Ok.ensures.found.2 c.in-Ok.ensures.names c.in-Ok.ensures.few_rules
 
 pub made_lines-requires-clause-built : goal.made_lines-requires-clause-built
 made_lines-requires-clause-built g c = start_built c.in-Ok-read_start.ensures.found.0 c.in-Ok.program (plain_pattern c.in-Ok-read_start.start) c.in-Ok-read_start.ensures.found.2
