@@ -1,38 +1,18 @@
 -- The names of a program are those of its declarations, and so identifiers.
-use Rattle.std.proofs.Common.{◌≡◌, ℕ, true, List, [], ◌∷◌, All, Option, Some, None, refl, sym, subst, arith}
+use Rattle.std.proofs.Common.{◌≡◌, ℕ, List, [], ◌∷◌, All, Option, Some, None, refl, sym, subst}
 use Rattle.std.specs.Prelude.{Result, Ok, Err, IfOk, IfSome}
-use Rattle.std.specs.List.{filter_map, list_all}
-use Rattle.std.proofs.lemmas.Bool.Decides.{nat_tests}
-use Rattle.std.proofs.lemmas.List.Elements.{All-nil, All-cons, All-head, All-tail, All-weaker}
-use Rattle.kore_lex.specs.Pieces.{is_letter, is_word}
-use Rattle.kore_lex.specs.Tokens.{AllWord, IsName}
+use Rattle.std.specs.List.{filter_map}
+use Rattle.std.proofs.lemmas.List.Elements.{All-nil, All-cons, All-head, All-tail}
+use Rattle.kore_lex.specs.Tokens.{IsName}
 use Rattle.kore_text.specs.Trees.{SortDeclaration, SymbolDeclaration, Declaration, import_declaration, sort_declaration, symbol_declaration, alias_declaration, axiom_declaration, claim_declaration, ModuleTree, DefinitionTree}
 use Rattle.kore_text.specs.Identifiers.{IsNamedDeclaration, IsNamedModule, NamesAreIdentifiers}
 use Rattle.kore_ast.specs.KoreText.{ReadsDefinition}
 use Rattle.rule_core.specs.Named.{names_of}
 use Rattle.rule_core.specs.declared.rules.Program.{Program}
-use Rattle.rule_core.specs.declared.signature.Signature.{Signature}
 use Rattle.kore_prove.specs.declared.accept.Refusal.{Refusal}
 use Rattle.kore_prove.specs.Acceptance.{Each, IsSortEntry, IsSymbolEntry, sort_declared, symbol_declared, HasDeclarations}
-use Rattle.kore_prove.specs.Runnable.{AcceptsTree, IsProgramOf}
-use Rattle.kore_prove.specs.Names.{is_plain_byte, IsPlainName, HasPlainNames}
-
-word-plain : (c : ℕ) → is_word c ≡ true → is_plain_byte c ≡ true
-word-plain c h = grind (arith, nat_tests)
-
-letter-plain : (c : ℕ) → is_letter c ≡ true → is_plain_byte c ≡ true
-letter-plain c h = grind (arith, nat_tests)
-
-words-plain : (cs : List ℕ) → AllWord cs → list_all is_plain_byte cs ≡ true
-words-plain [] h = refl
-words-plain (c ∷ cs) h = rw (word-plain c h.0, words-plain cs h.1) refl
-
-name-plain : (name : List ℕ) → IsName name → IsPlainName name
-name-plain [] h = absurd h
-name-plain (c ∷ cs) h = record {
-  some = λ e. (let no : ⊥ = cc in no);
-  bytes = rw (letter-plain c h.0, words-plain cs h.1) refl;
-}
+use Rattle.kore_prove.specs.Runnable.{AcceptsTree}
+use Rattle.kore_prove.specs.Names.{HasIdentifierNames}
 
 filter_map-given : {X Y : Type 0} (h : X → Option Y) (Q : Y → Type 0) (x : X) (xs : List X) (o : Option Y) → h x ≡ o → IfSome o Q → All Q (filter_map h xs) → All Q (filter_map h (x ∷ xs))
 filter_map-given h Q x xs None e one all = rw e all
@@ -74,12 +54,7 @@ declarations-named d ds has all =
     let main = All-head IsNamedModule has.main [] (subst (λ (ms : List ModuleTree). All IsNamedModule ms) has.only.alone all) in
     subst (λ (xs : List Declaration). All IsNamedDeclaration xs) has.declared main.declarations
 
--- each sort and each symbol of a signature has an identifier as its name
-record HasIdentifiers (sig : Signature) : Type 0 where
-  pub sorts : All IsName (names_of sig.sorts)
-  pub symbols : All IsName (names_of sig.symbols)
-
-tree-names : NamesAreIdentifiers → (bytes : List ℕ) (d : DefinitionTree) (program : Program) → ReadsDefinition bytes d → AcceptsTree d program → HasIdentifiers program.sig
+tree-names : NamesAreIdentifiers → (bytes : List ℕ) (d : DefinitionTree) (program : Program) → ReadsDefinition bytes d → AcceptsTree d program → HasIdentifierNames program.sig
 tree-names law bytes d program reads accepts =
     let is = accepts.accepted in
     let named = declarations-named d is.declarations is.main (law bytes d reads.1.0 reads.1.1).modules in
@@ -90,16 +65,7 @@ tree-names law bytes d program reads accepts =
           (filter_map-all symbol_declared IsNamedDeclaration (λ (s : SymbolDeclaration). IsName s.name) symbol-named is.declarations named) is.symbols;
     }
 
--- the symbols of the program of some bytes
-pub program-symbols : NamesAreIdentifiers → (bytes : List ℕ) (program : Program) → IsProgramOf bytes program → All IsName (names_of program.sig.symbols)
-program-symbols law bytes program is = (tree-names law bytes is.0 program is.1 is.2).symbols
-
--- the names of a program that was accepted have only printable bytes, and no `$`
-pub accepted-names : NamesAreIdentifiers → (bytes : List ℕ) (d : DefinitionTree) (r : Result Program Refusal) → ReadsDefinition bytes d → IfOk r (AcceptsTree d) → IfOk r (λ program. HasPlainNames program.sig)
-accepted-names law bytes d (Ok program) reads accepts =
-    let names = tree-names law bytes d program reads accepts in
-    record {
-      sorts = All-weaker IsName IsPlainName name-plain (names_of program.sig.sorts) names.sorts;
-      symbols = All-weaker IsName IsPlainName name-plain (names_of program.sig.symbols) names.symbols;
-    }
+-- .. so those of a program that was accepted
+pub accepted-names : NamesAreIdentifiers → (bytes : List ℕ) (d : DefinitionTree) (r : Result Program Refusal) → ReadsDefinition bytes d → IfOk r (AcceptsTree d) → IfOk r (λ program. HasIdentifierNames program.sig)
+accepted-names law bytes d (Ok program) reads accepts = tree-names law bytes d program reads accepts
 accepted-names law bytes d (Err refusal) reads accepts = tt

@@ -27,7 +27,6 @@ use crate::verification::verify_command;
 use crate::words::{Command, RunWords, read_words};
 use desk_io::{Desk, DeskFault, ReadEnd, Sink, send_whole};
 use kore_print::print_laws;
-use kore_text::name_laws;
 use rule_core::Outcome;
 use std::alloc::Global;
 
@@ -162,7 +161,6 @@ fn run_command<'a, D: Desk, O: Sink>(
         KeepsFilesAt (plain_end end) (D.told desk.old) (D.told desk.new)) }
     ensures created { D.created desk.new ≡ D.created desk.old }
 {
-    name_laws();
     print_laws();
     let program = match read_program(alloc, desk, command.definition) {
         Ok(program) => program,
