@@ -3,8 +3,7 @@ use Rattle.std.proofs.Common.{◌≡◌, ℕ, true, refl, arith, ◌<◌, ◌^�
 use Rattle.std.proofs.lemmas.List.Elements.{All-nil, All-cons}
 use Rattle.std.proofs.lemmas.List.Sorted.{All-permutation}
 use Rattle.std.proofs.lemmas.Option.{slice_get_within, slice_get-map}
-use Rattle.std.specs.List.{filter_map}
-use Rattle.std.specs.List.{list_all}
+use Rattle.std.specs.List.{filter_map, list_all}
 use Rattle.std.proofs.lemmas.Bool.Decides.{nat_tests}
 use Rattle.kore_lex.specs.Pieces.{is_letter, is_word}
 use Rattle.kore_lex.specs.Tokens.{AllWord, IsName}

@@ -57,7 +57,8 @@ impl<T: Drop> From<AllocFailed<T>> for Refusal {
 /// of its tokens, 2 for one of its grammar, 3 for too many open brackets, and its byte. `Refused(90, 0)`
 /// comes where the text has no fault and is no definition that is accepted, which `ReadsDefinition` and
 /// `IsAccepted` state; `Memory` where memory was wanting. The names of sorts and symbols are
-/// identifiers (clause `names`).
+/// identifiers (clause `names`), and 32 bits are enough to number sorts, symbols and rules (clauses `few`
+/// and `few_rules`).
 pub fn accept(alloc: Global, bytes: &[u8]) -> Result<Program, Refusal>
     requires { length bytes.now < 2 ^ 32 }
     ensures program { IfOk result (IsProgramOf bytes.now) }
