@@ -44,3 +44,6 @@ pub mod OpenCitingTexts
 pub mod OpenCiting
 pub mod OpenCitingDerivations
 pub mod OpenVariableLaws
+pub mod AddedVariables
+pub mod ClaimLaws
+pub mod HeadTexts

@@ -20,11 +20,15 @@ pub mod Parts
 pub mod Justifying
 pub mod JustifyingLaws
 pub mod JustifyingCases
-pub mod RenderedCases
 pub mod Variables
 pub mod Blocks
 pub mod CitedAt
 pub mod Claiming
 pub mod OpenCiting
 pub mod OpenVariables
+pub mod ClaimVariables
+pub mod VariablesView
+pub mod ListedVariables
+pub mod HeadText
 pub mod OpenCases
+pub mod RenderedCases

@@ -5,7 +5,8 @@
 //! recursion (`specs/Trees`, `specs/Derivations`). `proof_laws` says that these are proofs in every database that has the header
 //! and the declarations that they cite (`specs/Serving`). `citing_laws` says the same of a derivation that cites statements with
 //! variables and hypotheses (`specs/Blocks`, `specs/CitedAt`, `specs/OpenCiting`), and which variables it needs there
-//! (`specs/OpenVariables`).
+//! (`specs/OpenVariables`). `write_axiom` appends the block of an axiom, whose variables are those that stand in it
+//! (`specs/ClaimVariables`).
 //!
 //! **What follows what.** A text fits what a renderer keeps where it is valid and has declared and stated that
 //! (`specs/Keeping`, `specs/Stating`). `begin` appends the header, `declare` names, `axiom` an axiom and `lemma` a theorem with
@@ -22,8 +23,10 @@
 #![tactic(auto)]
 
 mod blocks;
+mod claims;
 mod derivations;
 mod freshness;
+mod heads;
 mod laws;
 mod patterns;
 mod places;
@@ -33,10 +36,12 @@ mod searching;
 mod stacks;
 mod statements;
 mod substitution;
+mod variables;
 mod words;
 mod works;
 
 pub use blocks::block_laws;
+pub use claims::{claim_laws, write_axiom};
 pub use laws::{
     citing_laws, closed_laws, fitting_laws, image_laws, justifying_laws, later_laws, proof_laws,
     tried,

@@ -1,6 +1,7 @@
 // Worked examples, written by hand.
 ghost use Rattle.std.specs.Prelude.{◌≡◌, ◌<◌, IfOk, length};
 
+use crate::claims::write_axiom;
 use crate::renderer::Renderer;
 use crate::works::{Work, write_works};
 use ml_kernel::{AxiomNo, Lemma, Theory, Thm};
@@ -206,6 +207,47 @@ fn writes_the_database_that_was_judged(rt: HostRuntime) -> Result<(), Fail> {
         Some(
             b"$c s:S $.\nn.0 $a #Sort s:S $.\n$c f:a $.\nn.1 $a #Pattern f:a $.\n$c f:f $.\nn.2 $a #Pattern f:f $.\nt.0 $a |- ( \\app f:f f:a ) $.\nt.1 $p |- ( \\ev ( \\app f:f f:a ) ) $= n.2 n.1 w.app n.2 n.1 w.app w.ev t.0 n.2 n.1 w.app ev.1 mp $.\n".as_slice()
         )
+    );
+    Ok(())
+}
+
+// Where x leads to m, each predecessor of x leads to one of m: an axiom with two variables and a hypothesis, in its block.
+#[test]
+fn writes_the_block_of_an_axiom(rt: HostRuntime) -> Result<(), Fail> {
+    let alloc = rt.alloc();
+    let names = three_names(alloc)?;
+    let x = MPat::var(alloc, VarNo(0))?;
+    let m = MPat::meta(alloc, 0)?;
+    let mut hypotheses = Vec::new(alloc);
+    hypotheses.push(MPat::imp(alloc, &x, &m)?)?;
+    let conclusion = MPat::imp(alloc, &MPat::next(alloc, &x)?, &MPat::next(alloc, &m)?)?;
+    let mut text = Vec::new(alloc);
+    write_axiom(&mut text, &names, 7, &hypotheses, &conclusion)?;
+    assert_eq!(rt;
+        text.as_slice(),
+        b"${ $v x:0 $. x.7.0 $f #Var x:0 $. $v m:0 $. m.7.0 $f #Pattern m:0 $. $d x:0 m:0 $. e.7.0 $e |- ( \\imp x:0 m:0 ) $. t.7 $a |- ( \\imp ( \\next x:0 ) ( \\next m:0 ) ) $. $} ".as_slice()
+    );
+    Ok(())
+}
+
+// Object variables stay apart from each other and from each pattern variable; pattern variables may stand for the same. A bound
+// variable is one of them, and each is typed once.
+#[test]
+fn writes_which_variables_stay_apart(rt: HostRuntime) -> Result<(), Fail> {
+    let alloc = rt.alloc();
+    let names = three_names(alloc)?;
+    let body = MPat::imp(
+        alloc,
+        &MPat::var(alloc, VarNo(2))?,
+        &MPat::imp(alloc, &MPat::meta(alloc, 1)?, &MPat::meta(alloc, 0)?)?,
+    )?;
+    let conclusion = MPat::all(alloc, VarNo(5), MSort(0), &MPat::imp(alloc, &body, &body)?)?;
+    let hypotheses = Vec::new(alloc);
+    let mut text = Vec::new(alloc);
+    write_axiom(&mut text, &names, 0, &hypotheses, &conclusion)?;
+    assert_eq!(rt;
+        text.as_slice(),
+        b"${ $v x:5 $. x.0.5 $f #Var x:5 $. $v x:2 $. x.0.2 $f #Var x:2 $. $v m:1 $. m.0.1 $f #Pattern m:1 $. $v m:0 $. m.0.0 $f #Pattern m:0 $. $d x:5 x:2 $. $d x:5 x:2 m:1 $. $d x:5 x:2 m:0 $. t.0 $a |- ( \\all x:5 s:S ( \\imp ( \\imp x:2 ( \\imp m:1 m:0 ) ) ( \\imp x:2 ( \\imp m:1 m:0 ) ) ) ) $. $} ".as_slice()
     );
     Ok(())
 }

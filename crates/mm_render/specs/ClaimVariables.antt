@@ -1,0 +1,31 @@
+-- The variables of a claim: those that stand in its conclusion and then in its hypotheses, each once, in the order in which they
+-- first stand.
+use Rattle.std.specs.Prelude.{◌<◌, ◌^◌, List, [], ◌∷◌, ◌++◌, length, flat_map}
+use Rattle.mm_text.specs.Bytes.{Token}
+use Rattle.ml_pat.specs.Patterns.{Pattern}
+use Rattle.mm_render.specs.Leaves.{EachLeaf}
+use Rattle.mm_render.specs.Variables.{Variable, AreNumbered}
+use Rattle.mm_render.specs.Blocks.{Claim, IsClaim}
+use Rattle.mm_render.specs.OpenVariables.{variables_in, other_variables, over_names}
+
+abbrev pub claim_variables : List Pattern → Pattern → List Variable
+claim_variables hypotheses conclusion = other_variables [] (flat_map variables_in (conclusion ∷ hypotheses))
+
+-- a conclusion under hypotheses, as a claim
+abbrev pub claim_of : List Pattern → Pattern → Claim
+claim_of hypotheses conclusion = record { variables = claim_variables hypotheses conclusion; hypotheses = hypotheses; conclusion = conclusion }
+
+-- some variables, and behind them those of others that are not among them, each once
+abbrev pub added : List Variable → List Variable → List Variable
+added vs us = vs ++ other_variables vs us
+
+-- patterns over declared names, whatever variables they have
+abbrev pub AreOverNames : List Token → List Pattern → Type 0
+AreOverNames declared [] = Unit {0}
+AreOverNames declared (p ∷ ps) = EachLeaf (over_names declared) p × AreOverNames declared ps
+
+-- over declared names it is a claim, where its variables have numbers of 64 bits
+abbrev pub OverNamesIsClaim : Type 0
+OverNamesIsClaim =
+    (declared : List Token) (hypotheses : List Pattern) (conclusion : Pattern) → AreOverNames declared (conclusion ∷ hypotheses) →
+    AreNumbered (claim_variables hypotheses conclusion) → length hypotheses < 2 ^ 64 → IsClaim declared (claim_of hypotheses conclusion)

@@ -1,0 +1,37 @@
+-- What the writer of a block's head puts down: cited by the clauses of private functions alone.
+use Rattle.std.specs.Prelude.{◌≡◌, ℕ, not, List, [], ◌∷◌, ◌++◌, map, filter, flat_map, codes}
+use Rattle.mm_text.specs.Bytes.{Token}
+use Rattle.mm_frame.specs.Forms.{separates}
+use Rattle.mm_frame.specs.FrameLaws.{plain_tokens}
+use Rattle.ml_pat.specs.Patterns.{Pattern}
+use Rattle.mm_render.specs.Labels.{statement_label}
+use Rattle.mm_render.specs.Tokens.{own_naming}
+use Rattle.mm_render.specs.Derivations.{holds_text}
+use Rattle.mm_render.specs.Variables.{Variable, is_object, variable_token}
+use Rattle.mm_render.specs.Writing.{word_token}
+use Rattle.mm_render.specs.declared.words.Word.{Word}
+
+-- a word has this token, with all names and in each block
+abbrev pub IsWordOf : (ℕ → Token) → Word → Type 0
+IsWordOf token w = (names : List Token) (k : ℕ) → word_token names k w ≡ token k
+
+abbrev pub AreWordsOf : List Token → List Word → Type 0
+AreWordsOf tokens ws = (names : List Token) (k : ℕ) → map (word_token names k) ws ≡ tokens
+
+-- words with these tokens were added
+abbrev pub AddsWordsOf : List Token → List Word → List Word → Type 0
+AddsWordsOf tokens old new = (names : List Token) (k : ℕ) → map (word_token names k) new ≡ map (word_token names k) old ++ tokens
+
+-- a `$d` of these tokens, where they are two at least
+abbrev pub separation : List Token → List (List Token)
+separation [] = []
+separation (t ∷ []) = []
+separation (t ∷ (u ∷ ts)) = plain_tokens [] separates (t ∷ (u ∷ ts)) ∷ []
+
+-- of each pattern variable among some, behind these tokens
+abbrev pub pattern_separations : List Token → List Variable → List (List Token)
+pattern_separations objects vs = flat_map (λ v. separation (objects ++ variable_token v ∷ [])) (filter (λ v. not (is_object v)) vs)
+
+-- the front of a theorem, up to its proof
+abbrev pub theorem_front : List Token → ℕ → Pattern → List Token
+theorem_front names k q = statement_label k ∷ (codes "$p" ∷ (holds_text (own_naming names) q ++ codes "$=" ∷ []))
