@@ -40,3 +40,4 @@ pub mod OpenServes
 pub mod InstanceTexts
 pub mod CitedLaws
 pub mod NamedClaims
+pub mod SeparationTexts

@@ -24,3 +24,5 @@ pub mod Variables
 pub mod Blocks
 pub mod CitedAt
 pub mod Claiming
+pub mod BlockCases
+pub mod ClaimViews

@@ -20,6 +20,7 @@
 #![tactic(auto)]
 
 mod blocks;
+mod claims;
 mod derivations;
 mod freshness;
 mod laws;
@@ -34,11 +35,14 @@ mod substitution;
 mod words;
 mod works;
 
-pub use blocks::block_laws;
+pub use blocks::{block_laws, block_tried};
+pub use claims::{Variable, write_axiom_block};
 pub use laws::{
     closed_laws, fitting_laws, image_laws, justifying_laws, later_laws, proof_laws, tried,
 };
 pub use renderer::Renderer;
 
+#[cfg(test)]
+mod claim_tests;
 #[cfg(test)]
 mod tests;
