@@ -32,7 +32,7 @@ use Rattle.mm_render.specs.CitedAt.{claims_citing, citable}
 use Rattle.mm_render.specs.Variables.{Variable, object_variable, pattern_variable, are_once, AreNumbered, variable_token, variable_label}
 use Rattle.mm_render.specs.Blocks.{Claim, IsClaim, head_statements, block, axiom_block, theorem_block, open_over, variable_float, premise_hypotheses, open_assertion}
 use Rattle.mm_render.specs.Stating.{axiom_statement, theorem_statement}
-use Rattle.mm_render.specs.Claiming.{HoldsClaims, ClaimsAreValid, HeaderFitsClaims, AxiomBlockFits, AxiomBlockIsGained, IsProvable, TheoremBlockFits, TheoremBlockIsGained}
+use Rattle.mm_render.specs.Claiming.{FitsClaims, GainsClaim, HoldsClaims, ClaimsAreValid, HeaderFitsClaims, AxiomBlockFits, AxiomBlockIsGained, IsProvable, TheoremBlockFits, TheoremBlockIsGained}
 use Rattle.mm_render.proofs.LeafLaws.{split_true, both_true}
 use Rattle.mm_render.proofs.SpeltLaws.{label_facts, statement_label-is_label, header_spelt, hypothesis_spelt, types_spelt, postorder_spelt, labels_plain, labels_go_on, labels_clean, labels_uncompressed}
 use Rattle.mm_render.proofs.FittingLaws.{header_holds, header_closed}
@@ -225,3 +225,10 @@ theorem_block_is_gained declared claims bytes s more d place premise_place (c, l
     let adds : Adds c (length bytes) (theorem_block declared (length claims) s more (claim_proof (length claims) claims place premise_place d)) (behind_block declared (length claims) c s (s.variables ++ more)) × (asserted c (length bytes) (theorem_block declared (length claims) s more (claim_proof (length claims) claims place premise_place d)) ≡ open_assertion true declared (length claims) s ∷ []) =
     theorem_adds declared claims c (length bytes) s more d place premise_place w few claim provable in
     gained_by c (behind_block declared (length claims) c s (s.variables ++ more)) bytes (theorem_block declared (length claims) s more (claim_proof (length claims) claims place premise_place d)) (open_assertion true declared (length claims) s) leaves adds.0 adds.1
+
+-- an axiom under a number
+pub axiom_block_gains : (declared : List Token) (k : ℕ) (s : Claim) → k < 2 ^ 64 → GainsClaim false declared k s (written_statements (axiom_block declared k s))
+axiom_block_gains declared k s few claims bytes fits count claim =
+    let short : length claims < 2 ^ 64 = omega (arith, few, count) in
+    subst (λ (n : ℕ). FitsClaims declared (claims ++ s ∷ []) (bytes ++ written_statements (axiom_block declared n s)) × (assertions_of (bytes ++ written_statements (axiom_block declared n s)) ≡ assertions_of bytes ++ open_assertion false declared n s ∷ [])) count
+    (axiom_block_fits declared claims bytes s fits short claim, axiom_block_is_gained declared claims bytes s fits short claim)

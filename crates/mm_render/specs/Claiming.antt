@@ -1,5 +1,5 @@
 -- Statements with variables and hypotheses behind a text that fits: what it has declared, and what may follow.
-use Rattle.std.specs.Prelude.{◌≡◌, ℕ, ◌<◌, ◌≤◌, ◌^◌, true, false, List, [], ◌∷◌, ◌++◌, length, slice_get, Some, None}
+use Rattle.std.specs.Prelude.{◌≡◌, ℕ, ◌<◌, ◌≤◌, ◌^◌, Bool, true, false, List, [], ◌∷◌, ◌++◌, length, slice_get, Some, None}
 use Rattle.mm_text.specs.Bytes.{Token}
 use Rattle.mm_text.specs.Labels.{is_label}
 use Rattle.mm_frame.specs.Frames.{Frame}
@@ -101,3 +101,10 @@ TheoremBlockIsGained =
     FitsClaims declared claims bytes → length claims < 2 ^ 64 → IsClaim declared s → IsProvable declared claims s more d place premise_place →
     assertions_of (bytes ++ written_statements (theorem_block declared (length claims) s more (derivation_tree (own_labels (length claims)) (claims_citing (length claims) claims place premise_place) d))) ≡
     assertions_of bytes ++ open_assertion true declared (length claims) s ∷ []
+
+-- Each text that fits some claims, as many as the number, fits with what was appended, if that is a claim over its names, and has
+-- gained just this assertion.
+abbrev pub GainsClaim : Bool → List Token → ℕ → Claim → List ℕ → Type 0
+GainsClaim proved declared k s appended =
+    (claims : List Claim) (bytes : List ℕ) → FitsClaims declared claims bytes → length claims ≡ k → IsClaim declared s →
+    FitsClaims declared (claims ++ s ∷ []) (bytes ++ appended) × (assertions_of (bytes ++ appended) ≡ assertions_of bytes ++ open_assertion proved declared k s ∷ [])

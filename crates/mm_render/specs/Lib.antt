@@ -32,3 +32,4 @@ pub mod ListedVariables
 pub mod HeadText
 pub mod OpenCases
 pub mod RenderedCases
+pub mod BlockCases

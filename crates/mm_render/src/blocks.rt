@@ -1,4 +1,5 @@
 // Laws on statements with variables and hypotheses, in blocks of their own.
+ghost use Rattle.mm_render.specs.BlockCases.{BlockTried};
 ghost use Rattle.mm_render.specs.Claiming.{AxiomBlockFits, AxiomBlockIsGained, ClaimsAreValid, HeaderFitsClaims, NamesFitClaims, TheoremBlockFits, TheoremBlockIsGained};
 
 /// A text that has declared the header, some names and some claims, which may have variables and hypotheses, is valid, and
@@ -13,4 +14,9 @@ pub fn block_laws()
     ensures theorem { TheoremBlockFits }
     ensures gained { AxiomBlockIsGained }
     ensures proved { TheoremBlockIsGained }
+{}
+
+/// The definitions say of a small claim what its block is, and how it is cited.
+pub fn block_tried()
+    ensures cases { BlockTried }
 {}

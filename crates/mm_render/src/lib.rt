@@ -40,7 +40,7 @@ mod variables;
 mod words;
 mod works;
 
-pub use blocks::block_laws;
+pub use blocks::{block_laws, block_tried};
 pub use claims::{claim_laws, write_axiom};
 pub use laws::{
     citing_laws, closed_laws, fitting_laws, image_laws, justifying_laws, later_laws, proof_laws,
