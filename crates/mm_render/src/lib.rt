@@ -10,6 +10,11 @@
 //! its proof, both without variables and hypotheses as yet; a text that fits, with these behind it, fits, and has gained just
 //! that axiom or theorem. `closed_laws` says the same of any such axiom and derivation, whoever wrote them.
 //!
+//! **Variables and hypotheses.** A statement that has some stands in a block of its own, which declares them, so that behind it
+//! nothing more is active than before (`specs/Blocks`, `specs/Claiming`). `block_laws` say that an axiom or a theorem in such a
+//! block may follow a text that fits, and what is gained; the theorem's derivation may cite such statements (`specs/CitedAt`).
+//! `write_axiom_block` writes the block of an axiom.
+//!
 //! **What it justifies.** A database justifies a run of a program where it is valid, assumes nothing but the header's rows,
 //! declarations and what the program's definition says, and its last theorem says that the start reaches the end
 //! (`specs/Justifying`). `justifying_laws` say that a text that fits comes to do so by these calls; `later_laws` and `image_laws`
