@@ -225,7 +225,7 @@ fn writes_the_block_of_an_axiom(rt: HostRuntime) -> Result<(), Fail> {
     write_axiom(&mut text, &names, 7, &hypotheses, &conclusion)?;
     assert_eq!(rt;
         text.as_slice(),
-        b"${ $v x:0 $. x.7.0 $f #Var x:0 $. $v m:0 $. m.7.0 $f #Pattern m:0 $. $d x:0 m:0 $. e.7.0 $e |- ( \\imp x:0 m:0 ) $. t.7 $a |- ( \\imp ( \\next x:0 ) ( \\next m:0 ) ) $. $} ".as_slice()
+        b"${\n$v x:0 $.\nx.7.0 $f #Var x:0 $.\n$v m:0 $.\nm.7.0 $f #Pattern m:0 $.\n$d x:0 m:0 $.\ne.7.0 $e |- ( \\imp x:0 m:0 ) $.\nt.7 $a |- ( \\imp ( \\next x:0 ) ( \\next m:0 ) ) $.\n$}\n".as_slice()
     );
     Ok(())
 }
@@ -247,7 +247,7 @@ fn writes_which_variables_stay_apart(rt: HostRuntime) -> Result<(), Fail> {
     write_axiom(&mut text, &names, 0, &hypotheses, &conclusion)?;
     assert_eq!(rt;
         text.as_slice(),
-        b"${ $v x:5 $. x.0.5 $f #Var x:5 $. $v x:2 $. x.0.2 $f #Var x:2 $. $v m:1 $. m.0.1 $f #Pattern m:1 $. $v m:0 $. m.0.0 $f #Pattern m:0 $. $d x:5 x:2 $. $d x:5 x:2 m:1 $. $d x:5 x:2 m:0 $. t.0 $a |- ( \\all x:5 s:S ( \\imp ( \\imp x:2 ( \\imp m:1 m:0 ) ) ( \\imp x:2 ( \\imp m:1 m:0 ) ) ) ) $. $} ".as_slice()
+        b"${\n$v x:5 $.\nx.0.5 $f #Var x:5 $.\n$v x:2 $.\nx.0.2 $f #Var x:2 $.\n$v m:1 $.\nm.0.1 $f #Pattern m:1 $.\n$v m:0 $.\nm.0.0 $f #Pattern m:0 $.\n$d x:5 x:2 $.\n$d x:5 x:2 m:1 $.\n$d x:5 x:2 m:0 $.\nt.0 $a |- ( \\all x:5 s:S ( \\imp ( \\imp x:2 ( \\imp m:1 m:0 ) ) ( \\imp x:2 ( \\imp m:1 m:0 ) ) ) ) $.\n$}\n".as_slice()
     );
     Ok(())
 }
