@@ -15,7 +15,8 @@ pub mod Stepping
 pub mod Limits
 pub mod CommandWords
 pub mod Printing
-pub mod PrintedTerms
+pub mod TermPatterns
+pub mod ReadableTerms
 pub mod Pieces
 pub mod Ending
 pub mod Completing

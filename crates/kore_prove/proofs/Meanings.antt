@@ -19,7 +19,7 @@ use Rattle.rule_core.specs.declared.signature.SortRef.{SortRef}
 use Rattle.rule_core.specs.declared.signature.SortRef.TheVariants as sort_ref
 use Rattle.rule_core.specs.Named.{number_of}
 use Rattle.rule_core.proofs.Tables.{number_of-entry}
-use Rattle.kore_prove.specs.Lines.{name_of, applied, listed, text_of, arguments_of, text_in_front}
+use Rattle.kore_prove.specs.Lines.{name_of, applied, in_front, kore_pattern, kore_patterns}
 use Rattle.kore_prove.specs.Acceptance.{Denotes, AllDenote}
 use Rattle.kore_prove.specs.Nesting.{nesting, nestings}
 use Rattle.kore_prove.specs.Runnable.{IsShowable}
@@ -27,29 +27,28 @@ use Rattle.kore_prove.proofs.Pairings.{front}
 use Rattle.kore_prove.proofs.TreesOfForms.{tree-App}
 use Rattle.kore_prove.proofs.Forms.{no-sort-trees}
 
--- the pattern is a term by itself, of at most this height, and it has a text
+-- the pattern is a term by itself, of at most this height, and it has a Kore pattern
 record Shows (symbols : List (List ℕ × SymInfo)) (p : Pattern) (n : ℕ) : Type 0 where
   pub term : Tree
   pub becomes : instance_of [] p ≡ Some term
   pub low : height term ≤ n
-  pub text : IsSome (text_of symbols term)
+  pub pattern : IsSome (kore_pattern symbols term)
 
--- .. each of some patterns, also behind a text
+-- .. each of some patterns
 record AllShow (symbols : List (List ℕ × SymInfo)) (ps : Patterns) (n : ℕ) : Type 0 where
   pub terms : Forest
   pub become : instances_of [] ps ≡ Some terms
   pub low : heights terms ≤ n
-  pub texts : IsSome (arguments_of symbols terms)
-  pub behind : (text : Option (List ℕ)) → IsSome text → IsSome (text_in_front symbols text terms)
+  pub patterns : IsSome (kore_patterns symbols terms)
 
-applied-some : (name : List ℕ) (args : Option (List ℕ)) → IsSome args → IsSome (applied (Some name) args)
+applied-some : (name : List ℕ) (args : Option PatternTrees) → IsSome args → IsSome (applied (Some name) args)
 applied-some name None h = absurd (let no : ⊥ = cc in no)
 applied-some name (Some args) h = refl
 
-listed-some : (a b : Option (List ℕ)) → IsSome a → IsSome b → IsSome (listed a b)
-listed-some None b h k = absurd (let no : ⊥ = cc in no)
-listed-some (Some a) None h k = absurd (let no : ⊥ = cc in no)
-listed-some (Some a) (Some b) h k = refl
+in_front-some : (a : Option PatternTree) (b : Option PatternTrees) → IsSome a → IsSome b → IsSome (in_front a b)
+in_front-some None b h k = absurd (let no : ⊥ = cc in no)
+in_front-some (Some a) None h k = absurd (let no : ⊥ = cc in no)
+in_front-some (Some a) (Some b) h k = refl
 
 applied-shows : (symbols : List (List ℕ × SymInfo)) (p : Pattern) (f : ℕ) (name : List ℕ) (info : SymInfo) (ps : Patterns) (n : ℕ) → p ≡ application f ps → slice_get symbols f ≡ Some (name, info)
     → AllShow symbols ps n → Shows symbols p (n + 1)
@@ -59,7 +58,7 @@ applied-shows symbols p f name info ps n is there all =
       term = node f all.terms;
       becomes = rw (is, all.become) refl;
       low = omega (arith, all.low);
-      text = rw named (applied-some name (arguments_of symbols all.terms) all.texts);
+      pattern = rw named (applied-some name (kore_patterns symbols all.terms) all.patterns);
     }
 
 none-show : (symbols : List (List ℕ × SymInfo)) (ps : Patterns) → ps ≡ no_pattern → AllShow symbols ps 0
@@ -67,8 +66,7 @@ none-show symbols ps is = record {
   terms = no_tree;
   become = rw is refl;
   low = omega arith;
-  texts = refl;
-  behind = λ text some. some;
+  patterns = refl;
 }
 
 more-show : (symbols : List (List ℕ × SymInfo)) (ps : Patterns) (q : Pattern) (qs : Patterns) (m n k : ℕ) → m ≤ k → n ≤ k → ps ≡ more_patterns q qs → Shows symbols q m → AllShow symbols qs n → AllShow symbols ps k
@@ -76,8 +74,7 @@ more-show symbols ps q qs m n k mk nk is one all = record {
   terms = more_trees one.term all.terms;
   become = rw (is, one.becomes, all.become) refl;
   low = omega (arith, one.low, all.low);
-  texts = all.behind (text_of symbols one.term) one.text;
-  behind = λ text some. listed-some text (text_in_front symbols (text_of symbols one.term) all.terms) some (all.behind (text_of symbols one.term) one.text);
+  patterns = in_front-some (kore_pattern symbols one.term) (kore_patterns symbols all.terms) one.pattern all.patterns;
 }
 
 mutual
@@ -100,7 +97,7 @@ mutual
 pub denoted-showable : (sig : Signature) (tree : PatternTree) (p : Pattern) (sort : ℕ) → Denotes sig tree p sort → nesting tree ≤ 500 → IsShowable sig.symbols p
 denoted-showable sig tree p sort d shallow =
     let s = shows sig tree p sort d in
-    record { term = s.term; becomes = s.becomes; shown = record { low = omega (arith, s.low); text = s.text } }
+    record { term = s.term; becomes = s.becomes; shown = record { low = omega (arith, s.low); pattern = s.pattern } }
 
 -- an application of a declared symbol means that symbol, applied to what its arguments mean
 pub denotes-applied : (sig : Signature) (pat : Pat) (name : List ℕ) (ss : Vec Sort) (args : Vec Pat) (f : ℕ) (info : SymInfo) (sort : SortId) (ps : Patterns) (p : Pattern) → pat.form ≡ App name ss args → ss.items ≡ []

@@ -1,11 +1,9 @@
 -- The names of a program are those of its declarations, and so identifiers.
-use Rattle.std.proofs.Common.{◌≡◌, ℕ, true, List, [], ◌∷◌, All, Option, Some, None, refl, sym, subst, arith}
+use Rattle.std.proofs.Common.{◌≡◌, ℕ, List, [], ◌∷◌, All, Option, Some, None, refl, sym, subst}
 use Rattle.std.specs.Prelude.{Result, Ok, Err, IfOk, IfSome}
-use Rattle.std.specs.List.{filter_map, list_all}
-use Rattle.std.proofs.lemmas.Bool.Decides.{nat_tests}
+use Rattle.std.specs.List.{filter_map}
 use Rattle.std.proofs.lemmas.List.Elements.{All-nil, All-cons, All-head, All-tail}
-use Rattle.kore_lex.specs.Pieces.{is_letter, is_word}
-use Rattle.kore_lex.specs.Tokens.{AllWord, IsName}
+use Rattle.kore_lex.specs.Tokens.{IsName}
 use Rattle.kore_text.specs.Trees.{SortDeclaration, SymbolDeclaration, Declaration, import_declaration, sort_declaration, symbol_declaration, alias_declaration, axiom_declaration, claim_declaration, ModuleTree, DefinitionTree}
 use Rattle.kore_text.specs.Identifiers.{IsNamedDeclaration, IsNamedModule, NamesAreIdentifiers}
 use Rattle.kore_ast.specs.KoreText.{ReadsDefinition}
@@ -13,25 +11,8 @@ use Rattle.rule_core.specs.Named.{names_of}
 use Rattle.rule_core.specs.declared.rules.Program.{Program}
 use Rattle.kore_prove.specs.declared.accept.Refusal.{Refusal}
 use Rattle.kore_prove.specs.Acceptance.{Each, IsSortEntry, IsSymbolEntry, sort_declared, symbol_declared, HasDeclarations}
-use Rattle.kore_prove.specs.Runnable.{AcceptsTree, IsProgramOf}
-use Rattle.kore_prove.specs.Names.{is_plain_byte, IsPlainName, HasPlainNames}
-
-word-plain : (c : ℕ) → is_word c ≡ true → is_plain_byte c ≡ true
-word-plain c h = grind (arith, nat_tests)
-
-letter-plain : (c : ℕ) → is_letter c ≡ true → is_plain_byte c ≡ true
-letter-plain c h = grind (arith, nat_tests)
-
-words-plain : (cs : List ℕ) → AllWord cs → list_all is_plain_byte cs ≡ true
-words-plain [] h = refl
-words-plain (c ∷ cs) h = rw (word-plain c h.0, words-plain cs h.1) refl
-
-name-plain : (name : List ℕ) → IsName name → IsPlainName name
-name-plain [] h = absurd h
-name-plain (c ∷ cs) h = record {
-  some = λ e. (let no : ⊥ = cc in no);
-  bytes = rw (letter-plain c h.0, words-plain cs h.1) refl;
-}
+use Rattle.kore_prove.specs.Runnable.{AcceptsTree}
+use Rattle.kore_prove.specs.Names.{HasIdentifierNames}
 
 filter_map-given : {X Y : Type 0} (h : X → Option Y) (Q : Y → Type 0) (x : X) (xs : List X) (o : Option Y) → h x ≡ o → IfSome o Q → All Q (filter_map h xs) → All Q (filter_map h (x ∷ xs))
 filter_map-given h Q x xs None e one all = rw e all
@@ -58,37 +39,33 @@ symbol-named (alias_declaration d) h = tt
 symbol-named (axiom_declaration d) h = tt
 symbol-named (claim_declaration d) h = tt
 
-entries-plain : {D V : Type 0} (R : D → List ℕ × V → Type 0) (name : D → List ℕ) → ((d : D) (entry : List ℕ × V) → R d entry → entry.0 ≡ name d)
-    → (ds : List D) (entries : List (List ℕ × V)) → All (λ (d : D). IsName (name d)) ds → Each R ds entries → All IsPlainName (names_of entries)
-entries-plain R name same [] [] all each = All-nil IsPlainName
-entries-plain R name same [] (e ∷ es) all each = absurd each
-entries-plain R name same (d ∷ ds) [] all each = absurd each
-entries-plain {D = D} R name same (d ∷ ds) (e ∷ es) all each =
+entries-named : {D V : Type 0} (R : D → List ℕ × V → Type 0) (name : D → List ℕ) → ((d : D) (entry : List ℕ × V) → R d entry → entry.0 ≡ name d)
+    → (ds : List D) (entries : List (List ℕ × V)) → All (λ (d : D). IsName (name d)) ds → Each R ds entries → All IsName (names_of entries)
+entries-named R name same [] [] all each = All-nil IsName
+entries-named R name same [] (e ∷ es) all each = absurd each
+entries-named R name same (d ∷ ds) [] all each = absurd each
+entries-named {D = D} R name same (d ∷ ds) (e ∷ es) all each =
     let N : D → Type 0 = λ d. IsName (name d) in
-    All-cons IsPlainName e.0 (names_of es) (name-plain e.0 (subst IsName (sym (same d e each.0)) (All-head N d ds all)))
-    (entries-plain R name same ds es (All-tail N d ds all) each.1)
+    All-cons IsName e.0 (names_of es) (subst IsName (sym (same d e each.0)) (All-head N d ds all))
+    (entries-named R name same ds es (All-tail N d ds all) each.1)
 
 declarations-named : (d : DefinitionTree) (ds : List Declaration) → HasDeclarations d ds → All IsNamedModule d.modules → All IsNamedDeclaration ds
 declarations-named d ds has all =
     let main = All-head IsNamedModule has.main [] (subst (λ (ms : List ModuleTree). All IsNamedModule ms) has.only.alone all) in
     subst (λ (xs : List Declaration). All IsNamedDeclaration xs) has.declared main.declarations
 
-tree-names : NamesAreIdentifiers → (bytes : List ℕ) (d : DefinitionTree) (program : Program) → ReadsDefinition bytes d → AcceptsTree d program → HasPlainNames program.sig
+tree-names : NamesAreIdentifiers → (bytes : List ℕ) (d : DefinitionTree) (program : Program) → ReadsDefinition bytes d → AcceptsTree d program → HasIdentifierNames program.sig
 tree-names law bytes d program reads accepts =
     let is = accepts.accepted in
     let named = declarations-named d is.declarations is.main (law bytes d reads.1.0 reads.1.1).modules in
     record {
-      sorts = entries-plain IsSortEntry (λ (s : SortDeclaration). s.name) (λ s entry is. is.name) (filter_map sort_declared is.declarations) program.sig.sorts
+      sorts = entries-named IsSortEntry (λ (s : SortDeclaration). s.name) (λ s entry is. is.name) (filter_map sort_declared is.declarations) program.sig.sorts
           (filter_map-all sort_declared IsNamedDeclaration (λ (s : SortDeclaration). IsName s.name) sort-named is.declarations named) is.sorts;
-      symbols = entries-plain (IsSymbolEntry program.sig.sorts) (λ (s : SymbolDeclaration). s.name) (λ s entry is. is.name) (filter_map symbol_declared is.declarations) program.sig.symbols
+      symbols = entries-named (IsSymbolEntry program.sig.sorts) (λ (s : SymbolDeclaration). s.name) (λ s entry is. is.name) (filter_map symbol_declared is.declarations) program.sig.symbols
           (filter_map-all symbol_declared IsNamedDeclaration (λ (s : SymbolDeclaration). IsName s.name) symbol-named is.declarations named) is.symbols;
     }
 
--- the names of the program of some bytes have only printable bytes, and no `$`
-pub program-names : NamesAreIdentifiers → (bytes : List ℕ) (program : Program) → IsProgramOf bytes program → HasPlainNames program.sig
-program-names law bytes program is = tree-names law bytes is.0 program is.1 is.2
-
--- .. and those of a program that was accepted
-pub accepted-names : NamesAreIdentifiers → (bytes : List ℕ) (d : DefinitionTree) (r : Result Program Refusal) → ReadsDefinition bytes d → IfOk r (AcceptsTree d) → IfOk r (λ program. HasPlainNames program.sig)
+-- .. so those of a program that was accepted
+pub accepted-names : NamesAreIdentifiers → (bytes : List ℕ) (d : DefinitionTree) (r : Result Program Refusal) → ReadsDefinition bytes d → IfOk r (AcceptsTree d) → IfOk r (λ program. HasIdentifierNames program.sig)
 accepted-names law bytes d (Ok program) reads accepts = tree-names law bytes d program reads accepts
 accepted-names law bytes d (Err refusal) reads accepts = tt

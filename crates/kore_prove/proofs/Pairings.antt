@@ -1,8 +1,9 @@
 -- Lists whose items stand in a relation, one item further.
-use Rattle.std.proofs.Common.{◌≡◌, ℕ, ◌+◌, ◌<◌, List, [], ◌∷◌, ◌++◌, map, take, length, get_or, All, Option, Some, None, sym, ◌∙◌, ap, subst, refl}
+use Rattle.std.proofs.Common.{◌≡◌, ℕ, ◌+◌, ◌<◌, List, [], ◌∷◌, ◌++◌, map, take, length, get_or, All, Option, Some, None, sym, ◌∙◌, ap, subst, refl, slice_get}
 use Rattle.std.specs.List.{filter_map}
 use Rattle.std.proofs.lemmas.List.{map-append, take_more, append-nil, length-map, get_or-map}
 use Rattle.std.proofs.lemmas.List.Elements.{filter_map-append, All-get_or}
+use Rattle.std.proofs.lemmas.Option.{slice_get_within, get_or_from_slice_get}
 use Rattle.kore_prove.specs.Acceptance.{Each}
 
 pub Each-push : {A B : Type 0} (R : A → B → Type 0) (xs : List A) (ys : List B) (x : A) (y : B) → Each R xs ys → R x y → Each R (xs ++ x ∷ []) (ys ++ y ∷ [])
@@ -58,3 +59,7 @@ pub Each-empty : {D B : Type 0} (R : D → B → Type 0) (ds : List D) (ys : Lis
 Each-empty R [] ys all e = refl
 Each-empty R (d ∷ ds) [] all e = absurd all
 Each-empty R (d ∷ ds) (y ∷ ys) all e = absurd (let never : ⊥ = cc in never)
+
+-- what holds of all items holds of the one at a place
+pub item_at : {X : Type 0} (P : X → Type 0) (xs : List X) (i : ℕ) (x : X) → All P xs → slice_get xs i ≡ Some x → P x
+item_at P xs i x all is = subst P (get_or_from_slice_get xs i x x is) (All-get_or P xs i x (slice_get_within xs i x is) all)

@@ -1,9 +1,13 @@
 -- Programs and starts that are accepted have runs with proofs.
-use Rattle.std.proofs.Common.{◌≡◌, ℕ, List, [], ◌∷◌, All, Option, Some, option_map, slice_get, ap, sym, ◌∙◌, subst}
-use Rattle.std.proofs.lemmas.List.Elements.{All-nil, All-cons, All-get_or}
+use Rattle.std.proofs.Common.{◌≡◌, ℕ, true, refl, arith, ◌<◌, ◌^◌, length, List, [], ◌∷◌, All, Option, Some, option_map, slice_get, ap, sym, ◌∙◌, subst}
+use Rattle.std.proofs.lemmas.List.Elements.{All-nil, All-cons}
 use Rattle.std.proofs.lemmas.List.Sorted.{All-permutation}
-use Rattle.std.proofs.lemmas.Option.{slice_get_within, slice_get-map, get_or_from_slice_get}
-use Rattle.std.specs.List.{filter_map}
+use Rattle.std.proofs.lemmas.Option.{slice_get_within, slice_get-map}
+use Rattle.std.specs.List.{filter_map, list_all}
+use Rattle.std.proofs.lemmas.Bool.Decides.{nat_tests}
+use Rattle.kore_lex.specs.Pieces.{is_letter, is_word}
+use Rattle.kore_lex.specs.Tokens.{AllWord, IsName}
+use Rattle.mm_render.specs.Statements.{is_name_byte}
 use Rattle.kore_text.specs.Trees.{PatternTree, PatternTrees, element_variable, set_variable, string, symbol_applied, connected, binding, domain_value, folded, no_patterns, pattern_then}
 use Rattle.kore_text.specs.Trees.{AxiomDeclaration}
 use Rattle.term_core.specs.Patterns.{Pattern, Patterns}
@@ -15,11 +19,12 @@ use Rattle.rule_core.specs.declared.rules.Program.{Program}
 use Rattle.rule_core.specs.declared.rules.Rule.{Rule}
 use Rattle.rule_core.specs.declared.signature.Signature.{Signature}
 use Rattle.rule_core.specs.declared.signature.SortRef.{SortRef}
-use Rattle.prove_run.specs.PlainNames.{HasPlainNames as HasTokenNames}
+use Rattle.prove_run.specs.PlainNames.{HasPlainNames}
 use Rattle.kore_prove.specs.Acceptance.{Each, Denotes, AllDenote, IsRuleOf, axiom_declared}
-use Rattle.kore_prove.specs.Names.{IsPlainName, HasPlainNames}
+use Rattle.kore_prove.specs.Names.{HasIdentifierNames}
 use Rattle.kore_prove.specs.Provable.{IsBuiltOf, AreBuiltOf, IsProvableRule, IsProvable}
 use Rattle.kore_prove.specs.Runnable.{IsProgramOf, IsStartOf}
+use Rattle.kore_prove.proofs.Pairings.{item_at}
 
 mutual
   -- what a text means is built of the signature's symbols alone
@@ -39,18 +44,28 @@ mutual
   all_built sig (pattern_then a rest) ps sorts d =
       subst (λ (qs : Patterns). AreBuiltOf sig qs) (sym d.4) (denoted_built sig a d.0 d.2 d.6, all_built sig rest d.1 d.3 d.7)
 
--- what holds of all items holds of the one at a place
-item_at : {X : Type 0} (P : X → Type 0) (xs : List X) (i : ℕ) (x : X) → All P xs → slice_get xs i ≡ Some x → P x
-item_at P xs i x all is = subst P (get_or_from_slice_get xs i x x is) (All-get_or P xs i x (slice_get_within xs i x is) all)
+word-plain : (c : ℕ) → is_word c ≡ true → is_name_byte c ≡ true
+word-plain c h = grind (arith, nat_tests)
 
-named_plain : {V : Type 0} (entries : List (List ℕ × V)) (n : ℕ) (name : List ℕ) → All IsPlainName (names_of entries) → name_at entries n ≡ Some name → IsPlainName name
-named_plain {V = V} entries n name all is = item_at IsPlainName (names_of entries) n name all (slice_get-map (λ (e : List ℕ × V). e.0) entries n ∙ is)
+letter-plain : (c : ℕ) → is_letter c ≡ true → is_name_byte c ≡ true
+letter-plain c h = grind (arith, nat_tests)
 
--- plain names, as they stand in the list and as they are found by their numbers
-pub plain_names : (sig : Signature) → HasPlainNames sig → HasTokenNames sig
-plain_names sig plain = record {
-  sorts = λ s name is. (named_plain sig.sorts s name plain.sorts is).bytes;
-  symbols = λ f name is. (named_plain sig.symbols f name plain.symbols is).bytes;
+words-plain : (cs : List ℕ) → AllWord cs → list_all is_name_byte cs ≡ true
+words-plain [] h = refl
+words-plain (c ∷ cs) h = rw (word-plain c h.0, words-plain cs h.1) refl
+
+name-plain : (name : List ℕ) → IsName name → list_all is_name_byte name ≡ true
+name-plain [] h = absurd h
+name-plain (c ∷ cs) h = rw (letter-plain c h.0, words-plain cs h.1) refl
+
+named_plain : {V : Type 0} (entries : List (List ℕ × V)) (n : ℕ) (name : List ℕ) → All IsName (names_of entries) → name_at entries n ≡ Some name → list_all is_name_byte name ≡ true
+named_plain {V = V} entries n name all is = name-plain name (item_at IsName (names_of entries) n name all (slice_get-map (λ (e : List ℕ × V). e.0) entries n ∙ is))
+
+-- identifiers have only printable bytes, and no `$`
+plain_names : (sig : Signature) → HasIdentifierNames sig → HasPlainNames sig
+plain_names sig names = record {
+  sorts = λ s name is. named_plain sig.sorts s name names.sorts is;
+  symbols = λ f name is. named_plain sig.symbols f name names.symbols is;
 }
 
 -- a plain rule without variables, both sides of which are built so
@@ -78,13 +93,14 @@ rule_provable sig rules all i r is =
     let built = item_at (IsBuiltRule sig) (rewrite_rules rules) i (rewrite_rule r) all there in
     record { no_variables = built.variables; left = built.left; right = built.right }
 
--- a program that is accepted, and has plain names, has runs with proofs
-pub program_provable : (bytes : List ℕ) (program : Program) → IsProgramOf bytes program → HasPlainNames program.sig → IsProvable program
-program_provable bytes program is plain =
+-- a program that is accepted, whose names are identifiers, and with so few rules, has runs with proofs
+pub program_provable : (bytes : List ℕ) (program : Program) → IsProgramOf bytes program → HasIdentifierNames program.sig → length program.rules.items < 2 ^ 32 → IsProvable program
+program_provable bytes program is named few =
     let accepts = is.2 in
     let built = rules_built program.sig _ (filter_map axiom_declared accepts.accepted.declarations) accepts.rules accepts.accepted.rules_are in
     record {
-      names = plain_names program.sig plain;
+      names = plain_names program.sig named;
+      few = few;
       rules = rule_provable program.sig program.rules.items
           (All-permutation (IsBuiltRule program.sig) accepts.rules (rewrite_rules program.rules.items) accepts.same_rules built);
     }

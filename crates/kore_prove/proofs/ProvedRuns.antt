@@ -5,7 +5,6 @@ use Rattle.desk_io.specs.Sent.{Appends}
 use Rattle.term_core.specs.Terms.{Tree}
 use Rattle.term_core.specs.Patterns.{Pattern}
 use Rattle.rule_core.specs.declared.rules.Outcome.{Outcome}
-use Rattle.rule_core.specs.declared.rules.Outcome.TheVariants.{Stuck, Limit}
 use Rattle.rule_core.specs.declared.rules.Program.{Program}
 use Rattle.mm_render.specs.Justifying.{Justifies}
 use Rattle.term_core.specs.Patterns.{ground_pattern}
@@ -19,22 +18,17 @@ use Rattle.desk_io.specs.Counts.{Rose}
 use Rattle.desk_io.specs.declared.desk.DeskFault.{DeskFault}
 use Rattle.desk_io.specs.declared.desk.DeskFault.TheVariants as fault
 use Rattle.kore_prove.specs.Causes.{Course, HasRun, RunCause, Grows, KeepsOutput, KeepsFilesAt, IsUnwritten, fault_end}
-use Rattle.kore_prove.specs.ProvedRun.{last_of, Tells, TellsNow, HasProof, HasWantedProof, IsProvedRun, ProvesRunOf, ProvesRun, KeepsOthers, IsWanted}
+use Rattle.kore_prove.specs.ProvedRun.{Tells, TellsNow, HasProof, HasWantedProof, IsProvedRun, ProvesRunOf, ProvesRun, KeepsOthers, IsWanted}
 use Rattle.kore_prove.specs.ProofFiles.{PutsCreated, KeepsOthersNow}
 use Rattle.kore_prove.specs.declared.verification.Verdict.{Verdict}
 use Rattle.kore_prove.specs.Verdicts.{verdict_code}
 use Rattle.kore_prove.proofs.CommandWords.{one_proof}
 use Rattle.kore_prove.proofs.Ending.{code_of_no_end, code_of_run}
 use Rattle.kore_prove.proofs.Verifying.{code_of_verdict}
-use Rattle.kore_prove.proofs.Printing.{kept_start}
+use Rattle.kore_prove.proofs.Printing.{kept_start, last_is}
 
 some_same : {A : Type 0} (a b : A) → Some a ≡ Some b → a ≡ b
 some_same a b h = cc
-
--- the last configuration of a run that ended so
-last_is : (outcome : Outcome) (t : Tree) → last_of (run_of outcome t) ≡ t
-last_is (Stuck n) t = refl
-last_is (Limit n) t = refl
 
 proved_run : (told : Told) (told' : Option Told) (dn tn : List ℕ) (limit : ℕ) (file : List ℕ) (program : Program) (start : Pattern) (outcome : Outcome) (lines : List ℕ) → HoldsProgram (Some told) dn program → HoldsStart (Some told) tn program start
     → (before : Told) (h : HasProof program start limit outcome lines (Some before) told' file) → IsProvedRun dn tn limit file told told' lines (run_of outcome h.run.last)

@@ -1,5 +1,8 @@
--- The two lines of a run, and the canonical text of a term in them (Kore language document, "Patterns").
-use Rattle.std.specs.Prelude.{ℕ, List, [], ◌∷◌, ◌++◌, Option, Some, None, option_map, slice_get, codes, decimal}
+-- The two lines of a run, and the Kore pattern that a term is (Kore language document, "Patterns").
+use Rattle.std.specs.Prelude.{◌≡◌, ℕ, List, [], ◌∷◌, ◌++◌, Option, Some, None, option_map, slice_get, codes, decimal}
+use Rattle.kore_text.specs.Trees.{PatternTree, PatternTrees, symbol_applied, no_sorts, no_patterns, pattern_then}
+use Rattle.kore_print.specs.CanonicalText.{canonical_text}
+use Rattle.kore_print.specs.Reading.{ReadsAs}
 use Rattle.term_core.specs.Terms.{Tree, leaf, node, inj, Forest, no_tree, more_trees}
 use Rattle.rule_core.specs.declared.signature.SymInfo.{SymInfo}
 use Rattle.rule_core.specs.declared.rules.Outcome.{Outcome}
@@ -11,43 +14,47 @@ abbrev pub run_of : Outcome → Tree → Run
 run_of (Stuck n) t = stuck n t
 run_of (Limit n) t = limited n t
 
+-- the last configuration of a run
+abbrev pub last_of : Run → Tree
+last_of (stuck n t) = t
+last_of (limited n t) = t
+
 -- the name of a symbol, by its number
 abbrev pub name_of : List (List ℕ × SymInfo) → ℕ → Option (List ℕ)
 name_of symbols f = option_map (λ e. e.0) (slice_get symbols f)
 
--- a symbol's name, no sorts, and its arguments in parentheses
-abbrev pub applied : Option (List ℕ) → Option (List ℕ) → Option (List ℕ)
+-- a symbol of this name, at no sorts, applied to these arguments; it stands in no text, and so at no place
+abbrev pub applied : Option (List ℕ) → Option PatternTrees → Option PatternTree
 applied None args = None
 applied (Some name) None = None
-applied (Some name) (Some args) = Some (name ++ (codes "{}(" ++ (args ++ codes ")")))
+applied (Some name) (Some args) = Some (symbol_applied 0 name no_sorts args)
 
--- a text, a comma and more texts
-abbrev pub listed : Option (List ℕ) → Option (List ℕ) → Option (List ℕ)
-listed None texts = None
-listed (Some text) None = None
-listed (Some text) (Some texts) = Some (text ++ (codes "," ++ texts))
+-- a pattern and more patterns
+abbrev pub in_front : Option PatternTree → Option PatternTrees → Option PatternTrees
+in_front None ps = None
+in_front (Some p) None = None
+in_front (Some p) (Some ps) = Some (pattern_then p ps)
 
--- The canonical text of a term: no white space, a comma between arguments. There is none where a symbol has no name, nor
--- as yet for domain values and injections.
+-- The Kore pattern that a term is, by the names of its symbols. There is none where a symbol has no name, nor as yet for
+-- domain values and injections.
 abbrev mutual
-  pub text_of : List (List ℕ × SymInfo) → Tree → Option (List ℕ)
-  text_of symbols (leaf s v) = None
-  text_of symbols (node f ts) = applied (name_of symbols f) (arguments_of symbols ts)
-  text_of symbols (inj a b t) = None
+  pub kore_pattern : List (List ℕ × SymInfo) → Tree → Option PatternTree
+  kore_pattern symbols (leaf s v) = None
+  kore_pattern symbols (node f ts) = applied (name_of symbols f) (kore_patterns symbols ts)
+  kore_pattern symbols (inj a b t) = None
 
-  pub arguments_of : List (List ℕ × SymInfo) → Forest → Option (List ℕ)
-  arguments_of symbols no_tree = Some []
-  arguments_of symbols (more_trees t ts) = text_in_front symbols (text_of symbols t) ts
+  pub kore_patterns : List (List ℕ × SymInfo) → Forest → Option PatternTrees
+  kore_patterns symbols no_tree = Some no_patterns
+  kore_patterns symbols (more_trees t ts) = in_front (kore_pattern symbols t) (kore_patterns symbols ts)
 
-  -- the text of a first argument, and the arguments after it
-  pub text_in_front : List (List ℕ × SymInfo) → Option (List ℕ) → Forest → Option (List ℕ)
-  text_in_front symbols text no_tree = text
-  text_in_front symbols text (more_trees t ts) = listed text (text_in_front symbols (text_of symbols t) ts)
-
--- `WORD N` and the last configuration, each ended by a newline
-abbrev pub two_lines : List ℕ → ℕ → Option (List ℕ) → Option (List ℕ)
-two_lines word n text = option_map (λ bytes. word ++ (codes " " ++ (decimal n ++ (10 ∷ (bytes ++ 10 ∷ []))))) text
+-- `WORD N` and the canonical text of the last configuration's pattern, each ended by a newline
+abbrev pub two_lines : List ℕ → ℕ → Option PatternTree → Option (List ℕ)
+two_lines word n last = option_map (λ p. word ++ (codes " " ++ (decimal n ++ (10 ∷ (canonical_text p ++ 10 ∷ []))))) last
 
 abbrev pub lines_of : List (List ℕ × SymInfo) → Run → Option (List ℕ)
-lines_of symbols (stuck n t) = two_lines (codes "stuck") n (text_of symbols t)
-lines_of symbols (limited n t) = two_lines (codes "limit") n (text_of symbols t)
+lines_of symbols (stuck n t) = two_lines (codes "stuck") n (kore_pattern symbols t)
+lines_of symbols (limited n t) = two_lines (codes "limit") n (kore_pattern symbols t)
+
+-- the canonical text of the term's pattern, read by the grammar, spells that pattern again, but for places
+abbrev pub ReadsBack : List (List ℕ × SymInfo) → Tree → Type 0
+ReadsBack symbols t = (p : PatternTree) × (kore_pattern symbols t ≡ Some p) × ReadsAs (canonical_text p) p

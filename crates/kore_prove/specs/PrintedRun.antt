@@ -13,10 +13,11 @@ use Rattle.rule_core.specs.declared.rules.Outcome.{Outcome}
 use Rattle.rule_core.specs.Runs.{Run, stuck, limited, IsRunOf}
 use Rattle.kore_prove.specs.Words.{IsRunCommand, IsNoVerification}
 use Rattle.kore_prove.specs.Acceptance.{IsAccepted, IsAcceptedTerm}
-use Rattle.kore_prove.specs.Lines.{lines_of, run_of}
+use Rattle.kore_prove.specs.Runnable.{IsShown}
+use Rattle.kore_prove.specs.Lines.{lines_of, run_of, last_of, ReadsBack}
 
 -- The one file is accepted as a definition, the other as a term of it; the run is that of the term up to the limit, and
--- what was printed are its two lines.
+-- what was printed are its two lines, of which the second reads back.
 pub record IsPrintedRun (definition_name term_name : List ℕ) (limit : ℕ) (told : Told) (printed : List ℕ) (run : Run) : Type 0 where
   pub definition_bytes : List ℕ
   pub definition_file : file_of told.files definition_name ≡ Some definition_bytes
@@ -36,14 +37,17 @@ pub record IsPrintedRun (definition_name term_name : List ℕ) (limit : ℕ) (to
   pub start_value : instance_of [] start_pattern ≡ Some start
   pub is_run : IsRunOf rules limit start run
   pub lines : lines_of signature.symbols run ≡ Some printed
+  pub reads_back : ReadsBack signature.symbols (last_of run)
 
--- these are the lines of the program's run from this start up to the limit, which has this end
+-- these are the lines of the program's run from this start up to the limit, which has this end, and whose last
+-- configuration can be shown
 pub record HasLines (program : Program) (start_pattern : Pattern) (limit : ℕ) (outcome : Outcome) (lines : List ℕ) : Type 0 where
   pub start : Tree
   pub start_value : instance_of [] start_pattern ≡ Some start
   pub last : Tree
   pub is_run : IsRunOf (rewrite_rules program.rules.items) limit start (run_of outcome last)
   pub lines_are : lines_of program.sig.symbols (run_of outcome last) ≡ Some lines
+  pub shown : IsShown program.sig.symbols last
 
 -- the output grew by the lines of the run of these files, which has this end
 abbrev pub PrintsRunOf : List ℕ → List ℕ → ℕ → Option Told → Option (List ℕ) → Option (List ℕ) → Outcome → Type 0

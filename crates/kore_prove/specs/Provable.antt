@@ -1,5 +1,5 @@
 -- Programs and starts whose runs have proofs.
-use Rattle.std.specs.Prelude.{◌≡◌, ℕ, ◌<◌, length, slice_get, Some}
+use Rattle.std.specs.Prelude.{◌≡◌, ℕ, ◌<◌, ◌^◌, length, slice_get, Some}
 use Rattle.term_core.specs.Patterns.{Pattern, Patterns, variable, domain_value, application, injection, call, no_pattern, more_patterns}
 use Rattle.term_core.specs.RulePatterns.{plain_pattern}
 use Rattle.rule_core.specs.declared.signature.Signature.{Signature}
@@ -27,7 +27,8 @@ pub record IsProvableRule (sig : Signature) (r : Rule) : Type 0 where
   pub left : IsBuiltOf sig (plain_pattern r.left)
   pub right : IsBuiltOf sig (plain_pattern r.right)
 
--- names may stand in tokens, and each rule is such a rule
+-- names may stand in tokens, 32 bits are enough to number the rules, and each rule is such a rule
 pub record IsProvable (program : Program) : Type 0 where
   pub names : HasPlainNames program.sig
+  pub few : length program.rules.items < 2 ^ 32
   pub rules : (i : ℕ) (r : Rule) → slice_get program.rules.items i ≡ Some r → IsProvableRule program.sig r

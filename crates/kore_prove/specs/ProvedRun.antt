@@ -4,20 +4,15 @@ use Rattle.desk_io.specs.Told.{Told, file_of}
 use Rattle.desk_io.specs.Sent.{Appends}
 use Rattle.term_core.specs.Terms.{Tree}
 use Rattle.term_core.specs.Patterns.{Pattern, instance_of, ground_pattern}
-use Rattle.rule_core.specs.Runs.{Run, stuck, limited, IsRunOf}
+use Rattle.rule_core.specs.Runs.{Run, IsRunOf}
 use Rattle.rule_core.specs.ProgramView.{rewrite_rules}
 use Rattle.rule_core.specs.declared.rules.Outcome.{Outcome}
 use Rattle.rule_core.specs.declared.rules.Program.{Program}
 use Rattle.mm_render.specs.Justifying.{Justifies}
 use Rattle.kore_prove.specs.Words.{IsRunCommand, IsProofCommand}
 use Rattle.kore_prove.specs.Files.{HoldsProgram, HoldsStart}
-use Rattle.kore_prove.specs.Lines.{run_of, lines_of}
+use Rattle.kore_prove.specs.Lines.{run_of, last_of, lines_of}
 use Rattle.kore_prove.specs.PrintedRun.{HasLines, IsCodeOfRun, code_of}
-
--- the last configuration of a run
-abbrev pub last_of : Run → Tree
-last_of (stuck n t) = t
-last_of (limited n t) = t
 
 -- the desk tells a file of that name, with this content
 abbrev pub Tells : Option Told → List ℕ → List ℕ → Type 0

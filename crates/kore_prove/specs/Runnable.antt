@@ -14,12 +14,12 @@ use Rattle.rule_core.specs.declared.rules.Rule.{Rule}
 use Rattle.rule_core.specs.declared.rules.Program.{Program}
 use Rattle.rule_core.specs.declared.signature.SymInfo.{SymInfo}
 use Rattle.kore_prove.specs.Acceptance.{IsAccepted, IsAcceptedTerm, sort_number}
-use Rattle.kore_prove.specs.Lines.{text_of}
+use Rattle.kore_prove.specs.Lines.{kore_pattern}
 
--- the term is no higher than 500, and has a text
+-- the term is no higher than 500, and has a Kore pattern
 pub record IsShown (symbols : List (List ℕ × SymInfo)) (t : Tree) : Type 0 where
   pub low : height t ≤ 500
-  pub text : IsSome (text_of symbols t)
+  pub pattern : IsSome (kore_pattern symbols t)
 
 -- the pattern is a term by itself, which can be shown
 pub record IsShowable (symbols : List (List ℕ × SymInfo)) (p : Pattern) : Type 0 where

@@ -12,7 +12,7 @@ ghost use Rattle.term_core.specs.Patterns.{Pattern};
 ghost use Rattle.kore_prove.specs.Refusals.{OnRefused, OnNumber, refused_by};
 ghost use Rattle.kore_prove.specs.Causes.{IsRefusedDefinition, IsRefusedTerm};
 ghost use Rattle.kore_prove.specs.Acceptance.{IsAccepted, IsAcceptedTerm, HasDeclarations, IsOnlyModule, IsStartSort, IsBuilt, sort_number};
-ghost use Rattle.kore_prove.specs.Names.{HasPlainNames};
+ghost use Rattle.kore_prove.specs.Names.{HasIdentifierNames};
 ghost use Rattle.kore_prove.specs.Nesting.{nesting, IsWithinLimits, HasFewNames};
 ghost use Rattle.kore_prove.specs.Runnable.{AcceptsTree, AcceptsPattern, IsProgramOf, IsStartOf, HasUsualPriority};
 
@@ -56,13 +56,15 @@ impl<T: Drop> From<AllocFailed<T>> for Refusal {
 /// The program of a definition. A text with a fault is refused by the number of the first, 1 for one
 /// of its tokens, 2 for one of its grammar, 3 for too many open brackets, and its byte. `Refused(90, 0)`
 /// comes where the text has no fault and is no definition that is accepted, which `ReadsDefinition` and
-/// `IsAccepted` state; `Memory` where memory was wanting. The names of sorts and symbols have only
-/// printable bytes, and no `$` (clause `names`).
+/// `IsAccepted` state; `Memory` where memory was wanting. The names of sorts and symbols are
+/// identifiers (clause `names`), and 32 bits are enough to number sorts, symbols and rules (clauses `few`
+/// and `few_rules`).
 pub fn accept(alloc: Global, bytes: &[u8]) -> Result<Program, Refusal>
     requires { length bytes.now < 2 ^ 32 }
     ensures program { IfOk result (IsProgramOf bytes.now) }
     ensures few { IfOk result (λ program. HasFewNames program.sig) }
-    ensures names { IfOk result (λ program. HasPlainNames program.sig) }
+    ensures few_rules { IfOk result (λ program. length program.rules.items < 2 ^ 32) }
+    ensures names { IfOk result (λ program. HasIdentifierNames program.sig) }
     ensures refused { OnNumber result (IsRefusedDefinition bytes.now) }
 {
     text_laws();
@@ -129,6 +131,7 @@ fn accept_definition(alloc: Global, definition: &Definition) -> Result<Program, 
     requires { All IsWithinLimits (plain_definition definition.now).modules }
     ensures accepted { IfOk result (AcceptsTree (plain_definition definition.now)) }
     ensures few { IfOk result (λ program. HasFewNames program.sig) }
+    ensures few_rules { IfOk result (λ program. length program.rules.items < 2 ^ 32) }
     ensures refused { OnRefused result ((sig : Signature) (top : Option ℕ) (rules : List RewriteRule) → IsAccepted (plain_definition definition.now) sig top rules → ⊥) }
 {
     let Some(decls) = main_declarations(definition) else {

@@ -26,6 +26,7 @@ use crate::report::{End, send_report};
 use crate::verification::verify_command;
 use crate::words::{Command, RunWords, read_words};
 use desk_io::{Desk, DeskFault, ReadEnd, Sink, send_whole};
+use kore_print::print_laws;
 use rule_core::Outcome;
 use std::alloc::Global;
 
@@ -160,6 +161,7 @@ fn run_command<'a, D: Desk, O: Sink>(
         KeepsFilesAt (plain_end end) (D.told desk.old) (D.told desk.new)) }
     ensures created { D.created desk.new ≡ D.created desk.old }
 {
+    print_laws();
     let program = match read_program(alloc, desk, command.definition) {
         Ok(program) => program,
         Err(end) => return Err(definition_end(end, command.definition)),

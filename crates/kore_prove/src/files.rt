@@ -1,10 +1,10 @@
 // The files of a run: the definition and the term.
-ghost use Rattle.std.specs.Prelude.{◌≡◌, ◌≤◌, IfOk, IfErr};
+ghost use Rattle.std.specs.Prelude.{◌≡◌, ◌<◌, ◌≤◌, ◌^◌, length, IfOk, IfErr};
 ghost use Rattle.desk_io.specs.Told.{KeepsFiles};
 ghost use Rattle.term_core.specs.RulePatterns.{plain_pattern};
 ghost use Rattle.kore_prove.specs.Causes.{FileCause, IsRefusedDefinition, IsRefusedTerm};
 ghost use Rattle.kore_prove.specs.Files.{HoldsProgram, HoldsStart};
-ghost use Rattle.kore_prove.specs.Names.{HasPlainNames};
+ghost use Rattle.kore_prove.specs.Names.{HasIdentifierNames};
 
 use crate::accept::{Refusal, accept, accept_term};
 use desk_io::{Desk, ReadEnd, read_file};
@@ -27,11 +27,11 @@ pub enum FileEnd {
     Refused(Refusal),
 }
 
-/// The program that the file of that name holds. Its names of sorts and symbols have only printable bytes, and no `$`
-/// (clause `names`).
+/// The program that the file of that name holds. Its names of sorts and symbols are identifiers (clause `names`).
 pub fn read_program<D: Desk>(alloc: Global, desk: &mut D, name: &str) -> Result<Program, FileEnd>
     ensures found { IfOk result (HoldsProgram (D.told desk.old) name.now) }
-    ensures names { IfOk result (λ program. HasPlainNames program.sig) }
+    ensures names { IfOk result (λ program. HasIdentifierNames program.sig) }
+    ensures few_rules { IfOk result (λ program. length program.rules.items < 2 ^ 32) }
     ensures cause { IfErr result (FileCause IsRefusedDefinition
         (D.told desk.old) name.now DEFINITION_LIMIT (D.read_faults desk.old) (D.read_faults desk.new)) }
     ensures counts { D.read_faults desk.old ≤ D.read_faults desk.new }

@@ -53,15 +53,11 @@ pub fn proved_run(
 }
 
 /// Proves one step more, by the rule at a place, whose left side is the present configuration. Its
-/// right side is the present configuration then. The error is want of memory, which a place beyond
-/// 32 bits is too.
+/// right side is the present configuration then. The error is want of memory.
 fn prove_step(alloc: Global, proof: &mut Proof<'_>, rule: usize) -> Result<(), AllocError>
     requires provable { IsProvable proof.old.script.program.now }
     requires applies { IsAtRule proof.old rule }
     ensures { OnOk result (StepsBy proof.old proof.new rule) }
 {
-    let Ok(place) = u32::try_from(rule) else {
-        return Err(AllocError);
-    };
-    proof.step(alloc, place)
+    proof.step(alloc, rule as u32)
 }

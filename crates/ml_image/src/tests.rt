@@ -1,9 +1,10 @@
 // Worked examples: the images of a term and of a rule.
-ghost use Rattle.std.specs.Prelude.{◌≡◌, ◌≤◌, [], ◌∷◌, length, IfOk, IfSome, IsSome, IsTrue};
+ghost use Rattle.std.specs.Prelude.{◌≡◌, ◌≤◌, ◌&&◌, [], ◌∷◌, length, IfOk, IfSome, IsSome, IsTrue};
+ghost use Rattle.std.specs.List.{list_all};
 ghost use Rattle.term_core.specs.Terms.{DomainValue};
 ghost use Rattle.term_core.specs.Patterns.{application, call, domain_value, no_pattern, more_patterns};
 ghost use Rattle.term_core.specs.RulePatterns.{plain_pattern};
-ghost use Rattle.ml_image.specs.Tokens.{is_value_of};
+ghost use Rattle.ml_image.specs.Tokens.{is_value_of, is_byte, value_text};
 ghost use Rattle.ml_image.specs.Images.{HasImage, HasImageAt, injection_symbol};
 
 use crate::images::{injection_symbol, rule_image, term_image};
@@ -106,7 +107,7 @@ pub(crate) fn small(alloc: Global) -> Result<Option<Program>, AllocError>
 
 // A program with one sort, of this kind.
 pub(crate) fn of_kind(alloc: Global, kind: SortKind) -> Result<Program, AllocError>
-    ensures { IfOk result (λ program. (v : DomainValue) → IsTrue (is_value_of kind v) → HasImage program.sig (domain_value 0 v)) }
+    ensures { IfOk result (λ program. (v : DomainValue) → IsTrue (is_value_of kind v && list_all is_byte (value_text v)) → HasImage program.sig (domain_value 0 v)) }
 {
     let mut sorts = Table::new(alloc);
     sorts.insert(String::from_str(alloc, "S")?, SortInfo { kind })?;

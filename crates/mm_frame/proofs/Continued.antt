@@ -1,9 +1,10 @@
 -- A text that is written statement by statement.
 use Rattle.std.proofs.Common.{◌≡◌, ℕ, Bool, true, false, List, [], ◌∷◌, ◌++◌, length, refl, ap, ◌∙◌, sym, subst}
-use Rattle.std.specs.Prelude.{◌&&◌, ◌||◌, Option, Some, None, IfSome, is_some, option_map}
+use Rattle.std.specs.Prelude.{◌&&◌, ◌||◌, if◌then◌else◌, Option, Some, None, IfSome, is_some, option_map}
 use Rattle.std.specs.List.{list_all}
-use Rattle.mm_text.specs.Bytes.{Token}
-use Rattle.mm_text.specs.TextLaws.{ends_white, written}
+use Rattle.mm_text.specs.Bytes.{Token, is_white}
+use Rattle.mm_text.specs.Statements.{is_whole}
+use Rattle.mm_text.specs.TextLaws.{ends_white, white_behind, written}
 use Rattle.mm_frame.specs.Forms.{Form, asserts, proves, plain, form_of}
 use Rattle.mm_frame.specs.Frames.{Frame, frame_of}
 use Rattle.mm_frame.specs.Database.{Context}
@@ -23,14 +24,21 @@ ends_white-append (b ∷ []) [] h k = h
 ends_white-append (b ∷ []) (c ∷ ys) h k = k
 ends_white-append (b ∷ (c ∷ xs)) ys h k = ends_white-append (c ∷ xs) ys h k
 
-ends_white-space : (xs : List ℕ) → ends_white (xs ++ 32 ∷ []) ≡ true
-ends_white-space [] = refl
-ends_white-space (b ∷ []) = refl
-ends_white-space (b ∷ (c ∷ xs)) = ends_white-space (c ∷ xs)
+ends_white-last : (xs : List ℕ) (w : ℕ) → is_white w ≡ true → ends_white (xs ++ w ∷ []) ≡ true
+ends_white-last [] w h = h
+ends_white-last (b ∷ []) w h = h
+ends_white-last (b ∷ (c ∷ xs)) w h = ends_white-last (c ∷ xs) w h
+
+behind_is_white : (token : Token) → is_white (white_behind token) ≡ true
+behind_is_white token = go (is_whole token)
+  where
+    go : (b : Bool) → is_white (if b then 10 else 32) ≡ true
+    go true = refl
+    go false = refl
 
 ends_white-written : (tokens : List Token) → ends_white (written tokens) ≡ true
 ends_white-written [] = refl
-ends_white-written (t ∷ tokens) = ends_white-append (t ++ 32 ∷ []) (written tokens) (ends_white-space t) (ends_white-written tokens)
+ends_white-written (t ∷ tokens) = ends_white-append (t ++ white_behind t ∷ []) (written tokens) (ends_white-last t (white_behind t) (behind_is_white t)) (ends_white-written tokens)
 
 ends_white-statements : (statements : List (List Token)) → ends_white (written_statements statements) ≡ true
 ends_white-statements [] = refl

@@ -35,7 +35,7 @@ short-group [] a b short = nothing (not (nat_eq a b))
 short-group (n ∷ []) a b short = one-number n a b (nat_eq n a) (nat_eq n b) refl refl
 short-group (n ∷ (m ∷ ns)) a b short = absurd (omega arith)
 
-has_number-filter : (p : ℕ → Bool) (group : List ℕ) (a : ℕ) → has_number (filter p group) a ≡ (has_number group a && p a)
+pub has_number-filter : (p : ℕ → Bool) (group : List ℕ) (a : ℕ) → has_number (filter p group) a ≡ (has_number group a && p a)
 has_number-filter p [] a = refl
 has_number-filter p (n ∷ group) a = step (p n) (nat_eq n a) refl refl (has_number-filter p group a)
   where
@@ -44,34 +44,3 @@ has_number-filter p (n ∷ group) a = step (p n) (nat_eq n a) refl refl (has_num
     step true false is same h = rw same h
     step false true is same h = h ∙ (let no : p a ≡ false = ap p (sym (eqb-true n a same)) ∙ is in rw no (nothing (has_number group a)))
     step false false is same h = h
-
-in_group-filter : (p : ℕ → Bool) (group : List ℕ) (a b : ℕ) → in_group a b (filter p group) ≡ (in_group a b group && (p a && p b))
-in_group-filter p group a b =
-    ap (λ x. not (nat_eq a b) && (x && has_number (filter p group) b)) (has_number-filter p group a)
-    ∙ ap (λ x. not (nat_eq a b) && ((has_number group a && p a) && x)) (has_number-filter p group b)
-    ∙ spread (not (nat_eq a b)) (has_number group a) (has_number group b) (p a) (p b)
-  where
-    spread : (d x y u v : Bool) → (d && ((x && u) && (y && v))) ≡ ((d && (x && y)) && (u && v))
-    spread false x y u v = refl
-    spread true false y u v = refl
-    spread true true false true v = refl
-    spread true true false false v = refl
-    spread true true true u v = refl
-
--- one more group, restricted: what was found before, in it, and in the rest
-pub groups-step : (p : ℕ → Bool) (before : Bool) (groups : List (List ℕ)) (group kept : List ℕ) (a b : ℕ) → kept ≡ filter p group → ((before || in_group a b kept) || (in_groups groups a b && (p a && p b))) ≡ (before || (in_groups (group ∷ groups) a b && (p a && p b)))
-groups-step p before groups group kept a b is =
-    ap (λ (k : List ℕ). (before || in_group a b k) || (in_groups groups a b && (p a && p b))) is
-    ∙ ap (λ x. (before || x) || (in_groups groups a b && (p a && p b))) (in_group-filter p group a b)
-    ∙ mix before (in_group a b group) (in_groups groups a b) (p a && p b)
-  where
-    mix : (b x y w : Bool) → ((b || (x && w)) || (y && w)) ≡ (b || ((x || y) && w))
-    mix true x y w = refl
-    mix false true y true = refl
-    mix false true y false = nothing y
-    mix false false y w = refl
-
--- one more number in a set
-pub one-more : (old new first rest : Bool) → new ≡ (old || first) → (new || rest) ≡ (old || (first || rest))
-one-more true new first rest is = rw is refl
-one-more false new first rest is = rw is refl

@@ -1,21 +1,17 @@
 -- What adding a symbol and closing a block do, step by step.
 use Rattle.std.proofs.Common.{◌≡◌, ℕ, Bool, List, length, take, sym, ap, ◌∙◌, subst}
-use Rattle.std.specs.Global.{Vec}
-use Rattle.std.proofs.lemmas.List.{take-map}
 use Rattle.mm_text.specs.Bytes.{Token}
 use Rattle.mm_frame.specs.Numbered.{NumberedHypothesis}
-use Rattle.mm_frame.specs.FramesHeld.{hypothesis_held, hypotheses_held, items_of, groups_of}
 use Rattle.mm_frame.specs.Held.{Held}
 use Rattle.mm_frame.specs.HeldSteps.{symbol_name, AppendsSymbol, Names, AddsSymbol}
 use Rattle.mm_frame.specs.declared.scopes.OpenBlock.{OpenBlock}
-use Rattle.mm_frame.specs.declared.frames.Hyp.{Hyp}
 
 pub adds-symbol : (old mid new : Held) (token : Token) (b : Bool) (n : ℕ) → n ≡ length old.symbols → AppendsSymbol old token b mid → Names mid token (symbol_name b n) new → AddsSymbol old token b n new
 adds-symbol old mid new token b n size grown = subst (λ (m : Held). Names m token (symbol_name b n) new → AddsSymbol old token b n new) (sym grown) (λ (named : Names _ token (symbol_name b n) new). record { number = size; names = named.names; rest = named.rest })
 
 -- the lists of what is active, cut
-pub cut : (old : Held) (vs vs' : List ℕ) (hs hs' : List Hyp) (ds ds' : List (Vec ℕ)) (outer : List OpenBlock) (a b d : ℕ) → vs' ≡ take a vs → hs' ≡ take b hs → ds' ≡ take d ds → record old { variables = vs'; hypotheses = hypotheses_held hs'; disjoint = groups_of ds'; blocks = outer } ≡ record old { variables = take a vs; hypotheses = take b (hypotheses_held hs); disjoint = take d (groups_of ds); blocks = outer }
+pub cut : (old : Held) (vs vs' : List ℕ) (hs hs' : List NumberedHypothesis) (ds ds' : List (List ℕ)) (outer : List OpenBlock) (a b d : ℕ) → vs' ≡ take a vs → hs' ≡ take b hs → ds' ≡ take d ds → record old { variables = vs'; hypotheses = hs'; disjoint = ds'; blocks = outer } ≡ record old { variables = take a vs; hypotheses = take b hs; disjoint = take d ds; blocks = outer }
 cut old vs vs' hs hs' ds ds' outer a b d e f g =
-    ap (λ (xs : List ℕ). record old { variables = xs; hypotheses = hypotheses_held hs'; disjoint = groups_of ds'; blocks = outer }) e
-    ∙ ap (λ (xs : List NumberedHypothesis). record old { variables = take a vs; hypotheses = xs; disjoint = groups_of ds'; blocks = outer }) (ap hypotheses_held f ∙ sym (take-map hypothesis_held b hs))
-    ∙ ap (λ (xs : List (List ℕ)). record old { variables = take a vs; hypotheses = take b (hypotheses_held hs); disjoint = xs; blocks = outer }) (ap groups_of g ∙ sym (take-map items_of d ds))
+    ap (λ (xs : List ℕ). record old { variables = xs; hypotheses = hs'; disjoint = ds'; blocks = outer }) e
+    ∙ ap (λ (xs : List NumberedHypothesis). record old { variables = take a vs; hypotheses = xs; disjoint = ds'; blocks = outer }) f
+    ∙ ap (λ (xs : List (List ℕ)). record old { variables = take a vs; hypotheses = take b hs; disjoint = xs; blocks = outer }) g

@@ -16,6 +16,11 @@ pub mod ClosedFrames
 pub mod Repeats
 pub mod HeldAdds
 pub mod Groups
+pub mod Placing
+pub mod FramePlaces
+pub mod HypothesesKept
+pub mod Listing
+pub mod Apartness
 pub mod Namings
 pub mod StandTests
 pub mod StandFaults

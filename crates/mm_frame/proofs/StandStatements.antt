@@ -19,7 +19,7 @@ use Rattle.mm_frame.specs.Validity.{has_two, is_open}
 use Rattle.mm_frame.specs.FramesHeld.{has_number}
 use Rattle.mm_frame.specs.Held.{Held}
 use Rattle.mm_frame.specs.HeldFaults.{Statement, statement_under, floating_under, floating_of_numbers, floating_of_symbols, floating_in, begins_constant, stated_numbers, stated_in, unlabelled, separated_numbers, disjoint_in, is_open_in}
-use Rattle.mm_frame.specs.HeldFrames.{IsHeldFrame}
+use Rattle.mm_frame.specs.HeldFrames.{ArePlaced, IsHeldFrame}
 use Rattle.mm_frame.specs.HeldSteps.{symbol, AddsSymbol, AddsConstants, VariableStep, AddsVariables, AddsHypothesis, AddsAssertion, ClosesBlock}
 use Rattle.mm_frame.specs.HeldTests.{is_held_typed, number_in, is_active_in, numbers_in, constant_in, label_in, redeclares_constant, redeclares_variable}
 use Rattle.mm_frame.specs.Judging.{Saying, opens, closes, names_constants, names_variables, supposes, parts, states, or_saying, saying_floating, saying_essential, saying_disjoint, saying_states, judged_plain, judged_end, judged_form, Follows}
@@ -293,10 +293,10 @@ essential-added old c ls ws s new w r adds =
     (λ name names. ap (essential s.label) (sym (numbers-named old c w name names need.Typed ws s.symbols r.numbers))) adds in
     subst (λ (l : Token). Stands new (with_hypothesis c l (essential l ws))) (sym label.0) stands
 
-states-added : (old : Held) (c : Context) (ls ws : List Token) (s : Statement) (f : NumberedFrame) (new : Held) → Stands old c → StatedRead old ls ws s → IsHeldFrame old s f → AddsAssertion old f new → Stands new (with_assertion c (first_label ls) ws)
+states-added : (old : Held) (c : Context) (ls ws : List Token) (s : Statement) (f : NumberedFrame) (new : Held) → Stands old c → StatedRead old ls ws s → (ArePlaced old → IsHeldFrame old s f) → AddsAssertion old f new → Stands new (with_assertion c (first_label ls) ws)
 states-added old c ls ws s f new w r is adds =
     let label : (first_label ls ≡ s.label) × (old.names s.label ≡ None) = label-is old ls s.label r.labelled in
-    let stands : Stands new (with_assertion c s.label ws) = assertion-added old c s f ws new w label.1 is (λ name names. numbers-named old c w name names need.Typed ws s.symbols r.numbers) adds in
+    let stands : Stands new (with_assertion c s.label ws) = assertion-added old c s f ws new w label.1 (is w.typed) (λ name names. numbers-named old c w name names need.Typed ws s.symbols r.numbers) adds in
     subst (λ (l : Token). Stands new (with_assertion c l ws)) (sym label.0) stands
 
 tested-numbers : Bool → Bool → List ℕ → Result (List ℕ) ℕ

@@ -1,6 +1,6 @@
 -- Hypotheses and frames as they are held: symbols by their numbers, and the pairs that have to stay
 -- apart as one list of variables for each `$d`.
-use Rattle.std.specs.Prelude.{ℕ, Bool, false, not, ◌&&◌, nat_eq, List, map}
+use Rattle.std.specs.Prelude.{ℕ, Bool, true, false, not, ◌&&◌, nat_eq, List, map}
 use Rattle.std.specs.Global.{Vec}
 use Rattle.std.specs.List.{list_any}
 use Rattle.mm_text.specs.Bytes.{Token}
@@ -46,6 +46,10 @@ frames_held frames = map frame_held frames
 abbrev pub number_label : NumberedHypothesis → Token
 number_label (numbered_floating label typecode variable) = label
 number_label (numbered_essential label statement) = label
+
+abbrev pub is_essential : NumberedHypothesis → Bool
+is_essential (numbered_floating label typecode variable) = false
+is_essential (numbered_essential label statement) = true
 
 -- it is a `$f` of the variable
 abbrev pub types_number : ℕ → NumberedHypothesis → Bool

@@ -2,7 +2,9 @@
 use Rattle.std.specs.Prelude.{ℕ, Bool, List, map, Option}
 use Rattle.mm_text.specs.Bytes.{Token}
 use Rattle.mm_frame.specs.Numbered.{NumberedHypothesis, NumberedFrame}
-use Rattle.mm_frame.specs.FramesHeld.{hypotheses_held, groups_of, frame_held}
+use Rattle.mm_frame.specs.FramesHeld.{frame_held}
+use Rattle.mm_frame.specs.DisjointView.{groups_in}
+use Rattle.mm_frame.specs.HypothesesView.{hypotheses_in}
 use Rattle.mm_frame.specs.KnownNames.{name_in}
 use Rattle.mm_frame.specs.declared.scopes.Name.{Name}
 use Rattle.mm_frame.specs.declared.scopes.Symbol.{Symbol}
@@ -37,8 +39,8 @@ held s = record {
   places = s.places.items;
   types = s.types.items;
   variables = s.variables.items;
-  hypotheses = hypotheses_held s.hyps.items;
-  disjoint = groups_of s.disjoint.items;
+  hypotheses = hypotheses_in s.hyps;
+  disjoint = groups_in s.disjoint;
   blocks = s.blocks.items;
   frames = map frame_held s.frames.items;
 }

@@ -8,7 +8,7 @@ use Rattle.mm_frame.specs.Numbered.{NumberedHypothesis, numbered_essential, Numb
 use Rattle.mm_frame.specs.FramesHeld.{hypothesis_held}
 use Rattle.mm_frame.specs.Held.{Held}
 use Rattle.mm_frame.specs.HeldFaults.{Statement, stated_held, floating_in, stated_in, disjoint_in, constants_fault, variables_fault}
-use Rattle.mm_frame.specs.HeldFrames.{IsHeldFrame}
+use Rattle.mm_frame.specs.HeldFrames.{ArePlaced, IsHeldFrame}
 use Rattle.mm_frame.specs.HeldSteps.{AddsConstants, AddsVariables, AddsHypothesis, AddsDisjoint, AddsAssertion, OpensBlock, ClosesBlock}
 use Rattle.mm_frame.specs.declared.forms.Keyword.{Keyword}
 use Rattle.mm_frame.specs.declared.forms.Keyword.TheVariants.{Constants, Variables, Floating, Essential, Disjoint, Axiom, Theorem}
@@ -93,4 +93,4 @@ Follows old at (names_constants tokens) new = AddsConstants old tokens new
 Follows old at (names_variables tokens) new = AddsVariables old tokens new
 Follows old at (supposes h) new = AddsHypothesis old h new
 Follows old at (parts variables) new = AddsDisjoint old variables new
-Follows old at (states s) new = (f : NumberedFrame) × IsHeldFrame old s f × AddsAssertion old f new
+Follows old at (states s) new = (f : NumberedFrame) × (ArePlaced old → IsHeldFrame old s f) × AddsAssertion old f new

@@ -15,9 +15,11 @@ pub mod NumberedSteps
 pub mod Sharing
 pub mod FormsRead
 pub mod FramesHeld
+pub mod Places
+pub mod HypothesesView
+pub mod Listed
+pub mod DisjointView
 pub mod KnownNames
-pub mod NumberSets
-pub mod NumberSetView
 pub mod Held
 pub mod HeldTests
 pub mod HeldFaults

@@ -79,12 +79,14 @@ impl<'a> Scopes<'a> {
     }
 
     /// Keeps variables apart from each other.
-    pub(crate) fn add_disjoint(&mut self, variables: Vec<u32>) -> Result<(), AllocError>
+    pub(crate) fn add_disjoint(
+        &mut self,
+        alloc: Global,
+        variables: Vec<u32>,
+    ) -> Result<(), AllocError>
         ensures { IfOk result (λ _. AddsDisjoint (held self.old) variables.items (held self.new)) }
     {
-        if self.disjoint.push(variables).is_err() {
-            return Err(AllocError);
-        }
+        self.disjoint.push(alloc, variables)?;
         Ok(())
     }
 

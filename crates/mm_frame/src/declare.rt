@@ -62,8 +62,9 @@ impl<'a> Scopes<'a> {
     /// answers the first of these, with the byte of its first token, and changes nothing. Of a proof it
     /// looks at the tokens that have a `$`, and at nothing else.
     ///
-    /// The time is that of the tokens, each looked up once or twice among the names, but for the frame
-    /// of an assertion, which takes that of what is active.
+    /// The time is that of the tokens, each looked up once or twice among the names, and for
+    /// the frame of an assertion that of sorting what the frame has and of looking through the active
+    /// `$d` that one of its variables is in.
     pub fn statement(
         &mut self,
         alloc: Global,
@@ -168,7 +169,7 @@ impl<'a> Scopes<'a> {
             Said::Constants(tokens) => self.add_constants(bytes, tokens),
             Said::Variables(tokens) => self.add_variables(bytes, tokens),
             Said::Hypothesis(hyp) => self.add_hypothesis(hyp),
-            Said::Disjoint(variables) => self.add_disjoint(variables),
+            Said::Disjoint(variables) => self.add_disjoint(alloc, variables),
             Said::Assertion(stated) => {
                 let frame = self.frame(alloc, stated)?;
                 self.add_assertion(frame)

@@ -166,3 +166,74 @@ fn a_block_takes_back_what_was_active_and_keeps_its_assertions(
     }
     Ok(())
 }
+
+/// A text, the label of one of its assertions, the labels of that frame's hypotheses, and the numbers
+/// of its pairs, each once.
+type FrameExample = (
+    &'static str,
+    &'static str,
+    &'static [&'static str],
+    &'static [(u32, u32)],
+);
+
+const FRAMES: [FrameExample; 6] = [
+    (
+        "$c t $. $v x y z $. fz $f t z $. fx $f t x $. fy $f t y $. a $a t x z $.",
+        "a",
+        &["fz", "fx"],
+        &[],
+    ),
+    (
+        "$c t $. $v x y z $. fz $f t z $. h $e t z $. fx $f t x $. fy $f t y $. $d x y z $. a $a t x $.",
+        "a",
+        &["fz", "h", "fx"],
+        &[(1, 3)],
+    ),
+    (
+        "$c t $. $v x y z $. fx $f t x $. fy $f t y $. fz $f t z $. $d x y $. $d y z $. $d z x $. a $a t z y $.",
+        "a",
+        &["fy", "fz"],
+        &[(2, 3)],
+    ),
+    (
+        "$c t $. $v x y $. fx $f t x $. fy $f t y $. ${ $d x y $. $} a $a t x y $.",
+        "a",
+        &["fx", "fy"],
+        &[],
+    ),
+    (
+        "$c t $. $v x y $. fx $f t x $. fy $f t y $. $d y x $. ${ h $e t x $. $} ${ a $a t y x x $. $}",
+        "a",
+        &["fx", "fy"],
+        &[(1, 2)],
+    ),
+    (
+        "$c t $. ${ $v x $. fx $f t x $. h $e t x $. $} $v x y $. gy $f t y $. gx $f t x $. $d x y $. a $a t y x $.",
+        "a",
+        &["gy", "gx"],
+        &[(1, 2)],
+    ),
+];
+
+#[test]
+fn frames_have_their_own_hypotheses_in_order_and_their_own_pairs(
+    rt: HostRuntime,
+) -> Result<(), Fail> {
+    for (text, label, hyps, pairs) in FRAMES {
+        let scopes = scopes_of(rt.alloc(), text.as_bytes())?;
+        let Some(frame) = scopes.assertion(label.as_bytes()) else {
+            panic!(rt; "no frame: {text}");
+        };
+        assert_eq!(rt; frame.hyps.len(), hyps.len(), "{text}");
+        for (hyp, expected) in frame.hyps.iter().zip(hyps.iter()) {
+            assert!(rt; hyp.label() == expected.as_bytes(), "{text}");
+        }
+        assert_eq!(rt; frame.apart.len(), pairs.len(), "{text}");
+        for (group, (a, b)) in frame.apart.iter().zip(pairs.iter()) {
+            assert_eq!(rt; group.len(), 2, "{text}");
+            assert!(rt; group.contains(a) && group.contains(b), "{text}");
+            assert!(rt; scopes.apart(*a, *b) && scopes.apart(*b, *a), "{text}");
+        }
+    }
+    Ok(())
+}

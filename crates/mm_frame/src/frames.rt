@@ -1,7 +1,7 @@
 // Hypotheses and frames.
 
 ghost use Rattle.std.specs.Prelude.{◌≡◌};
-ghost use Rattle.mm_frame.specs.FramesHeld.{types_number, number_label, hypothesis_held};
+ghost use Rattle.mm_frame.specs.FramesHeld.{is_essential, types_number, number_label, hypothesis_held};
 
 /// A hypothesis, whose symbols are numbers.
 #[derive(Drop)]
@@ -39,6 +39,16 @@ impl<'a> Hyp<'a> {
         match self {
             Hyp::Floating(label, _, _) => label,
             Hyp::Essential(label, _) => label,
+        }
+    }
+
+    /// Whether it is an `$e`.
+    pub(crate) fn is_essential(&self) -> bool
+        ensures { result ≡ is_essential (hypothesis_held self.now) }
+    {
+        match self {
+            Hyp::Floating(_, _, _) => false,
+            Hyp::Essential(_, _) => true,
         }
     }
 

@@ -11,13 +11,14 @@
 
 mod add;
 mod declare;
+mod disjoint;
 mod forms;
 mod frames;
+mod hypotheses;
 mod judge;
 mod laws;
 mod mandatory;
 mod names;
-mod number_set;
 mod scopes;
 mod theorem;
 

@@ -1,9 +1,9 @@
 // What a database has declared so far, and what of it is active.
 
-ghost use Rattle.std.specs.Prelude.{◌≡◌, ℕ, option_map, slice_get, option_and_then, map, []};
+ghost use Rattle.std.specs.Prelude.{◌≡◌, ℕ, option_map, slice_get, slice_index, option_and_then, map, []};
 ghost use Rattle.mm_frame.specs.Held.{held, named};
 ghost use Rattle.mm_frame.specs.CitedView.{cited_hypothesis, cited_assertion};
-ghost use Rattle.mm_frame.specs.FramesHeld.{frames_held, in_group, in_groups, hypothesis_held, frame_held};
+ghost use Rattle.mm_frame.specs.FramesHeld.{frames_held, in_groups, hypothesis_held, frame_held};
 ghost use Rattle.mm_frame.specs.Database.{Context, empty_context};
 ghost use Rattle.mm_frame.specs.Standing.{Stands, Tells, FrameFound};
 ghost use Rattle.mm_frame.specs.Validity.{first_open};
@@ -12,7 +12,9 @@ ghost use Rattle.mm_frame.specs.Numbered.{named_hypothesis};
 ghost use Rattle.mm_frame.specs.HeldReads.{frame_named, symbol_is_variable, first_block, hypothesis_at, hypothesis_named};
 ghost use Rattle.mm_frame.specs.HeldTests.{is_held_active, is_held_typed, number_in};
 
+use crate::disjoint::Disjoint;
 use crate::frames::{Cited, Frame, Hyp};
+use crate::hypotheses::Hypotheses;
 use crate::names::Names;
 use std::alloc::{AllocError, Global};
 
@@ -55,8 +57,8 @@ pub struct Scopes<'a> {
     pub(crate) places: Vec<usize>,
     pub(crate) types: Vec<usize>,
     pub(crate) variables: Vec<u32>,
-    pub(crate) hyps: Vec<Hyp<'a>>,
-    pub(crate) disjoint: Vec<Vec<u32>>,
+    pub(crate) hyps: Hypotheses<'a>,
+    pub(crate) disjoint: Disjoint,
     pub(crate) blocks: Vec<OpenBlock>,
     pub(crate) frames: Vec<Frame<'a>>,
 }
@@ -84,8 +86,8 @@ impl<'a> Scopes<'a> {
             places: Vec::new(alloc),
             types: Vec::new(alloc),
             variables: Vec::new(alloc),
-            hyps: Vec::new(alloc),
-            disjoint: Vec::new(alloc),
+            hyps: Hypotheses::new(alloc),
+            disjoint: Disjoint::new(alloc),
             blocks: Vec::new(alloc),
             frames: Vec::new(alloc),
         }
@@ -113,11 +115,17 @@ impl<'a> Scopes<'a> {
     pub(crate) fn has_type(&self, n: u32) -> bool
         ensures { result ≡ is_held_typed (held self.now) n }
     {
-        let place = self.types.get(n as usize).copied().unwrap_or(0);
-        match self.hyps.get(place) {
+        match self.hyps.get(self.type_place(n)) {
             None => false,
             Some(hyp) => hyp.types(n),
         }
+    }
+
+    /// The place that is kept for the `$f` of the variable with this number.
+    pub(crate) fn type_place(&self, n: u32) -> usize
+        ensures { result ≡ slice_index (held self.now).types n }
+    {
+        self.types.get(n as usize).copied().unwrap_or(0)
     }
 
     /// The number of a symbol that is what it has to be.
@@ -245,7 +253,8 @@ impl<'a> Scopes<'a> {
         }
     }
 
-    /// Whether the two symbols are a pair of an active `$d`. Takes no memory.
+    /// Whether the two symbols are a pair of an active `$d`. Takes no memory, and a search for each
+    /// active `$d` that has the one of them that is in fewer.
     pub fn apart(&self, a: u32, b: u32) -> bool
         ensures held { result ≡ in_groups (held self.now).disjoint a b }
         ensures tells { Tells (held self.now) (λ c name. result ≡ c.scope.apart (name a) (name b)) }
@@ -256,18 +265,6 @@ impl<'a> Scopes<'a> {
     fn are_grouped(&self, a: u32, b: u32) -> bool
         ensures { result ≡ in_groups (held self.now).disjoint a b }
     {
-        for group in &self.disjoint {
-            if in_group(group, a, b) {
-                return true;
-            }
-        }
-        false
+        self.disjoint.are_apart(a, b)
     }
-}
-
-/// Whether the two numbers are different ones of the group.
-fn in_group(group: &[u32], a: u32, b: u32) -> bool
-    ensures { result ≡ in_group a b group.now }
-{
-    a != b && group.contains(&a) && group.contains(&b)
 }

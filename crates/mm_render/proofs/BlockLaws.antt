@@ -1,15 +1,13 @@
 -- A block behind a text that fits, and what holds behind it.
-use Rattle.std.proofs.Common.{◌≡◌, ℕ, ◌+◌, ◌<◌, ◌≤◌, ◌^◌, Bool, true, false, List, [], ◌∷◌, ◌++◌, length, zero, suc, map, refl, ap, ◌∙◌, sym, subst, arith, append_assoc, length-append, ◌⊎◌, inl, inr, Option, Some, None, slice_get}
-use Rattle.std.specs.Prelude.{◌&&◌, ◌||◌, if◌then◌else◌, codes, bytes_eq}
-use Rattle.std.specs.List.{list_any, list_all}
+use Rattle.std.proofs.Common.{◌≡◌, ℕ, ◌+◌, ◌<◌, ◌^◌, Bool, true, false, List, [], ◌∷◌, ◌++◌, length, zero, suc, map, refl, ap, ◌∙◌, sym, subst, arith, append_assoc, length-append, ◌⊎◌, inl, inr, Some, None, slice_get}
+use Rattle.std.specs.Prelude.{◌||◌, if◌then◌else◌, codes, bytes_eq}
 use Rattle.std.proofs.lemmas.Slice.Eq.{bytes_eq-Decides}
 use Rattle.mm_text.specs.Bytes.{Token, has_token}
 use Rattle.mm_text.specs.Labels.{is_label}
-use Rattle.mm_frame.specs.Frames.{Hypothesis, label_of, Scope, Frame, frame_of}
-use Rattle.mm_frame.specs.Database.{Block, Context, with_tokens, with_token, with_frame, with_assertion, with_block_closed}
-use Rattle.mm_frame.specs.Proofs.{active_hypothesis, hypothesis_of}
+use Rattle.mm_frame.specs.Frames.{label_of, Scope, Frame}
+use Rattle.mm_frame.specs.Database.{Context, with_tokens, with_token, with_frame, with_assertion, with_block_closed}
+use Rattle.mm_frame.specs.Proofs.{hypothesis_of}
 use Rattle.mm_frame.specs.FrameLaws.{Adds}
-use Rattle.mm_frame.specs.Validity.{is_typed}
 use Rattle.mm_frame.specs.Writing.{MayBeStated}
 use Rattle.mm_header.specs.HeaderContext.{header_context}
 use Rattle.ml_pat.specs.Patterns.{Pattern}
@@ -19,18 +17,18 @@ use Rattle.mm_render.specs.Leaves.{EachLeaf}
 use Rattle.mm_render.specs.Derivations.{holds_text}
 use Rattle.mm_render.specs.Statements.{NameKind, sort_name, symbol_name, value_name, kind_front, IsName}
 use Rattle.mm_render.specs.Fitting.{AreNames, Holds}
-use Rattle.mm_render.specs.Variables.{Variable, object_variable, pattern_variable, number_of, has_variable, are_once, AreNumbered, variable_token, variable_label, variable_tokens}
-use Rattle.mm_render.specs.Blocks.{Claim, IsClaim, open_over, AreOpenOver, variable_float, premise_hypotheses, separations, head_statements, block, open_frame}
+use Rattle.mm_render.specs.Variables.{Variable, object_variable, pattern_variable, has_variable, are_once, AreNumbered, variable_token, variable_label, variable_tokens}
+use Rattle.mm_render.specs.Blocks.{Claim, IsClaim, open_over, AreOpenOver, premise_hypotheses, separations, head_statements, block, open_frame}
 use Rattle.mm_render.specs.Claiming.{IsFree, AreClaims, HoldsClaims}
-use Rattle.mm_render.proofs.LeafLaws.{EachLeaf-implied, both_true}
+use Rattle.mm_render.proofs.LeafLaws.{EachLeaf-implied}
 use Rattle.mm_render.proofs.SpeltLaws.{statement_label-is_label, statement_label-differs}
 use Rattle.mm_render.proofs.StatedLaws.{both_false, either_true, itself, if_false, if_true, statement_no_active, name_no_statement, row_differs}
 use Rattle.mm_render.proofs.VariableLaws.{label_elsewhere, premise_elsewhere, no_other_among}
-use Rattle.mm_render.proofs.InsideLaws.{inside, Left, AddsAnywhere, asserted, AreSymbols, bytes_eq-turned, list_any-append, map-append, block_opens, block_closes}
+use Rattle.mm_render.proofs.InsideLaws.{inside, Left, AddsAnywhere, asserted, AreSymbols, block_opens}
 use Rattle.mm_render.proofs.Separations.{has_append}
 use Rattle.mm_render.proofs.HeadLaws.{IsGround, IsOwnLabel, statement_label_own, new_inside, own_symbols}
-use Rattle.mm_render.proofs.OpenTexts.{AreReady, own_hypotheses, own_ready, open_typed, open_symbols, turnstile_constant, head_adds}
-use Rattle.mm_render.proofs.OpenFrames.{block_scope, frame_is}
+use Rattle.mm_render.proofs.OpenTexts.{own_hypotheses, own_ready, open_typed, open_symbols, turnstile_constant, head_adds}
+use Rattle.mm_render.proofs.OpenFrames.{frame_is}
 
 -- the context behind the block of a claim, in which these variables were declared
 abbrev pub behind_block : List Token → ℕ → Context → Claim → List Variable → Context

@@ -1,6 +1,6 @@
 -- The variables and hypotheses of a block: each statement is without fault, and what is active behind them.
-use Rattle.std.proofs.Common.{◌≡◌, ℕ, ◌+◌, ◌<◌, ◌≤◌, ◌^◌, Bool, true, false, List, [], ◌∷◌, ◌++◌, length, map, refl, ap, ◌∙◌, sym, subst, arith, append_assoc, append-nil, Some, None}
-use Rattle.std.specs.Prelude.{◌&&◌, ◌||◌, not, codes, bytes_eq}
+use Rattle.std.proofs.Common.{◌≡◌, ℕ, ◌<◌, ◌^◌, Bool, true, false, List, [], ◌∷◌, ◌++◌, map, refl, ap, ◌∙◌, sym, subst, append_assoc, append-nil, Some, None}
+use Rattle.std.specs.Prelude.{◌||◌, not, bytes_eq}
 use Rattle.std.specs.List.{list_any, list_all}
 use Rattle.std.proofs.lemmas.Bool.{false≢true}
 use Rattle.mm_text.specs.Bytes.{Token, has_token}
@@ -8,27 +8,23 @@ use Rattle.mm_text.specs.Labels.{is_label}
 use Rattle.mm_text.specs.TextLaws.{is_plain_token}
 use Rattle.mm_frame.specs.Forms.{declares_variables, types_variable, assumes, separates, plain, has_dollar}
 use Rattle.mm_frame.specs.Frames.{Hypothesis, label_of, types, Scope}
-use Rattle.mm_frame.specs.Database.{Context, with_declared}
+use Rattle.mm_frame.specs.Database.{Context}
 use Rattle.mm_frame.specs.Expansion.{has_repeated}
-use Rattle.mm_frame.specs.FrameLaws.{are_clean, plain_tokens}
+use Rattle.mm_frame.specs.FrameLaws.{plain_tokens}
 use Rattle.mm_frame.specs.Validity.{declaration_fault, has_two, has_type, is_new_label, is_typed}
 use Rattle.mm_header.specs.HeaderContext.{header_context}
-use Rattle.ml_pat.specs.Patterns.{Pattern}
-use Rattle.mm_render.specs.Tokens.{letters_of, text_by, own_naming}
 use Rattle.mm_render.specs.Labels.{statement_label, premise_label}
-use Rattle.mm_render.specs.Derivations.{holds_text}
 use Rattle.mm_render.specs.Statements.{NameKind, sort_name, symbol_name, value_name, kind_front, IsName}
 use Rattle.mm_render.specs.Fitting.{AreNames, Holds}
 use Rattle.mm_render.specs.Variables.{Variable, object_variable, pattern_variable, number_of, same_variable, has_variable, are_once, AreNumbered, variable_token, variable_label, variable_type, variable_tokens, is_variable_token}
-use Rattle.mm_render.specs.Blocks.{variable_statements, variable_float, separation_statements, premise_statements, premise_hypotheses}
+use Rattle.mm_render.specs.Blocks.{variable_statements, variable_float, separation_statements}
 use Rattle.mm_render.specs.Claiming.{IsFree}
 use Rattle.mm_render.proofs.LeafLaws.{both_true, split_true}
-use Rattle.mm_render.proofs.NameLaws.{NameFacts}
 use Rattle.mm_render.proofs.SpeltLaws.{LabelFacts, label_facts, statement_label-is_label}
 use Rattle.mm_render.proofs.StatedLaws.{both_false, either_true, second_true, not_false, itself, name_no_statement}
-use Rattle.mm_render.proofs.VariableLaws.{VariableFacts, variable_facts, label_differs, label_spelt, premise_differs, premise_spelt, no_variable_among, no_other_among}
+use Rattle.mm_render.proofs.VariableLaws.{VariableFacts, variable_facts, label_differs, label_spelt, premise_spelt, no_variable_among, no_other_among}
 use Rattle.mm_render.proofs.InsideLaws.{Left, inside, AddsAnywhere, AreSymbols, list_any-append, map-append, behind_variable, behind_hypothesis, behind_separation, unlabelled_adds, labelled_adds}
-use Rattle.mm_render.proofs.Separations.{split_false, new_variable, numbered_front, numbered_behind, absent_token, present_token, EachSeparated, IsSeparated, separated_once, variables_are_symbols, all_among}
+use Rattle.mm_render.proofs.Separations.{split_false, new_variable, numbered_front, numbered_behind, absent_token, EachSeparated, separated_once, variables_are_symbols, all_among}
 
 -- what stands behind the text before a block
 pub record IsGround (declared : List Token) (k : ℕ) (c : Context) : Type 0 where

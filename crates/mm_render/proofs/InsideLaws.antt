@@ -1,7 +1,7 @@
 -- What is declared and active inside a block, statement by statement.
 use Rattle.std.proofs.Common.{◌≡◌, ℕ, ◌+◌, Bool, true, false, List, [], ◌∷◌, ◌++◌, length, map, refl, ap, ◌∙◌, sym, subst, append_assoc, append-nil, Option, Some, None}
 use Rattle.std.proofs.Math.Path.{fun_ext}
-use Rattle.std.specs.Prelude.{◌&&◌, ◌||◌, not, if◌then◌else◌, codes, bytes_eq, IfSome}
+use Rattle.std.specs.Prelude.{◌||◌, not, codes, bytes_eq, IfSome}
 use Rattle.std.specs.List.{list_any, list_all}
 use Rattle.std.proofs.lemmas.Bool.{false≢true}
 use Rattle.std.proofs.lemmas.Slice.Eq.{bytes_eq-Decides}
@@ -9,9 +9,9 @@ use Rattle.mm_text.specs.Bytes.{Token, has_token}
 use Rattle.mm_text.proofs.Writing.{written_statement}
 use Rattle.mm_text.specs.Statements.{statement, statements_from, ends_statement, is_whole}
 use Rattle.mm_text.specs.TextLaws.{is_plain_token, is_one_statement, ends_once, written}
-use Rattle.mm_frame.specs.Forms.{Form, Keyword, declares_constants, declares_variables, types_variable, assumes, separates, asserts, proves, block_start, block_end, plain, form_of, has_dollar}
-use Rattle.mm_frame.specs.Frames.{Hypothesis, label_of, Scope}
-use Rattle.mm_frame.specs.Database.{Block, Context, context_after, after_form, with_declared, with_block_opened, with_block_closed, with_tokens, with_token, with_hypothesis, with_apart, are_different_tokens}
+use Rattle.mm_frame.specs.Forms.{Form, Keyword, declares_constants, declares_variables, types_variable, assumes, separates, asserts, proves, plain, form_of, has_dollar}
+use Rattle.mm_frame.specs.Frames.{Hypothesis, label_of}
+use Rattle.mm_frame.specs.Database.{Block, Context, context_after, after_form, with_declared, with_block_opened, with_block_closed, with_tokens, with_token, with_hypothesis, are_different_tokens}
 use Rattle.mm_frame.specs.Assertions.{Assertion, assertions_in, form_assertion, with_assertion_first}
 use Rattle.mm_frame.specs.Proofs.{IsProof}
 use Rattle.mm_frame.specs.Validity.{task, form_fault, declaration_fault, or_else, IsFine}
@@ -150,7 +150,7 @@ is_clean t h = go (has_dollar t) h
     go true k = absurd (false≢true k)
     go false k = refl
 
-clean_go_on : (ts : List Token) → are_clean ts ≡ true → list_all (λ t. not (ends_statement t)) ts ≡ true
+pub clean_go_on : (ts : List Token) → are_clean ts ≡ true → list_all (λ t. not (ends_statement t)) ts ≡ true
 clean_go_on [] h = refl
 clean_go_on (t ∷ ts) h =
     let both : (not (has_dollar t) ≡ true) × (are_clean ts ≡ true) = split_true (not (has_dollar t)) (are_clean ts) h in

@@ -36,6 +36,10 @@ pub mod HeadLaws
 pub mod OpenTexts
 pub mod OpenFrames
 pub mod BlockLaws
+pub mod OpenFits
+pub mod OpenServes
+pub mod CitedLaws
+pub mod NamedClaims
 pub mod OpenCitingTexts
 pub mod OpenCiting
 pub mod OpenCitingDerivations

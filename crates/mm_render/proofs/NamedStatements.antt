@@ -26,7 +26,7 @@ use Rattle.mm_render.proofs.FittingLaws.{with_name, IsNew, name_holds, behind_na
 pub stated_is_valid : StatedIsValid
 stated_is_valid declared stated bytes (c, leaves, w) = leaves_is_valid bytes c leaves
 
-names_last : (done : List Token) (t : Token) → AreNames done → IsName t → AreNames (done ++ t ∷ [])
+pub names_last : (done : List Token) (t : Token) → AreNames done → IsName t → AreNames (done ++ t ∷ [])
 names_last [] t h n = (n, tt)
 names_last (u ∷ done) t h n = (h.0, names_last done t h.1 n)
 

@@ -1,5 +1,5 @@
 -- The frame of an assertion in its block.
-use Rattle.std.proofs.Common.{◌≡◌, ℕ, ◌+◌, ◌<◌, ◌^◌, Bool, true, false, List, [], ◌∷◌, ◌++◌, length, map, refl, ap, ◌∙◌, sym, subst, append_assoc}
+use Rattle.std.proofs.Common.{◌≡◌, ℕ, ◌+◌, ◌<◌, ◌^◌, Bool, true, false, List, [], ◌∷◌, ◌++◌, map, refl, ap, ◌∙◌, sym}
 use Rattle.std.proofs.Math.Path.{fun_ext}
 use Rattle.std.specs.Prelude.{◌==◌, ◌&&◌, ◌||◌, if◌then◌else◌, filter, codes, bytes_eq}
 use Rattle.std.specs.Prelude as std
@@ -23,7 +23,7 @@ use Rattle.mm_render.proofs.LeafLaws.{both_true, split_true, PassFixed}
 use Rattle.mm_render.proofs.StatedLaws.{both_false, either_true, second_true, not_false, itself, none_passes, name_at, name_no_letter}
 use Rattle.mm_render.proofs.VariableLaws.{name_no_variable, token_differs, same_is}
 use Rattle.mm_render.proofs.InsideLaws.{inside, list_any-append, map-append}
-use Rattle.mm_render.proofs.Separations.{split_false, turned_variable, numbered_front, numbered_behind, new_variable, separations_apart}
+use Rattle.mm_render.proofs.Separations.{split_false, numbered_behind, new_variable, separations_apart}
 use Rattle.mm_render.proofs.OpenTexts.{numbered_at, open_passes, own_hypotheses}
 
 -- a variable that stands in a pattern stands in its text

@@ -87,7 +87,7 @@ judgement-under sigma n h (is_substituted t p u x) =
 judgement-under sigma n h (is_predicate p) = ap (λ e. e ++ substituted sigma (text_by (letters_of n) p)) (left sigma h 20) ∙ ap (λ e. codes "#Pred" ∷ e) (text-under sigma n h p)
 
 -- what is not bound stays
-text_of-other : (hypotheses : List Hypothesis) (entries : List Expression) (t : Token) → list_any (types t) hypotheses ≡ false → text_of (bindings_of hypotheses entries) t ≡ t ∷ []
+pub text_of-other : (hypotheses : List Hypothesis) (entries : List Expression) (t : Token) → list_any (types t) hypotheses ≡ false → text_of (bindings_of hypotheses entries) t ≡ t ∷ []
 text_of-other [] entries t h = refl
 text_of-other (h ∷ hypotheses) [] t other = refl
 text_of-other (floating label typecode variable ∷ hypotheses) (entry ∷ entries) t other = go (bytes_eq variable t) other (text_of-other hypotheses entries t)

@@ -1,6 +1,5 @@
 -- Which variables a block keeps apart.
-use Rattle.std.proofs.Common.{◌≡◌, ℕ, ◌<◌, ◌^◌, Bool, true, false, List, [], ◌∷◌, ◌++◌, length, map, refl, ap, ◌∙◌, sym, subst}
-use Rattle.std.proofs.Math.Path.{fun_ext}
+use Rattle.std.proofs.Common.{◌≡◌, ◌<◌, ◌^◌, Bool, true, false, List, [], ◌∷◌, ◌++◌, map, refl, ap, ◌∙◌, sym}
 use Rattle.std.specs.Prelude.{◌&&◌, ◌||◌, not, if◌then◌else◌, filter, bytes_eq}
 use Rattle.std.specs.List.{list_any, list_all}
 use Rattle.std.proofs.lemmas.Bool.{false≢true}
@@ -11,7 +10,6 @@ use Rattle.mm_frame.specs.Forms.{has_dollar}
 use Rattle.mm_frame.specs.Database.{are_different_tokens}
 use Rattle.mm_frame.specs.Expansion.{has_repeated}
 use Rattle.mm_frame.specs.FrameLaws.{are_clean}
-use Rattle.mm_frame.specs.Validity.{has_two}
 use Rattle.mm_render.specs.Variables.{Variable, object_variable, pattern_variable, is_object, number_of, same_variable, has_variable, are_once, AreNumbered, variable_token, variable_tokens, object_tokens, are_several}
 use Rattle.mm_render.specs.Blocks.{separated, separations, are_apart}
 use Rattle.mm_render.proofs.LeafLaws.{both_true, split_true, not_true}
@@ -112,7 +110,7 @@ abbrev pub AreAmong : List Variable → List Variable → Type 0
 AreAmong vs [] = Unit {0}
 AreAmong vs (w ∷ ws) = (has_variable vs w ≡ true) × AreAmong vs ws
 
-more_among : (v : Variable) (vs ws : List Variable) → AreAmong vs ws → AreAmong (v ∷ vs) ws
+pub more_among : (v : Variable) (vs ws : List Variable) → AreAmong vs ws → AreAmong (v ∷ vs) ws
 more_among v vs [] h = tt
 more_among v vs (w ∷ ws) h = (second_true (same_variable v w) (has_variable vs w) h.0, more_among v vs ws h.1)
 

@@ -84,11 +84,11 @@ header_spelt label f h = go (has_token (map (λ (r : Row). r.label) header_rows)
 
 -- the labels of the header's `$f`s are well spelt
 
-types_spelt : list_all (λ h. is_label (label_of h)) header_context.scope.hypotheses ≡ true
+pub types_spelt : list_all (λ h. is_label (label_of h)) header_context.scope.hypotheses ≡ true
 unfolding header_context
 types_spelt = refl
 
-hypothesis_spelt : (hs : List Hypothesis) (label : Token) (h : Hypothesis) → list_all (λ g. is_label (label_of g)) hs ≡ true → hypothesis_of hs label ≡ Some h → is_label label ≡ true
+pub hypothesis_spelt : (hs : List Hypothesis) (label : Token) (h : Hypothesis) → list_all (λ g. is_label (label_of g)) hs ≡ true → hypothesis_of hs label ≡ Some h → is_label label ≡ true
 hypothesis_spelt [] label h all found = absurd (let z : ⊥ = cc in z)
 hypothesis_spelt (g ∷ hs) label h all found = go (bytes_eq (label_of g) label) refl found (split_true (is_label (label_of g)) (list_all (λ k. is_label (label_of k)) hs) all) (hypothesis_spelt hs label h)
   where
@@ -98,20 +98,23 @@ hypothesis_spelt (g ∷ hs) label h all found = go (bytes_eq (label_of g) label)
 
 -- each label of a proof is that of an assertion or of an active hypothesis
 
-leads_spelt : {c : Context} {label : Token} {given : List Expression} {result : Expression} → c.scope ≡ header_context.scope → ((l : Token) (f : Frame) → c.frames l ≡ Some f → is_label l ≡ true) → Leads c label given result → is_label label ≡ true
-leads_spelt {c = c} {label = label} scope spelt (by_hypothesis h is) =
-    hypothesis_spelt header_context.scope.hypotheses label h types_spelt (ap (λ s. hypothesis_of s.hypotheses label) (sym scope) ∙ is)
-leads_spelt {c = c} {label = label} scope spelt (by_assertion f sigma given result none is applies) = spelt label f is
+leads_spelt : {c : Context} {label : Token} {given : List Expression} {result : Expression} → ((l : Token) (h : Hypothesis) → hypothesis_of c.scope.hypotheses l ≡ Some h → is_label l ≡ true) → ((l : Token) (f : Frame) → c.frames l ≡ Some f → is_label l ≡ true) → Leads c label given result → is_label label ≡ true
+leads_spelt {c = c} {label = label} active spelt (by_hypothesis h is) = active label h is
+leads_spelt {c = c} {label = label} active spelt (by_assertion f sigma given result none is applies) = spelt label f is
+
+-- so it is with the header's alone
+pub header_active_spelt : (c : Context) → c.scope ≡ header_context.scope → (l : Token) (h : Hypothesis) → hypothesis_of c.scope.hypotheses l ≡ Some h → is_label l ≡ true
+header_active_spelt c scope l h is = hypothesis_spelt header_context.scope.hypotheses l h types_spelt (ap (λ s. hypothesis_of s.hypotheses l) (sym scope) ∙ is)
 
 mutual
-  pub postorder_spelt : (c : Context) (tree : ProofTree) (e : Expression) → c.scope ≡ header_context.scope → ((l : Token) (f : Frame) → c.frames l ≡ Some f → is_label l ≡ true) → Proves c tree e → list_all is_label (postorder tree) ≡ true
-  postorder_spelt c (proof_node label trees) e scope spelt (given, leads, all) =
-      list_all-append is_label (all_postorder trees) (label ∷ []) (all_postorder_spelt c trees given scope spelt all) (both_true (is_label label) true (leads_spelt scope spelt leads) refl)
+  pub postorder_spelt : (c : Context) (tree : ProofTree) (e : Expression) → ((l : Token) (h : Hypothesis) → hypothesis_of c.scope.hypotheses l ≡ Some h → is_label l ≡ true) → ((l : Token) (f : Frame) → c.frames l ≡ Some f → is_label l ≡ true) → Proves c tree e → list_all is_label (postorder tree) ≡ true
+  postorder_spelt c (proof_node label trees) e active spelt (given, leads, all) =
+      list_all-append is_label (all_postorder trees) (label ∷ []) (all_postorder_spelt c trees given active spelt all) (both_true (is_label label) true (leads_spelt active spelt leads) refl)
 
-  all_postorder_spelt : (c : Context) (trees : ProofForest) (es : List Expression) → c.scope ≡ header_context.scope → ((l : Token) (f : Frame) → c.frames l ≡ Some f → is_label l ≡ true) → AllProve c trees es → list_all is_label (all_postorder trees) ≡ true
-  all_postorder_spelt c no_proof es scope spelt all = refl
-  all_postorder_spelt c (more_proofs tree trees) es scope spelt (first, rest, is, proof, all) =
-      list_all-append is_label (postorder tree) (all_postorder trees) (postorder_spelt c tree first scope spelt proof) (all_postorder_spelt c trees rest scope spelt all)
+  all_postorder_spelt : (c : Context) (trees : ProofForest) (es : List Expression) → ((l : Token) (h : Hypothesis) → hypothesis_of c.scope.hypotheses l ≡ Some h → is_label l ≡ true) → ((l : Token) (f : Frame) → c.frames l ≡ Some f → is_label l ≡ true) → AllProve c trees es → list_all is_label (all_postorder trees) ≡ true
+  all_postorder_spelt c no_proof es active spelt all = refl
+  all_postorder_spelt c (more_proofs tree trees) es active spelt (first, rest, is, proof, all) =
+      list_all-append is_label (postorder tree) (all_postorder trees) (postorder_spelt c tree first active spelt proof) (all_postorder_spelt c trees rest active spelt all)
 
 -- well spelt labels are clean tokens
 

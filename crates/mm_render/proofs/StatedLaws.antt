@@ -42,7 +42,7 @@ use Rattle.mm_text.specs.Statements.{Statements, next_statement, statements_from
 use Rattle.mm_render.specs.Stating.{FitsStated, stated_assertion, AxiomIsGained, TheoremIsGained, closed_over, AreClosedOver, stated_frame, HoldsStated, axiom_statement, theorem_statement, closed_citing, ArePlaced, HeaderFitsStated, AxiomFits, TheoremFits}
 use Rattle.mm_render.proofs.LeafLaws.{EachLeaf-implied, tested_leaves, PassFixed, both_true, list_all-append, list_all-text}
 use Rattle.mm_render.proofs.NameLaws.{name_facts}
-use Rattle.mm_render.proofs.SpeltLaws.{LabelFacts, label_facts, header_spelt, postorder_spelt, labels_clean, labels_plain, labels_go_on, labels_uncompressed, statement_label-is_label, statement_label-differs}
+use Rattle.mm_render.proofs.SpeltLaws.{LabelFacts, label_facts, header_spelt, header_active_spelt, postorder_spelt, labels_clean, labels_plain, labels_go_on, labels_uncompressed, statement_label-is_label, statement_label-differs}
 use Rattle.mm_render.proofs.Schemes.{leads-by}
 use Rattle.mm_render.proofs.DerivationProofs.{derivation_proves}
 use Rattle.mm_render.proofs.FittingLaws.{header_holds, header_closed}
@@ -440,7 +440,7 @@ adds_theorem : (declared : List Token) (stated : List Pattern) (c : Context) (at
 adds_theorem declared stated c at p tree w few closed proof =
     let may : MayBeStated c (statement_label (length stated)) (codes "|-") (text_by (letters_of (own_naming declared)) p) = closed_may_be_stated declared stated c p w few closed in
     let label : LabelFacts (statement_label (length stated)) = label_facts (statement_label (length stated)) (statement_label-is_label (length stated) few) in
-    let spelt : list_all is_label (postorder tree) ≡ true = postorder_spelt c tree (holds_text (own_naming declared) p) w.base.scope w.spelt proof in (
+    let spelt : list_all is_label (postorder tree) ≡ true = postorder_spelt c tree (holds_text (own_naming declared) p) (header_active_spelt c w.base.scope) w.spelt proof in (
       theorem_plain (statement_label (length stated)) (holds_text (own_naming declared) p) (postorder tree) label.plain (text_plain declared p w.names closed) (labels_plain (postorder tree) spelt),
       theorem_one (length stated) (holds_text (own_naming declared) p) (postorder tree) (text_goes_on declared p w.names closed) (labels_go_on (postorder tree) spelt),
       theorem_is_fine c (statement_label (length stated)) (codes "|-") (text_by (letters_of (own_naming declared)) p) tree may proof (labels_clean (postorder tree) spelt) (labels_uncompressed (postorder tree) spelt),
@@ -525,7 +525,7 @@ theorem_gains_just declared stated bytes q d k place (c, leaves, w) few closed c
     let proof : Proves c tree (holds_text (own_naming declared) q) = derivation_proves c (own_labels (length stated)) (own_naming declared) (closed_over declared) [] k (closed_citing place) (serves_closed declared c (length stated) w.base w.names) (closed_sound declared stated c k place w placed) d q concludes used only in
     let may : MayBeStated c (statement_label (length stated)) (codes "|-") (text_by (letters_of (own_naming declared)) q) = closed_may_be_stated declared stated c q w few closed in
     let adds : Adds c (length bytes) (theorem_statement declared (length stated) q tree ∷ []) (with_statement c (length stated) (holds_text (own_naming declared) q)) = adds_theorem declared stated c (length bytes) q tree w few closed proof in
-    let spelt : list_all is_label (postorder tree) ≡ true = postorder_spelt c tree (holds_text (own_naming declared) q) w.base.scope w.spelt proof in
+    let spelt : list_all is_label (postorder tree) ≡ true = postorder_spelt c tree (holds_text (own_naming declared) q) (header_active_spelt c w.base.scope) w.spelt proof in
     gained_one c bytes (theorem_statement declared (length stated) q tree) (plain (statement_label (length stated) ∷ []) proves (holds_text (own_naming declared) q) (postorder tree)) (stated_assertion true declared (length stated) q) leaves adds.0 adds.1
     (proof_tokens_say (statement_label (length stated) ∷ []) (holds_text (own_naming declared) q) (postorder tree) may.clean_label may.clean (labels_clean (postorder tree) spelt))
     (ap Some (stated_made declared stated c q true w closed)) refl

@@ -1,6 +1,6 @@
 -- The tokens and labels of variables.
 use Rattle.std.proofs.Common.{◌≡◌, ℕ, ◌+◌, ◌<◌, ◌^◌, Bool, true, false, List, [], ◌∷◌, ◌++◌, map, refl, ap, ◌∙◌, sym, arith, eq-eqb, eqb-true}
-use Rattle.std.specs.Prelude.{◌==◌, ◌&&◌, ◌||◌, not, if◌then◌else◌, codes, decimal, bytes_eq}
+use Rattle.std.specs.Prelude.{◌==◌, ◌||◌, not, if◌then◌else◌, decimal, bytes_eq}
 use Rattle.std.specs.List.{list_any, list_all}
 use Rattle.std.proofs.lemmas.Bool.{false≢true}
 use Rattle.std.proofs.lemmas.Slice.Eq.{bytes_eq-Decides}
@@ -11,11 +11,11 @@ use Rattle.mm_frame.specs.Forms.{has_dollar}
 use Rattle.mm_frame.specs.Frames.{types}
 use Rattle.mm_header.specs.Header.{header_rows}
 use Rattle.mm_header.specs.HeaderContext.{header_context, header_labels}
-use Rattle.mm_render.specs.Labels.{name_label, statement_label, two_numbers, object_label, meta_label, premise_label}
+use Rattle.mm_render.specs.Labels.{two_numbers, premise_label}
 use Rattle.mm_render.specs.Statements.{NameKind, sort_name, symbol_name, value_name, kind_front, is_name_byte, IsName}
 use Rattle.mm_render.specs.Fitting.{AreNames}
-use Rattle.mm_render.specs.Variables.{Variable, object_variable, pattern_variable, number_of, same_variable, has_variable, variable_token, variable_label, variable_type, is_variable_token}
-use Rattle.mm_render.proofs.LeafLaws.{both_true, split_true, list_all-append}
+use Rattle.mm_render.specs.Variables.{Variable, object_variable, pattern_variable, number_of, same_variable, variable_token, variable_label, variable_type, is_variable_token}
+use Rattle.mm_render.proofs.LeafLaws.{both_true, split_true}
 use Rattle.mm_render.proofs.Decimals.{list_all-decimal, decimal-same}
 use Rattle.mm_render.proofs.NameLaws.{all_printing, no_dollars}
 

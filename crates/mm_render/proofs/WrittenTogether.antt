@@ -2,12 +2,12 @@
 use Rattle.std.proofs.Common.{◌≡◌, ℕ, List, [], ◌∷◌, ◌++◌, zero, suc, refl, ap, ◌∙◌, sym, append_assoc, append-nil, slice_get}
 use Rattle.std.specs.Prelude.{unwrap_or, slice_index_or, codes}
 use Rattle.mm_text.specs.Bytes.{Token}
-use Rattle.mm_text.specs.TextLaws.{written}
+use Rattle.mm_text.specs.TextLaws.{white_behind, written}
 use Rattle.mm_frame.specs.FrameLaws.{written_statements, proof_tokens}
 
 pub written-append : (xs ys : List Token) → written (xs ++ ys) ≡ written xs ++ written ys
 written-append [] ys = refl
-written-append (x ∷ xs) ys = ap (λ (t : List ℕ). (x ++ 32 ∷ []) ++ t) (written-append xs ys) ∙ sym (append_assoc (x ++ 32 ∷ []) (written xs) (written ys))
+written-append (x ∷ xs) ys = ap (λ (t : List ℕ). (x ++ white_behind x ∷ []) ++ t) (written-append xs ys) ∙ sym (append_assoc (x ++ white_behind x ∷ []) (written xs) (written ys))
 
 pub two_statements : (xs ys : List Token) → written (xs ++ ys) ≡ written_statements (xs ∷ ys ∷ [])
 two_statements xs ys = written-append xs ys ∙ ap (λ (t : List ℕ). written xs ++ t) (sym (append-nil (written ys)))

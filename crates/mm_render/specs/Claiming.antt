@@ -1,5 +1,5 @@
 -- Statements with variables and hypotheses behind a text that fits: what it has declared, and what may follow.
-use Rattle.std.specs.Prelude.{◌≡◌, ℕ, ◌<◌, ◌≤◌, ◌^◌, true, false, List, [], ◌∷◌, ◌++◌, length, slice_get, Some, None}
+use Rattle.std.specs.Prelude.{◌≡◌, ℕ, ◌<◌, ◌≤◌, ◌^◌, Bool, true, false, List, [], ◌∷◌, ◌++◌, length, slice_get, Some, None}
 use Rattle.mm_text.specs.Bytes.{Token}
 use Rattle.mm_text.specs.Labels.{is_label}
 use Rattle.mm_frame.specs.Frames.{Frame}
@@ -11,19 +11,16 @@ use Rattle.mm_frame.specs.Writing.{Leaves}
 use Rattle.mm_frame.specs.FrameLaws.{written_statements}
 use Rattle.mm_header.specs.HeaderText.{header_bytes}
 use Rattle.ml_pat.specs.Patterns.{Pattern}
+use Rattle.ml_pat.specs.Named.{AreDistinct}
 use Rattle.ml_kernel.specs.Theorems.{Derivation}
 use Rattle.ml_kernel.specs.Concluding.{Concludes}
-use Rattle.mm_render.specs.Tokens.{Naming}
 use Rattle.mm_render.specs.Labels.{statement_label, premise_label, own_labels}
-use Rattle.mm_render.specs.Leaves.{Known, are_known}
-use Rattle.mm_render.specs.Derivations.{Citing, derivation_tree, EachUsed}
-use Rattle.mm_render.specs.Serving.{Serves}
-use Rattle.mm_render.specs.RenderLaws.{IsWritten}
-use Rattle.mm_render.specs.Tokens.{holds}
+use Rattle.mm_render.specs.Derivations.{derivation_tree, EachUsed}
+use Rattle.mm_render.specs.Statements.{all_name_statements}
 use Rattle.mm_render.specs.Fitting.{AreNames, Holds}
 use Rattle.mm_render.specs.Variables.{Variable, number_of, variable_token, variable_label, are_once, AreNumbered}
 use Rattle.mm_render.specs.Blocks.{Claim, IsClaim, open_over, open_frame, open_assertion, axiom_block, theorem_block}
-use Rattle.mm_render.specs.CitedAt.{MayCite, EachCited, CitesSoundly, claims_citing, citable, ArePremises}
+use Rattle.mm_render.specs.CitedAt.{EachCited, claims_citing, citable, ArePremises}
 
 -- no label of a block with this number is taken
 pub record IsFree (c : Context) (k : ℕ) : Type 0 where
@@ -62,13 +59,6 @@ pub record IsProvable (declared : List Token) (claims : List Claim) (s : Claim) 
   pub cites : EachCited (citable (open_over declared (s.variables ++ more)) claims place) d
   pub premises : ArePremises s.hypotheses premise_place
 
--- a derivation is written as a proof of what it concludes, where what it cites is sound
-abbrev pub CitingIsProved : Type 1
-CitingIsProved =
-    (c : Context) (l n : Naming) (known : Known) (hypotheses : List Pattern) (k : MayCite) (s : Citing) (d : Derivation) (q : Pattern) →
-    Serves c l n (are_known known) → CitesSoundly c n hypotheses k s → Concludes hypotheses d q → EachUsed (are_known known) d → EachCited k d →
-    IsWritten c n (derivation_tree l s d) (holds q)
-
 -- such a text is valid
 abbrev pub ClaimsAreValid : Type 0
 ClaimsAreValid = (declared : List Token) (claims : List Claim) (bytes : List ℕ) → FitsClaims declared claims bytes → IsValid bytes
@@ -76,6 +66,13 @@ ClaimsAreValid = (declared : List Token) (claims : List Claim) (bytes : List ℕ
 -- the header fits no names and no claims
 abbrev pub HeaderFitsClaims : Type 0
 HeaderFitsClaims = FitsClaims [] [] header_bytes
+
+-- a text that fits, with the declarations of more names, fits these
+abbrev pub NamesFitClaims : Type 0
+NamesFitClaims =
+    (declared more : List Token) (claims : List Claim) (bytes : List ℕ) → FitsClaims declared claims bytes →
+    AreNames (declared ++ more) → AreDistinct (declared ++ more) → length (declared ++ more) < 2 ^ 64 →
+    FitsClaims (declared ++ more) claims (bytes ++ written_statements (all_name_statements (length declared) more))
 
 -- a text that fits, with the block of an axiom, fits with one claim more
 abbrev pub AxiomBlockFits : Type 0
@@ -104,3 +101,10 @@ TheoremBlockIsGained =
     FitsClaims declared claims bytes → length claims < 2 ^ 64 → IsClaim declared s → IsProvable declared claims s more d place premise_place →
     assertions_of (bytes ++ written_statements (theorem_block declared (length claims) s more (derivation_tree (own_labels (length claims)) (claims_citing (length claims) claims place premise_place) d))) ≡
     assertions_of bytes ++ open_assertion true declared (length claims) s ∷ []
+
+-- Each text that fits some claims, as many as the number, fits with what was appended, if that is a claim over its names, and has
+-- gained just this assertion.
+abbrev pub GainsClaim : Bool → List Token → ℕ → Claim → List ℕ → Type 0
+GainsClaim proved declared k s appended =
+    (claims : List Claim) (bytes : List ℕ) → FitsClaims declared claims bytes → length claims ≡ k → IsClaim declared s →
+    FitsClaims declared (claims ++ s ∷ []) (bytes ++ appended) × (assertions_of (bytes ++ appended) ≡ assertions_of bytes ++ open_assertion proved declared k s ∷ [])

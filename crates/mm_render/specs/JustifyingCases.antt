@@ -10,7 +10,7 @@ use Rattle.mm_render.specs.Justifying.{IsAxiomOf, Justifies}
 
 -- the header, the declaration of a symbol, and a theorem on it
 abbrev pub small_text : List ℕ
-small_text = header_bytes ++ codes "$c f:a $. n.0 $a #Pattern f:a $. t.0 $p |- ( \\imp f:a ( \\ev f:a ) ) $= n.0 ev.1 $. "
+small_text = header_bytes ++ codes "$c f:a $.\nn.0 $a #Pattern f:a $.\nt.0 $p |- ( \\imp f:a ( \\ev f:a ) ) $= n.0 ev.1 $.\n"
 
 -- a constant
 abbrev pub alone : ℕ → RulePattern

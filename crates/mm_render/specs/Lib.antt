@@ -33,3 +33,4 @@ pub mod HeadText
 pub mod TheoremText
 pub mod OpenCases
 pub mod RenderedCases
+pub mod BlockCases

@@ -1,8 +1,9 @@
 // Axioms with variables and hypotheses, each in a block of its own.
-ghost use Rattle.std.specs.Prelude.{◌≡◌, ◌∷◌, ◌++◌, OnErr, OnOk};
+ghost use Rattle.std.specs.Prelude.{◌≡◌, ◌∷◌, ◌++◌, OnErr, OnOk, false};
 ghost use Rattle.mm_frame.specs.FrameLaws.{written_statements};
 ghost use Rattle.mm_render.specs.Blocks.{IsClaim, axiom_block};
 ghost use Rattle.mm_render.specs.ClaimVariables.{AreOverNames, OverNamesIsClaim, claim_of};
+ghost use Rattle.mm_render.specs.Claiming.{GainsClaim};
 ghost use Rattle.mm_render.specs.TheoremText.{TheoremBlockText};
 
 use crate::heads::push_head;
@@ -13,7 +14,8 @@ use ml_pat::{MPat, Names};
 use std::alloc::AllocError;
 
 /// Adds the block with the number `serial` of an axiom: its conclusion under its hypotheses, with the variables that stand in
-/// them. Over declared names this is a claim. Where memory is wanting, nothing changes.
+/// them. Over declared names this is a claim, and each text that fits some claims, as many as the number, fits with the block
+/// behind it, and has gained just this axiom. Where memory is wanting, nothing changes.
 pub fn write_axiom(
     to: &mut Vec<u8>,
     names: &Names,
@@ -23,6 +25,7 @@ pub fn write_axiom(
 ) -> Result<(), AllocError>
     ensures text { OnOk result (to.new.items ≡ to.old.items ++ written_statements (axiom_block names.now serial (claim_of hypotheses.now conclusion.now))) }
     ensures claim { OnOk result (AreOverNames names.now (conclusion.now ∷ hypotheses.now) → IsClaim names.now (claim_of hypotheses.now conclusion.now)) }
+    ensures gains { OnOk result (GainsClaim false names.now serial (claim_of hypotheses.now conclusion.now) (written_statements (axiom_block names.now serial (claim_of hypotheses.now conclusion.now)))) }
     ensures unchanged { OnErr result (to.new.items ≡ to.old.items) }
 {
     let alloc = *to.allocator();

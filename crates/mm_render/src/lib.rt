@@ -22,6 +22,7 @@
 //! that deep patterns and derivations need no recursion (`specs/Writing`, `specs/Parts`).
 #![tactic(auto)]
 
+mod blocks;
 mod claims;
 mod derivations;
 mod freshness;
@@ -40,6 +41,7 @@ mod variables;
 mod words;
 mod works;
 
+pub use blocks::{block_laws, block_tried};
 pub use claims::{claim_laws, write_axiom};
 pub use laws::{
     citing_laws, closed_laws, fitting_laws, image_laws, justifying_laws, later_laws, proof_laws,

@@ -117,7 +117,7 @@ fn declares_names(rt: HostRuntime) -> Result<(), Fail> {
     renderer.declare(&names, &mut text)?;
     assert_eq!(rt;
         text.as_slice(),
-        b"$c s:S $. n.0 $a #Sort s:S $. $c f:a $. n.1 $a #Pattern f:a $. $c f:f $. n.2 $a #Pattern f:f $. ".as_slice()
+        b"$c s:S $.\nn.0 $a #Sort s:S $.\n$c f:a $.\nn.1 $a #Pattern f:a $.\n$c f:f $.\nn.2 $a #Pattern f:f $.\n".as_slice()
     );
     Ok(())
 }
@@ -175,7 +175,7 @@ fn states_an_axiom(rt: HostRuntime) -> Result<(), Fail> {
     renderer.axiom(&names, &theory, AxiomNo(0), &mut text)?;
     assert_eq!(rt;
         text.as_slice(),
-        b"t.0 $a |- ( \\app f:f f:a ) $. ".as_slice()
+        b"t.0 $a |- ( \\app f:f f:a ) $.\n".as_slice()
     );
     Ok(())
 }
@@ -186,7 +186,7 @@ fn proves_a_lemma(rt: HostRuntime) -> Result<(), Fail> {
     let text = stated(rt.alloc())?;
     assert_eq!(rt;
         text.as_slice(),
-        b"t.0 $a |- ( \\app f:f f:a ) $. t.1 $p |- ( \\ev ( \\app f:f f:a ) ) $= n.2 n.1 w.app n.2 n.1 w.app w.ev t.0 n.2 n.1 w.app ev.1 mp $. ".as_slice()
+        b"t.0 $a |- ( \\app f:f f:a ) $.\nt.1 $p |- ( \\ev ( \\app f:f f:a ) ) $= n.2 n.1 w.app n.2 n.1 w.app w.ev t.0 n.2 n.1 w.app ev.1 mp $.\n".as_slice()
     );
     Ok(())
 }
@@ -208,7 +208,7 @@ fn writes_the_database_that_was_judged(rt: HostRuntime) -> Result<(), Fail> {
     assert_eq!(rt;
         text.get(5968..),
         Some(
-            b"$c s:S $. n.0 $a #Sort s:S $. $c f:a $. n.1 $a #Pattern f:a $. $c f:f $. n.2 $a #Pattern f:f $. t.0 $a |- ( \\app f:f f:a ) $. t.1 $p |- ( \\ev ( \\app f:f f:a ) ) $= n.2 n.1 w.app n.2 n.1 w.app w.ev t.0 n.2 n.1 w.app ev.1 mp $. ".as_slice()
+            b"$c s:S $.\nn.0 $a #Sort s:S $.\n$c f:a $.\nn.1 $a #Pattern f:a $.\n$c f:f $.\nn.2 $a #Pattern f:f $.\nt.0 $a |- ( \\app f:f f:a ) $.\nt.1 $p |- ( \\ev ( \\app f:f f:a ) ) $= n.2 n.1 w.app n.2 n.1 w.app w.ev t.0 n.2 n.1 w.app ev.1 mp $.\n".as_slice()
         )
     );
     Ok(())
@@ -228,7 +228,7 @@ fn writes_the_block_of_an_axiom(rt: HostRuntime) -> Result<(), Fail> {
     write_axiom(&mut text, &names, 7, &hypotheses, &conclusion)?;
     assert_eq!(rt;
         text.as_slice(),
-        b"${ $v x:0 $. x.7.0 $f #Var x:0 $. $v m:0 $. m.7.0 $f #Pattern m:0 $. $d x:0 m:0 $. e.7.0 $e |- ( \\imp x:0 m:0 ) $. t.7 $a |- ( \\imp ( \\next x:0 ) ( \\next m:0 ) ) $. $} ".as_slice()
+        b"${\n$v x:0 $.\nx.7.0 $f #Var x:0 $.\n$v m:0 $.\nm.7.0 $f #Pattern m:0 $.\n$d x:0 m:0 $.\ne.7.0 $e |- ( \\imp x:0 m:0 ) $.\nt.7 $a |- ( \\imp ( \\next x:0 ) ( \\next m:0 ) ) $.\n$}\n".as_slice()
     );
     Ok(())
 }
@@ -250,7 +250,7 @@ fn writes_which_variables_stay_apart(rt: HostRuntime) -> Result<(), Fail> {
     write_axiom(&mut text, &names, 0, &hypotheses, &conclusion)?;
     assert_eq!(rt;
         text.as_slice(),
-        b"${ $v x:5 $. x.0.5 $f #Var x:5 $. $v x:2 $. x.0.2 $f #Var x:2 $. $v m:1 $. m.0.1 $f #Pattern m:1 $. $v m:0 $. m.0.0 $f #Pattern m:0 $. $d x:5 x:2 $. $d x:5 x:2 m:1 $. $d x:5 x:2 m:0 $. t.0 $a |- ( \\all x:5 s:S ( \\imp ( \\imp x:2 ( \\imp m:1 m:0 ) ) ( \\imp x:2 ( \\imp m:1 m:0 ) ) ) ) $. $} ".as_slice()
+        b"${\n$v x:5 $.\nx.0.5 $f #Var x:5 $.\n$v x:2 $.\nx.0.2 $f #Var x:2 $.\n$v m:1 $.\nm.0.1 $f #Pattern m:1 $.\n$v m:0 $.\nm.0.0 $f #Pattern m:0 $.\n$d x:5 x:2 $.\n$d x:5 x:2 m:1 $.\n$d x:5 x:2 m:0 $.\nt.0 $a |- ( \\all x:5 s:S ( \\imp ( \\imp x:2 ( \\imp m:1 m:0 ) ) ( \\imp x:2 ( \\imp m:1 m:0 ) ) ) ) $.\n$}\n".as_slice()
     );
     Ok(())
 }
@@ -279,7 +279,7 @@ fn writes_the_block_of_a_lemma(rt: HostRuntime) -> Result<(), Fail> {
     push_theorem_end(&mut text, &names, 7)?;
     assert_eq!(rt;
         text.as_slice(),
-        b"${ $v x:0 $. x.7.0 $f #Var x:0 $. $v m:0 $. m.7.0 $f #Pattern m:0 $. $d x:0 m:0 $. e.7.0 $e |- ( \\imp x:0 m:0 ) $. t.7 $p |- ( \\imp ( \\next x:0 ) ( \\next m:0 ) ) $= x.7.0 w.var m.7.0 e.7.0 next.in $. $} ".as_slice()
+        b"${\n$v x:0 $.\nx.7.0 $f #Var x:0 $.\n$v m:0 $.\nm.7.0 $f #Pattern m:0 $.\n$d x:0 m:0 $.\ne.7.0 $e |- ( \\imp x:0 m:0 ) $.\nt.7 $p |- ( \\imp ( \\next x:0 ) ( \\next m:0 ) ) $= x.7.0 w.var m.7.0 e.7.0 next.in $.\n$}\n".as_slice()
     );
     Ok(())
 }

@@ -1,6 +1,6 @@
-// Tokens as they are written, each with a space behind it.
+// Tokens as they are written, each with white space behind it.
 ghost use Rattle.std.specs.Prelude.{◌≡◌, ◌∷◌, [], ◌++◌, OnOk, decimal, map};
-ghost use Rattle.mm_text.specs.TextLaws.{written};
+ghost use Rattle.mm_text.specs.TextLaws.{white_behind, written};
 ghost use Rattle.mm_render.specs.Labels.{two_numbers};
 ghost use Rattle.mm_render.specs.Tokens.{name_of};
 ghost use Rattle.mm_render.specs.Writing.{word_token};
@@ -32,7 +32,7 @@ pub(crate) enum Word {
     Stated(u64),
 }
 
-/// Adds a token, in the block of the statement with the number `serial`, and a space.
+/// Adds a token, in the block of the statement with the number `serial`, and white space.
 pub(crate) fn push_word(
     to: &mut Vec<u8>,
     names: &Names,
@@ -41,12 +41,22 @@ pub(crate) fn push_word(
 ) -> Result<(), AllocError>
     ensures { OnOk result (to.new.items ≡ to.old.items ++ written (word_token names.now serial word ∷ [])) }
 {
+    let start = to.len();
     push_token(to, names, serial, word)?;
-    to.push(b' ')?;
+    let white = white_behind(&to[start..]);
+    to.push(white)?;
     Ok(())
 }
 
-/// Adds tokens, each with a space behind it.
+/// The white space behind a token: a line ends with a statement.
+fn white_behind(token: &[u8]) -> u8
+    ensures { result ≡ white_behind token.now }
+{
+    let ends = token == b"${".as_slice() || token == b"$}".as_slice() || token == b"$.".as_slice();
+    if ends { b'\n' } else { b' ' }
+}
+
+/// Adds tokens, each with white space behind it.
 pub(crate) fn push_words(
     to: &mut Vec<u8>,
     names: &Names,

@@ -1,5 +1,5 @@
 -- Laws on Metamath texts: what is appended, and what is written.
-use Rattle.std.specs.Prelude.{◌≡◌, ℕ, ◌+◌, Bool, true, false, not, ◌&&◌, List, [], ◌∷◌, ◌++◌, length, flat_map}
+use Rattle.std.specs.Prelude.{◌≡◌, ℕ, ◌+◌, Bool, true, false, not, ◌&&◌, if◌then◌else◌, List, [], ◌∷◌, ◌++◌, length, flat_map}
 use Rattle.std.specs.List.{list_all}
 use Rattle.mm_text.specs.Bytes.{Token, is_white, class_of, is_printable_class}
 use Rattle.mm_text.specs.Tokens.{opens_comment, closes_comment}
@@ -50,9 +50,13 @@ is_one_statement [] = false
 is_one_statement (token ∷ []) = is_whole token
 is_one_statement (token ∷ (next ∷ tokens)) = not (is_whole token) && ends_once (next ∷ tokens)
 
--- the text of tokens, with a space behind each
+-- The white space behind a token: a line ends with a statement, and all else is parted by spaces.
+abbrev pub white_behind : Token → ℕ
+white_behind token = if is_whole token then 10 else 32
+
+-- the text of tokens, with white space behind each
 abbrev pub written : List Token → List ℕ
-written tokens = flat_map (λ token. token ++ 32 ∷ []) tokens
+written tokens = flat_map (λ token. token ++ white_behind token ∷ []) tokens
 
 -- a written statement is read back, and then what follows it
 abbrev pub WrittenStatement : Type 0

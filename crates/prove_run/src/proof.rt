@@ -59,14 +59,7 @@ impl<'p> Proof<'p> {
         Ok(())
     }
 
-    /// The text of the proof, a Metamath database.
-    pub fn text(&self) -> &[u8]
-        ensures { result.now ≡ self.now.script.text.items }
-    {
-        &self.script.text
-    }
-
-    /// The text, where no step follows.
+    /// The text of the proof, a Metamath database, where no step follows.
     pub fn into_text(self) -> Vec<u8>
         ensures { result.items ≡ self.entry.script.text.items }
     {

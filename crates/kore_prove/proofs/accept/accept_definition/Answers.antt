@@ -1,10 +1,11 @@
-use Rattle.std.proofs.Common.{rules, map, refl}
-use Rattle.std.proofs.lemmas.List.Sorted.{IsPermutation-map, All-permutation}
+use Rattle.std.proofs.Common.{rules, map, refl, arith}
+use Rattle.std.proofs.lemmas.List.Sorted.{IsPermutation-map, All-permutation, length_permutation}
+use Rattle.std.proofs.lemmas.List.{length-map}
 use Rattle.std.proofs.lemmas.Result.{err_from_is_err_and}
 use Rattle.kore_ast.specs.Plain.{plain_definition, plain_declaration}
 use Rattle.rule_core.specs.ProgramView.{rewrite_rule, rewrite_rules}
 use Rattle.rule_core.specs.declared.signature.Signature.{Signature}
-use Rattle.kore_prove.specs.Acceptance.{IsSortEntry, IsSymbolEntry, sort_declared, symbol_declared, sort_number}
+use Rattle.kore_prove.specs.Acceptance.{IsSortEntry, IsSymbolEntry, IsRuleOf, sort_declared, symbol_declared, axiom_declared, sort_number}
 use Rattle.kore_prove.specs.Runnable.{IsRunnable}
 use Rattle.kore_prove.proofs.MainModule.{main-within}
 use Rattle.kore_prove.proofs.OneDefinition.{few_entries, no_sorts_left, same_sorts, same_symbols, same_rules}
@@ -37,6 +38,14 @@ returns-clause-few c =
       sorts = few_entries sort_declared IsSortEntry (map plain_declaration c.in-Some.decls.now) c.in_ok-sorts.sorts c.in_ok-sorts.ensures.declared within.few;
       symbols = few_entries symbol_declared (IsSymbolEntry c.in_ok-sorts.sorts) (map plain_declaration c.in-Some.decls.now) c.in_ok-symbols.symbols c.in_ok-symbols.ensures.declared within.few;
     }
+
+pub returns-clause-few_rules : goal.returns-clause-few_rules
+returns-clause-few_rules c =
+    let few = (main-within (plain_definition c.args.definition.now) _ c.in-Some.ensures.found c.requires).few in
+    let sig : Signature = record { sorts = c.in_ok-sorts.sorts; symbols = c.in_ok-symbols.symbols } in
+    let stated = few_entries axiom_declared (IsRuleOf sig (sort_number c.first_rule_sort-top.result)) (map plain_declaration c.in-Some.decls.now) (rewrite_rules c.in_ok-rules.rules.items) c.in_ok-rules.ensures.stated few in
+    let same = length-map c.in_ok-rules.rules.items rewrite_rule in
+    let kept = length_permutation _ _ c.in_ok-put_in_order.ensures.permutation in omega (arith, stated, same, kept)
 
 pub declared_symbols-requires : goal.declared_symbols-requires
 declared_symbols-requires c =

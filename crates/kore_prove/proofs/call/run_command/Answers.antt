@@ -12,15 +12,15 @@ use Rattle.kore_prove.proofs.ProvedRuns.{proves_run_of, start_kept, kept_then, w
 use Rattle.kore_prove.proofs.call.run_command.Goals as goal
 
 pub made_lines-requires-clause-provable : goal.made_lines-requires-clause-provable
-made_lines-requires-clause-provable g c = program_provable c.in-Ok.ensures.found.0 c.in-Ok.program c.in-Ok.ensures.found.2 c.in-Ok.ensures.names
+made_lines-requires-clause-provable g c = program_provable c.in-Ok.ensures.found.0 c.in-Ok.program c.in-Ok.ensures.found.2 c.in-Ok.ensures.names c.in-Ok.ensures.few_rules
 
 pub made_lines-requires-clause-built : goal.made_lines-requires-clause-built
 made_lines-requires-clause-built g c = start_built c.in-Ok-read_start.ensures.found.0 c.in-Ok.program (plain_pattern c.in-Ok-read_start.start) c.in-Ok-read_start.ensures.found.2
 
 pub returns-in-Ok-send_whole-clause-printed : goal.returns-in-Ok-send_whole-clause-printed
 returns-in-Ok-send_whole-clause-printed g c =
-    prints_run_of _ (g.D.Desk.told c.read_program.new.desk) _ _ _ c.in-Ok.program (plain_pattern c.in-Ok-read_start.start) c.in-Ok-made_lines.lines.0 c.in-Ok-made_lines.lines.1.items _ _
-    c.in-Ok.ensures.found c.in-Ok.ensures.files c.in-Ok-read_start.ensures.found c.in-Ok-made_lines.ensures.run (rw (← c.deref.ensures.value) c.in-Ok-send_whole.ensures.sent)
+    prints_run_of c.print_laws.ensures.back _ (g.D.Desk.told c.read_program.new.desk) _ _ _ c.in-Ok.program (plain_pattern c.in-Ok-read_start.start) c.in-Ok-made_lines.lines.0 c.in-Ok-made_lines.lines.1.items _ _
+    c.in-Ok.ensures.found c.in-Ok.ensures.names c.in-Ok.ensures.files c.in-Ok-read_start.ensures.found c.in-Ok-made_lines.ensures.run (rw (← c.deref.ensures.value) c.in-Ok-send_whole.ensures.sent)
 
 pub returns-in-Ok-send_whole-clause-proved : goal.returns-in-Ok-send_whole-clause-proved
 returns-in-Ok-send_whole-clause-proved g c =

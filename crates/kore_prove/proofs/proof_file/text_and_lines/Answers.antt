@@ -8,6 +8,7 @@ returns c = record {
     last = c.in_ok-outcome.last;
     is_run = c.in_ok-outcome.ensures.run c.requires.showable.term c.requires.showable.becomes;
     lines_are = c.in_ok-lines.ensures;
+    shown = c.in_ok-outcome.ensures.shown;
   };
   justifies = c.in_ok-outcome.ensures.justified;
 }

@@ -1,4 +1,4 @@
-use Rattle.std.proofs.Common.{refl, rules, ◌≡◌, ◌∷◌, []}
+use Rattle.std.proofs.Common.{refl}
 use Rattle.kore_prove.proofs.tests.two_files.Goals as goal
 
 pub new-requires-clause-names : goal.new-requires-clause-names

@@ -20,4 +20,4 @@ pub returns-in-Ok-frame : goal.returns-in-Ok-frame
 returns-in-Ok-frame c = λ d w.
     let is : c.in-Plain.plain.keyword ≡ keyword.Theorem = search rules in
     let form : Some (form_read c.args.bytes.now (code.Plain c.in-Plain.plain)) ≡ form_of (words_of c.args.bytes.now c.args.tokens.now) = search rules in
-    theorem_proposed (held c.args.self.now) d c.args.bytes.now c.args.tokens.now c.in-Plain.plain w form is (stated_held c.in-Ok.stated) _ refl c.in-Ok.ensures c.in-Ok-frame.ensures
+    theorem_proposed (held c.args.self.now) d c.args.bytes.now c.args.tokens.now c.in-Plain.plain w form is (stated_held c.in-Ok.stated) _ refl c.in-Ok.ensures (c.in-Ok-frame.ensures w.typed)

@@ -1,0 +1,90 @@
+// The active hypotheses.
+
+ghost use Rattle.std.specs.Prelude.{◌≡◌};
+ghost use Rattle.mm_frame.specs.FramesHeld.{hypotheses_held, is_essential};
+ghost use Rattle.mm_frame.specs.Places.{places_of};
+
+use crate::frames::Hyp;
+use std::alloc::{AllocError, Global};
+
+/// Hypotheses in the order in which they came, and the places of the `$e` among them. Appending one
+/// takes time that does not depend on how many there are, and cutting the list that of what is cut.
+#[derive(Drop)]
+pub(crate) struct Hypotheses<'a> {
+    all: Vec<Hyp<'a>>,
+    essentials: Vec<usize>,
+    ghost placed: { essentials.items ≡ places_of is_essential (hypotheses_held all.items) },
+}
+
+impl<'a> Hypotheses<'a> {
+    ghost use Rattle.std.specs.Prelude.{◌++◌, ◌∷◌, [], ◌-◌, IfOk, length, take, option_map, slice_get};
+    ghost use Rattle.mm_frame.specs.FramesHeld.{hypothesis_held};
+    ghost use Rattle.mm_frame.specs.HypothesesView.{hypotheses_in};
+
+    /// No hypotheses. Takes no memory yet.
+    pub(crate) fn new(alloc: Global) -> Self
+        ensures { hypotheses_in result ≡ [] }
+    {
+        Hypotheses {
+            all: Vec::new(alloc),
+            essentials: Vec::new(alloc),
+        }
+    }
+
+    /// How many there are.
+    pub(crate) fn len(&self) -> usize
+        ensures { result ≡ length (hypotheses_in self.now) }
+    {
+        self.all.len()
+    }
+
+    /// The hypothesis at a place.
+    pub(crate) fn get(&self, place: usize) -> Option<&Hyp<'a>>
+        ensures { option_map (λ h. hypothesis_held h.now) result ≡ slice_get (hypotheses_in self.now) place }
+    {
+        self.all.get(place)
+    }
+
+    /// The places of the `$e`, ascending.
+    pub(crate) fn essentials(&self) -> &[usize]
+        ensures { result.now ≡ places_of is_essential (hypotheses_in self.now) }
+    {
+        &self.essentials
+    }
+
+    /// Appends a hypothesis.
+    pub(crate) fn push(&mut self, hyp: Hyp<'a>) -> Result<(), AllocError>
+        ensures { IfOk result (λ _. hypotheses_in self.new ≡ hypotheses_in self.old ++ hypothesis_held hyp.entry ∷ []) }
+    {
+        let place = self.all.len();
+        let is_essential = hyp.is_essential();
+        self.essentials.reserve(1)?;
+        if self.all.push(hyp).is_err() {
+            return Err(AllocError);
+        }
+        if is_essential {
+            self.essentials.push(place).unwrap();
+        }
+        Ok(())
+    }
+
+    /// Keeps this many of the first hypotheses.
+    pub(crate) fn truncate(&mut self, count: usize)
+        ensures { hypotheses_in self.new ≡ take count (hypotheses_in self.old) }
+    {
+        while self.all.len() > count {
+            self.pop();
+        }
+    }
+
+    /// Lets the last hypothesis go.
+    fn pop(&mut self)
+        ensures { hypotheses_in self.new ≡ take (length (hypotheses_in self.old) - 1) (hypotheses_in self.old) }
+    {
+        if let Some(hyp) = self.all.pop() {
+            if hyp.is_essential() {
+                self.essentials.pop();
+            }
+        }
+    }
+}
