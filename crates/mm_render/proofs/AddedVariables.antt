@@ -1,6 +1,6 @@
 -- Variables behind others, each once, as a list gets them one by one.
 use Rattle.std.proofs.Common.{◌≡◌, ℕ, ◌+◌, ◌<◌, ◌^◌, Bool, true, false, List, [], ◌∷◌, ◌++◌, refl, ap, ◌∙◌, sym, subst, arith, append_assoc, append-nil}
-use Rattle.std.specs.Prelude.{◌||◌, not, flat_map}
+use Rattle.std.specs.Prelude.{◌||◌, flat_map}
 use Rattle.std.proofs.lemmas.Bool.{false≢true}
 use Rattle.std.proofs.lemmas.Grind.{flat_map-append}
 use Rattle.std.specs.Borrow.{Bor}
@@ -11,9 +11,9 @@ use Rattle.mm_render.specs.ClaimVariables.{added}
 use Rattle.mm_render.specs.Searching.{all_forms, patterns_of}
 use Rattle.mm_render.specs.VariablesView.{HaveNumbers, stack_variables, VariablesAreTaken, PutsVariables}
 use Rattle.mm_render.proofs.Looking.{all_forms-push}
-use Rattle.mm_render.proofs.LeafLaws.{both_true, split_true}
 use Rattle.mm_render.proofs.Separations.{has_append}
-use Rattle.mm_render.proofs.OpenCitingTexts.{same_is, same_itself, first_there, later_there}
+use Rattle.mm_render.proofs.OpenCitingTexts.{same_is, first_there, later_there}
+use Rattle.mm_render.proofs.OpenVariableLaws.{once_more}
 
 added-old : (vs : List Variable) (u : Variable) (us : List Variable) → has_variable vs u ≡ true → added vs (u ∷ us) ≡ added vs us
 added-old vs u us there = rw there refl
@@ -137,29 +137,6 @@ among_added vs (u ∷ us) v = go (has_variable vs u) refl (among_added vs us v) 
 
 pub just_others : (us : List Variable) (v : Variable) → has_variable (other_variables [] us) v ≡ has_variable us v
 just_others us v = among_added [] us v
-
-once_more : (vs : List Variable) (u : Variable) → are_once vs ≡ true → has_variable vs u ≡ false → are_once (vs ++ u ∷ []) ≡ true
-once_more [] u h k = refl
-once_more (v ∷ vs) u h k =
-    let new : (same_variable v u ≡ false) × (has_variable vs u ≡ false) = split_false (same_variable v u) (has_variable vs u) k in
-    let old : (not (has_variable vs v) ≡ true) × (are_once vs ≡ true) = split_true (not (has_variable vs v)) (are_once vs) h in
-    both_true (not (has_variable (vs ++ u ∷ []) v)) (are_once (vs ++ u ∷ [])) (not_there (has_variable vs v) (same_variable u v) (has_append vs (u ∷ []) v) old.0 (turned new.0)) (once_more vs u old.1 new.1)
-  where
-    split_false : (a b : Bool) → (a || b) ≡ false → (a ≡ false) × (b ≡ false)
-    split_false true b h = absurd (false≢true (sym h))
-    split_false false b h = (refl, h)
-
-    turned : same_variable v u ≡ false → same_variable u v ≡ false
-    turned h = go (same_variable u v) refl
-      where
-        go : (b : Bool) → same_variable u v ≡ b → same_variable u v ≡ false
-        go true is = absurd (false≢true (sym h ∙ subst (λ (w : Variable). same_variable w u ≡ true) (same_is u v is) (same_itself u)))
-        go false is = is
-
-    not_there : (a b : Bool) → has_variable (vs ++ u ∷ []) v ≡ (a || (b || false)) → not a ≡ true → b ≡ false → not (has_variable (vs ++ u ∷ []) v) ≡ true
-    not_there true b is h k = absurd (false≢true h)
-    not_there false true is h k = absurd (false≢true (sym k))
-    not_there false false is h k = ap not is
 
 added_once : (vs us : List Variable) → are_once vs ≡ true → are_once (added vs us) ≡ true
 added_once vs [] once = ap are_once (append-nil vs) ∙ once

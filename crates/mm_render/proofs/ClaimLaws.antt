@@ -10,8 +10,9 @@ use Rattle.mm_render.specs.Blocks.{open_over, AreOpenOver}
 use Rattle.mm_render.specs.OpenVariables.{variables_in, over_names}
 use Rattle.mm_render.specs.ClaimVariables.{claim_variables, AreOverNames, OverNamesIsClaim}
 use Rattle.mm_render.proofs.LeafLaws.{both_true}
-use Rattle.mm_render.proofs.OpenCitingTexts.{same_itself, first_there, later_there}
+use Rattle.mm_render.proofs.OpenCitingTexts.{first_there, later_there}
 use Rattle.mm_render.proofs.Separations.{has_append}
+use Rattle.mm_render.proofs.OpenVariableLaws.{leaves_among}
 use Rattle.mm_render.proofs.AddedVariables.{just_others, others_once}
 
 or_false : (a : Bool) → (a || false) ≡ a
@@ -59,24 +60,7 @@ in_second true b h = refl
 in_second false b h = h
 
 leaves_known : (declared : List Token) (vs : List Variable) (p : Pattern) → StandAmong p vs → EachLeaf (over_names declared) p → EachLeaf (open_over declared vs) p
-leaves_known declared vs bot w h = tt
-leaves_known declared vs top w h = tt
-leaves_known declared vs (imp p q) w h = (leaves_known declared vs p (λ v there. w v (in_first (stands_in v p) (stands_in v q) there)) h.0, leaves_known declared vs q (λ v there. w v (in_second (stands_in v p) (stands_in v q) there)) h.1)
-leaves_known declared vs (and p q) w h = (leaves_known declared vs p (λ v there. w v (in_first (stands_in v p) (stands_in v q) there)) h.0, leaves_known declared vs q (λ v there. w v (in_second (stands_in v p) (stands_in v q) there)) h.1)
-leaves_known declared vs (or p q) w h = (leaves_known declared vs p (λ v there. w v (in_first (stands_in v p) (stands_in v q) there)) h.0, leaves_known declared vs q (λ v there. w v (in_second (stands_in v p) (stands_in v q) there)) h.1)
-leaves_known declared vs (equal p q) w h = (leaves_known declared vs p (λ v there. w v (in_first (stands_in v p) (stands_in v q) there)) h.0, leaves_known declared vs q (λ v there. w v (in_second (stands_in v p) (stands_in v q) there)) h.1)
-leaves_known declared vs (member p q) w h = (leaves_known declared vs p (λ v there. w v (in_first (stands_in v p) (stands_in v q) there)) h.0, leaves_known declared vs q (λ v there. w v (in_second (stands_in v p) (stands_in v q) there)) h.1)
-leaves_known declared vs (app p q) w h = (leaves_known declared vs p (λ v there. w v (in_first (stands_in v p) (stands_in v q) there)) h.0, leaves_known declared vs q (λ v there. w v (in_second (stands_in v p) (stands_in v q) there)) h.1)
-leaves_known declared vs (not p) w h = leaves_known declared vs p w h
-leaves_known declared vs (next p) w h = leaves_known declared vs p w h
-leaves_known declared vs (ev p) w h = leaves_known declared vs p w h
-leaves_known declared vs (fun p s) w h = (leaves_known declared vs p w h.0, h.1)
-leaves_known declared vs (at_sort p s) w h = (leaves_known declared vs p w h.0, h.1)
-leaves_known declared vs (ex x s p) w h = (leaves_known declared vs p (λ v there. w v (in_second (same_variable (object_variable x) v) (stands_in v p) there)) h.0, (w (object_variable x) (in_first (same_variable (object_variable x) (object_variable x)) (stands_in (object_variable x) p) (same_itself (object_variable x))), h.1.1))
-leaves_known declared vs (all x s p) w h = (leaves_known declared vs p (λ v there. w v (in_second (same_variable (object_variable x) v) (stands_in v p) there)) h.0, (w (object_variable x) (in_first (same_variable (object_variable x) (object_variable x)) (stands_in (object_variable x) p) (same_itself (object_variable x))), h.1.1))
-leaves_known declared vs (var x) w h = w (object_variable x) (same_itself (object_variable x))
-leaves_known declared vs (meta i) w h = w (pattern_variable i) (same_itself (pattern_variable i))
-leaves_known declared vs (constant c) w h = h
+leaves_known declared vs p w h = leaves_among declared vs p (λ v there. w v (stands-in v p ∙ there)) h
 
 all_known : (declared : List Token) (vs : List Variable) (ps : List Pattern) → ((v : Variable) → list_any (stands_in v) ps ≡ true → has_variable vs v ≡ true) → AreOverNames declared ps → AreOpenOver declared vs ps
 all_known declared vs [] w h = tt

@@ -183,10 +183,6 @@ filtered_has test (u ∷ vs) v h there = go (test u) refl (same_variable u v) re
     go false at true is there behind = absurd (false≢true (sym at ∙ ap test (same_is u v is) ∙ h))
     go false at false is there behind = behind there
 
-pub header_no_pair : (a b : Token) → header_context.scope.apart a b ≡ false
-unfolding header_context
-header_no_pair a b = refl
-
 pub apart_inside : (declared : List Token) (k : ℕ) (c : Context) (at : ℕ) (vs : List Variable) (ps : List Pattern) (a b : Token) → Holds declared c → are_apart vs a b ≡ true → symbols_apart (inside_block declared k c at vs ps) a b ≡ true
 apart_inside declared k c at vs ps a b w h =
     let differ : not (bytes_eq a b) ≡ true = (split_true (not (bytes_eq a b)) _ h).0 in

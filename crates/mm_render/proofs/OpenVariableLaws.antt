@@ -47,7 +47,7 @@ among_behind : (us ws vs : List Variable) → Among (us ++ ws) vs → Among ws v
 among_behind us ws vs h v there = h v (behind us ws v there)
 
 -- a pattern over declared names whose variables are among some
-leaves_among : (declared : List Token) (vs : List Variable) (p : Pattern) → Among (variables_in p) vs → EachLeaf (over_names declared) p → EachLeaf (open_over declared vs) p
+pub leaves_among : (declared : List Token) (vs : List Variable) (p : Pattern) → Among (variables_in p) vs → EachLeaf (over_names declared) p → EachLeaf (open_over declared vs) p
 leaves_among declared vs bot w h = tt
 leaves_among declared vs top w h = tt
 leaves_among declared vs (imp p q) w h = (leaves_among declared vs p (among_front (variables_in p) (variables_in q) vs w) h.0, leaves_among declared vs q (among_behind (variables_in p) (variables_in q) vs w) h.1)
@@ -135,7 +135,7 @@ split_false false b h = (refl, h)
 not_false : (a : Bool) → a ≡ false → std.not a ≡ true
 not_false a h = rw h refl
 
-once_more : (vs : List Variable) (u : Variable) → are_once vs ≡ true → has_variable vs u ≡ false → are_once (vs ++ u ∷ []) ≡ true
+pub once_more : (vs : List Variable) (u : Variable) → are_once vs ≡ true → has_variable vs u ≡ false → are_once (vs ++ u ∷ []) ≡ true
 once_more [] u h k = refl
 once_more (v ∷ vs) u h k =
     let new : (same_variable v u ≡ false) × (has_variable vs u ≡ false) = split_false (same_variable v u) (has_variable vs u) k in
