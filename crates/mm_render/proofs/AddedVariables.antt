@@ -8,9 +8,9 @@ use Rattle.ml_pat.specs.Patterns.{Pattern, forms_in}
 use Rattle.mm_render.specs.Variables.{Variable, number_of, same_variable, has_variable, are_once, AreNumbered}
 use Rattle.mm_render.specs.OpenVariables.{variables_in, other_variables}
 use Rattle.mm_render.specs.ClaimVariables.{added}
-use Rattle.mm_render.specs.Searching.{all_forms, patterns_of}
+use Rattle.mm_proof.specs.Searching.{all_forms, patterns_of}
 use Rattle.mm_render.specs.VariablesView.{HaveNumbers, stack_variables, VariablesAreTaken, PutsVariables}
-use Rattle.mm_render.proofs.Looking.{all_forms-push}
+use Rattle.mm_proof.proofs.Looking.{all_forms-push}
 use Rattle.mm_render.proofs.Separations.{has_append}
 use Rattle.mm_render.proofs.OpenCitingTexts.{same_is, first_there, later_there}
 use Rattle.mm_render.proofs.OpenVariableLaws.{once_more}

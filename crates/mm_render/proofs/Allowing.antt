@@ -15,16 +15,16 @@ use Rattle.rule_core.specs.declared.rules.Program.{Program}
 use Rattle.ml_image.specs.Images.{image_of}
 use Rattle.ml_image.specs.Gained.{AreOwnTokens}
 use Rattle.mm_render.specs.Kept.{Kept}
-use Rattle.mm_render.specs.Leaves.{EachLeaf}
-use Rattle.mm_render.specs.Tokens.{own_naming}
-use Rattle.mm_render.specs.Derivations.{holds_text}
+use Rattle.mm_proof.specs.Leaves.{EachLeaf}
+use Rattle.mm_proof.specs.Tokens.{own_naming}
+use Rattle.mm_proof.specs.Derivations.{holds_text}
 use Rattle.mm_render.specs.Statements.{typecode_of}
 use Rattle.mm_render.specs.Stating.{closed_over, stated_assertion, stated_frame}
 use Rattle.mm_render.specs.Keeping.{FitsWhen, Fits, Gains}
 use Rattle.mm_render.specs.Places.{is_same, is_stated, lemma_statement}
 use Rattle.mm_render.specs.Justifying.{own_axiom, AreAllowed, AreTypings, HasOnlyAxiomsOf, Justifies}
 use Rattle.mm_render.specs.JustifyingLaws.{AllDeclared, AxiomHasOnly, TheoremHasOnly, TheoremJustifies, FitsLater, GainedAreOwn, ClosedStays, ClosedHasNoMeta, LastIsStated, StatedStays}
-use Rattle.mm_render.proofs.LeafLaws.{EachLeaf-implied}
+use Rattle.mm_proof.proofs.LeafLaws.{EachLeaf-implied}
 use Rattle.mm_render.proofs.FittingLaws.{name_of-front, take-all}
 use Rattle.mm_render.proofs.NamedStatements.{stated_is_valid}
 use Rattle.mm_render.proofs.KeyLaws.{is_same-of}

@@ -11,16 +11,16 @@ use Rattle.mm_frame.specs.FrameLaws.{Adds}
 use Rattle.mm_frame.specs.Writing.{MayBeStated}
 use Rattle.mm_header.specs.HeaderContext.{header_context}
 use Rattle.ml_pat.specs.Patterns.{Pattern}
-use Rattle.mm_render.specs.Tokens.{letters_of, text_by, own_naming}
-use Rattle.mm_render.specs.Labels.{name_label, statement_label, premise_label}
-use Rattle.mm_render.specs.Leaves.{EachLeaf}
-use Rattle.mm_render.specs.Derivations.{holds_text}
+use Rattle.mm_proof.specs.Tokens.{letters_of, text_by, own_naming}
+use Rattle.mm_proof.specs.Labels.{name_label, statement_label, premise_label}
+use Rattle.mm_proof.specs.Leaves.{EachLeaf}
+use Rattle.mm_proof.specs.Derivations.{holds_text}
 use Rattle.mm_render.specs.Statements.{NameKind, sort_name, symbol_name, value_name, kind_front, IsName}
 use Rattle.mm_render.specs.Fitting.{AreNames, Holds}
 use Rattle.mm_render.specs.Variables.{Variable, object_variable, pattern_variable, has_variable, are_once, AreNumbered, variable_token, variable_label, variable_tokens}
 use Rattle.mm_render.specs.Blocks.{Claim, IsClaim, open_over, AreOpenOver, premise_hypotheses, separations, head_statements, block, open_frame}
 use Rattle.mm_render.specs.Claiming.{IsFree, AreClaims, HoldsClaims}
-use Rattle.mm_render.proofs.LeafLaws.{EachLeaf-implied}
+use Rattle.mm_proof.proofs.LeafLaws.{EachLeaf-implied}
 use Rattle.mm_render.proofs.SpeltLaws.{statement_label-is_label, statement_label-differs}
 use Rattle.mm_render.proofs.StatedLaws.{both_false, either_true, itself, if_false, if_true, statement_no_active, name_no_statement, row_differs}
 use Rattle.mm_render.proofs.VariableLaws.{label_elsewhere, premise_elsewhere, no_other_among}

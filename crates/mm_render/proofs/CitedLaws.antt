@@ -3,11 +3,12 @@ use Rattle.std.proofs.Common.{ℕ, ◌<◌, ◌^◌, List, length}
 use Rattle.mm_text.specs.Bytes.{Token}
 use Rattle.mm_frame.specs.Database.{Context}
 use Rattle.ml_pat.specs.Patterns.{Pattern}
-use Rattle.mm_render.specs.Tokens.{own_naming}
-use Rattle.mm_render.specs.Labels.{statement_label}
+use Rattle.mm_proof.specs.Tokens.{own_naming}
+use Rattle.mm_proof.specs.Labels.{statement_label}
 use Rattle.mm_render.specs.Variables.{Variable, AreNumbered}
 use Rattle.mm_render.specs.Blocks.{Claim, open_over, open_frame}
-use Rattle.mm_render.specs.CitedAt.{CitesSoundly, claims_citing, citable, ArePremises}
+use Rattle.mm_proof.specs.MayCite.{CitesSoundly}
+use Rattle.mm_render.specs.CitedAt.{claims_citing, citable, ArePremises}
 use Rattle.mm_render.specs.Claiming.{HoldsClaims}
 use Rattle.mm_render.proofs.BlockLaws.{inside_block}
 use Rattle.mm_render.proofs.OpenServes.{assertion_inside, premise_inside, serves_inside}

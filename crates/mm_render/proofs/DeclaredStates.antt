@@ -18,7 +18,7 @@ use Rattle.ml_pat.specs.Patterns.{Pattern}
 use Rattle.ml_pat.specs.Named.{AreDistinct, IsNoneOf}
 use Rattle.rule_core.specs.declared.rules.Program.{Program}
 use Rattle.ml_image.specs.Gained.{AreOwnTokens}
-use Rattle.mm_render.specs.Labels.{name_label}
+use Rattle.mm_proof.specs.Labels.{name_label}
 use Rattle.mm_render.specs.Statements.{typecode_of, all_name_statements}
 use Rattle.mm_render.specs.Fitting.{AreNames, name_frame, Holds}
 use Rattle.mm_render.specs.Stating.{FitsStated}

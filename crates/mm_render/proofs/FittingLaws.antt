@@ -19,8 +19,8 @@ use Rattle.mm_frame.proofs.Continued.{axiom_is_fine}
 use Rattle.mm_header.specs.Header.{header_rows}
 use Rattle.mm_header.specs.HeaderContext.{header_context, header_labels}
 use Rattle.ml_pat.specs.Named.{AreDistinct, IsNoneOf}
-use Rattle.mm_render.specs.Labels.{name_label}
-use Rattle.mm_render.specs.Tokens.{name_of}
+use Rattle.mm_proof.specs.Labels.{name_label}
+use Rattle.mm_proof.specs.Tokens.{name_of}
 use Rattle.mm_render.specs.Statements.{IsName, sort_name, symbol_name, value_name, kind_front, NameKind, typecode_of, name_statements, all_name_statements}
 use Rattle.mm_render.specs.Fitting.{AreNames, name_frame, Holds}
 use Rattle.mm_render.proofs.NameLaws.{NameFacts, name_facts, name_label-is_label, name_label-plain, name_label-clean, name_label-differs, no_label_among}

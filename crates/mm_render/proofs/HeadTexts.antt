@@ -7,10 +7,10 @@ use Rattle.mm_text.specs.TextLaws.{written}
 use Rattle.mm_frame.specs.Proofs.{postorder}
 use Rattle.mm_frame.specs.FrameLaws.{written_statements, proof_tokens}
 use Rattle.ml_pat.specs.Patterns.{Pattern}
-use Rattle.mm_render.specs.Labels.{statement_label}
-use Rattle.mm_render.specs.Tokens.{tokens_of}
+use Rattle.mm_proof.specs.Labels.{statement_label}
+use Rattle.mm_proof.specs.Tokens.{tokens_of}
 use Rattle.mm_render.specs.TheoremText.{TheoremBlockText}
-use Rattle.mm_render.proofs.WrittenTogether.{theorem_text}
+use Rattle.mm_proof.proofs.WrittenTogether.{theorem_text}
 use Rattle.mm_render.specs.Variables.{Variable, object_variable, pattern_variable, is_object, variable_token, variable_tokens, object_tokens, are_several}
 use Rattle.mm_render.specs.Blocks.{head_statements, variable_statements, separations, separation_statements, premise_statements}
 use Rattle.mm_render.specs.declared.variables.Variable as code

@@ -12,16 +12,16 @@ use Rattle.ml_kernel.specs.Theorems.{Theorem}
 use Rattle.ml_kernel.specs.Concluding.{Concludes, IsKept}
 use Rattle.mm_frame.specs.Proofs.{ProofTree, postorder}
 use Rattle.mm_render.specs.Kept.{Kept}
-use Rattle.mm_render.specs.Labels.{statement_label, own_labels}
-use Rattle.mm_render.specs.Leaves.{EachLeaf}
-use Rattle.mm_render.specs.Tokens.{name_of, own_naming}
-use Rattle.mm_render.specs.Derivations.{holds_text, derivation_tree}
+use Rattle.mm_proof.specs.Labels.{statement_label, own_labels}
+use Rattle.mm_proof.specs.Leaves.{EachLeaf}
+use Rattle.mm_proof.specs.Tokens.{name_of, own_naming}
+use Rattle.mm_proof.specs.Derivations.{holds_text, derivation_tree}
 use Rattle.mm_render.specs.Statements.{all_name_statements}
 use Rattle.mm_render.specs.Stating.{FitsStated, closed_over, stated_assertion, axiom_statement, theorem_statement, closed_citing, ArePlaced}
 use Rattle.mm_render.specs.Keeping.{FitsWhen, Gains, MayState, axiom_at, with_stated, EmptyFits, BegunFits, DeclaredFits}
 use Rattle.mm_render.specs.Places.{Places, stated_cites, lemma_statement, MayProve}
-use Rattle.mm_render.proofs.LeafLaws.{EachLeaf-implied}
-use Rattle.mm_render.proofs.AgreeLaws.{agreeing, text-agrees}
+use Rattle.mm_proof.proofs.LeafLaws.{EachLeaf-implied}
+use Rattle.mm_proof.proofs.AgreeLaws.{agreeing, text-agrees}
 use Rattle.mm_render.proofs.FittingLaws.{name_of-front, take-all, take-drop}
 use Rattle.mm_render.proofs.NamedStatements.{declared_fits_stated, closed_at}
 use Rattle.mm_render.proofs.StatedLaws.{GainsJust, header_fits_stated, axiom_fits, axiom_gains_just, theorem_fits, theorem_gains_just}

@@ -12,12 +12,12 @@ use Rattle.mm_frame.specs.Forms.{has_dollar}
 use Rattle.mm_frame.specs.Frames.{frame_of}
 use Rattle.mm_header.specs.Header.{header_rows}
 use Rattle.mm_header.specs.HeaderContext.{header_context, header_labels}
-use Rattle.mm_render.specs.Labels.{name_label}
+use Rattle.mm_proof.specs.Labels.{name_label}
 use Rattle.mm_render.specs.Statements.{NameKind, sort_name, symbol_name, value_name, kind_front, is_name_byte, IsName, typecode_of}
 use Rattle.mm_render.specs.Fitting.{name_frame, AreNames}
 use Rattle.mm_render.specs.Variables.{is_variable_token}
-use Rattle.mm_render.proofs.LeafLaws.{both_true, split_true}
-use Rattle.mm_render.proofs.Decimals.{list_all-decimal, decimal-same}
+use Rattle.mm_proof.proofs.LeafLaws.{both_true, split_true}
+use Rattle.mm_proof.proofs.Decimals.{list_all-decimal, decimal-same}
 
 -- what is known of a name's token
 pub record NameFacts (t : Token) : Type 0 where

@@ -10,16 +10,16 @@ use Rattle.mm_frame.specs.Database.{Context}
 use Rattle.mm_frame.proofs.Continued.{continued_leaves, leaves_is_valid}
 use Rattle.ml_pat.specs.Patterns.{Pattern}
 use Rattle.ml_pat.specs.Named.{AreDistinct}
-use Rattle.mm_render.specs.Labels.{name_label, statement_label}
-use Rattle.mm_render.specs.Leaves.{EachLeaf}
-use Rattle.mm_render.specs.Serving.{closed_frame}
-use Rattle.mm_render.specs.Tokens.{own_naming}
-use Rattle.mm_render.specs.Derivations.{holds_text}
+use Rattle.mm_proof.specs.Labels.{name_label, statement_label}
+use Rattle.mm_proof.specs.Leaves.{EachLeaf}
+use Rattle.mm_proof.specs.Serving.{closed_frame}
+use Rattle.mm_proof.specs.Tokens.{own_naming}
+use Rattle.mm_proof.specs.Derivations.{holds_text}
 use Rattle.mm_render.specs.Statements.{IsName, typecode_of, all_name_statements}
 use Rattle.mm_render.specs.Fitting.{AreNames}
 use Rattle.mm_render.specs.Stating.{FitsStated, closed_over, AreClosedOver, HoldsStated, NamesFitStated, StatedIsValid}
-use Rattle.mm_render.proofs.LeafLaws.{EachLeaf-implied}
-use Rattle.mm_render.proofs.AgreeLaws.{agreeing, text-agrees}
+use Rattle.mm_proof.proofs.LeafLaws.{EachLeaf-implied}
+use Rattle.mm_proof.proofs.AgreeLaws.{agreeing, text-agrees}
 use Rattle.mm_render.proofs.NameLaws.{name_label-is_label}
 use Rattle.mm_render.proofs.FittingLaws.{with_name, IsNew, name_holds, behind_names, closed_names, adds_names, none_has, AreNames-front, AreNames-next, name_of-front, take-drop, length-front}
 

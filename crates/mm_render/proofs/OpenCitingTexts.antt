@@ -9,16 +9,16 @@ use Rattle.mm_frame.specs.Proofs.{Expression, instance_of, substituted}
 use Rattle.mm_frame.specs.Stack.{bindings_of, text_of}
 use Rattle.ml_pat.specs.Patterns.{Pattern, bot, top, imp, not, and, or, equal, member, fun, ex, all, app, at_sort, next, ev, var, meta, constant}
 use Rattle.ml_kernel.specs.Lemmas.{instance, instances, HasNoVariable, HaveNoVariables}
-use Rattle.mm_render.specs.Tokens.{Naming, letters_of, bracket, bracketed, text_by, object_token, meta_token, own_naming, name_of, holds}
-use Rattle.mm_render.specs.Leaves.{LeafFacts, EachLeaf}
-use Rattle.mm_render.specs.Derivations.{holds_text}
-use Rattle.mm_render.specs.Serving.{punctuation}
+use Rattle.mm_proof.specs.Tokens.{Naming, letters_of, bracket, bracketed, text_by, object_token, meta_token, own_naming, name_of, holds}
+use Rattle.mm_proof.specs.Leaves.{LeafFacts, EachLeaf}
+use Rattle.mm_proof.specs.Derivations.{holds_text}
+use Rattle.mm_proof.specs.Serving.{punctuation}
 use Rattle.mm_render.specs.Fitting.{AreNames}
 use Rattle.mm_render.specs.Variables.{Variable, object_variable, pattern_variable, same_variable, has_variable, number_of, AreNumbered, variable_token, variable_type, is_variable_token}
 use Rattle.mm_render.specs.Blocks.{variable_float, premise_hypotheses, open_over, AreOpenOver}
-use Rattle.mm_render.proofs.Schemes.{Leaves, under, judgement-under}
-use Rattle.mm_render.proofs.LeafLaws.{EachLeaf-implied, other_leaves}
-use Rattle.mm_render.proofs.Decimals.{decimal-same}
+use Rattle.mm_proof.proofs.Schemes.{Leaves, under, judgement-under}
+use Rattle.mm_proof.proofs.LeafLaws.{EachLeaf-implied, other_leaves}
+use Rattle.mm_proof.proofs.Decimals.{decimal-same}
 use Rattle.mm_render.proofs.NameLaws.{name_facts}
 
 -- variables and their tokens

@@ -24,16 +24,16 @@ use Rattle.mm_header.proofs.HeaderFrames.{header_only}
 use Rattle.mm_header.proofs.HeaderValid.{header_fine, header_ends}
 use Rattle.ml_pat.specs.Patterns.{Pattern}
 use Rattle.ml_kernel.specs.Theorems.{Derivation}
-use Rattle.mm_render.specs.Tokens.{letters_of, text_by, own_naming}
-use Rattle.mm_render.specs.Labels.{statement_label, premise_label, own_labels}
-use Rattle.mm_render.specs.Derivations.{holds_text, derivation_tree}
+use Rattle.mm_proof.specs.Tokens.{letters_of, text_by, own_naming}
+use Rattle.mm_proof.specs.Labels.{statement_label, premise_label, own_labels}
+use Rattle.mm_proof.specs.Derivations.{holds_text, derivation_tree}
 use Rattle.mm_render.specs.Fitting.{Holds}
 use Rattle.mm_render.specs.CitedAt.{claims_citing, citable}
 use Rattle.mm_render.specs.Variables.{Variable, object_variable, pattern_variable, are_once, AreNumbered, variable_token, variable_label}
 use Rattle.mm_render.specs.Blocks.{Claim, IsClaim, head_statements, block, axiom_block, theorem_block, open_over, variable_float, premise_hypotheses, open_assertion}
 use Rattle.mm_render.specs.Stating.{axiom_statement, theorem_statement}
 use Rattle.mm_render.specs.Claiming.{FitsClaims, GainsClaim, HoldsClaims, ClaimsAreValid, HeaderFitsClaims, AxiomBlockFits, AxiomBlockIsGained, IsProvable, TheoremBlockFits, TheoremBlockIsGained}
-use Rattle.mm_render.proofs.LeafLaws.{split_true, both_true}
+use Rattle.mm_proof.proofs.LeafLaws.{split_true, both_true}
 use Rattle.mm_render.proofs.SpeltLaws.{label_facts, statement_label-is_label, header_spelt, hypothesis_spelt, types_spelt, postorder_spelt, labels_plain, labels_go_on, labels_clean, labels_uncompressed}
 use Rattle.mm_render.proofs.FittingLaws.{header_holds, header_closed}
 use Rattle.mm_render.proofs.StatedLaws.{header_no_active, axiom_plain, axiom_one, theorem_plain, theorem_one}
@@ -43,7 +43,7 @@ use Rattle.mm_render.proofs.OpenTexts.{open_symbols, own_hypotheses}
 use Rattle.mm_render.proofs.OpenFrames.{frame_is}
 use Rattle.mm_render.proofs.OpenServes.{serves_inside}
 use Rattle.mm_render.proofs.CitedLaws.{claims_sound}
-use Rattle.mm_render.proofs.OpenCitingDerivations.{cited_proves}
+use Rattle.mm_proof.proofs.OpenCitingDerivations.{cited_proves}
 use Rattle.mm_render.proofs.BlockLaws.{inside_block, behind_block, block_left, claims_hold, ground, all_more_variables, claim_may_be_stated, block_adds}
 
 pub claims_are_valid : ClaimsAreValid

@@ -10,16 +10,16 @@ use Rattle.mm_frame.specs.Database.{Context, are_different_tokens}
 use Rattle.mm_frame.specs.Proofs.{active_hypothesis, hypothesis_of, symbols_apart}
 use Rattle.mm_header.specs.HeaderContext.{header_context}
 use Rattle.ml_pat.specs.Patterns.{Pattern}
-use Rattle.mm_render.specs.Tokens.{name_of, own_naming, object_token, meta_token}
-use Rattle.mm_render.specs.Labels.{name_label, premise_label, own_labels}
-use Rattle.mm_render.specs.Serving.{IsAssertion, closed_frame, Declares, Serves, punctuation}
-use Rattle.mm_render.specs.Derivations.{holds_text}
+use Rattle.mm_proof.specs.Tokens.{name_of, own_naming, object_token, meta_token}
+use Rattle.mm_proof.specs.Labels.{name_label, premise_label, own_labels}
+use Rattle.mm_proof.specs.Serving.{IsAssertion, closed_frame, Declares, Serves, punctuation}
+use Rattle.mm_proof.specs.Derivations.{holds_text}
 use Rattle.mm_render.specs.Statements.{typecode_of}
 use Rattle.mm_render.specs.Fitting.{Holds}
 use Rattle.mm_render.specs.Variables.{Variable, object_variable, pattern_variable, is_object, number_of, same_variable, has_variable, AreNumbered, variable_label, variable_tokens, object_tokens, is_variable_token}
 use Rattle.mm_render.specs.Blocks.{Claim, open_over, variable_float, premise_hypotheses, separations, are_apart}
 use Rattle.mm_render.specs.Claiming.{IsFree, HoldsClaims}
-use Rattle.mm_render.proofs.LeafLaws.{both_true, split_true}
+use Rattle.mm_proof.proofs.LeafLaws.{both_true, split_true}
 use Rattle.mm_render.proofs.NameLaws.{name_facts}
 use Rattle.mm_render.proofs.StatedLaws.{both_false, either_true, second_true, not_false, itself, name_at, fixed_variables, fixed_constants}
 use Rattle.mm_render.proofs.VariableLaws.{same_is, token_differs, label_differs, premise_differs, no_other_among}

@@ -11,15 +11,15 @@ use Rattle.mm_frame.specs.Database.{Context}
 use Rattle.mm_frame.specs.Validity.{is_typed, has_type}
 use Rattle.mm_header.specs.HeaderContext.{header_context}
 use Rattle.ml_pat.specs.Patterns.{Pattern}
-use Rattle.mm_render.specs.Tokens.{letters_of, text_by, name_of, own_naming}
-use Rattle.mm_render.specs.Labels.{premise_label}
-use Rattle.mm_render.specs.Leaves.{EachLeaf}
-use Rattle.mm_render.specs.Serving.{punctuation}
-use Rattle.mm_render.specs.Derivations.{holds_text}
+use Rattle.mm_proof.specs.Tokens.{letters_of, text_by, name_of, own_naming}
+use Rattle.mm_proof.specs.Labels.{premise_label}
+use Rattle.mm_proof.specs.Leaves.{EachLeaf}
+use Rattle.mm_proof.specs.Serving.{punctuation}
+use Rattle.mm_proof.specs.Derivations.{holds_text}
 use Rattle.mm_render.specs.Fitting.{AreNames, Holds}
 use Rattle.mm_render.specs.Variables.{Variable, object_variable, pattern_variable, number_of, same_variable, has_variable, are_once, AreNumbered, variable_token, variable_tokens}
 use Rattle.mm_render.specs.Blocks.{open_over, AreOpenOver, variable_statements, variable_float, separations, separated, separation_statements, premise_statements, premise_hypotheses, head_statements}
-use Rattle.mm_render.proofs.LeafLaws.{EachLeaf-implied, tested_leaves, PassFixed, both_true, list_all-text}
+use Rattle.mm_proof.proofs.LeafLaws.{EachLeaf-implied, tested_leaves, PassFixed, both_true, list_all-text}
 use Rattle.mm_render.proofs.NameLaws.{name_facts}
 use Rattle.mm_render.proofs.StatedLaws.{both_false, either_true, second_true, not_false, has_name, name_at, header_fixed, header_turnstile}
 use Rattle.mm_render.proofs.VariableLaws.{variable_facts, same_is, premise_differs}

@@ -8,13 +8,14 @@ use Rattle.ml_pat.specs.Patterns.{Pattern, bot, top, imp, not, and, or, equal, m
 use Rattle.ml_kernel.specs.Lemmas.{instance}
 use Rattle.ml_kernel.specs.ProofRows.{Instance, pattern, variable, sort}
 use Rattle.ml_kernel.specs.Theorems.{Derivation, Derivations, hypothesis, own_axiom, row, cited, no_derivation, more_derivations}
-use Rattle.mm_render.specs.Leaves.{EachLeaf, EachInstance}
-use Rattle.mm_render.specs.Derivations.{EachUsed, AllUsed}
+use Rattle.mm_proof.specs.Leaves.{EachLeaf, EachInstance}
+use Rattle.mm_proof.specs.Derivations.{EachUsed, AllUsed}
 use Rattle.mm_render.specs.Variables.{Variable, object_variable, pattern_variable, same_variable, has_variable, are_once, AreNumbered}
 use Rattle.mm_render.specs.Blocks.{Claim, open_over}
-use Rattle.mm_render.specs.CitedAt.{EachCited, AllCited, claim_at, HaveInstances, IsCitable, citable}
+use Rattle.mm_proof.specs.MayCite.{EachCited, AllCited}
+use Rattle.mm_render.specs.CitedAt.{claim_at, HaveInstances, IsCitable, citable}
 use Rattle.mm_render.specs.OpenVariables.{variables_in, variables_for, variables_at, variables_of, all_variables_of, other_variables, over_names, NeededAreEnough}
-use Rattle.mm_render.proofs.LeafLaws.{both_true, split_true, not_true}
+use Rattle.mm_proof.proofs.LeafLaws.{both_true, split_true, not_true}
 use Rattle.mm_render.proofs.OpenCitingTexts.{same_is, same_itself, case_variable, first_there, later_there}
 use Rattle.mm_render.proofs.OpenCiting.{claim_is}
 

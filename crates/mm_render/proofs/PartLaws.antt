@@ -1,24 +1,23 @@
 -- Parts on a stack.
-use Rattle.std.proofs.Common.{◌≡◌, ℕ, ◌+◌, ◌*◌, ◌<◌, ◌≤◌, Bool, true, false, List, [], ◌∷◌, ◌++◌, map, refl, ap, ◌∙◌, sym, append_assoc, append-nil, arith}
-use Rattle.std.specs.Prelude.{◌==◌, ◌||◌, if◌then◌else◌}
-use Rattle.std.proofs.lemmas.Grind.{flat_map-append}
+use Rattle.std.proofs.Common.{◌≡◌, ℕ, ◌+◌, ◌*◌, ◌<◌, ◌≤◌, List, [], ◌∷◌, ◌++◌, refl, ap, ◌∙◌, sym, append_assoc, append-nil, arith}
 use Rattle.std.specs.Borrow.{Bor}
 use Rattle.mm_text.specs.Bytes.{Token}
 use Rattle.mm_text.specs.TextLaws.{written}
-use Rattle.mm_frame.specs.Proofs.{ProofTree, postorder, all_postorder}
+use Rattle.mm_frame.specs.Proofs.{postorder}
 use Rattle.ml_pat.specs.Patterns.{Pattern}
 use Rattle.ml_kernel.specs.ProofRows.{Instance}
 use Rattle.ml_kernel.specs.Theorems.{Derivation, Derivations, row}
 use Rattle.ml_kernel.specs.StepsIn.{steps_in, all_steps}
-use Rattle.mm_render.specs.Tokens.{Naming}
-use Rattle.mm_render.specs.Trees.{trees_of, instance_tree, premise_trees, row_tree, rule_label, fresh_tree, pattern_at, variable_at}
-use Rattle.mm_render.specs.Labels.{own_labels}
-use Rattle.mm_render.specs.Parts.{all_labels, instance_labels, trees_before, trees_behind, part_tokens, parts_tokens, part_weight, parts_weight, proof_of, PutsParts, PartIsTaken, rest_of_row}
-use Rattle.mm_render.specs.Derivations.{derivation_trees}
+use Rattle.mm_proof.specs.Trees.{fresh_tree, pattern_at, variable_at}
+use Rattle.mm_proof.specs.Labels.{own_labels}
+use Rattle.mm_proof.specs.RowLabels.{all_labels, instance_labels, trees_before, trees_behind}
+use Rattle.mm_render.specs.Parts.{part_tokens, parts_tokens, part_weight, parts_weight, proof_of, PutsParts, PartIsTaken, rest_of_row}
+use Rattle.mm_proof.specs.Derivations.{derivation_trees}
 use Rattle.mm_render.specs.Stating.{closed_citing}
-use Rattle.mm_render.proofs.WrittenTogether.{written-append}
+use Rattle.mm_proof.proofs.RowLabelLaws.{row_labels}
+use Rattle.mm_proof.proofs.WrittenTogether.{written-append}
 use Rattle.ml_pat.specs.declared.numbers.VarNo.{VarNo}
-use Rattle.mm_render.specs.declared.works.Work.TheVariants as work
+use Rattle.mm_proof.specs.declared.works.Work.TheVariants as work
 use Rattle.mm_render.specs.declared.derivations.Part.{Part}
 use Rattle.mm_render.specs.declared.derivations.Part.TheVariants as part
 
@@ -75,39 +74,6 @@ pub part_smaller : (names : List Token) (k : ℕ) (place : Pattern → ℕ) (p :
 part_smaller names k place p before popped new text text' is taken =
     let e : parts_weight before ≡ parts_weight popped + part_weight p = ap parts_weight is ∙ parts_weight-push popped p in
     omega (arith, e, taken.weight)
-
--- the labels of a rule
-
-all_postorder-of : (trees : List ProofTree) → all_postorder (trees_of trees) ≡ all_labels trees
-all_postorder-of [] = refl
-all_postorder-of (t ∷ trees) = ap (λ (ts : List Token). postorder t ++ ts) (all_postorder-of trees)
-
-labels_of-instances : (k : ℕ) (is : List Instance) (trees : List ProofTree) → all_labels (map (instance_tree (own_labels k)) is ++ trees) ≡ instance_labels k is ++ all_labels trees
-labels_of-instances k [] trees = refl
-labels_of-instances k (i ∷ is) trees = ap (λ (ts : List Token). postorder (instance_tree (own_labels k) i) ++ ts) (labels_of-instances k is trees) ∙ sym (append_assoc (postorder (instance_tree (own_labels k) i)) (instance_labels k is) (all_labels trees))
-
-premises_split : (l : Naming) (n : ℕ) (is : List Instance) (trees : List ProofTree) → premise_trees l n is trees ≡ trees_before l n is ++ (trees ++ trees_behind l n is)
-premises_split l n is trees = go (n == 13) (n == 15) (n == 17) ((n == 20) || ((n == 22) || (n == 23))) _ _ _ _ _
-  where
-    go : (a b d e : Bool) (s f u v p : ProofTree) → (if a then s ∷ trees else (if b then trees ++ f ∷ [] else (if d then u ∷ (v ∷ trees) else (if e then p ∷ trees else trees))))
-        ≡ (if a then s ∷ [] else (if b then [] else (if d then u ∷ (v ∷ []) else (if e then p ∷ [] else [])))) ++ (trees ++ (if a then [] else (if b then f ∷ [] else [])))
-    go true b d e s f u v p = ap (λ (ts : List ProofTree). s ∷ ts) (sym (append-nil trees))
-    go false true d e s f u v p = refl
-    go false false true e s f u v p = ap (λ (ts : List ProofTree). u ∷ (v ∷ ts)) (sym (append-nil trees))
-    go false false false true s f u v p = ap (λ (ts : List ProofTree). p ∷ ts) (sym (append-nil trees))
-    go false false false false s f u v p = sym (append-nil trees)
-
-pub row_labels : (k n : ℕ) (is : List Instance) (trees : List ProofTree)
-    → postorder (row_tree (own_labels k) n is trees) ≡ instance_labels k is ++ (all_labels (trees_before (own_labels k) n is) ++ (all_labels trees ++ (all_labels (trees_behind (own_labels k) n is) ++ rule_label n ∷ [])))
-row_labels k n is trees =
-    let l : Naming = own_labels k in
-    let before : List Token = all_labels (trees_before l n is) in
-    let behind : List Token = all_labels (trees_behind l n is) in
-    ap (λ (ts : List Token). ts ++ rule_label n ∷ []) (all_postorder-of (map (instance_tree (own_labels k)) is ++ premise_trees l n is trees) ∙ labels_of-instances k is (premise_trees l n is trees)
-    ∙ ap (λ (ts : List ProofTree). instance_labels k is ++ all_labels ts) (premises_split l n is trees)
-    ∙ ap (λ (ts : List Token). instance_labels k is ++ ts) (flat_map-append postorder (trees_before l n is) (trees ++ trees_behind l n is) ∙ ap (λ (ts : List Token). before ++ ts) (flat_map-append postorder trees (trees_behind l n is))))
-    ∙ append_assoc (instance_labels k is) (before ++ (all_labels trees ++ behind)) (rule_label n ∷ [])
-    ∙ ap (λ (ts : List Token). instance_labels k is ++ ts) (append_assoc before (all_labels trees ++ behind) (rule_label n ∷ []) ∙ ap (λ (ts : List Token). before ++ ts) (append_assoc (all_labels trees) behind (rule_label n ∷ [])))
 
 -- a rule is taken apart
 pub row_taken : (names : List Token) (k : ℕ) (place : Pattern → ℕ) (p : Part) (d : Bor Derivation) (n : ℕ) (is : List Instance) (ds : Derivations) (old new : List Part) (text text' text'' : List ℕ) → p ≡ part.Derived d → d.now ≡ row n is ds

@@ -12,7 +12,7 @@ use Rattle.mm_frame.specs.Expansion.{has_repeated}
 use Rattle.mm_frame.specs.FrameLaws.{are_clean}
 use Rattle.mm_render.specs.Variables.{Variable, object_variable, pattern_variable, is_object, number_of, same_variable, has_variable, are_once, AreNumbered, variable_token, variable_tokens, object_tokens, are_several}
 use Rattle.mm_render.specs.Blocks.{separated, separations, are_apart}
-use Rattle.mm_render.proofs.LeafLaws.{both_true, split_true, not_true}
+use Rattle.mm_proof.proofs.LeafLaws.{both_true, split_true, not_true}
 use Rattle.mm_render.proofs.StatedLaws.{both_false, not_false, second_true, itself}
 use Rattle.mm_render.proofs.VariableLaws.{VariableFacts, variable_facts, token_differs, same_is, itself_same}
 use Rattle.mm_render.proofs.InsideLaws.{list_any-append, map-append, AreSymbols}

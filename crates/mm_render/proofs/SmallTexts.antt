@@ -19,10 +19,10 @@ use Rattle.rule_core.specs.declared.rules.Program.{Program}
 use Rattle.ml_image.specs.Tokens.{token_of_symbol, numbered}
 use Rattle.rule_core.specs.ProgramView.{rewrite_rule}
 use Rattle.ml_image.specs.Images.{both, image_of}
-use Rattle.mm_render.specs.Labels.{own_labels}
-use Rattle.mm_render.specs.Leaves.{EachLeaf}
-use Rattle.mm_render.specs.Tokens.{name_of, own_naming}
-use Rattle.mm_render.specs.Derivations.{holds_text, Cites, EachUsed, derivation_tree}
+use Rattle.mm_proof.specs.Labels.{own_labels}
+use Rattle.mm_proof.specs.Leaves.{EachLeaf}
+use Rattle.mm_proof.specs.Tokens.{name_of, own_naming}
+use Rattle.mm_proof.specs.Derivations.{holds_text, Cites, EachUsed, derivation_tree}
 use Rattle.mm_render.specs.Statements.{symbol_name, typecode_of, all_name_statements}
 use Rattle.mm_render.specs.Fitting.{AreNames}
 use Rattle.mm_render.specs.Stating.{FitsStated, closed_over, theorem_statement, closed_citing, ArePlaced, stated_frame, stated_assertion}

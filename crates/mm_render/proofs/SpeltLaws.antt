@@ -16,11 +16,11 @@ use Rattle.mm_frame.specs.Writing.{begins_compressed}
 use Rattle.mm_header.specs.Header.{Row, header_rows}
 use Rattle.mm_header.specs.HeaderContext.{header_context}
 use Rattle.mm_header.proofs.HeaderFrames.{header_only}
-use Rattle.mm_render.specs.Labels.{statement_label}
+use Rattle.mm_proof.specs.Labels.{statement_label}
 use Rattle.mm_render.specs.Statements.{is_name_byte}
-use Rattle.mm_render.proofs.LeafLaws.{both_true, split_true, list_all-append}
+use Rattle.mm_proof.proofs.LeafLaws.{both_true, split_true, list_all-append}
 use Rattle.mm_render.proofs.NameLaws.{all_printing, no_dollars}
-use Rattle.mm_render.proofs.Decimals.{list_all-decimal, decimal-same}
+use Rattle.mm_proof.proofs.Decimals.{list_all-decimal, decimal-same}
 
 -- what is known of a label's tokens
 pub record LabelFacts (t : Token) : Type 0 where

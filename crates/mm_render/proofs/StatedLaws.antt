@@ -26,12 +26,12 @@ use Rattle.ml_pat.specs.Patterns.{Pattern}
 use Rattle.ml_kernel.specs.Theorems.{Derivation}
 use Rattle.ml_kernel.specs.Concluding.{Concludes}
 use Rattle.ml_kernel.proofs.InstanceLaws.{instance-without}
-use Rattle.mm_render.specs.Labels.{name_label, statement_label, own_labels}
-use Rattle.mm_render.specs.Leaves.{EachLeaf}
-use Rattle.mm_render.specs.Serving.{IsAssertion, closed_frame, punctuation, Declares, Serves}
-use Rattle.mm_render.specs.Tokens.{letters_of, text_by, name_of, own_naming}
-use Rattle.mm_render.specs.Trees.{cite}
-use Rattle.mm_render.specs.Derivations.{holds_text, Cites, CitesOnly, EachUsed, derivation_tree, AreSound}
+use Rattle.mm_proof.specs.Labels.{name_label, statement_label, own_labels}
+use Rattle.mm_proof.specs.Leaves.{EachLeaf}
+use Rattle.mm_proof.specs.Serving.{IsAssertion, closed_frame, punctuation, Declares, Serves}
+use Rattle.mm_proof.specs.Tokens.{letters_of, text_by, name_of, own_naming}
+use Rattle.mm_proof.specs.Trees.{cite}
+use Rattle.mm_proof.specs.Derivations.{holds_text, Cites, CitesOnly, EachUsed, derivation_tree, AreSound}
 use Rattle.mm_render.specs.Statements.{NameKind, sort_name, symbol_name, value_name, kind_front, IsName, typecode_of}
 use Rattle.mm_render.specs.Fitting.{AreNames, Holds}
 use Rattle.mm_render.specs.Variables.{is_variable_token}
@@ -40,11 +40,11 @@ use Rattle.mm_frame.proofs.Stated.{appended_states}
 use Rattle.mm_text.proofs.Writing.{written_statement}
 use Rattle.mm_text.specs.Statements.{Statements, next_statement, statements_from}
 use Rattle.mm_render.specs.Stating.{FitsStated, stated_assertion, AxiomIsGained, TheoremIsGained, closed_over, AreClosedOver, stated_frame, HoldsStated, axiom_statement, theorem_statement, closed_citing, ArePlaced, HeaderFitsStated, AxiomFits, TheoremFits}
-use Rattle.mm_render.proofs.LeafLaws.{EachLeaf-implied, tested_leaves, PassFixed, both_true, list_all-append, list_all-text}
+use Rattle.mm_proof.proofs.LeafLaws.{EachLeaf-implied, tested_leaves, PassFixed, both_true, list_all-append, list_all-text}
 use Rattle.mm_render.proofs.NameLaws.{name_facts}
 use Rattle.mm_render.proofs.SpeltLaws.{LabelFacts, label_facts, header_spelt, header_active_spelt, postorder_spelt, labels_clean, labels_plain, labels_go_on, labels_uncompressed, statement_label-is_label, statement_label-differs}
-use Rattle.mm_render.proofs.Schemes.{leads-by}
-use Rattle.mm_render.proofs.DerivationProofs.{derivation_proves}
+use Rattle.mm_proof.proofs.Schemes.{leads-by}
+use Rattle.mm_proof.proofs.DerivationProofs.{derivation_proves}
 use Rattle.mm_render.proofs.FittingLaws.{header_holds, header_closed}
 
 pub both_false : (a b : Bool) → a ≡ false → b ≡ false → (a || b) ≡ false

@@ -11,12 +11,12 @@ use Rattle.mm_frame.specs.Forms.{has_dollar}
 use Rattle.mm_frame.specs.Frames.{types}
 use Rattle.mm_header.specs.Header.{header_rows}
 use Rattle.mm_header.specs.HeaderContext.{header_context, header_labels}
-use Rattle.mm_render.specs.Labels.{two_numbers, premise_label}
+use Rattle.mm_proof.specs.Labels.{two_numbers, premise_label}
 use Rattle.mm_render.specs.Statements.{NameKind, sort_name, symbol_name, value_name, kind_front, is_name_byte, IsName}
 use Rattle.mm_render.specs.Fitting.{AreNames}
 use Rattle.mm_render.specs.Variables.{Variable, object_variable, pattern_variable, number_of, same_variable, variable_token, variable_label, variable_type, is_variable_token}
-use Rattle.mm_render.proofs.LeafLaws.{both_true, split_true}
-use Rattle.mm_render.proofs.Decimals.{list_all-decimal, decimal-same}
+use Rattle.mm_proof.proofs.LeafLaws.{both_true, split_true}
+use Rattle.mm_proof.proofs.Decimals.{list_all-decimal, decimal-same}
 use Rattle.mm_render.proofs.NameLaws.{all_printing, no_dollars}
 
 -- what is known of a variable's token

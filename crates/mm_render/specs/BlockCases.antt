@@ -4,8 +4,8 @@ use Rattle.std.specs.List.{flat_map}
 use Rattle.mm_text.specs.Bytes.{Token}
 use Rattle.mm_frame.specs.Proofs.{postorder}
 use Rattle.ml_pat.specs.Patterns.{bot, imp, ex, equal, var, meta}
-use Rattle.mm_render.specs.Tokens.{object_token, meta_token}
-use Rattle.mm_render.specs.Labels.{own_labels, statement_label, object_label, meta_label, premise_label}
+use Rattle.mm_proof.specs.Tokens.{object_token, meta_token}
+use Rattle.mm_proof.specs.Labels.{own_labels, statement_label, object_label, meta_label, premise_label}
 use Rattle.mm_render.specs.Variables.{object_variable, pattern_variable}
 use Rattle.mm_render.specs.Blocks.{Claim, IsClaim, axiom_block}
 use Rattle.mm_render.specs.CitedAt.{claim_tree}

@@ -9,10 +9,10 @@ use Rattle.mm_frame.specs.Proofs.{ProofTree}
 use Rattle.mm_frame.specs.Assertions.{Assertion}
 use Rattle.mm_frame.specs.FrameLaws.{plain_tokens}
 use Rattle.ml_pat.specs.Patterns.{Pattern}
-use Rattle.mm_render.specs.Tokens.{name_of, own_naming}
-use Rattle.mm_render.specs.Labels.{statement_label, premise_label}
-use Rattle.mm_render.specs.Leaves.{LeafFacts, EachLeaf}
-use Rattle.mm_render.specs.Derivations.{holds_text}
+use Rattle.mm_proof.specs.Tokens.{name_of, own_naming}
+use Rattle.mm_proof.specs.Labels.{statement_label, premise_label}
+use Rattle.mm_proof.specs.Leaves.{LeafFacts, EachLeaf}
+use Rattle.mm_proof.specs.Derivations.{holds_text}
 use Rattle.mm_render.specs.Statements.{typecode_of}
 use Rattle.mm_render.specs.Stating.{axiom_statement, theorem_statement}
 use Rattle.mm_render.specs.Variables.{Variable, object_variable, pattern_variable, is_object, has_variable, are_once, AreNumbered, stands_in, variable_token, variable_label, variable_type, variable_tokens, object_tokens, are_several}

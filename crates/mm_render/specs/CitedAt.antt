@@ -1,40 +1,16 @@
 -- Derivations that cite lemmas at patterns for their pattern variables, under hypotheses.
 use Rattle.std.specs.Prelude.{◌≡◌, ℕ, List, [], ◌∷◌, ◌++◌, map, slice_get, slice_index_or, Some, Contains}
-use Rattle.mm_frame.specs.Database.{Context}
-use Rattle.mm_frame.specs.Proofs.{ProofTree, Proves, AllProve}
+use Rattle.mm_frame.specs.Proofs.{ProofTree}
 use Rattle.ml_pat.specs.Patterns.{Pattern, bot, meta}
-use Rattle.ml_kernel.specs.Lemmas.{instance, instances, HaveNoVariables}
-use Rattle.ml_kernel.specs.Theorems.{Derivation, Derivations, hypothesis, own_axiom, row, cited, no_derivation, more_derivations}
-use Rattle.mm_render.specs.Tokens.{Naming}
-use Rattle.mm_render.specs.Labels.{statement_label, premise_label, own_labels}
-use Rattle.mm_render.specs.Leaves.{LeafFacts, EachLeaf}
-use Rattle.mm_render.specs.Trees.{trees_of, cite, syntax_tree}
-use Rattle.mm_render.specs.Derivations.{holds_text, Citing}
+use Rattle.ml_kernel.specs.Lemmas.{instance}
+use Rattle.mm_proof.specs.Tokens.{Naming}
+use Rattle.mm_proof.specs.Labels.{statement_label, premise_label, own_labels}
+use Rattle.mm_proof.specs.Leaves.{LeafFacts, EachLeaf}
+use Rattle.mm_proof.specs.Trees.{cite, syntax_tree}
+use Rattle.mm_proof.specs.Derivations.{Citing}
 use Rattle.mm_render.specs.Variables.{Variable, object_variable, pattern_variable}
+use Rattle.mm_proof.specs.MayCite.{MayCite}
 use Rattle.mm_render.specs.Blocks.{Claim}
-
--- which axioms may be cited, and which lemmas at which patterns
-pub record MayCite : Type 1 where
-  pub fact : Pattern → Type 0
-  pub lemma : List Pattern → Pattern → List Pattern → Type 0
-
-abbrev mutual
-  pub EachCited : MayCite → Derivation → Type 0
-  EachCited k (hypothesis p) = Unit {0}
-  EachCited k (own_axiom n p) = k.fact p
-  EachCited k (row n is ds) = AllCited k ds
-  EachCited k (cited own q d ms ds) = k.lemma own q ms × AllCited k ds
-
-  pub AllCited : MayCite → Derivations → Type 0
-  AllCited k no_derivation = Unit {0}
-  AllCited k (more_derivations d ds) = EachCited k d × AllCited k ds
-
--- what may be cited proves what it stands for
-pub record CitesSoundly (c : Context) (n : Naming) (hypotheses : List Pattern) (k : MayCite) (s : Citing) : Type 0 where
-  pub premise : (p : Pattern) → Contains hypotheses p → Proves c (s.premise p) (holds_text n p)
-  pub fact : (p : Pattern) → k.fact p → Proves c (s.fact p) (holds_text n p)
-  pub lemma : (own : List Pattern) (q : Pattern) (ms : List Pattern) (trees : List ProofTree) → k.lemma own q ms → HaveNoVariables ms → AllProve c (trees_of trees) (map (holds_text n) (instances ms own))
-      → Proves c (s.lemma own q ms trees) (holds_text n (instance ms q))
 
 -- Claims are cited by the labels of their places: over the proofs of what stands for their variables, in the order of these,
 -- and of their hypotheses. An object variable stands for itself, and a pattern variable for its instance.

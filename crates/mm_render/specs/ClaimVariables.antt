@@ -3,7 +3,7 @@
 use Rattle.std.specs.Prelude.{◌<◌, ◌^◌, List, [], ◌∷◌, ◌++◌, length, flat_map}
 use Rattle.mm_text.specs.Bytes.{Token}
 use Rattle.ml_pat.specs.Patterns.{Pattern}
-use Rattle.mm_render.specs.Leaves.{EachLeaf}
+use Rattle.mm_proof.specs.Leaves.{EachLeaf}
 use Rattle.mm_render.specs.Variables.{Variable, AreNumbered}
 use Rattle.mm_render.specs.Blocks.{Claim, IsClaim}
 use Rattle.mm_render.specs.OpenVariables.{variables_in, other_variables, over_names}

@@ -14,13 +14,14 @@ use Rattle.ml_pat.specs.Patterns.{Pattern}
 use Rattle.ml_pat.specs.Named.{AreDistinct}
 use Rattle.ml_kernel.specs.Theorems.{Derivation}
 use Rattle.ml_kernel.specs.Concluding.{Concludes}
-use Rattle.mm_render.specs.Labels.{statement_label, premise_label, own_labels}
-use Rattle.mm_render.specs.Derivations.{derivation_tree, EachUsed}
+use Rattle.mm_proof.specs.Labels.{statement_label, premise_label, own_labels}
+use Rattle.mm_proof.specs.Derivations.{derivation_tree, EachUsed}
 use Rattle.mm_render.specs.Statements.{all_name_statements}
 use Rattle.mm_render.specs.Fitting.{AreNames, Holds}
 use Rattle.mm_render.specs.Variables.{Variable, number_of, variable_token, variable_label, are_once, AreNumbered}
 use Rattle.mm_render.specs.Blocks.{Claim, IsClaim, open_over, open_frame, open_assertion, axiom_block, theorem_block}
-use Rattle.mm_render.specs.CitedAt.{EachCited, claims_citing, citable, ArePremises}
+use Rattle.mm_proof.specs.MayCite.{EachCited}
+use Rattle.mm_render.specs.CitedAt.{claims_citing, citable, ArePremises}
 
 -- no label of a block with this number is taken
 pub record IsFree (c : Context) (k : ℕ) : Type 0 where

@@ -4,9 +4,9 @@ use Rattle.mm_text.specs.Bytes.{Token, has_token}
 use Rattle.mm_frame.specs.Frames.{Frame}
 use Rattle.mm_frame.specs.Database.{Context}
 use Rattle.mm_header.specs.HeaderContext.{header_context}
-use Rattle.mm_render.specs.Labels.{name_label}
-use Rattle.mm_render.specs.Serving.{closed_frame}
-use Rattle.mm_render.specs.Tokens.{name_of}
+use Rattle.mm_proof.specs.Labels.{name_label}
+use Rattle.mm_proof.specs.Serving.{closed_frame}
+use Rattle.mm_proof.specs.Tokens.{name_of}
 use Rattle.mm_render.specs.Statements.{IsName, typecode_of}
 use Rattle.mm_render.specs.Variables.{is_variable_token}
 

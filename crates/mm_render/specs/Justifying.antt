@@ -17,9 +17,9 @@ use Rattle.rule_core.specs.ProgramView.{rewrite_rule, HasNoVariables}
 use Rattle.ml_image.specs.Tokens.{token_of_sort, token_of_value, numbered, is_value_at}
 use Rattle.ml_image.specs.Images.{image_of, rule_image_of}
 use Rattle.ml_image.specs.Gained.{IsOwnToken}
-use Rattle.mm_render.specs.Tokens.{own_naming}
-use Rattle.mm_render.specs.Leaves.{EachLeaf}
-use Rattle.mm_render.specs.Derivations.{holds_text}
+use Rattle.mm_proof.specs.Tokens.{own_naming}
+use Rattle.mm_proof.specs.Leaves.{EachLeaf}
+use Rattle.mm_proof.specs.Derivations.{holds_text}
 use Rattle.mm_render.specs.Statements.{typecode_of}
 use Rattle.mm_render.specs.Stating.{closed_over}
 

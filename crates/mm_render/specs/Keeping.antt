@@ -7,7 +7,7 @@ use Rattle.mm_header.specs.HeaderText.{header_bytes}
 use Rattle.ml_pat.specs.Patterns.{Pattern, bot}
 use Rattle.ml_pat.specs.Named.{AreDistinct}
 use Rattle.mm_render.specs.Kept.{Kept, nothing_kept, header_kept}
-use Rattle.mm_render.specs.Leaves.{EachLeaf}
+use Rattle.mm_proof.specs.Leaves.{EachLeaf}
 use Rattle.mm_render.specs.Statements.{all_name_statements}
 use Rattle.mm_render.specs.Fitting.{AreNames}
 use Rattle.mm_render.specs.Stating.{FitsStated, closed_over}

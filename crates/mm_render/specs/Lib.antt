@@ -1,17 +1,7 @@
-pub mod Tokens
-pub mod Trees
-pub mod Leaves
-pub mod Serving
-pub mod Labels
-pub mod Searching
-pub mod Writing
-pub mod Cases
 pub mod Kept
 pub mod KeptView
 pub mod Statements
-pub mod Derivations
 pub mod Fitting
-pub mod RenderLaws
 pub mod Stating
 pub mod Keeping
 pub mod Places

@@ -4,8 +4,8 @@ use Rattle.mm_frame.specs.Proofs.{postorder}
 use Rattle.ml_pat.specs.Patterns.{Pattern, imp, next, var, meta, constant}
 use Rattle.ml_kernel.specs.Theorems.{Derivation, hypothesis, row, cited, no_derivation, more_derivations}
 use Rattle.ml_kernel.specs.ProofRows.{pattern}
-use Rattle.mm_render.specs.Labels.{name_label, statement_label, object_label, meta_label, premise_label, own_labels}
-use Rattle.mm_render.specs.Derivations.{derivation_tree}
+use Rattle.mm_proof.specs.Labels.{name_label, statement_label, object_label, meta_label, premise_label, own_labels}
+use Rattle.mm_proof.specs.Derivations.{derivation_tree}
 use Rattle.mm_render.specs.Variables.{object_variable, pattern_variable}
 use Rattle.mm_render.specs.Blocks.{Claim}
 use Rattle.mm_render.specs.CitedAt.{claims_citing}

@@ -7,13 +7,14 @@ use Rattle.ml_kernel.specs.Lemmas.{instance}
 use Rattle.ml_kernel.specs.ProofRows.{Instance, pattern, variable, sort}
 use Rattle.ml_kernel.specs.Theorems.{Derivation, Derivations, hypothesis, own_axiom, row, cited, no_derivation, more_derivations}
 use Rattle.ml_kernel.specs.Concluding.{Concludes}
-use Rattle.mm_render.specs.Tokens.{name_of}
-use Rattle.mm_render.specs.Leaves.{LeafFacts}
+use Rattle.mm_proof.specs.Tokens.{name_of}
+use Rattle.mm_proof.specs.Leaves.{LeafFacts}
 use Rattle.mm_render.specs.Statements.{typecode_of}
-use Rattle.mm_render.specs.Derivations.{EachUsed}
+use Rattle.mm_proof.specs.Derivations.{EachUsed}
 use Rattle.mm_render.specs.Variables.{Variable, object_variable, pattern_variable, has_variable, AreNumbered}
 use Rattle.mm_render.specs.Blocks.{Claim, IsClaim}
-use Rattle.mm_render.specs.CitedAt.{EachCited, claim_at, citable, ArePremises}
+use Rattle.mm_proof.specs.MayCite.{EachCited}
+use Rattle.mm_render.specs.CitedAt.{claim_at, citable, ArePremises}
 use Rattle.mm_render.specs.Claiming.{IsProvable}
 
 -- the variables that stand in a pattern, bound or free, one behind the other

@@ -1,24 +1,20 @@
 -- What of a derivation is still to be written: cited by the clauses of private functions alone.
-use Rattle.std.specs.Prelude.{◌≡◌, ℕ, ◌+◌, ◌*◌, ◌<◌, ◌≤◌, ◌==◌, ◌||◌, if◌then◌else◌, List, [], ◌∷◌, ◌++◌, flat_map}
+use Rattle.std.specs.Prelude.{◌≡◌, ℕ, ◌+◌, ◌*◌, ◌<◌, ◌≤◌, List, [], ◌∷◌, ◌++◌}
 use Rattle.mm_text.specs.Bytes.{Token}
 use Rattle.mm_text.specs.TextLaws.{written}
-use Rattle.mm_frame.specs.Proofs.{ProofTree, postorder}
+use Rattle.mm_frame.specs.Proofs.{postorder}
 use Rattle.ml_pat.specs.Patterns.{Pattern}
 use Rattle.ml_kernel.specs.ProofRows.{Instance}
 use Rattle.ml_kernel.specs.Theorems.{Derivation, Derivations}
 use Rattle.ml_kernel.specs.StepsIn.{steps_in}
-use Rattle.mm_render.specs.Tokens.{Naming}
-use Rattle.mm_render.specs.Labels.{own_labels}
-use Rattle.mm_render.specs.Trees.{instance_tree, fresh_tree, substitution_tree, predicate_tree, pattern_at, variable_at, rule_label}
-use Rattle.mm_render.specs.Derivations.{derivation_tree, derivation_trees}
+use Rattle.mm_proof.specs.Labels.{own_labels}
+use Rattle.mm_proof.specs.Trees.{rule_label}
+use Rattle.mm_proof.specs.Derivations.{derivation_tree, derivation_trees}
 use Rattle.mm_render.specs.Stating.{closed_citing}
-use Rattle.mm_render.specs.Writing.{work_tokens}
+use Rattle.mm_proof.specs.RowLabels.{all_labels, trees_behind}
+use Rattle.mm_proof.specs.Writing.{work_tokens}
 use Rattle.mm_render.specs.declared.derivations.Part.{Part}
 use Rattle.mm_render.specs.declared.derivations.Part.TheVariants as part
-
--- the labels of trees, one behind the other
-abbrev pub all_labels : List ProofTree → List Token
-all_labels trees = flat_map postorder trees
 
 -- the proof by a derivation in the block of a statement, and those by some
 abbrev pub proof_of : ℕ → (Pattern → ℕ) → Derivation → List Token
@@ -26,24 +22,6 @@ proof_of k place d = postorder (derivation_tree (own_labels k) (closed_citing pl
 
 abbrev pub proofs_of : ℕ → (Pattern → ℕ) → Derivations → List Token
 proofs_of k place ds = all_labels (derivation_trees (own_labels k) (closed_citing place) ds)
-
--- what stands for the variables of a rule
-abbrev pub instance_labels : ℕ → List Instance → List Token
-instance_labels k is = flat_map (λ i. postorder (instance_tree (own_labels k) i)) is
-
--- the judgements of a rule, before and behind the proofs of what it concludes from
-abbrev pub trees_before : Naming → ℕ → List Instance → List ProofTree
-trees_before l n is =
-    if n == 13 then substitution_tree l (variable_at is 3) (pattern_at is 1) (pattern_at is 0) (pattern_at is 2) ∷ [] else
-    if n == 15 then [] else
-    if n == 17 then
-    substitution_tree l (variable_at is 5) (pattern_at is 0) (pattern_at is 2) (pattern_at is 3) ∷
-    substitution_tree l (variable_at is 5) (pattern_at is 1) (pattern_at is 2) (pattern_at is 4) ∷ []
-    else
-    if (n == 20) || ((n == 22) || (n == 23)) then predicate_tree l (pattern_at is 2) ∷ [] else []
-
-abbrev pub trees_behind : Naming → ℕ → List Instance → List ProofTree
-trees_behind l n is = if n == 13 then [] else if n == 15 then fresh_tree l (variable_at is 2) (pattern_at is 1) ∷ [] else []
 
 -- what a part writes
 abbrev pub part_tokens : List Token → ℕ → (Pattern → ℕ) → Part → List Token

@@ -7,7 +7,7 @@ use Rattle.std.specs.Global.{Vec}
 use Rattle.std.specs.Ordering.{nat_cmp}
 use Rattle.ml_pat.specs.Patterns.{Pattern}
 use Rattle.mm_render.specs.Places.{all_bytes, numbers, place_by}
-use Rattle.mm_render.specs.Searching.{all_forms, patterns_of}
+use Rattle.mm_proof.specs.Searching.{all_forms, patterns_of}
 use Rattle.mm_render.specs.declared.places.Standing.{Standing}
 
 -- what a table has under some bytes

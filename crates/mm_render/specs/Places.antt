@@ -6,9 +6,9 @@ use Rattle.mm_frame.specs.FrameLaws.{written_statements}
 use Rattle.ml_pat.specs.Patterns.{Pattern, bot, top, imp, not, and, or, equal, member, fun, ex, all, app, at_sort, next, ev, var, meta, constant}
 use Rattle.ml_kernel.specs.Theorems.{Theorem}
 use Rattle.mm_render.specs.Kept.{Kept}
-use Rattle.mm_render.specs.Labels.{own_labels}
-use Rattle.mm_render.specs.Leaves.{EachLeaf}
-use Rattle.mm_render.specs.Derivations.{Cites, EachUsed, CitesOnly, derivation_tree}
+use Rattle.mm_proof.specs.Labels.{own_labels}
+use Rattle.mm_proof.specs.Leaves.{EachLeaf}
+use Rattle.mm_proof.specs.Derivations.{Cites, EachUsed, CitesOnly, derivation_tree}
 use Rattle.mm_render.specs.Stating.{closed_over, closed_citing, theorem_statement, stated_assertion}
 use Rattle.mm_render.specs.Keeping.{Gains}
 

@@ -5,7 +5,7 @@ use Rattle.mm_text.specs.Bytes.{Token}
 use Rattle.mm_text.specs.Bytes.{is_printable}
 use Rattle.mm_frame.specs.Forms.{declares_constants, asserts}
 use Rattle.mm_frame.specs.FrameLaws.{plain_tokens}
-use Rattle.mm_render.specs.Labels.{name_label}
+use Rattle.mm_proof.specs.Labels.{name_label}
 
 -- What a name's token is that of: `s:S` of a sort, `f:f` of a symbol, `d:S:..` of a value.
 pub data NameKind : Type 0 where

@@ -16,12 +16,12 @@ use Rattle.ml_pat.specs.Named.{AreDistinct}
 use Rattle.ml_kernel.specs.Lemmas.{HasNoMeta}
 use Rattle.ml_kernel.specs.Theorems.{Derivation}
 use Rattle.ml_kernel.specs.Concluding.{Concludes}
-use Rattle.mm_render.specs.Tokens.{name_of, own_naming}
-use Rattle.mm_render.specs.Labels.{statement_label, own_labels}
-use Rattle.mm_render.specs.Leaves.{LeafFacts, EachLeaf}
-use Rattle.mm_render.specs.Trees.{cite}
-use Rattle.mm_render.specs.Derivations.{holds_text, Citing, Cites, derivation_tree, EachUsed, CitesOnly}
-use Rattle.mm_render.specs.Serving.{closed_frame}
+use Rattle.mm_proof.specs.Tokens.{name_of, own_naming}
+use Rattle.mm_proof.specs.Labels.{statement_label, own_labels}
+use Rattle.mm_proof.specs.Leaves.{LeafFacts, EachLeaf}
+use Rattle.mm_proof.specs.Trees.{cite}
+use Rattle.mm_proof.specs.Derivations.{holds_text, Citing, Cites, derivation_tree, EachUsed, CitesOnly}
+use Rattle.mm_proof.specs.Serving.{closed_frame}
 use Rattle.mm_render.specs.Statements.{typecode_of, all_name_statements}
 use Rattle.mm_render.specs.Fitting.{AreNames, Holds}
 

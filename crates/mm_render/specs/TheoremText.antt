@@ -5,9 +5,9 @@ use Rattle.mm_text.specs.TextLaws.{written}
 use Rattle.mm_frame.specs.Proofs.{ProofTree, postorder}
 use Rattle.mm_frame.specs.FrameLaws.{written_statements}
 use Rattle.ml_pat.specs.Patterns.{Pattern}
-use Rattle.mm_render.specs.Labels.{statement_label}
-use Rattle.mm_render.specs.Tokens.{own_naming}
-use Rattle.mm_render.specs.Derivations.{holds_text}
+use Rattle.mm_proof.specs.Labels.{statement_label}
+use Rattle.mm_proof.specs.Tokens.{own_naming}
+use Rattle.mm_proof.specs.Derivations.{holds_text}
 use Rattle.mm_render.specs.Variables.{Variable}
 use Rattle.mm_render.specs.Blocks.{Claim, head_statements, theorem_block}
 

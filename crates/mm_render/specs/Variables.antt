@@ -4,8 +4,8 @@ use Rattle.std.specs.Prelude as std
 use Rattle.std.specs.List.{list_any}
 use Rattle.mm_text.specs.Bytes.{Token}
 use Rattle.ml_pat.specs.Patterns.{Pattern, bot, top, imp, not, and, or, equal, member, fun, ex, all, app, at_sort, next, ev, var, meta, constant}
-use Rattle.mm_render.specs.Tokens.{object_token, meta_token}
-use Rattle.mm_render.specs.Labels.{object_label, meta_label}
+use Rattle.mm_proof.specs.Tokens.{object_token, meta_token}
+use Rattle.mm_proof.specs.Labels.{object_label, meta_label}
 
 pub data Variable : Type 0 where
   object_variable : ℕ → Variable

@@ -8,7 +8,7 @@ use Rattle.mm_render.specs.Variables.{object_variable, pattern_variable, number_
 use Rattle.mm_render.specs.Variables as plain
 use Rattle.mm_render.specs.OpenVariables.{variables_in}
 use Rattle.mm_render.specs.ClaimVariables.{added}
-use Rattle.mm_render.specs.Searching.{all_forms, patterns_of}
+use Rattle.mm_proof.specs.Searching.{all_forms, patterns_of}
 use Rattle.mm_render.specs.declared.variables.Variable.{Variable}
 use Rattle.mm_render.specs.declared.variables.Variable.TheVariants as variable
 

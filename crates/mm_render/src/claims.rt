@@ -9,8 +9,8 @@ ghost use Rattle.mm_render.specs.TheoremText.{TheoremBlockText};
 use crate::heads::push_head;
 use crate::statements::push_axiom;
 use crate::variables::variables_of_claim;
-use crate::words::{Word, push_word};
 use ml_pat::{MPat, Names};
+use mm_proof::{Word, push_word};
 use std::alloc::AllocError;
 
 /// Adds the block with the number `serial` of an axiom: its conclusion under its hypotheses, with the variables that stand in

@@ -6,16 +6,18 @@ ghost use Rattle.ml_pat.specs.Patterns.{bot};
 ghost use Rattle.ml_kernel.specs.StepView.{instances_of};
 ghost use Rattle.ml_kernel.specs.StepsIn.{all_steps};
 ghost use Rattle.ml_kernel.specs.Theorems.{derivations};
-ghost use Rattle.mm_render.specs.Labels.{own_labels, statement_label};
-ghost use Rattle.mm_render.specs.Parts.{all_labels, PartIsTaken, proof_of, proofs_of, PutsParts, rest_of_row, trees_behind};
+ghost use Rattle.mm_proof.specs.Labels.{own_labels, statement_label};
+ghost use Rattle.mm_proof.specs.RowLabels.{all_labels, trees_behind};
+ghost use Rattle.mm_render.specs.Parts.{PartIsTaken, proof_of, proofs_of, PutsParts, rest_of_row};
 ghost use Rattle.mm_render.specs.PlaceTable.{places_at};
 
 use crate::places::{Standing, place_of};
-use crate::rules::{EX_EL, pattern_at, rule_label, variable_at, write_before, write_instances};
-use crate::words::{Word, push_word};
-use crate::works::{Work, write_works};
 use ml_kernel::{Deriv, DerivStep, Inst};
 use ml_pat::MPat;
+use mm_proof::{
+    EX_EL, Word, Work, pattern_at, push_word, rule_label, variable_at, write_before,
+    write_instances, write_works,
+};
 use std::alloc::AllocError;
 
 /// What of a derivation is still to be written.

@@ -5,12 +5,11 @@ ghost use Rattle.mm_render.specs.Blocks.{head_statements, premise_statements, se
 ghost use Rattle.mm_render.specs.HeadText.{AddsWordsOf, AreWordsOf, IsWordOf, pattern_separations, separation};
 ghost use Rattle.mm_render.specs.Variables.{object_tokens, variable_label, variable_token};
 ghost use Rattle.mm_render.specs.VariablesView.{plain_variables, variable_of};
-ghost use Rattle.mm_render.specs.Writing.{word_token};
+ghost use Rattle.mm_proof.specs.Writing.{word_token};
 
 use crate::variables::Variable;
-use crate::words::{Word, push_word, push_words};
-use crate::works::{Work, write_works};
 use ml_pat::{MPat, Names};
+use mm_proof::{Word, Work, push_word, push_words, write_works};
 use std::alloc::{AllocError, Global};
 
 /// Adds the head of the block with the number `serial`: its variables, which of them stay apart, and its hypotheses.

@@ -1,5 +1,4 @@
-// Laws on the definitions, and the definitions tried on small patterns.
-ghost use Rattle.mm_render.specs.Cases.{TriedCases};
+// Laws on the definitions, and the definitions tried on small texts.
 ghost use Rattle.mm_render.specs.JustifyingCases.{ConclusionIsNoAxiom, SmallJustifies};
 ghost use Rattle.mm_render.specs.JustifyingLaws.{AllDeclared, AxiomHasOnly, ClosedHasNoMeta, ClosedStays, DeclaredHasOnly, FitsLater, GainedAreOwn, GroundHasNone, HeaderHasOnly, ImageIsClosed, ImageStays, LastIsStated, OwnAxiomStays, RuleImageIsClosed, RuleImageIsOwn, RuleImageStays, StatedStays, TheoremHasOnly, TheoremJustifies};
 ghost use Rattle.mm_render.specs.Keeping.{BegunFits, DeclaredFits, EmptyFits};
@@ -8,26 +7,13 @@ ghost use Rattle.mm_render.specs.OpenCiting.{CitingDerivationsAreProved, CitingI
 ghost use Rattle.mm_render.specs.OpenVariables.{NeededAreEnough};
 ghost use Rattle.mm_render.specs.Stating.{AxiomFits, AxiomIsGained, HeaderFitsStated, NamesFitStated, StatedIsValid, TheoremFits, TheoremIsGained};
 ghost use Rattle.mm_render.specs.RenderedCases.{RenderedCases};
-ghost use Rattle.mm_render.specs.RenderLaws.{DerivationsAreProved, FreshnessIsProved, PatternsParse, PredicatesAreProved, RulesAreProved, SubstitutionIsProved};
 
-/// The definitions say of small patterns what is written for them, of a small database that is written that it has no fault, of
-/// a small text that it justifies a run, and of an axiom that says that one symbol reaches another that no program has it.
+/// The definitions say of a small database that is written that it has no fault, of a small text that it justifies a run, and of
+/// an axiom that says that one symbol reaches another that no program has it.
 pub fn tried()
-    ensures cases { TriedCases }
     ensures rendered { RenderedCases }
     ensures justifies { SmallJustifies }
     ensures refuses { ConclusionIsNoAxiom }
-{}
-
-/// What is written as a proof that a pattern is one, or of a judgement on it, proves that, in every database that has the
-/// header and the declarations that are cited; and so do a rule over proofs, and a derivation.
-pub fn proof_laws()
-    ensures parse { PatternsParse }
-    ensures fresh { FreshnessIsProved }
-    ensures substitution { SubstitutionIsProved }
-    ensures predicate { PredicatesAreProved }
-    ensures rules { RulesAreProved }
-    ensures derivations { DerivationsAreProved }
 {}
 
 /// A text that has declared the header, some names and some closed statements is valid, and stays so with more names behind it,

@@ -25,27 +25,18 @@
 mod blocks;
 mod claims;
 mod derivations;
-mod freshness;
 mod heads;
 mod laws;
-mod patterns;
 mod places;
 mod renderer;
-mod rules;
-mod searching;
-mod stacks;
 mod statements;
-mod substitution;
 mod theorems;
 mod variables;
-mod words;
-mod works;
 
 pub use blocks::{block_laws, block_tried};
 pub use claims::{claim_laws, write_axiom};
 pub use laws::{
-    citing_laws, closed_laws, fitting_laws, image_laws, justifying_laws, later_laws, proof_laws,
-    tried,
+    citing_laws, closed_laws, fitting_laws, image_laws, justifying_laws, later_laws, tried,
 };
 pub use renderer::Renderer;
 

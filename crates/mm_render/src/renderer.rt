@@ -6,16 +6,16 @@ ghost use Rattle.mm_render.specs.Fitting.{AreNames};
 ghost use Rattle.mm_render.specs.Keeping.{AppendsFitting, AppendsFittingNames, Gains, MayState, axiom_at, with_stated};
 ghost use Rattle.mm_render.specs.Kept.{header_kept, nothing_kept};
 ghost use Rattle.mm_render.specs.Places.{StatesLemma};
-ghost use Rattle.mm_render.specs.Tokens.{name_of};
+ghost use Rattle.mm_proof.specs.Tokens.{name_of};
 ghost use Rattle.mm_render.specs.Stating.{axiom_statement, stated_assertion};
 ghost use Rattle.mm_render.specs.Statements.{all_name_statements, name_statements, typecode_of};
 
 use crate::places::{Standing, pattern_key};
 use crate::statements::{push_axiom, push_theorem};
-use crate::words::{Word, push_words};
 use ml_kernel::{AxiomNo, Lemma, Theory};
 use ml_pat::{MPat, Names};
 use mm_header::header_text;
+use mm_proof::{Word, push_words};
 use std::alloc::{AllocError, Global};
 use std::collections::BTreeMap;
 use std::marker::Model;

@@ -7,10 +7,9 @@ ghost use Rattle.mm_render.specs.Stating.{axiom_statement};
 
 use crate::derivations::write_derivation;
 use crate::places::Standing;
-use crate::words::{Word, push_word};
-use crate::works::{Work, write_works};
 use ml_kernel::Lemma;
 use ml_pat::{MPat, Names};
+use mm_proof::{Word, Work, push_word, write_works};
 use std::alloc::AllocError;
 
 /// Adds a pattern without variables as an axiom, under the label with this number.

@@ -5,9 +5,8 @@ ghost use Rattle.mm_render.specs.VariablesView.{plain_variables};
 
 use crate::heads::push_head;
 use crate::variables::Variable;
-use crate::words::{Word, push_word, push_words};
-use crate::works::{Work, write_works};
 use ml_pat::{MPat, Names};
+use mm_proof::{Word, Work, push_word, push_words, write_works};
 use std::alloc::AllocError;
 
 /// Adds the front of the block with the number `serial` of a theorem, up to its proof: its head, its label and its conclusion.

@@ -8,8 +8,8 @@ use Rattle.ml_kernel.specs.ProofRows.{pattern}
 use Rattle.ml_kernel.specs.Theorems.{Derivation, derivations, row, Theorem}
 use Rattle.ml_derived.specs.Derived.{detaching, lifting, distributing, detaching_under, chaining, closing, moving, reaching_by, kept_reaching, reaching, adding_top, freeing}
 use Rattle.mm_render.specs.Kept.{Kept}
-use Rattle.mm_render.specs.Leaves.{LeafFacts, EachLeaf}
-use Rattle.mm_render.specs.Derivations.{EachUsed, Cites, CitesOnly}
+use Rattle.mm_proof.specs.Leaves.{LeafFacts, EachLeaf}
+use Rattle.mm_proof.specs.Derivations.{EachUsed, Cites, CitesOnly}
 use Rattle.mm_render.specs.Stating.{closed_over}
 use Rattle.mm_render.specs.Places.{MayProve, stated_cites}
 use Rattle.prove_run.proofs.ScriptLaws.{take_all}

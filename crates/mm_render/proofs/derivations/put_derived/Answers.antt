@@ -2,7 +2,7 @@ use Rattle.std.proofs.Common.{List, ◌≡◌, ◌∷◌, ◌<◌, ◌-◌, ◌*
 use Rattle.ml_kernel.specs.StepsIn.{all_steps}
 use Rattle.ml_kernel.specs.Theorems.{Derivation, derivations}
 use Rattle.mm_render.specs.Parts.{proofs_of}
-use Rattle.mm_render.proofs.Stacking.{drop_at}
+use Rattle.mm_proof.proofs.Stacking.{drop_at}
 use Rattle.mm_render.proofs.PartLaws.{part_more}
 use Rattle.mm_render.proofs.derivations.put_derived.Goals as goal
 

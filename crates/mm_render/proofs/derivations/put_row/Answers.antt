@@ -2,10 +2,11 @@ use Rattle.std.proofs.Common.{[], ◌∷◌, ◌++◌, ◌+◌, ◌*◌, refl, a
 use Rattle.ml_kernel.specs.StepView.{instances_of}
 use Rattle.ml_kernel.specs.StepsIn.{all_steps}
 use Rattle.ml_kernel.specs.Theorems.{derivations}
-use Rattle.mm_render.specs.Labels.{own_labels}
-use Rattle.mm_render.specs.Trees.{rule_label}
-use Rattle.mm_render.specs.Parts.{all_labels, trees_behind, proofs_of, rest_of_row}
-use Rattle.mm_render.proofs.Stacking.{on_ok}
+use Rattle.mm_proof.specs.Labels.{own_labels}
+use Rattle.mm_proof.specs.Trees.{rule_label}
+use Rattle.mm_proof.specs.RowLabels.{all_labels, trees_behind}
+use Rattle.mm_render.specs.Parts.{proofs_of, rest_of_row}
+use Rattle.mm_proof.proofs.Stacking.{on_ok}
 use Rattle.mm_render.proofs.PartLaws.{part_one, parts_front}
 use Rattle.mm_render.proofs.derivations.put_row.Goals as goal
 

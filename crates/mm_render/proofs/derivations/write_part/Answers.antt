@@ -4,10 +4,11 @@ use Rattle.ml_kernel.specs.declared.derivations.Inst.{Inst}
 use Rattle.ml_kernel.specs.StepView.{instances_of, derivation_of}
 use Rattle.ml_kernel.specs.StepsIn.{all_steps}
 use Rattle.ml_kernel.specs.Theorems.{Derivation, derivations, row}
-use Rattle.mm_render.specs.Labels.{own_labels}
-use Rattle.mm_render.specs.Parts.{all_labels, instance_labels, trees_before, PutsParts, rest_of_row}
+use Rattle.mm_proof.specs.Labels.{own_labels}
+use Rattle.mm_proof.specs.RowLabels.{all_labels, instance_labels, trees_before}
+use Rattle.mm_render.specs.Parts.{PutsParts, rest_of_row}
 use Rattle.mm_render.specs.PlaceTable.{places_at}
-use Rattle.mm_render.proofs.Stacking.{on_ok}
+use Rattle.mm_proof.proofs.Stacking.{on_ok}
 use Rattle.mm_render.proofs.PartLaws.{row_taken}
 use Rattle.mm_render.proofs.derivations.write_part.Goals as goal
 

@@ -2,7 +2,7 @@ use Rattle.std.proofs.Common.{◌≡◌, ◌++◌, map, take}
 use Rattle.mm_frame.specs.FrameLaws.{written_statements}
 use Rattle.mm_render.specs.HeadText.{pattern_separations}
 use Rattle.mm_render.specs.VariablesView.{plain_variables}
-use Rattle.mm_render.specs.Writing.{word_token}
+use Rattle.mm_proof.specs.Writing.{word_token}
 use Rattle.mm_render.proofs.heads.push_pattern_separations.Given as goal
 
 abbrev pub invariant-loop-variable : goal.invariant-loop-variable

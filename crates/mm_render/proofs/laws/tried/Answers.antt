@@ -5,20 +5,6 @@ use Rattle.mm_render.proofs.SmallTexts.{small_justifies, conclusion_is_no_axiom}
 use Rattle.mm_render.proofs.laws.tried.Goals as goal
 
 -- by computation
-pub returns-clause-cases : goal.returns-clause-cases
-returns-clause-cases c = record {
-  application = refl;
-  universal = refl;
-  syntax = refl;
-  bound = refl;
-  other = refl;
-  replaced = refl;
-  equality = refl;
-  schema = refl;
-  instantiated = refl;
-  step = refl;
-}
-
 pub returns-clause-rendered : goal.returns-clause-rendered
 unfolding header_bytes header_rows
 returns-clause-rendered c = record { stated = refl; uncited = refl }

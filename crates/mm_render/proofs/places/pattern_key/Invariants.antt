@@ -1,7 +1,7 @@
 use Rattle.std.proofs.Common.{◌≡◌, ◌++◌, []}
 use Rattle.mm_render.specs.Places.{all_bytes, pattern_key}
 use Rattle.mm_render.specs.PlaceTable.{all_numbers}
-use Rattle.mm_render.specs.Searching.{all_forms, patterns_of}
+use Rattle.mm_proof.specs.Searching.{all_forms, patterns_of}
 use Rattle.mm_render.proofs.places.pattern_key.Given as goal
 
 abbrev pub invariant-loop-next : goal.invariant-loop-next

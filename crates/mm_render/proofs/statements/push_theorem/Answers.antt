@@ -5,12 +5,12 @@ use Rattle.mm_text.specs.TextLaws.{written}
 use Rattle.mm_frame.specs.FrameLaws.{written_statements, proof_tokens}
 use Rattle.ml_pat.specs.Patterns.{Pattern}
 use Rattle.ml_kernel.specs.Theorems.{Derivation}
-use Rattle.mm_render.specs.Labels.{statement_label}
-use Rattle.mm_render.specs.Tokens.{tokens_of}
+use Rattle.mm_proof.specs.Labels.{statement_label}
+use Rattle.mm_proof.specs.Tokens.{tokens_of}
 use Rattle.mm_render.specs.Parts.{proof_of}
 use Rattle.mm_render.specs.PlaceTable.{places_at}
-use Rattle.mm_render.proofs.Stacking.{on_ok}
-use Rattle.mm_render.proofs.WrittenTogether.{theorem_text}
+use Rattle.mm_proof.proofs.Stacking.{on_ok}
+use Rattle.mm_proof.proofs.WrittenTogether.{theorem_text}
 use Rattle.mm_render.proofs.statements.push_theorem.Goals as goal
 
 pub returns : goal.returns

@@ -6,7 +6,7 @@ use Rattle.mm_render.specs.Keeping.{Gains, with_stated}
 use Rattle.mm_render.specs.Places.{lemma_statement, numbered_lemma, place_by, Places}
 use Rattle.mm_render.specs.PlaceTable.{found_in}
 use Rattle.mm_render.specs.Stating.{stated_assertion}
-use Rattle.mm_render.proofs.Stacking.{on_ok, both_ok}
+use Rattle.mm_proof.proofs.Stacking.{on_ok, both_ok}
 use Rattle.mm_render.proofs.KeepingLaws.{lemma_gains}
 use Rattle.mm_render.proofs.renderer.Renderer.lemma.Goals as goal
 

@@ -1,0 +1,17 @@
+use Rattle.std.proofs.Common.{refl}
+use Rattle.mm_proof.proofs.laws.tried.Goals as goal
+
+-- by computation
+pub returns : goal.returns
+returns c = record {
+  application = refl;
+  universal = refl;
+  syntax = refl;
+  bound = refl;
+  other = refl;
+  replaced = refl;
+  equality = refl;
+  schema = refl;
+  instantiated = refl;
+  step = refl;
+}

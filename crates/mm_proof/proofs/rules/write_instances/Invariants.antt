@@ -1,0 +1,8 @@
+use Rattle.std.proofs.Common.{◌≡◌, ◌++◌, take}
+use Rattle.mm_text.specs.TextLaws.{written}
+use Rattle.ml_kernel.specs.StepView.{instances_of}
+use Rattle.mm_proof.specs.RowLabels.{instance_labels}
+use Rattle.mm_proof.proofs.rules.write_instances.Given as goal
+
+abbrev pub invariant-loop-instance : goal.invariant-loop-instance
+invariant-loop-instance l = l.to.items ≡ l.initial.to.items ++ written (instance_labels l.serial (instances_of (take l.instance-index l.instances)))

@@ -1,0 +1,38 @@
+-- Small patterns with their tokens and proofs.
+use Rattle.std.specs.Prelude.{◌≡◌, ◌==◌, if◌then◌else◌, [], ◌∷◌, codes}
+use Rattle.mm_frame.specs.Proofs.{postorder}
+use Rattle.ml_pat.specs.Patterns.{bot, imp, app, all, ex, fun, equal, var, constant}
+use Rattle.ml_kernel.specs.ProofRows.{pattern, variable, sort}
+use Rattle.ml_kernel.specs.Theorems.{row, own_axiom, no_derivation, more_derivations}
+use Rattle.mm_proof.specs.Tokens.{Naming, tokens_of, object_token}
+use Rattle.mm_proof.specs.Trees.{cite, syntax_tree, fresh_tree, substitution_tree, predicate_tree, row_tree}
+use Rattle.mm_proof.specs.Derivations.{Citing, derivation_tree}
+
+-- short labels: the sort is S, the constants are a and b, and the variables x and y
+abbrev short : Naming
+short = record {
+  sort = λ i. codes "S";
+  constant = λ i. if i == 0 then codes "a" else codes "b";
+  object = λ i. if i == 0 then codes "x" else codes "y";
+  meta = λ i. codes "m";
+}
+
+-- the only axiom is A, and there is no hypothesis and no lemma
+abbrev one_axiom : Citing
+one_axiom = record {
+  premise = λ p. cite (codes "H") [];
+  fact = λ p. cite (codes "A") [];
+  lemma = λ own q ms trees. cite (codes "L") trees;
+}
+
+pub record TriedCases : Type 0 where
+  pub application : tokens_of (codes "f:f" ∷ codes "f:a" ∷ []) (app (constant 0) (constant 1)) ≡ codes "(" ∷ codes "\\app" ∷ codes "f:f" ∷ codes "f:a" ∷ codes ")" ∷ []
+  pub universal : tokens_of (codes "s:S" ∷ []) (all 0 0 (fun (var 0) 0)) ≡ codes "(" ∷ codes "\\all" ∷ object_token 0 ∷ codes "s:S" ∷ codes "(" ∷ codes "\\fun" ∷ object_token 0 ∷ codes "s:S" ∷ codes ")" ∷ codes ")" ∷ []
+  pub syntax : postorder (syntax_tree short (imp (constant 0) bot)) ≡ codes "a" ∷ codes "w.bot" ∷ codes "w.imp" ∷ []
+  pub bound : postorder (fresh_tree short 0 (ex 0 0 (constant 0))) ≡ codes "a" ∷ codes "x" ∷ codes "S" ∷ codes "fr.exb" ∷ []
+  pub other : postorder (fresh_tree short 0 (ex 1 0 (constant 0))) ≡ codes "a" ∷ codes "x" ∷ codes "y" ∷ codes "S" ∷ codes "a" ∷ codes "x" ∷ codes "fr.d" ∷ codes "fr.ex" ∷ []
+  pub replaced : postorder (substitution_tree short 0 (constant 0) (var 0) (constant 0)) ≡ codes "a" ∷ codes "x" ∷ codes "su.v" ∷ []
+  pub equality : postorder (predicate_tree short (equal (constant 0) (constant 1))) ≡ codes "a" ∷ codes "b" ∷ codes "pr.eq" ∷ []
+  pub schema : postorder (row_tree short 27 (pattern (constant 0) ∷ []) []) ≡ codes "a" ∷ codes "ev.1" ∷ []
+  pub instantiated : postorder (row_tree short 13 (pattern (var 0) ∷ pattern (constant 0) ∷ pattern (constant 0) ∷ variable 0 ∷ sort 0 ∷ []) []) ≡ codes "x" ∷ codes "w.var" ∷ codes "a" ∷ codes "a" ∷ codes "x" ∷ codes "S" ∷ codes "a" ∷ codes "x" ∷ codes "su.v" ∷ codes "inst" ∷ []
+  pub step : postorder (derivation_tree short one_axiom (row 26 (pattern (constant 0) ∷ pattern (constant 1) ∷ []) (more_derivations (own_axiom 0 (imp (constant 0) (constant 1))) no_derivation))) ≡ codes "a" ∷ codes "b" ∷ codes "A" ∷ codes "next.in" ∷ []

@@ -1,0 +1,12 @@
+pub mod Tokens
+pub mod Trees
+pub mod Leaves
+pub mod Serving
+pub mod Labels
+pub mod Searching
+pub mod Writing
+pub mod Cases
+pub mod Derivations
+pub mod RenderLaws
+pub mod MayCite
+pub mod RowLabels

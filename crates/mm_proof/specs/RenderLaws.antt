@@ -1,0 +1,57 @@
+-- What the written proofs prove: the labels, in postorder, are a proof of the statement in every database that has the header
+-- and the declarations that they cite.
+use Rattle.std.specs.Prelude.{◌≡◌, ℕ, true, IsTrue, List, map, Some}
+use Rattle.mm_frame.specs.Database.{Context}
+use Rattle.mm_frame.specs.Proofs.{ProofTree, AllProve, IsProof, postorder}
+use Rattle.ml_pat.specs.Patterns.{Pattern}
+use Rattle.ml_pat.specs.Judgements.{fresh, substituted, predicate}
+use Rattle.ml_kernel.specs.ProofRows.{Instance, ProofRow}
+use Rattle.ml_kernel.specs.Theorems.{Derivation}
+use Rattle.ml_kernel.specs.Concluding.{Concludes}
+use Rattle.mm_proof.specs.Tokens.{Naming, Judgement, is_pattern, is_fresh, is_substituted, is_predicate, holds, letters_of, judgement_by}
+use Rattle.mm_proof.specs.Leaves.{Known, are_known, EachLeaf, EachInstance}
+use Rattle.mm_proof.specs.Serving.{Serves}
+use Rattle.mm_proof.specs.Trees.{trees_of, syntax_tree, fresh_tree, substitution_tree, predicate_tree, row_tree}
+use Rattle.mm_proof.specs.Derivations.{Citing, Cites, derivation_tree, EachUsed, CitesOnly, AreSound}
+
+-- the labels of the tree are a proof of the judgement
+abbrev pub IsWritten : Context → Naming → ProofTree → Judgement → Type 0
+IsWritten c n tree j = IsProof c (postorder tree) (judgement_by (letters_of n) j)
+
+-- the tokens of a pattern parse as its syntax rows
+abbrev pub PatternsParse : Type 0
+PatternsParse =
+    (c : Context) (l n : Naming) (known : Known) (p : Pattern) → Serves c l n (are_known known) → EachLeaf (are_known known) p →
+    IsWritten c n (syntax_tree l p) (is_pattern p)
+
+-- the judgements on patterns have the proofs that are written for them
+abbrev pub FreshnessIsProved : Type 0
+FreshnessIsProved =
+    (c : Context) (l n : Naming) (known : Known) (x : ℕ) (p : Pattern) → Serves c l n (are_known known) → IsTrue (known.object x) → EachLeaf (are_known known) p →
+    fresh x p ≡ true → IsWritten c n (fresh_tree l x p) (is_fresh x p)
+
+abbrev pub SubstitutionIsProved : Type 0
+SubstitutionIsProved =
+    (c : Context) (l n : Naming) (known : Known) (x : ℕ) (u p r : Pattern) → Serves c l n (are_known known) → IsTrue (known.object x) →
+    EachLeaf (are_known known) u → EachLeaf (are_known known) p → EachLeaf (are_known known) r → substituted p x u ≡ Some r →
+    IsWritten c n (substitution_tree l x u p r) (is_substituted r p u x)
+
+abbrev pub PredicatesAreProved : Type 0
+PredicatesAreProved =
+    (c : Context) (l n : Naming) (known : Known) (p : Pattern) → Serves c l n (are_known known) → EachLeaf (are_known known) p → predicate p ≡ true →
+    IsWritten c n (predicate_tree l p) (is_predicate p)
+
+-- a rule over proofs of what it concludes from is a proof of what it concludes
+abbrev pub RulesAreProved : Type 0
+RulesAreProved =
+    (c : Context) (l n : Naming) (known : Known) (k : ℕ) (is : List Instance) (ps : List Pattern) (q : Pattern) (trees : List ProofTree) →
+    Serves c l n (are_known known) → ProofRow k is ps q → EachInstance (are_known known) is →
+    AllProve c (trees_of trees) (map (λ p. judgement_by (letters_of n) (holds p)) ps) →
+    IsWritten c n (row_tree l k is trees) (holds q)
+
+-- a derivation is written as a proof of what it concludes, where what it cites is sound
+abbrev pub DerivationsAreProved : Type 0
+DerivationsAreProved =
+    (c : Context) (l n : Naming) (known : Known) (hypotheses : List Pattern) (k : Cites) (s : Citing) (d : Derivation) (q : Pattern) →
+    Serves c l n (are_known known) → AreSound c n hypotheses k s → Concludes hypotheses d q → EachUsed (are_known known) d → CitesOnly k d →
+    IsWritten c n (derivation_tree l s d) (holds q)

@@ -1,0 +1,207 @@
+-- The proofs of what a pattern is and of the judgements on patterns, by the rows of the header.
+use Rattle.std.specs.Prelude.{ℕ, ◌==◌, ◌||◌, if◌then◌else◌, List, [], ◌∷◌, ◌++◌, map, slice_index_or, codes}
+use Rattle.mm_text.specs.Bytes.{Token}
+use Rattle.mm_frame.specs.Proofs.{ProofTree, proof_node, ProofForest, no_proof, more_proofs}
+use Rattle.ml_pat.specs.Patterns.{Pattern, bot, top, imp, not, and, or, equal, member, fun, ex, all, app, at_sort, next, ev, var, meta, constant}
+use Rattle.ml_pat.specs.Judgements.{fresh}
+use Rattle.ml_kernel.specs.ProofRows.{Instance, pattern, variable, sort}
+use Rattle.mm_proof.specs.Tokens.{Naming}
+
+abbrev pub trees_of : List ProofTree → ProofForest
+trees_of [] = no_proof
+trees_of (tree ∷ trees) = more_proofs tree (trees_of trees)
+
+-- a label over trees
+abbrev pub cite : Token → List ProofTree → ProofTree
+cite label trees = proof_node label (trees_of trees)
+
+-- The proof that a pattern is one. A naming gives the labels: of the declarations of sorts and constants, and of the `$f`s
+-- of variables. The trees below a label stand in the order of the header's variables: `p q r t u x y s v`.
+abbrev pub syntax_tree : Naming → Pattern → ProofTree
+syntax_tree l bot = cite (codes "w.bot") []
+syntax_tree l top = cite (codes "w.top") []
+syntax_tree l (imp p q) = cite (codes "w.imp") (syntax_tree l p ∷ syntax_tree l q ∷ [])
+syntax_tree l (and p q) = cite (codes "w.and") (syntax_tree l p ∷ syntax_tree l q ∷ [])
+syntax_tree l (or p q) = cite (codes "w.or") (syntax_tree l p ∷ syntax_tree l q ∷ [])
+syntax_tree l (equal p q) = cite (codes "w.eq") (syntax_tree l p ∷ syntax_tree l q ∷ [])
+syntax_tree l (member p q) = cite (codes "w.mem") (syntax_tree l p ∷ syntax_tree l q ∷ [])
+syntax_tree l (app p q) = cite (codes "w.app") (syntax_tree l p ∷ syntax_tree l q ∷ [])
+syntax_tree l (not p) = cite (codes "w.not") (syntax_tree l p ∷ [])
+syntax_tree l (next p) = cite (codes "w.next") (syntax_tree l p ∷ [])
+syntax_tree l (ev p) = cite (codes "w.ev") (syntax_tree l p ∷ [])
+syntax_tree l (at_sort p s) = cite (codes "w.at") (syntax_tree l p ∷ cite (l.sort s) [] ∷ [])
+syntax_tree l (fun p s) = cite (codes "w.fun") (syntax_tree l p ∷ cite (l.sort s) [] ∷ [])
+syntax_tree l (ex x s p) = cite (codes "w.ex") (syntax_tree l p ∷ cite (l.object x) [] ∷ cite (l.sort s) [] ∷ [])
+syntax_tree l (all x s p) = cite (codes "w.all") (syntax_tree l p ∷ cite (l.object x) [] ∷ cite (l.sort s) [] ∷ [])
+syntax_tree l (var x) = cite (codes "w.var") (cite (l.object x) [] ∷ [])
+syntax_tree l (meta i) = cite (l.meta i) []
+syntax_tree l (constant c) = cite (l.constant c) []
+
+-- the proof that x is not free in a pattern, where it is not
+abbrev pub fresh_tree : Naming → ℕ → Pattern → ProofTree
+fresh_tree l x bot = cite (codes "fr.d") (syntax_tree l bot ∷ cite (l.object x) [] ∷ [])
+fresh_tree l x top = cite (codes "fr.d") (syntax_tree l top ∷ cite (l.object x) [] ∷ [])
+fresh_tree l x (var y) = cite (codes "fr.d") (syntax_tree l (var y) ∷ cite (l.object x) [] ∷ [])
+fresh_tree l x (meta i) = cite (codes "fr.d") (syntax_tree l (meta i) ∷ cite (l.object x) [] ∷ [])
+fresh_tree l x (constant c) = cite (codes "fr.d") (syntax_tree l (constant c) ∷ cite (l.object x) [] ∷ [])
+fresh_tree l x (imp p q) = cite (codes "fr.imp") (syntax_tree l p ∷ syntax_tree l q ∷ cite (l.object x) [] ∷ fresh_tree l x p ∷ fresh_tree l x q ∷ [])
+fresh_tree l x (and p q) = cite (codes "fr.and") (syntax_tree l p ∷ syntax_tree l q ∷ cite (l.object x) [] ∷ fresh_tree l x p ∷ fresh_tree l x q ∷ [])
+fresh_tree l x (or p q) = cite (codes "fr.or") (syntax_tree l p ∷ syntax_tree l q ∷ cite (l.object x) [] ∷ fresh_tree l x p ∷ fresh_tree l x q ∷ [])
+fresh_tree l x (equal p q) = cite (codes "fr.eq") (syntax_tree l p ∷ syntax_tree l q ∷ cite (l.object x) [] ∷ fresh_tree l x p ∷ fresh_tree l x q ∷ [])
+fresh_tree l x (member p q) = cite (codes "fr.mem") (syntax_tree l p ∷ syntax_tree l q ∷ cite (l.object x) [] ∷ fresh_tree l x p ∷ fresh_tree l x q ∷ [])
+fresh_tree l x (app p q) = cite (codes "fr.app") (syntax_tree l p ∷ syntax_tree l q ∷ cite (l.object x) [] ∷ fresh_tree l x p ∷ fresh_tree l x q ∷ [])
+fresh_tree l x (not p) = cite (codes "fr.not") (syntax_tree l p ∷ cite (l.object x) [] ∷ fresh_tree l x p ∷ [])
+fresh_tree l x (next p) = cite (codes "fr.next") (syntax_tree l p ∷ cite (l.object x) [] ∷ fresh_tree l x p ∷ [])
+fresh_tree l x (ev p) = cite (codes "fr.ev") (syntax_tree l p ∷ cite (l.object x) [] ∷ fresh_tree l x p ∷ [])
+fresh_tree l x (at_sort p s) = cite (codes "fr.at") (syntax_tree l p ∷ cite (l.object x) [] ∷ cite (l.sort s) [] ∷ fresh_tree l x p ∷ [])
+fresh_tree l x (fun p s) = cite (codes "fr.fun") (syntax_tree l p ∷ cite (l.object x) [] ∷ cite (l.sort s) [] ∷ fresh_tree l x p ∷ [])
+fresh_tree l x (ex y s p) =
+    if x == y
+    then cite (codes "fr.exb") (syntax_tree l p ∷ cite (l.object x) [] ∷ cite (l.sort s) [] ∷ [])
+    else cite (codes "fr.ex") (syntax_tree l p ∷ cite (l.object x) [] ∷ cite (l.object y) [] ∷ cite (l.sort s) [] ∷ fresh_tree l x p ∷ [])
+fresh_tree l x (all y s p) =
+    if x == y
+    then cite (codes "fr.allb") (syntax_tree l p ∷ cite (l.object x) [] ∷ cite (l.sort s) [] ∷ [])
+    else cite (codes "fr.all") (syntax_tree l p ∷ cite (l.object x) [] ∷ cite (l.object y) [] ∷ cite (l.sort s) [] ∷ fresh_tree l x p ∷ [])
+
+-- the parts of a pattern
+abbrev pub first_part : Pattern → Pattern
+first_part (imp p q) = p
+first_part (and p q) = p
+first_part (or p q) = p
+first_part (equal p q) = p
+first_part (member p q) = p
+first_part (app p q) = p
+first_part (not p) = p
+first_part (next p) = p
+first_part (ev p) = p
+first_part (at_sort p s) = p
+first_part (fun p s) = p
+first_part (ex x s p) = p
+first_part (all x s p) = p
+first_part p = p
+
+abbrev pub second_part : Pattern → Pattern
+second_part (imp p q) = q
+second_part (and p q) = q
+second_part (or p q) = q
+second_part (equal p q) = q
+second_part (member p q) = q
+second_part (app p q) = q
+second_part p = p
+
+-- the proof that a pattern in which x is not free stays as it is with u for x
+abbrev pub unchanged_tree : Naming → ℕ → Pattern → Pattern → ProofTree
+unchanged_tree l x u p = cite (codes "su.f") (syntax_tree l p ∷ syntax_tree l u ∷ cite (l.object x) [] ∷ fresh_tree l x p ∷ [])
+
+-- the proof that a pattern with u for x is the other, where it is
+abbrev pub substitution_tree : Naming → ℕ → Pattern → Pattern → Pattern → ProofTree
+substitution_tree l x u bot r = unchanged_tree l x u bot
+substitution_tree l x u top r = unchanged_tree l x u top
+substitution_tree l x u (meta i) r = unchanged_tree l x u (meta i)
+substitution_tree l x u (constant c) r = unchanged_tree l x u (constant c)
+substitution_tree l x u (var y) r = if x == y then cite (codes "su.v") (syntax_tree l u ∷ cite (l.object x) [] ∷ []) else unchanged_tree l x u (var y)
+substitution_tree l x u (imp p q) r =
+    cite (codes "su.imp") (syntax_tree l p ∷ syntax_tree l q ∷ syntax_tree l (second_part r) ∷ syntax_tree l (first_part r) ∷ syntax_tree l u ∷ cite (l.object x) [] ∷
+    substitution_tree l x u p (first_part r) ∷ substitution_tree l x u q (second_part r) ∷ [])
+substitution_tree l x u (and p q) r =
+    cite (codes "su.and") (syntax_tree l p ∷ syntax_tree l q ∷ syntax_tree l (second_part r) ∷ syntax_tree l (first_part r) ∷ syntax_tree l u ∷ cite (l.object x) [] ∷
+    substitution_tree l x u p (first_part r) ∷ substitution_tree l x u q (second_part r) ∷ [])
+substitution_tree l x u (or p q) r =
+    cite (codes "su.or") (syntax_tree l p ∷ syntax_tree l q ∷ syntax_tree l (second_part r) ∷ syntax_tree l (first_part r) ∷ syntax_tree l u ∷ cite (l.object x) [] ∷
+    substitution_tree l x u p (first_part r) ∷ substitution_tree l x u q (second_part r) ∷ [])
+substitution_tree l x u (equal p q) r =
+    cite (codes "su.eq") (syntax_tree l p ∷ syntax_tree l q ∷ syntax_tree l (second_part r) ∷ syntax_tree l (first_part r) ∷ syntax_tree l u ∷ cite (l.object x) [] ∷
+    substitution_tree l x u p (first_part r) ∷ substitution_tree l x u q (second_part r) ∷ [])
+substitution_tree l x u (member p q) r =
+    cite (codes "su.mem") (syntax_tree l p ∷ syntax_tree l q ∷ syntax_tree l (second_part r) ∷ syntax_tree l (first_part r) ∷ syntax_tree l u ∷ cite (l.object x) [] ∷
+    substitution_tree l x u p (first_part r) ∷ substitution_tree l x u q (second_part r) ∷ [])
+substitution_tree l x u (app p q) r =
+    cite (codes "su.app") (syntax_tree l p ∷ syntax_tree l q ∷ syntax_tree l (second_part r) ∷ syntax_tree l (first_part r) ∷ syntax_tree l u ∷ cite (l.object x) [] ∷
+    substitution_tree l x u p (first_part r) ∷ substitution_tree l x u q (second_part r) ∷ [])
+substitution_tree l x u (not p) r =
+    cite (codes "su.not") (syntax_tree l p ∷ syntax_tree l (first_part r) ∷ syntax_tree l u ∷ cite (l.object x) [] ∷ substitution_tree l x u p (first_part r) ∷ [])
+substitution_tree l x u (next p) r =
+    cite (codes "su.next") (syntax_tree l p ∷ syntax_tree l (first_part r) ∷ syntax_tree l u ∷ cite (l.object x) [] ∷ substitution_tree l x u p (first_part r) ∷ [])
+substitution_tree l x u (ev p) r =
+    cite (codes "su.ev") (syntax_tree l p ∷ syntax_tree l (first_part r) ∷ syntax_tree l u ∷ cite (l.object x) [] ∷ substitution_tree l x u p (first_part r) ∷ [])
+substitution_tree l x u (at_sort p s) r =
+    cite (codes "su.at") (syntax_tree l p ∷ syntax_tree l (first_part r) ∷ syntax_tree l u ∷ cite (l.object x) [] ∷ cite (l.sort s) [] ∷ substitution_tree l x u p (first_part r) ∷ [])
+substitution_tree l x u (fun p s) r =
+    cite (codes "su.fun") (syntax_tree l p ∷ syntax_tree l (first_part r) ∷ syntax_tree l u ∷ cite (l.object x) [] ∷ cite (l.sort s) [] ∷ substitution_tree l x u p (first_part r) ∷ [])
+substitution_tree l x u (ex y s p) r =
+    if x == y then unchanged_tree l x u (ex y s p) else
+    if fresh y u
+    then cite (codes "su.ex") (syntax_tree l p ∷ syntax_tree l (first_part r) ∷ syntax_tree l u ∷ cite (l.object x) [] ∷ cite (l.object y) [] ∷ cite (l.sort s) [] ∷
+    fresh_tree l y u ∷ substitution_tree l x u p (first_part r) ∷ [])
+    else unchanged_tree l x u (ex y s p)
+substitution_tree l x u (all y s p) r =
+    if x == y then unchanged_tree l x u (all y s p) else
+    if fresh y u
+    then cite (codes "su.all") (syntax_tree l p ∷ syntax_tree l (first_part r) ∷ syntax_tree l u ∷ cite (l.object x) [] ∷ cite (l.object y) [] ∷ cite (l.sort s) [] ∷
+    fresh_tree l y u ∷ substitution_tree l x u p (first_part r) ∷ [])
+    else unchanged_tree l x u (all y s p)
+
+-- the proof that a pattern is everything or nothing, where it is built so
+abbrev pub predicate_tree : Naming → Pattern → ProofTree
+predicate_tree l bot = cite (codes "pr.bot") []
+predicate_tree l top = cite (codes "pr.top") []
+predicate_tree l (imp p q) = cite (codes "pr.imp") (syntax_tree l p ∷ syntax_tree l q ∷ predicate_tree l p ∷ predicate_tree l q ∷ [])
+predicate_tree l (and p q) = cite (codes "pr.and") (syntax_tree l p ∷ syntax_tree l q ∷ predicate_tree l p ∷ predicate_tree l q ∷ [])
+predicate_tree l (or p q) = cite (codes "pr.or") (syntax_tree l p ∷ syntax_tree l q ∷ predicate_tree l p ∷ predicate_tree l q ∷ [])
+predicate_tree l (equal p q) = cite (codes "pr.eq") (syntax_tree l p ∷ syntax_tree l q ∷ [])
+predicate_tree l (member p q) = cite (codes "pr.mem") (syntax_tree l p ∷ syntax_tree l q ∷ [])
+predicate_tree l (not p) = cite (codes "pr.not") (syntax_tree l p ∷ predicate_tree l p ∷ [])
+predicate_tree l (fun p s) = cite (codes "pr.fun") (syntax_tree l p ∷ cite (l.sort s) [] ∷ [])
+predicate_tree l (ex x s p) = cite (codes "pr.ex") (syntax_tree l p ∷ cite (l.object x) [] ∷ cite (l.sort s) [] ∷ predicate_tree l p ∷ [])
+predicate_tree l (all x s p) = cite (codes "pr.all") (syntax_tree l p ∷ cite (l.object x) [] ∷ cite (l.sort s) [] ∷ predicate_tree l p ∷ [])
+predicate_tree l p = syntax_tree l p
+
+-- The rules, by the labels of their rows, in the order of their numbers.
+abbrev pub rule_labels : List Token
+rule_labels =
+    codes "p.1" ∷ codes "p.2" ∷ codes "p.3" ∷ codes "mp" ∷ codes "not.1" ∷ codes "not.2" ∷ codes "and.1" ∷ codes "and.2" ∷ codes "and.3" ∷ codes "or.1" ∷
+    codes "or.2" ∷ codes "or.3" ∷ codes "top" ∷ codes "inst" ∷ codes "fun.ex" ∷ codes "ex.el" ∷ codes "eq.refl" ∷ codes "eq.el" ∷ codes "eq.in" ∷ codes "mem.in" ∷
+    codes "mem.no" ∷ codes "apart" ∷ codes "app.l" ∷ codes "app.r" ∷ codes "bot.l" ∷ codes "bot.r" ∷ codes "next.in" ∷ codes "ev.1" ∷ codes "ev.2" ∷ codes "ev.kt" ∷ []
+
+abbrev pub rule_label : ℕ → Token
+rule_label n = slice_index_or rule_labels n []
+
+-- the proof that what stands for a variable of a rule is of its type
+abbrev pub instance_tree : Naming → Instance → ProofTree
+instance_tree l (pattern p) = syntax_tree l p
+instance_tree l (variable x) = cite (l.object x) []
+instance_tree l (sort s) = cite (l.sort s) []
+
+-- what stands for the variable of a rule at a place
+abbrev pub pattern_of_instance : Instance → Pattern
+pattern_of_instance (pattern p) = p
+pattern_of_instance (variable x) = bot
+pattern_of_instance (sort s) = bot
+
+abbrev pub variable_of_instance : Instance → ℕ
+variable_of_instance (pattern p) = 0
+variable_of_instance (variable x) = x
+variable_of_instance (sort s) = 0
+
+abbrev pub pattern_at : List Instance → ℕ → Pattern
+pattern_at is i = pattern_of_instance (slice_index_or is i (sort 0))
+
+abbrev pub variable_at : List Instance → ℕ → ℕ
+variable_at is i = variable_of_instance (slice_index_or is i (sort 0))
+
+-- The proofs below a rule, in the order of its row: those of its judgements, and those of what it concludes from. `inst` is
+-- the rule 13, `ex.el` 15, `eq.el` 17, `mem.no` 20, `app.l` 22 and `app.r` 23.
+abbrev pub premise_trees : Naming → ℕ → List Instance → List ProofTree → List ProofTree
+premise_trees l n is trees =
+    if n == 13 then substitution_tree l (variable_at is 3) (pattern_at is 1) (pattern_at is 0) (pattern_at is 2) ∷ trees else
+    if n == 15 then trees ++ fresh_tree l (variable_at is 2) (pattern_at is 1) ∷ [] else
+    if n == 17 then
+    substitution_tree l (variable_at is 5) (pattern_at is 0) (pattern_at is 2) (pattern_at is 3) ∷
+    substitution_tree l (variable_at is 5) (pattern_at is 1) (pattern_at is 2) (pattern_at is 4) ∷ trees
+    else
+    if (n == 20) || ((n == 22) || (n == 23)) then predicate_tree l (pattern_at is 2) ∷ trees else trees
+
+-- the proof by a rule with a number, at these instances, over proofs
+abbrev pub row_tree : Naming → ℕ → List Instance → List ProofTree → ProofTree
+row_tree l n is trees = cite (rule_label n) (map (instance_tree l) is ++ premise_trees l n is trees)

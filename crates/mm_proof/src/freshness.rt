@@ -1,0 +1,241 @@
+// How the proofs of freshness and of predicates come apart.
+ghost use Rattle.std.specs.Prelude.{OnOk};
+ghost use Rattle.mm_proof.specs.Writing.{PutsOn, quantified_steps, fresh_two_steps, fresh_one_steps, fresh_sorted_steps, predicate_two_steps, predicate_under_steps};
+ghost use Rattle.mm_proof.specs.Labels.{own_labels};
+ghost use Rattle.mm_frame.specs.Proofs.{postorder};
+ghost use Rattle.mm_proof.specs.Trees.{fresh_tree, unchanged_tree, predicate_tree};
+
+use crate::patterns::expand_syntax;
+use crate::stacks::put_steps;
+use crate::words::Word;
+use crate::works::Work;
+use ml_pat::{MForm, MPat, MSort, VarNo};
+use std::alloc::AllocError;
+
+/// The proof that x is not free under the quantifier of y, with the labels for the same variable and for another.
+fn put_quantified<'a>(
+    stack: &mut Vec<Work<'a>>,
+    x: VarNo,
+    y: VarNo,
+    s: MSort,
+    body: &'a MPat,
+    bound: &'static str,
+    other: &'static str,
+) -> Result<(), AllocError>
+    ensures { OnOk result (PutsOn (λ names k. quantified_steps k x.0 y.0 s.0 body.now bound.now other.now) stack.old.items stack.new.items) }
+{
+    if x == y {
+        return put_steps(
+            stack,
+            &[
+                Work::Syntax(body),
+                Work::One(Word::ObjectLabel(x.0)),
+                Work::One(Word::Declared(s.0)),
+            ],
+            bound,
+        );
+    }
+    put_steps(
+        stack,
+        &[
+            Work::Syntax(body),
+            Work::One(Word::ObjectLabel(x.0)),
+            Work::One(Word::ObjectLabel(y.0)),
+            Work::One(Word::Declared(s.0)),
+            Work::Fresh(x, body),
+        ],
+        other,
+    )
+}
+
+/// The proof that x is not free in a form with two parts, by the rule with this label.
+fn put_fresh_two<'a>(
+    stack: &mut Vec<Work<'a>>,
+    x: VarNo,
+    p: &'a MPat,
+    q: &'a MPat,
+    label: &'static str,
+) -> Result<(), AllocError>
+    ensures { OnOk result (PutsOn (λ names k. fresh_two_steps k x.0 p.now q.now label.now) stack.old.items stack.new.items) }
+{
+    put_steps(
+        stack,
+        &[
+            Work::Syntax(p),
+            Work::Syntax(q),
+            Work::One(Word::ObjectLabel(x.0)),
+            Work::Fresh(x, p),
+            Work::Fresh(x, q),
+        ],
+        label,
+    )
+}
+
+/// The proof that x is not free in a form with one part, by the rule with this label.
+fn put_fresh_one<'a>(
+    stack: &mut Vec<Work<'a>>,
+    x: VarNo,
+    p: &'a MPat,
+    label: &'static str,
+) -> Result<(), AllocError>
+    ensures { OnOk result (PutsOn (λ names k. fresh_one_steps k x.0 p.now label.now) stack.old.items stack.new.items) }
+{
+    put_steps(
+        stack,
+        &[
+            Work::Syntax(p),
+            Work::One(Word::ObjectLabel(x.0)),
+            Work::Fresh(x, p),
+        ],
+        label,
+    )
+}
+
+/// The proof that x is not free in a form with one part and a sort, by the rule with this label.
+fn put_fresh_sorted<'a>(
+    stack: &mut Vec<Work<'a>>,
+    x: VarNo,
+    p: &'a MPat,
+    s: MSort,
+    label: &'static str,
+) -> Result<(), AllocError>
+    ensures { OnOk result (PutsOn (λ names k. fresh_sorted_steps k x.0 p.now s.0 label.now) stack.old.items stack.new.items) }
+{
+    put_steps(
+        stack,
+        &[
+            Work::Syntax(p),
+            Work::One(Word::ObjectLabel(x.0)),
+            Work::One(Word::Declared(s.0)),
+            Work::Fresh(x, p),
+        ],
+        label,
+    )
+}
+
+/// The proof that x is not free in a pattern.
+pub(crate) fn expand_fresh<'a>(
+    stack: &mut Vec<Work<'a>>,
+    x: VarNo,
+    pat: &'a MPat,
+) -> Result<(), AllocError>
+    ensures { OnOk result (PutsOn (λ names k. postorder (fresh_tree (own_labels k) x.0 pat.now)) stack.old.items stack.new.items) }
+{
+    match pat.form() {
+        MForm::Imp(p, q) => put_fresh_two(stack, x, p, q, "fr.imp"),
+        MForm::And(p, q) => put_fresh_two(stack, x, p, q, "fr.and"),
+        MForm::Or(p, q) => put_fresh_two(stack, x, p, q, "fr.or"),
+        MForm::Equal(p, q) => put_fresh_two(stack, x, p, q, "fr.eq"),
+        MForm::Member(p, q) => put_fresh_two(stack, x, p, q, "fr.mem"),
+        MForm::App(p, q) => put_fresh_two(stack, x, p, q, "fr.app"),
+        MForm::Not(p) => put_fresh_one(stack, x, p, "fr.not"),
+        MForm::Next(p) => put_fresh_one(stack, x, p, "fr.next"),
+        MForm::Ev(p) => put_fresh_one(stack, x, p, "fr.ev"),
+        MForm::At(p, s) => put_fresh_sorted(stack, x, p, *s, "fr.at"),
+        MForm::Fun(p, s) => put_fresh_sorted(stack, x, p, *s, "fr.fun"),
+        MForm::Ex(y, s, p) => put_quantified(stack, x, *y, *s, p, "fr.exb", "fr.ex"),
+        MForm::All(y, s, p) => put_quantified(stack, x, *y, *s, p, "fr.allb", "fr.all"),
+        MForm::Bot | MForm::Top | MForm::Var(_) | MForm::Meta(_) | MForm::Const(_) => put_steps(
+            stack,
+            &[Work::Syntax(pat), Work::One(Word::ObjectLabel(x.0))],
+            "fr.d",
+        ),
+    }
+}
+
+/// The proof that a pattern in which x is not free stays as it is with u for x.
+pub(crate) fn expand_unchanged<'a>(
+    stack: &mut Vec<Work<'a>>,
+    x: VarNo,
+    u: &'a MPat,
+    pat: &'a MPat,
+) -> Result<(), AllocError>
+    ensures { OnOk result (PutsOn (λ names k. postorder (unchanged_tree (own_labels k) x.0 u.now pat.now)) stack.old.items stack.new.items) }
+{
+    put_steps(
+        stack,
+        &[
+            Work::Syntax(pat),
+            Work::Syntax(u),
+            Work::One(Word::ObjectLabel(x.0)),
+            Work::Fresh(x, pat),
+        ],
+        "su.f",
+    )
+}
+
+/// The proof that a form of two predicates is one, by the rule with this label.
+fn put_predicate_two<'a>(
+    stack: &mut Vec<Work<'a>>,
+    p: &'a MPat,
+    q: &'a MPat,
+    label: &'static str,
+) -> Result<(), AllocError>
+    ensures { OnOk result (PutsOn (λ names k. predicate_two_steps k p.now q.now label.now) stack.old.items stack.new.items) }
+{
+    put_steps(
+        stack,
+        &[
+            Work::Syntax(p),
+            Work::Syntax(q),
+            Work::Predicate(p),
+            Work::Predicate(q),
+        ],
+        label,
+    )
+}
+
+/// The proof that a predicate under a quantifier is one, by the rule with this label.
+fn put_predicate_under<'a>(
+    stack: &mut Vec<Work<'a>>,
+    x: VarNo,
+    s: MSort,
+    p: &'a MPat,
+    label: &'static str,
+) -> Result<(), AllocError>
+    ensures { OnOk result (PutsOn (λ names k. predicate_under_steps k x.0 s.0 p.now label.now) stack.old.items stack.new.items) }
+{
+    put_steps(
+        stack,
+        &[
+            Work::Syntax(p),
+            Work::One(Word::ObjectLabel(x.0)),
+            Work::One(Word::Declared(s.0)),
+            Work::Predicate(p),
+        ],
+        label,
+    )
+}
+
+/// The proof that a pattern is everything or nothing, where it is built so.
+pub(crate) fn expand_predicate<'a>(
+    stack: &mut Vec<Work<'a>>,
+    pat: &'a MPat,
+) -> Result<(), AllocError>
+    ensures { OnOk result (PutsOn (λ names k. postorder (predicate_tree (own_labels k) pat.now)) stack.old.items stack.new.items) }
+{
+    match pat.form() {
+        MForm::Bot => put_steps(stack, &[], "pr.bot"),
+        MForm::Top => put_steps(stack, &[], "pr.top"),
+        MForm::Imp(p, q) => put_predicate_two(stack, p, q, "pr.imp"),
+        MForm::And(p, q) => put_predicate_two(stack, p, q, "pr.and"),
+        MForm::Or(p, q) => put_predicate_two(stack, p, q, "pr.or"),
+        MForm::Equal(p, q) => put_steps(stack, &[Work::Syntax(p), Work::Syntax(q)], "pr.eq"),
+        MForm::Member(p, q) => put_steps(stack, &[Work::Syntax(p), Work::Syntax(q)], "pr.mem"),
+        MForm::Not(p) => put_steps(stack, &[Work::Syntax(p), Work::Predicate(p)], "pr.not"),
+        MForm::Fun(p, s) => put_steps(
+            stack,
+            &[Work::Syntax(p), Work::One(Word::Declared(s.0))],
+            "pr.fun",
+        ),
+        MForm::Ex(x, s, p) => put_predicate_under(stack, *x, *s, p, "pr.ex"),
+        MForm::All(x, s, p) => put_predicate_under(stack, *x, *s, p, "pr.all"),
+        MForm::App(_, _)
+        | MForm::At(_, _)
+        | MForm::Next(_)
+        | MForm::Ev(_)
+        | MForm::Var(_)
+        | MForm::Meta(_)
+        | MForm::Const(_) => expand_syntax(stack, pat),
+    }
+}

@@ -1,0 +1,86 @@
+// Whether a variable is free in a pattern.
+ghost use Rattle.std.specs.Prelude.{◌≡◌, ◌&&◌, ◌||◌, ◌==◌, ◌+◌, ◌<◌, IfOk, OnOk};
+ghost use Rattle.ml_pat.specs.Judgements.{fresh};
+ghost use Rattle.ml_pat.specs.Patterns.{forms_in};
+ghost use Rattle.mm_proof.specs.Searching.{IsLeft, all_fresh, all_forms, patterns_of};
+
+use ml_pat::{MForm, MPat, VarNo};
+use std::alloc::{AllocError, Global};
+
+/// Whether x is not free in a pattern. A stack takes the place of recursion.
+pub(crate) fn is_fresh(alloc: Global, x: VarNo, pat: &MPat) -> Result<bool, AllocError>
+    ensures { IfOk result (λ found. found ≡ fresh x.0 pat.now) }
+{
+    let mut stack = Vec::new(alloc);
+    stack.push(pat)?;
+    while let Some(next) = stack.pop() {
+        let going = is_fresh_at(&mut stack, x, next)?;
+        if !going {
+            return Ok(false);
+        }
+    }
+    Ok(true)
+}
+
+/// Whether x may still be not free, with the parts that are left to be looked at on the stack.
+fn is_fresh_at<'a>(stack: &mut Vec<&'a MPat>, x: VarNo, pat: &'a MPat) -> Result<bool, AllocError>
+    ensures { IfOk result (λ going. IsLeft x.0 (fresh x.0 pat.now) (forms_in pat.now) stack.old.items stack.new.items going) }
+{
+    match pat.form() {
+        MForm::Bot => Ok(true),
+        MForm::Top => Ok(true),
+        MForm::Imp(p, q) => put_both(stack, x, p, q),
+        MForm::Not(p) => put_part(stack, x, p),
+        MForm::And(p, q) => put_both(stack, x, p, q),
+        MForm::Or(p, q) => put_both(stack, x, p, q),
+        MForm::Equal(p, q) => put_both(stack, x, p, q),
+        MForm::Member(p, q) => put_both(stack, x, p, q),
+        MForm::Fun(p, _) => put_part(stack, x, p),
+        MForm::Ex(y, _, p) => put_body(stack, x, *y, p),
+        MForm::All(y, _, p) => put_body(stack, x, *y, p),
+        MForm::App(p, q) => put_both(stack, x, p, q),
+        MForm::At(p, _) => put_part(stack, x, p),
+        MForm::Next(p) => put_part(stack, x, p),
+        MForm::Ev(p) => put_part(stack, x, p),
+        MForm::Var(y) => Ok(x != *y),
+        MForm::Meta(_) => Ok(true),
+        MForm::Const(_) => Ok(true),
+    }
+}
+
+/// Puts a part on the stack.
+fn put_part<'a>(stack: &mut Vec<&'a MPat>, x: VarNo, p: &'a MPat) -> Result<bool, AllocError>
+    ensures { IfOk result (λ going. IsLeft x.0 (fresh x.0 p.now) (forms_in p.now + 1) stack.old.items stack.new.items going) }
+{
+    stack.push(p)?;
+    Ok(true)
+}
+
+/// Puts two parts on the stack.
+fn put_both<'a>(
+    stack: &mut Vec<&'a MPat>,
+    x: VarNo,
+    p: &'a MPat,
+    q: &'a MPat,
+) -> Result<bool, AllocError>
+    ensures { IfOk result (λ going. IsLeft x.0 (fresh x.0 p.now && fresh x.0 q.now) (forms_in p.now + forms_in q.now + 1) stack.old.items stack.new.items going) }
+{
+    stack.push(q)?;
+    stack.push(p)?;
+    Ok(true)
+}
+
+/// Puts the body of a quantifier of y on the stack, where y is not x.
+fn put_body<'a>(
+    stack: &mut Vec<&'a MPat>,
+    x: VarNo,
+    y: VarNo,
+    p: &'a MPat,
+) -> Result<bool, AllocError>
+    ensures { IfOk result (λ going. IsLeft x.0 ((x.0 == y.0) || fresh x.0 p.now) (forms_in p.now + 1) stack.old.items stack.new.items going) }
+{
+    if x == y {
+        return Ok(true);
+    }
+    put_part(stack, x, p)
+}

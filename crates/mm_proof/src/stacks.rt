@@ -1,0 +1,57 @@
+// Works put on a stack.
+ghost use Rattle.std.specs.Prelude.{[], ◌∷◌, ◌++◌, OnOk, codes};
+ghost use Rattle.mm_proof.specs.Writing.{PutsOn, PutsMore, all_tokens, word_token};
+
+use crate::words::Word;
+use crate::works::Work;
+use std::alloc::AllocError;
+
+/// Puts works on a stack, the first on top, and a label below them.
+pub(crate) fn put_steps<'a>(
+    stack: &mut Vec<Work<'a>>,
+    parts: &[Work<'a>],
+    label: &'static str,
+) -> Result<(), AllocError>
+    ensures { OnOk result (PutsOn (λ names k. all_tokens names k parts.now ++ label.now ∷ []) stack.old.items stack.new.items) }
+{
+    stack.push(Work::One(Word::Fixed(label)))?;
+    put_all(stack, parts)
+}
+
+/// Puts works on a stack, the first on top.
+pub(crate) fn put_all<'a>(stack: &mut Vec<Work<'a>>, parts: &[Work<'a>]) -> Result<(), AllocError>
+    ensures { OnOk result (PutsMore (λ names k. all_tokens names k parts.now) stack.old.items stack.new.items) }
+{
+    let mut left = parts.len();
+    while left > 0 {
+        left -= 1;
+        stack.push(parts[left])?;
+    }
+    Ok(())
+}
+
+/// Puts the tokens of a pattern with a connective on a stack.
+pub(crate) fn put_bracket<'a>(
+    stack: &mut Vec<Work<'a>>,
+    connective: &'static str,
+    parts: &[Work<'a>],
+) -> Result<(), AllocError>
+    ensures { OnOk result (PutsOn (λ names k. codes "(" ∷ (connective.now ∷ (all_tokens names k parts.now ++ codes ")" ∷ []))) stack.old.items stack.new.items) }
+{
+    put_steps(stack, parts, ")")?;
+    put_all(
+        stack,
+        &[
+            Work::One(Word::Fixed("(")),
+            Work::One(Word::Fixed(connective)),
+        ],
+    )
+}
+
+/// Puts one token on a stack.
+pub(crate) fn put_word<'a>(stack: &mut Vec<Work<'a>>, word: Word) -> Result<(), AllocError>
+    ensures { OnOk result (PutsOn (λ names k. word_token names k word ∷ []) stack.old.items stack.new.items) }
+{
+    stack.push(Work::One(word))?;
+    Ok(())
+}

@@ -1,0 +1,240 @@
+// How the proof of a substitution comes apart.
+ghost use Rattle.std.specs.Prelude.{◌≡◌, OnOk};
+ghost use Rattle.mm_proof.specs.Writing.{PutsOn, two_steps, one_steps, sorted_steps, under_steps, variable_steps, quantified_substitution};
+ghost use Rattle.mm_proof.specs.Labels.{own_labels};
+ghost use Rattle.mm_frame.specs.Proofs.{postorder};
+ghost use Rattle.mm_proof.specs.Trees.{substitution_tree, first_part, second_part};
+
+use crate::freshness::expand_unchanged;
+use crate::searching::is_fresh;
+use crate::stacks::put_steps;
+use crate::words::Word;
+use crate::works::Work;
+use ml_pat::{MForm, MPat, MSort, VarNo};
+use std::alloc::AllocError;
+
+/// The first part of a pattern; itself where it has none.
+fn first_part(pat: &MPat) -> &MPat
+    ensures { result.now ≡ first_part pat.now }
+{
+    match pat.form() {
+        MForm::Imp(p, _) => p,
+        MForm::And(p, _) => p,
+        MForm::Or(p, _) => p,
+        MForm::Equal(p, _) => p,
+        MForm::Member(p, _) => p,
+        MForm::App(p, _) => p,
+        MForm::Not(p) => p,
+        MForm::Next(p) => p,
+        MForm::Ev(p) => p,
+        MForm::At(p, _) => p,
+        MForm::Fun(p, _) => p,
+        MForm::Ex(_, _, p) => p,
+        MForm::All(_, _, p) => p,
+        MForm::Bot | MForm::Top | MForm::Var(_) | MForm::Meta(_) | MForm::Const(_) => pat,
+    }
+}
+
+/// The second part of a pattern; itself where it has none.
+fn second_part(pat: &MPat) -> &MPat
+    ensures { result.now ≡ second_part pat.now }
+{
+    match pat.form() {
+        MForm::Imp(_, q) => q,
+        MForm::And(_, q) => q,
+        MForm::Or(_, q) => q,
+        MForm::Equal(_, q) => q,
+        MForm::Member(_, q) => q,
+        MForm::App(_, q) => q,
+        _ => pat,
+    }
+}
+
+/// The proof of the substitution in two parts.
+fn put_two<'a>(
+    stack: &mut Vec<Work<'a>>,
+    x: VarNo,
+    u: &'a MPat,
+    p: &'a MPat,
+    q: &'a MPat,
+    made: &'a MPat,
+    label: &'static str,
+) -> Result<(), AllocError>
+    ensures { OnOk result (PutsOn (λ names k. two_steps k x.0 u.now p.now q.now made.now label.now) stack.old.items stack.new.items) }
+{
+    let first = first_part(made);
+    let second = second_part(made);
+    put_steps(
+        stack,
+        &[
+            Work::Syntax(p),
+            Work::Syntax(q),
+            Work::Syntax(second),
+            Work::Syntax(first),
+            Work::Syntax(u),
+            Work::One(Word::ObjectLabel(x.0)),
+            Work::Substituted(x, u, p, first),
+            Work::Substituted(x, u, q, second),
+        ],
+        label,
+    )
+}
+
+/// The proof of the substitution in one part, with the sort that stands beside it.
+fn put_one<'a>(
+    stack: &mut Vec<Work<'a>>,
+    x: VarNo,
+    u: &'a MPat,
+    p: &'a MPat,
+    made: &'a MPat,
+    label: &'static str,
+) -> Result<(), AllocError>
+    ensures { OnOk result (PutsOn (λ names k. one_steps k x.0 u.now p.now made.now label.now) stack.old.items stack.new.items) }
+{
+    let first = first_part(made);
+    put_steps(
+        stack,
+        &[
+            Work::Syntax(p),
+            Work::Syntax(first),
+            Work::Syntax(u),
+            Work::One(Word::ObjectLabel(x.0)),
+            Work::Substituted(x, u, p, first),
+        ],
+        label,
+    )
+}
+
+fn put_sorted<'a>(
+    stack: &mut Vec<Work<'a>>,
+    x: VarNo,
+    u: &'a MPat,
+    p: &'a MPat,
+    s: MSort,
+    made: &'a MPat,
+    label: &'static str,
+) -> Result<(), AllocError>
+    ensures { OnOk result (PutsOn (λ names k. sorted_steps k x.0 u.now p.now s.0 made.now label.now) stack.old.items stack.new.items) }
+{
+    let first = first_part(made);
+    put_steps(
+        stack,
+        &[
+            Work::Syntax(p),
+            Work::Syntax(first),
+            Work::Syntax(u),
+            Work::One(Word::ObjectLabel(x.0)),
+            Work::One(Word::Declared(s.0)),
+            Work::Substituted(x, u, p, first),
+        ],
+        label,
+    )
+}
+
+/// The proof of the substitution under the quantifier of y, where x is free in the body.
+fn put_under<'a>(
+    stack: &mut Vec<Work<'a>>,
+    x: VarNo,
+    u: &'a MPat,
+    y: VarNo,
+    s: MSort,
+    p: &'a MPat,
+    made: &'a MPat,
+    label: &'static str,
+) -> Result<(), AllocError>
+    ensures { OnOk result (PutsOn (λ names k. under_steps k x.0 u.now y.0 s.0 p.now made.now label.now) stack.old.items stack.new.items) }
+{
+    let first = first_part(made);
+    put_steps(
+        stack,
+        &[
+            Work::Syntax(p),
+            Work::Syntax(first),
+            Work::Syntax(u),
+            Work::One(Word::ObjectLabel(x.0)),
+            Work::One(Word::ObjectLabel(y.0)),
+            Work::One(Word::Declared(s.0)),
+            Work::Fresh(y, u),
+            Work::Substituted(x, u, p, first),
+        ],
+        label,
+    )
+}
+
+/// The proof of the substitution under the quantifier of y.
+fn put_substituted_quantified<'a>(
+    stack: &mut Vec<Work<'a>>,
+    x: VarNo,
+    u: &'a MPat,
+    y: VarNo,
+    s: MSort,
+    p: &'a MPat,
+    whole: &'a MPat,
+    made: &'a MPat,
+    label: &'static str,
+) -> Result<(), AllocError>
+    ensures { OnOk result (PutsOn (λ names k. quantified_substitution k x.0 u.now y.0 s.0 p.now whole.now made.now label.now) stack.old.items stack.new.items) }
+{
+    if x == y {
+        return expand_unchanged(stack, x, u, whole);
+    }
+    if is_fresh(*stack.allocator(), y, u)? {
+        return put_under(stack, x, u, y, s, p, made, label);
+    }
+    expand_unchanged(stack, x, u, whole)
+}
+
+/// The proof for a variable: it is replaced, or stays.
+fn put_variable<'a>(
+    stack: &mut Vec<Work<'a>>,
+    x: VarNo,
+    u: &'a MPat,
+    y: VarNo,
+    whole: &'a MPat,
+) -> Result<(), AllocError>
+    ensures { OnOk result (PutsOn (λ names k. variable_steps k x.0 u.now y.0 whole.now) stack.old.items stack.new.items) }
+{
+    if x == y {
+        return put_steps(
+            stack,
+            &[Work::Syntax(u), Work::One(Word::ObjectLabel(x.0))],
+            "su.v",
+        );
+    }
+    expand_unchanged(stack, x, u, whole)
+}
+
+/// The proof that a pattern with u for x is the one that was made.
+pub(crate) fn expand_substituted<'a>(
+    stack: &mut Vec<Work<'a>>,
+    x: VarNo,
+    u: &'a MPat,
+    pat: &'a MPat,
+    made: &'a MPat,
+) -> Result<(), AllocError>
+    ensures { OnOk result (PutsOn (λ names k. postorder (substitution_tree (own_labels k) x.0 u.now pat.now made.now)) stack.old.items stack.new.items) }
+{
+    match pat.form() {
+        MForm::Imp(p, q) => put_two(stack, x, u, p, q, made, "su.imp"),
+        MForm::And(p, q) => put_two(stack, x, u, p, q, made, "su.and"),
+        MForm::Or(p, q) => put_two(stack, x, u, p, q, made, "su.or"),
+        MForm::Equal(p, q) => put_two(stack, x, u, p, q, made, "su.eq"),
+        MForm::Member(p, q) => put_two(stack, x, u, p, q, made, "su.mem"),
+        MForm::App(p, q) => put_two(stack, x, u, p, q, made, "su.app"),
+        MForm::Not(p) => put_one(stack, x, u, p, made, "su.not"),
+        MForm::Next(p) => put_one(stack, x, u, p, made, "su.next"),
+        MForm::Ev(p) => put_one(stack, x, u, p, made, "su.ev"),
+        MForm::At(p, s) => put_sorted(stack, x, u, p, *s, made, "su.at"),
+        MForm::Fun(p, s) => put_sorted(stack, x, u, p, *s, made, "su.fun"),
+        MForm::Ex(y, s, p) => put_substituted_quantified(
+            stack, x, u, *y, *s, p, pat, made, "su.ex",
+        ),
+        MForm::All(y, s, p) => put_substituted_quantified(
+            stack, x, u, *y, *s, p, pat, made, "su.all",
+        ),
+        MForm::Var(y) => put_variable(stack, x, u, *y, pat),
+        MForm::Bot | MForm::Top | MForm::Meta(_) | MForm::Const(_) => expand_unchanged(
+            stack, x, u, pat,
+        ),
+    }
+}

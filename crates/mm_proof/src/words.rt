@@ -1,0 +1,114 @@
+// Tokens as they are written, each with white space behind it.
+ghost use Rattle.std.specs.Prelude.{◌≡◌, ◌∷◌, [], ◌++◌, OnOk, decimal, map};
+ghost use Rattle.mm_text.specs.TextLaws.{white_behind, written};
+ghost use Rattle.mm_proof.specs.Labels.{two_numbers};
+ghost use Rattle.mm_proof.specs.Tokens.{name_of};
+ghost use Rattle.mm_proof.specs.Writing.{word_token};
+
+use itoa::Buffer;
+use ml_pat::Names;
+use std::alloc::AllocError;
+
+/// A token of a statement.
+#[derive(Clone, Copy)]
+pub enum Word {
+    /// A constant or label of the header, or a keyword.
+    Fixed(&'static str),
+    /// The token with this number among the names.
+    Name(u64),
+    /// The label of the declaration of the name with this number.
+    Declared(u64),
+    /// The token of an object variable.
+    Object(u32),
+    /// The token of a pattern variable.
+    Meta(u32),
+    /// The label of the `$f` of an object variable.
+    ObjectLabel(u32),
+    /// The label of the `$f` of a pattern variable.
+    MetaLabel(u32),
+    /// The label of the `$e` with this number.
+    Premise(u64),
+    /// The label of the statement with this number.
+    Stated(u64),
+}
+
+/// Adds a token, in the block of the statement with the number `serial`, and white space.
+pub fn push_word(to: &mut Vec<u8>, names: &Names, serial: u64, word: Word) -> Result<(), AllocError>
+    ensures { OnOk result (to.new.items ≡ to.old.items ++ written (word_token names.now serial word ∷ [])) }
+{
+    let start = to.len();
+    push_token(to, names, serial, word)?;
+    let white = white_behind(&to[start..]);
+    to.push(white)?;
+    Ok(())
+}
+
+/// The white space behind a token: a line ends with a statement.
+fn white_behind(token: &[u8]) -> u8
+    ensures { result ≡ white_behind token.now }
+{
+    let ends = token == b"${".as_slice() || token == b"$}".as_slice() || token == b"$.".as_slice();
+    if ends { b'\n' } else { b' ' }
+}
+
+/// Adds tokens, each with white space behind it.
+pub fn push_words(
+    to: &mut Vec<u8>,
+    names: &Names,
+    serial: u64,
+    words: &[Word],
+) -> Result<(), AllocError>
+    ensures { OnOk result (to.new.items ≡ to.old.items ++ written (map (word_token names.now serial) words.now)) }
+{
+    for word in words {
+        push_word(to, names, serial, *word)?;
+    }
+    Ok(())
+}
+
+fn push_token(to: &mut Vec<u8>, names: &Names, serial: u64, word: Word) -> Result<(), AllocError>
+    ensures { OnOk result (to.new.items ≡ to.old.items ++ word_token names.now serial word) }
+{
+    match word {
+        Word::Fixed(token) => to.extend_from_slice(token.as_bytes()),
+        Word::Name(no) => push_name(to, names, no),
+        Word::Declared(no) => push_numbered(to, "n.", no),
+        Word::Object(x) => push_numbered(to, "x:", u64::from(x)),
+        Word::Meta(i) => push_numbered(to, "m:", u64::from(i)),
+        Word::ObjectLabel(x) => push_twice(to, "x.", serial, u64::from(x)),
+        Word::MetaLabel(i) => push_twice(to, "m.", serial, u64::from(i)),
+        Word::Premise(j) => push_twice(to, "e.", serial, j),
+        Word::Stated(k) => push_numbered(to, "t.", k),
+    }
+}
+
+/// Adds the token with this number; nothing where there is none.
+fn push_name(to: &mut Vec<u8>, names: &Names, no: u64) -> Result<(), AllocError>
+    ensures { OnOk result (to.new.items ≡ to.old.items ++ name_of names.now no) }
+{
+    match names.token(no) {
+        Some(token) => to.extend_from_slice(token.as_bytes()),
+        None => Ok(()),
+    }
+}
+
+/// Adds a letter and its mark, and a number.
+fn push_numbered(to: &mut Vec<u8>, front: &'static str, no: u64) -> Result<(), AllocError>
+    ensures { OnOk result (to.new.items ≡ to.old.items ++ (front.now ++ decimal no)) }
+{
+    to.extend_from_slice(front.as_bytes())?;
+    to.extend_from_slice(Buffer::new().format(no).as_bytes())
+}
+
+/// Adds a letter and its mark, and two numbers with a dot between them.
+fn push_twice(
+    to: &mut Vec<u8>,
+    front: &'static str,
+    first: u64,
+    second: u64,
+) -> Result<(), AllocError>
+    ensures { OnOk result (to.new.items ≡ to.old.items ++ (front.now ++ two_numbers first second)) }
+{
+    push_numbered(to, front, first)?;
+    push_numbered(to, ".", second)
+}

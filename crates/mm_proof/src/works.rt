@@ -1,0 +1,71 @@
+// What is still to be written, as works that come apart into smaller ones: a stack of them takes the place of recursion, so
+// that a deep pattern costs no stack of calls.
+ghost use Rattle.std.specs.Prelude.{◌≡◌, ◌++◌, OnOk};
+ghost use Rattle.mm_text.specs.TextLaws.{written};
+ghost use Rattle.mm_proof.specs.Writing.{IsTaken, all_tokens};
+
+use crate::freshness::{expand_fresh, expand_predicate, expand_unchanged};
+use crate::patterns::{expand_syntax, expand_text};
+use crate::stacks::put_all;
+use crate::substitution::expand_substituted;
+use crate::words::{Word, push_word};
+use ml_pat::{MPat, Names, VarNo};
+use std::alloc::AllocError;
+
+/// Something to be written.
+#[derive(Clone, Copy)]
+pub enum Work<'a> {
+    /// A token.
+    One(Word),
+    /// The tokens of a pattern.
+    Text(&'a MPat),
+    /// The proof that it is a pattern.
+    Syntax(&'a MPat),
+    /// The proof that the variable is not free in the pattern.
+    Fresh(VarNo, &'a MPat),
+    /// The proof that a pattern stays as it is: the variable, what would stand for it, and the pattern.
+    Unchanged(VarNo, &'a MPat, &'a MPat),
+    /// The proof of a substitution: the variable, what stands for it, the pattern and the result.
+    Substituted(VarNo, &'a MPat, &'a MPat, &'a MPat),
+    /// The proof that the pattern is a predicate.
+    Predicate(&'a MPat),
+}
+
+/// Writes works one behind the other, in the block of the statement with the number `serial`, in time linear in what is
+/// written.
+pub fn write_works(
+    to: &mut Vec<u8>,
+    names: &Names,
+    serial: u64,
+    works: &[Work<'_>],
+) -> Result<(), AllocError>
+    ensures { OnOk result (to.new.items ≡ to.old.items ++ written (all_tokens names.now serial works.now)) }
+{
+    let mut stack = Vec::new(*to.allocator());
+    put_all(&mut stack, works)?;
+    while let Some(next) = stack.pop() {
+        write_step(to, names, serial, &mut stack, next)?;
+    }
+    Ok(())
+}
+
+/// Writes a token, or takes a larger work apart.
+fn write_step<'a>(
+    to: &mut Vec<u8>,
+    names: &Names,
+    serial: u64,
+    stack: &mut Vec<Work<'a>>,
+    work: Work<'a>,
+) -> Result<(), AllocError>
+    ensures { OnOk result (IsTaken names.now serial work.entry stack.old.items stack.new.items to.old.items to.new.items) }
+{
+    match work {
+        Work::One(word) => push_word(to, names, serial, word),
+        Work::Text(p) => expand_text(stack, p),
+        Work::Syntax(p) => expand_syntax(stack, p),
+        Work::Fresh(x, p) => expand_fresh(stack, x, p),
+        Work::Unchanged(x, u, p) => expand_unchanged(stack, x, u, p),
+        Work::Substituted(x, u, p, r) => expand_substituted(stack, x, u, p, r),
+        Work::Predicate(p) => expand_predicate(stack, p),
+    }
+}

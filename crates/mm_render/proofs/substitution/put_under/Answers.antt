@@ -1,4 +1,0 @@
-use Rattle.mm_render.proofs.substitution.put_under.Goals as goal
-
-pub returns : goal.returns
-returns c = rw (← c.first_part-first.ensures) c.put_steps.ensures
