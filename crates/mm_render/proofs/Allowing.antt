@@ -19,7 +19,8 @@ use Rattle.mm_proof.specs.Leaves.{EachLeaf}
 use Rattle.mm_proof.specs.Tokens.{own_naming}
 use Rattle.mm_proof.specs.Derivations.{holds_text}
 use Rattle.mm_render.specs.Statements.{typecode_of}
-use Rattle.mm_render.specs.Stating.{closed_over, stated_assertion, stated_frame}
+use Rattle.mm_render.specs.OverNames.{closed_over}
+use Rattle.mm_render.specs.Stating.{stated_assertion, stated_frame}
 use Rattle.mm_render.specs.Keeping.{FitsWhen, Fits, Gains}
 use Rattle.mm_render.specs.Places.{is_same, is_stated, lemma_statement}
 use Rattle.mm_render.specs.Justifying.{own_axiom, AreAllowed, AreTypings, HasOnlyAxiomsOf, Justifies}

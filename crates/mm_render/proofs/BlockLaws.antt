@@ -18,7 +18,8 @@ use Rattle.mm_proof.specs.Derivations.{holds_text}
 use Rattle.mm_render.specs.Statements.{NameKind, sort_name, symbol_name, value_name, kind_front, IsName}
 use Rattle.mm_render.specs.Fitting.{AreNames, Holds}
 use Rattle.mm_render.specs.Variables.{Variable, object_variable, pattern_variable, has_variable, are_once, AreNumbered, variable_token, variable_label, variable_tokens}
-use Rattle.mm_render.specs.Blocks.{Claim, IsClaim, open_over, AreOpenOver, premise_hypotheses, separations, head_statements, block, open_frame}
+use Rattle.mm_render.specs.Blocks.{Claim, IsClaim, premise_hypotheses, separations, head_statements, block, open_frame}
+use Rattle.mm_render.specs.OverNames.{open_over, AreOpenOver}
 use Rattle.mm_render.specs.Claiming.{IsFree, AreClaims, HoldsClaims}
 use Rattle.mm_proof.proofs.LeafLaws.{EachLeaf-implied}
 use Rattle.mm_render.proofs.SpeltLaws.{statement_label-is_label, statement_label-differs}

@@ -6,7 +6,8 @@ use Rattle.ml_pat.specs.Patterns.{Pattern}
 use Rattle.mm_proof.specs.Tokens.{own_naming}
 use Rattle.mm_proof.specs.Labels.{statement_label}
 use Rattle.mm_render.specs.Variables.{Variable, AreNumbered}
-use Rattle.mm_render.specs.Blocks.{Claim, open_over, open_frame}
+use Rattle.mm_render.specs.Blocks.{Claim, open_frame}
+use Rattle.mm_render.specs.OverNames.{open_over}
 use Rattle.mm_proof.specs.MayCite.{CitesSoundly}
 use Rattle.mm_render.specs.CitedAt.{claims_citing, citable, ArePremises}
 use Rattle.mm_render.specs.Claiming.{HoldsClaims}

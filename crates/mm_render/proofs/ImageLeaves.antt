@@ -17,7 +17,7 @@ use Rattle.ml_image.proofs.ImageLaws.{numbered-keeps, image-keeps, rule_image-si
 use Rattle.mm_proof.specs.Tokens.{name_of}
 use Rattle.mm_proof.specs.Leaves.{EachLeaf}
 use Rattle.mm_render.specs.Statements.{typecode_of}
-use Rattle.mm_render.specs.Stating.{closed_over}
+use Rattle.mm_render.specs.OverNames.{closed_over}
 use Rattle.mm_render.specs.Justifying.{rule_image, value_fact}
 use Rattle.mm_render.specs.JustifyingLaws.{HasNoVariable, HaveNoVariable, GroundHasNone, ImageIsClosed, RuleImageIsClosed, ImageStays, RuleImageStays, OwnAxiomStays, RuleImageIsOwn}
 

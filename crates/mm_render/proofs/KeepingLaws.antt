@@ -16,8 +16,9 @@ use Rattle.mm_proof.specs.Labels.{statement_label, own_labels}
 use Rattle.mm_proof.specs.Leaves.{EachLeaf}
 use Rattle.mm_proof.specs.Tokens.{name_of, own_naming}
 use Rattle.mm_proof.specs.Derivations.{holds_text, derivation_tree}
-use Rattle.mm_render.specs.Statements.{all_name_statements}
-use Rattle.mm_render.specs.Stating.{FitsStated, closed_over, stated_assertion, axiom_statement, theorem_statement, closed_citing, ArePlaced}
+use Rattle.mm_render.specs.Statements.{all_name_statements, axiom_statement, theorem_statement}
+use Rattle.mm_render.specs.Stating.{FitsStated, stated_assertion, closed_citing, ArePlaced}
+use Rattle.mm_render.specs.OverNames.{closed_over}
 use Rattle.mm_render.specs.Keeping.{FitsWhen, Gains, MayState, axiom_at, with_stated, EmptyFits, BegunFits, DeclaredFits}
 use Rattle.mm_render.specs.Places.{Places, stated_cites, lemma_statement, MayProve}
 use Rattle.mm_proof.proofs.LeafLaws.{EachLeaf-implied}

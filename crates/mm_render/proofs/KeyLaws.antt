@@ -6,7 +6,8 @@ use Rattle.std.proofs.lemmas.Grind.{flat_map-append}
 use Rattle.std.proofs.lemmas.Slice.Eq.{bytes_eq-Decides}
 use Rattle.std.specs.Borrow.{Bor}
 use Rattle.ml_pat.specs.Patterns.{Pattern, bot, top, imp, not, and, or, equal, member, fun, ex, all, app, at_sort, next, ev, var, meta, constant, forms_in}
-use Rattle.mm_render.specs.Places.{numbers, is_same, bytes_within, number_bytes, all_bytes, pattern_key}
+use Rattle.mm_render.specs.Keys.{numbers, bytes_within, number_bytes, all_bytes, pattern_key}
+use Rattle.mm_render.specs.Places.{is_same}
 use Rattle.mm_render.specs.PlaceTable.{all_numbers, FormIsAdded}
 use Rattle.mm_proof.specs.Searching.{all_forms, patterns_of}
 use Rattle.mm_proof.proofs.Looking.{all_forms-push}

@@ -18,7 +18,8 @@ use Rattle.mm_proof.specs.Derivations.{holds_text}
 use Rattle.mm_render.specs.Statements.{typecode_of, all_name_statements}
 use Rattle.mm_render.specs.Fitting.{AreNames}
 use Rattle.mm_render.specs.Variables.{Variable, object_variable, pattern_variable, variable_token, variable_label}
-use Rattle.mm_render.specs.Blocks.{Claim, IsClaim, open_over, AreOpenOver, variable_float, premise_hypotheses, are_apart, open_frame}
+use Rattle.mm_render.specs.Blocks.{Claim, IsClaim, variable_float, premise_hypotheses, are_apart, open_frame}
+use Rattle.mm_render.specs.OverNames.{open_over, AreOpenOver}
 use Rattle.mm_render.specs.Claiming.{IsFree, AreClaims, HoldsClaims, NamesFitClaims}
 use Rattle.mm_proof.proofs.LeafLaws.{EachLeaf-implied}
 use Rattle.mm_proof.proofs.AgreeLaws.{agreeing, text-agrees}

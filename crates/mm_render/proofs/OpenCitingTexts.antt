@@ -15,7 +15,8 @@ use Rattle.mm_proof.specs.Derivations.{holds_text}
 use Rattle.mm_proof.specs.Serving.{punctuation}
 use Rattle.mm_render.specs.Fitting.{AreNames}
 use Rattle.mm_render.specs.Variables.{Variable, object_variable, pattern_variable, same_variable, has_variable, number_of, AreNumbered, variable_token, variable_type, is_variable_token}
-use Rattle.mm_render.specs.Blocks.{variable_float, premise_hypotheses, open_over, AreOpenOver}
+use Rattle.mm_render.specs.Blocks.{variable_float, premise_hypotheses}
+use Rattle.mm_render.specs.OverNames.{open_over, AreOpenOver}
 use Rattle.mm_proof.proofs.Schemes.{Leaves, under, judgement-under}
 use Rattle.mm_proof.proofs.LeafLaws.{EachLeaf-implied, other_leaves}
 use Rattle.mm_proof.proofs.Decimals.{decimal-same}

@@ -30,8 +30,9 @@ use Rattle.mm_proof.specs.Derivations.{holds_text, derivation_tree}
 use Rattle.mm_render.specs.Fitting.{Holds}
 use Rattle.mm_render.specs.CitedAt.{claims_citing, citable}
 use Rattle.mm_render.specs.Variables.{Variable, object_variable, pattern_variable, are_once, AreNumbered, variable_token, variable_label}
-use Rattle.mm_render.specs.Blocks.{Claim, IsClaim, head_statements, block, axiom_block, theorem_block, open_over, variable_float, premise_hypotheses, open_assertion}
-use Rattle.mm_render.specs.Stating.{axiom_statement, theorem_statement}
+use Rattle.mm_render.specs.Blocks.{Claim, IsClaim, head_statements, block, axiom_block, theorem_block, variable_float, premise_hypotheses, open_assertion}
+use Rattle.mm_render.specs.OverNames.{open_over}
+use Rattle.mm_render.specs.Statements.{axiom_statement, theorem_statement}
 use Rattle.mm_render.specs.Claiming.{FitsClaims, GainsClaim, HoldsClaims, ClaimsAreValid, HeaderFitsClaims, AxiomBlockFits, AxiomBlockIsGained, IsProvable, TheoremBlockFits, TheoremBlockIsGained}
 use Rattle.mm_proof.proofs.LeafLaws.{split_true, both_true}
 use Rattle.mm_render.proofs.SpeltLaws.{label_facts, statement_label-is_label, header_spelt, hypothesis_spelt, types_spelt, postorder_spelt, labels_plain, labels_go_on, labels_clean, labels_uncompressed}

@@ -18,7 +18,8 @@ use Rattle.mm_proof.specs.Leaves.{EachLeaf}
 use Rattle.mm_proof.specs.Derivations.{holds_text}
 use Rattle.mm_render.specs.Fitting.{AreNames, Holds}
 use Rattle.mm_render.specs.Variables.{Variable, object_variable, pattern_variable, is_object, number_of, same_variable, has_variable, are_once, AreNumbered, stands_in, variable_token, variable_tokens, object_tokens}
-use Rattle.mm_render.specs.Blocks.{Claim, IsClaim, open_over, AreOpenOver, variable_float, premise_hypotheses, separations, are_apart, open_frame}
+use Rattle.mm_render.specs.Blocks.{Claim, IsClaim, variable_float, premise_hypotheses, separations, are_apart, open_frame}
+use Rattle.mm_render.specs.OverNames.{open_over, AreOpenOver}
 use Rattle.mm_proof.proofs.LeafLaws.{both_true, split_true, PassFixed}
 use Rattle.mm_render.proofs.StatedLaws.{both_false, either_true, second_true, not_false, itself, none_passes, name_at, name_no_letter}
 use Rattle.mm_render.proofs.VariableLaws.{name_no_variable, token_differs, same_is}

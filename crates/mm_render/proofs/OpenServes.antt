@@ -17,7 +17,8 @@ use Rattle.mm_proof.specs.Derivations.{holds_text}
 use Rattle.mm_render.specs.Statements.{typecode_of}
 use Rattle.mm_render.specs.Fitting.{Holds}
 use Rattle.mm_render.specs.Variables.{Variable, object_variable, pattern_variable, is_object, number_of, same_variable, has_variable, AreNumbered, variable_label, variable_tokens, object_tokens, is_variable_token}
-use Rattle.mm_render.specs.Blocks.{Claim, open_over, variable_float, premise_hypotheses, separations, are_apart}
+use Rattle.mm_render.specs.Blocks.{Claim, variable_float, premise_hypotheses, separations, are_apart}
+use Rattle.mm_render.specs.OverNames.{open_over}
 use Rattle.mm_render.specs.Claiming.{IsFree, HoldsClaims}
 use Rattle.mm_proof.proofs.LeafLaws.{both_true, split_true}
 use Rattle.mm_render.proofs.NameLaws.{name_facts}

@@ -18,7 +18,8 @@ use Rattle.mm_proof.specs.Serving.{punctuation}
 use Rattle.mm_proof.specs.Derivations.{holds_text}
 use Rattle.mm_render.specs.Fitting.{AreNames, Holds}
 use Rattle.mm_render.specs.Variables.{Variable, object_variable, pattern_variable, number_of, same_variable, has_variable, are_once, AreNumbered, variable_token, variable_tokens}
-use Rattle.mm_render.specs.Blocks.{open_over, AreOpenOver, variable_statements, variable_float, separations, separated, separation_statements, premise_statements, premise_hypotheses, head_statements}
+use Rattle.mm_render.specs.OverNames.{open_over, AreOpenOver}
+use Rattle.mm_render.specs.Blocks.{variable_statements, variable_float, separations, separated, separation_statements, premise_statements, premise_hypotheses, head_statements}
 use Rattle.mm_proof.proofs.LeafLaws.{EachLeaf-implied, tested_leaves, PassFixed, both_true, list_all-text}
 use Rattle.mm_render.proofs.NameLaws.{name_facts}
 use Rattle.mm_render.proofs.StatedLaws.{both_false, either_true, second_true, not_false, has_name, name_at, header_fixed, header_turnstile}

@@ -11,10 +11,11 @@ use Rattle.ml_kernel.specs.Theorems.{Derivation, Derivations, hypothesis, own_ax
 use Rattle.mm_proof.specs.Leaves.{EachLeaf, EachInstance}
 use Rattle.mm_proof.specs.Derivations.{EachUsed, AllUsed}
 use Rattle.mm_render.specs.Variables.{Variable, object_variable, pattern_variable, same_variable, has_variable, are_once, AreNumbered}
-use Rattle.mm_render.specs.Blocks.{Claim, open_over}
+use Rattle.mm_render.specs.Blocks.{Claim}
+use Rattle.mm_render.specs.OverNames.{open_over, over_names}
 use Rattle.mm_proof.specs.MayCite.{EachCited, AllCited}
 use Rattle.mm_render.specs.CitedAt.{claim_at, HaveInstances, IsCitable, citable}
-use Rattle.mm_render.specs.OpenVariables.{variables_in, variables_for, variables_at, variables_of, all_variables_of, other_variables, over_names, NeededAreEnough}
+use Rattle.mm_render.specs.OpenVariables.{variables_in, variables_for, variables_at, variables_of, all_variables_of, other_variables, NeededAreEnough}
 use Rattle.mm_proof.proofs.LeafLaws.{both_true, split_true, not_true}
 use Rattle.mm_render.proofs.OpenCitingTexts.{same_is, same_itself, case_variable, first_there, later_there}
 use Rattle.mm_render.proofs.OpenCiting.{claim_is}

@@ -12,7 +12,8 @@ use Rattle.std.proofs.lemmas.Bool.{false≢true}
 use Rattle.std.proofs.lemmas.Map.Text.{is_eq-slice_cmp}
 use Rattle.std.proofs.lemmas.Slice.Eq.{bytes_eq-Decides}
 use Rattle.ml_pat.specs.Patterns.{Pattern}
-use Rattle.mm_render.specs.Places.{is_same, is_stated, pattern_key, place_by, IsUnder, FindsStated}
+use Rattle.mm_render.specs.Places.{is_same, is_stated, place_by, IsUnder, FindsStated}
+use Rattle.mm_render.specs.Keys.{pattern_key}
 use Rattle.mm_render.specs.PlaceTable.{found_in}
 use Rattle.mm_render.proofs.KeyLaws.{same_is, key_same}
 

@@ -23,9 +23,10 @@ use Rattle.mm_proof.specs.Labels.{own_labels}
 use Rattle.mm_proof.specs.Leaves.{EachLeaf}
 use Rattle.mm_proof.specs.Tokens.{name_of, own_naming}
 use Rattle.mm_proof.specs.Derivations.{holds_text, Cites, EachUsed, derivation_tree}
-use Rattle.mm_render.specs.Statements.{symbol_name, typecode_of, all_name_statements}
+use Rattle.mm_render.specs.Statements.{symbol_name, typecode_of, all_name_statements, theorem_statement}
 use Rattle.mm_render.specs.Fitting.{AreNames}
-use Rattle.mm_render.specs.Stating.{FitsStated, closed_over, theorem_statement, closed_citing, ArePlaced, stated_frame, stated_assertion}
+use Rattle.mm_render.specs.Stating.{FitsStated, closed_citing, ArePlaced, stated_frame, stated_assertion}
+use Rattle.mm_render.specs.OverNames.{closed_over}
 use Rattle.mm_render.specs.Justifying.{IsOwnAxiom, rule_image, value_fact, header_row, declaration, own_axiom, HasOnlyAxiomsOf, Justifies}
 use Rattle.mm_render.specs.JustifyingCases.{small_text, alone, SmallJustifies, conclusion, ConclusionIsNoAxiom}
 use Rattle.mm_render.proofs.StatedLaws.{GainsJust, header_fits_stated, theorem_fits, theorem_gains_just}

@@ -7,7 +7,7 @@ use Rattle.std.proofs.lemmas.List.Elements.{at_from_Contains}
 use Rattle.std.proofs.lemmas.Slice.Eq.{bytes_eq-Decides}
 use Rattle.mm_text.specs.Bytes.{Token, has_token}
 use Rattle.mm_text.specs.Labels.{is_label}
-use Rattle.mm_text.specs.Statements.{statement, ends_statement}
+use Rattle.mm_text.specs.Statements.{statement, ends_statement, Statements, next_statement, statements_from}
 use Rattle.mm_text.specs.TextLaws.{is_plain_token, is_one_statement, ends_once, written}
 use Rattle.mm_frame.specs.Forms.{Form, asserts, proves, plain, form_of, has_dollar}
 use Rattle.mm_frame.specs.Frames.{Hypothesis, label_of, Frame, Scope, frame_of}
@@ -32,14 +32,13 @@ use Rattle.mm_proof.specs.Serving.{IsAssertion, closed_frame, punctuation, Decla
 use Rattle.mm_proof.specs.Tokens.{letters_of, text_by, name_of, own_naming}
 use Rattle.mm_proof.specs.Trees.{cite}
 use Rattle.mm_proof.specs.Derivations.{holds_text, Cites, CitesOnly, EachUsed, derivation_tree, AreSound}
-use Rattle.mm_render.specs.Statements.{NameKind, sort_name, symbol_name, value_name, kind_front, IsName, typecode_of}
+use Rattle.mm_render.specs.Statements.{NameKind, sort_name, symbol_name, value_name, kind_front, IsName, typecode_of, axiom_statement, theorem_statement}
 use Rattle.mm_render.specs.Fitting.{AreNames, Holds}
 use Rattle.mm_render.specs.Variables.{is_variable_token}
 use Rattle.mm_frame.specs.Assertions.{Assertion, assertions_in, assertions_of, form_assertion, with_assertion_first, form_typing, typings_in, typings_of, with_typing_first}
 use Rattle.mm_frame.proofs.Stated.{appended_states}
 use Rattle.mm_text.proofs.Writing.{written_statement}
-use Rattle.mm_text.specs.Statements.{Statements, next_statement, statements_from}
-use Rattle.mm_render.specs.Stating.{FitsStated, stated_assertion, AxiomIsGained, TheoremIsGained, closed_over, AreClosedOver, stated_frame, HoldsStated, axiom_statement, theorem_statement, closed_citing, ArePlaced, HeaderFitsStated, AxiomFits, TheoremFits}
+use Rattle.mm_render.specs.OverNames.{closed_over}
 use Rattle.mm_proof.proofs.LeafLaws.{EachLeaf-implied, tested_leaves, PassFixed, both_true, list_all-append, list_all-text}
 use Rattle.mm_render.proofs.NameLaws.{name_facts}
 use Rattle.mm_render.proofs.SpeltLaws.{LabelFacts, label_facts, header_spelt, header_active_spelt, postorder_spelt, labels_clean, labels_plain, labels_go_on, labels_uncompressed, statement_label-is_label, statement_label-differs}
@@ -58,23 +57,6 @@ either_true a b h = rw h refl
 pub header_statement_free : (k : ℕ) → header_context.labels (statement_label k) ≡ false
 unfolding header_context header_rows header_labels
 header_statement_free k = refl
-
-pub no_item : (k : ℕ) (p : Pattern) → slice_get [] k ≡ Some p → ⊥
-no_item k p h = cc
-
-pub header_fits_stated : HeaderFitsStated
-header_fits_stated = (
-  header_context,
-  record { white = header_ends; fine = header_fine; closed = header_closed },
-  record {
-    base = header_holds;
-    names = tt;
-    closed = tt;
-    frames = λ k p h. absurd (no_item k p h);
-    free = λ k le lt. header_statement_free k;
-    spelt = header_spelt;
-  },
-)
 
 -- what proofs find there
 
@@ -295,21 +277,6 @@ pub header_statement_variable : (k : ℕ) → header_context.variables (statemen
 unfolding header_context
 header_statement_variable k = refl
 
-closed_may_be_stated : (declared : List Token) (stated : List Pattern) (c : Context) (p : Pattern) → HoldsStated declared stated c → length stated < 2 ^ 64 → EachLeaf (closed_over declared) p
-    → MayBeStated c (statement_label (length stated)) (codes "|-") (text_by (letters_of (own_naming declared)) p)
-closed_may_be_stated declared stated c p w few closed =
-    let spelt : is_label (statement_label (length stated)) ≡ true = statement_label-is_label (length stated) few in
-    let free : c.labels (statement_label (length stated)) ≡ false = w.free (length stated) (omega arith) few in
-    let constant : c.constants (statement_label (length stated)) ≡ false = w.base.constants (statement_label (length stated)) ∙ both_false (header_context.constants (statement_label (length stated))) (has_token declared (statement_label (length stated))) (header_statement_constant (length stated)) (no_statement_among declared (length stated) w.names) in
-    let variable : c.variables (statement_label (length stated)) ≡ false = w.base.variables (statement_label (length stated)) refl ∙ header_statement_variable (length stated) in
-    record {
-      new = rw (spelt, free, constant, variable) refl;
-      constant = w.base.constants (codes "|-") ∙ either_true (header_context.constants (codes "|-")) _ header_turnstile;
-      typed = text_typed declared c p w.base closed;
-      clean_label = labels_clean (statement_label (length stated) ∷ []) (both_true (is_label (statement_label (length stated))) true spelt refl);
-      clean = text_clean declared p w.names closed;
-    }
-
 -- the tokens of a statement
 
 pub ends_last : (ts : List Token) → list_all (λ t. not (ends_statement t)) ts ≡ true → ends_once (ts ++ codes "$." ∷ []) ≡ true
@@ -372,163 +339,12 @@ base_holds declared c k symbols w = record {
   no_label = λ t h. both_false (c.labels t) (bytes_eq t (statement_label k)) (w.no_label t h) (name_no_statement t k h);
 }
 
-last_item : (xs : List Pattern) (x : Pattern) (k : ℕ) (q : Pattern) → slice_get (xs ++ x ∷ []) k ≡ Some q → ((slice_get xs k ≡ Some q) × (k < length xs)) ⊎ ((k ≡ length xs) × (x ≡ q))
-last_item [] x zero q h = inr (refl, (let same : x ≡ q = cc in same))
-last_item [] x (suc k) q h = absurd (no_item k q h)
-last_item (y ∷ xs) x zero q h = inl (h, omega arith)
-last_item (y ∷ xs) x (suc k) q h = go (last_item xs x k q h)
-  where
-    go : ((slice_get xs k ≡ Some q) × (k < length xs)) ⊎ ((k ≡ length xs) × (x ≡ q)) → ((slice_get xs k ≡ Some q) × (suc k < suc (length xs))) ⊎ ((suc k ≡ suc (length xs)) × (x ≡ q))
-    go (inl w) = inl (w.0, omega (arith, w.1))
-    go (inr w) = inr (ap suc w.0, w.1)
-
-closed_last : (declared : List Token) (stated : List Pattern) (p : Pattern) → AreClosedOver declared stated → EachLeaf (closed_over declared) p → AreClosedOver declared (stated ++ p ∷ [])
-closed_last declared [] p all h = (h, tt)
-closed_last declared (q ∷ stated) p all h = (all.0, closed_last declared stated p all.1 h)
-
-stated_holds : (declared : List Token) (stated : List Pattern) (c : Context) (p : Pattern) → HoldsStated declared stated c → length stated < 2 ^ 64 → EachLeaf (closed_over declared) p
-    → HoldsStated declared (stated ++ p ∷ []) (with_statement c (length stated) (holds_text (own_naming declared) p))
-stated_holds declared stated c p w few closed = record {
-  base = base_holds declared c (length stated) (holds_text (own_naming declared) p) w.base;
-  names = w.names;
-  closed = closed_last declared stated p w.closed closed;
-  frames = λ k q h. frame_at k q (last_item stated p k q h);
-  free = λ k le lt. both_false (c.labels (statement_label k)) (bytes_eq (statement_label k) (statement_label (length stated))) (w.free k (omega (arith, le, length-append stated (p ∷ []))) lt)
-      (statement_label-differs k (length stated) lt few (λ same. absurd (omega (arith, le, same, length-append stated (p ∷ [])))));
-  spelt = λ label f h. spelt_at label f (bytes_eq label (statement_label (length stated))) refl h;
-}
-  where
-    made : frame_of c.scope (statement_label (length stated)) (holds_text (own_naming declared) p) ≡ stated_frame declared (length stated) p
-    made = ap (λ (s : Scope). frame_of s (statement_label (length stated)) (holds_text (own_naming declared) p)) w.base.scope ∙ header_frame (statement_label (length stated)) (holds_text (own_naming declared) p) (all_unneeded declared p w.names closed)
-
-    frame_at : (k : ℕ) (q : Pattern) → ((slice_get stated k ≡ Some q) × (k < length stated)) ⊎ ((k ≡ length stated) × (p ≡ q)) → (with_statement c (length stated) (holds_text (own_naming declared) p)).frames (statement_label k) ≡ Some (stated_frame declared k q)
-    frame_at k q (inl h) =
-        if_false (bytes_eq (statement_label k) (statement_label (length stated))) _ (c.frames (statement_label k)) (statement_label-differs k (length stated) (omega (arith, h.1, few)) few (λ same. absurd (omega (arith, h.1, same)))) ∙ w.frames k q h.0
-    frame_at k q (inr h) =
-        subst (λ (j : ℕ). (with_statement c (length stated) (holds_text (own_naming declared) p)).frames (statement_label j) ≡ Some (stated_frame declared j q)) (sym h.0)
-        (if_true (bytes_eq (statement_label (length stated)) (statement_label (length stated))) _ _ (itself (statement_label (length stated))) ∙ ap Some made ∙ ap (λ (r : Pattern). Some (stated_frame declared (length stated) r)) h.1)
-
-    spelt_at : (label : Token) (f : Frame) (b : Bool) → bytes_eq label (statement_label (length stated)) ≡ b → (if b then Some (frame_of c.scope (statement_label (length stated)) (holds_text (own_naming declared) p)) else c.frames label) ≡ Some f → is_label label ≡ true
-    spelt_at label f true is h = ap is_label ((bytes_eq-Decides label (statement_label (length stated))).0 is) ∙ statement_label-is_label (length stated) few
-    spelt_at label f false is h = w.spelt label f h
-
 -- an axiom
 
-adds_axiom : (declared : List Token) (stated : List Pattern) (c : Context) (at : ℕ) (p : Pattern) → HoldsStated declared stated c → length stated < 2 ^ 64 → EachLeaf (closed_over declared) p
-    → Adds c at (axiom_statement declared (length stated) p ∷ []) (with_statement c (length stated) (holds_text (own_naming declared) p))
-adds_axiom declared stated c at p w few closed =
-    let may : MayBeStated c (statement_label (length stated)) (codes "|-") (text_by (letters_of (own_naming declared)) p) = closed_may_be_stated declared stated c p w few closed in
-    let label : LabelFacts (statement_label (length stated)) = label_facts (statement_label (length stated)) (statement_label-is_label (length stated) few) in (
-      axiom_plain (statement_label (length stated)) (holds_text (own_naming declared) p) label.plain (text_plain declared p w.names closed),
-      axiom_one (length stated) (holds_text (own_naming declared) p) (text_goes_on declared p w.names closed),
-      axiom_is_fine c (statement_label (length stated)) (codes "|-") (text_by (letters_of (own_naming declared)) p) may,
-      sym (ap (after_form c at) (plain_tokens_say (statement_label (length stated) ∷ []) asserts (codes "|-") (text_by (letters_of (own_naming declared)) p) may.clean_label may.clean refl)),
-    )
-
-pub axiom_fits : AxiomFits
-axiom_fits declared stated bytes p (c, leaves, w) few closed = (
-  with_statement c (length stated) (holds_text (own_naming declared) p),
-  continued_leaves bytes c (with_statement c (length stated) (holds_text (own_naming declared) p)) (axiom_statement declared (length stated) p ∷ []) leaves (adds_axiom declared stated c (length bytes) p w few closed) leaves.closed,
-  stated_holds declared stated c p w few closed,
-)
-
 -- a theorem
-
-adds_theorem : (declared : List Token) (stated : List Pattern) (c : Context) (at : ℕ) (p : Pattern) (tree : ProofTree) → HoldsStated declared stated c → length stated < 2 ^ 64 → EachLeaf (closed_over declared) p
-    → Proves c tree (holds_text (own_naming declared) p)
-    → Adds c at (theorem_statement declared (length stated) p tree ∷ []) (with_statement c (length stated) (holds_text (own_naming declared) p))
-adds_theorem declared stated c at p tree w few closed proof =
-    let may : MayBeStated c (statement_label (length stated)) (codes "|-") (text_by (letters_of (own_naming declared)) p) = closed_may_be_stated declared stated c p w few closed in
-    let label : LabelFacts (statement_label (length stated)) = label_facts (statement_label (length stated)) (statement_label-is_label (length stated) few) in
-    let spelt : list_all is_label (postorder tree) ≡ true = postorder_spelt c tree (holds_text (own_naming declared) p) (header_active_spelt c w.base.scope) w.spelt proof in (
-      theorem_plain (statement_label (length stated)) (holds_text (own_naming declared) p) (postorder tree) label.plain (text_plain declared p w.names closed) (labels_plain (postorder tree) spelt),
-      theorem_one (length stated) (holds_text (own_naming declared) p) (postorder tree) (text_goes_on declared p w.names closed) (labels_go_on (postorder tree) spelt),
-      theorem_is_fine c (statement_label (length stated)) (codes "|-") (text_by (letters_of (own_naming declared)) p) tree may proof (labels_clean (postorder tree) spelt) (labels_uncompressed (postorder tree) spelt),
-      sym (ap (after_form c at) (proof_tokens_say (statement_label (length stated) ∷ []) (holds_text (own_naming declared) p) (postorder tree) may.clean_label may.clean (labels_clean (postorder tree) spelt))),
-    )
 
 pub unchanged_text : (tokens : List Token) → flat_map (λ t. t ∷ []) tokens ≡ tokens
 unchanged_text [] = refl
 unchanged_text (t ∷ tokens) = ap (λ (ts : List Token). t ∷ ts) (unchanged_text tokens)
 
-cited_proves : (declared : List Token) (stated : List Pattern) (c : Context) (k : ℕ) (p : Pattern) → HoldsStated declared stated c → slice_get stated k ≡ Some p → Proves c (cite (statement_label k) []) (holds_text (own_naming declared) p)
-cited_proves declared stated c k p w there =
-    ([], leads-by c (statement_label k) (stated_frame declared k p) [] (holds_text (own_naming declared) p) (assertion_at declared c (statement_label k) (stated_frame declared k p) w.base (statement_no_active k) (w.frames k p there)) refl refl (unchanged_text (holds_text (own_naming declared) p)), refl)
-
-closed_sound : (declared : List Token) (stated : List Pattern) (c : Context) (k : Cites) (place : Pattern → ℕ) → HoldsStated declared stated c → ArePlaced stated k place → AreSound c (own_naming declared) [] k (closed_citing place)
-closed_sound declared stated c k place w placed = record {
-  premise = λ p none. absurd (no_premise p none);
-  fact = λ p cites. cited_proves declared stated c (place p) p w (placed.fact p cites);
-  lemma = λ own q ms trees cites closed all. subst (λ (r : Pattern). Proves c (cite (statement_label (place q)) []) (holds_text (own_naming declared) r)) (sym (instance-without ms q (placed.closed own q cites)))
-      (cited_proves declared stated c (place q) q w (placed.lemma own q cites));
-}
-  where
-    no_premise : (p : Pattern) → Contains [] p → ⊥
-    no_premise p h = absurd (omega (arith, (at_from_Contains [] p h).1))
-
-pub theorem_fits : TheoremFits
-theorem_fits declared stated bytes q d k place (c, leaves, w) few closed concludes used placed only =
-    let tree : ProofTree = derivation_tree (own_labels (length stated)) (closed_citing place) d in
-    let proof : Proves c tree (holds_text (own_naming declared) q) = derivation_proves c (own_labels (length stated)) (own_naming declared) (closed_over declared) [] k (closed_citing place) (serves_closed declared c (length stated) w.base w.names) (closed_sound declared stated c k place w placed) d q concludes used only in (
-      with_statement c (length stated) (holds_text (own_naming declared) q),
-      continued_leaves bytes c (with_statement c (length stated) (holds_text (own_naming declared) q)) (theorem_statement declared (length stated) q tree ∷ []) leaves (adds_theorem declared stated c (length bytes) q tree w few closed proof) leaves.closed,
-      stated_holds declared stated c q w few closed,
-    )
-
 -- what is gained
-
--- a text with some bytes behind it has gained just this assertion, and no typing
-abbrev pub GainsJust : List ℕ → List ℕ → Assertion → Type 0
-GainsJust bytes appended a = (assertions_of (bytes ++ appended) ≡ assertions_of bytes ++ a ∷ []) × (typings_of (bytes ++ appended) ≡ typings_of bytes)
-
--- one written statement of a form that makes an assertion
-gained_one : (c : Context) (bytes : List ℕ) (tokens : List Token) (form : Form) (a : Assertion) → Leaves bytes c → list_all is_plain_token tokens ≡ true → is_one_statement tokens ≡ true → form_of tokens ≡ Some form → form_assertion c (Some form) ≡ Some a → form_typing (Some form) ≡ None
-    → GainsJust bytes (written_statements (tokens ∷ [])) a
-gained_one c bytes tokens form a leaves plain_ones one says makes types_none =
-    let read : statements_from (length bytes) (written tokens ++ []) ≡ next_statement (statement (length bytes) tokens) (statements_from (length bytes + length (written tokens)) []) = written_statement (length bytes) tokens [] plain_ones one in
-    let made : form_assertion c (form_of tokens) ≡ Some a = ap (form_assertion c) says ∙ makes in
-    let typed : form_typing (form_of tokens) ≡ None = ap form_typing says ∙ types_none in
-    let both : (assertions_of (bytes ++ written_statements (tokens ∷ [])) ≡ assertions_of bytes ++ assertions_in c (statements_from (length bytes) (written tokens ++ []))) × (typings_of (bytes ++ written_statements (tokens ∷ [])) ≡ typings_of bytes ++ typings_in (statements_from (length bytes) (written tokens ++ []))) =
-    appended_states bytes (written_statements (tokens ∷ [])) c leaves.white leaves.fine in (
-      both.0
-          ∙ ap (λ (ss : Statements). assertions_of bytes ++ assertions_in c ss) read
-          ∙ ap (λ (o : Option Assertion). assertions_of bytes ++ with_assertion_first o []) made,
-      both.1
-          ∙ ap (λ (ss : Statements). typings_of bytes ++ typings_in ss) read
-          ∙ ap (λ (o : Option Hypothesis). typings_of bytes ++ with_typing_first o []) typed
-          ∙ append-nil (typings_of bytes),
-    )
-
-stated_made : (declared : List Token) (stated : List Pattern) (c : Context) (p : Pattern) (proved : Bool) → HoldsStated declared stated c → EachLeaf (closed_over declared) p
-    → (let a : Assertion = record { is_proved = proved; frame = frame_of c.scope (statement_label (length stated)) (holds_text (own_naming declared) p) } in a) ≡ stated_assertion proved declared (length stated) p
-stated_made declared stated c p proved w closed =
-    ap (λ (f : Frame). let a : Assertion = record { is_proved = proved; frame = f } in a)
-    (ap (λ (s : Scope). frame_of s (statement_label (length stated)) (holds_text (own_naming declared) p)) w.base.scope ∙ header_frame (statement_label (length stated)) (holds_text (own_naming declared) p) (all_unneeded declared p w.names closed))
-
-pub axiom_gains_just : (declared : List Token) (stated : List Pattern) (bytes : List ℕ) (p : Pattern) → FitsStated declared stated bytes → length stated < 2 ^ 64 → EachLeaf (closed_over declared) p
-    → GainsJust bytes (written_statements (axiom_statement declared (length stated) p ∷ [])) (stated_assertion false declared (length stated) p)
-axiom_gains_just declared stated bytes p (c, leaves, w) few closed =
-    let may : MayBeStated c (statement_label (length stated)) (codes "|-") (text_by (letters_of (own_naming declared)) p) = closed_may_be_stated declared stated c p w few closed in
-    let adds : Adds c (length bytes) (axiom_statement declared (length stated) p ∷ []) (with_statement c (length stated) (holds_text (own_naming declared) p)) = adds_axiom declared stated c (length bytes) p w few closed in
-    gained_one c bytes (axiom_statement declared (length stated) p) (plain (statement_label (length stated) ∷ []) asserts (holds_text (own_naming declared) p) []) (stated_assertion false declared (length stated) p) leaves adds.0 adds.1
-    (plain_tokens_say (statement_label (length stated) ∷ []) asserts (codes "|-") (text_by (letters_of (own_naming declared)) p) may.clean_label may.clean refl)
-    (ap Some (stated_made declared stated c p false w closed)) refl
-
-pub axiom_is_gained : AxiomIsGained
-axiom_is_gained declared stated bytes p fits few closed = (axiom_gains_just declared stated bytes p fits few closed).0
-
-pub theorem_gains_just : (declared : List Token) (stated : List Pattern) (bytes : List ℕ) (q : Pattern) (d : Derivation) (k : Cites) (place : Pattern → ℕ) → FitsStated declared stated bytes → length stated < 2 ^ 64 → EachLeaf (closed_over declared) q
-    → Concludes [] d q → EachUsed (closed_over declared) d → ArePlaced stated k place → CitesOnly k d
-    → GainsJust bytes (written_statements (theorem_statement declared (length stated) q (derivation_tree (own_labels (length stated)) (closed_citing place) d) ∷ [])) (stated_assertion true declared (length stated) q)
-theorem_gains_just declared stated bytes q d k place (c, leaves, w) few closed concludes used placed only =
-    let tree : ProofTree = derivation_tree (own_labels (length stated)) (closed_citing place) d in
-    let proof : Proves c tree (holds_text (own_naming declared) q) = derivation_proves c (own_labels (length stated)) (own_naming declared) (closed_over declared) [] k (closed_citing place) (serves_closed declared c (length stated) w.base w.names) (closed_sound declared stated c k place w placed) d q concludes used only in
-    let may : MayBeStated c (statement_label (length stated)) (codes "|-") (text_by (letters_of (own_naming declared)) q) = closed_may_be_stated declared stated c q w few closed in
-    let adds : Adds c (length bytes) (theorem_statement declared (length stated) q tree ∷ []) (with_statement c (length stated) (holds_text (own_naming declared) q)) = adds_theorem declared stated c (length bytes) q tree w few closed proof in
-    let spelt : list_all is_label (postorder tree) ≡ true = postorder_spelt c tree (holds_text (own_naming declared) q) (header_active_spelt c w.base.scope) w.spelt proof in
-    gained_one c bytes (theorem_statement declared (length stated) q tree) (plain (statement_label (length stated) ∷ []) proves (holds_text (own_naming declared) q) (postorder tree)) (stated_assertion true declared (length stated) q) leaves adds.0 adds.1
-    (proof_tokens_say (statement_label (length stated) ∷ []) (holds_text (own_naming declared) q) (postorder tree) may.clean_label may.clean (labels_clean (postorder tree) spelt))
-    (ap Some (stated_made declared stated c q true w closed)) refl
-
-pub theorem_is_gained : TheoremIsGained
-theorem_is_gained declared stated bytes q d k place fits few closed concludes used placed only = (theorem_gains_just declared stated bytes q d k place fits few closed concludes used placed only).0

@@ -1,6 +1,6 @@
--- Statements with variables and hypotheses. Each stands in a block of its own, which declares its variables: behind the block
--- nothing more is active than before it, and the next block may declare them again.
-use Rattle.std.specs.Prelude.{◌≡◌, ℕ, ◌+◌, ◌<◌, ◌^◌, Bool, true, not, ◌&&◌, ◌||◌, List, [], ◌∷◌, ◌++◌, map, filter, length, codes, bytes_eq}
+-- Statements, which may have variables and hypotheses. Such a statement stands in a block of its own, which declares its
+-- variables: behind the block nothing more is active than before it, and the next block may declare them again.
+use Rattle.std.specs.Prelude.{◌≡◌, ℕ, ◌+◌, ◌<◌, ◌^◌, Bool, true, false, not, ◌&&◌, ◌||◌, if◌then◌else◌, List, [], ◌∷◌, ◌++◌, map, filter, length, codes, bytes_eq}
 use Rattle.std.specs.List.{list_any, list_all}
 use Rattle.mm_text.specs.Bytes.{Token, has_token}
 use Rattle.mm_frame.specs.Forms.{declares_variables, types_variable, separates, assumes}
@@ -9,32 +9,18 @@ use Rattle.mm_frame.specs.Proofs.{ProofTree}
 use Rattle.mm_frame.specs.Assertions.{Assertion}
 use Rattle.mm_frame.specs.FrameLaws.{plain_tokens}
 use Rattle.ml_pat.specs.Patterns.{Pattern}
-use Rattle.mm_proof.specs.Tokens.{name_of, own_naming}
+use Rattle.mm_proof.specs.Tokens.{own_naming}
 use Rattle.mm_proof.specs.Labels.{statement_label, premise_label}
-use Rattle.mm_proof.specs.Leaves.{LeafFacts, EachLeaf}
 use Rattle.mm_proof.specs.Derivations.{holds_text}
-use Rattle.mm_render.specs.Statements.{typecode_of}
-use Rattle.mm_render.specs.Stating.{axiom_statement, theorem_statement}
-use Rattle.mm_render.specs.Variables.{Variable, object_variable, pattern_variable, is_object, has_variable, are_once, AreNumbered, stands_in, variable_token, variable_label, variable_type, variable_tokens, object_tokens, are_several}
+use Rattle.mm_render.specs.Statements.{axiom_statement, theorem_statement}
+use Rattle.mm_render.specs.OverNames.{AreOpenOver}
+use Rattle.mm_render.specs.Variables.{Variable, is_object, has_variable, are_once, AreNumbered, stands_in, variable_token, variable_label, variable_type, variable_tokens, object_tokens, are_several}
 
 -- what an axiom or a lemma claims: its conclusion under its hypotheses, and its variables in the order in which they are typed
 pub record Claim : Type 0 where
   pub variables : List Variable
   pub hypotheses : List Pattern
   pub conclusion : Pattern
-
--- a pattern over declared names and some variables
-abbrev pub open_over : List Token → List Variable → LeafFacts
-open_over declared vs = record {
-  sort = λ i. (i < length declared) × (typecode_of (name_of declared i) ≡ codes "#Sort");
-  constant = λ i. (i < length declared) × (typecode_of (name_of declared i) ≡ codes "#Pattern");
-  object = λ i. has_variable vs (object_variable i) ≡ true;
-  meta = λ i. has_variable vs (pattern_variable i) ≡ true;
-}
-
-abbrev pub AreOpenOver : List Token → List Variable → List Pattern → Type 0
-AreOpenOver declared vs [] = Unit {0}
-AreOpenOver declared vs (p ∷ ps) = EachLeaf (open_over declared vs) p × AreOpenOver declared vs ps
 
 -- A claim over declared names: its variables are just those that stand in it, each once.
 pub record IsClaim (declared : List Token) (s : Claim) : Type 0 where
@@ -85,6 +71,21 @@ axiom_block declared k s =
 abbrev pub theorem_block : List Token → ℕ → Claim → List Variable → ProofTree → List (List Token)
 theorem_block declared k s more tree =
     block (head_statements declared k (s.variables ++ more) s.hypotheses ++ theorem_statement declared k s.conclusion tree ∷ [])
+
+-- a statement without variables and hypotheses needs no block
+abbrev pub needs_block : List Variable → List Pattern → Bool
+needs_block [] [] = false
+needs_block [] (p ∷ ps) = true
+needs_block (v ∷ vs) ps = true
+
+-- What is written of an axiom, and of a theorem with its proof: the statement alone, or in its block where it needs one.
+abbrev pub axiom_statements : List Token → ℕ → Claim → List (List Token)
+axiom_statements declared k s =
+    if needs_block s.variables s.hypotheses then axiom_block declared k s else (axiom_statement declared k s.conclusion ∷ [])
+
+abbrev pub theorem_statements : List Token → ℕ → Claim → List Variable → ProofTree → List (List Token)
+theorem_statements declared k s more tree =
+    if needs_block (s.variables ++ more) s.hypotheses then theorem_block declared k s more tree else (theorem_statement declared k s.conclusion tree ∷ [])
 
 -- What is active in the block.
 abbrev pub variable_float : ℕ → Variable → Hypothesis

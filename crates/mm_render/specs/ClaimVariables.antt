@@ -5,8 +5,10 @@ use Rattle.mm_text.specs.Bytes.{Token}
 use Rattle.ml_pat.specs.Patterns.{Pattern}
 use Rattle.mm_proof.specs.Leaves.{EachLeaf}
 use Rattle.mm_render.specs.Variables.{Variable, AreNumbered}
+use Rattle.mm_render.specs.OverNames.{AreOverNames}
 use Rattle.mm_render.specs.Blocks.{Claim, IsClaim}
-use Rattle.mm_render.specs.OpenVariables.{variables_in, other_variables, over_names}
+use Rattle.mm_render.specs.OpenVariables.{variables_in, other_variables}
+use Rattle.mm_render.specs.OverNames.{over_names}
 
 abbrev pub claim_variables : List Pattern → Pattern → List Variable
 claim_variables hypotheses conclusion = other_variables [] (flat_map variables_in (conclusion ∷ hypotheses))
@@ -18,11 +20,6 @@ claim_of hypotheses conclusion = record { variables = claim_variables hypotheses
 -- some variables, and behind them those of others that are not among them, each once
 abbrev pub added : List Variable → List Variable → List Variable
 added vs us = vs ++ other_variables vs us
-
--- patterns over declared names, whatever variables they have
-abbrev pub AreOverNames : List Token → List Pattern → Type 0
-AreOverNames declared [] = Unit {0}
-AreOverNames declared (p ∷ ps) = EachLeaf (over_names declared) p × AreOverNames declared ps
 
 -- over declared names it is a claim, where its variables have numbers of 64 bits
 abbrev pub OverNamesIsClaim : Type 0

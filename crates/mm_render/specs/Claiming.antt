@@ -1,11 +1,11 @@
--- Statements with variables and hypotheses behind a text that fits: what it has declared, and what may follow.
-use Rattle.std.specs.Prelude.{◌≡◌, ℕ, ◌<◌, ◌≤◌, ◌^◌, Bool, true, false, List, [], ◌∷◌, ◌++◌, length, slice_get, Some, None}
+-- Statements behind a text that fits: what it has declared, and what may follow.
+use Rattle.std.specs.Prelude.{◌≡◌, ℕ, ◌<◌, ◌≤◌, ◌^◌, Bool, true, false, List, [], ◌∷◌, ◌++◌, map, length, slice_get, Some, None}
 use Rattle.mm_text.specs.Bytes.{Token}
 use Rattle.mm_text.specs.Labels.{is_label}
 use Rattle.mm_frame.specs.Frames.{Frame}
 use Rattle.mm_frame.specs.Database.{Context}
 use Rattle.mm_frame.specs.Proofs.{active_hypothesis}
-use Rattle.mm_frame.specs.Assertions.{assertions_of}
+use Rattle.mm_frame.specs.Assertions.{Assertion, assertions_of, typings_of}
 use Rattle.mm_frame.specs.Validity.{IsValid}
 use Rattle.mm_frame.specs.Writing.{Leaves}
 use Rattle.mm_frame.specs.FrameLaws.{written_statements}
@@ -19,7 +19,8 @@ use Rattle.mm_proof.specs.Derivations.{derivation_tree, EachUsed}
 use Rattle.mm_render.specs.Statements.{all_name_statements}
 use Rattle.mm_render.specs.Fitting.{AreNames, Holds}
 use Rattle.mm_render.specs.Variables.{Variable, number_of, variable_token, variable_label, are_once, AreNumbered}
-use Rattle.mm_render.specs.Blocks.{Claim, IsClaim, open_over, open_frame, open_assertion, axiom_block, theorem_block}
+use Rattle.mm_render.specs.Blocks.{Claim, IsClaim, variable_float, open_frame, open_assertion, axiom_statements, theorem_statements}
+use Rattle.mm_render.specs.OverNames.{open_over}
 use Rattle.mm_proof.specs.MayCite.{EachCited}
 use Rattle.mm_render.specs.CitedAt.{claims_citing, citable, ArePremises}
 
@@ -60,6 +61,11 @@ pub record IsProvable (declared : List Token) (claims : List Claim) (s : Claim) 
   pub cites : EachCited (citable (open_over declared (s.variables ++ more)) claims place) d
   pub premises : ArePremises s.hypotheses premise_place
 
+-- what is written of a theorem by a derivation, where what it cites stands at these places
+abbrev pub proved_statements : List Token → ℕ → List Claim → (List Pattern → Pattern → ℕ) → (Pattern → ℕ) → Claim → List Variable → Derivation → List (List Token)
+proved_statements declared k claims place premise_place s more d =
+    theorem_statements declared k s more (derivation_tree (own_labels k) (claims_citing k claims place premise_place) d)
+
 -- such a text is valid
 abbrev pub ClaimsAreValid : Type 0
 ClaimsAreValid = (declared : List Token) (claims : List Claim) (bytes : List ℕ) → FitsClaims declared claims bytes → IsValid bytes
@@ -75,37 +81,33 @@ NamesFitClaims =
     AreNames (declared ++ more) → AreDistinct (declared ++ more) → length (declared ++ more) < 2 ^ 64 →
     FitsClaims (declared ++ more) claims (bytes ++ written_statements (all_name_statements (length declared) more))
 
--- a text that fits, with the block of an axiom, fits with one claim more
-abbrev pub AxiomBlockFits : Type 0
-AxiomBlockFits =
+-- a text that fits, with an axiom behind it, fits with one claim more
+abbrev pub AxiomFits : Type 0
+AxiomFits =
     (declared : List Token) (claims : List Claim) (bytes : List ℕ) (s : Claim) → FitsClaims declared claims bytes →
     length claims < 2 ^ 64 → IsClaim declared s →
-    FitsClaims declared (claims ++ s ∷ []) (bytes ++ written_statements (axiom_block declared (length claims) s))
+    FitsClaims declared (claims ++ s ∷ []) (bytes ++ written_statements (axiom_statements declared (length claims) s))
 
--- and so it does with the block of a theorem
-abbrev pub TheoremBlockFits : Type 0
-TheoremBlockFits =
+-- and so it does with a theorem
+abbrev pub TheoremFits : Type 0
+TheoremFits =
     (declared : List Token) (claims : List Claim) (bytes : List ℕ) (s : Claim) (more : List Variable) (d : Derivation) (place : List Pattern → Pattern → ℕ) (premise_place : Pattern → ℕ) →
     FitsClaims declared claims bytes → length claims < 2 ^ 64 → IsClaim declared s → IsProvable declared claims s more d place premise_place →
-    FitsClaims declared (claims ++ s ∷ []) (bytes ++ written_statements (theorem_block declared (length claims) s more (derivation_tree (own_labels (length claims)) (claims_citing (length claims) claims place premise_place) d)))
+    FitsClaims declared (claims ++ s ∷ []) (bytes ++ written_statements (proved_statements declared (length claims) claims place premise_place s more d))
 
--- each has gained just that axiom or that theorem
-abbrev pub AxiomBlockIsGained : Type 0
-AxiomBlockIsGained =
+-- What a text has gained with a statement behind it: just this assertion, and the typings of these variables in its block.
+pub record HasJust (bytes appended : List ℕ) (k : ℕ) (vs : List Variable) (a : Assertion) : Type 0 where
+  pub assertions : assertions_of (bytes ++ appended) ≡ assertions_of bytes ++ a ∷ []
+  pub typings : typings_of (bytes ++ appended) ≡ typings_of bytes ++ map (variable_float k) vs
+
+abbrev pub AxiomIsGained : Type 0
+AxiomIsGained =
     (declared : List Token) (claims : List Claim) (bytes : List ℕ) (s : Claim) → FitsClaims declared claims bytes →
     length claims < 2 ^ 64 → IsClaim declared s →
-    assertions_of (bytes ++ written_statements (axiom_block declared (length claims) s)) ≡ assertions_of bytes ++ open_assertion false declared (length claims) s ∷ []
+    HasJust bytes (written_statements (axiom_statements declared (length claims) s)) (length claims) s.variables (open_assertion false declared (length claims) s)
 
-abbrev pub TheoremBlockIsGained : Type 0
-TheoremBlockIsGained =
+abbrev pub TheoremIsGained : Type 0
+TheoremIsGained =
     (declared : List Token) (claims : List Claim) (bytes : List ℕ) (s : Claim) (more : List Variable) (d : Derivation) (place : List Pattern → Pattern → ℕ) (premise_place : Pattern → ℕ) →
     FitsClaims declared claims bytes → length claims < 2 ^ 64 → IsClaim declared s → IsProvable declared claims s more d place premise_place →
-    assertions_of (bytes ++ written_statements (theorem_block declared (length claims) s more (derivation_tree (own_labels (length claims)) (claims_citing (length claims) claims place premise_place) d))) ≡
-    assertions_of bytes ++ open_assertion true declared (length claims) s ∷ []
-
--- Each text that fits some claims, as many as the number, fits with what was appended, if that is a claim over its names, and has
--- gained just this assertion.
-abbrev pub GainsClaim : Bool → List Token → ℕ → Claim → List ℕ → Type 0
-GainsClaim proved declared k s appended =
-    (claims : List Claim) (bytes : List ℕ) → FitsClaims declared claims bytes → length claims ≡ k → IsClaim declared s →
-    FitsClaims declared (claims ++ s ∷ []) (bytes ++ appended) × (assertions_of (bytes ++ appended) ≡ assertions_of bytes ++ open_assertion proved declared k s ∷ [])
+    HasJust bytes (written_statements (proved_statements declared (length claims) claims place premise_place s more d)) (length claims) (s.variables ++ more) (open_assertion true declared (length claims) s)

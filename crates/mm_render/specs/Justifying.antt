@@ -21,7 +21,7 @@ use Rattle.mm_proof.specs.Tokens.{own_naming}
 use Rattle.mm_proof.specs.Leaves.{EachLeaf}
 use Rattle.mm_proof.specs.Derivations.{holds_text}
 use Rattle.mm_render.specs.Statements.{typecode_of}
-use Rattle.mm_render.specs.Stating.{closed_over}
+use Rattle.mm_render.specs.OverNames.{closed_over}
 
 -- the typecode that hypotheses give a variable
 abbrev pub typecode_in : List Hypothesis → Token → Option Token

@@ -17,9 +17,11 @@ use Rattle.mm_render.specs.Kept.{Kept}
 use Rattle.mm_proof.specs.Leaves.{EachLeaf}
 use Rattle.mm_render.specs.Statements.{all_name_statements}
 use Rattle.mm_render.specs.Fitting.{AreNames}
-use Rattle.mm_render.specs.Stating.{closed_over, stated_assertion}
-use Rattle.mm_render.specs.Keeping.{Fits, Gains, MayState}
-use Rattle.mm_render.specs.Places.{is_stated, MayProve, StatesLemma}
+use Rattle.mm_render.specs.OverNames.{closed_over, over_names}
+use Rattle.mm_render.specs.Blocks.{Claim, open_assertion}
+use Rattle.mm_render.specs.ClaimVariables.{claim_of, claim_variables}
+use Rattle.mm_render.specs.Keeping.{Fits, Gains}
+use Rattle.mm_render.specs.Places.{IsStated, MayProve, StatesLemma}
 use Rattle.mm_render.specs.Justifying.{IsOwnAxiom, HasOnlyAxiomsOf, Justifies}
 
 -- the header has only axioms of each program
@@ -34,11 +36,11 @@ DeclaredHasOnly =
     AreOwnTokens program.sig (drop k.named names) → Fits names k bytes → HasOnlyAxiomsOf program bytes →
     HasOnlyAxiomsOf program (bytes ++ written_statements (all_name_statements k.named (drop k.named names)))
 
--- And so it has with an axiom behind it that the program's definition says.
+-- And so it has with an axiom behind it that the program's definition says, without variables.
 abbrev pub AxiomHasOnly : Type 0
 AxiomHasOnly =
-    (program : Program) (names : List Token) (old new : Kept) (p : Pattern) (bytes appended : List ℕ) → MayState names old p →
-    Gains names old new appended (stated_assertion false (take old.named names) (length old.stated) p) →
+    (program : Program) (names : List Token) (old new : Kept) (p : Pattern) (bytes appended : List ℕ) → EachLeaf (closed_over (take old.named names)) p →
+    Gains names old new appended (claim_variables [] p) (open_assertion false (take old.named names) (length old.stated) (claim_of [] p)) →
     IsOwnAxiom program (take old.named names) p → Fits names old bytes → HasOnlyAxiomsOf program bytes →
     HasOnlyAxiomsOf program (bytes ++ appended)
 
@@ -49,13 +51,14 @@ TheoremHasOnly =
     StatesLemma names old new t text text' → MayProve names old t → Fits names old text → HasOnlyAxiomsOf program text →
     HasOnlyAxiomsOf program text'
 
--- Where the theorem says that one pattern's image reaches another's, the text with it justifies the run.
+-- Where the theorem says, without hypotheses and variables, that one pattern's image reaches another's, the text with it justifies
+-- the run.
 abbrev pub TheoremJustifies : Type 0
 TheoremJustifies =
     (program : Program) (names : List Token) (old new : Kept) (t : Theorem) (text text' : List ℕ) (a b : RulePattern) (p q : Pattern) →
     StatesLemma names old new t text text' → MayProve names old t → Fits names old text → HasOnlyAxiomsOf program text →
-    image_of program.sig (take old.named names) a ≡ Some p → image_of program.sig (take old.named names) b ≡ Some q → t.conclusion ≡ imp p (ev q) →
-    Justifies text' program a b
+    image_of program.sig (take old.named names) a ≡ Some p → image_of program.sig (take old.named names) b ≡ Some q → t.hypotheses ≡ [] → t.conclusion ≡ imp p (ev q) →
+    EachLeaf (closed_over (take old.named names)) (imp p (ev q)) → Justifies text' program a b
 
 -- a text that fits what is kept of some names still does so when the names gain tokens
 abbrev pub FitsLater : Type 0
@@ -117,9 +120,17 @@ RuleImageIsClosed =
 abbrev pub ClosedHasNoMeta : Type 0
 ClosedHasNoMeta = (names : List Token) (p : Pattern) → EachLeaf (closed_over names) p → HasNoMeta p
 
+-- what is closed is over the names, and has no variables as a claim without hypotheses
+abbrev pub ClosedIsOver : Type 0
+ClosedIsOver = (names : List Token) (p : Pattern) → EachLeaf (closed_over names) p → EachLeaf (over_names names) p
+
+abbrev pub ClosedClaims : Type 0
+ClosedClaims = (names : List Token) (p : Pattern) → EachLeaf (closed_over names) p → claim_variables [] p ≡ []
+
 -- what was stated last was stated, and what was stated before still is
 abbrev pub LastIsStated : Type 0
-LastIsStated = (stated : List Pattern) (p : Pattern) → IsTrue (is_stated (stated ++ p ∷ []) p)
+LastIsStated = (stated : List Claim) (s : Claim) → IsStated (stated ++ s ∷ []) s.hypotheses s.conclusion
 
 abbrev pub StatedStays : Type 0
-StatedStays = (stated more : List Pattern) (p : Pattern) → IsTrue (is_stated stated p) → IsTrue (is_stated (stated ++ more) p)
+StatedStays =
+    (stated more : List Claim) (hypotheses : List Pattern) (conclusion : Pattern) → IsStated stated hypotheses conclusion → IsStated (stated ++ more) hypotheses conclusion

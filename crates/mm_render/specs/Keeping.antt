@@ -1,22 +1,24 @@
 -- Which texts fit what a renderer keeps.
 use Rattle.std.specs.Prelude.{◌≡◌, ℕ, ◌<◌, ◌≤◌, ◌^◌, Bool, true, false, IsTrue, List, [], ◌∷◌, ◌++◌, length, take, drop, slice_index_or}
 use Rattle.mm_text.specs.Bytes.{Token}
-use Rattle.mm_frame.specs.Assertions.{Assertion, assertions_of, typings_of}
+use Rattle.mm_frame.specs.Assertions.{Assertion}
 use Rattle.mm_frame.specs.FrameLaws.{written_statements}
 use Rattle.mm_header.specs.HeaderText.{header_bytes}
 use Rattle.ml_pat.specs.Patterns.{Pattern, bot}
 use Rattle.ml_pat.specs.Named.{AreDistinct}
 use Rattle.mm_render.specs.Kept.{Kept, nothing_kept, header_kept}
-use Rattle.mm_proof.specs.Leaves.{EachLeaf}
 use Rattle.mm_render.specs.Statements.{all_name_statements}
 use Rattle.mm_render.specs.Fitting.{AreNames}
-use Rattle.mm_render.specs.Stating.{FitsStated, closed_over}
+use Rattle.mm_render.specs.OverNames.{AreOverNames}
+use Rattle.mm_render.specs.Variables.{Variable}
+use Rattle.mm_render.specs.Blocks.{Claim}
+use Rattle.mm_render.specs.Claiming.{FitsClaims, HasJust}
 
 -- A text fits: it is valid, ends with white space and has no open block; it is empty where nothing is kept, and else it has
--- declared the header, the names that are kept, which are the first of these, and the statements that are kept.
-abbrev pub FitsWhen : Bool → List Token → List Pattern → List ℕ → Type 0
+-- declared the header, the names that are kept, which are the first of these, and the claims that are kept.
+abbrev pub FitsWhen : Bool → List Token → List Claim → List ℕ → Type 0
 FitsWhen false declared stated bytes = bytes ≡ []
-FitsWhen true declared stated bytes = FitsStated declared stated bytes
+FitsWhen true declared stated bytes = FitsClaims declared stated bytes
 
 abbrev pub Fits : List Token → Kept → List ℕ → Type 0
 Fits names k bytes = FitsWhen k.begun (take k.named names) k.stated bytes
@@ -28,20 +30,19 @@ AppendsFittingNames names old new appended = (bytes : List ℕ) → Fits names o
 abbrev pub AppendsFitting : Kept → Kept → List ℕ → Type 0
 AppendsFitting old new appended = (names : List Token) → AppendsFittingNames names old new appended
 
--- and it has gained just this assertion, and no typing
-pub record Gains (names : List Token) (old new : Kept) (appended : List ℕ) (a : Assertion) : Type 0 where
+-- and it has gained just this assertion, and the typings of these variables
+pub record Gains (names : List Token) (old new : Kept) (appended : List ℕ) (vs : List Variable) (a : Assertion) : Type 0 where
   pub fits : AppendsFittingNames names old new appended
-  pub gained : (bytes : List ℕ) → Fits names old bytes → assertions_of (bytes ++ appended) ≡ assertions_of bytes ++ a ∷ []
-  pub typings : (bytes : List ℕ) → Fits names old bytes → typings_of (bytes ++ appended) ≡ typings_of bytes
+  pub just : (bytes : List ℕ) → Fits names old bytes → HasJust bytes appended (length old.stated) vs a
 
--- what may be stated: the header was written, and the pattern is closed over the names that were declared
+-- what may be stated: the header was written, and the pattern is over the names that were declared
 pub record MayState (names : List Token) (k : Kept) (p : Pattern) : Type 0 where
   pub begun : IsTrue k.begun
-  pub closed : EachLeaf (closed_over (take k.named names)) p
+  pub over : AreOverNames (take k.named names) (p ∷ [])
 
--- what is kept with one statement more
-abbrev pub with_stated : Kept → Pattern → Kept
-with_stated k p = record k { stated = k.stated ++ p ∷ [] }
+-- what is kept with one claim more
+abbrev pub with_stated : Kept → Claim → Kept
+with_stated k s = record k { stated = k.stated ++ s ∷ [] }
 
 -- the axiom of a theory with a number
 abbrev pub axiom_at : List Pattern → ℕ → Pattern

@@ -1,12 +1,13 @@
 -- What a `Renderer` of the code keeps.
 use Rattle.mm_render.specs.Kept.{Kept}
-use Rattle.mm_render.specs.Places.{FindsStated}
+use Rattle.mm_render.specs.ClaimView.{plain_claims}
+use Rattle.mm_render.specs.Places.{Places, place_by}
 use Rattle.mm_render.specs.PlaceTable.{found_in}
 use Rattle.mm_render.specs.declared.renderer.Renderer.TheInside.{Inside}
 
 abbrev pub kept_of : Inside → Kept
-kept_of r = record { begun = r.begun; named = r.named; stated = r.stated.items }
+kept_of r = record { begun = r.begun; named = r.named; stated = plain_claims r.stated.items }
 
--- its table finds just what was stated
+-- its table finds what was stated
 abbrev pub FindsKept : Inside → Type 0
-FindsKept r = FindsStated r.stated.items (found_in r.places)
+FindsKept r = Places (plain_claims r.stated.items) (place_by (found_in r.places))

@@ -1,10 +1,12 @@
 pub mod Kept
 pub mod KeptView
 pub mod Statements
+pub mod OverNames
 pub mod Fitting
-pub mod Stating
 pub mod Keeping
+pub mod Keys
 pub mod Places
+pub mod ClaimView
 pub mod PlaceTable
 pub mod Parts
 pub mod Justifying
@@ -19,6 +21,7 @@ pub mod OpenVariables
 pub mod ClaimVariables
 pub mod VariablesView
 pub mod ListedVariables
+pub mod NeededView
 pub mod HeadText
 pub mod TheoremText
 pub mod OpenCases

@@ -15,6 +15,7 @@ use Rattle.mm_render.specs.Variables.{Variable, object_variable, pattern_variabl
 use Rattle.mm_render.specs.Blocks.{Claim, IsClaim}
 use Rattle.mm_proof.specs.MayCite.{EachCited}
 use Rattle.mm_render.specs.CitedAt.{claim_at, citable, ArePremises}
+use Rattle.mm_render.specs.OverNames.{over_names}
 use Rattle.mm_render.specs.Claiming.{IsProvable}
 
 -- the variables that stand in a pattern, bound or free, one behind the other
@@ -64,15 +65,6 @@ abbrev mutual
 abbrev pub other_variables : List Variable → List Variable → List Variable
 other_variables vs [] = []
 other_variables vs (u ∷ us) = if has_variable vs u then other_variables vs us else (u ∷ other_variables (vs ++ u ∷ []) us)
-
--- a pattern over declared names, whatever variables it has
-abbrev pub over_names : List Token → LeafFacts
-over_names declared = record {
-  sort = λ i. (i < length declared) × (typecode_of (name_of declared i) ≡ codes "#Sort");
-  constant = λ i. (i < length declared) × (typecode_of (name_of declared i) ≡ codes "#Pattern");
-  object = λ i. Unit {0};
-  meta = λ i. Unit {0};
-}
 
 -- A derivation that uses declared names and cites claims can be written in a block that declares the variables of its claim, and
 -- then those others that it needs.

@@ -4,8 +4,12 @@ use Rattle.std.specs.List.{list_all}
 use Rattle.mm_text.specs.Bytes.{Token}
 use Rattle.mm_text.specs.Bytes.{is_printable}
 use Rattle.mm_frame.specs.Forms.{declares_constants, asserts}
-use Rattle.mm_frame.specs.FrameLaws.{plain_tokens}
-use Rattle.mm_proof.specs.Labels.{name_label}
+use Rattle.mm_frame.specs.Proofs.{ProofTree, postorder}
+use Rattle.mm_frame.specs.FrameLaws.{plain_tokens, proof_tokens}
+use Rattle.ml_pat.specs.Patterns.{Pattern}
+use Rattle.mm_proof.specs.Tokens.{own_naming}
+use Rattle.mm_proof.specs.Labels.{name_label, statement_label}
+use Rattle.mm_proof.specs.Derivations.{holds_text}
 
 -- What a name's token is that of: `s:S` of a sort, `f:f` of a symbol, `d:S:..` of a value.
 pub data NameKind : Type 0 where
@@ -44,3 +48,10 @@ name_statements i token =
 abbrev pub all_name_statements : ℕ → List Token → List (List Token)
 all_name_statements i [] = []
 all_name_statements i (token ∷ tokens) = name_statements i token ++ all_name_statements (i + 1) tokens
+
+-- an axiom, and a theorem with its proof
+abbrev pub axiom_statement : List Token → ℕ → Pattern → List Token
+axiom_statement declared k p = plain_tokens (statement_label k ∷ []) asserts (holds_text (own_naming declared) p)
+
+abbrev pub theorem_statement : List Token → ℕ → Pattern → ProofTree → List Token
+theorem_statement declared k p tree = proof_tokens (statement_label k ∷ []) (holds_text (own_naming declared) p) (postorder tree)

@@ -1,4 +1,4 @@
--- The block of a theorem as it is written: its front, its proof and its end.
+-- What is written of a theorem in front of its proof: cited by the clauses of private functions alone.
 use Rattle.std.specs.Prelude.{◌≡◌, ℕ, List, [], ◌∷◌, ◌++◌, codes}
 use Rattle.mm_text.specs.Bytes.{Token}
 use Rattle.mm_text.specs.TextLaws.{written}
@@ -11,15 +11,10 @@ use Rattle.mm_proof.specs.Derivations.{holds_text}
 use Rattle.mm_render.specs.Variables.{Variable}
 use Rattle.mm_render.specs.Blocks.{Claim, head_statements, theorem_block}
 
--- `${`, the head, and the theorem's label and statement
+-- the theorem's label and statement, up to its proof
+abbrev pub statement_front : List Token → ℕ → Pattern → List ℕ
+statement_front names k q = written (statement_label k ∷ (codes "$p" ∷ (holds_text (own_naming names) q ++ codes "$=" ∷ [])))
+
+-- `${`, the head, and these
 abbrev pub theorem_front : List Token → ℕ → List Variable → List Pattern → Pattern → List ℕ
-theorem_front names k vs ps q =
-    written_statements ((codes "${" ∷ []) ∷ head_statements names k vs ps) ++ written (statement_label k ∷ (codes "$p" ∷ (holds_text (own_naming names) q ++ codes "$=" ∷ [])))
-
-abbrev pub theorem_end : List ℕ
-theorem_end = written (codes "$." ∷ (codes "$}" ∷ []))
-
-abbrev pub TheoremBlockText : Type 0
-TheoremBlockText =
-    (names : List Token) (k : ℕ) (s : Claim) (more : List Variable) (tree : ProofTree) →
-    written_statements (theorem_block names k s more tree) ≡ theorem_front names k (s.variables ++ more) s.hypotheses s.conclusion ++ (written (postorder tree) ++ theorem_end)
+theorem_front names k vs ps q = written_statements ((codes "${" ∷ []) ∷ head_statements names k vs ps) ++ statement_front names k q

@@ -6,12 +6,15 @@ ghost use Rattle.ml_pat.specs.Patterns.{bot};
 ghost use Rattle.ml_kernel.specs.StepView.{instances_of};
 ghost use Rattle.ml_kernel.specs.StepsIn.{all_steps};
 ghost use Rattle.ml_kernel.specs.Theorems.{derivations};
-ghost use Rattle.mm_proof.specs.Labels.{own_labels, statement_label};
+ghost use Rattle.mm_proof.specs.Labels.{own_labels, premise_label};
 ghost use Rattle.mm_proof.specs.RowLabels.{all_labels, trees_behind};
-ghost use Rattle.mm_render.specs.Parts.{PartIsTaken, proof_of, proofs_of, PutsParts, rest_of_row};
-ghost use Rattle.mm_render.specs.PlaceTable.{places_at};
+ghost use Rattle.mm_render.specs.CitedAt.{claim_at};
+ghost use Rattle.mm_render.specs.Parts.{PartIsTaken, PutsParts, citing_at, proof_of, proofs_of, rest_of_citation, rest_of_row, value_labels};
+ghost use Rattle.mm_render.specs.PlaceTable.{claims_at, places_at, premises_at};
+ghost use Rattle.mm_render.specs.VariablesView.{variable_of};
 
-use crate::places::{Standing, place_of};
+use crate::places::{Standing, place_of, premise_of};
+use crate::variables::Variable;
 use ml_kernel::{Deriv, DerivStep, Inst};
 use ml_pat::MPat;
 use mm_proof::{
@@ -35,7 +38,7 @@ pub(crate) fn write_derivation(
     at: &Standing<'_>,
     derivation: &Deriv,
 ) -> Result<(), AllocError>
-    ensures { OnOk result (to.new.items ≡ to.old.items ++ written (proof_of at.now.serial (places_at at.now) derivation.now)) }
+    ensures { OnOk result (to.new.items ≡ to.old.items ++ written (proof_of at.now.serial (citing_at at.now) derivation.now)) }
 {
     let nothing = MPat::bot(*to.allocator())?;
     let mut stack = Vec::new(*to.allocator());
@@ -55,16 +58,24 @@ fn write_part<'a>(
     part: Part<'a>,
 ) -> Result<(), AllocError>
     requires { nothing.now ≡ bot }
-    ensures { OnOk result (PartIsTaken at.now.names.now at.now.serial (places_at at.now) part.entry stack.old.items stack.new.items to.old.items to.new.items) }
+    ensures { OnOk result (PartIsTaken at.now.names.now at.now.serial (citing_at at.now) part.entry stack.old.items stack.new.items to.old.items to.new.items) }
 {
     let derivation = match part {
         Part::Plain(work) => return write_works(to, at.names, at.serial, &[work]),
         Part::Derived(derivation) => derivation,
     };
     match derivation.step() {
-        DerivStep::Hyp(_) => push_word(to, at.names, at.serial, Word::Stated(0)),
-        DerivStep::Axiom(_, p) => write_citation(to, at, p),
-        DerivStep::Cited(lemma, _, _) => write_citation(to, at, lemma.conclusion()),
+        DerivStep::Hyp(p) => write_premise(to, at, p),
+        DerivStep::Axiom(_, p) => write_citation(to, at, stack, &[], p, &[], &[]),
+        DerivStep::Cited(lemma, patterns, parts) => write_citation(
+            to,
+            at,
+            stack,
+            lemma.hypotheses(),
+            lemma.conclusion(),
+            patterns,
+            parts,
+        ),
         DerivStep::Row(no, instances, parts) => {
             write_instances(to, at.names, at.serial, instances)?;
             write_before(to, at.names, at.serial, *no, instances, nothing)?;
@@ -73,17 +84,57 @@ fn write_part<'a>(
     }
 }
 
-/// Writes the label under which a pattern was stated.
-fn write_citation(to: &mut Vec<u8>, at: &Standing<'_>, pattern: &MPat) -> Result<(), AllocError>
-    ensures { OnOk result (to.new.items ≡ to.old.items ++ written (statement_label (places_at at.now pattern.now) ∷ [])) }
+/// Writes the label of a hypothesis.
+fn write_premise(to: &mut Vec<u8>, at: &Standing<'_>, pattern: &MPat) -> Result<(), AllocError>
+    ensures { OnOk result (to.new.items ≡ to.old.items ++ written (premise_label at.now.serial (premises_at at.now pattern.now) ∷ [])) }
 {
-    let place = place_of(*to.allocator(), at, pattern)?;
-    push_word(to, at.names, at.serial, Word::Stated(place))
+    let place = premise_of(*to.allocator(), at, pattern)?;
+    push_word(to, at.names, at.serial, Word::Premise(place))
+}
+
+/// Writes what stands for the variables of a claim that is cited, and puts on a stack what is left of its citation: the proofs of
+/// its hypotheses and its label.
+fn write_citation<'a>(
+    to: &mut Vec<u8>,
+    at: &Standing<'_>,
+    stack: &mut Vec<Part<'a>>,
+    hypotheses: &[MPat],
+    conclusion: &MPat,
+    patterns: &[MPat],
+    parts: &'a [Deriv],
+) -> Result<(), AllocError>
+    ensures text { OnOk result (to.new.items ≡ to.old.items ++ written (value_labels at.now.serial patterns.now (claim_at (claims_at at.now) (places_at at.now hypotheses.now conclusion.now)).variables)) }
+    ensures stack { OnOk result (PutsParts (λ names k s. rest_of_citation k s (places_at at.now hypotheses.now conclusion.now) (derivations parts.now)) (3 * all_steps (derivations parts.now) + 1) stack.old.items stack.new.items) }
+{
+    let place = place_of(*to.allocator(), at, hypotheses, conclusion)?;
+    for variable in at.variables_of(place) {
+        write_value(to, at, *variable, patterns)?;
+    }
+    stack.push(Part::Plain(Work::One(Word::Stated(place))))?;
+    put_derived(stack, parts)
+}
+
+/// Writes the proof of what stands for a variable of a claim that is cited at some patterns.
+fn write_value(
+    to: &mut Vec<u8>,
+    at: &Standing<'_>,
+    variable: Variable,
+    patterns: &[MPat],
+) -> Result<(), AllocError>
+    ensures { OnOk result (to.new.items ≡ to.old.items ++ written (value_labels at.now.serial patterns.now (variable_of variable ∷ []))) }
+{
+    match variable {
+        Variable::Object(x) => push_word(to, at.names, at.serial, Word::ObjectLabel(x.0)),
+        Variable::Pattern(i) => match patterns.get(i as usize) {
+            Some(pattern) => write_works(to, at.names, at.serial, &[Work::Syntax(pattern)]),
+            None => push_word(to, at.names, at.serial, Word::MetaLabel(i)),
+        },
+    }
 }
 
 /// Puts derivations on a stack, the first on top.
 fn put_derived<'a>(stack: &mut Vec<Part<'a>>, parts: &'a [Deriv]) -> Result<(), AllocError>
-    ensures { OnOk result (PutsParts (λ names k place. proofs_of k place (derivations parts.now)) (3 * all_steps (derivations parts.now)) stack.old.items stack.new.items) }
+    ensures { OnOk result (PutsParts (λ names k s. proofs_of k s (derivations parts.now)) (3 * all_steps (derivations parts.now)) stack.old.items stack.new.items) }
 {
     let mut left = parts.len();
     while left > 0 {
@@ -102,7 +153,7 @@ fn put_row<'a>(
     parts: &'a [Deriv],
 ) -> Result<(), AllocError>
     requires { nothing.now ≡ bot }
-    ensures { OnOk result (PutsParts (λ names k place. rest_of_row k place no (instances_of instances.now) (derivations parts.now)) (3 * all_steps (derivations parts.now) + 2) stack.old.items stack.new.items) }
+    ensures { OnOk result (PutsParts (λ names k s. rest_of_row k s no (instances_of instances.now) (derivations parts.now)) (3 * all_steps (derivations parts.now) + 2) stack.old.items stack.new.items) }
 {
     stack.push(Part::Plain(Work::One(Word::Fixed(rule_label(no)))))?;
     put_behind(stack, no, instances, nothing)?;
@@ -117,7 +168,7 @@ fn put_behind<'a>(
     nothing: &'a MPat,
 ) -> Result<(), AllocError>
     requires { nothing.now ≡ bot }
-    ensures { OnOk result (PutsParts (λ names k place. all_labels (trees_behind (own_labels k) no (instances_of instances.now))) 1 stack.old.items stack.new.items) }
+    ensures { OnOk result (PutsParts (λ names k s. all_labels (trees_behind (own_labels k) no (instances_of instances.now))) 1 stack.old.items stack.new.items) }
 {
     if no != EX_EL {
         return Ok(());

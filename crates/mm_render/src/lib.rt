@@ -22,21 +22,19 @@
 //! that deep patterns and derivations need no recursion (`specs/Writing`, `specs/Parts`).
 #![tactic(auto)]
 
-mod blocks;
 mod claims;
 mod derivations;
 mod heads;
 mod laws;
+mod needed;
 mod places;
 mod renderer;
 mod statements;
-mod theorems;
 mod variables;
 
-pub use blocks::{block_laws, block_tried};
-pub use claims::{claim_laws, write_axiom};
 pub use laws::{
-    citing_laws, closed_laws, fitting_laws, image_laws, justifying_laws, later_laws, tried,
+    citing_laws, claim_laws, fitting_laws, image_laws, justifying_laws, later_laws, statement_laws,
+    tried,
 };
 pub use renderer::Renderer;
 

@@ -1,10 +1,15 @@
-// Where a pattern was stated. A table has the place of each pattern under the bytes of its numbers, in which no two patterns are
-// alike: what a citation costs is linear in the size of its pattern, times the logarithm of how many were stated.
+// Where a claim was stated. A table has the place of each claim under the bytes of its numbers, in which no two claims are alike:
+// what a citation costs is linear in the size of what is cited, times the logarithm of how many were stated.
 ghost use Rattle.std.specs.Prelude.{◌≡◌, ◌+◌, [], ◌∷◌, ◌++◌, IfOk, OnOk};
 ghost use Rattle.ml_pat.specs.Patterns.{forms_in};
-ghost use Rattle.mm_render.specs.Places.{all_bytes, number_bytes, numbers, pattern_key};
-ghost use Rattle.mm_render.specs.PlaceTable.{FormIsAdded, places_at};
+ghost use Rattle.mm_render.specs.CitedAt.{ArePremises, claim_at};
+ghost use Rattle.mm_render.specs.Keys.{all_bytes, number_bytes, numbers, pattern_key, statement_key};
+ghost use Rattle.mm_render.specs.Places.{premise_place_by};
+ghost use Rattle.mm_render.specs.PlaceTable.{FormIsAdded, claims_at, found_in, places_at, premises_at};
+ghost use Rattle.mm_render.specs.VariablesView.{plain_variables};
 
+use crate::claims::Claim;
+use crate::variables::Variable;
 use ml_pat::{MForm, MPat, Names};
 use std::alloc::{AllocError, Global};
 use std::collections::BTreeMap;
@@ -16,32 +21,100 @@ pub(crate) struct Standing<'a> {
     pub(crate) names: &'a Names,
     /// Its number.
     pub(crate) serial: u64,
-    /// The places of what was stated before.
+    /// The claims that were stated before.
+    pub(crate) claims: &'a [Claim],
+    /// Their places, by their bytes.
     pub(crate) places: &'a BTreeMap<Vec<u8>, u64>,
+    /// The places of its hypotheses, by their bytes.
+    pub(crate) premises: &'a BTreeMap<Vec<u8>, u64>,
 }
 
-/// The place of a pattern that was stated before.
-pub(crate) fn place_of(alloc: Global, at: &Standing<'_>, pattern: &MPat) -> Result<u64, AllocError>
-    ensures { IfOk result (λ place. place ≡ places_at at.now pattern.now) }
+impl<'a> Standing<'a> {
+    /// The variables of the claim at a place; none where there is no such claim.
+    pub(crate) fn variables_of(&self, place: u64) -> &'a [Variable]
+        ensures { plain_variables result.now ≡ (claim_at (claims_at self.now) place).variables }
+    {
+        match self.claims.get(place as usize) {
+            Some(claim) => &claim.variables,
+            None => &[],
+        }
+    }
+}
+
+/// The place of a claim that was stated before; 0 where it was not.
+pub(crate) fn place_of(
+    alloc: Global,
+    at: &Standing<'_>,
+    hypotheses: &[MPat],
+    conclusion: &MPat,
+) -> Result<u64, AllocError>
+    ensures { IfOk result (λ place. place ≡ places_at at.now hypotheses.now conclusion.now) }
 {
-    let key = pattern_key(alloc, pattern)?;
+    let key = statement_key(alloc, hypotheses, conclusion)?;
     match at.places.get(key.as_slice()) {
         Some(place) => Ok(*place),
         None => Ok(0),
     }
 }
 
-/// The bytes by which a pattern is looked up. A stack takes the place of recursion.
-pub(crate) fn pattern_key(alloc: Global, pattern: &MPat) -> Result<Vec<u8>, AllocError>
-    ensures { IfOk result (λ key. key.items ≡ pattern_key pattern.now) }
+/// The place of a hypothesis of the statement; 0 where it is none.
+pub(crate) fn premise_of(
+    alloc: Global,
+    at: &Standing<'_>,
+    pattern: &MPat,
+) -> Result<u64, AllocError>
+    ensures { IfOk result (λ place. place ≡ premises_at at.now pattern.now) }
 {
     let mut key = Vec::new(alloc);
+    push_key(&mut key, alloc, pattern)?;
+    match at.premises.get(key.as_slice()) {
+        Some(place) => Ok(*place),
+        None => Ok(0),
+    }
+}
+
+/// The places of hypotheses, by their bytes.
+pub(crate) fn premise_places(
+    alloc: Global,
+    hypotheses: &[MPat],
+) -> Result<BTreeMap<Vec<u8>, u64>, AllocError>
+    ensures { IfOk result (λ places. ArePremises hypotheses.now (premise_place_by (found_in places))) }
+{
+    let mut places = BTreeMap::new(alloc);
+    for no in 0..hypotheses.len() {
+        let mut key = Vec::new(alloc);
+        push_key(&mut key, alloc, &hypotheses[no])?;
+        places.insert(key, no as u64)?;
+    }
+    Ok(places)
+}
+
+/// The bytes by which a claim is looked up.
+pub(crate) fn statement_key(
+    alloc: Global,
+    hypotheses: &[MPat],
+    conclusion: &MPat,
+) -> Result<Vec<u8>, AllocError>
+    ensures { IfOk result (λ key. key.items ≡ statement_key hypotheses.now conclusion.now) }
+{
+    let mut key = Vec::new(alloc);
+    push_key(&mut key, alloc, conclusion)?;
+    for hypothesis in hypotheses {
+        push_key(&mut key, alloc, hypothesis)?;
+    }
+    Ok(key)
+}
+
+/// Adds the bytes of a pattern. A stack takes the place of recursion.
+fn push_key(key: &mut Vec<u8>, alloc: Global, pattern: &MPat) -> Result<(), AllocError>
+    ensures { OnOk result (key.new.items ≡ key.old.items ++ pattern_key pattern.now) }
+{
     let mut stack = Vec::new(alloc);
     stack.push(pattern)?;
     while let Some(next) = stack.pop() {
-        push_form(&mut key, &mut stack, next)?;
+        push_form(key, &mut stack, next)?;
     }
-    Ok(key)
+    Ok(())
 }
 
 /// Adds the bytes of a form's numbers, and puts its parts on a stack, the first on top.

@@ -2,18 +2,21 @@
 ghost use Rattle.std.specs.Prelude.{◌≡◌, ◌<◌, ◌≤◌, [], ◌∷◌, ◌++◌, false, IsTrue, OnErr, OnOk, drop, length, option_copied, take, unwrap_or};
 ghost use Rattle.mm_frame.specs.FrameLaws.{written_statements};
 ghost use Rattle.mm_header.specs.HeaderText.{header_bytes};
+ghost use Rattle.mm_render.specs.Blocks.{axiom_statements, open_assertion};
+ghost use Rattle.mm_render.specs.ClaimVariables.{claim_of, claim_variables};
+ghost use Rattle.mm_render.specs.ClaimView.{plain_claim};
 ghost use Rattle.mm_render.specs.Fitting.{AreNames};
 ghost use Rattle.mm_render.specs.Keeping.{AppendsFitting, AppendsFittingNames, Gains, MayState, axiom_at, with_stated};
 ghost use Rattle.mm_render.specs.Kept.{header_kept, nothing_kept};
 ghost use Rattle.mm_render.specs.Places.{StatesLemma};
 ghost use Rattle.mm_proof.specs.Tokens.{name_of};
-ghost use Rattle.mm_render.specs.Stating.{axiom_statement, stated_assertion};
 ghost use Rattle.mm_render.specs.Statements.{all_name_statements, name_statements, typecode_of};
 
-use crate::places::{Standing, pattern_key};
+use crate::claims::{Claim, claim_of};
+use crate::places::{Standing, premise_places, statement_key};
 use crate::statements::{push_axiom, push_theorem};
 use ml_kernel::{AxiomNo, Lemma, Theory};
-use ml_pat::{MPat, Names};
+use ml_pat::Names;
 use mm_header::header_text;
 use mm_proof::{Word, push_words};
 use std::alloc::{AllocError, Global};
@@ -25,8 +28,8 @@ use std::marker::Model;
 pub struct Renderer {
     begun: bool,
     named: u64,
-    stated: Vec<MPat>,
-    // The place of each pattern that was stated, under the bytes of its numbers.
+    stated: Vec<Claim>,
+    // The place of each claim that was stated, under its bytes.
     places: BTreeMap<Vec<u8>, u64>,
 }
 
@@ -90,8 +93,9 @@ impl Renderer {
         Ok(())
     }
 
-    /// States an axiom of a theory under the next label. Where it is closed over the names that were declared, each text that
-    /// fits fits with it behind, and has gained just this axiom. Where memory is wanting, nothing changes.
+    /// States an axiom of a theory under the next label, in a block with its variables where it has any. Where it is over the names
+    /// that were declared, each text that fits fits with it behind, and has gained just this axiom. Where memory is wanting, nothing
+    /// changes.
     pub fn axiom(
         &mut self,
         names: &Names,
@@ -100,23 +104,25 @@ impl Renderer {
         to: &mut Vec<u8>,
     ) -> Result<(), AllocError>
         requires { no.0 < length theory.now }
-        ensures text { OnOk result (to.new.items ≡ to.old.items ++ written_statements (axiom_statement names.now (length self.old.stated) (axiom_at theory.now no.0) ∷ [])) }
-        ensures kept { OnOk result (self.new ≡ with_stated self.old (axiom_at theory.now no.0)) }
+        ensures text { OnOk result (to.new.items ≡ to.old.items ++ written_statements (axiom_statements names.now (length self.old.stated) (claim_of [] (axiom_at theory.now no.0)))) }
+        ensures kept { OnOk result (self.new ≡ with_stated self.old (claim_of [] (axiom_at theory.now no.0))) }
         ensures gains { OnOk result (MayState names.now self.old (axiom_at theory.now no.0) →
-            Gains names.now self.old self.new (written_statements (axiom_statement names.now (length self.old.stated) (axiom_at theory.now no.0) ∷ []))
-            (stated_assertion false (take self.old.named names.now) (length self.old.stated) (axiom_at theory.now no.0))) }
+            Gains names.now self.old self.new (written_statements (axiom_statements names.now (length self.old.stated) (claim_of [] (axiom_at theory.now no.0)))) (claim_variables [] (axiom_at theory.now no.0))
+            (open_assertion false (take self.old.named names.now) (length self.old.stated) (claim_of [] (axiom_at theory.now no.0)))) }
         ensures unchanged { OnErr result (to.new.items ≡ to.old.items) }
         ensures as_before { OnErr result (self.new ≡ self.old) }
     {
-        let pattern = theory.at(no).share()?;
-        let mut text = Vec::new(*to.allocator());
-        push_axiom(&mut text, names, self.stated.len() as u64, &pattern)?;
-        self.keep(pattern, &text, to)
+        let alloc = *to.allocator();
+        let claim = claim_of(alloc, &[], theory.at(no))?;
+        let mut text = Vec::new(alloc);
+        push_axiom(&mut text, names, self.stated.len() as u64, &claim)?;
+        self.keep(claim, &text, to)
     }
 
-    /// States a lemma under the next label, with its proof. Where it has no hypotheses, is closed over the names that were
-    /// declared and cites only what was stated before, each text that fits fits with it behind, and has gained just this
-    /// theorem. Where memory is wanting, nothing changes.
+    /// States a lemma under the next label, with its proof, in a block with its hypotheses and with the variables that stand in it
+    /// or in its proof where there are any. Where it is over the names that were declared, and its proof uses only these and cites only
+    /// what was stated before, each text that fits fits with it behind, and has gained just this theorem. Where memory is wanting,
+    /// nothing changes.
     pub fn lemma(
         &mut self,
         names: &Names,
@@ -124,37 +130,41 @@ impl Renderer {
         to: &mut Vec<u8>,
     ) -> Result<(), AllocError>
         ensures states { OnOk result (StatesLemma names.now self.old self.new lemma.now to.old.items to.new.items) }
-        ensures kept { OnOk result (self.new ≡ with_stated self.old lemma.now.conclusion) }
+        ensures kept { OnOk result (self.new ≡ with_stated self.old (claim_of lemma.now.hypotheses lemma.now.conclusion)) }
         ensures unchanged { OnErr result (to.new.items ≡ to.old.items) }
         ensures as_before { OnErr result (self.new ≡ self.old) }
     {
+        let alloc = *to.allocator();
         // Its contract tells that the lemma's derivation concludes what the lemma does.
-        let _premises = lemma.hypotheses();
-        let pattern = lemma.conclusion().share()?;
-        let mut text = Vec::new(*to.allocator());
+        let hypotheses = lemma.hypotheses();
+        let claim = claim_of(alloc, hypotheses, lemma.conclusion())?;
+        let premises = premise_places(alloc, hypotheses)?;
+        let mut text = Vec::new(alloc);
         let at = Standing {
             names,
             serial: self.stated.len() as u64,
+            claims: &self.stated,
             places: &self.places,
+            premises: &premises,
         };
-        push_theorem(&mut text, &at, lemma)?;
-        self.keep(pattern, &text, to)
+        push_theorem(&mut text, &at, &claim, lemma.derivation())?;
+        self.keep(claim, &text, to)
     }
 
     // Adds the text of a statement, and keeps what was stated. Where memory is wanting, nothing changes.
-    fn keep(&mut self, pattern: MPat, text: &[u8], to: &mut Vec<u8>) -> Result<(), AllocError>
+    fn keep(&mut self, claim: Claim, text: &[u8], to: &mut Vec<u8>) -> Result<(), AllocError>
         ensures text { OnOk result (to.new.items ≡ to.old.items ++ text.now) }
-        ensures kept { OnOk result (self.new ≡ with_stated self.old pattern) }
+        ensures kept { OnOk result (self.new ≡ with_stated self.old (plain_claim claim)) }
         ensures unchanged { OnErr result (to.new.items ≡ to.old.items) }
         ensures as_before { OnErr result (self.new ≡ self.old) }
     {
-        let key = pattern_key(*to.allocator(), &pattern)?;
+        let key = statement_key(*to.allocator(), &claim.hypotheses, &claim.conclusion)?;
         self.stated.reserve(1)?;
         to.reserve(text.len())?;
         let place = self.stated.len() as u64;
         self.places.insert(key, place)?;
         to.extend_from_slice(text).unwrap();
-        self.stated.push(pattern).unwrap();
+        self.stated.push(claim).unwrap();
         Ok(())
     }
 }

@@ -1,19 +1,47 @@
-// Whole statements.
+// Whole statements, each in a block of its own where it has variables or hypotheses.
 ghost use Rattle.std.specs.Prelude.{◌≡◌, [], ◌∷◌, ◌++◌, OnOk};
 ghost use Rattle.mm_frame.specs.FrameLaws.{written_statements};
-ghost use Rattle.mm_render.specs.Places.{numbered_lemma};
-ghost use Rattle.mm_render.specs.PlaceTable.{places_at};
-ghost use Rattle.mm_render.specs.Stating.{axiom_statement};
+ghost use Rattle.mm_render.specs.Blocks.{axiom_statements};
+ghost use Rattle.mm_render.specs.Claiming.{proved_statements};
+ghost use Rattle.mm_render.specs.ClaimView.{plain_claim};
+ghost use Rattle.mm_render.specs.OpenVariables.{other_variables, variables_of};
+ghost use Rattle.mm_render.specs.PlaceTable.{claims_at, places_at, premises_at};
+ghost use Rattle.mm_render.specs.Statements.{axiom_statement};
+ghost use Rattle.mm_render.specs.TheoremText.{statement_front, theorem_front};
+ghost use Rattle.mm_render.specs.Variables.{AreNumbered};
+ghost use Rattle.mm_render.specs.VariablesView.{plain_variables};
 
+use crate::claims::{Claim, needs_block};
 use crate::derivations::write_derivation;
+use crate::heads::push_head;
+use crate::needed::needed_variables;
 use crate::places::Standing;
-use ml_kernel::Lemma;
+use crate::variables::Variable;
+use ml_kernel::Deriv;
 use ml_pat::{MPat, Names};
-use mm_proof::{Word, Work, push_word, write_works};
+use mm_proof::{Word, Work, push_word, push_words, write_works};
 use std::alloc::AllocError;
 
-/// Adds a pattern without variables as an axiom, under the label with this number.
+/// Adds a claim as an axiom, under the label with this number.
 pub(crate) fn push_axiom(
+    to: &mut Vec<u8>,
+    names: &Names,
+    serial: u64,
+    claim: &Claim,
+) -> Result<(), AllocError>
+    ensures { OnOk result (to.new.items ≡ to.old.items ++ written_statements (axiom_statements names.now serial (plain_claim claim.now))) }
+{
+    if !needs_block(&claim.variables, &claim.hypotheses) {
+        return push_plain_axiom(to, names, serial, &claim.conclusion);
+    }
+    push_word(to, names, serial, Word::Fixed("${"))?;
+    push_head(to, names, serial, &claim.variables, &claim.hypotheses)?;
+    push_plain_axiom(to, names, serial, &claim.conclusion)?;
+    push_word(to, names, serial, Word::Fixed("$}"))
+}
+
+/// Adds the `$a` of a pattern.
+fn push_plain_axiom(
     to: &mut Vec<u8>,
     names: &Names,
     serial: u64,
@@ -35,26 +63,68 @@ pub(crate) fn push_axiom(
     )
 }
 
-/// Adds a lemma without variables and hypotheses as the theorem that stands there, with its proof.
+/// Adds a claim as the theorem that stands there, with its proof by a derivation. The numbers of the variables that the proof has
+/// fit in 64 bits.
 pub(crate) fn push_theorem(
     to: &mut Vec<u8>,
     at: &Standing<'_>,
-    lemma: &Lemma,
+    claim: &Claim,
+    derivation: &Deriv,
 ) -> Result<(), AllocError>
-    ensures { OnOk result (to.new.items ≡ to.old.items ++ written_statements (numbered_lemma at.now.names.now at.now.serial (places_at at.now) lemma.now ∷ [])) }
+    ensures text { OnOk result (to.new.items ≡ to.old.items ++ written_statements (proved_statements at.now.names.now at.now.serial (claims_at at.now) (places_at at.now) (premises_at at.now) (plain_claim claim.now)
+        (other_variables (plain_variables claim.now.variables.items) (variables_of (claims_at at.now) (places_at at.now) derivation.now)) derivation.now)) }
+    ensures numbered { OnOk result (AreNumbered (variables_of (claims_at at.now) (places_at at.now) derivation.now)) }
 {
-    write_works(
+    let variables = needed_variables(*to.allocator(), at, &claim.variables, derivation)?;
+    if !needs_block(&variables, &claim.hypotheses) {
+        push_statement_front(to, at.names, at.serial, &claim.conclusion)?;
+        write_derivation(to, at, derivation)?;
+        return push_word(to, at.names, at.serial, Word::Fixed("$."));
+    }
+    push_theorem_front(to, at.names, at.serial, &variables, claim)?;
+    write_derivation(to, at, derivation)?;
+    push_words(
         to,
         at.names,
         at.serial,
+        &[Word::Fixed("$."), Word::Fixed("$}")],
+    )
+}
+
+/// Adds the front of a theorem's block, up to its proof: its head, its label and its conclusion.
+fn push_theorem_front(
+    to: &mut Vec<u8>,
+    names: &Names,
+    serial: u64,
+    variables: &[Variable],
+    claim: &Claim,
+) -> Result<(), AllocError>
+    ensures { OnOk result (to.new.items ≡ to.old.items ++ theorem_front names.now serial (plain_variables variables.now) claim.now.hypotheses.items claim.now.conclusion) }
+{
+    push_word(to, names, serial, Word::Fixed("${"))?;
+    push_head(to, names, serial, variables, &claim.hypotheses)?;
+    push_statement_front(to, names, serial, &claim.conclusion)
+}
+
+/// Adds a theorem up to its proof: its label and its conclusion.
+fn push_statement_front(
+    to: &mut Vec<u8>,
+    names: &Names,
+    serial: u64,
+    conclusion: &MPat,
+) -> Result<(), AllocError>
+    ensures { OnOk result (to.new.items ≡ to.old.items ++ statement_front names.now serial conclusion.now) }
+{
+    write_works(
+        to,
+        names,
+        serial,
         &[
-            Work::One(Word::Stated(at.serial)),
+            Work::One(Word::Stated(serial)),
             Work::One(Word::Fixed("$p")),
             Work::One(Word::Fixed("|-")),
-            Work::Text(lemma.conclusion()),
+            Work::Text(conclusion),
             Work::One(Word::Fixed("$=")),
         ],
-    )?;
-    write_derivation(to, at, lemma.derivation())?;
-    push_word(to, at.names, at.serial, Word::Fixed("$."))
+    )
 }

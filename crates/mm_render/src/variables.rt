@@ -44,6 +44,24 @@ impl VariableList {
         }
     }
 
+    /// These variables.
+    pub(crate) fn from_variables(alloc: Global, variables: &[Variable]) -> Result<Self, AllocError>
+        ensures { IfOk result (λ list. listed list ≡ plain_variables variables.now) }
+    {
+        let mut list = VariableList::new(alloc);
+        for variable in variables {
+            list.push(*variable)?;
+        }
+        Ok(list)
+    }
+
+    /// They alone.
+    pub(crate) fn into_variables(self) -> Vec<Variable>
+        ensures { plain_variables result.items ≡ listed self }
+    {
+        self.all
+    }
+
     /// Adds a variable behind the others, where it is none of them.
     pub(crate) fn add(&mut self, variable: Variable) -> Result<(), AllocError>
         ensures { OnOk result (listed self.new ≡ added (listed self.old) (variable_of variable ∷ [])) }
@@ -51,6 +69,13 @@ impl VariableList {
         if self.has(variable) {
             return Ok(());
         }
+        self.push(variable)
+    }
+
+    /// Adds a variable behind the others.
+    fn push(&mut self, variable: Variable) -> Result<(), AllocError>
+        ensures { OnOk result (listed self.new ≡ listed self.old ++ variable_of variable ∷ []) }
+    {
         self.all.reserve(1)?;
         match variable {
             Variable::Object(x) => self.objects.insert(x.0)?,

@@ -10,7 +10,7 @@ use Rattle.ml_derived.specs.Derived.{detaching, lifting, distributing, detaching
 use Rattle.mm_render.specs.Kept.{Kept}
 use Rattle.mm_proof.specs.Leaves.{LeafFacts, EachLeaf}
 use Rattle.mm_proof.specs.Derivations.{EachUsed, Cites, CitesOnly}
-use Rattle.mm_render.specs.Stating.{closed_over}
+use Rattle.mm_render.specs.OverNames.{closed_over}
 use Rattle.mm_render.specs.Places.{MayProve, stated_cites}
 use Rattle.prove_run.proofs.ScriptLaws.{take_all}
 

@@ -23,7 +23,7 @@ use Rattle.mm_render.specs.Kept.{Kept}
 use Rattle.mm_render.specs.Places.{is_stated, MayProve, StatesLemma}
 use Rattle.mm_render.proofs.Allowing.{fits_later, stated_stays, theorem_has_only}
 use Rattle.mm_proof.specs.Leaves.{EachLeaf}
-use Rattle.mm_render.specs.Stating.{closed_over}
+use Rattle.mm_render.specs.OverNames.{closed_over}
 use Rattle.mm_render.specs.JustifyingLaws.{HasNoVariable}
 use Rattle.mm_render.proofs.ImageLeaves.{image_stays, rule_image_stays, rule_image_is_closed}
 use Rattle.prove_run.specs.declared.script.Script.{Script}

@@ -16,7 +16,7 @@ use Rattle.rule_core.specs.declared.rules.Program.{Program}
 use Rattle.rule_core.specs.ProgramView.{rewrite_rule}
 use Rattle.ml_image.specs.Images.{image_of}
 use Rattle.mm_render.specs.Keeping.{axiom_at}
-use Rattle.mm_render.specs.Stating.{closed_over}
+use Rattle.mm_render.specs.OverNames.{closed_over}
 use Rattle.mm_proof.specs.Derivations.{EachUsed, CitesOnly}
 use Rattle.mm_render.specs.Places.{is_stated, MayProve, stated_cites}
 use Rattle.mm_render.specs.JustifyingLaws.{HasNoVariable}

@@ -13,7 +13,7 @@ loop-left-preserved c =
     let steps : all_steps (derivations (drop (c.loop-left.left - 1) c.args.parts.now)) ≡ all_steps (derivations (c.index-parts-left.result ∷ drop c.loop-left.left c.args.parts.now)) = ap (λ (ds : List Derivation). all_steps (derivations ds)) next in
     record {
       within = omega (arith, c.loop-left.invariant.within);
-      put = part_more (λ names k place. proofs_of k place (derivations (drop c.loop-left.left c.args.parts.now))) (λ names k place. proofs_of k place (derivations (drop (c.loop-left.left - 1) c.args.parts.now)))
+      put = part_more (λ names k s. proofs_of k s (derivations (drop c.loop-left.left c.args.parts.now))) (λ names k s. proofs_of k s (derivations (drop (c.loop-left.left - 1) c.args.parts.now)))
           (3 * all_steps (derivations (drop c.loop-left.left c.args.parts.now))) (3 * all_steps (derivations (drop (c.loop-left.left - 1) c.args.parts.now))) _
-          c.args.stack.now.items c.loop-left.stack.items c.push.new.self.items c.loop-left.invariant.put c.in_ok-push.ensures.items (λ names k place. ap (λ (ds : List Derivation). proofs_of k place (derivations ds)) next) (omega (arith, steps));
+          c.args.stack.now.items c.loop-left.stack.items c.push.new.self.items c.loop-left.invariant.put c.in_ok-push.ensures.items (λ names k s. ap (λ (ds : List Derivation). proofs_of k s (derivations ds)) next) (omega (arith, steps));
     }

@@ -11,10 +11,10 @@ use Rattle.mm_render.proofs.PartLaws.{part_one, parts_front}
 use Rattle.mm_render.proofs.derivations.put_row.Goals as goal
 
 pub returns : goal.returns
-returns c = on_ok c.put_derived.result (λ above. parts_front (λ names k place. all_labels (trees_behind (own_labels k) c.args.no (instances_of c.args.instances.now)) ++ rule_label c.args.no ∷ []) (λ names k place. proofs_of k place (derivations c.args.parts.now)) (λ names k place. rest_of_row k place c.args.no (instances_of c.args.instances.now) (derivations c.args.parts.now))
+returns c = on_ok c.put_derived.result (λ above. parts_front (λ names k s. all_labels (trees_behind (own_labels k) c.args.no (instances_of c.args.instances.now)) ++ rule_label c.args.no ∷ []) (λ names k s. proofs_of k s (derivations c.args.parts.now)) (λ names k s. rest_of_row k s c.args.no (instances_of c.args.instances.now) (derivations c.args.parts.now))
     2 (3 * all_steps (derivations c.args.parts.now)) (3 * all_steps (derivations c.args.parts.now) + 2) c.args.stack.now.items c.put_behind.new.stack.items c.put_derived.new.stack.items
-    (parts_front (λ names k place. rule_label c.args.no ∷ []) (λ names k place. all_labels (trees_behind (own_labels k) c.args.no (instances_of c.args.instances.now))) (λ names k place. all_labels (trees_behind (own_labels k) c.args.no (instances_of c.args.instances.now)) ++ rule_label c.args.no ∷ [])
+    (parts_front (λ names k s. rule_label c.args.no ∷ []) (λ names k s. all_labels (trees_behind (own_labels k) c.args.no (instances_of c.args.instances.now))) (λ names k s. all_labels (trees_behind (own_labels k) c.args.no (instances_of c.args.instances.now)) ++ rule_label c.args.no ∷ [])
     1 1 2 c.args.stack.now.items c.push.new.self.items c.put_behind.new.stack.items
-    (part_one (λ names k place. rule_label c.args.no ∷ []) 1 _ c.args.stack.now.items c.push.new.self.items c.in_ok-push.ensures.items (λ names k place. ap (λ t. t ∷ []) (sym c.rule_label.ensures)) (omega arith))
-    c.in_ok-put_behind.ensures (λ names k place. refl) (omega arith))
-    above (λ names k place. refl) (omega arith)) c.put_derived.ensures
+    (part_one (λ names k s. rule_label c.args.no ∷ []) 1 _ c.args.stack.now.items c.push.new.self.items c.in_ok-push.ensures.items (λ names k s. ap (λ t. t ∷ []) (sym c.rule_label.ensures)) (omega arith))
+    c.in_ok-put_behind.ensures (λ names k s. refl) (omega arith))
+    above (λ names k s. refl) (omega arith)) c.put_derived.ensures

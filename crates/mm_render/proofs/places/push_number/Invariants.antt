@@ -1,5 +1,5 @@
 use Rattle.std.proofs.Common.{◌≡◌, ◌++◌}
-use Rattle.mm_render.specs.Places.{number_bytes}
+use Rattle.mm_render.specs.Keys.{number_bytes}
 use Rattle.mm_render.proofs.places.push_number.Given as goal
 
 abbrev pub invariant-loop-left : goal.invariant-loop-left

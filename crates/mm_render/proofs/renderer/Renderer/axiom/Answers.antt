@@ -3,7 +3,8 @@ use Rattle.ml_pat.specs.Patterns.{Pattern}
 use Rattle.mm_frame.specs.FrameLaws.{written_statements}
 use Rattle.mm_render.specs.Kept.{Kept}
 use Rattle.mm_render.specs.Keeping.{Gains, axiom_at, with_stated}
-use Rattle.mm_render.specs.Stating.{axiom_statement, stated_assertion}
+use Rattle.mm_render.specs.Statements.{axiom_statement}
+use Rattle.mm_render.specs.Stating.{stated_assertion}
 use Rattle.mm_proof.proofs.Stacking.{on_ok}
 use Rattle.mm_render.proofs.KeepingLaws.{axiom_is, axiom_gains}
 use Rattle.mm_render.proofs.renderer.Renderer.axiom.Goals as goal

@@ -1,0 +1,137 @@
+// The variables that a proof has: those that stand in what is written of its derivation. What of it is still to be looked at lies
+// on a stack, so that a deep derivation costs no stack of calls.
+ghost use Rattle.std.specs.Prelude.{◌≡◌, IfOk, OnOk, flat_map};
+ghost use Rattle.ml_kernel.specs.StepView.{instance_of, instances_of};
+ghost use Rattle.ml_kernel.specs.Theorems.{derivations};
+ghost use Rattle.mm_render.specs.ClaimVariables.{added};
+ghost use Rattle.mm_render.specs.CitedAt.{claim_at};
+ghost use Rattle.mm_render.specs.ListedVariables.{listed};
+ghost use Rattle.mm_render.specs.NeededView.{PutsDerivations, StepIsTaken};
+ghost use Rattle.mm_render.specs.OpenVariables.{variables_at, variables_for, variables_of};
+ghost use Rattle.mm_render.specs.PlaceTable.{claims_at, places_at};
+ghost use Rattle.mm_render.specs.Variables.{AreNumbered};
+ghost use Rattle.mm_render.specs.VariablesView.{plain_variables, variable_of};
+
+use crate::places::{Standing, place_of};
+use crate::variables::{Variable, VariableList};
+use ml_kernel::{Deriv, DerivStep, Inst};
+use ml_pat::MPat;
+use std::alloc::{AllocError, Global};
+
+/// Some variables, and behind them the others that a derivation has, each once. Their numbers fit in 64 bits.
+pub(crate) fn needed_variables(
+    alloc: Global,
+    at: &Standing<'_>,
+    variables: &[Variable],
+    derivation: &Deriv,
+) -> Result<Vec<Variable>, AllocError>
+    ensures needed { IfOk result (λ all. plain_variables all.items ≡ added (plain_variables variables.now) (variables_of (claims_at at.now) (places_at at.now) derivation.now)) }
+    ensures numbered { OnOk result (AreNumbered (variables_of (claims_at at.now) (places_at at.now) derivation.now)) }
+{
+    let mut list = VariableList::from_variables(alloc, variables)?;
+    let mut stack = Vec::new(alloc);
+    stack.push(derivation)?;
+    while let Some(next) = stack.pop() {
+        take_step(alloc, at, &mut list, &mut stack, next)?;
+    }
+    Ok(list.into_variables())
+}
+
+/// Adds the variables of a step, and puts the derivations below it on a stack, the first on top.
+fn take_step<'a>(
+    alloc: Global,
+    at: &Standing<'_>,
+    list: &mut VariableList,
+    stack: &mut Vec<&'a Deriv>,
+    derivation: &'a Deriv,
+) -> Result<(), AllocError>
+    ensures { OnOk result (StepIsTaken (claims_at at.now) (places_at at.now) derivation.now stack.old.items stack.new.items (listed list.old) (listed list.new)) }
+{
+    match derivation.step() {
+        DerivStep::Hyp(_) => Ok(()),
+        DerivStep::Axiom(_, p) => {
+            let place = place_of(alloc, at, &[], p)?;
+            add_values(alloc, at, list, place, &[])
+        }
+        DerivStep::Row(_, instances, parts) => {
+            add_instances(alloc, list, instances)?;
+            put_derivations(stack, parts)
+        }
+        DerivStep::Cited(lemma, patterns, parts) => {
+            let place = place_of(alloc, at, lemma.hypotheses(), lemma.conclusion())?;
+            add_values(alloc, at, list, place, patterns)?;
+            put_derivations(stack, parts)
+        }
+    }
+}
+
+/// Adds the variables of what stands for the variables of the claim at a place.
+fn add_values(
+    alloc: Global,
+    at: &Standing<'_>,
+    list: &mut VariableList,
+    place: u64,
+    patterns: &[MPat],
+) -> Result<(), AllocError>
+    ensures { OnOk result (listed list.new ≡ added (listed list.old) (flat_map (variables_at patterns.now) (claim_at (claims_at at.now) place).variables)) }
+{
+    for variable in at.variables_of(place) {
+        add_value(alloc, list, *variable, patterns)?;
+    }
+    Ok(())
+}
+
+/// Adds the variables of what stands for a variable of a claim.
+fn add_value(
+    alloc: Global,
+    list: &mut VariableList,
+    variable: Variable,
+    patterns: &[MPat],
+) -> Result<(), AllocError>
+    ensures { OnOk result (listed list.new ≡ added (listed list.old) (variables_at patterns.now (variable_of variable))) }
+{
+    let Variable::Pattern(i) = variable else {
+        return list.add(variable);
+    };
+    match patterns.get(i as usize) {
+        Some(pattern) => list.add_all(alloc, pattern),
+        None => list.add(variable),
+    }
+}
+
+/// Adds the variables of what stands for the variables of a rule.
+fn add_instances(
+    alloc: Global,
+    list: &mut VariableList,
+    instances: &[Inst],
+) -> Result<(), AllocError>
+    ensures { OnOk result (listed list.new ≡ added (listed list.old) (flat_map variables_for (instances_of instances.now))) }
+{
+    for instance in instances {
+        add_instance(alloc, list, instance)?;
+    }
+    Ok(())
+}
+
+/// Adds the variables of what stands for a variable of a rule.
+fn add_instance(alloc: Global, list: &mut VariableList, instance: &Inst) -> Result<(), AllocError>
+    ensures { OnOk result (listed list.new ≡ added (listed list.old) (variables_for (instance_of instance.now))) }
+{
+    match instance {
+        Inst::Pat(p) => list.add_all(alloc, p),
+        Inst::Var(x) => list.add(Variable::Object(*x)),
+        Inst::Sort(_) => Ok(()),
+    }
+}
+
+/// Puts derivations on a stack, the first on top.
+fn put_derivations<'a>(stack: &mut Vec<&'a Deriv>, parts: &'a [Deriv]) -> Result<(), AllocError>
+    ensures { OnOk result (PutsDerivations (derivations parts.now) stack.old.items stack.new.items) }
+{
+    let mut left = parts.len();
+    while left > 0 {
+        left -= 1;
+        stack.push(&parts[left])?;
+    }
+    Ok(())
+}
