@@ -9,8 +9,9 @@ use Rattle.ml_kernel.specs.Theorems.{Derivation, derivations, row, Theorem}
 use Rattle.ml_derived.specs.Derived.{detaching, lifting, distributing, detaching_under, chaining, closing, moving, reaching_by, kept_reaching, reaching, adding_top, freeing}
 use Rattle.mm_render.specs.Kept.{Kept}
 use Rattle.mm_proof.specs.Leaves.{LeafFacts, EachLeaf}
-use Rattle.mm_proof.specs.Derivations.{EachUsed, Cites, CitesOnly}
-use Rattle.mm_render.specs.OverNames.{closed_over}
+use Rattle.mm_proof.specs.Derivations.{EachUsed}
+use Rattle.mm_proof.specs.MayCite.{MayCite, EachCited}
+use Rattle.mm_render.specs.OverNames.{over_names, AreOverNames}
 use Rattle.mm_render.specs.Places.{MayProve, stated_cites}
 use Rattle.prove_run.proofs.ScriptLaws.{take_all}
 
@@ -58,10 +59,10 @@ freeing_used f p q rule hp hq hr =
     (lifting_used f p top (row 12 [] (derivations [])) hp tt (tt, tt)) ((hp, (tt, tt)), tt)) hr
 
 -- and it cites what is given alone
-chaining_cites : (k : Cites) (p q r : Pattern) (ab bc : Derivation) → CitesOnly k ab → CitesOnly k bc → CitesOnly k (chaining p q r ab bc)
+chaining_cites : (k : MayCite) (p q r : Pattern) (ab bc : Derivation) → EachCited k ab → EachCited k bc → EachCited k (chaining p q r ab bc)
 chaining_cites k p q r ab bc ha hb = (ha, (((hb, (tt, tt)), (tt, tt)), tt))
 
-reaching_cites : (k : Cites) (a b c : Pattern) (sofar step : Derivation) → CitesOnly k sofar → CitesOnly k step → CitesOnly k (reaching a b c sofar step)
+reaching_cites : (k : MayCite) (a b c : Pattern) (sofar step : Derivation) → EachCited k sofar → EachCited k step → EachCited k (reaching a b c sofar step)
 reaching_cites k a b c sofar step hs ht =
     chaining_cites k a (ev b) (ev c) sofar (kept_reaching b c (reaching_by b c step)) hs (
       chaining_cites k b (next c) (ev c) step (chaining (next c) (next (ev c)) (ev c) (moving c) (closing c)) ht
@@ -69,36 +70,41 @@ reaching_cites k a b c sofar step hs ht =
       (tt, tt),
     )
 
-freeing_cites : (k : Cites) (p q : Pattern) (rule : Derivation) → CitesOnly k rule → CitesOnly k (freeing p q rule)
+freeing_cites : (k : MayCite) (p q : Pattern) (rule : Derivation) → EachCited k rule → EachCited k (freeing p q rule)
 freeing_cites k p q rule hr = chaining_cites k p (and p top) q (adding_top p) rule ((tt, (tt, tt)), ((tt, (tt, tt)), tt)) hr
 
 -- `a -> ev a` may be proved
-pub may_begin : (names : List Token) (k : Kept) (t : Theorem) (a : Pattern) → k.begun ≡ true → k.named ≡ length names → EachLeaf (closed_over names) a → t.hypotheses ≡ [] → t.conclusion ≡ imp a (ev a)
+pub may_begin : (names : List Token) (k : Kept) (t : Theorem) (a : Pattern) → k.begun ≡ true → k.named ≡ length names → EachLeaf (over_names names) a → t.hypotheses ≡ [] → t.conclusion ≡ imp a (ev a)
     → t.derivation ≡ row 27 (pattern a ∷ []) (derivations []) → MayProve names k t
-may_begin names k t a begun named closed none says by =
+may_begin names k t a begun named over none says by =
     let all : take k.named names ≡ names = take_all k.named names named in
+    let declared : List Token = take k.named names in
+    let here : EachLeaf (over_names declared) a = subst (λ (ns : List Token). EachLeaf (over_names ns) a) (sym all) over in
     record {
       begun = begun;
-      no_hypotheses = none;
-      closed = subst (EachLeaf (closed_over (take k.named names))) (sym says) (subst (λ (ns : List Token). EachLeaf (closed_over ns) (imp a (ev a))) (sym all) (closed, closed));
-      used = subst (EachUsed (closed_over (take k.named names))) (sym by) (subst (λ (ns : List Token). EachUsed (closed_over ns) (row 27 (pattern a ∷ []) (derivations []))) (sym all) ((closed, tt), tt));
-      cites = subst (CitesOnly (stated_cites k.stated)) (sym by) tt;
+      over = (subst (EachLeaf (over_names declared)) (sym says) (here, here), subst (AreOverNames declared) (sym none) tt);
+      used = subst (EachUsed (over_names declared)) (sym by) ((here, tt), tt);
+      cites = subst (EachCited (stated_cites declared k.stated)) (sym by) tt;
     }
 
 -- a step more may be proved
 pub may_go_on : (names : List Token) (k : Kept) (t : Theorem) (a b c : Pattern) (sofar rule : Derivation) → k.begun ≡ true → k.named ≡ length names
-    → EachLeaf (closed_over names) a → EachLeaf (closed_over names) b → EachLeaf (closed_over names) c → t.hypotheses ≡ [] → t.conclusion ≡ imp a (ev c)
-    → t.derivation ≡ reaching a b c sofar (freeing b (next c) rule) → EachUsed (closed_over names) sofar → EachUsed (closed_over names) rule
-    → CitesOnly (stated_cites k.stated) sofar → CitesOnly (stated_cites k.stated) rule → MayProve names k t
+    → EachLeaf (over_names names) a → EachLeaf (over_names names) b → EachLeaf (over_names names) c → t.hypotheses ≡ [] → t.conclusion ≡ imp a (ev c)
+    → t.derivation ≡ reaching a b c sofar (freeing b (next c) rule) → EachUsed (over_names names) sofar → EachUsed (over_names names) rule
+    → EachCited (stated_cites names k.stated) sofar → EachCited (stated_cites names k.stated) rule → MayProve names k t
 may_go_on names k t a b c sofar rule begun named ha hb hc none says by us ur cs cr =
     let all : take k.named names ≡ names = take_all k.named names named in
+    let declared : List Token = take k.named names in
+    let conclusion : EachLeaf (over_names declared) (imp a (ev c)) = subst (λ (ns : List Token). EachLeaf (over_names ns) (imp a (ev c))) (sym all) (ha, hc) in
+    let used : EachUsed (over_names declared) (reaching a b c sofar (freeing b (next c) rule)) =
+    subst (λ (ns : List Token). EachUsed (over_names ns) (reaching a b c sofar (freeing b (next c) rule))) (sym all)
+    (reaching_used (over_names names) a b c sofar (freeing b (next c) rule) ha hb hc us (freeing_used (over_names names) b (next c) rule hb hc ur)) in
+    let cites : EachCited (stated_cites declared k.stated) (reaching a b c sofar (freeing b (next c) rule)) =
+    subst (λ (ns : List Token). EachCited (stated_cites ns k.stated) (reaching a b c sofar (freeing b (next c) rule))) (sym all)
+    (reaching_cites (stated_cites names k.stated) a b c sofar (freeing b (next c) rule) cs (freeing_cites (stated_cites names k.stated) b (next c) rule cr)) in
     record {
       begun = begun;
-      no_hypotheses = none;
-      closed = subst (EachLeaf (closed_over (take k.named names))) (sym says) (subst (λ (ns : List Token). EachLeaf (closed_over ns) (imp a (ev c))) (sym all) (ha, hc));
-      used = subst (EachUsed (closed_over (take k.named names))) (sym by)
-          (subst (λ (ns : List Token). EachUsed (closed_over ns) (reaching a b c sofar (freeing b (next c) rule))) (sym all)
-          (reaching_used (closed_over names) a b c sofar (freeing b (next c) rule) ha hb hc us (freeing_used (closed_over names) b (next c) rule hb hc ur)));
-      cites = subst (CitesOnly (stated_cites k.stated)) (sym by)
-          (reaching_cites (stated_cites k.stated) a b c sofar (freeing b (next c) rule) cs (freeing_cites (stated_cites k.stated) b (next c) rule cr));
+      over = (subst (EachLeaf (over_names declared)) (sym says) conclusion, subst (AreOverNames declared) (sym none) tt);
+      used = subst (EachUsed (over_names declared)) (sym by) used;
+      cites = subst (EachCited (stated_cites declared k.stated)) (sym by) cites;
     }

@@ -20,10 +20,11 @@ use Rattle.mm_render.specs.Keeping.{Fits, axiom_at, with_stated}
 use Rattle.ml_kernel.specs.Theorems.{Theorem}
 use Rattle.std.specs.Global.{Vec}
 use Rattle.mm_render.specs.Kept.{Kept}
-use Rattle.mm_render.specs.Places.{is_stated, MayProve, StatesLemma}
+use Rattle.mm_render.specs.Places.{IsStated, MayProve, StatesLemma}
 use Rattle.mm_render.proofs.Allowing.{fits_later, stated_stays, theorem_has_only}
 use Rattle.mm_proof.specs.Leaves.{EachLeaf}
 use Rattle.mm_render.specs.OverNames.{closed_over}
+use Rattle.mm_render.specs.ClaimVariables.{claim_of}
 use Rattle.mm_render.specs.JustifyingLaws.{HasNoVariable}
 use Rattle.mm_render.proofs.ImageLeaves.{image_stays, rule_image_stays, rule_image_is_closed}
 use Rattle.prove_run.specs.declared.script.Script.{Script}
@@ -142,7 +143,7 @@ image_later old new a p h is =
 
 -- what is known of a text stays known with a theorem behind it
 pub sound_stated : (s : Script) (kept : Kept) (text : Vec ℕ) (t : Theorem) → IsSound s → IsDeclared s → MayProve s.names s.renderer t
-    → StatesLemma s.names s.renderer kept t s.text.items text.items → kept ≡ with_stated s.renderer t.conclusion → IsSound (record s { renderer = kept; text = text })
+    → StatesLemma s.names s.renderer kept t s.text.items text.items → kept ≡ with_stated s.renderer (claim_of t.hypotheses t.conclusion) → IsSound (record s { renderer = kept; text = text })
 sound_stated s kept text t h declared may states is = record {
   begun = ap (λ (k : Kept). k.begun) is ∙ h.begun;
   named = subst (λ (k : Kept). k.named ≤ length s.names) (sym is) h.named;
@@ -154,6 +155,6 @@ sound_stated s kept text t h declared may states is = record {
       (λ i n k. record {
         known = k.known;
         image = k.image;
-        stated = subst (λ (l : Kept). IsTrue (is_stated l.stated (axiom_at s.theory n))) (sym is) (stated_stays s.renderer.stated (t.conclusion ∷ []) (axiom_at s.theory n) k.stated);
+        stated = subst (λ (l : Kept). IsStated l.stated [] (axiom_at s.theory n)) (sym is) (stated_stays s.renderer.stated (claim_of t.hypotheses t.conclusion ∷ []) [] (axiom_at s.theory n) k.stated);
       }) 0 s.axioms.items h.axioms;
 }

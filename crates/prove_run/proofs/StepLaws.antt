@@ -1,6 +1,6 @@
 -- What is known while a proof makes a step.
 use Rattle.std.proofs.Common.{◌≡◌, ℕ, List, [], ◌∷◌, ◌++◌, Some, refl, ap, ◌∙◌, sym, subst}
-use Rattle.std.specs.Prelude.{slice_get, Contains, IsTrue}
+use Rattle.std.specs.Prelude.{slice_get, Contains}
 use Rattle.std.proofs.lemmas.Option.{get_or_from_slice_get}
 use Rattle.ml_pat.specs.Patterns.{Pattern, bot, top, imp, and, next, ev}
 use Rattle.ml_kernel.specs.Lemmas.{HasNoMeta, instance}
@@ -16,11 +16,14 @@ use Rattle.rule_core.specs.declared.rules.Program.{Program}
 use Rattle.rule_core.specs.ProgramView.{rewrite_rule}
 use Rattle.ml_image.specs.Images.{image_of}
 use Rattle.mm_render.specs.Keeping.{axiom_at}
-use Rattle.mm_render.specs.OverNames.{closed_over}
-use Rattle.mm_proof.specs.Derivations.{EachUsed, CitesOnly}
-use Rattle.mm_render.specs.Places.{is_stated, MayProve, stated_cites}
+use Rattle.mm_render.specs.OverNames.{over_names}
+use Rattle.mm_proof.specs.Leaves.{EachLeaf}
+use Rattle.mm_proof.specs.Derivations.{EachUsed}
+use Rattle.mm_proof.specs.MayCite.{MayCite, EachCited}
+use Rattle.mm_render.specs.Places.{IsStated, MayProve, stated_cites}
+use Rattle.mm_render.specs.Blocks.{Claim}
 use Rattle.mm_render.specs.JustifyingLaws.{HasNoVariable}
-use Rattle.mm_render.proofs.Allowing.{closed_has_no_meta, stated_stays}
+use Rattle.mm_render.proofs.Allowing.{closed_has_no_meta, closed_is_over, stated_stays}
 use Rattle.mm_render.proofs.ImageLeaves.{image_is_closed}
 use Rattle.prove_run.specs.declared.script.Script.{Script}
 use Rattle.prove_run.specs.declared.proof.Proof.{Proof}
@@ -128,17 +131,19 @@ may_step proof new start r i n sofar image made further reached on stated there 
     let sofar_says : sofar.conclusion ≡ imp reached.from (ev reached.to) = cited_says [] proof.sofar.conclusion sofar.conclusion refl (reached_no_meta proof start (plain_pattern r.left) reached) is ∙ reached.says in
     let step : (t : Pattern) × Step new r reached.from t further =
     step_of proof new start r i n sofar image made further reached on stated there found none freed made_rests is by_lemma.kept_hypotheses reaches rests in
-    let f = closed_over new.names in
-    let k = stated_cites new.renderer.stated in
-    let sofar_stated : IsTrue (is_stated new.renderer.stated proof.sofar.conclusion) =
-    subst (λ (ps : List Pattern). IsTrue (is_stated ps proof.sofar.conclusion)) (sym on.stated.1) (stated_stays proof.script.renderer.stated on.stated.0 proof.sofar.conclusion reached.stated) in
-    let image_stated : IsTrue (is_stated new.renderer.stated image.conclusion) =
-    subst (λ (p : Pattern). IsTrue (is_stated new.renderer.stated p)) (axiom_found new.theory n image.conclusion found) stated.stated in
+    let f = over_names new.names in
+    let k = stated_cites new.names new.renderer.stated in
+    let sofar_stated : IsStated new.renderer.stated proof.sofar.hypotheses proof.sofar.conclusion =
+    subst (λ (ss : List Claim). IsStated ss proof.sofar.hypotheses proof.sofar.conclusion) (sym on.stated.1) (stated_stays proof.script.renderer.stated on.stated.0 proof.sofar.hypotheses proof.sofar.conclusion reached.stated) in
+    let image_stated : IsStated new.renderer.stated [] image.conclusion =
+    subst (IsStated new.renderer.stated []) (axiom_found new.theory n image.conclusion found) stated.stated in
+    let over : (a : RulePattern) (p : Pattern) → HasNoVariable a → image_of new.program.now.sig new.names a ≡ Some p → EachLeaf (over_names new.names) p =
+    λ a p none_there image_is. closed_is_over new.names p (image_is_closed new.program.now.sig new.names a p none_there image_is) in
     may_go_on new.names new.renderer further reached.from reached.to to sofar.derivation image.derivation sound.begun declared
-    (image_is_closed new.program.now.sig new.names start reached.from reached.from_ground (image_later proof.script new start reached.from on reached.from_image))
-    (image_is_closed new.program.now.sig new.names (plain_pattern r.left) reached.to reached.to_ground (image_later proof.script new (plain_pattern r.left) reached.to on reached.to_image))
-    (image_is_closed new.program.now.sig new.names (plain_pattern r.right) to right_ground says.1)
+    (over start reached.from reached.from_ground (image_later proof.script new start reached.from on reached.from_image))
+    (over (plain_pattern r.left) reached.to reached.to_ground (image_later proof.script new (plain_pattern r.left) reached.to on reached.to_image))
+    (over (plain_pattern r.right) to right_ground says.1)
     step.1.none (reaches reached.from reached.to to sofar_says made_is.0)
     (steps reached.from reached.to to sofar_says made_is.0 ∙ ap (reaching reached.from reached.to to sofar.derivation) made_is.1)
     (subst (EachUsed f) (sym by_lemma.last_step) tt) (subst (EachUsed f) (sym by_axiom) tt)
-    (subst (CitesOnly k) (sym by_lemma.last_step) (sofar_stated, tt)) (subst (CitesOnly k) (sym by_axiom) image_stated)
+    (subst (EachCited k) (sym by_lemma.last_step) ((sofar_stated, tt), tt)) (subst (EachCited k) (sym by_axiom) image_stated)

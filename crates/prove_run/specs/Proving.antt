@@ -1,12 +1,12 @@
 -- That a proof is one of a run, up to the present configuration.
-use Rattle.std.specs.Prelude.{◌≡◌, ℕ, IsTrue, [], slice_get, Some}
+use Rattle.std.specs.Prelude.{◌≡◌, ℕ, [], slice_get, Some}
 use Rattle.term_core.specs.Patterns.{Pattern as RulePattern}
 use Rattle.term_core.specs.RulePatterns.{plain_pattern}
 use Rattle.rule_core.specs.declared.rules.Rule.{Rule}
 use Rattle.rule_core.specs.declared.rules.Program.{Program}
 use Rattle.ml_pat.specs.Patterns.{Pattern, imp, ev}
 use Rattle.ml_image.specs.Images.{image_of}
-use Rattle.mm_render.specs.Places.{is_stated}
+use Rattle.mm_render.specs.Places.{IsStated}
 use Rattle.mm_render.specs.Justifying.{Justifies}
 use Rattle.mm_render.specs.JustifyingLaws.{HasNoVariable}
 use Rattle.prove_run.specs.declared.proof.Proof.{Proof}
@@ -22,7 +22,7 @@ pub record HasReached (proof : Proof) (start reached : RulePattern) : Type 0 whe
   pub to_ground : HasNoVariable reached
   pub says : proof.sofar.conclusion ≡ imp from (ev to)
   pub no_hypotheses : proof.sofar.hypotheses ≡ []
-  pub stated : IsTrue (is_stated proof.script.renderer.stated proof.sofar.conclusion)
+  pub stated : IsStated proof.script.renderer.stated proof.sofar.hypotheses proof.sofar.conclusion
 
 -- The proof is one of the program's run from the start to the present configuration: its text justifies it.
 pub record IsProofOf (proof : Proof) (program : Program) (start reached : RulePattern) : Type 0 where

@@ -1,15 +1,18 @@
 -- What is known of the names, the axioms and the text of a proof while it is written.
-use Rattle.std.specs.Prelude.{◌≡◌, ℕ, suc, ◌<◌, ◌≤◌, true, IsTrue, List, [], ◌∷◌, ◌++◌, length, vec_len, slice_get, Option, Some, None}
+use Rattle.std.specs.Prelude.{◌≡◌, ℕ, suc, ◌<◌, ◌≤◌, true, List, [], ◌∷◌, ◌++◌, length, vec_len, slice_get, Option, Some, None}
 use Rattle.term_core.specs.Patterns.{Pattern as RulePattern}
 use Rattle.term_core.specs.RulePatterns.{plain_pattern}
 use Rattle.rule_core.specs.declared.rules.Rule.{Rule}
 use Rattle.rule_core.specs.declared.rules.Program.{Program}
 use Rattle.ml_pat.specs.Patterns.{Pattern, imp, ev}
 use Rattle.ml_kernel.specs.declared.derivations.AxiomNo.{AxiomNo}
+use Rattle.ml_kernel.specs.Theorems.{Theorem}
 use Rattle.ml_image.specs.Images.{image_of, IsImageAt}
 use Rattle.ml_image.specs.Gained.{AreOwnTokens}
+use Rattle.mm_proof.specs.Leaves.{EachLeaf}
+use Rattle.mm_render.specs.OverNames.{closed_over}
 use Rattle.mm_render.specs.Keeping.{Fits, axiom_at}
-use Rattle.mm_render.specs.Places.{is_stated}
+use Rattle.mm_render.specs.Places.{IsStated}
 use Rattle.mm_render.specs.Justifying.{HasOnlyAxiomsOf, Justifies}
 use Rattle.mm_render.specs.JustifyingLaws.{HasNoVariable}
 use Rattle.prove_run.specs.declared.script.Script.{Script}
@@ -18,7 +21,7 @@ use Rattle.prove_run.specs.declared.script.Script.{Script}
 pub record HasStated (s : Script) (rule no : ℕ) : Type 0 where
   pub known : no < length s.theory
   pub image : IsImageAt s.program.now s.names rule (axiom_at s.theory no)
-  pub stated : IsTrue (is_stated s.renderer.stated (axiom_at s.theory no))
+  pub stated : IsStated s.renderer.stated [] (axiom_at s.theory no)
 
 -- the axioms that are kept for the rules from a place on
 abbrev pub AreStated : Script → ℕ → List (Option AxiomNo) → Type 0
@@ -51,11 +54,12 @@ pub record Continues (old new : Script) : Type 0 where
   pub names : Extends old.names new.names
   pub stated : Extends old.renderer.stated new.renderer.stated
 
--- where the pattern says that the image of one pattern reaches that of another, the text justifies the run between them
-abbrev pub Justified : Script → Pattern → Type 0
-Justified s p =
-    (a b : RulePattern) (from to : Pattern) → image_of s.program.now.sig s.names a ≡ Some from → image_of s.program.now.sig s.names b ≡ Some to → p ≡ imp from (ev to) →
-    Justifies s.text.items s.program.now a b
+-- Where the theorem says, without hypotheses and variables, that the image of one pattern reaches that of another, the text justifies
+-- the run between them.
+abbrev pub Justified : Script → Theorem → Type 0
+Justified s t =
+    (a b : RulePattern) (from to : Pattern) → image_of s.program.now.sig s.names a ≡ Some from → image_of s.program.now.sig s.names b ≡ Some to →
+    t.hypotheses ≡ [] → t.conclusion ≡ imp from (ev to) → EachLeaf (closed_over s.names) (imp from (ev to)) → Justifies s.text.items s.program.now a b
 
 -- no variable stands in the sides of the rule at a place
 abbrev pub AreGroundAt : Program → ℕ → Type 0

@@ -1,8 +1,8 @@
 // What is written of a proof: names, axioms and theorems, and the text that states them.
-ghost use Rattle.std.specs.Prelude.{◌≡◌, IfOk, OnOk, IsTrue, Some};
+ghost use Rattle.std.specs.Prelude.{◌≡◌, IfOk, OnOk, Some};
 ghost use Rattle.term_core.specs.RulePatterns.{plain_pattern};
 ghost use Rattle.ml_image.specs.Images.{HasImage, HasImageAt, IsImageAt, image_of};
-ghost use Rattle.mm_render.specs.Places.{MayProve, is_stated};
+ghost use Rattle.mm_render.specs.Places.{IsStated, MayProve};
 ghost use Rattle.prove_run.specs.PlainNames.{HasPlainNames};
 ghost use Rattle.prove_run.specs.Scripts.{AreGroundAt, Continues, HasStated, IsSound, IsDeclared, Justified};
 
@@ -121,15 +121,15 @@ impl<'p> Script<'p> {
         Ok(no)
     }
 
-    /// States a theorem. Where it says that a pattern's image reaches another's, the text justifies the run from the one pattern
-    /// to the other.
+    /// States a theorem. Where it says, without hypotheses and variables, that a pattern's image reaches another's, the text
+    /// justifies the run from the one pattern to the other.
     pub(crate) fn state(&mut self, thm: Thm) -> Result<Lemma, AllocError>
         requires sound { IsSound self.old }
         requires declared { IsDeclared self.old }
         requires proved { MayProve self.old.names self.old.renderer thm }
         ensures lemma { IfOk result (λ lemma. lemma ≡ thm) }
-        ensures stated { OnOk result (IsTrue (is_stated self.new.renderer.stated thm.conclusion)) }
-        ensures justified { OnOk result (Justified self.new thm.conclusion) }
+        ensures stated { OnOk result (IsStated self.new.renderer.stated thm.hypotheses thm.conclusion) }
+        ensures justified { OnOk result (Justified self.new thm) }
         ensures sound { OnOk result (IsSound self.new) }
         ensures declared { OnOk result (IsDeclared self.new) }
         ensures continues { OnOk result (Continues self.old self.new) }

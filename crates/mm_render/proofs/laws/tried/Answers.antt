@@ -7,7 +7,7 @@ use Rattle.mm_render.proofs.laws.tried.Goals as goal
 -- by computation
 pub returns-clause-rendered : goal.returns-clause-rendered
 unfolding header_bytes header_rows
-returns-clause-rendered c = record { stated = refl; uncited = refl }
+returns-clause-rendered c = record { stated = refl; blocks = refl; uncited = refl }
 
 pub returns-clause-justifies : goal.returns-clause-justifies
 returns-clause-justifies c = small_justifies

@@ -1,11 +1,13 @@
 use Rattle.std.proofs.Common.{◌≡◌, Some, ap, ◌∙◌, sym, subst}
-use Rattle.std.specs.Prelude.{IsTrue}
 use Rattle.rule_core.specs.declared.rules.Program.{Program}
 use Rattle.term_core.specs.RulePatterns.{plain_pattern}
 use Rattle.ml_kernel.specs.Theorems.{Theorem}
 use Rattle.ml_image.specs.Images.{image_of}
-use Rattle.mm_render.specs.Places.{is_stated}
+use Rattle.mm_proof.specs.Leaves.{EachLeaf}
+use Rattle.mm_render.specs.OverNames.{closed_over}
+use Rattle.mm_render.specs.Places.{IsStated}
 use Rattle.mm_render.specs.Justifying.{Justifies}
+use Rattle.mm_render.proofs.Allowing.{closed_is_over}
 use Rattle.mm_render.proofs.ImageLeaves.{image_is_closed}
 use Rattle.prove_run.proofs.ScriptLaws.{image_later}
 use Rattle.prove_run.proofs.ProofLaws.{none_left, may_begin}
@@ -17,7 +19,7 @@ state-requires-clause-proved c =
     let image : image_of s.program.now.sig s.names (plain_pattern c.args.start.now) ≡ Some c.in_ok-here.here =
     subst (λ (program : Program). image_of program.sig s.names (plain_pattern c.args.start.now) ≡ Some c.in_ok-here.here) (sym c.in_ok-here.ensures.continues.program) c.in_ok-here.ensures.image in
     may_begin s.names s.renderer c.in_ok-reach_here.field-0 c.in_ok-here.here c.in_ok-here.ensures.sound.begun c.in_ok-here.ensures.declared
-    (image_is_closed s.program.now.sig s.names (plain_pattern c.args.start.now) c.in_ok-here.here c.requires.ground image)
+    (closed_is_over s.names c.in_ok-here.here (image_is_closed s.program.now.sig s.names (plain_pattern c.args.start.now) c.in_ok-here.here c.requires.ground image))
     (none_left c.in_ok-reach_here.field-0.hypotheses c.in_ok-reach_here.ensures.rests.hypotheses) c.in_ok-reach_here.ensures.conclusion c.in_ok-reach_here.ensures.derivation
 
 pub returns : goal.returns
@@ -29,6 +31,7 @@ returns c =
     let image : image_of c.image.new.self.program.now.sig c.image.new.self.names start ≡ Some here =
     subst (λ (p : Program). image_of p.sig c.image.new.self.names start ≡ Some here) (sym c.in_ok-here.ensures.continues.program) c.in_ok-here.ensures.image in
     let image_now : image_of c.state.new.self.program.now.sig c.state.new.self.names start ≡ Some here = image_later c.image.new.self c.state.new.self start here c.in_ok-sofar.ensures.continues image in
+    let closed : EachLeaf (closed_over c.state.new.self.names) here = image_is_closed c.state.new.self.program.now.sig c.state.new.self.names start here c.requires.ground image_now in
     let same : c.in_ok-sofar.sofar ≡ c.in_ok-reach_here.field-0 = c.in_ok-sofar.ensures.lemma in
     record {
       same_program = program;
@@ -43,8 +46,8 @@ returns c =
         to_ground = c.requires.ground;
         says = ap (λ (t : Theorem). t.conclusion) same ∙ c.in_ok-reach_here.ensures.conclusion;
         no_hypotheses = ap (λ (t : Theorem). t.hypotheses) same ∙ none_left c.in_ok-reach_here.field-0.hypotheses c.in_ok-reach_here.ensures.rests.hypotheses;
-        stated = subst (λ (t : Theorem). IsTrue (is_stated c.state.new.self.renderer.stated t.conclusion)) (sym same) c.in_ok-sofar.ensures.stated;
+        stated = subst (λ (t : Theorem). IsStated c.state.new.self.renderer.stated t.hypotheses t.conclusion) (sym same) c.in_ok-sofar.ensures.stated;
       };
       justifies = subst (λ (p : Program). Justifies c.state.new.self.text.items p start start) program
-          (c.in_ok-sofar.ensures.justified start start here here image_now image_now c.in_ok-reach_here.ensures.conclusion);
+          (c.in_ok-sofar.ensures.justified start start here here image_now image_now (none_left c.in_ok-reach_here.field-0.hypotheses c.in_ok-reach_here.ensures.rests.hypotheses) c.in_ok-reach_here.ensures.conclusion (closed, closed));
     }

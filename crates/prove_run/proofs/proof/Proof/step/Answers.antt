@@ -1,10 +1,11 @@
 use Rattle.std.proofs.Common.{◌≡◌, Some, ap, ◌∙◌, sym, subst}
-use Rattle.std.specs.Prelude.{IsTrue, slice_get}
+use Rattle.std.specs.Prelude.{slice_get}
 use Rattle.rule_core.specs.declared.rules.Program.{Program}
 use Rattle.term_core.specs.RulePatterns.{plain_pattern}
 use Rattle.ml_kernel.specs.Theorems.{Theorem}
-use Rattle.mm_render.specs.Places.{is_stated}
+use Rattle.mm_render.specs.Places.{IsStated}
 use Rattle.mm_render.specs.Justifying.{Justifies}
+use Rattle.mm_render.proofs.ImageLeaves.{image_is_closed}
 use Rattle.prove_run.proofs.ScriptLaws.{image_later}
 use Rattle.prove_run.proofs.StepLaws.{reached_no_meta, linked, may_step, step_of}
 use Rattle.prove_run.proofs.proof.Proof.step.Goals as goal
@@ -54,8 +55,12 @@ returns c program start r there proof =
         to_ground = (c.requires.ground r there_now).1;
         says = ap (λ (t : Theorem). t.conclusion) same ∙ step.1.says;
         no_hypotheses = ap (λ (t : Theorem). t.hypotheses) same ∙ step.1.none;
-        stated = subst (λ (t : Theorem). IsTrue (is_stated last.renderer.stated t.conclusion)) (sym same) c.in_ok-self.ensures.stated;
+        stated = subst (λ (t : Theorem). IsStated last.renderer.stated t.hypotheses t.conclusion) (sym same) c.in_ok-self.ensures.stated;
       };
       justifies = subst (λ (p : Program). Justifies last.text.items p start (plain_pattern r.right)) is_program
-          (c.in_ok-self.ensures.justified start (plain_pattern r.right) proof.has_reached.from step.0 from_image to_image step.1.says);
+          (c.in_ok-self.ensures.justified start (plain_pattern r.right) proof.has_reached.from step.0 from_image to_image step.1.none step.1.says
+          (
+            image_is_closed last.program.now.sig last.names start proof.has_reached.from proof.has_reached.from_ground from_image,
+            image_is_closed last.program.now.sig last.names (plain_pattern r.right) step.0 (c.requires.ground r there_now).1 to_image,
+          ));
     }

@@ -1,5 +1,4 @@
 use Rattle.std.proofs.Common.{◌≡◌, ℕ, ◌≤◌, ◌<◌, List, [], ◌∷◌, ◌++◌, Some, length, take, ap, ◌∙◌, sym, subst, arith, length-append}
-use Rattle.std.specs.Prelude.{IsTrue}
 use Rattle.std.proofs.lemmas.Option.{slice_get_within}
 use Rattle.mm_text.specs.Bytes.{Token}
 use Rattle.ml_pat.specs.Patterns.{Pattern}
@@ -9,9 +8,10 @@ use Rattle.mm_render.specs.Kept.{Kept}
 use Rattle.mm_proof.specs.Leaves.{EachLeaf}
 use Rattle.mm_render.specs.OverNames.{closed_over}
 use Rattle.mm_render.specs.Keeping.{Fits, MayState, axiom_at, with_stated}
-use Rattle.mm_render.specs.Places.{is_stated}
+use Rattle.mm_render.specs.Places.{IsStated}
+use Rattle.mm_render.specs.ClaimVariables.{claim_of}
 use Rattle.mm_render.specs.Justifying.{HasOnlyAxiomsOf, IsOwnAxiom}
-use Rattle.mm_render.proofs.Allowing.{axiom_has_only, closed_has_no_meta, last_is_stated, stated_stays}
+use Rattle.mm_render.proofs.Allowing.{axiom_has_only, closed_has_no_meta, closed_is_over, last_is_stated, stated_stays}
 use Rattle.mm_render.proofs.ImageLeaves.{rule_image_is_own}
 use Rattle.prove_run.proofs.ScriptLaws.{take_all, kept_stay, kept_set, axiom_last, axiom_before, image_closed}
 use Rattle.prove_run.proofs.script.Script.assume.Goals as goal
@@ -34,14 +34,16 @@ returns-clause-sound c =
     subst (λ (t : List Pattern). axiom_at t number ≡ c.args.image) (sym theory) (subst (λ (n : ℕ). axiom_at (s.theory ++ c.args.image ∷ []) n ≡ c.args.image) (sym c.in_ok-no.ensures.number) (axiom_last s.theory c.args.image)) in
     let declared : take s.renderer.named s.names ≡ s.names = take_all s.renderer.named s.names c.requires.declared in
     let closed : EachLeaf (closed_over s.names) c.args.image = image_closed s.program.now s.names c.args.rule c.args.image c.requires.there c.requires.ground c.requires.image in
+    let ground : EachLeaf (closed_over (take s.renderer.named s.names)) (axiom_at c.add.new.self number) =
+    subst (λ (names : List Token). EachLeaf (closed_over names) (axiom_at c.add.new.self number)) (sym declared) (subst (EachLeaf (closed_over s.names)) (sym last) closed) in
     let may : MayState s.names s.renderer (axiom_at c.add.new.self number) = record {
       begun = c.requires.sound.begun;
-      closed = subst (λ (names : List Token). EachLeaf (closed_over names) (axiom_at c.add.new.self number)) (sym declared) (subst (EachLeaf (closed_over s.names)) (sym last) closed);
+      over = (closed_is_over (take s.renderer.named s.names) (axiom_at c.add.new.self number) ground, tt);
     } in
     let own : IsOwnAxiom s.program.now (take s.renderer.named s.names) (axiom_at c.add.new.self number) =
     subst (λ (names : List Token). IsOwnAxiom s.program.now names (axiom_at c.add.new.self number)) (sym declared)
     (subst (IsOwnAxiom s.program.now s.names) (sym last) (rule_image_is_own s.program.now s.names c.args.rule c.args.image c.requires.there c.requires.image)) in
-    let kept : c.axiom.new.self ≡ with_stated s.renderer (axiom_at c.add.new.self number) = c.in_ok-axiom.ensures.kept in
+    let kept : c.axiom.new.self ≡ with_stated s.renderer (claim_of [] (axiom_at c.add.new.self number)) = c.in_ok-axiom.ensures.kept in
     let gains = c.in_ok-axiom.ensures.gains may in
     record {
       begun = ap (λ (k : Kept). k.begun) kept ∙ c.requires.sound.begun;
@@ -49,13 +51,13 @@ returns-clause-sound c =
       own = c.requires.sound.own;
       fits = subst (λ (bytes : List ℕ). Fits s.names c.axiom.new.self bytes) (sym c.in_ok-axiom.ensures.text) (gains.fits s.text.items c.requires.sound.fits);
       only = subst (HasOnlyAxiomsOf s.program.now) (sym c.in_ok-axiom.ensures.text)
-          (axiom_has_only s.program.now s.names s.renderer c.axiom.new.self (axiom_at c.add.new.self number) s.text.items _ may gains own c.requires.sound.fits c.requires.sound.only);
+          (axiom_has_only s.program.now s.names s.renderer c.axiom.new.self (axiom_at c.add.new.self number) s.text.items _ ground gains own c.requires.sound.fits c.requires.sound.only);
       places = c.requires.sound.places;
       axioms = kept_set _ 0 c.args.rule c.args.rule s.axioms.items c.in_ok-no.no (omega arith)
           (record {
             known = subst (λ (t : List Pattern). number < length t) (sym theory) (omega (arith, c.in_ok-no.ensures.number, length-append s.theory (c.args.image ∷ [])));
             image = λ r there. subst (λ (p : Pattern). rule_image_of s.program.now.sig s.names (rewrite_rule r) ≡ Some p) (sym last) (c.requires.image r there);
-            stated = subst (λ (k : Kept). IsTrue (is_stated k.stated (axiom_at c.add.new.self number))) (sym kept) (last_is_stated s.renderer.stated (axiom_at c.add.new.self number));
+            stated = subst (λ (k : Kept). IsStated k.stated [] (axiom_at c.add.new.self number)) (sym kept) (last_is_stated s.renderer.stated (claim_of [] (axiom_at c.add.new.self number)));
           })
           (kept_stay s _
           (λ i n h.
@@ -63,7 +65,7 @@ returns-clause-sound c =
           record {
             known = subst (λ (t : List Pattern). n < length t) (sym theory) (omega (arith, h.known, length-append s.theory (c.args.image ∷ [])));
             image = λ r there. subst (λ (p : Pattern). rule_image_of s.program.now.sig s.names (rewrite_rule r) ≡ Some p) (sym same) (h.image r there);
-            stated = subst (λ (k : Kept). IsTrue (is_stated k.stated (axiom_at c.add.new.self n))) (sym kept)
-                (stated_stays s.renderer.stated (axiom_at c.add.new.self number ∷ []) (axiom_at c.add.new.self n) (subst (λ (p : Pattern). IsTrue (is_stated s.renderer.stated p)) (sym same) h.stated));
+            stated = subst (λ (k : Kept). IsStated k.stated [] (axiom_at c.add.new.self n)) (sym kept)
+                (stated_stays s.renderer.stated (claim_of [] (axiom_at c.add.new.self number) ∷ []) [] (axiom_at c.add.new.self n) (subst (IsStated s.renderer.stated []) (sym same) h.stated));
           }) 0 s.axioms.items c.requires.sound.axioms);
     }

@@ -1,8 +1,7 @@
-use Rattle.std.proofs.Common.{ℕ, ◌≤◌, ◌<◌, ◌^◌, List, length, ap, ◌∙◌, sym, subst, rules, arith}
-use Rattle.std.specs.Prelude.{IsTrue}
+use Rattle.std.proofs.Common.{ℕ, ◌≤◌, ◌<◌, ◌^◌, List, [], length, ap, ◌∙◌, sym, subst, rules, arith}
 use Rattle.mm_render.specs.Kept.{Kept}
 use Rattle.mm_render.specs.Keeping.{Fits, axiom_at}
-use Rattle.mm_render.specs.Places.{is_stated}
+use Rattle.mm_render.specs.Places.{IsStated}
 use Rattle.mm_render.specs.Justifying.{HasOnlyAxiomsOf}
 use Rattle.mm_render.proofs.DeclaredStates.{declared_has_only}
 use Rattle.prove_run.proofs.PlainNameLaws.{own_names, own_behind}
@@ -27,7 +26,7 @@ returns-clause-sound c =
       axioms = kept_stay s _ (λ i n h. record {
         known = h.known;
         image = h.image;
-        stated = subst (λ (k : Kept). IsTrue (is_stated k.stated (axiom_at s.theory n))) (sym kept) h.stated;
+        stated = subst (λ (k : Kept). IsStated k.stated [] (axiom_at s.theory n)) (sym kept) h.stated;
       }) 0 s.axioms.items c.requires.sound.axioms;
     })
     c.declare.ensures.text c.declare.ensures.kept c.declare.ensures.fits

@@ -1,6 +1,9 @@
 use Rattle.std.proofs.Common.{◌≡◌, List, take, Some, sym, subst}
 use Rattle.mm_text.specs.Bytes.{Token}
+use Rattle.ml_pat.specs.Patterns.{imp, ev}
 use Rattle.ml_kernel.specs.Theorems.{Theorem}
+use Rattle.mm_proof.specs.Leaves.{EachLeaf}
+use Rattle.mm_render.specs.OverNames.{closed_over}
 use Rattle.ml_image.specs.Images.{image_of}
 use Rattle.mm_render.specs.Places.{MayProve, StatesLemma}
 use Rattle.mm_render.proofs.Allowing.{theorem_justifies}
@@ -8,14 +11,15 @@ use Rattle.prove_run.proofs.ScriptLaws.{take_all, sound_stated}
 use Rattle.prove_run.proofs.script.Script.state.Goals as goal
 
 pub returns-clause-justified : goal.returns-clause-justified
-returns-clause-justified c a b from to from_image to_image says =
+returns-clause-justified c a b from to from_image to_image none says closed =
     let s = c.args.self.now in
     let declared : take s.renderer.named s.names ≡ s.names = take_all s.renderer.named s.names c.requires.declared in
     theorem_justifies s.program.now s.names s.renderer c.lemma-2.new.self c.args.thm s.text.items c.lemma-2.new.to.items a b from to
     (subst (λ (t : Theorem). StatesLemma s.names s.renderer c.lemma-2.new.self t s.text.items c.lemma-2.new.to.items) c.in_ok-lemma.ensures c.in_ok-lemma-2.ensures.states)
     c.requires.proved c.requires.sound.fits c.requires.sound.only
     (subst (λ (names : List Token). image_of s.program.now.sig names a ≡ Some from) (sym declared) from_image)
-    (subst (λ (names : List Token). image_of s.program.now.sig names b ≡ Some to) (sym declared) to_image) says
+    (subst (λ (names : List Token). image_of s.program.now.sig names b ≡ Some to) (sym declared) to_image) none says
+    (subst (λ (names : List Token). EachLeaf (closed_over names) (imp from (ev to))) (sym declared) closed)
 
 pub returns-clause-sound : goal.returns-clause-sound
 returns-clause-sound c =
