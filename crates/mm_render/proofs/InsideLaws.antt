@@ -10,9 +10,9 @@ use Rattle.mm_text.proofs.Writing.{written_statement}
 use Rattle.mm_text.specs.Statements.{statement, statements_from, ends_statement, is_whole}
 use Rattle.mm_text.specs.TextLaws.{is_plain_token, is_one_statement, ends_once, written}
 use Rattle.mm_frame.specs.Forms.{Form, Keyword, declares_constants, declares_variables, types_variable, assumes, separates, asserts, proves, plain, form_of, has_dollar}
-use Rattle.mm_frame.specs.Frames.{Hypothesis, label_of}
-use Rattle.mm_frame.specs.Database.{Block, Context, context_after, after_form, with_declared, with_block_opened, with_block_closed, with_tokens, with_token, with_hypothesis, are_different_tokens}
-use Rattle.mm_frame.specs.Assertions.{Assertion, assertions_in, form_assertion, with_assertion_first}
+use Rattle.mm_frame.specs.Frames.{Hypothesis, label_of, Frame, frame_of}
+use Rattle.mm_frame.specs.Database.{Block, Context, context_after, after_form, with_declared, with_block_opened, with_block_closed, with_tokens, with_token, with_hypothesis, with_assertion, are_different_tokens}
+use Rattle.mm_frame.specs.Assertions.{Assertion, assertion, keyword_assertion, assertions_in, form_assertion, with_assertion_first, keyword_typing, form_typing, with_typing_first, typings_in}
 use Rattle.mm_frame.specs.Proofs.{IsProof}
 use Rattle.mm_frame.specs.Validity.{task, form_fault, declaration_fault, or_else, IsFine}
 use Rattle.mm_frame.specs.FrameLaws.{Adds, written_statements, are_clean, keyword_token, has_proof, plain_tokens}
@@ -62,7 +62,7 @@ pub map-append : {A B : Type 0} (f : A → B) (xs ys : List A) → map f (xs ++ 
 map-append f [] ys = refl
 map-append f (x ∷ xs) ys = ap (λ bs. f x ∷ bs) (map-append f xs ys)
 
-none_more : (set : Token → Bool) → set ≡ with_tokens set []
+pub none_more : (set : Token → Bool) → set ≡ with_tokens set []
 none_more set = fun_ext (λ t. or_false (set t))
 
 tokens_more : (set : Token → Bool) (ts us : List Token) → with_tokens (with_tokens set ts) us ≡ with_tokens set (ts ++ us)
@@ -262,16 +262,34 @@ labelled_adds c l k symbol symbols sts left no_proof none label w well behind at
       then_asserted c at (plain_tokens (l ∷ []) k (symbol ∷ symbols)) (plain (l ∷ []) k (symbol ∷ symbols) []) sts left.assertions said none (behind _).1,
     )
 
--- an assertion without fault, and what follows it
-pub assertion_adds : (c : Context) (tokens : List Token) (labels : List Token) (k : Keyword) (symbols proof : List Token) (a : Assertion) (sts : List (List Token)) (left : Context) → list_all is_plain_token tokens ≡ true → is_one_statement tokens ≡ true → IsFine c tokens
-    → form_of tokens ≡ Some (plain labels k symbols proof) → form_assertion c (Some (plain labels k symbols proof)) ≡ Some a
-    → AddsAnywhere (with_declared c labels k symbols) sts (record { context = left; assertions = [] }) → AddsAnywhere c (tokens ∷ sts) (record { context = left; assertions = a ∷ [] })
-assertion_adds c tokens labels k symbols proof a sts left plain_ones one fine said makes behind at = (
-  (plain_ones, one, fine, subst (λ (d : Context). Adds d (at + length (written tokens)) sts left) (sym (ap (after_form c at) said)) (behind _).0),
-  ap (λ (o : Option Form). with_assertion_first (form_assertion c o) (asserted (after_form c at o) (at + length (written tokens)) sts)) said
-      ∙ ap (λ (o : Option Assertion). with_assertion_first o (asserted (after_form c at (Some (plain labels k symbols proof))) (at + length (written tokens)) sts)) makes
-      ∙ ap (λ (more : List Assertion). a ∷ more) (behind _).1,
-)
+-- Tokens that assert these symbols under a label, as an axiom or as what is proved, without fault.
+pub record Asserts (c : Context) (label : Token) (symbols : List Token) (proved : Bool) (tokens : List Token) : Type 0 where
+  pub plain_ones : list_all is_plain_token tokens ≡ true
+  pub one : is_one_statement tokens ≡ true
+  pub fine : IsFine c tokens
+  pub keyword : Keyword
+  pub proof : List Token
+  pub said : form_of tokens ≡ Some (plain (label ∷ []) keyword symbols proof)
+  pub makes : keyword_assertion c (label ∷ []) symbols keyword ≡ Some (assertion c proved (label ∷ []) symbols)
+  pub declares : with_declared c (label ∷ []) keyword symbols ≡ with_assertion c label symbols
+  pub types_none : keyword_typing (label ∷ []) symbols keyword ≡ None
+
+-- they type nothing
+pub untyped : (c : Context) (label : Token) (symbols : List Token) (proved : Bool) (tokens : List Token) → Asserts c label symbols proved tokens → form_typing (form_of tokens) ≡ None
+untyped c label symbols proved tokens w = ap form_typing w.said ∙ w.types_none
+
+-- such an assertion has this frame, and what follows it
+pub assertion_adds : (c : Context) (label : Token) (symbols : List Token) (proved : Bool) (tokens : List Token) (f : Frame) (sts : List (List Token)) (left : Context) → Asserts c label symbols proved tokens → frame_of c.scope label symbols ≡ f
+    → AddsAnywhere (with_assertion c label symbols) sts (record { context = left; assertions = [] }) → AddsAnywhere c (tokens ∷ sts) (record { context = left; assertions = record { is_proved = proved; frame = f } ∷ [] })
+assertion_adds c label symbols proved tokens f sts left w framed behind at =
+    let after : context_after c (statement at tokens) ≡ with_assertion c label symbols = ap (after_form c at) w.said ∙ w.declares in
+    let made_it : form_assertion c (form_of tokens) ≡ Some (assertion c proved (label ∷ []) symbols) = ap (form_assertion c) w.said ∙ w.makes in (
+      (w.plain_ones, w.one, w.fine, subst (λ (d : Context). Adds d (at + length (written tokens)) sts left) (sym after) (behind _).0),
+      ap (λ (o : Option Assertion). with_assertion_first o (asserted (context_after c (statement at tokens)) (at + length (written tokens)) sts)) made_it
+          ∙ ap (λ (d : Context). assertion c proved (label ∷ []) symbols ∷ asserted d (at + length (written tokens)) sts) after
+          ∙ ap (λ (more : List Assertion). assertion c proved (label ∷ []) symbols ∷ more) (behind _).1
+          ∙ ap (λ (g : Frame). let a : Assertion = record { is_proved = proved; frame = g } in a ∷ []) framed,
+    )
 
 -- `${`, statements and `$}`
 
@@ -306,3 +324,21 @@ asserted_in c at [] left h = refl
 asserted_in c at (tokens ∷ sts) left (plain_ones, one, fine, rest) =
     ap (assertions_in c) (written_statement at tokens (written_statements sts) plain_ones one)
     ∙ ap (λ (more : List Assertion). with_assertion_first (form_assertion c (form_of tokens)) more) (asserted_in (context_after c (statement at tokens)) (at + length (written tokens)) sts left rest)
+
+-- the typings of written statements
+abbrev pub typed : List (List Token) → List Hypothesis
+typed [] = []
+typed (tokens ∷ sts) = with_typing_first (form_typing (form_of tokens)) (typed sts)
+
+-- they are read as they are, too
+pub typed_in : (c : Context) (at : ℕ) (sts : List (List Token)) (left : Context) → Adds c at sts left → typings_in (statements_from at (written_statements sts)) ≡ typed sts
+typed_in c at [] left h = refl
+typed_in c at (tokens ∷ sts) left (plain_ones, one, fine, rest) =
+    ap typings_in (written_statement at tokens (written_statements sts) plain_ones one)
+    ∙ ap (λ (more : List Hypothesis). with_typing_first (form_typing (form_of tokens)) more) (typed_in (context_after c (statement at tokens)) (at + length (written tokens)) sts left rest)
+
+-- Statements without fault that leave a context, make just this assertion and have just these typings.
+pub record AddsJust (c : Context) (at : ℕ) (sts : List (List Token)) (left : Context) (a : Assertion) (hs : List Hypothesis) : Type 0 where
+  pub adds : Adds c at sts left
+  pub makes : asserted c at sts ≡ a ∷ []
+  pub types : typed sts ≡ hs

@@ -17,6 +17,7 @@ pub mod InsideLaws
 pub mod Separations
 pub mod HeadLaws
 pub mod OpenTexts
+pub mod HeadTypings
 pub mod OpenFrames
 pub mod BlockLaws
 pub mod OpenFits
@@ -25,6 +26,7 @@ pub mod CitedLaws
 pub mod NamedClaims
 pub mod OpenCitingTexts
 pub mod OpenCiting
+pub mod PlainStatements
 pub mod OpenVariableLaws
 pub mod AddedVariables
 pub mod ClaimLaws

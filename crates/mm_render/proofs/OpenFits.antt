@@ -1,22 +1,19 @@
--- Blocks behind a text that fits: the header fits, and an axiom and a theorem may follow.
+-- Statements behind a text that fits: the header fits, and an axiom and a theorem may follow, each in its block where it needs
+-- one.
 use Rattle.std.proofs.Common.{◌≡◌, ℕ, ◌+◌, ◌<◌, ◌^◌, Bool, true, false, List, [], ◌∷◌, ◌++◌, length, map, refl, ap, ◌∙◌, sym, subst, arith, append-nil, Some, None, slice_get}
 use Rattle.std.specs.Prelude.{◌||◌, codes, bytes_eq}
 use Rattle.std.specs.List.{list_all}
 use Rattle.std.proofs.lemmas.Bool.{false≢true}
 use Rattle.std.proofs.lemmas.Slice.Eq.{bytes_eq-Decides}
 use Rattle.mm_text.specs.Bytes.{Token, has_token}
-use Rattle.mm_text.specs.TextLaws.{is_plain_token, is_one_statement}
-use Rattle.mm_frame.specs.Forms.{Keyword, asserts, proves, plain, form_of}
 use Rattle.mm_text.specs.Labels.{is_label}
 use Rattle.mm_frame.specs.Frames.{Hypothesis, label_of, Scope, Frame}
-use Rattle.mm_frame.specs.Proofs.{hypothesis_of, ProofTree, Proves, postorder}
-use Rattle.mm_frame.specs.Database.{Context, with_declared, with_assertion}
-use Rattle.mm_frame.specs.Validity.{IsFine}
-use Rattle.mm_frame.specs.Assertions.{Assertion, assertion, keyword_assertion, assertions_of}
-use Rattle.mm_frame.specs.Writing.{Leaves, MayBeStated}
+use Rattle.mm_frame.specs.Proofs.{hypothesis_of, ProofTree, Proves}
+use Rattle.mm_frame.specs.Database.{Context, with_assertion}
+use Rattle.mm_frame.specs.Assertions.{Assertion, assertions_of, typings_of}
+use Rattle.mm_frame.specs.Writing.{Leaves}
 use Rattle.mm_frame.specs.FrameLaws.{Adds, written_statements}
-use Rattle.mm_frame.proofs.WrittenForms.{plain_tokens_say, proof_tokens_say}
-use Rattle.mm_frame.proofs.Continued.{axiom_is_fine, theorem_is_fine, continued_leaves, leaves_is_valid}
+use Rattle.mm_frame.proofs.Continued.{continued_leaves, leaves_is_valid}
 use Rattle.mm_frame.proofs.Stated.{appended_states}
 use Rattle.mm_header.specs.Header.{Row, header_rows}
 use Rattle.mm_header.specs.HeaderContext.{header_context, header_labels}
@@ -24,28 +21,30 @@ use Rattle.mm_header.proofs.HeaderFrames.{header_only}
 use Rattle.mm_header.proofs.HeaderValid.{header_fine, header_ends}
 use Rattle.ml_pat.specs.Patterns.{Pattern}
 use Rattle.ml_kernel.specs.Theorems.{Derivation}
-use Rattle.mm_proof.specs.Tokens.{letters_of, text_by, own_naming}
+use Rattle.mm_proof.specs.Tokens.{own_naming}
 use Rattle.mm_proof.specs.Labels.{statement_label, premise_label, own_labels}
 use Rattle.mm_proof.specs.Derivations.{holds_text, derivation_tree}
 use Rattle.mm_render.specs.Fitting.{Holds}
 use Rattle.mm_render.specs.CitedAt.{claims_citing, citable}
 use Rattle.mm_render.specs.Variables.{Variable, object_variable, pattern_variable, are_once, AreNumbered, variable_token, variable_label}
-use Rattle.mm_render.specs.Blocks.{Claim, IsClaim, head_statements, block, axiom_block, theorem_block, variable_float, premise_hypotheses, open_assertion}
-use Rattle.mm_render.specs.OverNames.{open_over}
+use Rattle.mm_render.specs.Blocks.{Claim, IsClaim, head_statements, block, axiom_block, theorem_block, axiom_statements, variable_float, premise_hypotheses, open_frame, open_assertion}
+use Rattle.mm_render.specs.OverNames.{open_over, AreOpenOver}
 use Rattle.mm_render.specs.Statements.{axiom_statement, theorem_statement}
-use Rattle.mm_render.specs.Claiming.{FitsClaims, GainsClaim, HoldsClaims, ClaimsAreValid, HeaderFitsClaims, AxiomBlockFits, AxiomBlockIsGained, IsProvable, TheoremBlockFits, TheoremBlockIsGained}
+use Rattle.mm_render.specs.Claiming.{FitsClaims, HoldsClaims, ClaimsAreValid, HeaderFitsClaims, AxiomFits, IsProvable, proved_statements, TheoremFits, HasJust, AxiomIsGained, TheoremIsGained}
 use Rattle.mm_proof.proofs.LeafLaws.{split_true, both_true}
-use Rattle.mm_render.proofs.SpeltLaws.{label_facts, statement_label-is_label, header_spelt, hypothesis_spelt, types_spelt, postorder_spelt, labels_plain, labels_go_on, labels_clean, labels_uncompressed}
+use Rattle.mm_render.proofs.SpeltLaws.{header_spelt, hypothesis_spelt, types_spelt, postorder_spelt}
 use Rattle.mm_render.proofs.FittingLaws.{header_holds, header_closed}
-use Rattle.mm_render.proofs.StatedLaws.{header_no_active, axiom_plain, axiom_one, theorem_plain, theorem_one}
+use Rattle.mm_render.proofs.StatedLaws.{header_no_active}
 use Rattle.mm_render.proofs.VariableLaws.{label_spelt, premise_spelt}
-use Rattle.mm_render.proofs.InsideLaws.{AddsAnywhere, asserted, asserted_in, assertion_adds, block_closes, AreSymbols, clean_go_on}
+use Rattle.mm_render.proofs.InsideLaws.{AddsAnywhere, AddsJust, Asserts, asserted, asserted_in, assertion_adds, block_closes, typed_in, untyped}
 use Rattle.mm_render.proofs.OpenTexts.{open_symbols, own_hypotheses}
+use Rattle.mm_render.proofs.HeadTypings.{block_typed}
 use Rattle.mm_render.proofs.OpenFrames.{frame_is}
 use Rattle.mm_render.proofs.OpenServes.{serves_inside}
 use Rattle.mm_render.proofs.CitedLaws.{claims_sound}
 use Rattle.mm_proof.proofs.OpenCitingDerivations.{cited_proves}
 use Rattle.mm_render.proofs.BlockLaws.{inside_block, behind_block, block_left, claims_hold, ground, all_more_variables, claim_may_be_stated, block_adds}
+use Rattle.mm_render.proofs.PlainStatements.{axiom_asserts, theorem_asserts, plain_axiom_adds, plain_theorem_adds}
 
 pub claims_are_valid : ClaimsAreValid
 claims_are_valid declared claims bytes (c, leaves, w) = leaves_is_valid bytes c leaves
@@ -112,58 +111,79 @@ header_fits_claims = (
   },
 )
 
--- what written statements assert is what the text has gained
-gained_by : (c left : Context) (bytes : List ℕ) (sts : List (List Token)) (a : Assertion) → Leaves bytes c → Adds c (length bytes) sts left → asserted c (length bytes) sts ≡ a ∷ [] → assertions_of (bytes ++ written_statements sts) ≡ assertions_of bytes ++ a ∷ []
-gained_by c left bytes sts a leaves adds makes =
-    (appended_states bytes (written_statements sts) c leaves.white leaves.fine).0
-    ∙ ap (λ (as' : List Assertion). assertions_of bytes ++ as') (asserted_in c (length bytes) sts left adds ∙ makes)
+-- what written statements leave, assert and type is what the text has gained
+
+fits_by : (declared : List Token) (claims : List Claim) (bytes : List ℕ) (c : Context) (s : Claim) (vs : List Variable) (sts : List (List Token)) (a : Assertion) (hs : List Hypothesis) → Leaves bytes c → HoldsClaims declared claims c → length claims < 2 ^ 64 → IsClaim declared s
+    → AddsJust c (length bytes) sts (behind_block declared (length claims) c s vs) a hs → FitsClaims declared (claims ++ s ∷ []) (bytes ++ written_statements sts)
+fits_by declared claims bytes c s vs sts a hs leaves w few claim just = (
+  behind_block declared (length claims) c s vs,
+  continued_leaves bytes c (behind_block declared (length claims) c s vs) sts leaves just.adds leaves.closed,
+  claims_hold declared claims c s vs w few claim,
+)
+
+gained_by : (c left : Context) (bytes : List ℕ) (sts : List (List Token)) (a : Assertion) (k : ℕ) (vs : List Variable) → Leaves bytes c → AddsJust c (length bytes) sts left a (map (variable_float k) vs) → HasJust bytes (written_statements sts) k vs a
+gained_by c left bytes sts a k vs leaves just = record {
+  assertions = (appended_states bytes (written_statements sts) c leaves.white leaves.fine).0
+      ∙ ap (λ (as' : List Assertion). assertions_of bytes ++ as') (asserted_in c (length bytes) sts left just.adds ∙ just.makes);
+  typings = (appended_states bytes (written_statements sts) c leaves.white leaves.fine).1
+      ∙ ap (λ (hs : List Hypothesis). typings_of bytes ++ hs) (typed_in c (length bytes) sts left just.adds ∙ just.types);
+}
 
 -- the assertion of a claim, in its block
-pub claim_adds : (declared : List Token) (claims : List Claim) (c : Context) (at : ℕ) (s : Claim) (more : List Variable) (tokens : List Token) (keyword : Keyword) (proof : List Token) (proved : Bool) → HoldsClaims declared claims c → length claims < 2 ^ 64 → IsClaim declared s
-    → are_once (s.variables ++ more) ≡ true → AreNumbered (s.variables ++ more) → list_all is_plain_token tokens ≡ true → is_one_statement tokens ≡ true → IsFine (inside_block declared (length claims) c at (s.variables ++ more) s.hypotheses) tokens
-    → form_of tokens ≡ Some (plain (statement_label (length claims) ∷ []) keyword (holds_text (own_naming declared) s.conclusion) proof)
-    → keyword_assertion (inside_block declared (length claims) c at (s.variables ++ more) s.hypotheses) (statement_label (length claims) ∷ []) (holds_text (own_naming declared) s.conclusion) keyword ≡ Some (assertion (inside_block declared (length claims) c at (s.variables ++ more) s.hypotheses) proved (statement_label (length claims) ∷ []) (holds_text (own_naming declared) s.conclusion))
-    → with_declared (inside_block declared (length claims) c at (s.variables ++ more) s.hypotheses) (statement_label (length claims) ∷ []) keyword (holds_text (own_naming declared) s.conclusion) ≡ with_assertion (inside_block declared (length claims) c at (s.variables ++ more) s.hypotheses) (statement_label (length claims)) (holds_text (own_naming declared) s.conclusion)
-    → Adds c at (block (head_statements declared (length claims) (s.variables ++ more) s.hypotheses ++ tokens ∷ [])) (behind_block declared (length claims) c s (s.variables ++ more)) × (asserted c at (block (head_statements declared (length claims) (s.variables ++ more) s.hypotheses ++ tokens ∷ [])) ≡ open_assertion proved declared (length claims) s ∷ [])
-claim_adds declared claims c at s more tokens keyword proof proved w few claim once numbered plain_ones one fine said makes declares =
-    block_adds declared (length claims) c at (s.variables ++ more) s.hypotheses tokens (record { context = behind_block declared (length claims) c s (s.variables ++ more); assertions = open_assertion proved declared (length claims) s ∷ [] })
-    (ground declared claims c w few) numbered once (all_more_variables declared s.variables more s.hypotheses claim.over.1) claim.few
-    (assertion_adds (inside_block declared (length claims) c at (s.variables ++ more) s.hypotheses) tokens (statement_label (length claims) ∷ []) keyword (holds_text (own_naming declared) s.conclusion) proof (open_assertion proved declared (length claims) s) ((codes "$}" ∷ []) ∷ []) (behind_block declared (length claims) c s (s.variables ++ more))
-    plain_ones one fine said
-    (makes ∙ ap (λ (f : Frame). let a : Assertion = record { is_proved = proved; frame = f } in Some a) (frame_is declared (length claims) c at s more w.base w.names claim once numbered))
-    (subst (λ (e : Context). AddsAnywhere e ((codes "$}" ∷ []) ∷ []) (record { context = behind_block declared (length claims) c s (s.variables ++ more); assertions = [] })) (sym declares)
+block_adds_claim : (declared : List Token) (claims : List Claim) (c : Context) (at : ℕ) (s : Claim) (more : List Variable) (proved : Bool) (tokens : List Token) → HoldsClaims declared claims c → length claims < 2 ^ 64 → IsClaim declared s → are_once (s.variables ++ more) ≡ true → AreNumbered (s.variables ++ more)
+    → Asserts (inside_block declared (length claims) c at (s.variables ++ more) s.hypotheses) (statement_label (length claims)) (holds_text (own_naming declared) s.conclusion) proved tokens
+    → AddsJust c at (block (head_statements declared (length claims) (s.variables ++ more) s.hypotheses ++ tokens ∷ [])) (behind_block declared (length claims) c s (s.variables ++ more)) (open_assertion proved declared (length claims) s) (map (variable_float (length claims)) (s.variables ++ more))
+block_adds_claim declared claims c at s more proved tokens w few claim once numbered says =
+    let k : ℕ = length claims in
+    let vs : List Variable = s.variables ++ more in
+    let text : List Token = holds_text (own_naming declared) s.conclusion in
+    let over : AreOpenOver declared (s.variables ++ more) s.hypotheses = all_more_variables declared s.variables more s.hypotheses claim.over.1 in
+    let both : Adds c at (block (head_statements declared (length claims) (s.variables ++ more) s.hypotheses ++ tokens ∷ [])) (behind_block declared (length claims) c s (s.variables ++ more)) × (asserted c at (block (head_statements declared (length claims) (s.variables ++ more) s.hypotheses ++ tokens ∷ [])) ≡ open_assertion proved declared (length claims) s ∷ []) =
+    block_adds declared k c at vs s.hypotheses tokens (record { context = behind_block declared (length claims) c s (s.variables ++ more); assertions = open_assertion proved declared (length claims) s ∷ [] }) (ground declared claims c w few) numbered once over claim.few
+    (assertion_adds (inside_block declared (length claims) c at (s.variables ++ more) s.hypotheses) (statement_label k) text proved tokens (open_frame declared k s) ((codes "$}" ∷ []) ∷ []) (behind_block declared (length claims) c s (s.variables ++ more)) says
+    (frame_is declared k c at s more w.base w.names claim once numbered)
     (subst (λ (left : Context). AddsAnywhere (with_assertion (inside_block declared (length claims) c at (s.variables ++ more) s.hypotheses) (statement_label (length claims)) (holds_text (own_naming declared) s.conclusion)) ((codes "$}" ∷ []) ∷ []) (record { context = left; assertions = [] }))
-    (block_left declared (length claims) c at s more w.base w.names claim once numbered)
-    (block_closes (with_assertion (inside_block declared (length claims) c at (s.variables ++ more) s.hypotheses) (statement_label (length claims)) (holds_text (own_naming declared) s.conclusion)) (record { at = at; outside = c.scope }) c.blocks refl))))
+    (block_left declared k c at s more w.base w.names claim once numbered)
+    (block_closes (with_assertion (inside_block declared (length claims) c at (s.variables ++ more) s.hypotheses) (statement_label (length claims)) (holds_text (own_naming declared) s.conclusion)) (record { at = at; outside = c.scope }) c.blocks refl))) in
+    record {
+      adds = both.0;
+      makes = both.1;
+      types = block_typed declared k vs s.hypotheses tokens w.names few numbered once over claim.few (untyped (inside_block declared (length claims) c at (s.variables ++ more) s.hypotheses) (statement_label k) text proved tokens says);
+    }
+
+-- a claim of these parts
+abbrev claim_of : List Variable → List Pattern → Pattern → Claim
+claim_of vs ps q = record { variables = vs; hypotheses = ps; conclusion = q }
 
 -- an axiom
 
-axiom_adds : (declared : List Token) (claims : List Claim) (c : Context) (at : ℕ) (s : Claim) → HoldsClaims declared claims c → length claims < 2 ^ 64 → IsClaim declared s
-    → Adds c at (axiom_block declared (length claims) s) (behind_block declared (length claims) c s s.variables) × (asserted c at (axiom_block declared (length claims) s) ≡ open_assertion false declared (length claims) s ∷ [])
-axiom_adds declared claims c at s w few claim =
+axiom_block_adds : (declared : List Token) (claims : List Claim) (c : Context) (at : ℕ) (s : Claim) → HoldsClaims declared claims c → length claims < 2 ^ 64 → IsClaim declared s
+    → AddsJust c at (axiom_block declared (length claims) s) (behind_block declared (length claims) c s s.variables) (open_assertion false declared (length claims) s) (map (variable_float (length claims)) s.variables)
+axiom_block_adds declared claims c at s w few claim =
     let once : are_once (s.variables ++ []) ≡ true = subst (λ (vs : List Variable). are_once vs ≡ true) (sym (append-nil s.variables)) claim.once in
     let numbered : AreNumbered (s.variables ++ []) = subst AreNumbered (sym (append-nil s.variables)) claim.numbered in
-    let may : MayBeStated (inside_block declared (length claims) c at (s.variables ++ []) s.hypotheses) (statement_label (length claims)) (codes "|-") (text_by (letters_of (own_naming declared)) s.conclusion) = claim_may_be_stated declared (length claims) c at s [] (ground declared claims c w few) claim numbered in
-    let symbols : AreSymbols (holds_text (own_naming declared) s.conclusion) = open_symbols declared s.variables s.conclusion w.names claim.numbered claim.over.0 in
-    subst (λ (vs : List Variable). Adds c at (block (head_statements declared (length claims) vs s.hypotheses ++ axiom_statement declared (length claims) s.conclusion ∷ [])) (behind_block declared (length claims) c s vs) × (asserted c at (block (head_statements declared (length claims) vs s.hypotheses ++ axiom_statement declared (length claims) s.conclusion ∷ [])) ≡ open_assertion false declared (length claims) s ∷ []))
+    subst (λ (vs : List Variable). AddsJust c at (block (head_statements declared (length claims) vs s.hypotheses ++ axiom_statement declared (length claims) s.conclusion ∷ [])) (behind_block declared (length claims) c s vs) (open_assertion false declared (length claims) s) (map (variable_float (length claims)) vs))
     (append-nil s.variables)
-    (claim_adds declared claims c at s [] (axiom_statement declared (length claims) s.conclusion) asserts [] false w few claim once numbered
-    (axiom_plain (statement_label (length claims)) (holds_text (own_naming declared) s.conclusion) (label_facts (statement_label (length claims)) (statement_label-is_label (length claims) few)).plain symbols.plain)
-    (axiom_one (length claims) (holds_text (own_naming declared) s.conclusion) (clean_go_on (holds_text (own_naming declared) s.conclusion) symbols.clean))
-    (axiom_is_fine (inside_block declared (length claims) c at (s.variables ++ []) s.hypotheses) (statement_label (length claims)) (codes "|-") (text_by (letters_of (own_naming declared)) s.conclusion) may)
-    (plain_tokens_say (statement_label (length claims) ∷ []) asserts (codes "|-") (text_by (letters_of (own_naming declared)) s.conclusion) may.clean_label may.clean refl) refl refl)
+    (block_adds_claim declared claims c at s [] false (axiom_statement declared (length claims) s.conclusion) w few claim once numbered
+    (axiom_asserts declared (length claims) (inside_block declared (length claims) c at (s.variables ++ []) s.hypotheses) s.conclusion few (open_symbols declared s.variables s.conclusion w.names claim.numbered claim.over.0)
+    (claim_may_be_stated declared (length claims) c at s [] (ground declared claims c w few) claim numbered)))
 
-pub axiom_block_fits : AxiomBlockFits
-axiom_block_fits declared claims bytes s (c, leaves, w) few claim = (
-  behind_block declared (length claims) c s s.variables,
-  continued_leaves bytes c (behind_block declared (length claims) c s s.variables) (axiom_block declared (length claims) s) leaves (axiom_adds declared claims c (length bytes) s w few claim).0 leaves.closed,
-  claims_hold declared claims c s s.variables w few claim,
-)
+-- in its block where it needs one
+axiom_adds : (declared : List Token) (claims : List Claim) (c : Context) (at : ℕ) (vs : List Variable) (ps : List Pattern) (q : Pattern) → HoldsClaims declared claims c → length claims < 2 ^ 64 → IsClaim declared (claim_of vs ps q)
+    → AddsJust c at (axiom_statements declared (length claims) (claim_of vs ps q)) (behind_block declared (length claims) c (claim_of vs ps q) vs) (open_assertion false declared (length claims) (claim_of vs ps q)) (map (variable_float (length claims)) vs)
+axiom_adds declared claims c at [] [] q w few claim = plain_axiom_adds declared claims c at q w few claim
+axiom_adds declared claims c at [] (p ∷ ps) q w few claim = axiom_block_adds declared claims c at (claim_of [] (p ∷ ps) q) w few claim
+axiom_adds declared claims c at (v ∷ vs) ps q w few claim = axiom_block_adds declared claims c at (claim_of (v ∷ vs) ps q) w few claim
 
-pub axiom_block_is_gained : AxiomBlockIsGained
-axiom_block_is_gained declared claims bytes s (c, leaves, w) few claim =
-    let adds : Adds c (length bytes) (axiom_block declared (length claims) s) (behind_block declared (length claims) c s s.variables) × (asserted c (length bytes) (axiom_block declared (length claims) s) ≡ open_assertion false declared (length claims) s ∷ []) = axiom_adds declared claims c (length bytes) s w few claim in
-    gained_by c (behind_block declared (length claims) c s s.variables) bytes (axiom_block declared (length claims) s) (open_assertion false declared (length claims) s) leaves adds.0 adds.1
+pub axiom_fits : AxiomFits
+axiom_fits declared claims bytes s (c, leaves, w) few claim =
+    fits_by declared claims bytes c s s.variables (axiom_statements declared (length claims) s) (open_assertion false declared (length claims) s) (map (variable_float (length claims)) s.variables) leaves w few claim
+    (axiom_adds declared claims c (length bytes) s.variables s.hypotheses s.conclusion w few claim)
+
+pub axiom_is_gained : AxiomIsGained
+axiom_is_gained declared claims bytes s (c, leaves, w) few claim =
+    gained_by c (behind_block declared (length claims) c s s.variables) bytes (axiom_statements declared (length claims) s) (open_assertion false declared (length claims) s) (length claims) s.variables leaves
+    (axiom_adds declared claims c (length bytes) s.variables s.hypotheses s.conclusion w few claim)
 
 -- a theorem
 
@@ -198,38 +218,32 @@ theorem_proves declared claims c at s more d place premise_place w few claim pro
     (serves_inside declared claims c at (s.variables ++ more) s.hypotheses w few provable.numbered claim.few)
     (claims_sound declared claims c at (s.variables ++ more) s.hypotheses place premise_place w few provable.numbered claim.few provable.premises) d s.conclusion provable.concludes provable.used provable.cites
 
-theorem_adds : (declared : List Token) (claims : List Claim) (c : Context) (at : ℕ) (s : Claim) (more : List Variable) (d : Derivation) (place : List Pattern → Pattern → ℕ) (premise_place : Pattern → ℕ) → HoldsClaims declared claims c → length claims < 2 ^ 64 → IsClaim declared s → IsProvable declared claims s more d place premise_place
-    → Adds c at (theorem_block declared (length claims) s more (claim_proof (length claims) claims place premise_place d)) (behind_block declared (length claims) c s (s.variables ++ more)) × (asserted c at (theorem_block declared (length claims) s more (claim_proof (length claims) claims place premise_place d)) ≡ open_assertion true declared (length claims) s ∷ [])
-theorem_adds declared claims c at s more d place premise_place w few claim provable =
+theorem_block_adds : (declared : List Token) (claims : List Claim) (c : Context) (at : ℕ) (s : Claim) (more : List Variable) (d : Derivation) (place : List Pattern → Pattern → ℕ) (premise_place : Pattern → ℕ) → HoldsClaims declared claims c → length claims < 2 ^ 64 → IsClaim declared s → IsProvable declared claims s more d place premise_place
+    → AddsJust c at (theorem_block declared (length claims) s more (claim_proof (length claims) claims place premise_place d)) (behind_block declared (length claims) c s (s.variables ++ more)) (open_assertion true declared (length claims) s) (map (variable_float (length claims)) (s.variables ++ more))
+theorem_block_adds declared claims c at s more d place premise_place w few claim provable =
     let inner : Context = inside_block declared (length claims) c at (s.variables ++ more) s.hypotheses in
     let tree : ProofTree = claim_proof (length claims) claims place premise_place d in
-    let text : List Token = holds_text (own_naming declared) s.conclusion in
     let proof : Proves (inside_block declared (length claims) c at (s.variables ++ more) s.hypotheses) (claim_proof (length claims) claims place premise_place d) (holds_text (own_naming declared) s.conclusion) = theorem_proves declared claims c at s more d place premise_place w few claim provable in
-    let may : MayBeStated (inside_block declared (length claims) c at (s.variables ++ more) s.hypotheses) (statement_label (length claims)) (codes "|-") (text_by (letters_of (own_naming declared)) s.conclusion) = claim_may_be_stated declared (length claims) c at s more (ground declared claims c w few) claim provable.numbered in
-    let symbols : AreSymbols (holds_text (own_naming declared) s.conclusion) = open_symbols declared s.variables s.conclusion w.names claim.numbered claim.over.0 in
-    let spelt : list_all is_label (postorder (claim_proof (length claims) claims place premise_place d)) ≡ true = postorder_spelt inner tree text (active_spelt declared (length claims) c at (s.variables ++ more) s.hypotheses w.base few provable.numbered claim.few) w.spelt proof in
-    claim_adds declared claims c at s more (theorem_statement declared (length claims) s.conclusion (claim_proof (length claims) claims place premise_place d)) proves (postorder (claim_proof (length claims) claims place premise_place d)) true w few claim provable.once provable.numbered
-    (theorem_plain (statement_label (length claims)) (holds_text (own_naming declared) s.conclusion) (postorder tree) (label_facts (statement_label (length claims)) (statement_label-is_label (length claims) few)).plain symbols.plain (labels_plain (postorder tree) spelt))
-    (theorem_one (length claims) (holds_text (own_naming declared) s.conclusion) (postorder tree) (clean_go_on (holds_text (own_naming declared) s.conclusion) symbols.clean) (labels_go_on (postorder tree) spelt))
-    (theorem_is_fine inner (statement_label (length claims)) (codes "|-") (text_by (letters_of (own_naming declared)) s.conclusion) tree may proof (labels_clean (postorder tree) spelt) (labels_uncompressed (postorder tree) spelt))
-    (proof_tokens_say (statement_label (length claims) ∷ []) (holds_text (own_naming declared) s.conclusion) (postorder tree) may.clean_label may.clean (labels_clean (postorder tree) spelt)) refl refl
+    block_adds_claim declared claims c at s more true (theorem_statement declared (length claims) s.conclusion (claim_proof (length claims) claims place premise_place d)) w few claim provable.once provable.numbered
+    (theorem_asserts declared (length claims) inner s.conclusion tree few (open_symbols declared s.variables s.conclusion w.names claim.numbered claim.over.0)
+    (claim_may_be_stated declared (length claims) c at s more (ground declared claims c w few) claim provable.numbered)
+    (postorder_spelt inner tree (holds_text (own_naming declared) s.conclusion) (active_spelt declared (length claims) c at (s.variables ++ more) s.hypotheses w.base few provable.numbered claim.few) w.spelt proof) proof)
 
-pub theorem_block_fits : TheoremBlockFits
-theorem_block_fits declared claims bytes s more d place premise_place (c, leaves, w) few claim provable = (
-  behind_block declared (length claims) c s (s.variables ++ more),
-  continued_leaves bytes c (behind_block declared (length claims) c s (s.variables ++ more)) (theorem_block declared (length claims) s more (claim_proof (length claims) claims place premise_place d)) leaves (theorem_adds declared claims c (length bytes) s more d place premise_place w few claim provable).0 leaves.closed,
-  claims_hold declared claims c s (s.variables ++ more) w few claim,
-)
+-- in its block where it needs one
+theorem_adds : (declared : List Token) (claims : List Claim) (c : Context) (at : ℕ) (vs : List Variable) (ps : List Pattern) (q : Pattern) (more : List Variable) (d : Derivation) (place : List Pattern → Pattern → ℕ) (premise_place : Pattern → ℕ) → HoldsClaims declared claims c → length claims < 2 ^ 64 → IsClaim declared (claim_of vs ps q)
+    → IsProvable declared claims (claim_of vs ps q) more d place premise_place
+    → AddsJust c at (proved_statements declared (length claims) claims place premise_place (claim_of vs ps q) more d) (behind_block declared (length claims) c (claim_of vs ps q) (vs ++ more)) (open_assertion true declared (length claims) (claim_of vs ps q)) (map (variable_float (length claims)) (vs ++ more))
+theorem_adds declared claims c at [] [] q [] d place premise_place w few claim provable = plain_theorem_adds declared claims c at q d place premise_place w few claim provable
+theorem_adds declared claims c at [] (p ∷ ps) q [] d place premise_place w few claim provable = theorem_block_adds declared claims c at (claim_of [] (p ∷ ps) q) [] d place premise_place w few claim provable
+theorem_adds declared claims c at [] ps q (v ∷ more) d place premise_place w few claim provable = theorem_block_adds declared claims c at (claim_of [] ps q) (v ∷ more) d place premise_place w few claim provable
+theorem_adds declared claims c at (v ∷ vs) ps q more d place premise_place w few claim provable = theorem_block_adds declared claims c at (claim_of (v ∷ vs) ps q) more d place premise_place w few claim provable
 
-pub theorem_block_is_gained : TheoremBlockIsGained
-theorem_block_is_gained declared claims bytes s more d place premise_place (c, leaves, w) few claim provable =
-    let adds : Adds c (length bytes) (theorem_block declared (length claims) s more (claim_proof (length claims) claims place premise_place d)) (behind_block declared (length claims) c s (s.variables ++ more)) × (asserted c (length bytes) (theorem_block declared (length claims) s more (claim_proof (length claims) claims place premise_place d)) ≡ open_assertion true declared (length claims) s ∷ []) =
-    theorem_adds declared claims c (length bytes) s more d place premise_place w few claim provable in
-    gained_by c (behind_block declared (length claims) c s (s.variables ++ more)) bytes (theorem_block declared (length claims) s more (claim_proof (length claims) claims place premise_place d)) (open_assertion true declared (length claims) s) leaves adds.0 adds.1
+pub theorem_fits : TheoremFits
+theorem_fits declared claims bytes s more d place premise_place (c, leaves, w) few claim provable =
+    fits_by declared claims bytes c s (s.variables ++ more) (proved_statements declared (length claims) claims place premise_place s more d) (open_assertion true declared (length claims) s) (map (variable_float (length claims)) (s.variables ++ more)) leaves w few claim
+    (theorem_adds declared claims c (length bytes) s.variables s.hypotheses s.conclusion more d place premise_place w few claim provable)
 
--- an axiom under a number
-pub axiom_block_gains : (declared : List Token) (k : ℕ) (s : Claim) → k < 2 ^ 64 → GainsClaim false declared k s (written_statements (axiom_block declared k s))
-axiom_block_gains declared k s few claims bytes fits count claim =
-    let short : length claims < 2 ^ 64 = omega (arith, few, count) in
-    subst (λ (n : ℕ). FitsClaims declared (claims ++ s ∷ []) (bytes ++ written_statements (axiom_block declared n s)) × (assertions_of (bytes ++ written_statements (axiom_block declared n s)) ≡ assertions_of bytes ++ open_assertion false declared n s ∷ [])) count
-    (axiom_block_fits declared claims bytes s fits short claim, axiom_block_is_gained declared claims bytes s fits short claim)
+pub theorem_is_gained : TheoremIsGained
+theorem_is_gained declared claims bytes s more d place premise_place (c, leaves, w) few claim provable =
+    gained_by c (behind_block declared (length claims) c s (s.variables ++ more)) bytes (proved_statements declared (length claims) claims place premise_place s more d) (open_assertion true declared (length claims) s) (length claims) (s.variables ++ more) leaves
+    (theorem_adds declared claims c (length bytes) s.variables s.hypotheses s.conclusion more d place premise_place w few claim provable)
