@@ -27,5 +27,6 @@ pub mod OpenCitingTexts
 pub mod OpenCiting
 pub mod OpenVariableLaws
 pub mod AddedVariables
+pub mod NeededLaws
 pub mod ClaimLaws
 pub mod HeadTexts
