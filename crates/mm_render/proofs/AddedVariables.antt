@@ -1,11 +1,11 @@
 -- Variables behind others, each once, as a list gets them one by one.
-use Rattle.std.proofs.Common.{◌≡◌, ℕ, ◌+◌, ◌<◌, ◌^◌, Bool, true, false, List, [], ◌∷◌, ◌++◌, refl, ap, ◌∙◌, sym, subst, arith, append_assoc, append-nil}
+use Rattle.std.proofs.Common.{◌≡◌, ◌+◌, ◌<◌, Bool, true, false, List, [], ◌∷◌, ◌++◌, refl, ap, ◌∙◌, sym, subst, arith, append_assoc, append-nil}
 use Rattle.std.specs.Prelude.{◌||◌, flat_map}
 use Rattle.std.proofs.lemmas.Bool.{false≢true}
 use Rattle.std.proofs.lemmas.Grind.{flat_map-append}
 use Rattle.std.specs.Borrow.{Bor}
 use Rattle.ml_pat.specs.Patterns.{Pattern, forms_in}
-use Rattle.mm_render.specs.Variables.{Variable, number_of, same_variable, has_variable, are_once, AreNumbered}
+use Rattle.mm_render.specs.Variables.{Variable, same_variable, has_variable, are_once, AreNumbered}
 use Rattle.mm_render.specs.OpenVariables.{variables_in, other_variables}
 use Rattle.mm_render.specs.ClaimVariables.{added}
 use Rattle.mm_proof.specs.Searching.{all_forms, patterns_of}
@@ -54,27 +54,6 @@ two_put p q old mid new first second =
       weight = omega (arith, heavy, heavier);
     }
 
--- a form whose parts were put on the stack, and one that adds its variable
-pub put_taken : (us : List Variable) (size : ℕ) (old new : List (Bor Pattern)) (vs vs' : List Variable) → vs' ≡ vs → PutsVariables us size old new → VariablesAreTaken us size old new vs vs'
-put_taken us size old new vs vs' same put = record {
-  variables = ap (λ (xs : List Variable). added xs (stack_variables (patterns_of new))) same ∙ ap (added vs) put.variables;
-  weight = put.weight;
-}
-
-pub added_taken : (us ws : List Variable) (size : ℕ) (old new : List (Bor Pattern)) (vs vs' : List Variable) → vs' ≡ added vs us → PutsVariables ws size old new → VariablesAreTaken (us ++ ws) size old new vs vs'
-added_taken us ws size old new vs vs' is put = record {
-  variables =
-      ap (λ (xs : List Variable). added xs (stack_variables (patterns_of new))) is ∙ ap (added (added vs us)) put.variables
-      ∙ added-append vs us (ws ++ stack_variables (patterns_of old)) ∙ ap (added vs) (sym (append_assoc us ws (stack_variables (patterns_of old))));
-  weight = put.weight;
-}
-
-pub leaf_taken : (us : List Variable) (size : ℕ) (old : List (Bor Pattern)) (vs vs' : List Variable) → 0 < size → vs' ≡ added vs us → VariablesAreTaken us size old old vs vs'
-leaf_taken us size old vs vs' some is = record {
-  variables = ap (λ (xs : List Variable). added xs (stack_variables (patterns_of old))) is ∙ added-append vs us (stack_variables (patterns_of old));
-  weight = omega (arith, some);
-}
-
 -- one form more
 pub form_taken : (p : Bor Pattern) (before popped new : List (Bor Pattern)) (vs vs' whole : List Variable) → before ≡ popped ++ p ∷ [] → VariablesAreTaken (variables_in p.now) (forms_in p.now) popped new vs vs'
     → added vs (stack_variables (patterns_of before)) ≡ whole → added vs' (stack_variables (patterns_of new)) ≡ whole
@@ -87,31 +66,21 @@ taken_smaller p before popped new vs vs' is taken =
     let e : all_forms (patterns_of before) ≡ all_forms (patterns_of popped) + forms_in p.now = ap (λ (ps : List (Bor Pattern)). all_forms (patterns_of ps)) is ∙ all_forms-push popped p in
     omega (arith, e, taken.weight)
 
-pub have_numbers-more : (vs : List Variable) (u : Variable) → HaveNumbers vs → number_of u < 2 ^ 64 → HaveNumbers (vs ++ u ∷ [])
-have_numbers-more vs u small h v there = go (has_variable vs v) refl (sym (has_append vs (u ∷ []) v) ∙ there)
-  where
-    last : (b : Bool) → same_variable u v ≡ b → (b || false) ≡ true → number_of v < 2 ^ 64
-    last true same there = subst (λ (w : Variable). number_of w < 2 ^ 64) (same_is u v same) h
-    last false other there = absurd (false≢true there)
-
-    go : (b : Bool) → has_variable vs v ≡ b → (b || (same_variable u v || false)) ≡ true → number_of v < 2 ^ 64
-    go true old there = small v old
-    go false new there = last (same_variable u v) refl there
-
 pub are_numbered : (vs : List Variable) → HaveNumbers vs → AreNumbered vs
 are_numbered [] h = tt
 are_numbered (v ∷ vs) h = (h v (first_there v vs), are_numbered vs (λ u there. h u (later_there v vs u there)))
 
--- one pattern more
-pub pattern_added : (front : List Variable) (ps before : List Pattern) (p : Pattern) (vs vs' : List Variable) → ps ≡ before ++ p ∷ [] → vs ≡ added [] (front ++ flat_map variables_in before) → vs' ≡ added vs (variables_in p)
-    → vs' ≡ added [] (front ++ flat_map variables_in ps)
-pattern_added front ps before p vs vs' more old new =
-    new ∙ ap (λ (xs : List Variable). added xs (variables_in p)) old ∙ added-append [] (front ++ flat_map variables_in before) (variables_in p)
-    ∙ ap (added []) (append_assoc front (flat_map variables_in before) (variables_in p) ∙ ap (λ (xs : List Variable). front ++ xs) (ap (λ (xs : List Variable). flat_map variables_in before ++ xs) (sym (append-nil (variables_in p))) ∙ sym (flat_map-append variables_in before (p ∷ [])) ∙ ap (flat_map variables_in) (sym more)))
+-- the variables of one thing more among others
+pub item_added : {A : Type 0} (variables : A → List Variable) (xs before : List A) (x : A) (start vs vs' : List Variable) → xs ≡ before ++ x ∷ [] → vs ≡ added start (flat_map variables before) → vs' ≡ added vs (variables x)
+    → vs' ≡ added start (flat_map variables xs)
+item_added variables xs before x start vs vs' more old new =
+    let all : flat_map variables before ++ variables x ≡ flat_map variables xs =
+    ap (λ (us : List Variable). flat_map variables before ++ us) (sym (append-nil (variables x))) ∙ sym (flat_map-append variables before (x ∷ [])) ∙ ap (flat_map variables) (sym more) in
+    new ∙ ap (λ (us : List Variable). added us (variables x)) old ∙ added-append start (flat_map variables before) (variables x) ∙ ap (added start) all
 
 -- what is added is there, and nothing else than was there before
 
-among_added : (vs us : List Variable) (v : Variable) → has_variable (added vs us) v ≡ (has_variable vs v || has_variable us v)
+pub among_added : (vs us : List Variable) (v : Variable) → has_variable (added vs us) v ≡ (has_variable vs v || has_variable us v)
 among_added vs [] v = has_append vs [] v
 among_added vs (u ∷ us) v = go (has_variable vs u) refl (among_added vs us v) (among_added (vs ++ u ∷ []) us v)
   where

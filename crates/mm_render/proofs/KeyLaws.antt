@@ -1,13 +1,11 @@
--- The bytes by which a pattern is looked up: no two patterns have the same.
+-- The bytes by which statements are looked up: no two patterns have the same, and no two statements.
 use Rattle.std.proofs.Common.{◌≡◌, ℕ, ◌+◌, ◌*◌, ◌<◌, ◌≤◌, ◌/◌, ◌%◌, Bool, true, false, List, [], ◌∷◌, ◌++◌, zero, suc, refl, ap, ◌∙◌, sym, arith, append_assoc, nat_lt}
-use Rattle.std.specs.Prelude.{◌==◌, if◌then◌else◌, ◌-◌}
+use Rattle.std.specs.Prelude.{◌==◌, if◌then◌else◌, ◌-◌, flat_map}
 use Rattle.std.proofs.lemmas.Bool.{false≢true}
 use Rattle.std.proofs.lemmas.Grind.{flat_map-append}
-use Rattle.std.proofs.lemmas.Slice.Eq.{bytes_eq-Decides}
 use Rattle.std.specs.Borrow.{Bor}
 use Rattle.ml_pat.specs.Patterns.{Pattern, bot, top, imp, not, and, or, equal, member, fun, ex, all, app, at_sort, next, ev, var, meta, constant, forms_in}
-use Rattle.mm_render.specs.Keys.{numbers, bytes_within, number_bytes, all_bytes, pattern_key}
-use Rattle.mm_render.specs.Places.{is_same}
+use Rattle.mm_render.specs.Keys.{numbers, bytes_within, number_bytes, all_bytes, pattern_key, statement_key}
 use Rattle.mm_render.specs.PlaceTable.{all_numbers, FormIsAdded}
 use Rattle.mm_proof.specs.Searching.{all_forms, patterns_of}
 use Rattle.mm_proof.proofs.Looking.{all_forms-push}
@@ -69,22 +67,26 @@ read-numbers (equal p q) rest = ap (push 15 0 0) (read-numbers p (numbers q rest
 read-numbers (member p q) rest = ap (push 16 0 0) (read-numbers p (numbers q rest) ∙ ap (λ (ps : List Pattern). p ∷ ps) (read-numbers q rest))
 read-numbers (app p q) rest = ap (push 17 0 0) (read-numbers p (numbers q rest) ∙ ap (λ (ps : List Pattern). p ∷ ps) (read-numbers q rest))
 
-first_of : List Pattern → Pattern
-first_of [] = bot
-first_of (p ∷ ps) = p
-
-read_back : (p : Pattern) → first_of (read (numbers p [])) ≡ p
-unfolding first_of read
-read_back p = ap first_of (read-numbers p [])
-
-numbers_same : (p q : Pattern) → numbers p [] ≡ numbers q [] → p ≡ q
-numbers_same p q h = sym (read_back p) ∙ ap (λ (ns : List ℕ). first_of (read ns)) h ∙ read_back q
-
-pub same_is : (p q : Pattern) → is_same p q ≡ true → p ≡ q
-same_is p q h = numbers_same p q ((bytes_eq-Decides (numbers p []) (numbers q [])).0 h)
-
-pub is_same-of : (p q : Pattern) → p ≡ q → is_same p q ≡ true
-is_same-of p q e = (bytes_eq-Decides (numbers p []) (numbers q [])).1 (ap (λ (r : Pattern). numbers r []) e)
+-- what stands behind the numbers of a pattern
+numbers_in_front : (p : Pattern) (more rest : List ℕ) → numbers p more ++ rest ≡ numbers p (more ++ rest)
+numbers_in_front bot more rest = refl
+numbers_in_front top more rest = refl
+numbers_in_front (var x) more rest = refl
+numbers_in_front (meta i) more rest = refl
+numbers_in_front (constant c) more rest = refl
+numbers_in_front (not p) more rest = ap (λ (ns : List ℕ). 5 ∷ 0 ∷ 0 ∷ ns) (numbers_in_front p more rest)
+numbers_in_front (next p) more rest = ap (λ (ns : List ℕ). 6 ∷ 0 ∷ 0 ∷ ns) (numbers_in_front p more rest)
+numbers_in_front (ev p) more rest = ap (λ (ns : List ℕ). 7 ∷ 0 ∷ 0 ∷ ns) (numbers_in_front p more rest)
+numbers_in_front (fun p s) more rest = ap (λ (ns : List ℕ). 8 ∷ 0 ∷ s ∷ ns) (numbers_in_front p more rest)
+numbers_in_front (at_sort p s) more rest = ap (λ (ns : List ℕ). 9 ∷ 0 ∷ s ∷ ns) (numbers_in_front p more rest)
+numbers_in_front (ex x s p) more rest = ap (λ (ns : List ℕ). 10 ∷ x ∷ s ∷ ns) (numbers_in_front p more rest)
+numbers_in_front (all x s p) more rest = ap (λ (ns : List ℕ). 11 ∷ x ∷ s ∷ ns) (numbers_in_front p more rest)
+numbers_in_front (imp p q) more rest = ap (λ (ns : List ℕ). 12 ∷ 0 ∷ 0 ∷ ns) (numbers_in_front p (numbers q more) rest ∙ ap (numbers p) (numbers_in_front q more rest))
+numbers_in_front (and p q) more rest = ap (λ (ns : List ℕ). 13 ∷ 0 ∷ 0 ∷ ns) (numbers_in_front p (numbers q more) rest ∙ ap (numbers p) (numbers_in_front q more rest))
+numbers_in_front (or p q) more rest = ap (λ (ns : List ℕ). 14 ∷ 0 ∷ 0 ∷ ns) (numbers_in_front p (numbers q more) rest ∙ ap (numbers p) (numbers_in_front q more rest))
+numbers_in_front (equal p q) more rest = ap (λ (ns : List ℕ). 15 ∷ 0 ∷ 0 ∷ ns) (numbers_in_front p (numbers q more) rest ∙ ap (numbers p) (numbers_in_front q more rest))
+numbers_in_front (member p q) more rest = ap (λ (ns : List ℕ). 16 ∷ 0 ∷ 0 ∷ ns) (numbers_in_front p (numbers q more) rest ∙ ap (numbers p) (numbers_in_front q more rest))
+numbers_in_front (app p q) more rest = ap (λ (ns : List ℕ). 17 ∷ 0 ∷ 0 ∷ ns) (numbers_in_front p (numbers q more) rest ∙ ap (numbers p) (numbers_in_front q more rest))
 
 -- reading bytes from behind
 
@@ -112,7 +114,7 @@ large_byte n m bs ns large behind = go (nat_lt n 128) (grind (arith, large))
     go true h = absurd (false≢true (sym h))
     go false h = ap (join n) behind
 
-pub within-last : (room n : ℕ) → n < 128 → bytes_within room n ≡ n ∷ []
+within-last : (room n : ℕ) → n < 128 → bytes_within room n ≡ n ∷ []
 within-last zero n small = refl
 within-last (suc room) n small = go (nat_lt n 128) (grind (arith, small))
   where
@@ -120,7 +122,7 @@ within-last (suc room) n small = go (nat_lt n 128) (grind (arith, small))
     go true h = refl
     go false h = absurd (false≢true h)
 
-pub within-more : (room n : ℕ) → 128 ≤ n → bytes_within (suc room) n ≡ (n % 128 + 128) ∷ bytes_within room (n / 128)
+within-more : (room n : ℕ) → 128 ≤ n → bytes_within (suc room) n ≡ (n % 128 + 128) ∷ bytes_within room (n / 128)
 within-more room n large = go (nat_lt n 128) (grind (arith, large))
   where
     go : (b : Bool) → b ≡ false → (if b then n ∷ [] else (n % 128 + 128) ∷ bytes_within room (n / 128)) ≡ (n % 128 + 128) ∷ bytes_within room (n / 128)
@@ -139,10 +141,7 @@ within_same (suc room) (suc more) n h k = go (nat_lt n 128) refl (λ (large : 12
         let large : 128 ≤ n = grind (arith, other) in
         within-more room n large ∙ ap (λ (bs : List ℕ). (n % 128 + 128) ∷ bs) (behind large) ∙ sym (within-more more n large)
 
-pub number_bytes-last : (n : ℕ) → n < 128 → number_bytes n ≡ n ∷ []
-number_bytes-last n small = within-last n n small
-
-pub number_bytes-more : (n : ℕ) → 128 ≤ n → number_bytes n ≡ (n % 128 + 128) ∷ number_bytes (n / 128)
+number_bytes-more : (n : ℕ) → 128 ≤ n → number_bytes n ≡ (n % 128 + 128) ∷ number_bytes (n / 128)
 number_bytes-more zero large = absurd (omega (arith, large))
 number_bytes-more (suc m) large = within-more m (suc m) large ∙ ap (λ (bs : List ℕ). (suc m % 128 + 128) ∷ bs) (within_same m (suc m / 128) (suc m / 128) (omega (arith, large)) (omega arith))
 
@@ -150,10 +149,6 @@ number_bytes-more (suc m) large = within-more m (suc m) large ∙ ap (λ (bs : L
 pub number_goes_on : (key key' whole : List ℕ) (n : ℕ) → 128 ≤ n → key' ≡ key ++ (n % 128 + 128) ∷ [] → key ++ number_bytes n ≡ whole → key' ++ number_bytes (n / 128) ≡ whole
 number_goes_on key key' whole n large pushed is =
     ap (λ (bs : List ℕ). bs ++ number_bytes (n / 128)) pushed ∙ append_assoc key ((n % 128 + 128) ∷ []) (number_bytes (n / 128)) ∙ ap (λ (bs : List ℕ). key ++ bs) (sym (number_bytes-more n large)) ∙ is
-
--- and the last
-pub number_ends : (key key' whole : List ℕ) (n : ℕ) → n < 128 → key' ≡ key ++ n ∷ [] → key ++ number_bytes n ≡ whole → key' ≡ whole
-number_ends key key' whole n small pushed is = pushed ∙ ap (λ (bs : List ℕ). key ++ bs) (sym (number_bytes-last n small)) ∙ is
 
 values-small : (room n : ℕ) (bs : List ℕ) → n < 128 → values (bytes_within room n ++ bs) ≡ n ∷ values bs
 values-small room n bs small = ap (λ (cs : List ℕ). values (cs ++ bs)) (within-last room n small) ∙ small_byte n bs small
@@ -171,14 +166,38 @@ values-within (suc room) n bs h = go (nat_lt n 128) refl (λ (large : 128 ≤ n)
         ∙ large_byte (n % 128 + 128) (n / 128) (bytes_within room (n / 128) ++ bs) (values bs) (omega arith) (behind large)
         ∙ ap (λ (m : ℕ). m ∷ values bs) whole
 
-values-all : (ns : List ℕ) → values (all_bytes ns) ≡ ns
-unfolding values
-values-all [] = refl
-values-all (n ∷ ns) = values-within n n (all_bytes ns) (omega arith) ∙ ap (λ (ms : List ℕ). n ∷ ms) (values-all ns)
+values-all : (ns bs : List ℕ) → values (all_bytes ns ++ bs) ≡ ns ++ values bs
+values-all [] bs = refl
+values-all (n ∷ ns) bs =
+    ap values (append_assoc (number_bytes n) (all_bytes ns) bs) ∙ values-within n n (all_bytes ns ++ bs) (omega arith) ∙ ap (λ (ms : List ℕ). n ∷ ms) (values-all ns bs)
+
+-- the patterns are read back from their bytes
+keys_back : (ps : List Pattern) → read (values (flat_map pattern_key ps)) ≡ ps
+unfolding read values
+keys_back [] = refl
+keys_back (p ∷ ps) =
+    let rest : List ℕ = values (flat_map pattern_key ps) in
+    ap read (values-all (numbers p []) (flat_map pattern_key ps) ∙ numbers_in_front p [] rest) ∙ read-numbers p rest ∙ ap (λ (qs : List Pattern). p ∷ qs) (keys_back ps)
+
+keys_same : (ps qs : List Pattern) → flat_map pattern_key ps ≡ flat_map pattern_key qs → ps ≡ qs
+keys_same ps qs h = sym (keys_back ps) ∙ ap (λ (bs : List ℕ). read (values bs)) h ∙ keys_back qs
 
 -- no two patterns have the same bytes
 pub key_same : (p q : Pattern) → pattern_key p ≡ pattern_key q → p ≡ q
-key_same p q h = numbers_same p q (sym (values-all (numbers p [])) ∙ ap values h ∙ values-all (numbers q []))
+key_same p q h =
+    let both : p ∷ [] ≡ q ∷ [] = keys_same (p ∷ []) (q ∷ []) (ap (λ (bs : List ℕ). bs ++ []) h) in
+    cc
+
+-- and no two statements
+pub hypotheses_same : (own own' : List Pattern) (q q' : Pattern) → statement_key own q ≡ statement_key own' q' → own ≡ own'
+hypotheses_same own own' q q' h =
+    let both : q ∷ own ≡ q' ∷ own' = keys_same (q ∷ own) (q' ∷ own') h in
+    cc
+
+pub conclusion_same : (own own' : List Pattern) (q q' : Pattern) → statement_key own q ≡ statement_key own' q' → q ≡ q'
+conclusion_same own own' q q' h =
+    let both : q ∷ own ≡ q' ∷ own' = keys_same (q ∷ own) (q' ∷ own') h in
+    cc
 
 -- a stack of patterns
 

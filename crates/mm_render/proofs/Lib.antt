@@ -29,5 +29,6 @@ pub mod OpenCiting
 pub mod PlainStatements
 pub mod OpenVariableLaws
 pub mod AddedVariables
+pub mod NeededLaws
 pub mod ClaimLaws
 pub mod HeadTexts

@@ -1,21 +1,23 @@
 -- What was stated is found at its place.
-use Rattle.std.proofs.Common.{◌≡◌, ℕ, Bool, true, false, List, [], ◌∷◌, ◌++◌, length, zero, suc, refl, ap, ◌∙◌, sym, Option, Some, slice_get, cond}
-use Rattle.std.specs.Prelude.{◌||◌, unwrap_or, bytes_eq, IsTrue}
+use Rattle.std.proofs.Common.{◌≡◌, ℕ, Bool, true, false, List, [], ◌∷◌, ◌++◌, length, zero, suc, refl, ap, ◌∙◌, sym, Option, Some, slice_get, cond, ◌⊎◌, inl, inr}
+use Rattle.std.specs.Prelude.{unwrap_or, bytes_eq, Contains}
 use Rattle.std.specs.BTreeMap.{BTreeMap, Updates}
 use Rattle.std.specs.Cmp.{eq_by_cmp_equiv}
 use Rattle.std.specs.Cmp.Lexicographic.{slice_cmp, nat_list_cmp_total}
 use Rattle.std.specs.Global.{Vec}
-use Rattle.std.specs.List.{list_any}
 use Rattle.std.specs.Map.{KeepsOthers, IsKeyTest, AreApart, lookup}
 use Rattle.std.specs.Ordering.{nat_cmp, is_eq}
 use Rattle.std.proofs.lemmas.Bool.{false≢true}
+use Rattle.std.proofs.lemmas.List.Elements.{Contains-push_cases}
 use Rattle.std.proofs.lemmas.Map.Text.{is_eq-slice_cmp}
 use Rattle.std.proofs.lemmas.Slice.Eq.{bytes_eq-Decides}
 use Rattle.ml_pat.specs.Patterns.{Pattern}
-use Rattle.mm_render.specs.Places.{is_same, is_stated, place_by, IsUnder, FindsStated}
-use Rattle.mm_render.specs.Keys.{pattern_key}
+use Rattle.mm_render.specs.Blocks.{Claim}
+use Rattle.mm_render.specs.CitedAt.{ArePremises}
+use Rattle.mm_render.specs.Places.{place_by, premise_place_by, Places, StandsAt}
+use Rattle.mm_render.specs.Keys.{pattern_key, statement_key}
 use Rattle.mm_render.specs.PlaceTable.{found_in}
-use Rattle.mm_render.proofs.KeyLaws.{same_is, key_same}
+use Rattle.mm_render.proofs.KeyLaws.{key_same, hypotheses_same, conclusion_same}
 
 -- what a table finds behind an insertion
 
@@ -41,51 +43,70 @@ found-insert m n k w updates key = go (bytes_eq k.items key) refl
         others_kept _ m.entries n.entries updates.3 (λ (b : Vec ℕ). is_eq (slice_cmp nat_cmp key b.items)) (λ (x y : Vec ℕ). (eq_by_cmp_equiv nat_list_cmp_total).congr key x.items y.items)
         (λ (b : Vec ℕ). apart k.items key b.items other)
 
-stands_last : (stated : List Pattern) (p : Pattern) → slice_get (stated ++ p ∷ []) (length stated) ≡ Some p
-stands_last [] p = refl
-stands_last (q ∷ stated) p = stands_last stated p
+-- the last of a list, and those before it
 
-stands_before : (stated : List Pattern) (p q : Pattern) (k : ℕ) → slice_get stated k ≡ Some q → slice_get (stated ++ p ∷ []) k ≡ Some q
-stands_before [] p q k h = absurd (cc)
-stands_before (r ∷ stated) p q zero h = h
-stands_before (r ∷ stated) p q (suc k) h = stands_before stated p q k h
+stands_last : {A : Type 0} (xs : List A) (x : A) → slice_get (xs ++ x ∷ []) (length xs) ≡ Some x
+stands_last [] x = refl
+stands_last (y ∷ xs) x = stands_last xs x
 
--- a pattern that is stated with one more is that, or was stated
-stated_or_last : (stated : List Pattern) (p q : Pattern) → is_stated (stated ++ p ∷ []) q ≡ true → (p ≡ q → ⊥) → is_stated stated q ≡ true
-stated_or_last [] p q h other = go (is_same p q) refl h
+stands_before : {A : Type 0} (xs : List A) (x y : A) (k : ℕ) → slice_get xs k ≡ Some y → slice_get (xs ++ x ∷ []) k ≡ Some y
+stands_before [] x y k h = absurd (cc)
+stands_before (z ∷ xs) x y zero h = h
+stands_before (z ∷ xs) x y (suc k) h = stands_before xs x y k h
+
+not_last : {A : Type 0} (xs : List A) (x y : A) (k : ℕ) → slice_get (xs ++ x ∷ []) k ≡ Some y → (x ≡ y → ⊥) → slice_get xs k ≡ Some y
+not_last [] x y zero h other = absurd (other (cc))
+not_last [] x y (suc k) h other = h
+not_last (z ∷ xs) x y zero h other = h
+not_last (z ∷ xs) x y (suc k) h other = not_last xs x y k h other
+
+-- the place under some bytes, where one more was put into a table under its bytes
+place_if : (key other : List ℕ) (n : ℕ) (old new : List ℕ → Option ℕ) → ((bytes : List ℕ) → new bytes ≡ cond (bytes_eq key bytes) (Some n) (old bytes))
+    → (b : Bool) → bytes_eq key other ≡ b → unwrap_or (new other) 0 ≡ unwrap_or (cond b (Some n) (old other)) 0
+place_if key other n old new inserted b is = ap (λ (o : Option ℕ). unwrap_or o 0) (inserted other ∙ ap (λ (c : Bool). cond c (Some n) (old other)) is)
+
+-- one claim more, under its bytes
+pub claim_more : (claims : List Claim) (s : Claim) (key : List ℕ) (old new : List ℕ → Option ℕ) → Places claims (place_by old) → key ≡ statement_key s.hypotheses s.conclusion
+    → ((bytes : List ℕ) → new bytes ≡ cond (bytes_eq key bytes) (Some (length claims)) (old bytes)) → Places (claims ++ s ∷ []) (place_by new)
+claim_more claims s key old new finds is inserted own q (k, stands) = go (bytes_eq key (statement_key own q)) refl
   where
-    go : (b : Bool) → is_same p q ≡ b → (b || false) ≡ true → false ≡ true
-    go true same h = absurd (other (same_is p q same))
-    go false same h = h
-stated_or_last (r ∷ stated) p q h other = go (is_same r q) h (λ later. stated_or_last stated p q later other)
+    go : (b : Bool) → bytes_eq key (statement_key own q) ≡ b → StandsAt (claims ++ s ∷ []) own q (place_by new own q)
+    go true same =
+        let bytes : statement_key s.hypotheses s.conclusion ≡ statement_key own q = sym is ∙ (bytes_eq-Decides key (statement_key own q)).0 same in
+        record {
+          claim = s;
+          there = ap (slice_get (claims ++ s ∷ [])) (place_if key (statement_key own q) (length claims) old new inserted true same) ∙ stands_last claims s;
+          hypotheses_are = hypotheses_same s.hypotheses own s.conclusion q bytes;
+          conclusion_is = conclusion_same s.hypotheses own s.conclusion q bytes;
+        }
+    go false other =
+        let apart : s ≡ stands.claim → ⊥ = λ e. false≢true
+        (sym other ∙ (bytes_eq-Decides key (statement_key own q)).1
+        (is ∙ ap (λ (t : Claim). statement_key t.hypotheses t.conclusion) e ∙ ap (λ (ps : List Pattern). statement_key ps stands.claim.conclusion) stands.hypotheses_are ∙ ap (statement_key own) stands.conclusion_is)) in
+        let before : StandsAt claims own q (place_by old own q) =
+        finds own q (k, record { claim = stands.claim; there = not_last claims s stands.claim k stands.there apart; hypotheses_are = stands.hypotheses_are; conclusion_is = stands.conclusion_is }) in
+        record {
+          claim = before.claim;
+          there =
+              ap (slice_get (claims ++ s ∷ [])) (place_if key (statement_key own q) (length claims) old new inserted false other)
+              ∙ stands_before claims s before.claim (place_by old own q) before.there;
+          hypotheses_are = before.hypotheses_are;
+          conclusion_is = before.conclusion_is;
+        }
+
+-- one hypothesis more
+pub premise_more : (ps : List Pattern) (p : Pattern) (key : List ℕ) (old new : List ℕ → Option ℕ) → ArePremises ps (premise_place_by old) → key ≡ pattern_key p
+    → ((bytes : List ℕ) → new bytes ≡ cond (bytes_eq key bytes) (Some (length ps)) (old bytes)) → ArePremises (ps ++ p ∷ []) (premise_place_by new)
+premise_more ps p key old new finds is inserted q there = go (bytes_eq key (pattern_key q)) refl
   where
-    go : (b : Bool) → (b || list_any (λ (s : Pattern). is_same s q) (stated ++ p ∷ [])) ≡ true → (is_stated (stated ++ p ∷ []) q ≡ true → is_stated stated q ≡ true) → (b || list_any (λ (s : Pattern). is_same s q) stated) ≡ true
-    go true h behind = refl
-    go false h behind = behind h
+    before : bytes_eq key (pattern_key q) ≡ false → Contains ps q ⊎ (p ≡ q) → Contains ps q
+    before other (inl h) = h
+    before other (inr e) = absurd (false≢true (sym other ∙ (bytes_eq-Decides key (pattern_key q)).1 (is ∙ ap pattern_key e)))
 
--- one statement more, under its bytes
-pub finds_more : (stated : List Pattern) (p : Pattern) (key : List ℕ) (old new : List ℕ → Option ℕ) → FindsStated stated old → key ≡ pattern_key p
-    → ((other : List ℕ) → new other ≡ cond (bytes_eq key other) (Some (length stated)) (old other)) → FindsStated (stated ++ p ∷ []) new
-finds_more stated p key old new finds is inserted = record {
-  places = λ q there. place q there (bytes_eq key (pattern_key q)) refl;
-  only = λ other k found. under other k (bytes_eq key other) refl (sym (inserted other) ∙ found);
-}
-  where
-    place : (q : Pattern) → IsTrue (is_stated (stated ++ p ∷ []) q) → (b : Bool) → bytes_eq key (pattern_key q) ≡ b → slice_get (stated ++ p ∷ []) (place_by new q) ≡ Some q
-    place q there true same =
-        let one : p ≡ q = key_same p q (sym is ∙ (bytes_eq-Decides key (pattern_key q)).0 same) in
-        ap (λ (o : Option ℕ). slice_get (stated ++ p ∷ []) (unwrap_or o 0)) (inserted (pattern_key q) ∙ ap (λ (b : Bool). cond b (Some (length stated)) (old (pattern_key q))) same) ∙ stands_last stated p ∙ ap Some one
-    place q there false other =
-        let apart : p ≡ q → ⊥ = λ e. false≢true (sym other ∙ (bytes_eq-Decides key (pattern_key q)).1 (is ∙ ap pattern_key e)) in
-        ap (λ (o : Option ℕ). slice_get (stated ++ p ∷ []) (unwrap_or o 0)) (inserted (pattern_key q) ∙ ap (λ (b : Bool). cond b (Some (length stated)) (old (pattern_key q))) other)
-        ∙ stands_before stated p q (place_by old q) (finds.places q (stated_or_last stated p q there apart))
-
-    last : (k : ℕ) → Some (length stated) ≡ Some k → length stated ≡ k
-    last k h = cc
-
-    later : (other : List ℕ) (k : ℕ) → IsUnder stated other k → IsUnder (stated ++ p ∷ []) other k
-    later other k (q, stands, bytes) = (q, stands_before stated p q k stands, bytes)
-
-    under : (other : List ℕ) (k : ℕ) (b : Bool) → bytes_eq key other ≡ b → cond b (Some (length stated)) (old other) ≡ Some k → IsUnder (stated ++ p ∷ []) other k
-    under other k true same found = (p, ap (slice_get (stated ++ p ∷ [])) (sym (last k found)) ∙ stands_last stated p, sym is ∙ (bytes_eq-Decides key other).0 same)
-    under other k false same found = later other k (finds.only other k found)
+    go : (b : Bool) → bytes_eq key (pattern_key q) ≡ b → slice_get (ps ++ p ∷ []) (premise_place_by new q) ≡ Some q
+    go true same =
+        ap (slice_get (ps ++ p ∷ [])) (place_if key (pattern_key q) (length ps) old new inserted true same) ∙ stands_last ps p
+        ∙ ap Some (key_same p q (sym is ∙ (bytes_eq-Decides key (pattern_key q)).0 same))
+    go false other =
+        ap (slice_get (ps ++ p ∷ [])) (place_if key (pattern_key q) (length ps) old new inserted false other)
+        ∙ stands_before ps p q (premise_place_by old q) (finds q (before other (Contains-push_cases ps p q there)))

@@ -5,15 +5,15 @@ use Rattle.mm_render.specs.ClaimVariables.{added, claim_variables}
 use Rattle.mm_render.specs.ListedVariables.{listed}
 use Rattle.mm_render.specs.OpenVariables.{variables_in}
 use Rattle.mm_render.specs.VariablesView.{HaveNumbers}
-use Rattle.mm_render.proofs.AddedVariables.{pattern_added, are_numbered}
+use Rattle.mm_render.proofs.AddedVariables.{item_added, are_numbered}
 use Rattle.mm_render.proofs.variables.variables_of_claim.Goals as goal
 
 pub loop-hypothesis-preserved : goal.loop-hypothesis-preserved
 loop-hypothesis-preserved c =
     let next : take (c.loop-hypothesis.hypothesis-index + 1) c.args.hypotheses.now ≡ take c.loop-hypothesis.hypothesis-index c.args.hypotheses.now ++ c.hypothesis-item.result ∷ [] =
     take_more c.args.hypotheses.now c.loop-hypothesis.hypothesis-index c.hypothesis-item.result c.loop-hypothesis-test.true ∙ ap (λ (p : Pattern). take c.loop-hypothesis.hypothesis-index c.args.hypotheses.now ++ p ∷ []) (sym c.hypothesis-item.is) in
-    pattern_added (variables_in c.args.conclusion.now) (take (c.loop-hypothesis.hypothesis-index + 1) c.args.hypotheses.now) (take c.loop-hypothesis.hypothesis-index c.args.hypotheses.now) c.hypothesis-item.result
-    (listed c.loop-hypothesis.list) (listed c.add_all-in-loop-hypothesis.new.self) next c.loop-hypothesis.invariant c.in_ok-add_all-2.ensures
+    item_added variables_in (c.args.conclusion.now ∷ take (c.loop-hypothesis.hypothesis-index + 1) c.args.hypotheses.now) (c.args.conclusion.now ∷ take c.loop-hypothesis.hypothesis-index c.args.hypotheses.now) c.hypothesis-item.result
+    [] (listed c.loop-hypothesis.list) (listed c.add_all-in-loop-hypothesis.new.self) (ap (λ (ps : List Pattern). c.args.conclusion.now ∷ ps) next) c.loop-hypothesis.invariant c.in_ok-add_all-2.ensures
 
 pub returns-clause-numbered : goal.returns-clause-numbered
 returns-clause-numbered c =

@@ -1,0 +1,15 @@
+use Rattle.std.proofs.Common.{List, ◌+◌, take, ap, ◌∙◌}
+use Rattle.std.proofs.lemmas.List.{take_more, map-append}
+use Rattle.mm_render.specs.ListedVariables.{listed}
+use Rattle.mm_render.specs.OpenVariables.{variables_at}
+use Rattle.mm_render.specs.VariablesView.{plain_variables, variable_of}
+use Rattle.mm_render.specs.declared.variables.Variable.{Variable}
+use Rattle.mm_render.proofs.AddedVariables.{item_added}
+use Rattle.mm_render.proofs.needed.add_values.Goals as goal
+
+pub loop-variable-preserved : goal.loop-variable-preserved
+loop-variable-preserved c =
+    let all : List Variable = c.variables_of-variable-items.result.now in
+    let before : List Variable = take c.loop-variable.variable-index all in
+    item_added (variables_at c.args.patterns.now) (plain_variables (take (c.loop-variable.variable-index + 1) all)) (plain_variables before) _ (listed c.args.list.now) (listed c.loop-variable.list) (listed c.add_value.new.list)
+    (ap plain_variables (take_more all c.loop-variable.variable-index _ c.loop-variable-test.true) ∙ map-append variable_of before _) c.loop-variable.invariant c.in_ok-add_value.ensures

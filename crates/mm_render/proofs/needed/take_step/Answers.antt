@@ -1,0 +1,59 @@
+use Rattle.std.proofs.Common.{ℕ, List, ◌≡◌, ◌+◌, [], ap, ◌∙◌, sym, subst, arith}
+use Rattle.std.specs.Prelude.{flat_map}
+use Rattle.ml_pat.specs.Patterns.{Pattern}
+use Rattle.ml_kernel.specs.declared.derivations.Inst.{Inst}
+use Rattle.ml_kernel.specs.StepView.{derivation_of, instances_of}
+use Rattle.ml_kernel.specs.StepsIn.{steps_in, all_steps}
+use Rattle.ml_kernel.specs.Theorems.{Derivation, derivations, own_axiom, row, cited}
+use Rattle.mm_render.specs.Blocks.{Claim}
+use Rattle.mm_render.specs.CitedAt.{claim_at}
+use Rattle.mm_render.specs.ClaimVariables.{added}
+use Rattle.mm_render.specs.ListedVariables.{listed}
+use Rattle.mm_render.specs.NeededView.{PutsDerivations}
+use Rattle.mm_render.specs.OpenVariables.{variables_at, variables_for, variables_of}
+use Rattle.mm_render.specs.PlaceTable.{claims_at, places_at}
+use Rattle.mm_render.specs.Variables.{Variable}
+use Rattle.mm_proof.proofs.Stacking.{on_ok}
+use Rattle.mm_render.proofs.NeededLaws.{leaf_needed, step_needed, variables_at-none}
+use Rattle.mm_render.proofs.needed.take_step.Goals as goal
+
+pub returns-in_ok-place-in-Axiom : goal.returns-in_ok-place-in-Axiom
+returns-in_ok-place-in-Axiom c =
+    let claims : List Claim = claims_at c.args.at.now in
+    let place : List Pattern → Pattern → ℕ = places_at c.args.at.now in
+    let whole : c.args.derivation.now ≡ own_axiom c.in-Axiom.field-0.0 c.in-Axiom.p = sym c.step.ensures ∙ ap derivation_of c.in-Axiom.is in
+    let there : c.in_ok-place-in-Axiom.place ≡ place [] c.in-Axiom.p = c.in_ok-place-in-Axiom.ensures in
+    let us : List Variable = (claim_at claims c.in_ok-place-in-Axiom.place).variables in
+    on_ok c.add_values.result (λ is. leaf_needed claims place c.args.derivation.now (flat_map (variables_at []) us) c.args.stack.now.items (listed c.args.list.now) (listed c.add_values.new.list)
+    (ap (variables_of claims place) whole ∙ ap (λ (k : ℕ). (claim_at claims k).variables) (sym there) ∙ sym (variables_at-none us)) (ap steps_in whole) is) c.add_values.ensures
+
+pub returns-in_ok-add_instances-in-Row : goal.returns-in_ok-add_instances-in-Row
+returns-in_ok-add_instances-in-Row c =
+    let claims : List Claim = claims_at c.args.at.now in
+    let place : List Pattern → Pattern → ℕ = places_at c.args.at.now in
+    let whole : c.args.derivation.now ≡ row c.in-Row.field-0 (instances_of c.in-Row.instances.items) (derivations c.in-Row.parts.items) = sym c.step.ensures ∙ ap derivation_of c.in-Row.is in
+    let size : steps_in c.args.derivation.now ≡ all_steps (derivations c.in-Row.parts.items) + 1 = ap steps_in whole in
+    let us : List Variable = flat_map variables_for (instances_of c.in-Row.instances.items) in
+    let is : listed c.add_instances.new.list ≡ added (listed c.args.list.now) us =
+    c.in_ok-add_instances-in-Row.ensures ∙ ap (λ (is : List Inst). added (listed c.args.list.now) (flat_map variables_for (instances_of is))) c.deref.ensures.value in
+    on_ok c.put_derivations.result (λ put. step_needed claims place c.args.derivation.now us (derivations c.in-Row.parts.items) c.args.stack.now.items c.put_derivations.new.stack.items (listed c.args.list.now) (listed c.add_instances.new.list)
+    (ap (variables_of claims place) whole) (omega (arith, size)) is
+    (subst (λ (ds : List Derivation). PutsDerivations (derivations ds) c.args.stack.now.items c.put_derivations.new.stack.items) c.deref-in-Row.ensures.value put)) c.put_derivations.ensures
+
+pub returns-in_ok-add_values-in-Cited : goal.returns-in_ok-add_values-in-Cited
+returns-in_ok-add_values-in-Cited c =
+    let claims : List Claim = claims_at c.args.at.now in
+    let place : List Pattern → Pattern → ℕ = places_at c.args.at.now in
+    let own : List Pattern = c.in-Cited.lemma.hypotheses in
+    let q : Pattern = c.in-Cited.lemma.conclusion in
+    let whole : c.args.derivation.now ≡ cited own q c.in-Cited.lemma.derivation c.in-Cited.patterns.items (derivations c.in-Cited.parts.items) = sym c.step.ensures ∙ ap derivation_of c.in-Cited.is in
+    let size : steps_in c.args.derivation.now ≡ steps_in c.in-Cited.lemma.derivation + all_steps (derivations c.in-Cited.parts.items) + 2 = ap steps_in whole in
+    let there : c.in_ok-place-in-Cited.place ≡ place own q =
+    c.in_ok-place-in-Cited.ensures ∙ ap (λ (ps : List Pattern). place ps c.conclusion.result.now) c.hypotheses.ensures.value ∙ ap (place own) c.conclusion.ensures in
+    let us : List Variable = flat_map (variables_at c.in-Cited.patterns.items) (claim_at claims (place own q)).variables in
+    let is : listed c.add_values-in-Cited.new.list ≡ added (listed c.args.list.now) us =
+    c.in_ok-add_values-in-Cited.ensures ∙ ap (λ (k : ℕ). added (listed c.args.list.now) (flat_map (variables_at c.deref-in-Cited.result.now) (claim_at claims k).variables)) there
+    ∙ ap (λ (ms : List Pattern). added (listed c.args.list.now) (flat_map (variables_at ms) (claim_at claims (place own q)).variables)) c.deref-in-Cited.ensures.value in
+    on_ok c.put_derivations-in-Cited.result (λ put. step_needed claims place c.args.derivation.now us (derivations c.in-Cited.parts.items) c.args.stack.now.items c.put_derivations-in-Cited.new.stack.items (listed c.args.list.now) (listed c.add_values-in-Cited.new.list)
+    (ap (variables_of claims place) whole) (omega (arith, size)) is
+    (subst (λ (ds : List Derivation). PutsDerivations (derivations ds) c.args.stack.now.items c.put_derivations-in-Cited.new.stack.items) c.deref-in-Cited-2.ensures.value put)) c.put_derivations-in-Cited.ensures
