@@ -6,13 +6,18 @@ use Rattle.mm_text.specs.Bytes.{Token}
 use Rattle.mm_frame.specs.Proofs.{ProofTree, postorder, all_postorder}
 use Rattle.ml_kernel.specs.ProofRows.{Instance}
 use Rattle.mm_proof.specs.Tokens.{Naming}
-use Rattle.mm_proof.specs.Trees.{trees_of, instance_tree, premise_trees, row_tree, rule_label}
+use Rattle.mm_proof.specs.Trees.{trees_of, cite, instance_tree, premise_trees, row_tree, rule_label}
 use Rattle.mm_proof.specs.Labels.{own_labels}
 use Rattle.mm_proof.specs.RowLabels.{all_labels, instance_labels, trees_before, trees_behind}
 
 all_postorder-of : (trees : List ProofTree) → all_postorder (trees_of trees) ≡ all_labels trees
 all_postorder-of [] = refl
 all_postorder-of (t ∷ trees) = ap (λ (ts : List Token). postorder t ++ ts) (all_postorder-of trees)
+
+-- the labels of trees under a label, where some of them stand in front of the others
+pub cite_labels : (label : Token) (front trees : List ProofTree) → postorder (cite label (front ++ trees)) ≡ all_labels front ++ (all_labels trees ++ label ∷ [])
+cite_labels label front trees =
+    ap (λ (ts : List Token). ts ++ label ∷ []) (all_postorder-of (front ++ trees) ∙ flat_map-append postorder front trees) ∙ append_assoc (all_labels front) (all_labels trees) (label ∷ [])
 
 labels_of-instances : (k : ℕ) (is : List Instance) (trees : List ProofTree) → all_labels (map (instance_tree (own_labels k)) is ++ trees) ≡ instance_labels k is ++ all_labels trees
 labels_of-instances k [] trees = refl

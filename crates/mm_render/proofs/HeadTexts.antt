@@ -1,18 +1,13 @@
 -- The head of a block as it is written, one statement behind the other.
 use Rattle.std.proofs.Common.{◌≡◌, ℕ, ◌+◌, List, [], ◌∷◌, ◌++◌, length, refl, ap, ◌∙◌, sym, arith, append_assoc}
-use Rattle.std.specs.Prelude.{codes, map, filter, flat_map, not}
+use Rattle.std.specs.Prelude.{map, filter, flat_map, not}
 use Rattle.std.proofs.lemmas.Grind.{flat_map-append}
 use Rattle.mm_text.specs.Bytes.{Token}
 use Rattle.mm_text.specs.TextLaws.{written}
-use Rattle.mm_frame.specs.Proofs.{postorder}
-use Rattle.mm_frame.specs.FrameLaws.{written_statements, proof_tokens}
+use Rattle.mm_frame.specs.FrameLaws.{written_statements}
 use Rattle.ml_pat.specs.Patterns.{Pattern}
-use Rattle.mm_proof.specs.Labels.{statement_label}
-use Rattle.mm_proof.specs.Tokens.{tokens_of}
-use Rattle.mm_render.specs.TheoremText.{TheoremBlockText}
-use Rattle.mm_proof.proofs.WrittenTogether.{theorem_text}
 use Rattle.mm_render.specs.Variables.{Variable, object_variable, pattern_variable, is_object, variable_token, variable_tokens, object_tokens, are_several}
-use Rattle.mm_render.specs.Blocks.{head_statements, variable_statements, separations, separation_statements, premise_statements}
+use Rattle.mm_render.specs.Blocks.{variable_statements, separations, separation_statements, premise_statements}
 use Rattle.mm_render.specs.declared.variables.Variable as code
 use Rattle.mm_render.specs.VariablesView.{plain_variables, variable_of}
 use Rattle.mm_render.specs.HeadText.{separation, pattern_separations}
@@ -43,13 +38,6 @@ pub object_tokens-push : (vs : List Variable) (v : Variable) → object_tokens (
 object_tokens-push [] v = refl
 object_tokens-push (object_variable x ∷ vs) v = ap (λ (ts : List Token). variable_token (object_variable x) ∷ ts) (object_tokens-push vs v)
 object_tokens-push (pattern_variable i ∷ vs) v = object_tokens-push vs v
-
-pub pattern_separations-push : (objects : List Token) (vs : List Variable) (v : Variable) → pattern_separations objects (vs ++ v ∷ []) ≡ pattern_separations objects vs ++ pattern_separations objects (v ∷ [])
-pattern_separations-push objects [] v = refl
-pattern_separations-push objects (object_variable x ∷ vs) v = pattern_separations-push objects vs v
-pattern_separations-push objects (pattern_variable i ∷ vs) v =
-    let first : List (List Token) = separation (objects ++ variable_token (pattern_variable i) ∷ []) in
-    ap (λ (sts : List (List Token)). first ++ sts) (pattern_separations-push objects vs v) ∙ sym (append_assoc first (pattern_separations objects vs) (pattern_separations objects (v ∷ [])))
 
 -- the `$d`s, of the object variables and then of each pattern variable
 
@@ -87,19 +75,3 @@ pub separations_written : (start a b : List ℕ) (vs : List Variable) (ts : List
 separations_written start a b vs ts are first second =
     more_written start a b (separation ts) (pattern_separations ts vs) (separation_statements (separations vs)) first second
     (separations-split vs ∙ ap (λ (us : List Token). separation us ++ pattern_separations us vs) (sym are))
-
--- the block of a theorem in three parts
-pub theorem_block_text : TheoremBlockText
-theorem_block_text names k s more tree =
-    let h : List (List Token) = head_statements names k (s.variables ++ more) s.hypotheses in
-    let opened : List ℕ = written (codes "${" ∷ []) in
-    let closed : List ℕ = written_statements ((codes "$}" ∷ []) ∷ []) in
-    let text : List Token = tokens_of names s.conclusion in
-    let front : List ℕ = written (statement_label k ∷ (codes "$p" ∷ (codes "|-" ∷ (text ++ codes "$=" ∷ [])))) in
-    let proof : List Token = postorder tree in
-    let theorem : List Token = proof_tokens (statement_label k ∷ []) (codes "|-" ∷ text) proof in
-    ap (λ (t : List ℕ). opened ++ t) (flat_map-append written (h ++ theorem ∷ []) ((codes "$}" ∷ []) ∷ []) ∙ ap (λ (t : List ℕ). t ++ closed) (flat_map-append written h (theorem ∷ [])))
-    ∙ sym (append_assoc opened (written_statements h ++ written_statements (theorem ∷ [])) closed)
-    ∙ ap (λ (t : List ℕ). t ++ closed) (sym (append_assoc opened (written_statements h) (written_statements (theorem ∷ []))) ∙ sym (theorem_text (opened ++ written_statements h) (statement_label k) text proof))
-    ∙ append_assoc (((opened ++ written_statements h) ++ front) ++ written proof) (written (codes "$." ∷ [])) closed
-    ∙ append_assoc ((opened ++ written_statements h) ++ front) (written proof) (written (codes "$." ∷ []) ++ closed)

@@ -1,21 +1,25 @@
 -- Parts on a stack.
-use Rattle.std.proofs.Common.{◌≡◌, ℕ, ◌+◌, ◌*◌, ◌<◌, ◌≤◌, List, [], ◌∷◌, ◌++◌, refl, ap, ◌∙◌, sym, append_assoc, append-nil, arith}
+use Rattle.std.proofs.Common.{◌≡◌, ℕ, ◌+◌, ◌*◌, ◌<◌, ◌≤◌, List, [], ◌∷◌, ◌++◌, map, refl, ap, ◌∙◌, sym, append_assoc, append-nil, arith}
 use Rattle.std.specs.Borrow.{Bor}
 use Rattle.mm_text.specs.Bytes.{Token}
 use Rattle.mm_text.specs.TextLaws.{written}
 use Rattle.mm_frame.specs.Proofs.{postorder}
 use Rattle.ml_pat.specs.Patterns.{Pattern}
 use Rattle.ml_kernel.specs.ProofRows.{Instance}
-use Rattle.ml_kernel.specs.Theorems.{Derivation, Derivations, row}
+use Rattle.ml_kernel.specs.Theorems.{Derivation, Derivations, own_axiom, row, cited, no_derivation, derivations}
 use Rattle.ml_kernel.specs.StepsIn.{steps_in, all_steps}
-use Rattle.mm_proof.specs.Trees.{fresh_tree, pattern_at, variable_at}
-use Rattle.mm_proof.specs.Labels.{own_labels}
+use Rattle.mm_proof.specs.Trees.{cite, fresh_tree, pattern_at, variable_at}
+use Rattle.mm_proof.specs.Labels.{own_labels, statement_label}
 use Rattle.mm_proof.specs.RowLabels.{all_labels, instance_labels, trees_before, trees_behind}
-use Rattle.mm_render.specs.Parts.{part_tokens, parts_tokens, part_weight, parts_weight, proof_of, PutsParts, PartIsTaken, rest_of_row}
+use Rattle.mm_render.specs.Variables.{Variable}
+use Rattle.mm_render.specs.Blocks.{Claim}
+use Rattle.mm_render.specs.CitedAt.{variable_tree, claim_at, claims_citing}
+use Rattle.mm_render.specs.Parts.{part_tokens, parts_tokens, part_weight, parts_weight, proof_of, proofs_of, PutsParts, PartIsTaken, rest_of_citation, rest_of_row, value_labels}
 use Rattle.mm_proof.specs.Derivations.{Citing, derivation_trees}
-use Rattle.mm_proof.proofs.RowLabelLaws.{row_labels}
+use Rattle.mm_proof.proofs.RowLabelLaws.{cite_labels, row_labels}
 use Rattle.mm_proof.proofs.WrittenTogether.{written-append}
 use Rattle.ml_pat.specs.declared.numbers.VarNo.{VarNo}
+use Rattle.mm_proof.specs.declared.words.Word.TheVariants as word
 use Rattle.mm_proof.specs.declared.works.Work.TheVariants as work
 use Rattle.mm_render.specs.declared.derivations.Part.{Part}
 use Rattle.mm_render.specs.declared.derivations.Part.TheVariants as part
@@ -74,6 +78,19 @@ part_smaller names k s p before popped new text text' is taken =
     let e : parts_weight before ≡ parts_weight popped + part_weight p = ap parts_weight is ∙ parts_weight-push popped p in
     omega (arith, e, taken.weight)
 
+-- more tokens are written
+pub more_labels : (start text text' : List ℕ) (old new all : List Token) → text ≡ start ++ written old → text' ≡ text ++ written new → all ≡ old ++ new → text' ≡ start ++ written all
+more_labels start text text' old new all before added is =
+    added ∙ ap (λ (t : List ℕ). t ++ written new) before ∙ append_assoc start (written old) (written new) ∙ ap (λ (t : List ℕ). start ++ t) (sym (written-append old new) ∙ ap written (sym is))
+
+-- the first tokens of a part are written, and what writes the others is on the stack
+first_taken : (names : List Token) (k : ℕ) (s : Citing) (p : Part) (old new : List Part) (text text' : List ℕ) (first rest : List Token) → part_tokens names k s p ≡ first ++ rest → text' ≡ text ++ written first
+    → parts_tokens names k s new ≡ rest ++ parts_tokens names k s old → text' ++ written (parts_tokens names k s new) ≡ text ++ written (part_tokens names k s p ++ parts_tokens names k s old)
+first_taken names k s p old new text text' first rest labels put left =
+    let o : List Token = parts_tokens names k s old in
+    ap (λ (t : List ℕ). t ++ written (parts_tokens names k s new)) put ∙ ap (λ (ts : List Token). (text ++ written first) ++ written ts) left ∙ append_assoc text (written first) (written (rest ++ o))
+    ∙ ap (λ (t : List ℕ). text ++ t) (sym (written-append first (rest ++ o)) ∙ ap written (sym (append_assoc first rest o) ∙ ap (λ (ts : List Token). ts ++ o) (sym labels)))
+
 -- a rule is taken apart
 pub row_taken : (names : List Token) (k : ℕ) (s : Citing) (p : Part) (d : Bor Derivation) (n : ℕ) (is : List Instance) (ds : Derivations) (old new : List Part) (text text' text'' : List ℕ) → p ≡ part.Derived d → d.now ≡ row n is ds
     → text' ≡ text ++ written (instance_labels k is) → text'' ≡ text' ++ written (all_labels (trees_before (own_labels k) n is)) → PutsParts (λ names k s. rest_of_row k s n is ds) (3 * all_steps ds + 2) old new → PartIsTaken names k s p old new text text''
@@ -81,16 +98,55 @@ row_taken names k s p d n is ds old new text text' text'' taken whole first seco
     let i : List Token = instance_labels k is in
     let b : List Token = all_labels (trees_before (own_labels k) n is) in
     let r : List Token = rest_of_row k s n is ds in
-    let o : List Token = parts_tokens names k s old in
-    let labels : part_tokens names k s p ≡ i ++ (b ++ r) = ap (part_tokens names k s) taken ∙ ap (proof_of k s) whole ∙ row_labels k n is (derivation_trees (own_labels k) s ds) in
+    let labels : part_tokens names k s p ≡ (i ++ b) ++ r = ap (part_tokens names k s) taken ∙ ap (proof_of k s) whole ∙ row_labels k n is (derivation_trees (own_labels k) s ds) ∙ sym (append_assoc i b r) in
     let light : part_weight p ≡ 3 * steps_in (row n is ds) = ap part_weight taken ∙ ap (λ (e : Derivation). 3 * steps_in e) whole in
     record {
-      tokens =
-          ap (λ (t : List ℕ). t ++ written (parts_tokens names k s new)) (second ∙ ap (λ (t : List ℕ). t ++ written b) first)
-          ∙ ap (λ (ts : List Token). ((text ++ written i) ++ written b) ++ written ts) (puts.tokens names k s)
-          ∙ append_assoc (text ++ written i) (written b) (written (r ++ o)) ∙ append_assoc text (written i) (written b ++ written (r ++ o))
-          ∙ ap (λ (t : List ℕ). text ++ (written i ++ t)) (sym (written-append b (r ++ o))) ∙ ap (λ (t : List ℕ). text ++ t) (sym (written-append i (b ++ (r ++ o))))
-          ∙ ap (λ (ts : List Token). text ++ written (i ++ ts)) (sym (append_assoc b r o)) ∙ ap (λ (ts : List Token). text ++ written ts) (sym (append_assoc i (b ++ r) o))
-          ∙ ap (λ (ts : List Token). text ++ written (ts ++ o)) (sym labels);
+      tokens = first_taken names k s p old new text text'' (i ++ b) r labels (more_labels text text' text'' i b (i ++ b) first second refl) (puts.tokens names k s);
       weight = omega (arith, puts.weight, light);
     }
+
+-- a citation of the statement with a number is taken apart
+citation_taken : (names : List Token) (k : ℕ) (s : Citing) (p : Part) (d : Bor Derivation) (e : Derivation) (i : ℕ) (ms : List Pattern) (vs : List Variable) (ds : Derivations) (old new : List Part) (text text' : List ℕ) → p ≡ part.Derived d → d.now ≡ e
+    → proof_of k s e ≡ postorder (cite (statement_label i) (map (variable_tree (own_labels k) ms) vs ++ derivation_trees (own_labels k) s ds)) → 3 * all_steps ds + 1 < 3 * steps_in e
+    → text' ≡ text ++ written (value_labels k ms vs) → PutsParts (λ names k s. rest_of_citation k s i ds) (3 * all_steps ds + 1) old new → PartIsTaken names k s p old new text text'
+citation_taken names k s p d e i ms vs ds old new text text' taken whole cites heavy values puts =
+    let labels : part_tokens names k s p ≡ value_labels k ms vs ++ rest_of_citation k s i ds =
+    ap (part_tokens names k s) taken ∙ ap (proof_of k s) whole ∙ cites ∙ cite_labels (statement_label i) (map (variable_tree (own_labels k) ms) vs) (derivation_trees (own_labels k) s ds) in
+    let light : part_weight p ≡ 3 * steps_in e = ap part_weight taken ∙ ap (λ (c : Derivation). 3 * steps_in c) whole in
+    record {
+      tokens = first_taken names k s p old new text text' (value_labels k ms vs) (rest_of_citation k s i ds) labels values (puts.tokens names k s);
+      weight = omega (arith, puts.weight, light, heavy);
+    }
+
+-- an axiom
+pub fact_taken : (names : List Token) (k : ℕ) (claims : List Claim) (place : List Pattern → Pattern → ℕ) (premise_place : Pattern → ℕ) (p : Part) (d : Bor Derivation) (n : ℕ) (q : Pattern) (old new : List Part) (text text' : List ℕ)
+    → p ≡ part.Derived d → d.now ≡ own_axiom n q → text' ≡ text ++ written (value_labels k [] (claim_at claims (place [] q)).variables) → PutsParts (λ names k s. rest_of_citation k s (place [] q) no_derivation) 1 old new
+    → PartIsTaken names k (claims_citing k claims place premise_place) p old new text text'
+fact_taken names k claims place premise_place p d n q old new text text' taken whole values puts =
+    citation_taken names k (claims_citing k claims place premise_place) p d (own_axiom n q) (place [] q) [] (claim_at claims (place [] q)).variables no_derivation old new text text' taken whole refl (omega arith) values puts
+
+-- a lemma
+pub lemma_taken : (names : List Token) (k : ℕ) (claims : List Claim) (place : List Pattern → Pattern → ℕ) (premise_place : Pattern → ℕ) (p : Part) (d : Bor Derivation) (e : Derivation) (own own' : List Pattern) (q q' : Pattern) (ms ms' : List Pattern) (ds ds' : List Derivation)
+    (old new : List Part) (text text' : List ℕ) → p ≡ part.Derived d → d.now ≡ cited own q e ms (derivations ds) → own' ≡ own → q' ≡ q → ms' ≡ ms → ds' ≡ ds
+    → text' ≡ text ++ written (value_labels k ms' (claim_at claims (place own' q')).variables) → PutsParts (λ names k s. rest_of_citation k s (place own' q') (derivations ds')) (3 * all_steps (derivations ds') + 1) old new
+    → PartIsTaken names k (claims_citing k claims place premise_place) p old new text text'
+lemma_taken names k claims place premise_place p d e own own' q q' ms ms' ds ds' old new text text' taken whole hypotheses conclusion patterns parts values puts =
+    let same : d.now ≡ cited own' q' e ms' (derivations ds') =
+    whole ∙ ap (λ (ps : List Pattern). cited ps q e ms (derivations ds)) (sym hypotheses) ∙ ap (λ (r : Pattern). cited own' r e ms (derivations ds)) (sym conclusion)
+    ∙ ap (λ (ps : List Pattern). cited own' q' e ps (derivations ds)) (sym patterns) ∙ ap (λ (es : List Derivation). cited own' q' e ms' (derivations es)) (sym parts) in
+    citation_taken names k (claims_citing k claims place premise_place) p d (cited own' q' e ms' (derivations ds')) (place own' q') ms' (claim_at claims (place own' q')).variables (derivations ds') old new text text' taken same refl (omega arith) values puts
+
+-- what stands for one variable more
+pub value_labels-push : (k : ℕ) (ms : List Pattern) (vs : List Variable) (v : Variable) → value_labels k ms (vs ++ v ∷ []) ≡ value_labels k ms vs ++ value_labels k ms (v ∷ [])
+value_labels-push k ms [] v = refl
+value_labels-push k ms (u ∷ vs) v =
+    let first : List Token = postorder (variable_tree (own_labels k) ms u) in
+    ap (λ (ts : List Token). first ++ ts) (value_labels-push k ms vs v) ∙ sym (append_assoc first (value_labels k ms vs) (value_labels k ms (v ∷ [])))
+
+-- what is left of a citation
+pub put_citation : (i j : ℕ) (ds : Derivations) (old mid new : List Part) → i ≡ j → mid ≡ old ++ part.Plain (work.One (word.Stated i)) ∷ [] → PutsParts (λ names k s. proofs_of k s ds) (3 * all_steps ds) mid new
+    → PutsParts (λ names k s. rest_of_citation k s j ds) (3 * all_steps ds + 1) old new
+put_citation i j ds old mid new place pushed above =
+    parts_front (λ names k s. statement_label j ∷ []) (λ names k s. proofs_of k s ds) (λ names k s. rest_of_citation k s j ds) 1 (3 * all_steps ds) (3 * all_steps ds + 1) old mid new
+    (part_one (λ names k s. statement_label j ∷ []) 1 (part.Plain (work.One (word.Stated i))) old mid pushed (λ names k s. ap (λ (n : ℕ). statement_label n ∷ []) (sym place)) (omega arith))
+    above (λ names k s. refl) (omega arith)
