@@ -1,9 +1,9 @@
 -- Statements that are written one behind the other.
 use Rattle.std.proofs.Common.{◌≡◌, ℕ, List, [], ◌∷◌, ◌++◌, zero, suc, refl, ap, ◌∙◌, sym, append_assoc, append-nil, slice_get}
-use Rattle.std.specs.Prelude.{unwrap_or, slice_index_or, codes}
+use Rattle.std.specs.Prelude.{unwrap_or, slice_index_or}
 use Rattle.mm_text.specs.Bytes.{Token}
 use Rattle.mm_text.specs.TextLaws.{white_behind, written}
-use Rattle.mm_frame.specs.FrameLaws.{written_statements, proof_tokens}
+use Rattle.mm_frame.specs.FrameLaws.{written_statements}
 
 pub written-append : (xs ys : List Token) → written (xs ++ ys) ≡ written xs ++ written ys
 written-append [] ys = refl
@@ -16,14 +16,3 @@ pub unwrap-get : (names : List Token) (i : ℕ) → unwrap_or (slice_get names i
 unwrap-get [] i = refl
 unwrap-get (t ∷ names) zero = refl
 unwrap-get (t ∷ names) (suc i) = unwrap-get names i
-
--- a theorem is written in three parts
-pub theorem_text : (start : List ℕ) (label : Token) (text proof : List Token)
-    → ((start ++ written (label ∷ (codes "$p" ∷ (codes "|-" ∷ (text ++ codes "$=" ∷ []))))) ++ written proof) ++ written (codes "$." ∷ []) ≡ start ++ written_statements (proof_tokens (label ∷ []) (codes "|-" ∷ text) proof ∷ [])
-theorem_text start label text proof =
-    let front : List Token = label ∷ (codes "$p" ∷ (codes "|-" ∷ (text ++ codes "$=" ∷ []))) in
-    append_assoc (start ++ written front) (written proof) (written (codes "$." ∷ []))
-    ∙ ap (λ (t : List ℕ). (start ++ written front) ++ t) (sym (written-append proof (codes "$." ∷ [])))
-    ∙ append_assoc start (written front) (written (proof ++ codes "$." ∷ []))
-    ∙ ap (λ (t : List ℕ). start ++ t) (sym (written-append front (proof ++ codes "$." ∷ [])) ∙ ap (λ (ts : List Token). written (label ∷ (codes "$p" ∷ (codes "|-" ∷ ts)))) (append_assoc text (codes "$=" ∷ []) (proof ++ codes "$." ∷ [])))
-    ∙ ap (λ (t : List ℕ). start ++ t) (sym (append-nil (written (proof_tokens (label ∷ []) (codes "|-" ∷ text) proof))))
