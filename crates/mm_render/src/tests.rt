@@ -1,6 +1,5 @@
 // Worked examples, written by hand.
-ghost use Rattle.std.specs.Prelude.{◌≡◌, ◌<◌, [], ◌∷◌, IfOk, length};
-ghost use Rattle.ml_pat.specs.Patterns.{imp, meta, next, var};
+ghost use Rattle.std.specs.Prelude.{◌≡◌, ◌<◌, IfOk, length};
 
 use crate::renderer::Renderer;
 use ml_kernel::{AxiomNo, Lemma, Theory, Thm};
@@ -156,67 +155,6 @@ fn writes_which_variables_stay_apart(rt: HostRuntime) -> Result<(), Fail> {
     assert_eq!(rt;
         text.as_slice(),
         b"${\n$v x:5 $.\nx.0.5 $f #Var x:5 $.\n$v x:2 $.\nx.0.2 $f #Var x:2 $.\n$v m:1 $.\nm.0.1 $f #Pattern m:1 $.\n$v m:0 $.\nm.0.0 $f #Pattern m:0 $.\n$d x:5 x:2 $.\n$d x:5 x:2 m:1 $.\n$d x:5 x:2 m:0 $.\nt.0 $p |- ( \\imp ( \\all x:5 s:S ( \\imp x:2 m:1 ) ) ( \\imp m:0 ( \\all x:5 s:S ( \\imp x:2 m:1 ) ) ) ) $= x.0.2 w.var m.0.1 w.imp x.0.5 n.0 w.all m.0.0 p.1 $.\n$}\n".as_slice()
-    );
-    Ok(())
-}
-
-// Where x leads to m, each predecessor of x leads to one of m: a lemma with two variables and a hypothesis.
-pub(crate) fn next_lemma(alloc: Global) -> Result<Lemma, AllocError>
-    ensures hypotheses { IfOk result (λ lemma. lemma.hypotheses ≡ imp (var 0) (meta 0) ∷ []) }
-    ensures conclusion { IfOk result (λ lemma. lemma.conclusion ≡ imp (next (var 0)) (next (meta 0))) }
-{
-    let x = MPat::var(alloc, VarNo(0))?;
-    let m = MPat::meta(alloc, 0)?;
-    let leads = Thm::assume(alloc, MPat::imp(alloc, &x, &m)?)?;
-    Lemma::close(Thm::next_in(alloc, &leads, &x, &m)?)
-}
-
-// The same for the symbol a in the place of m, by that lemma.
-pub(crate) fn next_of_a(alloc: Global, lemma: &Lemma) -> Result<Lemma, AllocError>
-    requires hypotheses { lemma.now.hypotheses ≡ imp (var 0) (meta 0) ∷ [] }
-    requires conclusion { lemma.now.conclusion ≡ imp (next (var 0)) (next (meta 0)) }
-{
-    let x = MPat::var(alloc, VarNo(0))?;
-    let a = MPat::constant(alloc, ConstNo(1))?;
-    let leads = Thm::assume(alloc, MPat::imp(alloc, &x, &a)?)?;
-    let patterns = vec![in alloc; a]?;
-    let proofs = vec![in alloc; leads]?;
-    Lemma::close(Thm::use_lemma(alloc, lemma, &patterns, &proofs)?)
-}
-
-// That everything holds, by way of a pattern with a variable that does not stand in it.
-pub(crate) fn everything(alloc: Global) -> Result<Lemma, AllocError> {
-    let m = MPat::meta(alloc, 3)?;
-    let top = MPat::top(alloc)?;
-    let way = MPat::imp(alloc, &m, &MPat::imp(alloc, &m, &m)?)?;
-    let onward = MPat::imp(alloc, &way, &top)?;
-    let first = Thm::p_1(alloc, &m, &m)?;
-    let second = Thm::mp(
-        alloc,
-        &Thm::top(alloc)?,
-        &Thm::p_1(alloc, &top, &way)?,
-        &top,
-        &onward,
-    )?;
-    Lemma::close(Thm::mp(alloc, &first, &second, &way, &top)?)
-}
-
-// A lemma with a hypothesis, a lemma that cites it, and one whose proof has a variable that it has not itself: behind the header and
-// the names stand, byte for byte, the blocks of `specs/RenderedCases`, of which the definitions say that they have no fault.
-#[test]
-fn writes_the_blocks_that_were_judged(rt: HostRuntime) -> Result<(), Fail> {
-    let alloc = rt.alloc();
-    let names = three_names(alloc)?;
-    let next = next_lemma(alloc)?;
-    let cited = next_of_a(alloc, &next)?;
-    let mut renderer = Renderer::new(alloc);
-    let mut text = Vec::new(alloc);
-    renderer.lemma(&names, &next, &mut text)?;
-    renderer.lemma(&names, &cited, &mut text)?;
-    renderer.lemma(&names, &everything(alloc)?, &mut text)?;
-    assert_eq!(rt;
-        text.as_slice(),
-        b"${\n$v x:0 $.\nx.0.0 $f #Var x:0 $.\n$v m:0 $.\nm.0.0 $f #Pattern m:0 $.\n$d x:0 m:0 $.\ne.0.0 $e |- ( \\imp x:0 m:0 ) $.\nt.0 $p |- ( \\imp ( \\next x:0 ) ( \\next m:0 ) ) $= x.0.0 w.var m.0.0 e.0.0 next.in $.\n$}\n${\n$v x:0 $.\nx.1.0 $f #Var x:0 $.\ne.1.0 $e |- ( \\imp x:0 f:a ) $.\nt.1 $p |- ( \\imp ( \\next x:0 ) ( \\next f:a ) ) $= x.1.0 n.1 e.1.0 t.0 $.\n$}\n${\n$v m:3 $.\nm.2.3 $f #Pattern m:3 $.\nt.2 $p |- \\top $= m.2.3 m.2.3 m.2.3 w.imp w.imp w.top m.2.3 m.2.3 p.1 w.top m.2.3 m.2.3 m.2.3 w.imp w.imp w.top w.imp top w.top m.2.3 m.2.3 m.2.3 w.imp w.imp p.1 mp mp $.\n$}\n".as_slice()
     );
     Ok(())
 }

@@ -1,0 +1,37 @@
+// Prints a database of lemmas: one with variables and a hypothesis, one that cites it, and one that has a variable in its proof
+// alone. So other Metamath verifiers can be run over it.
+#![tactic(auto)]
+
+mod lemmas;
+
+use crate::lemmas::{everything, next_lemma, next_of_a};
+use ml_pat::Names;
+use mm_render::Renderer;
+use std::alloc::{AllocError, Global};
+use std::io;
+use std::io::Write;
+
+fn main(rt: HostRuntime) -> io::Result<()> {
+    let text = database(rt.alloc())?;
+    rt.stdout().write_all(&text)
+}
+
+// The header, three names and the lemmas.
+fn database(alloc: Global) -> Result<Vec<u8>, AllocError> {
+    let mut names = Names::new(alloc);
+    names.number("s:S")?;
+    names.number("f:a")?;
+    names.number("f:f")?;
+    let next = next_lemma(alloc)?;
+    let mut renderer = Renderer::new(alloc);
+    let mut text = Vec::new(alloc);
+    renderer.begin(&mut text)?;
+    renderer.declare(&names, &mut text)?;
+    renderer.lemma(&names, &next, &mut text)?;
+    renderer.lemma(&names, &next_of_a(alloc, &next)?, &mut text)?;
+    renderer.lemma(&names, &everything(alloc)?, &mut text)?;
+    Ok(text)
+}
+
+#[cfg(test)]
+mod tests;

@@ -1,0 +1,17 @@
+// What is printed, written by hand.
+use crate::database;
+use std::test::Fail;
+
+// Behind the header stand, byte for byte, the names and the blocks of `RenderedCases` of `mm_render`, of which the definitions say
+// that they have no fault.
+#[test]
+fn prints_the_blocks_that_were_judged(rt: HostRuntime) -> Result<(), Fail> {
+    let text = database(rt.alloc())?;
+    assert_eq!(rt;
+        text.get(5968..),
+        Some(
+            b"$c s:S $.\nn.0 $a #Sort s:S $.\n$c f:a $.\nn.1 $a #Pattern f:a $.\n$c f:f $.\nn.2 $a #Pattern f:f $.\n${\n$v x:0 $.\nx.0.0 $f #Var x:0 $.\n$v m:0 $.\nm.0.0 $f #Pattern m:0 $.\n$d x:0 m:0 $.\ne.0.0 $e |- ( \\imp x:0 m:0 ) $.\nt.0 $p |- ( \\imp ( \\next x:0 ) ( \\next m:0 ) ) $= x.0.0 w.var m.0.0 e.0.0 next.in $.\n$}\n${\n$v x:0 $.\nx.1.0 $f #Var x:0 $.\ne.1.0 $e |- ( \\imp x:0 f:a ) $.\nt.1 $p |- ( \\imp ( \\next x:0 ) ( \\next f:a ) ) $= x.1.0 n.1 e.1.0 t.0 $.\n$}\n${\n$v m:3 $.\nm.2.3 $f #Pattern m:3 $.\nt.2 $p |- \\top $= m.2.3 m.2.3 m.2.3 w.imp w.imp w.top m.2.3 m.2.3 p.1 w.top m.2.3 m.2.3 m.2.3 w.imp w.imp w.top w.imp top w.top m.2.3 m.2.3 m.2.3 w.imp w.imp p.1 mp mp $.\n$}\n".as_slice()
+        )
+    );
+    Ok(())
+}
