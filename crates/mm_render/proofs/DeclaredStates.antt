@@ -1,5 +1,5 @@
 -- What declarations state: that each name is of its type, and nothing else.
-use Rattle.std.proofs.Common.{◌≡◌, ℕ, ◌+◌, ◌<◌, ◌^◌, Bool, true, false, List, [], ◌∷◌, ◌++◌, length, take, drop, refl, ap, ◌∙◌, sym, subst, arith, append_assoc, append-nil, length-append, Option, Some}
+use Rattle.std.proofs.Common.{◌≡◌, ℕ, ◌+◌, ◌<◌, ◌^◌, Bool, true, false, List, [], ◌∷◌, ◌++◌, length, take, drop, refl, ap, ◌∙◌, sym, subst, arith, append_assoc, length-append, Option, Some}
 use Rattle.std.specs.Prelude.{not}
 use Rattle.std.specs.List.{list_all}
 use Rattle.std.proofs.lemmas.Bool.{false≢true}
@@ -14,14 +14,14 @@ use Rattle.mm_frame.specs.Assertions.{Assertion, assertions_in, assertions_of, f
 use Rattle.mm_frame.specs.FrameLaws.{Adds, plain_tokens, written_statements}
 use Rattle.mm_frame.proofs.WrittenForms.{plain_tokens_say}
 use Rattle.mm_frame.proofs.Stated.{appended_states}
-use Rattle.ml_pat.specs.Patterns.{Pattern}
 use Rattle.ml_pat.specs.Named.{AreDistinct, IsNoneOf}
 use Rattle.rule_core.specs.declared.rules.Program.{Program}
 use Rattle.ml_image.specs.Gained.{AreOwnTokens}
 use Rattle.mm_proof.specs.Labels.{name_label}
 use Rattle.mm_render.specs.Statements.{typecode_of, all_name_statements}
 use Rattle.mm_render.specs.Fitting.{AreNames, name_frame, Holds}
-use Rattle.mm_render.specs.Stating.{FitsStated}
+use Rattle.mm_render.specs.Blocks.{Claim}
+use Rattle.mm_render.specs.Claiming.{FitsClaims}
 use Rattle.mm_render.specs.Keeping.{FitsWhen}
 use Rattle.mm_render.specs.Justifying.{declaration, AreAllowed, HasOnlyAxiomsOf}
 use Rattle.mm_render.specs.JustifyingLaws.{DeclaredHasOnly}
@@ -103,16 +103,16 @@ names_allowed program i [] own = tt
 names_allowed program i (t ∷ ts) own = (λ is. declaration t own.0 (record { no_hypotheses = refl; statement = refl }), names_allowed program (i + 1) ts own.1)
 
 -- behind a text
-pub declared_behind : (program : Program) (done more : List Token) (stated : List Pattern) (bytes : List ℕ) → FitsStated done stated bytes → AreNames (done ++ more) → AreDistinct (done ++ more) → length (done ++ more) < 2 ^ 64
+pub declared_behind : (program : Program) (done more : List Token) (claims : List Claim) (bytes : List ℕ) → FitsClaims done claims bytes → AreNames (done ++ more) → AreDistinct (done ++ more) → length (done ++ more) < 2 ^ 64
     → AreOwnTokens program.sig more → HasOnlyAxiomsOf program bytes → HasOnlyAxiomsOf program (bytes ++ written_statements (all_name_statements (length done) more))
-declared_behind program done more stated bytes (c, leaves, w) names distinct few own only =
+declared_behind program done more claims bytes (c, leaves, w) names distinct few own only =
     let appended : List ℕ = written_statements (all_name_statements (length done) more) in
     let gains : (assertions_of (bytes ++ appended) ≡ assertions_of bytes ++ assertions_in c (statements_from (length bytes) appended)) × (typings_of (bytes ++ appended) ≡ typings_of bytes ++ typings_in (statements_from (length bytes) appended)) =
     appended_states bytes appended c leaves.white leaves.fine in
     let states : StatesJust c (statements_from (length bytes) appended) (name_assertions (length done) more) = declared_states done more c (length bytes) w.base leaves.closed names distinct few in
-    has_only_more program bytes appended (name_assertions (length done) more) only (names_allowed program (length done) more own)
+    has_only_more program bytes appended (name_assertions (length done) more) [] only (names_allowed program (length done) more own) tt
     (gains.0 ∙ ap (λ (others : List Assertion). assertions_of bytes ++ others) states.0)
-    (gains.1 ∙ ap (λ (hs : List Hypothesis). typings_of bytes ++ hs) states.1 ∙ append-nil (typings_of bytes))
+    (gains.1 ∙ ap (λ (hs : List Hypothesis). typings_of bytes ++ hs) states.1)
 
 pub declared_has_only : DeclaredHasOnly
 declared_has_only program names k bytes each distinct few begun within own fits only = go k.begun begun fits

@@ -2,7 +2,6 @@ pub mod NameLaws
 pub mod FittingLaws
 pub mod SpeltLaws
 pub mod StatedLaws
-pub mod NamedStatements
 pub mod KeepingLaws
 pub mod KeyLaws
 pub mod PlaceLaws

@@ -1,5 +1,5 @@
 -- Declarations behind a text that has some claims.
-use Rattle.std.proofs.Common.{◌≡◌, ℕ, ◌+◌, ◌<◌, ◌^◌, Bool, true, false, List, [], ◌∷◌, ◌++◌, length, zero, suc, map, refl, ap, ◌∙◌, sym, subst, arith, append_assoc, append-nil, length-append, Some, None, slice_get}
+use Rattle.std.proofs.Common.{◌≡◌, ℕ, ◌+◌, ◌<◌, ◌≤◌, ◌^◌, Bool, true, false, List, [], ◌∷◌, ◌++◌, length, take, drop, zero, suc, map, refl, ap, ◌∙◌, sym, subst, arith, append_assoc, append-nil, length-append, Some, None, slice_get}
 use Rattle.std.specs.Prelude.{◌||◌, if◌then◌else◌, codes, bytes_eq}
 use Rattle.std.proofs.lemmas.Slice.Eq.{bytes_eq-Decides}
 use Rattle.mm_text.specs.Bytes.{Token}
@@ -7,6 +7,7 @@ use Rattle.mm_text.specs.Labels.{is_label}
 use Rattle.mm_frame.specs.Frames.{Hypothesis, essential, Scope, Frame, frame_of}
 use Rattle.mm_frame.specs.Database.{Context}
 use Rattle.mm_frame.specs.Proofs.{hypothesis_of}
+use Rattle.mm_frame.specs.FrameLaws.{written_statements}
 use Rattle.mm_frame.proofs.Continued.{continued_leaves}
 use Rattle.mm_header.specs.HeaderContext.{header_context}
 use Rattle.ml_pat.specs.Patterns.{Pattern}
@@ -15,18 +16,22 @@ use Rattle.mm_proof.specs.Labels.{name_label, statement_label, premise_label}
 use Rattle.mm_proof.specs.Leaves.{EachLeaf}
 use Rattle.mm_proof.specs.Tokens.{own_naming}
 use Rattle.mm_proof.specs.Derivations.{holds_text}
-use Rattle.mm_render.specs.Statements.{typecode_of, all_name_statements}
+use Rattle.mm_render.specs.Statements.{IsName, typecode_of, all_name_statements}
 use Rattle.mm_render.specs.Fitting.{AreNames}
 use Rattle.mm_render.specs.Variables.{Variable, object_variable, pattern_variable, variable_token, variable_label}
 use Rattle.mm_render.specs.Blocks.{Claim, IsClaim, variable_float, premise_hypotheses, are_apart, open_frame}
 use Rattle.mm_render.specs.OverNames.{open_over, AreOpenOver}
-use Rattle.mm_render.specs.Claiming.{IsFree, AreClaims, HoldsClaims, NamesFitClaims}
+use Rattle.mm_render.specs.Claiming.{IsFree, AreClaims, HoldsClaims, FitsClaims, NamesFitClaims}
 use Rattle.mm_proof.proofs.LeafLaws.{EachLeaf-implied}
 use Rattle.mm_proof.proofs.AgreeLaws.{agreeing, text-agrees}
 use Rattle.mm_render.proofs.NameLaws.{name_label-is_label}
-use Rattle.mm_render.proofs.FittingLaws.{with_name, IsNew, name_holds, behind_names, closed_names, adds_names, none_has, AreNames-front, AreNames-next, name_of-front}
+use Rattle.mm_render.proofs.FittingLaws.{with_name, IsNew, name_holds, behind_names, closed_names, adds_names, none_has, AreNames-front, AreNames-next, name_of-front, take-drop, length-front}
 use Rattle.mm_render.proofs.StatedLaws.{both_false, either_true, second_true, name_no_active}
-use Rattle.mm_render.proofs.NamedStatements.{names_last}
+
+-- names, one more
+names_last : (done : List Token) (t : Token) → AreNames done → IsName t → AreNames (done ++ t ∷ [])
+names_last [] t h n = (n, tt)
+names_last (u ∷ done) t h n = (h.0, names_last done t h.1 n)
 
 -- more names leave what is over some
 more_leaves : (done : List Token) (t : Token) (vs : List Variable) (p : Pattern) → EachLeaf (open_over done vs) p → EachLeaf (open_over (done ++ t ∷ []) vs) p
@@ -128,3 +133,13 @@ names_fit_claims declared more claims bytes (c, leaves, w) names distinct few = 
   continued_leaves bytes c (behind_names c (length declared) more) (all_name_statements (length declared) more) leaves (adds_names declared more c (length bytes) w.base leaves.closed names distinct few) (closed_names c (length declared) more ∙ leaves.closed),
   all_named_claims declared more claims c w names distinct few,
 )
+
+-- the same for the names from a number on
+pub declared_fits_claims : (names : List Token) (n : ℕ) → AreNames names → AreDistinct names → length names < 2 ^ 64 → n ≤ length names → (claims : List Claim) (bytes : List ℕ) → FitsClaims (take n names) claims bytes
+    → FitsClaims names claims (bytes ++ written_statements (all_name_statements n (drop n names)))
+declared_fits_claims names n all distinct few within claims bytes fits =
+    let whole : take n names ++ drop n names ≡ names = take-drop n names in
+    let count : length (take n names) ≡ n = length-front n names within in
+    subst (λ (ts : List Token). FitsClaims ts claims (bytes ++ written_statements (all_name_statements n (drop n names)))) whole
+    (subst (λ (m : ℕ). FitsClaims (take n names ++ drop n names) claims (bytes ++ written_statements (all_name_statements m (drop n names)))) count
+    (names_fit_claims (take n names) (drop n names) claims bytes fits (subst AreNames (sym whole) all) (subst AreDistinct (sym whole) distinct) (subst (λ (ts : List Token). length ts < 2 ^ 64) (sym whole) few)))

@@ -1,6 +1,6 @@
 -- A block that declares the variables that a derivation needs has all that is used and cited there.
 use Rattle.std.proofs.Common.{◌≡◌, ℕ, Bool, true, false, List, [], ◌∷◌, ◌++◌, refl, ap, ◌∙◌, sym, subst, append_assoc, append-nil}
-use Rattle.std.specs.Prelude.{◌||◌, ◌&&◌, if◌then◌else◌, flat_map}
+use Rattle.std.specs.Prelude.{◌||◌, if◌then◌else◌, flat_map}
 use Rattle.std.specs.Prelude as std
 use Rattle.std.proofs.lemmas.Bool.{false≢true}
 use Rattle.mm_text.specs.Bytes.{Token}

@@ -19,19 +19,20 @@ use Rattle.rule_core.specs.declared.rules.Program.{Program}
 use Rattle.ml_image.specs.Tokens.{token_of_symbol, numbered}
 use Rattle.rule_core.specs.ProgramView.{rewrite_rule}
 use Rattle.ml_image.specs.Images.{both, image_of}
-use Rattle.mm_proof.specs.Labels.{own_labels}
 use Rattle.mm_proof.specs.Leaves.{EachLeaf}
 use Rattle.mm_proof.specs.Tokens.{name_of, own_naming}
-use Rattle.mm_proof.specs.Derivations.{holds_text, Cites, EachUsed, derivation_tree}
-use Rattle.mm_render.specs.Statements.{symbol_name, typecode_of, all_name_statements, theorem_statement}
+use Rattle.mm_proof.specs.Derivations.{holds_text}
+use Rattle.mm_render.specs.Statements.{symbol_name, typecode_of, all_name_statements}
 use Rattle.mm_render.specs.Fitting.{AreNames}
-use Rattle.mm_render.specs.Stating.{FitsStated, closed_citing, ArePlaced, stated_frame, stated_assertion}
 use Rattle.mm_render.specs.OverNames.{closed_over}
+use Rattle.mm_render.specs.Blocks.{Claim, IsClaim, open_frame, open_assertion}
+use Rattle.mm_render.specs.CitedAt.{ArePremises}
+use Rattle.mm_render.specs.Claiming.{FitsClaims, IsProvable, proved_statements, HasJust}
 use Rattle.mm_render.specs.Justifying.{IsOwnAxiom, rule_image, value_fact, header_row, declaration, own_axiom, HasOnlyAxiomsOf, Justifies}
 use Rattle.mm_render.specs.JustifyingCases.{small_text, alone, SmallJustifies, conclusion, ConclusionIsNoAxiom}
-use Rattle.mm_render.proofs.StatedLaws.{GainsJust, header_fits_stated, theorem_fits, theorem_gains_just}
-use Rattle.mm_render.proofs.NamedStatements.{names_fit_stated, stated_is_valid}
-use Rattle.mm_render.proofs.Allowing.{has_only_more}
+use Rattle.mm_render.proofs.OpenFits.{header_fits_claims, claims_are_valid, theorem_fits, theorem_is_gained}
+use Rattle.mm_render.proofs.NamedClaims.{names_fit_claims}
+use Rattle.mm_render.proofs.Allowing.{has_only_just}
 use Rattle.mm_render.proofs.DeclaredStates.{declared_behind}
 use Rattle.mm_render.proofs.HeaderStates.{header_has_only}
 
@@ -46,39 +47,42 @@ reached = imp (constant 0) (ev (constant 0))
 abbrev by_row : Derivation
 by_row = row 27 (pattern (constant 0) ∷ []) no_derivation
 
-abbrev nothing_cited : Cites
-nothing_cited = record { fact = λ p. false; lemma = λ own q. false }
+abbrev claim : Claim
+claim = record { variables = []; hypotheses = []; conclusion = reached }
 
-abbrev nowhere : Pattern → ℕ
-nowhere p = 0
+-- nothing is cited
+abbrev nowhere : List Pattern → Pattern → ℕ
+nowhere own q = 0
+
+abbrev no_premise : Pattern → ℕ
+no_premise p = 0
 
 abbrev declarations : List ℕ
 declarations = written_statements (all_name_statements 0 names)
 
 abbrev theorem : List ℕ
-theorem = written_statements (theorem_statement names 0 reached (derivation_tree (own_labels 0) (closed_citing nowhere) by_row) ∷ [])
+theorem = written_statements (proved_statements names 0 [] nowhere no_premise claim [] by_row)
 
 are_names : AreNames names
 are_names = (record { kind = symbol_name; rest = codes "a"; is = refl; bytes = refl }, tt)
 
-declared_fits : FitsStated names [] (header_bytes ++ declarations)
-declared_fits = names_fit_stated [] names [] header_bytes header_fits_stated are_names (tt, tt) (omega arith)
+declared_fits : FitsClaims names [] (header_bytes ++ declarations)
+declared_fits = names_fit_claims [] names [] header_bytes header_fits_claims are_names (tt, tt) (omega arith)
 
 closed_constant : EachLeaf (closed_over names) (constant 0)
 closed_constant = (omega arith, refl)
 
-placed : ArePlaced [] nothing_cited nowhere
-placed = record {
-  fact = λ p no. absurd (false≢true no);
-  lemma = λ own q no. absurd (false≢true no);
-  closed = λ own q no. absurd (false≢true no);
-}
+is_claim : IsClaim names claim
+is_claim = record { once = refl; numbered = tt; stand = refl; over = ((closed_constant, closed_constant), tt); few = omega arith }
 
 concludes : Concludes [] by_row reached
 concludes = ([], (ev_1 (constant 0), tt))
 
-used : EachUsed (closed_over names) by_row
-used = ((closed_constant, tt), tt)
+no_premises : ArePremises [] no_premise
+no_premises p (k, lt, is) = absurd (omega (arith, lt))
+
+provable : IsProvable names [] claim [] by_row nowhere no_premise
+provable = record { once = refl; numbered = tt; concludes = concludes; used = ((closed_constant, tt), tt); cites = tt; premises = no_premises }
 
 decimal_zero : decimal 0 ≡ codes "0"
 decimal_zero =
@@ -104,15 +108,15 @@ small_image program f there = ap (λ (o : Option Token). option_map constant (nu
 
 pub small_justifies : SmallJustifies
 small_justifies program f there =
-    let before : HasOnlyAxiomsOf program (header_bytes ++ declarations) = declared_behind program [] names [] header_bytes header_fits_stated are_names (tt, tt) (omega arith) (inr (inl (f, there)), tt) (header_has_only program) in
-    let fits : FitsStated names (reached ∷ []) ((header_bytes ++ declarations) ++ theorem) = theorem_fits names [] (header_bytes ++ declarations) reached by_row nothing_cited nowhere declared_fits (omega arith) (closed_constant, closed_constant) concludes used placed tt in
-    let gains : GainsJust (header_bytes ++ declarations) theorem (stated_assertion true names 0 reached) = theorem_gains_just names [] (header_bytes ++ declarations) reached by_row nothing_cited nowhere declared_fits (omega arith) (closed_constant, closed_constant) concludes used placed tt in
+    let before : HasOnlyAxiomsOf program (header_bytes ++ declarations) = declared_behind program [] names [] header_bytes header_fits_claims are_names (tt, tt) (omega arith) (inr (inl (f, there)), tt) (header_has_only program) in
+    let fits : FitsClaims names (claim ∷ []) ((header_bytes ++ declarations) ++ theorem) = theorem_fits names [] (header_bytes ++ declarations) claim [] by_row nowhere no_premise declared_fits (omega arith) is_claim provable in
+    let just : HasJust (header_bytes ++ declarations) theorem 0 [] (open_assertion true names 0 claim) = theorem_is_gained names [] (header_bytes ++ declarations) claim [] by_row nowhere no_premise declared_fits (omega arith) is_claim provable in
     subst (λ (bytes : List ℕ). Justifies bytes program (alone f) (alone f)) text_spelt (record {
-      valid = stated_is_valid names (reached ∷ []) ((header_bytes ++ declarations) ++ theorem) fits;
-      only = has_only_more program (header_bytes ++ declarations) theorem (stated_assertion true names 0 reached ∷ []) before (λ never. absurd (false≢true (sym never)), tt) gains.0 gains.1;
+      valid = claims_are_valid names (claim ∷ []) ((header_bytes ++ declarations) ++ theorem) fits;
+      only = has_only_just program (header_bytes ++ declarations) theorem 0 [] (open_assertion true names 0 claim) before (λ never. absurd (false≢true (sym never)), tt) just;
       before = assertions_of (header_bytes ++ declarations);
-      last = stated_frame names 0 reached;
-      assertions = gains.0;
+      last = open_frame names 0 claim;
+      assertions = just.assertions;
       no_hypotheses = refl;
       says = record {
         names = names;
