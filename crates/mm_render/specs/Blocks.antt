@@ -14,7 +14,7 @@ use Rattle.mm_proof.specs.Labels.{statement_label, premise_label}
 use Rattle.mm_proof.specs.Derivations.{holds_text}
 use Rattle.mm_render.specs.Statements.{axiom_statement, theorem_statement}
 use Rattle.mm_render.specs.OverNames.{AreOpenOver}
-use Rattle.mm_render.specs.Variables.{Variable, is_object, has_variable, are_once, AreNumbered, stands_in, variable_token, variable_label, variable_type, variable_tokens, object_tokens, are_several}
+use Rattle.mm_render.specs.Variables.{Variable, is_object, are_once, AreNumbered, stands_in, variable_token, variable_label, variable_type, variable_tokens, object_tokens, are_several}
 
 -- what an axiom or a lemma claims: its conclusion under its hypotheses, and its variables in the order in which they are typed
 pub record Claim : Type 0 where

@@ -3,12 +3,10 @@
 use Rattle.std.specs.Prelude.{◌<◌, ◌^◌, List, [], ◌∷◌, ◌++◌, length, flat_map}
 use Rattle.mm_text.specs.Bytes.{Token}
 use Rattle.ml_pat.specs.Patterns.{Pattern}
-use Rattle.mm_proof.specs.Leaves.{EachLeaf}
 use Rattle.mm_render.specs.Variables.{Variable, AreNumbered}
 use Rattle.mm_render.specs.OverNames.{AreOverNames}
 use Rattle.mm_render.specs.Blocks.{Claim, IsClaim}
 use Rattle.mm_render.specs.OpenVariables.{variables_in, other_variables}
-use Rattle.mm_render.specs.OverNames.{over_names}
 
 abbrev pub claim_variables : List Pattern → Pattern → List Variable
 claim_variables hypotheses conclusion = other_variables [] (flat_map variables_in (conclusion ∷ hypotheses))

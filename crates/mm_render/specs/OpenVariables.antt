@@ -1,15 +1,12 @@
 -- The variables that a derivation needs in its block: those that stand in what is written of it. With these it can be written
 -- behind a text that fits, where it has declared names alone besides.
-use Rattle.std.specs.Prelude.{◌≡◌, ℕ, ◌<◌, if◌then◌else◌, List, [], ◌∷◌, ◌++◌, length, flat_map, codes}
+use Rattle.std.specs.Prelude.{ℕ, if◌then◌else◌, List, [], ◌∷◌, ◌++◌, flat_map}
 use Rattle.mm_text.specs.Bytes.{Token}
 use Rattle.ml_pat.specs.Patterns.{Pattern, bot, top, imp, not, and, or, equal, member, fun, ex, all, app, at_sort, next, ev, var, meta, constant}
 use Rattle.ml_kernel.specs.Lemmas.{instance}
 use Rattle.ml_kernel.specs.ProofRows.{Instance, pattern, variable, sort}
 use Rattle.ml_kernel.specs.Theorems.{Derivation, Derivations, hypothesis, own_axiom, row, cited, no_derivation, more_derivations}
 use Rattle.ml_kernel.specs.Concluding.{Concludes}
-use Rattle.mm_proof.specs.Tokens.{name_of}
-use Rattle.mm_proof.specs.Leaves.{LeafFacts}
-use Rattle.mm_render.specs.Statements.{typecode_of}
 use Rattle.mm_proof.specs.Derivations.{EachUsed}
 use Rattle.mm_render.specs.Variables.{Variable, object_variable, pattern_variable, has_variable, AreNumbered}
 use Rattle.mm_render.specs.Blocks.{Claim, IsClaim}

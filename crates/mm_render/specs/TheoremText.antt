@@ -1,15 +1,14 @@
 -- What is written of a theorem in front of its proof: cited by the clauses of private functions alone.
-use Rattle.std.specs.Prelude.{◌≡◌, ℕ, List, [], ◌∷◌, ◌++◌, codes}
+use Rattle.std.specs.Prelude.{ℕ, List, [], ◌∷◌, ◌++◌, codes}
 use Rattle.mm_text.specs.Bytes.{Token}
 use Rattle.mm_text.specs.TextLaws.{written}
-use Rattle.mm_frame.specs.Proofs.{ProofTree, postorder}
 use Rattle.mm_frame.specs.FrameLaws.{written_statements}
 use Rattle.ml_pat.specs.Patterns.{Pattern}
 use Rattle.mm_proof.specs.Labels.{statement_label}
 use Rattle.mm_proof.specs.Tokens.{own_naming}
 use Rattle.mm_proof.specs.Derivations.{holds_text}
 use Rattle.mm_render.specs.Variables.{Variable}
-use Rattle.mm_render.specs.Blocks.{Claim, head_statements, theorem_block}
+use Rattle.mm_render.specs.Blocks.{head_statements}
 
 -- the theorem's label and statement, up to its proof
 abbrev pub statement_front : List Token → ℕ → Pattern → List ℕ
