@@ -2,18 +2,26 @@ use Rattle.std.proofs.Common.{◌≡◌, Some, ap, ◌∙◌, sym, subst}
 use Rattle.std.specs.Prelude.{slice_get}
 use Rattle.rule_core.specs.declared.rules.Program.{Program}
 use Rattle.term_core.specs.RulePatterns.{plain_pattern}
+use Rattle.ml_pat.specs.Patterns.{next}
 use Rattle.ml_kernel.specs.Theorems.{Theorem}
 use Rattle.mm_render.specs.Places.{IsStated}
 use Rattle.mm_render.specs.Justifying.{Justifies}
 use Rattle.mm_render.proofs.ImageLeaves.{image_is_closed}
 use Rattle.prove_run.proofs.ScriptLaws.{image_later}
-use Rattle.prove_run.proofs.StepLaws.{reached_no_meta, linked, may_step, step_of}
+use Rattle.prove_run.proofs.StepLaws.{reached_no_meta, image_says, linked, may_step, step_of}
 use Rattle.prove_run.proofs.proof.Proof.step.Goals as goal
 
 pub use_lemma-requires-clause-conclusion_metas : goal.use_lemma-requires-clause-conclusion_metas
 use_lemma-requires-clause-conclusion_metas c =
     let at = c.requires.applies in
     reached_no_meta c.args.self.now at.1.1.0 (plain_pattern at.0.left) at.1.1.1.has_reached
+
+pub free_of_top-requires : goal.free_of_top-requires
+free_of_top-requires c =
+    let at = c.requires.applies in
+    let reached = at.1.1.1.has_reached in
+    let says = image_says c.args.self.now.script c.rule.new.self c.args.rule c.in_ok-no.no.0 at.0 reached.to c.in_ok-image.image.conclusion c.in_ok-no.ensures.continues c.in_ok-no.ensures.stated at.1.0 reached.to_image c.in_ok-image.ensures.conclusion in
+    (reached.to, (next says.0, says.2))
 
 pub reach_step-requires : goal.reach_step-requires
 reach_step-requires c =
@@ -58,8 +66,7 @@ returns c program start r there proof =
         stated = subst (λ (t : Theorem). IsStated last.renderer.stated t.hypotheses t.conclusion) (sym same) c.in_ok-self.ensures.stated;
       };
       justifies = subst (λ (p : Program). Justifies last.text.items p start (plain_pattern r.right)) is_program
-          (c.in_ok-self.ensures.justified start (plain_pattern r.right) proof.has_reached.from step.0 from_image to_image step.1.none step.1.says
-          (
+          (c.in_ok-self.ensures.justified start (plain_pattern r.right) proof.has_reached.from step.0 from_image to_image step.1.none step.1.says (
             image_is_closed last.program.now.sig last.names start proof.has_reached.from proof.has_reached.from_ground from_image,
             image_is_closed last.program.now.sig last.names (plain_pattern r.right) step.0 (c.requires.ground r there_now).1 to_image,
           ));

@@ -25,6 +25,20 @@ index_mut-requires c =
     let within : c.args.rule < length c.args.self.now.program.now.rules.items = slice_get_within c.args.self.now.program.now.rules.items c.args.rule c.requires.there.0 c.requires.there.1.0 in
     subst (λ (n : ℕ). c.args.rule < n) (sym (c.requires.sound.places ∙ c.args.self.now.program.now.rules.ok.0)) within
 
+pub returns-clause-stated : goal.returns-clause-stated
+returns-clause-stated c =
+    let s = c.args.self.now in
+    let number = c.in_ok-no.no.0 in
+    let theory : c.add.new.self ≡ s.theory ++ c.args.image ∷ [] = c.in_ok-no.ensures.axioms in
+    let last : axiom_at c.add.new.self number ≡ c.args.image =
+    subst (λ (t : List Pattern). axiom_at t number ≡ c.args.image) (sym theory) (subst (λ (n : ℕ). axiom_at (s.theory ++ c.args.image ∷ []) n ≡ c.args.image) (sym c.in_ok-no.ensures.number) (axiom_last s.theory c.args.image)) in
+    let kept : c.axiom.new.self ≡ with_stated s.renderer (claim_of [] (axiom_at c.add.new.self number)) = c.in_ok-axiom.ensures.kept in
+    record {
+      known = subst (λ (t : List Pattern). number < length t) (sym theory) (omega (arith, c.in_ok-no.ensures.number, length-append s.theory (c.args.image ∷ [])));
+      image = λ r there. subst (λ (p : Pattern). rule_image_of s.program.now.sig s.names (rewrite_rule r) ≡ Some p) (sym last) (c.requires.image r there);
+      stated = subst (λ (k : Kept). IsStated k.stated [] (axiom_at c.add.new.self number)) (sym kept) (last_is_stated s.renderer.stated (claim_of [] (axiom_at c.add.new.self number)));
+    }
+
 pub returns-clause-sound : goal.returns-clause-sound
 returns-clause-sound c =
     let s = c.args.self.now in
@@ -54,11 +68,7 @@ returns-clause-sound c =
           (axiom_has_only s.program.now s.names s.renderer c.axiom.new.self (axiom_at c.add.new.self number) s.text.items _ ground gains own c.requires.sound.fits c.requires.sound.only);
       places = c.requires.sound.places;
       axioms = kept_set _ 0 c.args.rule c.args.rule s.axioms.items c.in_ok-no.no (omega arith)
-          (record {
-            known = subst (λ (t : List Pattern). number < length t) (sym theory) (omega (arith, c.in_ok-no.ensures.number, length-append s.theory (c.args.image ∷ [])));
-            image = λ r there. subst (λ (p : Pattern). rule_image_of s.program.now.sig s.names (rewrite_rule r) ≡ Some p) (sym last) (c.requires.image r there);
-            stated = subst (λ (k : Kept). IsStated k.stated [] (axiom_at c.add.new.self number)) (sym kept) (last_is_stated s.renderer.stated (claim_of [] (axiom_at c.add.new.self number)));
-          })
+          (returns-clause-stated c)
           (kept_stay s _
           (λ i n h.
           let same : axiom_at c.add.new.self n ≡ axiom_at s.theory n = subst (λ (t : List Pattern). axiom_at t n ≡ axiom_at s.theory n) (sym theory) (axiom_before s.theory c.args.image n h.known) in
