@@ -11,9 +11,8 @@ use Rattle.mm_render.specs.ClaimVariables.{added}
 use Rattle.mm_proof.specs.Searching.{all_forms, patterns_of}
 use Rattle.mm_render.specs.VariablesView.{HaveNumbers, stack_variables, VariablesAreTaken, PutsVariables}
 use Rattle.mm_proof.proofs.Looking.{all_forms-push}
-use Rattle.mm_render.proofs.Separations.{has_append}
-use Rattle.mm_render.proofs.OpenCitingTexts.{same_is, first_there, later_there}
-use Rattle.mm_render.proofs.OpenVariableLaws.{once_more}
+use Rattle.mm_render.proofs.OpenCitingTexts.{first_there, later_there}
+use Rattle.mm_render.proofs.VariableLaws.{has_append, once_more, same_is}
 
 added-old : (vs : List Variable) (u : Variable) (us : List Variable) → has_variable vs u ≡ true → added vs (u ∷ us) ≡ added vs us
 added-old vs u us there = rw there refl

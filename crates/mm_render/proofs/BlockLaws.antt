@@ -23,13 +23,13 @@ use Rattle.mm_render.specs.OverNames.{open_over, AreOpenOver}
 use Rattle.mm_render.specs.Claiming.{IsFree, AreClaims, HoldsClaims}
 use Rattle.mm_proof.proofs.LeafLaws.{EachLeaf-implied}
 use Rattle.mm_render.proofs.SpeltLaws.{statement_label-is_label, statement_label-differs}
-use Rattle.mm_render.proofs.StatedLaws.{both_false, either_true, itself, if_false, if_true, statement_no_active, name_no_statement, row_differs}
-use Rattle.mm_render.proofs.VariableLaws.{label_elsewhere, premise_elsewhere, no_other_among}
+use Rattle.mm_render.proofs.StatedLaws.{itself, statement_no_active, name_no_statement, row_differs}
+use Rattle.mm_render.proofs.VariableLaws.{label_elsewhere, premise_elsewhere, no_other_among, has_append}
 use Rattle.mm_render.proofs.InsideLaws.{inside, Left, AddsAnywhere, asserted, AreSymbols, block_opens}
-use Rattle.mm_render.proofs.Separations.{has_append}
 use Rattle.mm_render.proofs.HeadLaws.{IsGround, IsOwnLabel, statement_label_own, new_inside, own_symbols}
 use Rattle.mm_render.proofs.OpenTexts.{own_hypotheses, own_ready, open_typed, open_symbols, turnstile_constant, head_adds}
 use Rattle.mm_render.proofs.OpenFrames.{frame_is}
+use Rattle.mm_render.proofs.BoolLaws.{both_false, either_true, if_false, if_true}
 
 -- the context behind the block of a claim, in which these variables were declared
 abbrev pub behind_block : List Token → ℕ → Context → Claim → List Variable → Context

@@ -1,5 +1,5 @@
 -- What is over declared names is a claim, with the variables that stand in it.
-use Rattle.std.proofs.Common.{◌≡◌, Bool, true, false, List, [], ◌∷◌, refl, ap, ◌∙◌, sym}
+use Rattle.std.proofs.Common.{◌≡◌, Bool, true, List, [], ◌∷◌, refl, ap, ◌∙◌, sym}
 use Rattle.std.specs.Prelude.{◌||◌, flat_map}
 use Rattle.std.specs.List.{list_any, list_all}
 use Rattle.mm_text.specs.Bytes.{Token}
@@ -11,13 +11,10 @@ use Rattle.mm_render.specs.OpenVariables.{variables_in}
 use Rattle.mm_render.specs.ClaimVariables.{claim_variables, OverNamesIsClaim}
 use Rattle.mm_proof.proofs.LeafLaws.{both_true}
 use Rattle.mm_render.proofs.OpenCitingTexts.{first_there, later_there}
-use Rattle.mm_render.proofs.Separations.{has_append}
 use Rattle.mm_render.proofs.OpenVariableLaws.{leaves_among}
 use Rattle.mm_render.proofs.AddedVariables.{just_others, others_once}
-
-or_false : (a : Bool) → (a || false) ≡ a
-or_false true = refl
-or_false false = refl
+use Rattle.mm_render.proofs.BoolLaws.{second_true, either_true, or_false}
+use Rattle.mm_render.proofs.VariableLaws.{has_append}
 
 -- a variable stands in a pattern where it is one of the variables there
 stands-in : (v : Variable) (p : Pattern) → stands_in v p ≡ has_variable (variables_in p) v
@@ -52,21 +49,14 @@ all_pass test (v ∷ vs) h = both_true (test v) (list_all test vs) (h v (first_t
 abbrev StandAmong : Pattern → List Variable → Type 0
 StandAmong p vs = (v : Variable) → stands_in v p ≡ true → has_variable vs v ≡ true
 
-in_first : (a b : Bool) → a ≡ true → (a || b) ≡ true
-in_first a b h = rw h refl
-
-in_second : (a b : Bool) → b ≡ true → (a || b) ≡ true
-in_second true b h = refl
-in_second false b h = h
-
 leaves_known : (declared : List Token) (vs : List Variable) (p : Pattern) → StandAmong p vs → EachLeaf (over_names declared) p → EachLeaf (open_over declared vs) p
 leaves_known declared vs p w h = leaves_among declared vs p (λ v there. w v (stands-in v p ∙ there)) h
 
 all_known : (declared : List Token) (vs : List Variable) (ps : List Pattern) → ((v : Variable) → list_any (stands_in v) ps ≡ true → has_variable vs v ≡ true) → AreOverNames declared ps → AreOpenOver declared vs ps
 all_known declared vs [] w h = tt
 all_known declared vs (p ∷ ps) w h = (
-  leaves_known declared vs p (λ v there. w v (in_first (stands_in v p) (list_any (stands_in v) ps) there)) h.0,
-  all_known declared vs ps (λ v there. w v (in_second (stands_in v p) (list_any (stands_in v) ps) there)) h.1,
+  leaves_known declared vs p (λ v there. w v (either_true (stands_in v p) (list_any (stands_in v) ps) there)) h.0,
+  all_known declared vs ps (λ v there. w v (second_true (stands_in v p) (list_any (stands_in v) ps) there)) h.1,
 )
 
 pub over_names_is_claim : OverNamesIsClaim

@@ -1,7 +1,5 @@
 -- What declarations state: that each name is of its type, and nothing else.
 use Rattle.std.proofs.Common.{◌≡◌, ℕ, ◌+◌, ◌<◌, ◌^◌, Bool, true, false, List, [], ◌∷◌, ◌++◌, length, take, drop, refl, ap, ◌∙◌, sym, subst, arith, append_assoc, length-append, Option, Some}
-use Rattle.std.specs.Prelude.{not}
-use Rattle.std.specs.List.{list_all}
 use Rattle.std.proofs.lemmas.Bool.{false≢true}
 use Rattle.mm_text.specs.Bytes.{Token}
 use Rattle.mm_text.specs.Statements.{Statements, next_statement, statement, statements_from}
@@ -26,7 +24,7 @@ use Rattle.mm_render.specs.Keeping.{FitsWhen}
 use Rattle.mm_render.specs.Justifying.{declaration, AreAllowed, HasOnlyAxiomsOf}
 use Rattle.mm_render.specs.JustifyingLaws.{DeclaredHasOnly}
 use Rattle.mm_render.proofs.NameLaws.{NameFacts, name_facts, name_label-clean}
-use Rattle.mm_render.proofs.FittingLaws.{with_constant, with_name, IsNew, name_holds, behind_names, adds_names, none_has, AreNames-front, AreNames-next, take-drop, length-front}
+use Rattle.mm_render.proofs.FittingLaws.{with_constant, with_name, IsNew, name_holds, behind_names, adds_names, none_has, AreNames-front, AreNames-next, take-drop, length-front, clean_one, clean_two}
 use Rattle.mm_render.proofs.Allowing.{has_only_more}
 
 -- the `$a` of a name, and of names with the numbers from one on
@@ -36,12 +34,6 @@ name_assertion i t = record { is_proved = false; frame = name_frame i t }
 abbrev name_assertions : ℕ → List Token → List Assertion
 name_assertions i [] = []
 name_assertions i (t ∷ ts) = name_assertion i t ∷ name_assertions (i + 1) ts
-
-clean_one : (t : Token) → has_dollar t ≡ false → list_all (λ u. not (has_dollar u)) (t ∷ []) ≡ true
-clean_one t h = rw h refl
-
-clean_two : (t u : Token) → has_dollar t ≡ false → has_dollar u ≡ false → list_all (λ v. not (has_dollar v)) (t ∷ (u ∷ [])) ≡ true
-clean_two t u h k = rw (h, k) refl
 
 -- some statements make these assertions, and no typing
 abbrev StatesJust : Context → Statements → List Assertion → Type 0

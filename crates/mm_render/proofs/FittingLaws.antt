@@ -1,6 +1,6 @@
 -- What holds behind the declarations of names.
 use Rattle.std.proofs.Common.{◌≡◌, ℕ, ◌+◌, ◌<◌, ◌≤◌, ◌^◌, Bool, true, false, List, [], ◌∷◌, ◌++◌, length, take, drop, zero, suc, refl, ap, ◌∙◌, sym, subst, arith, append_assoc, append-nil, length-append, ◌⊎◌, inl, inr, Option, Some, None}
-use Rattle.std.specs.Prelude.{◌||◌, not, if◌then◌else◌, bytes_eq, IfSome}
+use Rattle.std.specs.Prelude.{◌||◌, not, bytes_eq, IfSome}
 use Rattle.std.specs.List.{list_all}
 use Rattle.std.proofs.lemmas.Bool.{false≢true}
 use Rattle.std.proofs.lemmas.Slice.Eq.{bytes_eq-Decides}
@@ -24,10 +24,7 @@ use Rattle.mm_proof.specs.Tokens.{name_of}
 use Rattle.mm_render.specs.Statements.{IsName, sort_name, symbol_name, value_name, kind_front, NameKind, typecode_of, name_statements, all_name_statements}
 use Rattle.mm_render.specs.Fitting.{AreNames, name_frame, Holds}
 use Rattle.mm_render.proofs.NameLaws.{NameFacts, name_facts, name_label-is_label, name_label-plain, name_label-clean, name_label-differs, no_label_among}
-
-or_false : (b : Bool) → b ≡ (b || false)
-or_false true = refl
-or_false false = refl
+use Rattle.mm_render.proofs.BoolLaws.{with_false, either_true, both_false, if_false, if_true}
 
 header_no_label : (t : Token) → IsName t → header_context.labels t ≡ false
 unfolding header_context header_rows header_labels
@@ -51,7 +48,7 @@ header_holds = record {
   rows = λ label f h. h;
   scope = refl;
   variables = λ t h. refl;
-  constants = λ t. or_false (header_context.constants t);
+  constants = λ t. with_false (header_context.constants t);
   frames = λ i lt. absurd (omega (arith, lt));
   free = λ i le lt. header_free i;
   no_label = header_no_label;
@@ -66,10 +63,10 @@ with_constant c t = with_declared c [] declares_constants (t ∷ [])
 abbrev pub with_name : Context → ℕ → Token → Context
 with_name c i t = with_declared (with_constant c t) (name_label i ∷ []) asserts (typecode_of t ∷ (t ∷ []))
 
-clean_one : (t : Token) → has_dollar t ≡ false → list_all (λ u. not (has_dollar u)) (t ∷ []) ≡ true
+pub clean_one : (t : Token) → has_dollar t ≡ false → list_all (λ u. not (has_dollar u)) (t ∷ []) ≡ true
 clean_one t h = rw h refl
 
-clean_two : (t u : Token) → has_dollar t ≡ false → has_dollar u ≡ false → list_all (λ v. not (has_dollar v)) (t ∷ (u ∷ [])) ≡ true
+pub clean_two : (t u : Token) → has_dollar t ≡ false → has_dollar u ≡ false → list_all (λ v. not (has_dollar v)) (t ∷ (u ∷ [])) ≡ true
 clean_two t u h k = rw (h, k) refl
 
 -- a constant that is new may be declared
@@ -123,12 +120,6 @@ pub record IsNew (done : List Token) (t : Token) : Type 0 where
   pub other : has_token done t ≡ false
   pub names : AreNames done
   pub few : length done < 2 ^ 64
-
-both_false : (a b : Bool) → a ≡ false → b ≡ false → (a || b) ≡ false
-both_false a b h k = rw (h, k) refl
-
-either_true : (a b : Bool) → a ≡ true → (a || b) ≡ true
-either_true a b h = rw h refl
 
 -- the label of a name is no constant and no variable
 label_no_constant : (done : List Token) (c : Context) (i : ℕ) → Holds done c → AreNames done → header_context.constants (name_label i) ≡ false → c.constants (name_label i) ≡ false
@@ -192,12 +183,6 @@ row_is_other label f i h = go (bytes_eq label (name_label i)) refl
         let same : label ≡ name_label i = (bytes_eq-Decides label (name_label i)).0 is in
         let no : Some f ≡ None = sym h ∙ ap header_context.frames same ∙ header_no_row i in absurd (cc)
     go false is = is
-
-if_false : {A : Type 0} (b : Bool) (x y : A) → b ≡ false → (if b then x else y) ≡ y
-if_false b x y h = rw h refl
-
-if_true : {A : Type 0} (b : Bool) (x y : A) → b ≡ true → (if b then x else y) ≡ x
-if_true b x y h = rw h refl
 
 below_or_last : (i n : ℕ) → i < n + 1 → (i < n) ⊎ (i ≡ n)
 below_or_last i n lt = grind (arith, lt)

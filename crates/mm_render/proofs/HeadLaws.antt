@@ -21,10 +21,11 @@ use Rattle.mm_render.specs.Blocks.{variable_statements, variable_float, separati
 use Rattle.mm_render.specs.Claiming.{IsFree}
 use Rattle.mm_proof.proofs.LeafLaws.{both_true, split_true}
 use Rattle.mm_render.proofs.SpeltLaws.{LabelFacts, label_facts, statement_label-is_label}
-use Rattle.mm_render.proofs.StatedLaws.{both_false, either_true, second_true, not_false, itself, name_no_statement}
+use Rattle.mm_render.proofs.StatedLaws.{itself, name_no_statement}
 use Rattle.mm_render.proofs.VariableLaws.{VariableFacts, variable_facts, label_differs, label_spelt, premise_spelt, no_variable_among, no_other_among}
 use Rattle.mm_render.proofs.InsideLaws.{Left, inside, AddsAnywhere, AreSymbols, list_any-append, map-append, behind_variable, behind_hypothesis, behind_separation, unlabelled_adds, labelled_adds}
-use Rattle.mm_render.proofs.Separations.{split_false, new_variable, numbered_front, numbered_behind, absent_token, EachSeparated, separated_once, variables_are_symbols, all_among}
+use Rattle.mm_render.proofs.Separations.{new_variable, numbered_front, numbered_behind, absent_token, EachSeparated, separated_once, variables_are_symbols, all_among}
+use Rattle.mm_render.proofs.BoolLaws.{both_false, either_true, second_true, not_false, split_false}
 
 -- what stands behind the text before a block
 pub record IsGround (declared : List Token) (k : ℕ) (c : Context) : Type 0 where

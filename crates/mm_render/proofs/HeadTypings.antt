@@ -16,12 +16,12 @@ use Rattle.mm_render.specs.Variables.{Variable, are_once, AreNumbered, variable_
 use Rattle.mm_render.specs.Blocks.{variable_statements, variable_float, separated, separation_statements, separations, premise_statements, head_statements, block}
 use Rattle.mm_render.specs.OverNames.{AreOpenOver}
 use Rattle.mm_proof.proofs.LeafLaws.{both_true}
-use Rattle.mm_render.proofs.StatedLaws.{not_false}
 use Rattle.mm_render.proofs.VariableLaws.{VariableFacts, variable_facts}
 use Rattle.mm_render.proofs.InsideLaws.{typed}
 use Rattle.mm_render.proofs.Separations.{EachSeparated, each_separated, variables_are_symbols}
 use Rattle.mm_render.proofs.HeadLaws.{variable_label_own, premise_label_own, own_symbols}
 use Rattle.mm_render.proofs.OpenTexts.{open_symbols}
+use Rattle.mm_render.proofs.BoolLaws.{not_false}
 
 typing-append : (h : Option Hypothesis) (xs ys : List Hypothesis) → with_typing_first h (xs ++ ys) ≡ with_typing_first h xs ++ ys
 typing-append None xs ys = refl

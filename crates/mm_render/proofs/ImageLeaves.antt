@@ -21,7 +21,7 @@ use Rattle.mm_render.specs.OverNames.{closed_over}
 use Rattle.mm_render.specs.Justifying.{rule_image, value_fact}
 use Rattle.mm_render.specs.JustifyingLaws.{HasNoVariable, HaveNoVariable, GroundHasNone, ImageIsClosed, RuleImageIsClosed, ImageStays, RuleImageStays, OwnAxiomStays, RuleImageIsOwn}
 
-none_some : {A : Type 0} (a : A) → None ≡ Some a → ⊥
+pub none_some : {A : Type 0} (a : A) → None ≡ Some a → ⊥
 none_some a h = cc
 
 some_same : {A : Type 0} (a b : A) → Some a ≡ Some b → a ≡ b

@@ -18,7 +18,8 @@ use Rattle.mm_frame.specs.Validity.{task, form_fault, declaration_fault, or_else
 use Rattle.mm_frame.specs.FrameLaws.{Adds, written_statements, are_clean, keyword_token, has_proof, plain_tokens}
 use Rattle.mm_frame.proofs.WrittenForms.{plain_tokens_say}
 use Rattle.mm_proof.proofs.LeafLaws.{both_true, split_true, list_all-append}
-use Rattle.mm_render.proofs.StatedLaws.{ends_last, not_false}
+use Rattle.mm_render.proofs.StatedLaws.{ends_last}
+use Rattle.mm_render.proofs.BoolLaws.{not_false, with_false}
 
 -- the context inside a block that began at a byte, with these variables' tokens, hypotheses and `$d`s
 abbrev pub inside : Context → ℕ → List Token → List Hypothesis → List (List Token) → Context
@@ -46,10 +47,6 @@ made c at vs ls active hs apart = record {
   blocks = record { at = at; outside = c.scope } ∷ c.blocks;
 }
 
-or_false : (b : Bool) → b ≡ (b || false)
-or_false true = refl
-or_false false = refl
-
 or_assoc : (a b c : Bool) → ((a || b) || c) ≡ (a || (b || c))
 or_assoc true b c = refl
 or_assoc false b c = refl
@@ -63,7 +60,7 @@ map-append f [] ys = refl
 map-append f (x ∷ xs) ys = ap (λ bs. f x ∷ bs) (map-append f xs ys)
 
 pub none_more : (set : Token → Bool) → set ≡ with_tokens set []
-none_more set = fun_ext (λ t. or_false (set t))
+none_more set = fun_ext (λ t. with_false (set t))
 
 tokens_more : (set : Token → Bool) (ts us : List Token) → with_tokens (with_tokens set ts) us ≡ with_tokens set (ts ++ us)
 tokens_more set ts us = fun_ext (λ t. or_assoc (set t) (has_token ts t) (has_token us t) ∙ ap (λ (b : Bool). set t || b) (sym (list_any-append (λ u. bytes_eq u t) ts us)))
@@ -78,7 +75,7 @@ bytes_eq-turned s t = go (bytes_eq s t) refl (bytes_eq t s) refl
     go false h true k = absurd (false≢true (sym h ∙ (bytes_eq-Decides s t).1 (sym ((bytes_eq-Decides t s).0 k))))
 
 token_more : (set : Token → Bool) (ts : List Token) (u : Token) → with_token (with_tokens set ts) u ≡ with_tokens set (ts ++ u ∷ [])
-token_more set ts u = fun_ext (λ t. ap (λ (b : Bool). (set t || has_token ts t) || b) (bytes_eq-turned t u ∙ or_false (bytes_eq u t))) ∙ tokens_more set ts (u ∷ [])
+token_more set ts u = fun_ext (λ t. ap (λ (b : Bool). (set t || has_token ts t) || b) (bytes_eq-turned t u ∙ with_false (bytes_eq u t))) ∙ tokens_more set ts (u ∷ [])
 
 pub opened : (c : Context) (at : ℕ) → with_block_opened c at ≡ inside c at [] [] []
 opened c at =
@@ -86,7 +83,7 @@ opened c at =
     ∙ ap (λ (s : Token → Bool). made c at (with_tokens c.variables []) s c.scope.variables c.scope.hypotheses c.scope.apart) (none_more c.labels)
     ∙ ap (λ (s : Token → Bool). made c at (with_tokens c.variables []) (with_tokens c.labels []) s c.scope.hypotheses c.scope.apart) (none_more c.scope.variables)
     ∙ ap (λ (hs : List Hypothesis). made c at (with_tokens c.variables []) (with_tokens c.labels []) (with_tokens c.scope.variables []) hs c.scope.apart) (sym (append-nil c.scope.hypotheses))
-    ∙ ap (λ (p : Token → Token → Bool). made c at (with_tokens c.variables []) (with_tokens c.labels []) (with_tokens c.scope.variables []) (c.scope.hypotheses ++ []) p) (fun_ext (λ a. fun_ext (λ b. or_false (c.scope.apart a b))))
+    ∙ ap (λ (p : Token → Token → Bool). made c at (with_tokens c.variables []) (with_tokens c.labels []) (with_tokens c.scope.variables []) (c.scope.hypotheses ++ []) p) (fun_ext (λ a. fun_ext (λ b. with_false (c.scope.apart a b))))
 
 pub behind_variable : (c : Context) (at : ℕ) (ts : List Token) (hs : List Hypothesis) (ds : List (List Token)) (t : Token) → with_declared (inside c at ts hs ds) [] declares_variables (t ∷ []) ≡ inside c at (ts ++ t ∷ []) hs ds
 behind_variable c at ts hs ds t =
@@ -107,7 +104,7 @@ behind_separation c at ts hs ds d =
     one : (a b : Token) → ((c.scope.apart a b || list_any (λ e. are_different_tokens e a b) ds) || are_different_tokens d a b) ≡ (c.scope.apart a b || list_any (λ e. are_different_tokens e a b) (ds ++ d ∷ []))
     one a b =
         or_assoc (c.scope.apart a b) (list_any (λ e. are_different_tokens e a b) ds) (are_different_tokens d a b)
-        ∙ ap (λ (x : Bool). c.scope.apart a b || (list_any (λ e. are_different_tokens e a b) ds || x)) (or_false (are_different_tokens d a b))
+        ∙ ap (λ (x : Bool). c.scope.apart a b || (list_any (λ e. are_different_tokens e a b) ds || x)) (with_false (are_different_tokens d a b))
         ∙ ap (λ (x : Bool). c.scope.apart a b || x) (sym (list_any-append (λ e. are_different_tokens e a b) ds (d ∷ [])))
 
 -- the assertions that written statements make from a context and a byte on

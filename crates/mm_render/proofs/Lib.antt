@@ -1,3 +1,4 @@
+pub mod BoolLaws
 pub mod NameLaws
 pub mod FittingLaws
 pub mod SpeltLaws

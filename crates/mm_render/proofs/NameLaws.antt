@@ -130,10 +130,10 @@ name_facts t w = go w.kind w.is
 
 -- what is known of a name's label
 
-digit_of_label : (d : ℕ) → d < 10 → is_label_byte (48 + d) ≡ true
+pub digit_of_label : (d : ℕ) → d < 10 → is_label_byte (48 + d) ≡ true
 digit_of_label d h = grind (arith, h)
 
-digit_prints : (d : ℕ) → d < 10 → is_name_byte (48 + d) ≡ true
+pub digit_prints : (d : ℕ) → d < 10 → is_name_byte (48 + d) ≡ true
 digit_prints d h = grind (arith, h)
 
 pub name_label-is_label : (i : ℕ) → i < 2 ^ 64 → is_label (name_label i) ≡ true

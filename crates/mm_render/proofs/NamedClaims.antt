@@ -26,7 +26,8 @@ use Rattle.mm_proof.proofs.LeafLaws.{EachLeaf-implied}
 use Rattle.mm_proof.proofs.AgreeLaws.{agreeing, text-agrees}
 use Rattle.mm_render.proofs.NameLaws.{name_label-is_label}
 use Rattle.mm_render.proofs.FittingLaws.{with_name, IsNew, name_holds, behind_names, closed_names, adds_names, none_has, AreNames-front, AreNames-next, name_of-front, take-drop, length-front}
-use Rattle.mm_render.proofs.StatedLaws.{both_false, either_true, second_true, name_no_active}
+use Rattle.mm_render.proofs.StatedLaws.{name_no_active}
+use Rattle.mm_render.proofs.BoolLaws.{both_false, either_true, second_true}
 
 -- names, one more
 names_last : (done : List Token) (t : Token) → AreNames done → IsName t → AreNames (done ++ t ∷ [])

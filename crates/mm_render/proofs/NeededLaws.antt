@@ -1,15 +1,15 @@
 -- The variables that a derivation has, as they are found step by step.
 use Rattle.std.proofs.Common.{◌≡◌, ℕ, ◌+◌, ◌<◌, Bool, true, false, List, [], ◌∷◌, ◌++◌, refl, ap, ◌∙◌, sym, arith, append_assoc, append-nil}
-use Rattle.std.specs.Prelude.{◌||◌, flat_map}
+use Rattle.std.specs.Prelude.{◌||◌}
 use Rattle.std.specs.Borrow.{Bor}
 use Rattle.ml_pat.specs.Patterns.{Pattern}
 use Rattle.ml_kernel.specs.StepsIn.{steps_in, all_steps}
 use Rattle.ml_kernel.specs.Theorems.{Derivation, Derivations, more_derivations}
-use Rattle.mm_render.specs.Variables.{Variable, object_variable, pattern_variable, has_variable, AreNumbered}
+use Rattle.mm_render.specs.Variables.{Variable, has_variable, AreNumbered}
 use Rattle.mm_render.specs.VariablesView.{HaveNumbers}
 use Rattle.mm_render.specs.Blocks.{Claim}
 use Rattle.mm_render.specs.ClaimVariables.{added}
-use Rattle.mm_render.specs.OpenVariables.{variables_at, variables_of, all_variables_of}
+use Rattle.mm_render.specs.OpenVariables.{variables_of, all_variables_of}
 use Rattle.mm_render.specs.NeededView.{stack_needs, stack_steps, PutsDerivations, StepIsTaken}
 use Rattle.mm_render.proofs.AddedVariables.{added-append, among_added, are_numbered}
 
@@ -59,10 +59,6 @@ step_needed claims place d us ds old new vs vs' whole light is put = record {
 }
 
 -- at no patterns each variable stands for itself
-pub variables_at-none : (vs : List Variable) → flat_map (variables_at []) vs ≡ vs
-variables_at-none [] = refl
-variables_at-none (object_variable i ∷ vs) = ap (λ (us : List Variable). object_variable i ∷ us) (variables_at-none vs)
-variables_at-none (pattern_variable i ∷ vs) = ap (λ (us : List Variable). pattern_variable i ∷ us) (variables_at-none vs)
 
 -- one derivation more
 pub step_added : (claims : List Claim) (place : List Pattern → Pattern → ℕ) (d : Bor Derivation) (before popped new : List (Bor Derivation)) (vs vs' whole : List Variable) → before ≡ popped ++ d ∷ [] → StepIsTaken claims place d.now popped new vs vs'

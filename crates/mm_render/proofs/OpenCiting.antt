@@ -29,6 +29,7 @@ use Rattle.mm_proof.proofs.SyntaxLaws.{object_proves, syntax_proves}
 use Rattle.mm_proof.proofs.LeafLaws.{both_true}
 use Rattle.mm_proof.proofs.ApartLaws.{text_apart, apart_text}
 use Rattle.mm_render.proofs.OpenCitingTexts.{case_variable, first_there, later_there, value, entry, given_by, given_variable, given_other, GivesInstances, holds-instance, floats-instance, premises-instance, no_variables_at, other_than, instance-none}
+use Rattle.mm_render.proofs.BoolLaws.{second_true}
 
 -- what stands for variables is proved to be of their types
 variable_proves : (c : Context) (l n : Naming) (known : LeafFacts) (ms : List Pattern) (v : Variable) → Serves c l n known → HasInstance known ms v → Proves c (variable_tree l ms v) (entry n ms v)
@@ -44,10 +45,6 @@ instance_at known ms [] v every has = absurd (false≢true has)
 instance_at known ms (u ∷ us) v every has = case_variable (HasInstance known ms) u us v has every.0 (λ h. instance_at known ms us v every.1 h)
 
 -- What stands for two variables is apart where the variables have to be.
-
-or_true : (a b : Bool) → b ≡ true → (a || b) ≡ true
-or_true true b h = refl
-or_true false b h = h
 
 not_needed : (a b : Bool) → a ≡ false → (not a || b) ≡ true
 not_needed a b h = rw h refl
@@ -83,13 +80,13 @@ values_apart c l declared known ms vs (object_variable x) (object_variable y) w 
         not_needed (are_apart vs (object_token x) (object_token y)) (texts_apart c (object_token x ∷ []) (object_token y ∷ []))
         (subst (λ (z : ℕ). are_apart vs (object_token x) (object_token z) ≡ false) (eqb-true x y is) (one_apart vs (object_token x)))
     go false is =
-        or_true (not (are_apart vs (object_token x) (object_token y))) (texts_apart c (object_token x ∷ []) (object_token y ∷ []))
+        second_true (not (are_apart vs (object_token x) (object_token y))) (texts_apart c (object_token x ∷ []) (object_token y ∷ []))
         (rw (w.objects_apart x y hx hy is) refl)
 values_apart c l declared known ms vs (object_variable x) (pattern_variable j) w none hx hj =
-    or_true (not (are_apart vs (object_token x) (meta_token j))) _
+    second_true (not (are_apart vs (object_token x) (meta_token j))) _
     (text_apart c l (own_naming declared) known x (instance ms (meta j)) w hx (other_than known x (instance ms (meta j)) (no_variables_at ms j (meta j) none tt) hj))
 values_apart c l declared known ms vs (pattern_variable i) (object_variable y) w none hi hy =
-    or_true (not (are_apart vs (meta_token i) (object_token y))) _
+    second_true (not (are_apart vs (meta_token i) (object_token y))) _
     (apart_text c l (own_naming declared) known y (instance ms (meta i)) w hy (other_than known y (instance ms (meta i)) (no_variables_at ms i (meta i) none tt) hi))
 values_apart c l declared known ms vs (pattern_variable i) (pattern_variable j) w none hi hj =
     not_needed (are_apart vs (meta_token i) (meta_token j)) _ (patterns_apart vs i j)

@@ -1,5 +1,5 @@
 -- What the citation of a claim says of its variables, and what that gives the text of patterns.
-use Rattle.std.proofs.Common.{◌≡◌, ℕ, ◌+◌, ◌<◌, ◌^◌, Bool, true, false, List, [], ◌∷◌, ◌++◌, map, zero, suc, refl, ap, ◌∙◌, sym, subst, eqb-true, eq-eqb}
+use Rattle.std.proofs.Common.{◌≡◌, ℕ, ◌+◌, ◌<◌, ◌^◌, Bool, true, false, List, [], ◌∷◌, ◌++◌, map, zero, suc, refl, ap, ◌∙◌, sym, subst}
 use Rattle.std.specs.Prelude.{◌||◌, if◌then◌else◌, codes, bytes_eq, slice_index_or}
 use Rattle.std.proofs.lemmas.Bool.{false≢true}
 use Rattle.std.proofs.lemmas.Slice.Eq.{bytes_eq-Decides}
@@ -21,18 +21,9 @@ use Rattle.mm_proof.proofs.Schemes.{Leaves, under, judgement-under}
 use Rattle.mm_proof.proofs.LeafLaws.{EachLeaf-implied, other_leaves}
 use Rattle.mm_proof.proofs.Decimals.{decimal-same}
 use Rattle.mm_render.proofs.NameLaws.{name_facts}
+use Rattle.mm_render.proofs.VariableLaws.{numbered_at, same_is, itself_same, token_is_variable}
 
 -- variables and their tokens
-
-pub same_is : (u v : Variable) → same_variable u v ≡ true → u ≡ v
-same_is (object_variable i) (object_variable j) h = ap object_variable (eqb-true i j h)
-same_is (object_variable i) (pattern_variable j) h = absurd (false≢true h)
-same_is (pattern_variable i) (object_variable j) h = absurd (false≢true h)
-same_is (pattern_variable i) (pattern_variable j) h = ap pattern_variable (eqb-true i j h)
-
-pub same_itself : (v : Variable) → same_variable v v ≡ true
-same_itself (object_variable i) = eq-eqb i i refl
-same_itself (pattern_variable i) = eq-eqb i i refl
 
 abbrev behind_two : Token → Token
 behind_two [] = []
@@ -46,16 +37,12 @@ one_token (object_variable i) (pattern_variable j) h k is = absurd (false≢true
 one_token (pattern_variable i) (object_variable j) h k is = absurd (false≢true is)
 one_token (pattern_variable i) (pattern_variable j) h k is = ap pattern_variable (decimal-same i j h k (ap behind_two ((bytes_eq-Decides (meta_token i) (meta_token j)).0 is)))
 
-variable_is : (v : Variable) → is_variable_token (variable_token v) ≡ true
-variable_is (object_variable i) = refl
-variable_is (pattern_variable i) = refl
-
 -- the token of a variable is no other
 no_variable : (v : Variable) (t : Token) → is_variable_token t ≡ false → bytes_eq (variable_token v) t ≡ false
 no_variable v t h = go (bytes_eq (variable_token v) t) refl
   where
     go : (b : Bool) → bytes_eq (variable_token v) t ≡ b → bytes_eq (variable_token v) t ≡ false
-    go true is = absurd (false≢true (sym h ∙ ap is_variable_token (sym ((bytes_eq-Decides (variable_token v) t).0 is)) ∙ variable_is v))
+    go true is = absurd (false≢true (sym h ∙ ap is_variable_token (sym ((bytes_eq-Decides (variable_token v) t).0 is)) ∙ token_is_variable v))
     go false is = is
 
 pub name_is_no_variable : (ts : List Token) (i : ℕ) → AreNames ts → is_variable_token (name_of ts i) ≡ false
@@ -72,7 +59,7 @@ case_variable P u us v has here there = go (same_variable u v) refl has
     go false is h = there h
 
 pub first_there : (u : Variable) (us : List Variable) → has_variable (u ∷ us) u ≡ true
-first_there u us = rw (same_itself u) refl
+first_there u us = rw (itself_same u) refl
 
 pub later_there : (u : Variable) (us : List Variable) (v : Variable) → has_variable us v ≡ true → has_variable (u ∷ us) v ≡ true
 later_there u us v h = go (same_variable u v)
@@ -80,10 +67,6 @@ later_there u us v h = go (same_variable u v)
     go : (b : Bool) → (b || has_variable us v) ≡ true
     go true = refl
     go false = h
-
-pub numbered_at : (vs : List Variable) (v : Variable) → AreNumbered vs → has_variable vs v ≡ true → number_of v < 2 ^ 64
-numbered_at [] v every has = absurd (false≢true has)
-numbered_at (u ∷ us) v every has = case_variable (λ w. number_of w < 2 ^ 64) u us v has every.0 (λ h. numbered_at us v every.1 h)
 
 -- what stands for a variable, and the entry of it on the stack
 abbrev pub value : Naming → List Pattern → Variable → Expression

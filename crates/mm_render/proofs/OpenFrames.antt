@@ -21,11 +21,12 @@ use Rattle.mm_render.specs.Variables.{Variable, object_variable, pattern_variabl
 use Rattle.mm_render.specs.Blocks.{Claim, IsClaim, variable_float, premise_hypotheses, separations, are_apart, open_frame}
 use Rattle.mm_render.specs.OverNames.{open_over, AreOpenOver}
 use Rattle.mm_proof.proofs.LeafLaws.{both_true, split_true, PassFixed}
-use Rattle.mm_render.proofs.StatedLaws.{both_false, either_true, second_true, not_false, itself, none_passes, name_at, name_no_letter}
-use Rattle.mm_render.proofs.VariableLaws.{name_no_variable, token_differs, same_is}
+use Rattle.mm_render.proofs.StatedLaws.{itself, none_passes, name_at, name_no_letter}
+use Rattle.mm_render.proofs.VariableLaws.{name_no_variable, token_differs, same_is, numbered_at}
 use Rattle.mm_render.proofs.InsideLaws.{inside, list_any-append, map-append}
-use Rattle.mm_render.proofs.Separations.{split_false, numbered_behind, new_variable, separations_apart}
-use Rattle.mm_render.proofs.OpenTexts.{numbered_at, open_passes, own_hypotheses}
+use Rattle.mm_render.proofs.Separations.{numbered_behind, new_variable, separations_apart}
+use Rattle.mm_render.proofs.OpenTexts.{open_passes, own_hypotheses}
+use Rattle.mm_render.proofs.BoolLaws.{both_false, either_true, second_true, not_false, split_false, and_false, and_true}
 
 -- a variable that stands in a pattern stands in its text
 
@@ -103,14 +104,6 @@ stands_not declared vs v p names numbered small none leaves =
     (open_passes (λ t. std.not (bytes_eq t (variable_token v))) declared vs p (fixed_no_variable v) (turnstile_no_variable v)
     (λ i lt. not_false (bytes_eq (name_of declared i) (variable_token v)) (name_no_variable (name_of declared i) v (name_at declared i names lt)))
     (λ u h. not_false (bytes_eq (variable_token u) (variable_token v)) (token_differs u v (numbered_at vs u numbered h) small (other_variable vs u v h none))) leaves)
-
-and_false : (b : Bool) → (b && false) ≡ false
-and_false true = refl
-and_false false = refl
-
-and_true : (b : Bool) → (b && true) ≡ b
-and_true true = refl
-and_true false = refl
 
 variable_no_letter : (v : Variable) (a : ℕ) → bytes_eq (variable_token v) (a ∷ []) ≡ false
 variable_no_letter (object_variable i) a = and_false (120 == a)

@@ -22,12 +22,13 @@ use Rattle.mm_render.specs.OverNames.{open_over}
 use Rattle.mm_render.specs.Claiming.{IsFree, HoldsClaims}
 use Rattle.mm_proof.proofs.LeafLaws.{both_true, split_true}
 use Rattle.mm_render.proofs.NameLaws.{name_facts}
-use Rattle.mm_render.proofs.StatedLaws.{both_false, either_true, second_true, not_false, itself, name_at, fixed_variables, fixed_constants}
-use Rattle.mm_render.proofs.VariableLaws.{same_is, token_differs, label_differs, premise_differs, no_other_among}
+use Rattle.mm_render.proofs.StatedLaws.{itself, name_at, fixed_variables, fixed_constants}
+use Rattle.mm_render.proofs.VariableLaws.{same_is, token_differs, label_differs, premise_differs, no_other_among, numbered_at}
 use Rattle.mm_render.proofs.InsideLaws.{list_any-append, map-append}
 use Rattle.mm_render.proofs.Separations.{present_token, separations_apart}
-use Rattle.mm_render.proofs.OpenTexts.{numbered_at, own_hypotheses}
+use Rattle.mm_render.proofs.OpenTexts.{own_hypotheses}
 use Rattle.mm_render.proofs.BlockLaws.{inside_block}
+use Rattle.mm_render.proofs.BoolLaws.{both_false, either_true, second_true, not_false}
 
 -- hypotheses by their labels
 

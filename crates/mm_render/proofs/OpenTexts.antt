@@ -2,7 +2,6 @@
 use Rattle.std.proofs.Common.{◌≡◌, ℕ, ◌+◌, ◌<◌, ◌≤◌, ◌^◌, Bool, true, false, List, [], ◌∷◌, ◌++◌, length, map, refl, ap, ◌∙◌, sym, subst, arith, append_assoc, append-nil}
 use Rattle.std.specs.Prelude.{◌&&◌, ◌||◌, not, codes, bytes_eq}
 use Rattle.std.specs.List.{list_any, list_all}
-use Rattle.std.proofs.lemmas.Bool.{false≢true}
 use Rattle.mm_text.specs.Bytes.{Token, has_token}
 use Rattle.mm_text.specs.TextLaws.{is_plain_token}
 use Rattle.mm_frame.specs.Forms.{assumes, has_dollar}
@@ -17,24 +16,17 @@ use Rattle.mm_proof.specs.Leaves.{EachLeaf}
 use Rattle.mm_proof.specs.Serving.{punctuation}
 use Rattle.mm_proof.specs.Derivations.{holds_text}
 use Rattle.mm_render.specs.Fitting.{AreNames, Holds}
-use Rattle.mm_render.specs.Variables.{Variable, object_variable, pattern_variable, number_of, same_variable, has_variable, are_once, AreNumbered, variable_token, variable_tokens}
+use Rattle.mm_render.specs.Variables.{Variable, object_variable, pattern_variable, has_variable, are_once, AreNumbered, variable_token, variable_tokens}
 use Rattle.mm_render.specs.OverNames.{open_over, AreOpenOver}
 use Rattle.mm_render.specs.Blocks.{variable_statements, variable_float, separations, separated, separation_statements, premise_statements, premise_hypotheses, head_statements}
 use Rattle.mm_proof.proofs.LeafLaws.{EachLeaf-implied, tested_leaves, PassFixed, both_true, list_all-text}
 use Rattle.mm_render.proofs.NameLaws.{name_facts}
-use Rattle.mm_render.proofs.StatedLaws.{both_false, either_true, second_true, not_false, has_name, name_at, header_fixed, header_turnstile}
-use Rattle.mm_render.proofs.VariableLaws.{variable_facts, same_is, premise_differs}
+use Rattle.mm_render.proofs.StatedLaws.{has_name, name_at, header_fixed, header_turnstile}
+use Rattle.mm_render.proofs.VariableLaws.{variable_facts, premise_differs, numbered_at}
 use Rattle.mm_render.proofs.InsideLaws.{Left, inside, AddsAnywhere, AreSymbols, list_any-append, map-append, behind_hypothesis, labelled_adds}
 use Rattle.mm_render.proofs.Separations.{present_token, each_separated}
 use Rattle.mm_render.proofs.HeadLaws.{IsGround, IsOwnLabel, premise_label_own, new_inside, own_symbols, typed_tokens, premise_well, variables_add, separations_add}
-
-pub numbered_at : (vs : List Variable) (v : Variable) → AreNumbered vs → has_variable vs v ≡ true → number_of v < 2 ^ 64
-numbered_at [] v all h = absurd (false≢true h)
-numbered_at (u ∷ vs) v all h = go (same_variable u v) refl h (numbered_at vs v all.1)
-  where
-    go : (b : Bool) → same_variable u v ≡ b → (b || has_variable vs v) ≡ true → (has_variable vs v ≡ true → number_of v < 2 ^ 64) → number_of v < 2 ^ 64
-    go true is there behind = subst (λ (x : Variable). number_of x < 2 ^ 64) (same_is u v is) all.0
-    go false is there behind = behind there
+use Rattle.mm_render.proofs.BoolLaws.{both_false, either_true, second_true, not_false}
 
 -- each token passes a test that the header's constants, names and the variables pass
 pub open_passes : (test : Token → Bool) (declared : List Token) (vs : List Variable) (p : Pattern) → PassFixed test → test (codes "|-") ≡ true → ((i : ℕ) → i < length declared → test (name_of declared i) ≡ true)

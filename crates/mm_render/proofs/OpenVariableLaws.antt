@@ -1,7 +1,6 @@
 -- A block that declares the variables that a derivation needs has all that is used and cited there.
 use Rattle.std.proofs.Common.{◌≡◌, ℕ, Bool, true, false, List, [], ◌∷◌, ◌++◌, refl, ap, ◌∙◌, sym, subst, append_assoc, append-nil}
-use Rattle.std.specs.Prelude.{◌||◌, if◌then◌else◌, flat_map}
-use Rattle.std.specs.Prelude as std
+use Rattle.std.specs.Prelude.{if◌then◌else◌, flat_map}
 use Rattle.std.proofs.lemmas.Bool.{false≢true}
 use Rattle.mm_text.specs.Bytes.{Token}
 use Rattle.ml_pat.specs.Patterns.{Pattern, bot, top, imp, not, and, or, equal, member, fun, ex, all, app, at_sort, next, ev, var, meta, constant}
@@ -10,37 +9,26 @@ use Rattle.ml_kernel.specs.ProofRows.{Instance, pattern, variable, sort}
 use Rattle.ml_kernel.specs.Theorems.{Derivation, Derivations, hypothesis, own_axiom, row, cited, no_derivation, more_derivations}
 use Rattle.mm_proof.specs.Leaves.{EachLeaf, EachInstance}
 use Rattle.mm_proof.specs.Derivations.{EachUsed, AllUsed}
-use Rattle.mm_render.specs.Variables.{Variable, object_variable, pattern_variable, same_variable, has_variable, are_once, AreNumbered}
+use Rattle.mm_render.specs.Variables.{Variable, object_variable, pattern_variable, has_variable, are_once, AreNumbered}
 use Rattle.mm_render.specs.Blocks.{Claim}
 use Rattle.mm_render.specs.OverNames.{open_over, over_names}
 use Rattle.mm_proof.specs.MayCite.{EachCited, AllCited}
 use Rattle.mm_render.specs.CitedAt.{claim_at, HaveInstances, IsCitable, citable}
 use Rattle.mm_render.specs.OpenVariables.{variables_in, variables_for, variables_at, variables_of, all_variables_of, other_variables, NeededAreEnough}
-use Rattle.mm_proof.proofs.LeafLaws.{both_true, split_true, not_true}
-use Rattle.mm_render.proofs.OpenCitingTexts.{same_is, same_itself, case_variable, first_there, later_there}
+use Rattle.mm_render.proofs.OpenCitingTexts.{case_variable, first_there, later_there}
 use Rattle.mm_render.proofs.OpenCiting.{claim_is}
+use Rattle.mm_render.proofs.BoolLaws.{second_true}
+use Rattle.mm_render.proofs.VariableLaws.{has_append, numbered_both, once_more}
 
 -- each of some variables is one of others
 abbrev pub Among : List Variable → List Variable → Type 0
 Among us vs = (v : Variable) → has_variable us v ≡ true → has_variable vs v ≡ true
 
-has_variable-append : (us ws : List Variable) (v : Variable) → has_variable (us ++ ws) v ≡ (has_variable us v || has_variable ws v)
-has_variable-append [] ws v = refl
-has_variable-append (u ∷ us) ws v = ap (λ b. same_variable u v || b) (has_variable-append us ws v) ∙ or_assoc (same_variable u v) (has_variable us v) (has_variable ws v)
-  where
-    or_assoc : (a b c : Bool) → (a || (b || c)) ≡ ((a || b) || c)
-    or_assoc true b c = refl
-    or_assoc false b c = refl
-
 in_front : (us ws : List Variable) → Among us (us ++ ws)
-in_front us ws v h = has_variable-append us ws v ∙ rw h refl
-
-or_last : (a b : Bool) → b ≡ true → (a || b) ≡ true
-or_last true b h = refl
-or_last false b h = h
+in_front us ws v h = has_append us ws v ∙ rw h refl
 
 behind : (us ws : List Variable) → Among ws (us ++ ws)
-behind us ws v h = has_variable-append us ws v ∙ or_last (has_variable us v) (has_variable ws v) h
+behind us ws v h = has_append us ws v ∙ second_true (has_variable us v) (has_variable ws v) h
 
 among_front : (us ws vs : List Variable) → Among (us ++ ws) vs → Among us vs
 among_front us ws vs h v there = h v (in_front us ws v there)
@@ -82,7 +70,7 @@ values_among declared vs ms (object_variable x ∷ us) w h = (w (object_variable
 values_among declared vs ms (pattern_variable i ∷ us) w h = (leaves_among declared vs (instance ms (meta i)) (among_front (variables_in (instance ms (meta i))) (flat_map (variables_at ms) us) vs w) h.0, values_among declared vs ms us (among_behind (variables_in (instance ms (meta i))) (flat_map (variables_at ms) us) vs w) h.1)
 
 -- at no patterns a claim's variables stand for themselves
-own_variables : (us : List Variable) → flat_map (variables_at []) us ≡ us
+pub own_variables : (us : List Variable) → flat_map (variables_at []) us ≡ us
 own_variables [] = refl
 own_variables (object_variable x ∷ us) = ap (λ vs. object_variable x ∷ vs) (own_variables us)
 own_variables (pattern_variable i ∷ us) = ap (λ vs. pattern_variable i ∷ vs) (own_variables us)
@@ -123,33 +111,6 @@ mutual
 
 -- Others behind some variables, each once.
 
-same_turned : (u v : Variable) → same_variable u v ≡ false → same_variable v u ≡ false
-same_turned u v h = go (same_variable v u) refl
-  where
-    go : (b : Bool) → same_variable v u ≡ b → same_variable v u ≡ false
-    go true is = absurd (false≢true (sym h ∙ subst (λ (w : Variable). same_variable w v ≡ true) (same_is v u is) (same_itself v)))
-    go false is = is
-
-split_false : (a b : Bool) → (a || b) ≡ false → (a ≡ false) × (b ≡ false)
-split_false true b h = absurd (false≢true (sym h))
-split_false false b h = (refl, h)
-
-not_false : (a : Bool) → a ≡ false → std.not a ≡ true
-not_false a h = rw h refl
-
-pub once_more : (vs : List Variable) (u : Variable) → are_once vs ≡ true → has_variable vs u ≡ false → are_once (vs ++ u ∷ []) ≡ true
-once_more [] u h k = refl
-once_more (v ∷ vs) u h k =
-    let new : (same_variable v u ≡ false) × (has_variable vs u ≡ false) = split_false (same_variable v u) (has_variable vs u) k in
-    let old : (std.not (has_variable vs v) ≡ true) × (are_once vs ≡ true) = split_true (std.not (has_variable vs v)) (are_once vs) h in
-    both_true (std.not (has_variable (vs ++ u ∷ []) v)) (are_once (vs ++ u ∷ []))
-    (not_false (has_variable (vs ++ u ∷ []) v) (has_variable-append vs (u ∷ []) v ∙ rw (not_true (has_variable vs v) old.0, same_turned v u new.0) refl))
-    (once_more vs u old.1 new.1)
-
-numbered_more : (vs us : List Variable) → AreNumbered vs → AreNumbered us → AreNumbered (vs ++ us)
-numbered_more [] us h k = k
-numbered_more (v ∷ vs) us h k = (h.0, numbered_more vs us h.1 k)
-
 -- variables of a block, with others among them
 record HasThem (others vs : List Variable) : Type 0 where
   once : are_once vs ≡ true
@@ -161,7 +122,7 @@ all_there vs [] once numbered others =
     subst (λ (ws : List Variable). HasThem [] ws) (sym (append-nil vs)) (record { once = once; numbered = numbered; there = λ v none. absurd (false≢true none) })
 all_there vs (u ∷ us) once numbered others =
     go (has_variable vs u) refl (λ is. all_there vs us once numbered others.1)
-    (λ new. all_there (vs ++ u ∷ []) us (once_more vs u once new) (numbered_more vs (u ∷ []) numbered (others.0, tt)) others.1)
+    (λ new. all_there (vs ++ u ∷ []) us (once_more vs u once new) (numbered_both vs (u ∷ []) numbered (others.0, tt)) others.1)
   where
     go : (b : Bool) → has_variable vs u ≡ b → (has_variable vs u ≡ true → HasThem us (vs ++ other_variables vs us)) → (has_variable vs u ≡ false → HasThem us ((vs ++ u ∷ []) ++ other_variables (vs ++ u ∷ []) us))
         → HasThem (u ∷ us) (vs ++ (if b then other_variables vs us else (u ∷ other_variables (vs ++ u ∷ []) us)))

@@ -13,25 +13,12 @@ use Rattle.mm_frame.specs.FrameLaws.{are_clean}
 use Rattle.mm_render.specs.Variables.{Variable, object_variable, pattern_variable, is_object, number_of, same_variable, has_variable, are_once, AreNumbered, variable_token, variable_tokens, object_tokens, are_several}
 use Rattle.mm_render.specs.Blocks.{separated, separations, are_apart}
 use Rattle.mm_proof.proofs.LeafLaws.{both_true, split_true, not_true}
-use Rattle.mm_render.proofs.StatedLaws.{both_false, not_false, second_true, itself}
-use Rattle.mm_render.proofs.VariableLaws.{VariableFacts, variable_facts, token_differs, same_is, itself_same}
+use Rattle.mm_render.proofs.StatedLaws.{itself}
+use Rattle.mm_render.proofs.VariableLaws.{VariableFacts, variable_facts, token_differs, same_is, itself_same, turned_variable, has_append, numbered_both, once_more}
 use Rattle.mm_render.proofs.InsideLaws.{list_any-append, map-append, AreSymbols}
+use Rattle.mm_render.proofs.BoolLaws.{both_false, second_true, not_false, or_false, and_true, split_false, and_false}
 
 -- variables among others
-
-pub split_false : (a b : Bool) → (a || b) ≡ false → (a ≡ false) × (b ≡ false)
-split_false true b h = absurd (false≢true (sym h))
-split_false false b h = (refl, h)
-
-pub turned_variable : (u v : Variable) → same_variable u v ≡ false → same_variable v u ≡ false
-turned_variable u v h = go (same_variable v u) refl
-  where
-    go : (b : Bool) → same_variable v u ≡ b → same_variable v u ≡ false
-    go false is = is
-    go true is = absurd (false≢true (sym h ∙ ap (λ (x : Variable). same_variable u x) (same_is v u is) ∙ itself_same u))
-
-pub has_append : (us vs : List Variable) (v : Variable) → has_variable (us ++ vs) v ≡ (has_variable us v || has_variable vs v)
-has_append us vs v = list_any-append (λ u. same_variable u v) us vs
 
 pub numbered_front : (us vs : List Variable) → AreNumbered (us ++ vs) → AreNumbered us
 numbered_front [] vs h = tt
@@ -40,10 +27,6 @@ numbered_front (u ∷ us) vs h = (h.0, numbered_front us vs h.1)
 pub numbered_behind : (us vs : List Variable) → AreNumbered (us ++ vs) → AreNumbered vs
 numbered_behind [] vs h = h
 numbered_behind (u ∷ us) vs h = numbered_behind us vs h.1
-
-pub numbered_both : (us vs : List Variable) → AreNumbered us → AreNumbered vs → AreNumbered (us ++ vs)
-numbered_both [] vs h g = g
-numbered_both (u ∷ us) vs h g = (h.0, numbered_both us vs h.1 g)
 
 pub once_front : (us vs : List Variable) → are_once (us ++ vs) ≡ true → are_once us ≡ true
 once_front [] vs h = refl
@@ -154,15 +137,6 @@ among_both : (vs us ws : List Variable) → AreAmong vs us → AreAmong vs ws �
 among_both vs [] ws h g = g
 among_both vs (u ∷ us) ws h g = (h.0, among_both vs us ws h.1 g)
 
-one_more_once : (us : List Variable) (v : Variable) → are_once us ≡ true → has_variable us v ≡ false → are_once (us ++ v ∷ []) ≡ true
-one_more_once [] v h none = refl
-one_more_once (u ∷ us) v h none =
-    let both : (not (has_variable us u) ≡ true) × (are_once us ≡ true) = split_true (not (has_variable us u)) (are_once us) h in
-    let here : (same_variable u v ≡ false) × (has_variable us v ≡ false) = split_false (same_variable u v) (has_variable us v) none in
-    let other : (same_variable v u || false) ≡ false = both_false (same_variable v u) false (turned_variable u v here.0) refl in
-    let new : has_variable (us ++ v ∷ []) u ≡ false = has_append us (v ∷ []) u ∙ both_false (has_variable us u) (same_variable v u || false) (not_true (has_variable us u) both.0) other in
-    both_true (not (has_variable (us ++ v ∷ []) u)) (are_once (us ++ v ∷ [])) (not_false (has_variable (us ++ v ∷ []) u) new) (one_more_once us v both.1 here.1)
-
 pub each_separated : (vs : List Variable) → are_once vs ≡ true → AreNumbered vs → EachSeparated vs (separated vs)
 each_separated vs once numbered =
     kept (filter is_object vs ∷ map (λ v. filter is_object vs ++ v ∷ []) (filter (λ v. not (is_object v)) vs))
@@ -176,7 +150,7 @@ each_separated vs once numbered =
     with_each (m ∷ ms) h g f =
         let both : (not (is_object m) ≡ true) × (list_all (λ v. not (is_object v)) ms ≡ true) = split_true (not (is_object m)) (list_all (λ v. not (is_object v)) ms) f in (
           record {
-            once = one_more_once (filter is_object vs) m objects.once (no_object (filter is_object vs) m (all_filtered is_object vs) (not_true (is_object m) both.0));
+            once = once_more (filter is_object vs) m objects.once (no_object (filter is_object vs) m (all_filtered is_object vs) (not_true (is_object m) both.0));
             numbered = numbered_both (filter is_object vs) (m ∷ []) objects.numbered (g.0, tt);
             among = among_both vs (filter is_object vs) (m ∷ []) objects.among (h.0, tt);
           },
@@ -214,18 +188,6 @@ all_among vs [] h = refl
 all_among vs (w ∷ ws) h = both_true (has_token (variable_tokens vs) (variable_token w)) (list_all (has_token (variable_tokens vs)) (variable_tokens ws)) (present_token vs w h.0) (all_among vs ws h.1)
 
 -- which tokens the `$d`s keep apart
-
-and_false : (b : Bool) → (b && false) ≡ false
-and_false true = refl
-and_false false = refl
-
-and_true : (b : Bool) → (b && true) ≡ b
-and_true true = refl
-and_true false = refl
-
-or_false : (b : Bool) → (b || false) ≡ b
-or_false true = refl
-or_false false = refl
 
 any_none : {A : Type 0} (test : A → Bool) (xs : List A) → ((x : A) → test x ≡ false) → list_any test xs ≡ false
 any_none test [] h = refl

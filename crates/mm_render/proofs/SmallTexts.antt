@@ -35,6 +35,7 @@ use Rattle.mm_render.proofs.NamedClaims.{names_fit_claims}
 use Rattle.mm_render.proofs.Allowing.{has_only_just}
 use Rattle.mm_render.proofs.DeclaredStates.{declared_behind}
 use Rattle.mm_render.proofs.HeaderStates.{header_has_only}
+use Rattle.mm_render.proofs.ImageLeaves.{none_some}
 
 -- a small text
 
@@ -156,9 +157,6 @@ begins (b ∷ bytes) = go (b == 115)
     go : (c : Bool) → slice_index_or (if c then codes "#Sort" else codes "#Pattern") 0 0 ≡ 35
     go true = refl
     go false = refl
-
-none_some : {A : Type 0} (a : A) → None ≡ Some a → ⊥
-none_some a h = cc
 
 some_same : (p q : Pattern) → Some p ≡ Some q → p ≡ q
 some_same p q h = cc

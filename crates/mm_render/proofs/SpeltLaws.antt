@@ -1,5 +1,5 @@
 -- The labels of a proof are well spelt.
-use Rattle.std.proofs.Common.{◌≡◌, ℕ, ◌+◌, ◌<◌, ◌^◌, Bool, true, false, List, [], ◌∷◌, refl, ap, ◌∙◌, sym, arith, map}
+use Rattle.std.proofs.Common.{◌≡◌, ℕ, ◌<◌, ◌^◌, Bool, true, false, List, [], ◌∷◌, refl, ap, ◌∙◌, sym, arith, map}
 use Rattle.std.specs.Prelude.{◌||◌, ◌==◌, not, if◌then◌else◌, codes, bytes_eq, Some, None}
 use Rattle.std.specs.List.{list_all}
 use Rattle.std.proofs.lemmas.Bool.{false≢true}
@@ -19,7 +19,7 @@ use Rattle.mm_header.proofs.HeaderFrames.{header_only}
 use Rattle.mm_proof.specs.Labels.{statement_label}
 use Rattle.mm_render.specs.Statements.{is_name_byte}
 use Rattle.mm_proof.proofs.LeafLaws.{both_true, split_true, list_all-append}
-use Rattle.mm_render.proofs.NameLaws.{all_printing, no_dollars}
+use Rattle.mm_render.proofs.NameLaws.{all_printing, no_dollars, digit_of_label}
 use Rattle.mm_proof.proofs.Decimals.{list_all-decimal, decimal-same}
 
 -- what is known of a label's tokens
@@ -146,9 +146,6 @@ labels_uncompressed [] h = refl
 labels_uncompressed (t ∷ ts) h = (label_facts t (split_true (is_label t) (list_all is_label ts) h).0).no_bracket
 
 -- the label of a statement
-
-digit_of_label : (d : ℕ) → d < 10 → is_label_byte (48 + d) ≡ true
-digit_of_label d h = grind (arith, h)
 
 pub statement_label-is_label : (k : ℕ) → k < 2 ^ 64 → is_label (statement_label k) ≡ true
 statement_label-is_label k h = list_all-decimal is_label_byte digit_of_label k h

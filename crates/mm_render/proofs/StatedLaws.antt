@@ -21,12 +21,7 @@ use Rattle.mm_render.specs.Statements.{NameKind, sort_name, symbol_name, value_n
 use Rattle.mm_render.specs.Fitting.{AreNames, Holds}
 use Rattle.mm_render.specs.Variables.{is_variable_token}
 use Rattle.mm_proof.proofs.LeafLaws.{both_true, list_all-append}
-
-pub both_false : (a b : Bool) → a ≡ false → b ≡ false → (a || b) ≡ false
-both_false a b h k = rw (h, k) refl
-
-pub either_true : (a b : Bool) → a ≡ true → (a || b) ≡ true
-either_true a b h = rw h refl
+use Rattle.mm_render.proofs.BoolLaws.{either_true, second_true, and_false}
 
 -- what proofs find in the header
 
@@ -87,15 +82,8 @@ fixed_constants = refl
 
 -- what is true of tokens
 
-pub not_false : (b : Bool) → b ≡ false → not b ≡ true
-not_false b h = rw h refl
-
 pub itself : (t : Token) → bytes_eq t t ≡ true
 itself t = (bytes_eq-Decides t t).1 refl
-
-pub second_true : (a b : Bool) → b ≡ true → (a || b) ≡ true
-second_true true b h = refl
-second_true false b h = h
 
 pub has_name : (ts : List Token) (i : ℕ) → i < length ts → has_token ts (name_of ts i) ≡ true
 has_name [] i lt = absurd (omega (arith, lt))
@@ -111,10 +99,6 @@ unfolding header_context
 header_turnstile = refl
 
 -- no name is a variable of the header
-
-and_false : (b : Bool) → (b && false) ≡ false
-and_false true = refl
-and_false false = refl
 
 pub name_no_letter : (t : Token) (a : ℕ) → IsName t → bytes_eq t (a ∷ []) ≡ false
 name_no_letter t a w = go w.kind w.is
@@ -183,9 +167,3 @@ row_differs label f k h = go (bytes_eq label (statement_label k)) refl
     go : (b : Bool) → bytes_eq label (statement_label k) ≡ b → bytes_eq label (statement_label k) ≡ false
     go true is = absurd (let never : Some f ≡ None = sym h ∙ ap header_context.frames ((bytes_eq-Decides label (statement_label k)).0 is) ∙ header_no_statement k in let z : ⊥ = cc in z)
     go false is = is
-
-pub if_false : {A : Type 0} (b : Bool) (x y : A) → b ≡ false → (if b then x else y) ≡ y
-if_false b x y h = rw h refl
-
-pub if_true : {A : Type 0} (b : Bool) (x y : A) → b ≡ true → (if b then x else y) ≡ x
-if_true b x y h = rw h refl

@@ -1,5 +1,5 @@
 -- The tokens and labels of variables.
-use Rattle.std.proofs.Common.{◌≡◌, ℕ, ◌+◌, ◌<◌, ◌^◌, Bool, true, false, List, [], ◌∷◌, ◌++◌, map, refl, ap, ◌∙◌, sym, arith, eq-eqb, eqb-true}
+use Rattle.std.proofs.Common.{◌≡◌, ℕ, ◌+◌, ◌<◌, ◌^◌, Bool, true, false, List, [], ◌∷◌, ◌++◌, map, refl, ap, ◌∙◌, sym, subst, arith, eq-eqb, eqb-true}
 use Rattle.std.specs.Prelude.{◌==◌, ◌||◌, not, if◌then◌else◌, decimal, bytes_eq}
 use Rattle.std.specs.List.{list_any, list_all}
 use Rattle.std.proofs.lemmas.Bool.{false≢true}
@@ -14,10 +14,11 @@ use Rattle.mm_header.specs.HeaderContext.{header_context, header_labels}
 use Rattle.mm_proof.specs.Labels.{two_numbers, premise_label}
 use Rattle.mm_render.specs.Statements.{NameKind, sort_name, symbol_name, value_name, kind_front, is_name_byte, IsName}
 use Rattle.mm_render.specs.Fitting.{AreNames}
-use Rattle.mm_render.specs.Variables.{Variable, object_variable, pattern_variable, number_of, same_variable, variable_token, variable_label, variable_type, is_variable_token}
-use Rattle.mm_proof.proofs.LeafLaws.{both_true, split_true}
+use Rattle.mm_render.specs.Variables.{Variable, object_variable, pattern_variable, number_of, same_variable, variable_token, variable_label, variable_type, is_variable_token, has_variable, are_once, AreNumbered}
+use Rattle.mm_proof.proofs.LeafLaws.{both_true, split_true, not_true}
+use Rattle.mm_render.proofs.BoolLaws.{not_false, split_false}
 use Rattle.mm_proof.proofs.Decimals.{list_all-decimal, decimal-same}
-use Rattle.mm_render.proofs.NameLaws.{all_printing, no_dollars}
+use Rattle.mm_render.proofs.NameLaws.{all_printing, no_dollars, digit_of_label, digit_prints}
 
 -- what is known of a variable's token
 pub record VariableFacts (v : Variable) : Type 0 where
@@ -30,9 +31,6 @@ pub record VariableFacts (v : Variable) : Type 0 where
   pub typecode : header_context.constants (variable_type v) ≡ true
   pub plain_typecode : is_plain_token (variable_type v) ≡ true
   pub clean_typecode : has_dollar (variable_type v) ≡ false
-
-digit_prints : (d : ℕ) → d < 10 → is_name_byte (48 + d) ≡ true
-digit_prints d h = grind (arith, h)
 
 pub variable_facts : (v : Variable) → number_of v < 2 ^ 64 → VariableFacts v
 unfolding header_context header_rows header_labels
@@ -204,9 +202,6 @@ premise_elsewhere k l i j hk hl other = differs (premise_label k i) (premise_lab
 
 -- their spelling
 
-digit_of_label : (d : ℕ) → d < 10 → is_label_byte (48 + d) ≡ true
-digit_of_label d h = grind (arith, h)
-
 all_bytes : (test : ℕ → Bool) (xs ys : List ℕ) → list_all test xs ≡ true → list_all test ys ≡ true → list_all test (xs ++ ys) ≡ true
 all_bytes test [] ys h k = k
 all_bytes test (x ∷ xs) ys h k =
@@ -222,3 +217,39 @@ label_spelt k (pattern_variable i) h g = two_numbers-spelt k i h g
 
 pub premise_spelt : (k j : ℕ) → k < 2 ^ 64 → j < 2 ^ 64 → is_label (premise_label k j) ≡ true
 premise_spelt k j h g = two_numbers-spelt k j h g
+
+pub turned_variable : (u v : Variable) → same_variable u v ≡ false → same_variable v u ≡ false
+turned_variable u v h = go (same_variable v u) refl
+  where
+    go : (b : Bool) → same_variable v u ≡ b → same_variable v u ≡ false
+    go false is = is
+    go true is = absurd (false≢true (sym h ∙ ap (λ (x : Variable). same_variable u x) (same_is v u is) ∙ itself_same u))
+
+pub has_append : (us ws : List Variable) (v : Variable) → has_variable (us ++ ws) v ≡ (has_variable us v || has_variable ws v)
+has_append [] ws v = refl
+has_append (u ∷ us) ws v = ap (λ b. same_variable u v || b) (has_append us ws v) ∙ or_assoc (same_variable u v) (has_variable us v) (has_variable ws v)
+  where
+    or_assoc : (a b c : Bool) → (a || (b || c)) ≡ ((a || b) || c)
+    or_assoc true b c = refl
+    or_assoc false b c = refl
+
+pub numbered_both : (us vs : List Variable) → AreNumbered us → AreNumbered vs → AreNumbered (us ++ vs)
+numbered_both [] vs h g = g
+numbered_both (u ∷ us) vs h g = (h.0, numbered_both us vs h.1 g)
+
+pub once_more : (vs : List Variable) (u : Variable) → are_once vs ≡ true → has_variable vs u ≡ false → are_once (vs ++ u ∷ []) ≡ true
+once_more [] u h k = refl
+once_more (v ∷ vs) u h k =
+    let new : (same_variable v u ≡ false) × (has_variable vs u ≡ false) = split_false (same_variable v u) (has_variable vs u) k in
+    let old : (not (has_variable vs v) ≡ true) × (are_once vs ≡ true) = split_true (not (has_variable vs v)) (are_once vs) h in
+    both_true (not (has_variable (vs ++ u ∷ []) v)) (are_once (vs ++ u ∷ []))
+    (not_false (has_variable (vs ++ u ∷ []) v) (has_append vs (u ∷ []) v ∙ rw (not_true (has_variable vs v) old.0, turned_variable v u new.0) refl))
+    (once_more vs u old.1 new.1)
+
+pub numbered_at : (vs : List Variable) (v : Variable) → AreNumbered vs → has_variable vs v ≡ true → number_of v < 2 ^ 64
+numbered_at [] v all h = absurd (false≢true h)
+numbered_at (u ∷ vs) v all h = go (same_variable u v) refl h (numbered_at vs v all.1)
+  where
+    go : (b : Bool) → same_variable u v ≡ b → (b || has_variable vs v) ≡ true → (has_variable vs v ≡ true → number_of v < 2 ^ 64) → number_of v < 2 ^ 64
+    go true is there behind = subst (λ (x : Variable). number_of x < 2 ^ 64) (same_is u v is) all.0
+    go false is there behind = behind there

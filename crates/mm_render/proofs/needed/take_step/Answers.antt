@@ -14,8 +14,9 @@ use Rattle.mm_render.specs.OpenVariables.{variables_at, variables_for, variables
 use Rattle.mm_render.specs.PlaceTable.{claims_at, places_at}
 use Rattle.mm_render.specs.Variables.{Variable}
 use Rattle.mm_proof.proofs.Stacking.{on_ok}
-use Rattle.mm_render.proofs.NeededLaws.{leaf_needed, step_needed, variables_at-none}
+use Rattle.mm_render.proofs.NeededLaws.{leaf_needed, step_needed}
 use Rattle.mm_render.proofs.needed.take_step.Goals as goal
+use Rattle.mm_render.proofs.OpenVariableLaws.{own_variables}
 
 pub returns-in_ok-place-in-Axiom : goal.returns-in_ok-place-in-Axiom
 returns-in_ok-place-in-Axiom c =
@@ -25,7 +26,7 @@ returns-in_ok-place-in-Axiom c =
     let there : c.in_ok-place-in-Axiom.place ≡ place [] c.in-Axiom.p = c.in_ok-place-in-Axiom.ensures in
     let us : List Variable = (claim_at claims c.in_ok-place-in-Axiom.place).variables in
     on_ok c.add_values.result (λ is. leaf_needed claims place c.args.derivation.now (flat_map (variables_at []) us) c.args.stack.now.items (listed c.args.list.now) (listed c.add_values.new.list)
-    (ap (variables_of claims place) whole ∙ ap (λ (k : ℕ). (claim_at claims k).variables) (sym there) ∙ sym (variables_at-none us)) (ap steps_in whole) is) c.add_values.ensures
+    (ap (variables_of claims place) whole ∙ ap (λ (k : ℕ). (claim_at claims k).variables) (sym there) ∙ sym (own_variables us)) (ap steps_in whole) is) c.add_values.ensures
 
 pub returns-in_ok-add_instances-in-Row : goal.returns-in_ok-add_instances-in-Row
 returns-in_ok-add_instances-in-Row c =
