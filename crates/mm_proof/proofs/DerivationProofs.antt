@@ -1,7 +1,7 @@
 -- A derivation that cites axioms and lemmas at any patterns is written as a proof of what it concludes.
 use Rattle.std.proofs.Common.{IsTrue, List}
-use Rattle.mm_frame.specs.Database.{Context}
-use Rattle.mm_frame.specs.Proofs.{Proves}
+use Rattle.mm_database.specs.Database.{Context}
+use Rattle.mm_database.specs.Proofs.{Proves}
 use Rattle.ml_pat.specs.Patterns.{Pattern}
 use Rattle.ml_kernel.specs.Theorems.{Derivation, Derivations, hypothesis, own_axiom, row, cited, no_derivation, more_derivations}
 use Rattle.ml_kernel.specs.Concluding.{Concludes}

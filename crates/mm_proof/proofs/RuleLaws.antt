@@ -1,8 +1,8 @@
 -- A rule over proofs of what it concludes from proves what it concludes.
 use Rattle.std.proofs.Common.{ℕ, List, [], ◌∷◌, ◌++◌, refl, map}
 use Rattle.std.specs.Prelude.{codes}
-use Rattle.mm_frame.specs.Database.{Context}
-use Rattle.mm_frame.specs.Proofs.{ProofTree, Proves, texts_apart}
+use Rattle.mm_database.specs.Database.{Context}
+use Rattle.mm_database.specs.Proofs.{ProofTree, Proves, texts_apart}
 use Rattle.ml_pat.specs.Patterns.{Pattern, bot, top, imp, not, and, or, equal, member, fun, ex, all, app, next, ev, var}
 use Rattle.mm_proof.specs.Tokens.{Naming, letters_of, text_by, is_fresh, is_substituted, is_predicate, holds}
 use Rattle.mm_proof.specs.Leaves.{LeafFacts}
@@ -10,7 +10,7 @@ use Rattle.mm_proof.specs.Serving.{Serves}
 use Rattle.mm_proof.specs.Trees.{fresh_tree, instance_tree, premise_trees, row_tree, trees_of}
 use Rattle.mm_proof.proofs.RowProofs.{row_proves}
 use Rattle.mm_proof.proofs.SyntaxLaws.{pattern_text, sort_text, object_text, sort_proves, object_proves, syntax_proves}
-use Rattle.mm_frame.specs.Proofs.{AllProve}
+use Rattle.mm_database.specs.Proofs.{AllProve}
 use Rattle.ml_kernel.specs.ProofRows.{Instance, pattern, variable, sort, ProofRow}
 use Rattle.ml_kernel.specs.ProofRows as rules
 use Rattle.mm_proof.specs.Leaves.{EachInstance}

@@ -1,7 +1,7 @@
 -- Derivations that cite axioms, and lemmas at patterns for their pattern variables.
 use Rattle.std.specs.Prelude.{List, map, Contains}
-use Rattle.mm_frame.specs.Database.{Context}
-use Rattle.mm_frame.specs.Proofs.{ProofTree, Proves, AllProve}
+use Rattle.mm_database.specs.Database.{Context}
+use Rattle.mm_database.specs.Proofs.{ProofTree, Proves, AllProve}
 use Rattle.ml_pat.specs.Patterns.{Pattern}
 use Rattle.ml_kernel.specs.Lemmas.{instance, instances, HaveNoVariables}
 use Rattle.ml_kernel.specs.Theorems.{Derivation, Derivations, hypothesis, own_axiom, row, cited, no_derivation, more_derivations}

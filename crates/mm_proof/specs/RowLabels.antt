@@ -1,7 +1,7 @@
 -- The labels of a rule over the proofs of what it concludes from, as they are written one behind the other.
 use Rattle.std.specs.Prelude.{ℕ, ◌==◌, ◌||◌, if◌then◌else◌, List, [], ◌∷◌, flat_map}
 use Rattle.mm_text.specs.Bytes.{Token}
-use Rattle.mm_frame.specs.Proofs.{ProofTree, postorder}
+use Rattle.mm_database.specs.Proofs.{ProofTree, postorder}
 use Rattle.ml_kernel.specs.ProofRows.{Instance}
 use Rattle.mm_proof.specs.Tokens.{Naming}
 use Rattle.mm_proof.specs.Labels.{own_labels}

@@ -2,11 +2,11 @@
 use Rattle.std.proofs.Common.{◌≡◌, ℕ, ◌≤◌, Bool, true, false, List, [], ◌∷◌, ◌++◌, map, Some, slice_get, length, take, drop, zero, suc, refl, ap, ◌∙◌, sym, subst, arith, length-append}
 use Rattle.std.proofs.lemmas.Bool.{false≢true}
 use Rattle.mm_text.specs.Bytes.{Token}
-use Rattle.mm_frame.specs.Assertions.{Assertion, assertions_of, typings_of}
-use Rattle.mm_frame.specs.Frames.{Hypothesis, floating, essential}
-use Rattle.mm_frame.specs.FrameLaws.{written_statements}
-use Rattle.mm_frame.specs.Validity.{IsValid}
-use Rattle.mm_frame.proofs.Faults.{faultless_valid}
+use Rattle.mm_database.specs.Assertions.{Assertion, assertions_of, typings_of}
+use Rattle.mm_database.specs.Frames.{Hypothesis, floating, essential}
+use Rattle.mm_database.specs.FrameLaws.{written_statements}
+use Rattle.mm_database.specs.Validity.{IsValid}
+use Rattle.mm_database.proofs.Faults.{faultless_valid}
 use Rattle.ml_pat.specs.Patterns.{Pattern, bot, top, imp, not, and, or, equal, member, fun, ex, all, app, at_sort, next, ev, var, meta, constant}
 use Rattle.term_core.specs.Patterns.{Pattern as RulePattern}
 use Rattle.rule_core.specs.declared.rules.Program.{Program}

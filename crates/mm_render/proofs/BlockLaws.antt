@@ -4,11 +4,11 @@ use Rattle.std.specs.Prelude.{◌||◌, if◌then◌else◌, codes, bytes_eq}
 use Rattle.std.proofs.lemmas.Slice.Eq.{bytes_eq-Decides}
 use Rattle.mm_text.specs.Bytes.{Token, has_token}
 use Rattle.mm_text.specs.Labels.{is_label}
-use Rattle.mm_frame.specs.Frames.{label_of, Scope, Frame}
-use Rattle.mm_frame.specs.Database.{Context, with_tokens, with_token, with_frame, with_assertion, with_block_closed}
-use Rattle.mm_frame.specs.Proofs.{hypothesis_of}
-use Rattle.mm_frame.specs.FrameLaws.{Adds}
-use Rattle.mm_frame.specs.Writing.{MayBeStated}
+use Rattle.mm_database.specs.Frames.{label_of, Scope, Frame}
+use Rattle.mm_database.specs.Database.{Context, with_tokens, with_token, with_frame, with_assertion, with_block_closed}
+use Rattle.mm_database.specs.Proofs.{hypothesis_of}
+use Rattle.mm_database.specs.FrameLaws.{Adds}
+use Rattle.mm_database.specs.Writing.{MayBeStated}
 use Rattle.mm_header.specs.HeaderContext.{header_context}
 use Rattle.ml_pat.specs.Patterns.{Pattern}
 use Rattle.mm_proof.specs.Tokens.{letters_of, text_by, own_naming}

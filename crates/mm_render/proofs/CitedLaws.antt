@@ -1,7 +1,7 @@
 -- In a block behind a text that fits, hypotheses, axioms and lemmas are cited soundly.
 use Rattle.std.proofs.Common.{ℕ, ◌<◌, ◌^◌, List, length}
 use Rattle.mm_text.specs.Bytes.{Token}
-use Rattle.mm_frame.specs.Database.{Context}
+use Rattle.mm_database.specs.Database.{Context}
 use Rattle.ml_pat.specs.Patterns.{Pattern}
 use Rattle.mm_proof.specs.Tokens.{own_naming}
 use Rattle.mm_proof.specs.Labels.{statement_label}

@@ -5,13 +5,13 @@ use Rattle.mm_text.specs.Bytes.{Token}
 use Rattle.mm_text.specs.Statements.{Statements, next_statement, statement, statements_from}
 use Rattle.mm_text.specs.TextLaws.{written}
 use Rattle.mm_text.proofs.Writing.{written_statement}
-use Rattle.mm_frame.specs.Forms.{Form, declares_constants, asserts, plain, form_of, has_dollar}
-use Rattle.mm_frame.specs.Frames.{Hypothesis, Frame, Scope, frame_of}
-use Rattle.mm_frame.specs.Database.{Context, after_form}
-use Rattle.mm_frame.specs.Assertions.{Assertion, assertions_in, assertions_of, form_assertion, with_assertion_first, form_typing, typings_in, typings_of, with_typing_first}
-use Rattle.mm_frame.specs.FrameLaws.{Adds, plain_tokens, written_statements}
-use Rattle.mm_frame.proofs.WrittenForms.{plain_tokens_say}
-use Rattle.mm_frame.proofs.Stated.{appended_states}
+use Rattle.mm_database.specs.Forms.{Form, declares_constants, asserts, plain, form_of, has_dollar}
+use Rattle.mm_database.specs.Frames.{Hypothesis, Frame, Scope, frame_of}
+use Rattle.mm_database.specs.Database.{Context, after_form}
+use Rattle.mm_database.specs.Assertions.{Assertion, assertions_in, assertions_of, form_assertion, with_assertion_first, form_typing, typings_in, typings_of, with_typing_first}
+use Rattle.mm_database.specs.FrameLaws.{Adds, plain_tokens, written_statements}
+use Rattle.mm_database.proofs.WrittenForms.{plain_tokens_say}
+use Rattle.mm_database.proofs.Stated.{appended_states}
 use Rattle.ml_pat.specs.Named.{AreDistinct, IsNoneOf}
 use Rattle.rule_core.specs.declared.rules.Program.{Program}
 use Rattle.ml_image.specs.Gained.{AreOwnTokens}

@@ -7,15 +7,15 @@ use Rattle.std.proofs.lemmas.Slice.Eq.{bytes_eq-Decides}
 use Rattle.mm_text.specs.Bytes.{Token, has_token}
 use Rattle.mm_text.specs.Statements.{statement, ends_statement}
 use Rattle.mm_text.specs.TextLaws.{is_plain_token, is_one_statement, written}
-use Rattle.mm_frame.specs.Forms.{Form, declares_constants, asserts, plain, form_of, has_dollar}
-use Rattle.mm_frame.specs.Frames.{Frame, frame_of}
-use Rattle.mm_frame.specs.Database.{Context, context_after, after_form, with_declared}
-use Rattle.mm_frame.specs.Proofs.{IsProof}
-use Rattle.mm_frame.specs.Validity.{task, form_fault, is_new_label, IsFine}
-use Rattle.mm_frame.specs.FrameLaws.{Adds, plain_tokens}
-use Rattle.mm_frame.specs.Writing.{MayBeStated}
-use Rattle.mm_frame.proofs.WrittenForms.{plain_tokens_say}
-use Rattle.mm_frame.proofs.Continued.{axiom_is_fine}
+use Rattle.mm_database.specs.Forms.{Form, declares_constants, asserts, plain, form_of, has_dollar}
+use Rattle.mm_database.specs.Frames.{Frame, frame_of}
+use Rattle.mm_database.specs.Database.{Context, context_after, after_form, with_declared}
+use Rattle.mm_database.specs.Proofs.{IsProof}
+use Rattle.mm_database.specs.Validity.{task, form_fault, is_new_label, IsFine}
+use Rattle.mm_database.specs.FrameLaws.{Adds, plain_tokens}
+use Rattle.mm_database.specs.Writing.{MayBeStated}
+use Rattle.mm_database.proofs.WrittenForms.{plain_tokens_say}
+use Rattle.mm_database.proofs.Continued.{axiom_is_fine}
 use Rattle.mm_header.specs.Header.{header_rows}
 use Rattle.mm_header.specs.HeaderContext.{header_context, header_labels}
 use Rattle.ml_pat.specs.Named.{AreDistinct, IsNoneOf}

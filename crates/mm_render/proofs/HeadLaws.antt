@@ -6,12 +6,12 @@ use Rattle.std.proofs.lemmas.Bool.{false≢true}
 use Rattle.mm_text.specs.Bytes.{Token, has_token}
 use Rattle.mm_text.specs.Labels.{is_label}
 use Rattle.mm_text.specs.TextLaws.{is_plain_token}
-use Rattle.mm_frame.specs.Forms.{declares_variables, types_variable, assumes, separates, plain, has_dollar}
-use Rattle.mm_frame.specs.Frames.{Hypothesis, label_of, types, Scope}
-use Rattle.mm_frame.specs.Database.{Context}
-use Rattle.mm_frame.specs.Expansion.{has_repeated}
-use Rattle.mm_frame.specs.FrameLaws.{plain_tokens}
-use Rattle.mm_frame.specs.Validity.{declaration_fault, has_two, has_type, is_new_label, is_typed}
+use Rattle.mm_database.specs.Forms.{declares_variables, types_variable, assumes, separates, plain, has_dollar}
+use Rattle.mm_database.specs.Frames.{Hypothesis, label_of, types, Scope}
+use Rattle.mm_database.specs.Database.{Context}
+use Rattle.mm_database.specs.Expansion.{has_repeated}
+use Rattle.mm_database.specs.FrameLaws.{plain_tokens}
+use Rattle.mm_database.specs.Validity.{declaration_fault, has_two, has_type, is_new_label, is_typed}
 use Rattle.mm_header.specs.HeaderContext.{header_context}
 use Rattle.mm_proof.specs.Labels.{statement_label, premise_label}
 use Rattle.mm_render.specs.Statements.{NameKind, sort_name, symbol_name, value_name, kind_front, IsName}

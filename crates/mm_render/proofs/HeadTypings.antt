@@ -3,11 +3,11 @@ use Rattle.std.proofs.Common.{◌≡◌, ℕ, ◌+◌, ◌<◌, ◌^◌, true, f
 use Rattle.std.specs.Prelude.{not, codes}
 use Rattle.std.proofs.lemmas.Bool.{false≢true}
 use Rattle.mm_text.specs.Bytes.{Token}
-use Rattle.mm_frame.specs.Forms.{Keyword, declares_variables, types_variable, separates, assumes, form_of, has_dollar}
-use Rattle.mm_frame.specs.Frames.{Hypothesis}
-use Rattle.mm_frame.specs.Assertions.{form_typing, with_typing_first, keyword_typing}
-use Rattle.mm_frame.specs.FrameLaws.{are_clean, has_proof, plain_tokens}
-use Rattle.mm_frame.proofs.WrittenForms.{plain_tokens_say}
+use Rattle.mm_database.specs.Forms.{Keyword, declares_variables, types_variable, separates, assumes, form_of, has_dollar}
+use Rattle.mm_database.specs.Frames.{Hypothesis}
+use Rattle.mm_database.specs.Assertions.{form_typing, with_typing_first, keyword_typing}
+use Rattle.mm_database.specs.FrameLaws.{are_clean, has_proof, plain_tokens}
+use Rattle.mm_database.proofs.WrittenForms.{plain_tokens_say}
 use Rattle.ml_pat.specs.Patterns.{Pattern}
 use Rattle.mm_proof.specs.Tokens.{letters_of, text_by, own_naming}
 use Rattle.mm_proof.specs.Labels.{premise_label}

@@ -3,8 +3,8 @@ use Rattle.std.proofs.Common.{◌≡◌, ℕ, ◌<◌, false, List, [], ◌∷�
 use Rattle.std.specs.Prelude.{Option, Some, slice_index_or}
 use Rattle.std.proofs.lemmas.List.{get_or-map}
 use Rattle.std.proofs.lemmas.List.Elements.{All-contains_itself}
-use Rattle.mm_frame.specs.Frames.{Frame}
-use Rattle.mm_frame.specs.Assertions.{Assertion, assertions_of, typings_of}
+use Rattle.mm_database.specs.Frames.{Frame}
+use Rattle.mm_database.specs.Assertions.{Assertion, assertions_of, typings_of}
 use Rattle.mm_header.specs.Header.{Row, header_rows}
 use Rattle.mm_header.specs.HeaderText.{header_bytes}
 use Rattle.mm_header.specs.HeaderContext.{header_context, header_labels, header_types, IsFrameOfRow, HasRow, frame_of_row}

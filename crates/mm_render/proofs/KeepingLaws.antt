@@ -3,10 +3,10 @@ use Rattle.std.proofs.Common.{◌≡◌, ℕ, ◌+◌, ◌<◌, ◌^◌, Bool, t
 use Rattle.std.specs.Prelude.{IsTrue, if◌then◌else◌, slice_index_or, codes}
 use Rattle.std.proofs.lemmas.Bool.{false≢true}
 use Rattle.mm_text.specs.Bytes.{Token}
-use Rattle.mm_frame.specs.FrameLaws.{written_statements, plain_tokens, proof_tokens}
-use Rattle.mm_frame.specs.Forms.{asserts, assumes}
-use Rattle.mm_frame.specs.Assertions.{Assertion}
-use Rattle.mm_frame.specs.Proofs.{ProofTree, postorder}
+use Rattle.mm_database.specs.FrameLaws.{written_statements, plain_tokens, proof_tokens}
+use Rattle.mm_database.specs.Forms.{asserts, assumes}
+use Rattle.mm_database.specs.Assertions.{Assertion}
+use Rattle.mm_database.specs.Proofs.{ProofTree, postorder}
 use Rattle.mm_header.specs.HeaderText.{header_bytes}
 use Rattle.ml_pat.specs.Patterns.{Pattern, meta}
 use Rattle.ml_kernel.specs.Theorems.{Theorem, Derivation, Derivations, hypothesis, own_axiom, row, cited, no_derivation, more_derivations}

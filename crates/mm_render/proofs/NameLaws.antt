@@ -8,8 +8,8 @@ use Rattle.mm_text.specs.Bytes.{Token, is_printable, class_of, is_printable_clas
 use Rattle.mm_text.specs.Labels.{is_label_byte, is_label}
 use Rattle.mm_text.specs.TextLaws.{is_plain_token}
 use Rattle.mm_text.specs.Statements.{ends_statement}
-use Rattle.mm_frame.specs.Forms.{has_dollar}
-use Rattle.mm_frame.specs.Frames.{frame_of}
+use Rattle.mm_database.specs.Forms.{has_dollar}
+use Rattle.mm_database.specs.Frames.{frame_of}
 use Rattle.mm_header.specs.Header.{header_rows}
 use Rattle.mm_header.specs.HeaderContext.{header_context, header_labels}
 use Rattle.mm_proof.specs.Labels.{name_label}

@@ -4,11 +4,11 @@ use Rattle.std.specs.Prelude.{◌||◌, if◌then◌else◌, codes, bytes_eq}
 use Rattle.std.proofs.lemmas.Slice.Eq.{bytes_eq-Decides}
 use Rattle.mm_text.specs.Bytes.{Token}
 use Rattle.mm_text.specs.Labels.{is_label}
-use Rattle.mm_frame.specs.Frames.{Hypothesis, essential, Scope, Frame, frame_of}
-use Rattle.mm_frame.specs.Database.{Context}
-use Rattle.mm_frame.specs.Proofs.{hypothesis_of}
-use Rattle.mm_frame.specs.FrameLaws.{written_statements}
-use Rattle.mm_frame.proofs.Continued.{continued_leaves}
+use Rattle.mm_database.specs.Frames.{Hypothesis, essential, Scope, Frame, frame_of}
+use Rattle.mm_database.specs.Database.{Context}
+use Rattle.mm_database.specs.Proofs.{hypothesis_of}
+use Rattle.mm_database.specs.FrameLaws.{written_statements}
+use Rattle.mm_database.proofs.Continued.{continued_leaves}
 use Rattle.mm_header.specs.HeaderContext.{header_context}
 use Rattle.ml_pat.specs.Patterns.{Pattern}
 use Rattle.ml_pat.specs.Named.{AreDistinct}

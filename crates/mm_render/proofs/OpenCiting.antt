@@ -6,9 +6,9 @@ use Rattle.std.proofs.lemmas.Bool.{false≢true}
 use Rattle.std.proofs.lemmas.List.{map-append}
 use Rattle.std.proofs.lemmas.Slice.Eq.{bytes_eq-Decides}
 use Rattle.mm_text.specs.Bytes.{Token, has_token}
-use Rattle.mm_frame.specs.Frames.{Hypothesis, essential}
-use Rattle.mm_frame.specs.Database.{Context}
-use Rattle.mm_frame.specs.Proofs.{Expression, instance_of, typed_variables, texts_apart, pair_apart, keeps_apart, by_hypothesis, ProofTree, Proves, AllProve}
+use Rattle.mm_database.specs.Frames.{Hypothesis, essential}
+use Rattle.mm_database.specs.Database.{Context}
+use Rattle.mm_database.specs.Proofs.{Expression, instance_of, typed_variables, texts_apart, pair_apart, keeps_apart, by_hypothesis, ProofTree, Proves, AllProve}
 use Rattle.ml_pat.specs.Patterns.{Pattern, meta}
 use Rattle.ml_kernel.specs.Lemmas.{instance, instances, HaveNoVariables}
 use Rattle.mm_proof.specs.Tokens.{Naming, own_naming, object_token, meta_token}

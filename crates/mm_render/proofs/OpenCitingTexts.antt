@@ -4,9 +4,9 @@ use Rattle.std.specs.Prelude.{◌||◌, if◌then◌else◌, codes, bytes_eq, sl
 use Rattle.std.proofs.lemmas.Bool.{false≢true}
 use Rattle.std.proofs.lemmas.Slice.Eq.{bytes_eq-Decides}
 use Rattle.mm_text.specs.Bytes.{Token}
-use Rattle.mm_frame.specs.Frames.{Hypothesis}
-use Rattle.mm_frame.specs.Proofs.{Expression, instance_of, substituted}
-use Rattle.mm_frame.specs.Stack.{bindings_of, text_of}
+use Rattle.mm_database.specs.Frames.{Hypothesis}
+use Rattle.mm_database.specs.Proofs.{Expression, instance_of, substituted}
+use Rattle.mm_database.specs.Stack.{bindings_of, text_of}
 use Rattle.ml_pat.specs.Patterns.{Pattern, bot, top, imp, not, and, or, equal, member, fun, ex, all, app, at_sort, next, ev, var, meta, constant}
 use Rattle.ml_kernel.specs.Lemmas.{instance, instances, HasNoVariable, HaveNoVariables}
 use Rattle.mm_proof.specs.Tokens.{Naming, letters_of, bracket, bracketed, text_by, object_token, meta_token, own_naming, name_of, holds}

@@ -7,14 +7,14 @@ use Rattle.std.proofs.lemmas.Bool.{false≢true}
 use Rattle.std.proofs.lemmas.Slice.Eq.{bytes_eq-Decides}
 use Rattle.mm_text.specs.Bytes.{Token, has_token}
 use Rattle.mm_text.specs.Labels.{is_label}
-use Rattle.mm_frame.specs.Frames.{Hypothesis, label_of, Scope, Frame}
-use Rattle.mm_frame.specs.Proofs.{hypothesis_of, ProofTree, Proves}
-use Rattle.mm_frame.specs.Database.{Context, with_assertion}
-use Rattle.mm_frame.specs.Assertions.{Assertion, assertions_of, typings_of}
-use Rattle.mm_frame.specs.Writing.{Leaves}
-use Rattle.mm_frame.specs.FrameLaws.{Adds, written_statements}
-use Rattle.mm_frame.proofs.Continued.{continued_leaves, leaves_is_valid}
-use Rattle.mm_frame.proofs.Stated.{appended_states}
+use Rattle.mm_database.specs.Frames.{Hypothesis, label_of, Scope, Frame}
+use Rattle.mm_database.specs.Proofs.{hypothesis_of, ProofTree, Proves}
+use Rattle.mm_database.specs.Database.{Context, with_assertion}
+use Rattle.mm_database.specs.Assertions.{Assertion, assertions_of, typings_of}
+use Rattle.mm_database.specs.Writing.{Leaves}
+use Rattle.mm_database.specs.FrameLaws.{Adds, written_statements}
+use Rattle.mm_database.proofs.Continued.{continued_leaves, leaves_is_valid}
+use Rattle.mm_database.proofs.Stated.{appended_states}
 use Rattle.mm_header.specs.Header.{Row, header_rows}
 use Rattle.mm_header.specs.HeaderContext.{header_context, header_labels}
 use Rattle.mm_header.proofs.HeaderFrames.{header_only}

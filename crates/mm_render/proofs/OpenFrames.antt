@@ -7,9 +7,9 @@ use Rattle.std.specs.List.{list_any, list_all}
 use Rattle.std.proofs.lemmas.Bool.{false≢true}
 use Rattle.std.proofs.lemmas.Slice.Eq.{bytes_eq-Decides}
 use Rattle.mm_text.specs.Bytes.{Token, has_token}
-use Rattle.mm_frame.specs.Frames as frames
-use Rattle.mm_frame.specs.Frames.{Hypothesis, floating, essential, Scope, Frame, is_needed, is_mandatory, frame_of}
-use Rattle.mm_frame.specs.Database.{Context, are_different_tokens}
+use Rattle.mm_database.specs.Frames as frames
+use Rattle.mm_database.specs.Frames.{Hypothesis, floating, essential, Scope, Frame, is_needed, is_mandatory, frame_of}
+use Rattle.mm_database.specs.Database.{Context, are_different_tokens}
 use Rattle.mm_header.specs.HeaderContext.{header_context}
 use Rattle.ml_pat.specs.Patterns.{Pattern, bot, top, imp, not, and, or, equal, member, fun, ex, all, app, at_sort, next, ev, var, meta, constant}
 use Rattle.mm_proof.specs.Tokens.{letters_of, text_by, bracket, name_of, own_naming}

@@ -5,9 +5,9 @@ use Rattle.std.specs.List.{list_any}
 use Rattle.std.proofs.lemmas.Bool.{false≢true}
 use Rattle.std.proofs.lemmas.Slice.Eq.{bytes_eq-Decides}
 use Rattle.mm_text.specs.Bytes.{Token, has_token}
-use Rattle.mm_frame.specs.Frames.{Hypothesis, essential, label_of, Scope, Frame}
-use Rattle.mm_frame.specs.Database.{Context, are_different_tokens}
-use Rattle.mm_frame.specs.Proofs.{active_hypothesis, hypothesis_of, symbols_apart}
+use Rattle.mm_database.specs.Frames.{Hypothesis, essential, label_of, Scope, Frame}
+use Rattle.mm_database.specs.Database.{Context, are_different_tokens}
+use Rattle.mm_database.specs.Proofs.{active_hypothesis, hypothesis_of, symbols_apart}
 use Rattle.mm_header.specs.HeaderContext.{header_context}
 use Rattle.ml_pat.specs.Patterns.{Pattern}
 use Rattle.mm_proof.specs.Tokens.{name_of, own_naming, object_token, meta_token}

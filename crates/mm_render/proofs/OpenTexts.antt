@@ -4,10 +4,10 @@ use Rattle.std.specs.Prelude.{◌&&◌, ◌||◌, not, codes, bytes_eq}
 use Rattle.std.specs.List.{list_any, list_all}
 use Rattle.mm_text.specs.Bytes.{Token, has_token}
 use Rattle.mm_text.specs.TextLaws.{is_plain_token}
-use Rattle.mm_frame.specs.Forms.{assumes, has_dollar}
-use Rattle.mm_frame.specs.Frames.{Hypothesis, essential, label_of, types}
-use Rattle.mm_frame.specs.Database.{Context}
-use Rattle.mm_frame.specs.Validity.{is_typed, has_type}
+use Rattle.mm_database.specs.Forms.{assumes, has_dollar}
+use Rattle.mm_database.specs.Frames.{Hypothesis, essential, label_of, types}
+use Rattle.mm_database.specs.Database.{Context}
+use Rattle.mm_database.specs.Validity.{is_typed, has_type}
 use Rattle.mm_header.specs.HeaderContext.{header_context}
 use Rattle.ml_pat.specs.Patterns.{Pattern}
 use Rattle.mm_proof.specs.Tokens.{letters_of, text_by, name_of, own_naming}

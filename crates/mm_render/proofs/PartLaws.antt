@@ -3,7 +3,7 @@ use Rattle.std.proofs.Common.{◌≡◌, ℕ, ◌+◌, ◌*◌, ◌<◌, ◌≤�
 use Rattle.std.specs.Borrow.{Bor}
 use Rattle.mm_text.specs.Bytes.{Token}
 use Rattle.mm_text.specs.TextLaws.{written}
-use Rattle.mm_frame.specs.Proofs.{postorder}
+use Rattle.mm_database.specs.Proofs.{postorder}
 use Rattle.ml_pat.specs.Patterns.{Pattern}
 use Rattle.ml_kernel.specs.ProofRows.{Instance}
 use Rattle.ml_kernel.specs.Theorems.{Derivation, Derivations, own_axiom, row, cited, no_derivation, derivations}

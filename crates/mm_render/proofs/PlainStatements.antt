@@ -5,15 +5,15 @@ use Rattle.std.specs.List.{list_all}
 use Rattle.std.proofs.lemmas.Bool.{false≢true}
 use Rattle.mm_text.specs.Bytes.{Token}
 use Rattle.mm_text.specs.Labels.{is_label}
-use Rattle.mm_frame.specs.Forms.{asserts, proves}
-use Rattle.mm_frame.specs.Frames.{Frame, frame_of}
-use Rattle.mm_frame.specs.Database.{Context, with_tokens, with_token, with_frame, with_assertion}
-use Rattle.mm_frame.specs.Proofs.{ProofTree, Proves, postorder}
-use Rattle.mm_frame.specs.Assertions.{with_typing_first}
-use Rattle.mm_frame.specs.FrameLaws.{Adds}
-use Rattle.mm_frame.specs.Writing.{MayBeStated}
-use Rattle.mm_frame.proofs.WrittenForms.{plain_tokens_say, proof_tokens_say}
-use Rattle.mm_frame.proofs.Continued.{axiom_is_fine, theorem_is_fine}
+use Rattle.mm_database.specs.Forms.{asserts, proves}
+use Rattle.mm_database.specs.Frames.{Frame, frame_of}
+use Rattle.mm_database.specs.Database.{Context, with_tokens, with_token, with_frame, with_assertion}
+use Rattle.mm_database.specs.Proofs.{ProofTree, Proves, postorder}
+use Rattle.mm_database.specs.Assertions.{with_typing_first}
+use Rattle.mm_database.specs.FrameLaws.{Adds}
+use Rattle.mm_database.specs.Writing.{MayBeStated}
+use Rattle.mm_database.proofs.WrittenForms.{plain_tokens_say, proof_tokens_say}
+use Rattle.mm_database.proofs.Continued.{axiom_is_fine, theorem_is_fine}
 use Rattle.ml_pat.specs.Patterns.{Pattern}
 use Rattle.ml_kernel.specs.Theorems.{Derivation}
 use Rattle.mm_proof.specs.Tokens.{letters_of, text_by, name_of, own_naming}

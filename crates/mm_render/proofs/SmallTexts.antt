@@ -5,9 +5,9 @@ use Rattle.std.proofs.lemmas.Bool.{false≢true}
 use Rattle.std.proofs.lemmas.Fmt.{decimal_by_steps}
 use Rattle.std.proofs.lemmas.Slice.Eq.{bytes_eq-Decides}
 use Rattle.mm_text.specs.Bytes.{Token, has_token}
-use Rattle.mm_frame.specs.Forms.{declares_constants, asserts}
-use Rattle.mm_frame.specs.Assertions.{assertions_of}
-use Rattle.mm_frame.specs.FrameLaws.{written_statements, plain_tokens, proof_tokens}
+use Rattle.mm_database.specs.Forms.{declares_constants, asserts}
+use Rattle.mm_database.specs.Assertions.{assertions_of}
+use Rattle.mm_database.specs.FrameLaws.{written_statements, plain_tokens, proof_tokens}
 use Rattle.mm_header.specs.Header.{Row, header_rows}
 use Rattle.mm_header.specs.HeaderText.{header_bytes}
 use Rattle.mm_header.specs.HeaderContext.{expression_of}

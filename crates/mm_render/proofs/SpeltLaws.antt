@@ -8,11 +8,11 @@ use Rattle.mm_text.specs.Bytes.{Token, has_token, class_of, is_printable_class}
 use Rattle.mm_text.specs.Labels.{is_label_byte, is_label}
 use Rattle.mm_text.specs.TextLaws.{is_plain_token}
 use Rattle.mm_text.specs.Statements.{ends_statement}
-use Rattle.mm_frame.specs.Forms.{has_dollar}
-use Rattle.mm_frame.specs.Frames.{Hypothesis, label_of, Frame}
-use Rattle.mm_frame.specs.Database.{Context}
-use Rattle.mm_frame.specs.Proofs.{Expression, Leads, by_hypothesis, by_assertion, hypothesis_of, ProofTree, proof_node, ProofForest, no_proof, more_proofs, Proves, AllProve, postorder, all_postorder}
-use Rattle.mm_frame.specs.Writing.{begins_compressed}
+use Rattle.mm_database.specs.Forms.{has_dollar}
+use Rattle.mm_database.specs.Frames.{Hypothesis, label_of, Frame}
+use Rattle.mm_database.specs.Database.{Context}
+use Rattle.mm_database.specs.Proofs.{Expression, Leads, by_hypothesis, by_assertion, hypothesis_of, ProofTree, proof_node, ProofForest, no_proof, more_proofs, Proves, AllProve, postorder, all_postorder}
+use Rattle.mm_database.specs.Writing.{begins_compressed}
 use Rattle.mm_header.specs.Header.{Row, header_rows}
 use Rattle.mm_header.specs.HeaderContext.{header_context}
 use Rattle.mm_header.proofs.HeaderFrames.{header_only}

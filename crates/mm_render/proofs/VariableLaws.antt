@@ -7,8 +7,8 @@ use Rattle.std.proofs.lemmas.Slice.Eq.{bytes_eq-Decides}
 use Rattle.mm_text.specs.Bytes.{Token, class_of, is_printable_class, has_token}
 use Rattle.mm_text.specs.Labels.{is_label_byte, is_label}
 use Rattle.mm_text.specs.TextLaws.{is_plain_token}
-use Rattle.mm_frame.specs.Forms.{has_dollar}
-use Rattle.mm_frame.specs.Frames.{types}
+use Rattle.mm_database.specs.Forms.{has_dollar}
+use Rattle.mm_database.specs.Frames.{types}
 use Rattle.mm_header.specs.Header.{header_rows}
 use Rattle.mm_header.specs.HeaderContext.{header_context, header_labels}
 use Rattle.mm_proof.specs.Labels.{two_numbers, premise_label}

@@ -2,7 +2,7 @@
 use Rattle.std.specs.Prelude.{◌≡◌, List, [], ◌∷◌, codes}
 use Rattle.std.specs.List.{flat_map}
 use Rattle.mm_text.specs.Bytes.{Token}
-use Rattle.mm_frame.specs.Proofs.{postorder}
+use Rattle.mm_database.specs.Proofs.{postorder}
 use Rattle.ml_pat.specs.Patterns.{bot, imp, ex, equal, var, meta}
 use Rattle.mm_proof.specs.Tokens.{object_token, meta_token}
 use Rattle.mm_proof.specs.Labels.{own_labels, statement_label, object_label, meta_label, premise_label}

@@ -3,11 +3,11 @@
 use Rattle.std.specs.Prelude.{◌≡◌, ℕ, ◌+◌, ◌<◌, ◌^◌, Bool, true, false, not, ◌&&◌, ◌||◌, if◌then◌else◌, List, [], ◌∷◌, ◌++◌, map, filter, length, codes, bytes_eq}
 use Rattle.std.specs.List.{list_any, list_all}
 use Rattle.mm_text.specs.Bytes.{Token, has_token}
-use Rattle.mm_frame.specs.Forms.{declares_variables, types_variable, separates, assumes}
-use Rattle.mm_frame.specs.Frames.{Hypothesis, floating, essential, Frame}
-use Rattle.mm_frame.specs.Proofs.{ProofTree}
-use Rattle.mm_frame.specs.Assertions.{Assertion}
-use Rattle.mm_frame.specs.FrameLaws.{plain_tokens}
+use Rattle.mm_database.specs.Forms.{declares_variables, types_variable, separates, assumes}
+use Rattle.mm_database.specs.Frames.{Hypothesis, floating, essential, Frame}
+use Rattle.mm_database.specs.Proofs.{ProofTree}
+use Rattle.mm_database.specs.Assertions.{Assertion}
+use Rattle.mm_database.specs.FrameLaws.{plain_tokens}
 use Rattle.ml_pat.specs.Patterns.{Pattern}
 use Rattle.mm_proof.specs.Tokens.{own_naming}
 use Rattle.mm_proof.specs.Labels.{statement_label, premise_label}

@@ -1,6 +1,6 @@
 -- Derivations that cite lemmas at patterns for their pattern variables, under hypotheses.
 use Rattle.std.specs.Prelude.{◌≡◌, ℕ, List, [], ◌∷◌, ◌++◌, map, slice_get, slice_index_or, Some, Contains}
-use Rattle.mm_frame.specs.Proofs.{ProofTree}
+use Rattle.mm_database.specs.Proofs.{ProofTree}
 use Rattle.ml_pat.specs.Patterns.{Pattern, bot, meta}
 use Rattle.ml_kernel.specs.Lemmas.{instance}
 use Rattle.mm_proof.specs.Tokens.{Naming}

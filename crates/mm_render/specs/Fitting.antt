@@ -1,8 +1,8 @@
 -- What a text has declared that has declared the header and some names.
 use Rattle.std.specs.Prelude.{◌≡◌, ℕ, ◌<◌, ◌≤◌, ◌^◌, false, ◌||◌, List, [], ◌∷◌, length, Some}
 use Rattle.mm_text.specs.Bytes.{Token, has_token}
-use Rattle.mm_frame.specs.Frames.{Frame}
-use Rattle.mm_frame.specs.Database.{Context}
+use Rattle.mm_database.specs.Frames.{Frame}
+use Rattle.mm_database.specs.Database.{Context}
 use Rattle.mm_header.specs.HeaderContext.{header_context}
 use Rattle.mm_proof.specs.Labels.{name_label}
 use Rattle.mm_proof.specs.Serving.{closed_frame}

@@ -2,9 +2,9 @@
 -- and its last theorem says that the run's start reaches its end (Chen and Rosu 2019).
 use Rattle.std.specs.Prelude.{◌≡◌, ℕ, true, false, IsTrue, if◌then◌else◌, List, [], ◌∷◌, ◌++◌, Contains, Option, Some, None, bytes_eq, codes}
 use Rattle.mm_text.specs.Bytes.{Token, has_token}
-use Rattle.mm_frame.specs.Frames.{Hypothesis, floating, essential, Frame}
-use Rattle.mm_frame.specs.Assertions.{Assertion, assertions_of, typings_of}
-use Rattle.mm_frame.specs.Validity.{IsValid}
+use Rattle.mm_database.specs.Frames.{Hypothesis, floating, essential, Frame}
+use Rattle.mm_database.specs.Assertions.{Assertion, assertions_of, typings_of}
+use Rattle.mm_database.specs.Validity.{IsValid}
 use Rattle.mm_header.specs.Header.{Row, header_rows}
 use Rattle.mm_header.specs.HeaderContext.{IsFrameOfRow}
 use Rattle.ml_pat.specs.Patterns.{Pattern, imp, fun, ev, constant}

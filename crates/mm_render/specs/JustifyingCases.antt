@@ -1,7 +1,7 @@
 -- What justifies a run, tried on small texts.
 use Rattle.std.specs.Prelude.{◌≡◌, ℕ, List, [], ◌∷◌, ◌++◌, Some, codes}
 use Rattle.mm_text.specs.Bytes.{Token}
-use Rattle.mm_frame.specs.Frames.{Frame}
+use Rattle.mm_database.specs.Frames.{Frame}
 use Rattle.mm_header.specs.HeaderText.{header_bytes}
 use Rattle.term_core.specs.Patterns.{Pattern as RulePattern, application, no_pattern}
 use Rattle.rule_core.specs.declared.rules.Program.{Program}

@@ -1,7 +1,7 @@
 -- How a text that is written statement by statement comes to justify a run.
 use Rattle.std.specs.Prelude.{◌≡◌, ℕ, ◌<◌, ◌≤◌, ◌^◌, true, false, List, [], ◌∷◌, ◌++◌, length, take, drop, Some}
 use Rattle.mm_text.specs.Bytes.{Token}
-use Rattle.mm_frame.specs.FrameLaws.{written_statements}
+use Rattle.mm_database.specs.FrameLaws.{written_statements}
 use Rattle.mm_header.specs.HeaderText.{header_bytes}
 use Rattle.ml_pat.specs.Patterns.{Pattern, imp, ev}
 use Rattle.ml_pat.specs.Named.{AreDistinct}

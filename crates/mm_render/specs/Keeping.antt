@@ -1,8 +1,8 @@
 -- Which texts fit what a renderer keeps.
 use Rattle.std.specs.Prelude.{◌≡◌, ℕ, ◌<◌, ◌≤◌, ◌^◌, Bool, true, false, IsTrue, List, [], ◌∷◌, ◌++◌, length, take, drop, slice_index_or}
 use Rattle.mm_text.specs.Bytes.{Token}
-use Rattle.mm_frame.specs.Assertions.{Assertion}
-use Rattle.mm_frame.specs.FrameLaws.{written_statements}
+use Rattle.mm_database.specs.Assertions.{Assertion}
+use Rattle.mm_database.specs.FrameLaws.{written_statements}
 use Rattle.mm_header.specs.HeaderText.{header_bytes}
 use Rattle.ml_pat.specs.Patterns.{Pattern, bot}
 use Rattle.ml_pat.specs.Named.{AreDistinct}

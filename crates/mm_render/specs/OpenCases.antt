@@ -1,6 +1,6 @@
 -- A small statement with variables and a hypothesis, and how it is cited.
 use Rattle.std.specs.Prelude.{◌≡◌, ℕ, List, [], ◌∷◌}
-use Rattle.mm_frame.specs.Proofs.{postorder}
+use Rattle.mm_database.specs.Proofs.{postorder}
 use Rattle.ml_pat.specs.Patterns.{Pattern, imp, next, var, meta, constant}
 use Rattle.ml_kernel.specs.Theorems.{Derivation, hypothesis, row, cited, no_derivation, more_derivations}
 use Rattle.ml_kernel.specs.ProofRows.{pattern}

@@ -2,7 +2,7 @@
 use Rattle.std.specs.Prelude.{◌≡◌, ℕ, ◌+◌, ◌*◌, ◌<◌, ◌≤◌, List, [], ◌∷◌, ◌++◌, map}
 use Rattle.mm_text.specs.Bytes.{Token}
 use Rattle.mm_text.specs.TextLaws.{written}
-use Rattle.mm_frame.specs.Proofs.{postorder}
+use Rattle.mm_database.specs.Proofs.{postorder}
 use Rattle.ml_pat.specs.Patterns.{Pattern}
 use Rattle.ml_kernel.specs.ProofRows.{Instance}
 use Rattle.ml_kernel.specs.Theorems.{Derivation, Derivations}

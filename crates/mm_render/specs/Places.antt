@@ -1,7 +1,7 @@
 -- Where a statement stands among those that were stated, and what may be proved by these.
 use Rattle.std.specs.Prelude.{◌≡◌, ℕ, true, IsTrue, List, [], ◌∷◌, ◌++◌, length, take, slice_get, Option, Some, unwrap_or}
 use Rattle.mm_text.specs.Bytes.{Token}
-use Rattle.mm_frame.specs.FrameLaws.{written_statements}
+use Rattle.mm_database.specs.FrameLaws.{written_statements}
 use Rattle.ml_pat.specs.Patterns.{Pattern}
 use Rattle.ml_kernel.specs.Theorems.{Theorem}
 use Rattle.mm_proof.specs.Derivations.{EachUsed}

@@ -1,7 +1,7 @@
 -- Small databases that a renderer writes, judged by the definition of the first fault.
 use Rattle.std.specs.Prelude.{◌≡◌, ℕ, List, ◌++◌, Some, None, codes}
 use Rattle.mm_text.specs.FaultKinds.{fault}
-use Rattle.mm_frame.specs.Validity.{first_fault}
+use Rattle.mm_database.specs.Validity.{first_fault}
 use Rattle.mm_header.specs.HeaderText.{header_bytes}
 
 -- the declarations of a sort and of two symbols

@@ -3,9 +3,9 @@ use Rattle.std.specs.Prelude.{◌≡◌, ℕ, ◌+◌, Bool, true, false, ◌&&�
 use Rattle.std.specs.List.{list_all}
 use Rattle.mm_text.specs.Bytes.{Token}
 use Rattle.mm_text.specs.Bytes.{is_printable}
-use Rattle.mm_frame.specs.Forms.{declares_constants, asserts}
-use Rattle.mm_frame.specs.Proofs.{ProofTree, postorder}
-use Rattle.mm_frame.specs.FrameLaws.{plain_tokens, proof_tokens}
+use Rattle.mm_database.specs.Forms.{declares_constants, asserts}
+use Rattle.mm_database.specs.Proofs.{ProofTree, postorder}
+use Rattle.mm_database.specs.FrameLaws.{plain_tokens, proof_tokens}
 use Rattle.ml_pat.specs.Patterns.{Pattern}
 use Rattle.mm_proof.specs.Tokens.{own_naming}
 use Rattle.mm_proof.specs.Labels.{name_label, statement_label}

@@ -1,6 +1,6 @@
 // What is written: whole statements, behind a text that fits.
 ghost use Rattle.std.specs.Prelude.{◌≡◌, ◌<◌, ◌≤◌, [], ◌∷◌, ◌++◌, false, IsTrue, OnErr, OnOk, drop, length, option_copied, take, unwrap_or};
-ghost use Rattle.mm_frame.specs.FrameLaws.{written_statements};
+ghost use Rattle.mm_database.specs.FrameLaws.{written_statements};
 ghost use Rattle.mm_header.specs.HeaderText.{header_bytes};
 ghost use Rattle.mm_render.specs.Blocks.{axiom_statements, open_assertion};
 ghost use Rattle.mm_render.specs.ClaimVariables.{claim_of, claim_variables};

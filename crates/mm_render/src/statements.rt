@@ -1,6 +1,6 @@
 // Whole statements, each in a block of its own where it has variables or hypotheses.
 ghost use Rattle.std.specs.Prelude.{◌≡◌, [], ◌∷◌, ◌++◌, OnOk};
-ghost use Rattle.mm_frame.specs.FrameLaws.{written_statements};
+ghost use Rattle.mm_database.specs.FrameLaws.{written_statements};
 ghost use Rattle.mm_render.specs.Blocks.{axiom_statements};
 ghost use Rattle.mm_render.specs.Claiming.{proved_statements};
 ghost use Rattle.mm_render.specs.ClaimView.{plain_claim};

@@ -15,7 +15,6 @@ use Rattle.ml_image.specs.Gained.{HasGained}
 use Rattle.term_core.specs.Patterns.{Pattern as RulePattern}
 use Rattle.term_core.specs.RulePatterns.{plain_pattern}
 use Rattle.ml_image.specs.Images.{both, image_of, rule_image_of, HasImageAt, IsImageAt}
-use Rattle.mm_frame.proofs.Namings.{slice_get-last}
 use Rattle.mm_render.specs.Keeping.{Fits, axiom_at, with_stated}
 use Rattle.ml_kernel.specs.Theorems.{Theorem}
 use Rattle.std.specs.Global.{Vec}
@@ -102,6 +101,10 @@ sound_later s names h g =
             stated = k.stated;
           }) 0 s.axioms.items h.axioms;
     })
+
+slice_get-last : {X : Type 0} (xs : List X) (y : X) → slice_get (xs ++ y ∷ []) (length xs) ≡ Some y
+slice_get-last [] y = refl
+slice_get-last (x ∷ xs) y = slice_get-last xs y
 
 -- the last axiom of a theory, and those before it
 pub axiom_last : (theory : List Pattern) (p : Pattern) → axiom_at (theory ++ p ∷ []) (length theory) ≡ p

@@ -1,7 +1,7 @@
 use Rattle.std.proofs.Common.{List, ℕ, ◌≡◌, [], ◌<◌, ◌^◌, length, take, false, ap, ◌∙◌, sym, subst, rules}
 use Rattle.std.proofs.lemmas.List.{length-map}
 use Rattle.ml_pat.specs.Patterns.{Pattern}
-use Rattle.mm_frame.specs.FrameLaws.{written_statements}
+use Rattle.mm_database.specs.FrameLaws.{written_statements}
 use Rattle.mm_render.specs.Blocks.{axiom_statements, open_assertion}
 use Rattle.mm_render.specs.ClaimVariables.{claim_of, claim_variables}
 use Rattle.mm_render.specs.ClaimView.{plain_claim}

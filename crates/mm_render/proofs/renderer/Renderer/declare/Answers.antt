@@ -1,5 +1,5 @@
 use Rattle.std.proofs.Common.{◌++◌, ◌<◌, ◌^◌, ℕ, drop, length, ap, ◌∙◌, sym, subst, rules}
-use Rattle.mm_frame.specs.FrameLaws.{written_statements}
+use Rattle.mm_database.specs.FrameLaws.{written_statements}
 use Rattle.mm_render.specs.Keeping.{Fits}
 use Rattle.mm_render.specs.Kept.{Kept}
 use Rattle.mm_render.specs.Statements.{all_name_statements}

@@ -1,0 +1,13 @@
+pub mod Tests
+pub mod Applying
+pub mod Forests
+pub mod Stacks
+pub mod Faults
+pub mod Texts
+pub mod Saved
+pub mod Stated
+pub mod WrittenForms
+pub mod Continued
+pub mod TypedOnce
+pub mod Shared
+pub mod ClosedFrames

@@ -1,0 +1,13 @@
+pub mod Forms
+pub mod Frames
+pub mod Database
+pub mod Proofs
+pub mod Expansion
+pub mod Stack
+pub mod Validity
+pub mod Cases
+pub mod FrameLaws
+pub mod Assertions
+pub mod Writing
+pub mod Orderly
+pub mod Sharing

@@ -1,0 +1,105 @@
+-- What proves a statement (Metamath book, "The Proof"): a tree whose nodes are labels. A node is an
+-- active hypothesis, or an assertion under a substitution, with a subtree for each of its mandatory
+-- hypotheses. A proof of a database is the postorder of such a tree; in what order its steps are done,
+-- the definition does not say.
+use Rattle.std.specs.Prelude.{◌≡◌, Bool, true, false, not, ◌&&◌, ◌||◌, if◌then◌else◌, List, [], ◌∷◌, ◌++◌, map, flat_map, Option, Some, None, bytes_eq}
+use Rattle.std.specs.List.{list_any, list_all}
+use Rattle.mm_text.specs.Bytes.{Token}
+use Rattle.mm_database.specs.Frames.{Hypothesis, floating, essential, label_of, statement_of, Frame, types}
+use Rattle.mm_database.specs.Database.{Context}
+
+-- a list of symbols that a step of a proof gives
+abbrev pub Expression : Type 0
+Expression = List Token
+
+-- symbols with the texts that a substitution gives them
+abbrev pub substituted : (Token → Expression) → Expression → Expression
+substituted sigma symbols = flat_map sigma symbols
+
+-- what a hypothesis asks for under a substitution
+abbrev pub instance_of : (Token → Expression) → Hypothesis → Expression
+instance_of sigma (floating label typecode variable) = typecode ∷ sigma variable
+instance_of sigma (essential label statement) = substituted sigma statement
+
+-- the variables that hypotheses type
+abbrev pub typed_variables : List Hypothesis → List Token
+typed_variables [] = []
+typed_variables (floating label typecode variable ∷ hypotheses) = variable ∷ typed_variables hypotheses
+typed_variables (essential label statement ∷ hypotheses) = typed_variables hypotheses
+
+-- no two variables, one from each text, are one or lack an active `$d`
+abbrev pub symbols_apart : Context → Token → Token → Bool
+symbols_apart c x y = not (c.variables x && c.variables y) || (not (bytes_eq x y) && c.scope.apart x y)
+
+abbrev pub texts_apart : Context → Expression → Expression → Bool
+texts_apart c xs ys = list_all (λ x. list_all (symbols_apart c x) ys) xs
+
+-- the texts of a pair that has to stay apart do so
+abbrev pub pair_apart : Context → Frame → (Token → Expression) → Token → Token → Bool
+pair_apart c f sigma a b = not (f.apart a b) || texts_apart c (sigma a) (sigma b)
+
+abbrev pub keeps_apart : Context → Frame → (Token → Expression) → Bool
+keeps_apart c f sigma =
+    list_all (λ a. list_all (pair_apart c f sigma a) (typed_variables f.hypotheses)) (typed_variables f.hypotheses)
+
+-- An assertion leads from expressions to one under a substitution, which changes only the variables
+-- that the assertion's mandatory hypotheses type.
+pub record Applies (c : Context) (f : Frame) (sigma : Token → Expression) (given : List Expression) (result : Expression) : Type 0 where
+  pub others : (t : Token) → list_any (types t) f.hypotheses ≡ false → sigma t ≡ t ∷ []
+  pub hypotheses : given ≡ map (instance_of sigma) f.hypotheses
+  pub apart : keeps_apart c f sigma ≡ true
+  pub conclusion : result ≡ substituted sigma f.statement
+
+-- the hypothesis of a label among some
+abbrev pub hypothesis_of : List Hypothesis → Token → Option Hypothesis
+hypothesis_of [] label = None
+hypothesis_of (h ∷ hypotheses) label =
+    if bytes_eq (label_of h) label then Some h else hypothesis_of hypotheses label
+
+abbrev pub active_hypothesis : Context → Token → Option Hypothesis
+active_hypothesis c label = hypothesis_of c.scope.hypotheses label
+
+-- a label leads from expressions to one: an active hypothesis from nothing to its statement, or an
+-- assertion
+pub data Leads (c : Context) (label : Token) : List Expression → Expression → Type 0 where
+  by_hypothesis : (h : Hypothesis) → active_hypothesis c label ≡ Some h → Leads c label [] (statement_of h)
+  by_assertion : (f : Frame) (sigma : Token → Expression) (given : List Expression) (result : Expression) → active_hypothesis c label ≡ None → c.frames label ≡ Some f → Applies c f sigma given result → Leads c label given result
+
+mutual
+  pub data ProofTree : Type 0 where
+    proof_node : Token → ProofForest → ProofTree
+
+  pub data ProofForest : Type 0 where
+    no_proof : ProofForest
+    more_proofs : ProofTree → ProofForest → ProofForest
+
+-- a tree proves an expression, and the trees of a forest prove some, in order
+abbrev mutual
+  pub Proves : Context → ProofTree → Expression → Type 0
+  Proves c (proof_node label trees) result = (given : List Expression) × Leads c label given result × AllProve c trees given
+
+  pub AllProve : Context → ProofForest → List Expression → Type 0
+  AllProve c no_proof results = results ≡ []
+  AllProve c (more_proofs tree trees) results =
+      (first : Expression) × (rest : List Expression) × (results ≡ first ∷ rest) × Proves c tree first × AllProve c trees rest
+
+-- the labels of a tree in postorder
+abbrev mutual
+  pub postorder : ProofTree → List Token
+  postorder (proof_node label trees) = all_postorder trees ++ label ∷ []
+
+  pub all_postorder : ProofForest → List Token
+  all_postorder no_proof = []
+  all_postorder (more_proofs tree trees) = postorder tree ++ all_postorder trees
+
+-- the labels are the postorder of a forest that proves these expressions
+pub record Forms (c : Context) (labels : List Token) (results : List Expression) : Type 0 where
+  pub forest : ProofForest
+  pub order : all_postorder forest ≡ labels
+  pub proves : AllProve c forest results
+
+-- the labels are the postorder of a tree that proves the expression
+pub record IsProof (c : Context) (labels : List Token) (result : Expression) : Type 0 where
+  pub tree : ProofTree
+  pub order : postorder tree ≡ labels
+  pub proves : Proves c tree result
