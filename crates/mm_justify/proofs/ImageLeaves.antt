@@ -8,7 +8,8 @@ use Rattle.mm_text.specs.Bytes.{Token}
 use Rattle.ml_pat.specs.Patterns.{Pattern, top, imp, and, app, at_sort, next, constant}
 use Rattle.ml_pat.specs.Named.{number_of}
 use Rattle.term_core.specs.Terms.{DomainValue}
-use Rattle.term_core.specs.Patterns.{Pattern as RulePattern, Patterns as RulePatterns, variable, domain_value, application, injection, call, no_pattern, more_patterns, IsGround, AreGround}
+use Rattle.term_core.specs.Patterns.{Pattern as RulePattern, Patterns as RulePatterns, variable, domain_value, application, injection, call, no_pattern, more_patterns}
+use Rattle.term_core.specs.GroundPatterns.{IsGround, AreGround}
 use Rattle.rule_core.specs.declared.signature.Signature.{Signature}
 use Rattle.rule_core.specs.ProgramView.{rewrite_rule}
 use Rattle.ml_image.specs.Tokens.{sort_token, symbol_token, value_token, name_at, token_of_sort, token_of_symbol, token_of_value, numbered}
