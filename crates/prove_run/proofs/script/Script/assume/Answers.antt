@@ -1,4 +1,6 @@
 use Rattle.std.proofs.Common.{◌≡◌, ℕ, ◌≤◌, ◌<◌, List, [], ◌∷◌, ◌++◌, Some, length, take, ap, ◌∙◌, sym, subst, arith, length-append}
+use Rattle.std.specs.Option.{is_some}
+use Rattle.std.proofs.lemmas.List.{map-set}
 use Rattle.std.proofs.lemmas.Option.{slice_get_within}
 use Rattle.mm_text.specs.Bytes.{Token}
 use Rattle.ml_pat.specs.Patterns.{Pattern}
@@ -81,3 +83,6 @@ returns-clause-sound c =
                 (stated_stays s.renderer.stated (claim_of [] (axiom_at c.add.new.self number) ∷ []) [] (axiom_at c.add.new.self n) (subst (IsStated s.renderer.stated []) (sym same) h.stated));
           }) 0 s.axioms.items c.requires.sound.axioms);
     }
+
+pub returns-clause-used : goal.returns-clause-used
+returns-clause-used c = map-set is_some c.args.self.now.axioms.items c.args.rule (Some c.in_ok-no.no)
