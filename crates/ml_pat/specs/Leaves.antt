@@ -1,6 +1,5 @@
 -- What is said of each sort, constant and variable of a pattern.
-use Rattle.std.specs.Prelude.{ℕ, Bool, IsTrue, List, [], ◌∷◌}
-use Rattle.ml_kernel.specs.ProofRows.{Instance, pattern, variable, sort}
+use Rattle.std.specs.Prelude.{ℕ, Bool, IsTrue}
 use Rattle.ml_pat.specs.Patterns.{Pattern, bot, top, imp, not, and, or, equal, member, fun, ex, all, app, at_sort, next, ev, var, meta, constant}
 
 -- a fact about each sort, constant, object variable and pattern variable
@@ -45,10 +44,3 @@ EachLeaf f (ev p) = EachLeaf f p
 EachLeaf f (var x) = f.object x
 EachLeaf f (meta i) = f.meta i
 EachLeaf f (constant c) = f.constant c
-
--- and so has what stands for each variable of a rule
-abbrev pub EachInstance : LeafFacts → List Instance → Type 0
-EachInstance f [] = Unit {0}
-EachInstance f (pattern p ∷ is) = EachLeaf f p × EachInstance f is
-EachInstance f (variable x ∷ is) = f.object x × EachInstance f is
-EachInstance f (sort s ∷ is) = f.sort s × EachInstance f is
