@@ -4,14 +4,15 @@ use Rattle.mm_frame.specs.Database.{Context}
 use Rattle.mm_frame.specs.Proofs.{Proves, AllProve}
 use Rattle.ml_pat.specs.Patterns.{Pattern}
 use Rattle.ml_kernel.specs.Lemmas.{instances}
-use Rattle.ml_kernel.specs.Theorems.{Derivation, Derivations, hypothesis, own_axiom, row, cited, no_derivation, more_derivations}
+use Rattle.ml_kernel.specs.Theorems.{Derivation, Derivations, hypothesis, own_axiom, by_rule, cited, no_derivation, more_derivations}
 use Rattle.ml_kernel.specs.Concluding.{Concludes, AllConclude}
 use Rattle.mm_proof.specs.Tokens.{Naming}
 use Rattle.mm_proof.specs.Trees.{trees_of}
-use Rattle.mm_proof.specs.Leaves.{LeafFacts}
+use Rattle.ml_pat.specs.Leaves.{LeafFacts}
 use Rattle.mm_proof.specs.Serving.{Serves}
-use Rattle.mm_proof.specs.Derivations.{holds_text, Citing, derivation_tree, derivation_trees, EachUsed, AllUsed}
-use Rattle.mm_proof.specs.MayCite.{MayCite, EachCited, AllCited, CitesSoundly}
+use Rattle.mm_proof.specs.Derivations.{holds_text, Citing, derivation_tree, derivation_trees, CitesSoundly}
+use Rattle.ml_kernel.specs.UsedLeaves.{EachUsed, AllUsed}
+use Rattle.ml_kernel.specs.MayCite.{MayCite, EachCited, AllCited}
 use Rattle.mm_proof.proofs.RuleLaws.{rule_proves}
 
 mutual
@@ -20,8 +21,8 @@ mutual
       subst (λ (r : Pattern). Proves c (s.premise p) (holds_text n r)) concludes.1 (sound.premise p concludes.0)
   cited_proves c l n known hyps k s w sound (own_axiom i p) q concludes used cites =
       subst (λ (r : Pattern). Proves c (s.fact p) (holds_text n r)) concludes.1 (sound.fact p cites)
-  cited_proves c l n known hyps k s w sound (row i is ds) q (ps, (by_rule, every)) used cites =
-      rule_proves c l n known (derivation_trees l s ds) w by_rule used.0 (cited_prove c l n known hyps k s w sound ds ps every used.1 cites)
+  cited_proves c l n known hyps k s w sound (by_rule r is ds) q (ps, (infers, every)) used cites =
+      rule_proves c l n known (derivation_trees l s ds) w infers used.0 (cited_prove c l n known hyps k s w sound ds ps every used.1 cites)
   cited_proves c l n known hyps k s w sound (cited own p d ms ds) q (inner, closed) used cites =
       subst (λ (r : Pattern). Proves c (s.lemma own p ms (derivation_trees l s ds)) (holds_text n r)) closed.1.0
       (sound.lemma own p ms (derivation_trees l s ds) cites.0 closed.0 (cited_prove c l n known hyps k s w sound ds (instances ms own) closed.1.1 used cites.1))
