@@ -205,7 +205,14 @@ impl Thm {
     // Quantifiers and elements: for each element, for one, and for some.
 
     /// `(all x s p) -> fun q s -> r`, where r is p with q for x.
-    pub fn inst<'a>(alloc: Global, p: &'a MPat, q: &'a MPat, r: &'a MPat, x: VarNo, s: MSort) -> Result<Thm, AllocError>
+    pub fn inst<'a>(
+        alloc: Global,
+        p: &'a MPat,
+        q: &'a MPat,
+        r: &'a MPat,
+        x: VarNo,
+        s: MSort,
+    ) -> Result<Thm, AllocError>
         requires { substituted p.now x.0 q.now ≡ Some r.now }
         ensures { IfOk result (IsByRule rule.Inst (pattern p.now ∷ pattern q.now ∷ pattern r.now ∷ variable x.0 ∷ sort s.0 ∷ []) [] (imp (all x.0 s.0 p.now) (imp (fun q.now s.0) r.now))) }
     {
@@ -221,7 +228,14 @@ impl Thm {
     }
 
     /// `(ex x s p) -> q`, from `fun x s -> p -> q`, where x is fresh in q.
-    pub fn ex_el<'a>(alloc: Global, a: &Thm, p: &'a MPat, q: &'a MPat, x: VarNo, s: MSort) -> Result<Thm, AllocError>
+    pub fn ex_el<'a>(
+        alloc: Global,
+        a: &Thm,
+        p: &'a MPat,
+        q: &'a MPat,
+        x: VarNo,
+        s: MSort,
+    ) -> Result<Thm, AllocError>
         requires a { a.now.conclusion ≡ imp (fun (var x.0) s.0) (imp p.now q.now) }
         requires fresh { IsFresh x.0 q.now }
         ensures { IfOk result (IsByRule rule.ExEl (pattern p.now ∷ pattern q.now ∷ variable x.0 ∷ sort s.0 ∷ []) (a.now ∷ []) (imp (ex x.0 s.0 p.now) q.now)) }
@@ -239,7 +253,15 @@ impl Thm {
     }
 
     /// `p = q -> t -> u`, where t and u are r with p and with q for x.
-    pub fn eq_el<'a>(alloc: Global, p: &'a MPat, q: &'a MPat, r: &'a MPat, t: &'a MPat, u: &'a MPat, x: VarNo) -> Result<Thm, AllocError>
+    pub fn eq_el<'a>(
+        alloc: Global,
+        p: &'a MPat,
+        q: &'a MPat,
+        r: &'a MPat,
+        t: &'a MPat,
+        u: &'a MPat,
+        x: VarNo,
+    ) -> Result<Thm, AllocError>
         requires t { substituted r.now x.0 p.now ≡ Some t.now }
         requires u { substituted r.now x.0 q.now ≡ Some u.now }
         ensures { IfOk result (IsByRule rule.EqEl (pattern p.now ∷ pattern q.now ∷ pattern r.now ∷ pattern t.now ∷ pattern u.now ∷ variable x.0 ∷ []) [] (imp (equal p.now q.now) (imp t.now u.now))) }
@@ -275,7 +297,13 @@ impl Thm {
     }
 
     /// `fun p s -> fun q v -> ~(p = q) -> ~(p & q)`.
-    pub fn apart<'a>(alloc: Global, p: &'a MPat, q: &'a MPat, s: MSort, v: MSort) -> Result<Thm, AllocError>
+    pub fn apart<'a>(
+        alloc: Global,
+        p: &'a MPat,
+        q: &'a MPat,
+        s: MSort,
+        v: MSort,
+    ) -> Result<Thm, AllocError>
         ensures { IfOk result (IsByRule rule.Apart (pattern p.now ∷ pattern q.now ∷ sort s.0 ∷ sort v.0 ∷ []) [] (imp (fun p.now s.0) (imp (fun q.now v.0) (imp (not (equal p.now q.now)) (not (and p.now q.now)))))) }
     {
         infer!(alloc, Apart [Pat(p), Pat(q), Sort(s), Sort(v)], [], (imp (fun p s) (imp (fun q v) (imp (not (equal p q)) (not (and p q))))))
@@ -284,7 +312,14 @@ impl Thm {
     // Application: it carries implications and nothing, on either side.
 
     /// `r -> p t -> q t`, from `r -> p -> q`, where r is a predicate.
-    pub fn app_l(alloc: Global, a: &Thm, p: &MPat, q: &MPat, r: &MPat, t: &MPat) -> Result<Thm, AllocError>
+    pub fn app_l(
+        alloc: Global,
+        a: &Thm,
+        p: &MPat,
+        q: &MPat,
+        r: &MPat,
+        t: &MPat,
+    ) -> Result<Thm, AllocError>
         requires a { a.now.conclusion ≡ imp r.now (imp p.now q.now) }
         requires predicate { IsPredicate r.now }
         ensures { IfOk result (IsByRule rule.AppL (pattern p.now ∷ pattern q.now ∷ pattern r.now ∷ pattern t.now ∷ []) (a.now ∷ []) (imp r.now (imp (app p.now t.now) (app q.now t.now)))) }
@@ -293,7 +328,14 @@ impl Thm {
     }
 
     /// `r -> t p -> t q`, from `r -> p -> q`, where r is a predicate.
-    pub fn app_r(alloc: Global, a: &Thm, p: &MPat, q: &MPat, r: &MPat, t: &MPat) -> Result<Thm, AllocError>
+    pub fn app_r(
+        alloc: Global,
+        a: &Thm,
+        p: &MPat,
+        q: &MPat,
+        r: &MPat,
+        t: &MPat,
+    ) -> Result<Thm, AllocError>
         requires a { a.now.conclusion ≡ imp r.now (imp p.now q.now) }
         requires predicate { IsPredicate r.now }
         ensures { IfOk result (IsByRule rule.AppR (pattern p.now ∷ pattern q.now ∷ pattern r.now ∷ pattern t.now ∷ []) (a.now ∷ []) (imp r.now (imp (app t.now p.now) (app t.now q.now)))) }

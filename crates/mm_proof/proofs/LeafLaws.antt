@@ -64,4 +64,3 @@ list_all-text test n (all x s p) w h = opening test (codes "\\all") (n.object x 
 list_all-text test n (var x) w h = alone test (n.object x) h
 list_all-text test n (meta i) w h = alone test (n.meta i) h
 list_all-text test n (constant c) w h = alone test (n.constant c) h
-
