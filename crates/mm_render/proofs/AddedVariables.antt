@@ -4,7 +4,8 @@ use Rattle.std.specs.Prelude.{◌||◌, flat_map}
 use Rattle.std.proofs.lemmas.Bool.{false≢true}
 use Rattle.std.proofs.lemmas.Grind.{flat_map-append}
 use Rattle.std.specs.Borrow.{Bor}
-use Rattle.ml_pat.specs.Patterns.{Pattern, forms_in}
+use Rattle.ml_pat.specs.Patterns.{Pattern}
+use Rattle.ml_pat.specs.FormsIn.{forms_in}
 use Rattle.mm_render.specs.Variables.{Variable, same_variable, has_variable, are_once, AreNumbered}
 use Rattle.mm_render.specs.OpenVariables.{variables_in, other_variables}
 use Rattle.mm_render.specs.ClaimVariables.{added}

@@ -13,7 +13,7 @@ use Rattle.rule_core.specs.declared.rules.Program.{Program}
 use Rattle.ml_image.specs.Images.{image_of}
 use Rattle.ml_image.specs.Gained.{AreOwnTokens}
 use Rattle.mm_render.specs.Kept.{Kept}
-use Rattle.mm_proof.specs.Leaves.{EachLeaf}
+use Rattle.ml_pat.specs.Leaves.{EachLeaf}
 use Rattle.mm_proof.specs.Tokens.{own_naming}
 use Rattle.mm_proof.specs.Derivations.{holds_text}
 use Rattle.mm_render.specs.Statements.{typecode_of}
@@ -27,7 +27,7 @@ use Rattle.mm_render.specs.OpenVariables.{variables_in, other_variables}
 use Rattle.mm_render.specs.Places.{lemma_statements, more_variables}
 use Rattle.mm_render.specs.Justifying.{own_axiom, AreAllowed, AreTypings, HasOnlyAxiomsOf, Justifies}
 use Rattle.mm_render.specs.JustifyingLaws.{AllDeclared, AxiomHasOnly, TheoremHasOnly, TheoremJustifies, FitsLater, GainedAreOwn, ClosedStays, ClosedHasNoMeta, ClosedIsOver, ClosedClaims, LastIsStated, StatedStays}
-use Rattle.mm_proof.proofs.LeafLaws.{EachLeaf-implied}
+use Rattle.ml_pat.proofs.LeafLaws.{EachLeaf-implied}
 use Rattle.mm_render.proofs.FittingLaws.{name_of-front, take-all}
 use Rattle.mm_render.proofs.OpenFits.{claims_are_valid}
 

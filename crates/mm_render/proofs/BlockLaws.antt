@@ -13,7 +13,7 @@ use Rattle.mm_header.specs.HeaderContext.{header_context}
 use Rattle.ml_pat.specs.Patterns.{Pattern}
 use Rattle.mm_proof.specs.Tokens.{letters_of, text_by, own_naming}
 use Rattle.mm_proof.specs.Labels.{name_label, statement_label, premise_label}
-use Rattle.mm_proof.specs.Leaves.{EachLeaf}
+use Rattle.ml_pat.specs.Leaves.{EachLeaf}
 use Rattle.mm_proof.specs.Derivations.{holds_text}
 use Rattle.mm_render.specs.Statements.{NameKind, sort_name, symbol_name, value_name, kind_front, IsName}
 use Rattle.mm_render.specs.Fitting.{AreNames, Holds}
@@ -21,7 +21,7 @@ use Rattle.mm_render.specs.Variables.{Variable, object_variable, pattern_variabl
 use Rattle.mm_render.specs.Blocks.{Claim, IsClaim, premise_hypotheses, separations, head_statements, block, open_frame}
 use Rattle.mm_render.specs.OverNames.{open_over, AreOpenOver}
 use Rattle.mm_render.specs.Claiming.{IsFree, AreClaims, HoldsClaims}
-use Rattle.mm_proof.proofs.LeafLaws.{EachLeaf-implied}
+use Rattle.ml_pat.proofs.LeafLaws.{EachLeaf-implied}
 use Rattle.mm_render.proofs.SpeltLaws.{statement_label-is_label, statement_label-differs}
 use Rattle.mm_render.proofs.StatedLaws.{itself, statement_no_active, name_no_statement, row_differs}
 use Rattle.mm_render.proofs.VariableLaws.{label_elsewhere, premise_elsewhere, no_other_among, has_append}

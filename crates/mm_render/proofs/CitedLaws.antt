@@ -8,7 +8,7 @@ use Rattle.mm_proof.specs.Labels.{statement_label}
 use Rattle.mm_render.specs.Variables.{Variable, AreNumbered}
 use Rattle.mm_render.specs.Blocks.{Claim, open_frame}
 use Rattle.mm_render.specs.OverNames.{open_over}
-use Rattle.mm_proof.specs.MayCite.{CitesSoundly}
+use Rattle.mm_proof.specs.Derivations.{CitesSoundly}
 use Rattle.mm_render.specs.CitedAt.{claims_citing, citable, ArePremises}
 use Rattle.mm_render.specs.Claiming.{HoldsClaims}
 use Rattle.mm_render.proofs.BlockLaws.{inside_block}

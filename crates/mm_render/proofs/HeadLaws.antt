@@ -19,7 +19,7 @@ use Rattle.mm_render.specs.Fitting.{AreNames, Holds}
 use Rattle.mm_render.specs.Variables.{Variable, object_variable, pattern_variable, number_of, same_variable, has_variable, are_once, AreNumbered, variable_token, variable_label, variable_type, variable_tokens, is_variable_token}
 use Rattle.mm_render.specs.Blocks.{variable_statements, variable_float, separation_statements}
 use Rattle.mm_render.specs.Claiming.{IsFree}
-use Rattle.mm_proof.proofs.LeafLaws.{both_true, split_true}
+use Rattle.ml_pat.proofs.LeafLaws.{both_true, split_true}
 use Rattle.mm_render.proofs.SpeltLaws.{LabelFacts, label_facts, statement_label-is_label}
 use Rattle.mm_render.proofs.StatedLaws.{itself, name_no_statement}
 use Rattle.mm_render.proofs.VariableLaws.{VariableFacts, variable_facts, label_differs, label_spelt, premise_spelt, no_variable_among, no_other_among}

@@ -15,7 +15,7 @@ use Rattle.mm_render.specs.Fitting.{AreNames}
 use Rattle.mm_render.specs.Variables.{Variable, are_once, AreNumbered, variable_token, variable_label, variable_type, variable_tokens}
 use Rattle.mm_render.specs.Blocks.{variable_statements, variable_float, separated, separation_statements, separations, premise_statements, head_statements, block}
 use Rattle.mm_render.specs.OverNames.{AreOpenOver}
-use Rattle.mm_proof.proofs.LeafLaws.{both_true}
+use Rattle.ml_pat.proofs.LeafLaws.{both_true}
 use Rattle.mm_render.proofs.VariableLaws.{VariableFacts, variable_facts}
 use Rattle.mm_render.proofs.InsideLaws.{typed}
 use Rattle.mm_render.proofs.Separations.{EachSeparated, each_separated, variables_are_symbols}

@@ -16,7 +16,7 @@ use Rattle.mm_proof.specs.Labels.{name_label}
 use Rattle.mm_render.specs.Statements.{NameKind, sort_name, symbol_name, value_name, kind_front, is_name_byte, IsName, typecode_of}
 use Rattle.mm_render.specs.Fitting.{name_frame, AreNames}
 use Rattle.mm_render.specs.Variables.{is_variable_token}
-use Rattle.mm_proof.proofs.LeafLaws.{both_true, split_true}
+use Rattle.ml_pat.proofs.LeafLaws.{both_true, split_true}
 use Rattle.mm_proof.proofs.Decimals.{list_all-decimal, decimal-same}
 
 -- what is known of a name's token

@@ -10,7 +10,7 @@ use Rattle.mm_frame.specs.Stack.{bindings_of, text_of}
 use Rattle.ml_pat.specs.Patterns.{Pattern, bot, top, imp, not, and, or, equal, member, fun, ex, all, app, at_sort, next, ev, var, meta, constant}
 use Rattle.ml_kernel.specs.Lemmas.{instance, instances, HasNoVariable, HaveNoVariables}
 use Rattle.mm_proof.specs.Tokens.{Naming, letters_of, bracket, bracketed, text_by, object_token, meta_token, own_naming, name_of, holds}
-use Rattle.mm_proof.specs.Leaves.{LeafFacts, EachLeaf}
+use Rattle.ml_pat.specs.Leaves.{LeafFacts, EachLeaf}
 use Rattle.mm_proof.specs.Derivations.{holds_text}
 use Rattle.mm_proof.specs.Serving.{punctuation}
 use Rattle.mm_render.specs.Fitting.{AreNames}
@@ -18,7 +18,7 @@ use Rattle.mm_render.specs.Variables.{Variable, object_variable, pattern_variabl
 use Rattle.mm_render.specs.Blocks.{variable_float, premise_hypotheses}
 use Rattle.mm_render.specs.OverNames.{open_over, AreOpenOver}
 use Rattle.mm_proof.proofs.Schemes.{Leaves, under, judgement-under}
-use Rattle.mm_proof.proofs.LeafLaws.{EachLeaf-implied, other_leaves}
+use Rattle.ml_pat.proofs.LeafLaws.{EachLeaf-implied, other_leaves}
 use Rattle.mm_proof.proofs.Decimals.{decimal-same}
 use Rattle.mm_render.proofs.NameLaws.{name_facts}
 use Rattle.mm_render.proofs.VariableLaws.{numbered_at, same_is, itself_same, token_is_variable}

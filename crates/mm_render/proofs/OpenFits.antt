@@ -31,7 +31,7 @@ use Rattle.mm_render.specs.Blocks.{Claim, IsClaim, head_statements, block, axiom
 use Rattle.mm_render.specs.OverNames.{open_over, AreOpenOver}
 use Rattle.mm_render.specs.Statements.{axiom_statement, theorem_statement}
 use Rattle.mm_render.specs.Claiming.{FitsClaims, HoldsClaims, ClaimsAreValid, HeaderFitsClaims, AxiomFits, IsProvable, proved_statements, TheoremFits, HasJust, AxiomIsGained, TheoremIsGained}
-use Rattle.mm_proof.proofs.LeafLaws.{split_true, both_true}
+use Rattle.ml_pat.proofs.LeafLaws.{split_true, both_true}
 use Rattle.mm_render.proofs.SpeltLaws.{header_spelt, hypothesis_spelt, types_spelt, postorder_spelt}
 use Rattle.mm_render.proofs.FittingLaws.{header_holds, header_closed}
 use Rattle.mm_render.proofs.StatedLaws.{header_no_active}
@@ -42,7 +42,7 @@ use Rattle.mm_render.proofs.HeadTypings.{block_typed}
 use Rattle.mm_render.proofs.OpenFrames.{frame_is}
 use Rattle.mm_render.proofs.OpenServes.{serves_inside}
 use Rattle.mm_render.proofs.CitedLaws.{claims_sound}
-use Rattle.mm_proof.proofs.OpenCitingDerivations.{cited_proves}
+use Rattle.mm_proof.proofs.CitingDerivations.{cited_proves}
 use Rattle.mm_render.proofs.BlockLaws.{inside_block, behind_block, block_left, claims_hold, ground, all_more_variables, claim_may_be_stated, block_adds}
 use Rattle.mm_render.proofs.PlainStatements.{axiom_asserts, theorem_asserts, plain_axiom_adds, plain_theorem_adds}
 

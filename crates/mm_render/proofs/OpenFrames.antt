@@ -14,13 +14,14 @@ use Rattle.mm_header.specs.HeaderContext.{header_context}
 use Rattle.ml_pat.specs.Patterns.{Pattern, bot, top, imp, not, and, or, equal, member, fun, ex, all, app, at_sort, next, ev, var, meta, constant}
 use Rattle.mm_proof.specs.Tokens.{letters_of, text_by, bracket, name_of, own_naming}
 use Rattle.mm_proof.specs.Labels.{statement_label}
-use Rattle.mm_proof.specs.Leaves.{EachLeaf}
+use Rattle.ml_pat.specs.Leaves.{EachLeaf}
 use Rattle.mm_proof.specs.Derivations.{holds_text}
 use Rattle.mm_render.specs.Fitting.{AreNames, Holds}
 use Rattle.mm_render.specs.Variables.{Variable, object_variable, pattern_variable, is_object, number_of, same_variable, has_variable, are_once, AreNumbered, stands_in, variable_token, variable_tokens, object_tokens}
 use Rattle.mm_render.specs.Blocks.{Claim, IsClaim, variable_float, premise_hypotheses, separations, are_apart, open_frame}
 use Rattle.mm_render.specs.OverNames.{open_over, AreOpenOver}
-use Rattle.mm_proof.proofs.LeafLaws.{both_true, split_true, PassFixed}
+use Rattle.ml_pat.proofs.LeafLaws.{both_true, split_true}
+use Rattle.mm_proof.proofs.LeafLaws.{PassFixed}
 use Rattle.mm_render.proofs.StatedLaws.{itself, none_passes, name_at, name_no_letter}
 use Rattle.mm_render.proofs.VariableLaws.{name_no_variable, token_differs, same_is, numbered_at}
 use Rattle.mm_render.proofs.InsideLaws.{inside, list_any-append, map-append}

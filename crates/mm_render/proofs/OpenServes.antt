@@ -20,7 +20,7 @@ use Rattle.mm_render.specs.Variables.{Variable, object_variable, pattern_variabl
 use Rattle.mm_render.specs.Blocks.{Claim, variable_float, premise_hypotheses, separations, are_apart}
 use Rattle.mm_render.specs.OverNames.{open_over}
 use Rattle.mm_render.specs.Claiming.{IsFree, HoldsClaims}
-use Rattle.mm_proof.proofs.LeafLaws.{both_true, split_true}
+use Rattle.ml_pat.proofs.LeafLaws.{both_true, split_true}
 use Rattle.mm_render.proofs.NameLaws.{name_facts}
 use Rattle.mm_render.proofs.StatedLaws.{itself, name_at, fixed_variables, fixed_constants}
 use Rattle.mm_render.proofs.VariableLaws.{same_is, token_differs, label_differs, premise_differs, no_other_among, numbered_at}

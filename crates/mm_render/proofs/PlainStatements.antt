@@ -26,7 +26,7 @@ use Rattle.mm_render.specs.Blocks.{Claim, IsClaim, open_frame, open_assertion}
 use Rattle.mm_render.specs.OverNames.{open_over}
 use Rattle.mm_render.specs.CitedAt.{claims_citing, citable}
 use Rattle.mm_render.specs.Claiming.{HoldsClaims, IsProvable}
-use Rattle.mm_proof.proofs.OpenCitingDerivations.{cited_proves}
+use Rattle.mm_proof.proofs.CitingDerivations.{cited_proves}
 use Rattle.mm_render.proofs.NameLaws.{name_facts}
 use Rattle.mm_render.proofs.SpeltLaws.{label_facts, statement_label-is_label, header_active_spelt, postorder_spelt, labels_clean, labels_plain, labels_go_on, labels_uncompressed}
 use Rattle.mm_render.proofs.StatedLaws.{name_at, fixed_variables, fixed_constants, axiom_plain, axiom_one, theorem_plain, theorem_one}

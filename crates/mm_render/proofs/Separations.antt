@@ -12,7 +12,7 @@ use Rattle.mm_frame.specs.Expansion.{has_repeated}
 use Rattle.mm_frame.specs.FrameLaws.{are_clean}
 use Rattle.mm_render.specs.Variables.{Variable, object_variable, pattern_variable, is_object, number_of, same_variable, has_variable, are_once, AreNumbered, variable_token, variable_tokens, object_tokens, are_several}
 use Rattle.mm_render.specs.Blocks.{separated, separations, are_apart}
-use Rattle.mm_proof.proofs.LeafLaws.{both_true, split_true, not_true}
+use Rattle.ml_pat.proofs.LeafLaws.{both_true, split_true, not_true}
 use Rattle.mm_render.proofs.StatedLaws.{itself}
 use Rattle.mm_render.proofs.VariableLaws.{VariableFacts, variable_facts, token_differs, same_is, itself_same, turned_variable, has_append, numbered_both, once_more}
 use Rattle.mm_render.proofs.InsideLaws.{list_any-append, map-append, AreSymbols}

@@ -20,7 +20,8 @@ use Rattle.mm_proof.specs.Tokens.{name_of}
 use Rattle.mm_render.specs.Statements.{NameKind, sort_name, symbol_name, value_name, kind_front, IsName}
 use Rattle.mm_render.specs.Fitting.{AreNames, Holds}
 use Rattle.mm_render.specs.Variables.{is_variable_token}
-use Rattle.mm_proof.proofs.LeafLaws.{both_true, list_all-append}
+use Rattle.ml_pat.proofs.LeafLaws.{both_true}
+use Rattle.mm_proof.proofs.LeafLaws.{list_all-append}
 use Rattle.mm_render.proofs.BoolLaws.{either_true, second_true, and_false}
 
 -- what proofs find in the header

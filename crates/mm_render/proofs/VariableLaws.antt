@@ -15,7 +15,7 @@ use Rattle.mm_proof.specs.Labels.{two_numbers, premise_label}
 use Rattle.mm_render.specs.Statements.{NameKind, sort_name, symbol_name, value_name, kind_front, is_name_byte, IsName}
 use Rattle.mm_render.specs.Fitting.{AreNames}
 use Rattle.mm_render.specs.Variables.{Variable, object_variable, pattern_variable, number_of, same_variable, variable_token, variable_label, variable_type, is_variable_token, has_variable, are_once, AreNumbered}
-use Rattle.mm_proof.proofs.LeafLaws.{both_true, split_true, not_true}
+use Rattle.ml_pat.proofs.LeafLaws.{both_true, split_true, not_true}
 use Rattle.mm_render.proofs.BoolLaws.{not_false, split_false}
 use Rattle.mm_proof.proofs.Decimals.{list_all-decimal, decimal-same}
 use Rattle.mm_render.proofs.NameLaws.{all_printing, no_dollars, digit_of_label, digit_prints}

@@ -5,11 +5,11 @@ use Rattle.ml_pat.specs.Patterns.{Pattern, bot, meta}
 use Rattle.ml_kernel.specs.Lemmas.{instance}
 use Rattle.mm_proof.specs.Tokens.{Naming}
 use Rattle.mm_proof.specs.Labels.{statement_label, premise_label, own_labels}
-use Rattle.mm_proof.specs.Leaves.{LeafFacts, EachLeaf}
+use Rattle.ml_pat.specs.Leaves.{LeafFacts, EachLeaf}
 use Rattle.mm_proof.specs.Trees.{cite, syntax_tree}
 use Rattle.mm_proof.specs.Derivations.{Citing}
 use Rattle.mm_render.specs.Variables.{Variable, object_variable, pattern_variable}
-use Rattle.mm_proof.specs.MayCite.{MayCite}
+use Rattle.ml_kernel.specs.MayCite.{MayCite}
 use Rattle.mm_render.specs.Blocks.{Claim}
 
 -- Claims are cited by the labels of their places: over the proofs of what stands for their variables, in the order of these,

@@ -15,13 +15,14 @@ use Rattle.ml_pat.specs.Named.{AreDistinct}
 use Rattle.ml_kernel.specs.Theorems.{Derivation}
 use Rattle.ml_kernel.specs.Concluding.{Concludes}
 use Rattle.mm_proof.specs.Labels.{statement_label, premise_label, own_labels}
-use Rattle.mm_proof.specs.Derivations.{derivation_tree, EachUsed}
+use Rattle.mm_proof.specs.Derivations.{derivation_tree}
+use Rattle.ml_kernel.specs.UsedLeaves.{EachUsed}
 use Rattle.mm_render.specs.Statements.{all_name_statements}
 use Rattle.mm_render.specs.Fitting.{AreNames, Holds}
 use Rattle.mm_render.specs.Variables.{Variable, number_of, variable_token, variable_label, are_once, AreNumbered}
 use Rattle.mm_render.specs.Blocks.{Claim, IsClaim, variable_float, open_frame, open_assertion, axiom_statements, theorem_statements}
 use Rattle.mm_render.specs.OverNames.{open_over}
-use Rattle.mm_proof.specs.MayCite.{EachCited}
+use Rattle.ml_kernel.specs.MayCite.{EachCited}
 use Rattle.mm_render.specs.CitedAt.{claims_citing, citable, ArePremises}
 
 -- no label of a block with this number is taken

@@ -14,7 +14,7 @@ use Rattle.rule_core.specs.Rules.{RewriteRule}
 use Rattle.ml_image.specs.Images.{image_of, rule_image_of, HasImageAt, IsImageAt}
 use Rattle.ml_image.specs.Gained.{AreOwnTokens, HasGained}
 use Rattle.mm_render.specs.Kept.{Kept}
-use Rattle.mm_proof.specs.Leaves.{EachLeaf}
+use Rattle.ml_pat.specs.Leaves.{EachLeaf}
 use Rattle.mm_render.specs.Statements.{all_name_statements}
 use Rattle.mm_render.specs.Fitting.{AreNames}
 use Rattle.mm_render.specs.OverNames.{closed_over, over_names}

@@ -4,13 +4,13 @@ use Rattle.std.specs.Prelude.{ℕ, if◌then◌else◌, List, [], ◌∷◌, ◌
 use Rattle.mm_text.specs.Bytes.{Token}
 use Rattle.ml_pat.specs.Patterns.{Pattern, bot, top, imp, not, and, or, equal, member, fun, ex, all, app, at_sort, next, ev, var, meta, constant}
 use Rattle.ml_kernel.specs.Lemmas.{instance}
-use Rattle.ml_kernel.specs.ProofRows.{Instance, pattern, variable, sort}
-use Rattle.ml_kernel.specs.Theorems.{Derivation, Derivations, hypothesis, own_axiom, row, cited, no_derivation, more_derivations}
+use Rattle.ml_kernel.specs.Rules.{Instance, pattern, variable, sort}
+use Rattle.ml_kernel.specs.Theorems.{Derivation, Derivations, hypothesis, own_axiom, by_rule, cited, no_derivation, more_derivations}
 use Rattle.ml_kernel.specs.Concluding.{Concludes}
-use Rattle.mm_proof.specs.Derivations.{EachUsed}
+use Rattle.ml_kernel.specs.UsedLeaves.{EachUsed}
 use Rattle.mm_render.specs.Variables.{Variable, object_variable, pattern_variable, has_variable, AreNumbered}
 use Rattle.mm_render.specs.Blocks.{Claim, IsClaim}
-use Rattle.mm_proof.specs.MayCite.{EachCited}
+use Rattle.ml_kernel.specs.MayCite.{EachCited}
 use Rattle.mm_render.specs.CitedAt.{claim_at, citable, ArePremises}
 use Rattle.mm_render.specs.OverNames.{over_names}
 use Rattle.mm_render.specs.Claiming.{IsProvable}
@@ -51,7 +51,7 @@ abbrev mutual
   pub variables_of : List Claim → (List Pattern → Pattern → ℕ) → Derivation → List Variable
   variables_of claims place (hypothesis p) = []
   variables_of claims place (own_axiom n p) = (claim_at claims (place [] p)).variables
-  variables_of claims place (row n is ds) = flat_map variables_for is ++ all_variables_of claims place ds
+  variables_of claims place (by_rule r is ds) = flat_map variables_for is ++ all_variables_of claims place ds
   variables_of claims place (cited own q d ms ds) = flat_map (variables_at ms) (claim_at claims (place own q)).variables ++ all_variables_of claims place ds
 
   pub all_variables_of : List Claim → (List Pattern → Pattern → ℕ) → Derivations → List Variable

@@ -4,8 +4,8 @@ use Rattle.mm_text.specs.Bytes.{Token}
 use Rattle.mm_frame.specs.FrameLaws.{written_statements}
 use Rattle.ml_pat.specs.Patterns.{Pattern}
 use Rattle.ml_kernel.specs.Theorems.{Theorem}
-use Rattle.mm_proof.specs.Derivations.{EachUsed}
-use Rattle.mm_proof.specs.MayCite.{MayCite, EachCited}
+use Rattle.ml_kernel.specs.UsedLeaves.{EachUsed}
+use Rattle.ml_kernel.specs.MayCite.{MayCite, EachCited}
 use Rattle.mm_render.specs.Kept.{Kept}
 use Rattle.mm_render.specs.Keys.{pattern_key, statement_key}
 use Rattle.mm_render.specs.OverNames.{over_names, AreOverNames}

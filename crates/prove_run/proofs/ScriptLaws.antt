@@ -22,7 +22,7 @@ use Rattle.std.specs.Global.{Vec}
 use Rattle.mm_render.specs.Kept.{Kept}
 use Rattle.mm_render.specs.Places.{IsStated, MayProve, StatesLemma}
 use Rattle.mm_render.proofs.Allowing.{fits_later, stated_stays, theorem_has_only}
-use Rattle.mm_proof.specs.Leaves.{EachLeaf}
+use Rattle.ml_pat.specs.Leaves.{EachLeaf}
 use Rattle.mm_render.specs.OverNames.{closed_over}
 use Rattle.mm_render.specs.ClaimVariables.{claim_of}
 use Rattle.mm_render.specs.JustifyingLaws.{HasNoVariable}
