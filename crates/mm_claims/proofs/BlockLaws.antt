@@ -13,9 +13,9 @@ use Rattle.mm_header.specs.HeaderContext.{header_context}
 use Rattle.ml_pat.specs.Patterns.{Pattern}
 use Rattle.mm_proof.specs.Tokens.{letters_of, text_by, own_naming}
 use Rattle.mm_proof.specs.Labels.{name_label, statement_label, premise_label}
-use Rattle.mm_proof.specs.Leaves.{EachLeaf}
+use Rattle.ml_pat.specs.Leaves.{EachLeaf}
 use Rattle.mm_proof.specs.Derivations.{holds_text}
-use Rattle.mm_proof.proofs.LeafLaws.{EachLeaf-implied}
+use Rattle.ml_pat.proofs.LeafLaws.{EachLeaf-implied}
 use Rattle.mm_claims.specs.Statements.{NameKind, sort_name, symbol_name, value_name, kind_front, IsName}
 use Rattle.mm_claims.specs.Fitting.{AreNames, Holds}
 use Rattle.mm_claims.specs.Variables.{Variable, object_variable, pattern_variable, has_variable, are_once, AreNumbered, variable_token, variable_label, variable_tokens}

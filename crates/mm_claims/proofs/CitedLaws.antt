@@ -5,7 +5,7 @@ use Rattle.mm_database.specs.Database.{Context}
 use Rattle.ml_pat.specs.Patterns.{Pattern}
 use Rattle.mm_proof.specs.Tokens.{own_naming}
 use Rattle.mm_proof.specs.Labels.{statement_label}
-use Rattle.mm_proof.specs.MayCite.{CitesSoundly}
+use Rattle.mm_proof.specs.Derivations.{CitesSoundly}
 use Rattle.mm_claims.specs.Variables.{Variable, AreNumbered}
 use Rattle.mm_claims.specs.Blocks.{Claim, open_frame}
 use Rattle.mm_claims.specs.OverNames.{open_over}

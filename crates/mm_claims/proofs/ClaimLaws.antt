@@ -4,8 +4,8 @@ use Rattle.std.specs.Prelude.{◌||◌, flat_map}
 use Rattle.std.specs.List.{list_any, list_all}
 use Rattle.mm_text.specs.Bytes.{Token}
 use Rattle.ml_pat.specs.Patterns.{Pattern, bot, top, imp, not, and, or, equal, member, fun, ex, all, app, at_sort, next, ev, var, meta, constant}
-use Rattle.mm_proof.specs.Leaves.{EachLeaf}
-use Rattle.mm_proof.proofs.LeafLaws.{both_true}
+use Rattle.ml_pat.specs.Leaves.{EachLeaf}
+use Rattle.ml_pat.proofs.LeafLaws.{both_true}
 use Rattle.mm_claims.specs.Variables.{Variable, object_variable, pattern_variable, same_variable, has_variable, stands_in}
 use Rattle.mm_claims.specs.OverNames.{open_over, AreOpenOver, over_names, AreOverNames}
 use Rattle.mm_claims.specs.OpenVariables.{variables_in}

@@ -3,8 +3,8 @@ use Rattle.std.proofs.Common.{◌≡◌, ℕ, ◌≤◌, Bool, true, false, List
 use Rattle.std.proofs.lemmas.Bool.{false≢true}
 use Rattle.mm_text.specs.Bytes.{Token}
 use Rattle.ml_pat.specs.Patterns.{Pattern, bot, top, imp, not, and, or, equal, member, fun, ex, all, app, at_sort, next, ev, var, meta, constant}
-use Rattle.mm_proof.specs.Leaves.{EachLeaf}
-use Rattle.mm_proof.proofs.LeafLaws.{EachLeaf-implied}
+use Rattle.ml_pat.specs.Leaves.{EachLeaf}
+use Rattle.ml_pat.proofs.LeafLaws.{EachLeaf-implied}
 use Rattle.mm_claims.specs.OverNames.{closed_over, over_names}
 use Rattle.mm_claims.specs.Variables.{Variable}
 use Rattle.mm_claims.specs.Blocks.{variable_float, open_frame}

@@ -9,12 +9,12 @@ use Rattle.mm_text.specs.TextLaws.{is_plain_token}
 use Rattle.mm_database.specs.Forms.{declares_variables, types_variable, assumes, separates, plain, has_dollar}
 use Rattle.mm_database.specs.Frames.{Hypothesis, label_of, types, Scope}
 use Rattle.mm_database.specs.Database.{Context}
-use Rattle.mm_database.specs.Expansion.{has_repeated}
+use Rattle.mm_text.specs.Bytes.{has_repeated}
 use Rattle.mm_database.specs.FrameLaws.{plain_tokens}
 use Rattle.mm_database.specs.Validity.{declaration_fault, has_two, has_type, is_new_label, is_typed}
 use Rattle.mm_header.specs.HeaderContext.{header_context}
 use Rattle.mm_proof.specs.Labels.{statement_label, premise_label}
-use Rattle.mm_proof.proofs.LeafLaws.{both_true, split_true}
+use Rattle.ml_pat.proofs.LeafLaws.{both_true, split_true}
 use Rattle.mm_claims.specs.Statements.{NameKind, sort_name, symbol_name, value_name, kind_front, IsName}
 use Rattle.mm_claims.specs.Fitting.{AreNames, Holds}
 use Rattle.mm_claims.specs.Variables.{Variable, object_variable, pattern_variable, number_of, same_variable, has_variable, are_once, AreNumbered, variable_token, variable_label, variable_type, variable_tokens, is_variable_token}

@@ -11,7 +11,7 @@ use Rattle.mm_database.proofs.WrittenForms.{plain_tokens_say}
 use Rattle.ml_pat.specs.Patterns.{Pattern}
 use Rattle.mm_proof.specs.Tokens.{letters_of, text_by, own_naming}
 use Rattle.mm_proof.specs.Labels.{premise_label}
-use Rattle.mm_proof.proofs.LeafLaws.{both_true}
+use Rattle.ml_pat.proofs.LeafLaws.{both_true}
 use Rattle.mm_claims.specs.Fitting.{AreNames}
 use Rattle.mm_claims.specs.Variables.{Variable, are_once, AreNumbered, variable_token, variable_label, variable_type, variable_tokens}
 use Rattle.mm_claims.specs.Blocks.{variable_statements, variable_float, separated, separation_statements, separations, premise_statements, head_statements, block}

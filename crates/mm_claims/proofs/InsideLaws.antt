@@ -17,7 +17,8 @@ use Rattle.mm_database.specs.Proofs.{IsProof}
 use Rattle.mm_database.specs.Validity.{task, form_fault, declaration_fault, or_else, IsFine}
 use Rattle.mm_database.specs.FrameLaws.{Adds, written_statements, are_clean, keyword_token, has_proof, plain_tokens}
 use Rattle.mm_database.proofs.WrittenForms.{plain_tokens_say}
-use Rattle.mm_proof.proofs.LeafLaws.{both_true, split_true, list_all-append}
+use Rattle.ml_pat.proofs.LeafLaws.{both_true, split_true}
+use Rattle.mm_proof.proofs.LeafLaws.{list_all-append}
 use Rattle.mm_claims.proofs.StatedLaws.{ends_last}
 use Rattle.mm_claims.proofs.BoolLaws.{not_false, with_false}
 

@@ -9,14 +9,14 @@ use Rattle.mm_database.specs.Assertions.{Assertion}
 use Rattle.mm_database.specs.Proofs.{ProofTree, postorder}
 use Rattle.mm_header.specs.HeaderText.{header_bytes}
 use Rattle.ml_pat.specs.Patterns.{Pattern, meta}
-use Rattle.ml_kernel.specs.Theorems.{Theorem, Derivation, Derivations, hypothesis, own_axiom, row, cited, no_derivation, more_derivations}
+use Rattle.ml_kernel.specs.Theorems.{Theorem, Derivation, Derivations, hypothesis, own_axiom, by_rule, cited, no_derivation, more_derivations}
 use Rattle.ml_kernel.specs.Concluding.{IsKept}
 use Rattle.mm_proof.specs.Labels.{statement_label, premise_label, own_labels}
-use Rattle.mm_proof.specs.Leaves.{EachLeaf}
+use Rattle.ml_pat.specs.Leaves.{EachLeaf}
 use Rattle.mm_proof.specs.Tokens.{name_of, own_naming}
 use Rattle.mm_proof.specs.Derivations.{holds_text, derivation_tree}
-use Rattle.mm_proof.specs.MayCite.{EachCited, AllCited}
-use Rattle.mm_proof.proofs.LeafLaws.{EachLeaf-implied}
+use Rattle.ml_kernel.specs.MayCite.{EachCited, AllCited}
+use Rattle.ml_pat.proofs.LeafLaws.{EachLeaf-implied}
 use Rattle.mm_proof.proofs.AgreeLaws.{agreeing, text-agrees}
 use Rattle.mm_claims.specs.Kept.{Kept}
 use Rattle.mm_claims.specs.Statements.{all_name_statements, axiom_statement, theorem_statement}
@@ -135,7 +135,7 @@ mutual
   cited_citable : (declared : List Token) (claims : List Claim) (place : List Pattern → Pattern → ℕ) (d : Derivation) → Places claims place → EachCited (stated_cites declared claims) d → EachCited (citable (over_names declared) claims place) d
   cited_citable declared claims place (hypothesis p) places h = tt
   cited_citable declared claims place (own_axiom n p) places h = stands_citable declared claims place [] p [] places h tt
-  cited_citable declared claims place (row n is ds) places h = all_citable declared claims place ds places h
+  cited_citable declared claims place (by_rule r is ds) places h = all_citable declared claims place ds places h
   cited_citable declared claims place (cited own q d ms ds) places h = (stands_citable declared claims place own q ms places h.0.0 h.0.1, all_citable declared claims place ds places h.1)
 
   all_citable : (declared : List Token) (claims : List Claim) (place : List Pattern → Pattern → ℕ) (ds : Derivations) → Places claims place → AllCited (stated_cites declared claims) ds → AllCited (citable (over_names declared) claims place) ds

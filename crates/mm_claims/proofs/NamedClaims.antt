@@ -13,10 +13,10 @@ use Rattle.mm_header.specs.HeaderContext.{header_context}
 use Rattle.ml_pat.specs.Patterns.{Pattern}
 use Rattle.ml_pat.specs.Named.{AreDistinct}
 use Rattle.mm_proof.specs.Labels.{name_label, statement_label, premise_label}
-use Rattle.mm_proof.specs.Leaves.{EachLeaf}
+use Rattle.ml_pat.specs.Leaves.{EachLeaf}
 use Rattle.mm_proof.specs.Tokens.{own_naming}
 use Rattle.mm_proof.specs.Derivations.{holds_text}
-use Rattle.mm_proof.proofs.LeafLaws.{EachLeaf-implied}
+use Rattle.ml_pat.proofs.LeafLaws.{EachLeaf-implied}
 use Rattle.mm_proof.proofs.AgreeLaws.{agreeing, text-agrees}
 use Rattle.mm_claims.specs.Statements.{IsName, typecode_of, all_name_statements}
 use Rattle.mm_claims.specs.Fitting.{AreNames}

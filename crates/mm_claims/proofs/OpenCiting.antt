@@ -13,15 +13,14 @@ use Rattle.ml_pat.specs.Patterns.{Pattern, meta}
 use Rattle.ml_kernel.specs.Lemmas.{instance, instances, HaveNoVariables}
 use Rattle.mm_proof.specs.Tokens.{Naming, own_naming, object_token, meta_token}
 use Rattle.mm_proof.specs.Labels.{statement_label, premise_label, own_labels}
-use Rattle.mm_proof.specs.Leaves.{LeafFacts}
+use Rattle.ml_pat.specs.Leaves.{LeafFacts}
 use Rattle.mm_proof.specs.Trees.{trees_of, cite}
-use Rattle.mm_proof.specs.Derivations.{holds_text}
+use Rattle.mm_proof.specs.Derivations.{holds_text, CitesSoundly}
 use Rattle.mm_proof.specs.Serving.{IsAssertion, Serves}
-use Rattle.mm_proof.specs.MayCite.{CitesSoundly}
 use Rattle.mm_proof.proofs.Schemes.{leads-by}
 use Rattle.mm_proof.proofs.RowProofs.{all_proofs}
 use Rattle.mm_proof.proofs.SyntaxLaws.{object_proves, syntax_proves}
-use Rattle.mm_proof.proofs.LeafLaws.{both_true}
+use Rattle.ml_pat.proofs.LeafLaws.{both_true}
 use Rattle.mm_proof.proofs.ApartLaws.{text_apart, apart_text}
 use Rattle.mm_claims.specs.Fitting.{AreNames}
 use Rattle.mm_claims.specs.Variables.{Variable, object_variable, pattern_variable, has_variable, variable_token, variable_tokens, object_tokens}

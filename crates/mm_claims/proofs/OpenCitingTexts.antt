@@ -10,11 +10,11 @@ use Rattle.mm_database.specs.Stack.{bindings_of, text_of}
 use Rattle.ml_pat.specs.Patterns.{Pattern, bot, top, imp, not, and, or, equal, member, fun, ex, all, app, at_sort, next, ev, var, meta, constant}
 use Rattle.ml_kernel.specs.Lemmas.{instance, instances, HasNoVariable, HaveNoVariables}
 use Rattle.mm_proof.specs.Tokens.{Naming, letters_of, bracket, bracketed, text_by, object_token, meta_token, own_naming, name_of, holds}
-use Rattle.mm_proof.specs.Leaves.{LeafFacts, EachLeaf}
+use Rattle.ml_pat.specs.Leaves.{LeafFacts, EachLeaf}
 use Rattle.mm_proof.specs.Derivations.{holds_text}
 use Rattle.mm_proof.specs.Serving.{punctuation}
 use Rattle.mm_proof.proofs.Schemes.{Leaves, under, judgement-under}
-use Rattle.mm_proof.proofs.LeafLaws.{EachLeaf-implied, other_leaves}
+use Rattle.ml_pat.proofs.LeafLaws.{EachLeaf-implied, other_leaves}
 use Rattle.mm_proof.proofs.Decimals.{decimal-same}
 use Rattle.mm_claims.specs.Fitting.{AreNames}
 use Rattle.mm_claims.specs.Variables.{Variable, object_variable, pattern_variable, same_variable, has_variable, number_of, AreNumbered, variable_token, variable_type, is_variable_token}

@@ -24,8 +24,8 @@ use Rattle.ml_kernel.specs.Theorems.{Derivation}
 use Rattle.mm_proof.specs.Tokens.{own_naming}
 use Rattle.mm_proof.specs.Labels.{statement_label, premise_label, own_labels}
 use Rattle.mm_proof.specs.Derivations.{holds_text, derivation_tree}
-use Rattle.mm_proof.proofs.LeafLaws.{split_true, both_true}
-use Rattle.mm_proof.proofs.OpenCitingDerivations.{cited_proves}
+use Rattle.ml_pat.proofs.LeafLaws.{split_true, both_true}
+use Rattle.mm_proof.proofs.CitingDerivations.{cited_proves}
 use Rattle.mm_claims.specs.Fitting.{Holds}
 use Rattle.mm_claims.specs.CitedAt.{claims_citing, citable}
 use Rattle.mm_claims.specs.Variables.{Variable, object_variable, pattern_variable, are_once, AreNumbered, variable_token, variable_label}

@@ -14,9 +14,10 @@ use Rattle.mm_header.specs.HeaderContext.{header_context}
 use Rattle.ml_pat.specs.Patterns.{Pattern, bot, top, imp, not, and, or, equal, member, fun, ex, all, app, at_sort, next, ev, var, meta, constant}
 use Rattle.mm_proof.specs.Tokens.{letters_of, text_by, bracket, name_of, own_naming}
 use Rattle.mm_proof.specs.Labels.{statement_label}
-use Rattle.mm_proof.specs.Leaves.{EachLeaf}
+use Rattle.ml_pat.specs.Leaves.{EachLeaf}
 use Rattle.mm_proof.specs.Derivations.{holds_text}
-use Rattle.mm_proof.proofs.LeafLaws.{both_true, split_true, PassFixed}
+use Rattle.ml_pat.proofs.LeafLaws.{both_true, split_true}
+use Rattle.mm_proof.proofs.LeafLaws.{PassFixed}
 use Rattle.mm_claims.specs.Fitting.{AreNames, Holds}
 use Rattle.mm_claims.specs.Variables.{Variable, object_variable, pattern_variable, is_object, number_of, same_variable, has_variable, are_once, AreNumbered, stands_in, variable_token, variable_tokens, object_tokens}
 use Rattle.mm_claims.specs.Blocks.{Claim, IsClaim, variable_float, premise_hypotheses, separations, are_apart, open_frame}

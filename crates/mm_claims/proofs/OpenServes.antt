@@ -14,7 +14,7 @@ use Rattle.mm_proof.specs.Tokens.{name_of, own_naming, object_token, meta_token}
 use Rattle.mm_proof.specs.Labels.{name_label, premise_label, own_labels}
 use Rattle.mm_proof.specs.Serving.{IsAssertion, closed_frame, Declares, Serves, punctuation}
 use Rattle.mm_proof.specs.Derivations.{holds_text}
-use Rattle.mm_proof.proofs.LeafLaws.{both_true, split_true}
+use Rattle.ml_pat.proofs.LeafLaws.{both_true, split_true}
 use Rattle.mm_claims.specs.Statements.{typecode_of}
 use Rattle.mm_claims.specs.Fitting.{Holds}
 use Rattle.mm_claims.specs.Variables.{Variable, object_variable, pattern_variable, is_object, number_of, same_variable, has_variable, AreNumbered, variable_label, variable_tokens, object_tokens, is_variable_token}

@@ -12,10 +12,11 @@ use Rattle.mm_header.specs.HeaderContext.{header_context}
 use Rattle.ml_pat.specs.Patterns.{Pattern}
 use Rattle.mm_proof.specs.Tokens.{letters_of, text_by, name_of, own_naming}
 use Rattle.mm_proof.specs.Labels.{premise_label}
-use Rattle.mm_proof.specs.Leaves.{EachLeaf}
+use Rattle.ml_pat.specs.Leaves.{EachLeaf}
 use Rattle.mm_proof.specs.Serving.{punctuation}
 use Rattle.mm_proof.specs.Derivations.{holds_text}
-use Rattle.mm_proof.proofs.LeafLaws.{EachLeaf-implied, tested_leaves, PassFixed, both_true, list_all-text}
+use Rattle.ml_pat.proofs.LeafLaws.{EachLeaf-implied, both_true}
+use Rattle.mm_proof.proofs.LeafLaws.{tested_leaves, PassFixed, list_all-text}
 use Rattle.mm_claims.specs.Fitting.{AreNames, Holds}
 use Rattle.mm_claims.specs.Variables.{Variable, object_variable, pattern_variable, has_variable, are_once, AreNumbered, variable_token, variable_tokens}
 use Rattle.mm_claims.specs.OverNames.{open_over, AreOpenOver}

@@ -5,11 +5,11 @@ use Rattle.std.proofs.lemmas.Bool.{false≢true}
 use Rattle.mm_text.specs.Bytes.{Token}
 use Rattle.ml_pat.specs.Patterns.{Pattern, bot, top, imp, not, and, or, equal, member, fun, ex, all, app, at_sort, next, ev, var, meta, constant}
 use Rattle.ml_kernel.specs.Lemmas.{instance}
-use Rattle.ml_kernel.specs.ProofRows.{Instance, pattern, variable, sort}
-use Rattle.ml_kernel.specs.Theorems.{Derivation, Derivations, hypothesis, own_axiom, row, cited, no_derivation, more_derivations}
-use Rattle.mm_proof.specs.Leaves.{EachLeaf, EachInstance}
-use Rattle.mm_proof.specs.Derivations.{EachUsed, AllUsed}
-use Rattle.mm_proof.specs.MayCite.{EachCited, AllCited}
+use Rattle.ml_kernel.specs.Rules.{Instance, pattern, variable, sort}
+use Rattle.ml_kernel.specs.Theorems.{Derivation, Derivations, hypothesis, own_axiom, by_rule, cited, no_derivation, more_derivations}
+use Rattle.ml_pat.specs.Leaves.{EachLeaf}
+use Rattle.ml_kernel.specs.UsedLeaves.{EachInstance, EachUsed, AllUsed}
+use Rattle.ml_kernel.specs.MayCite.{EachCited, AllCited}
 use Rattle.mm_claims.specs.Variables.{Variable, object_variable, pattern_variable, has_variable, are_once, AreNumbered}
 use Rattle.mm_claims.specs.Blocks.{Claim}
 use Rattle.mm_claims.specs.OverNames.{open_over, over_names}
@@ -89,7 +89,7 @@ mutual
   used_among : (declared : List Token) (vs : List Variable) (claims : List Claim) (place : List Pattern → Pattern → ℕ) (d : Derivation) → Among (variables_of claims place d) vs → EachUsed (over_names declared) d → EachUsed (open_over declared vs) d
   used_among declared vs claims place (hypothesis p) w h = tt
   used_among declared vs claims place (own_axiom n p) w h = tt
-  used_among declared vs claims place (row n is ds) w h = (instances_among declared vs is (among_front (flat_map variables_for is) (all_variables_of claims place ds) vs w) h.0, all_used_among declared vs claims place ds (among_behind (flat_map variables_for is) (all_variables_of claims place ds) vs w) h.1)
+  used_among declared vs claims place (by_rule r is ds) w h = (instances_among declared vs is (among_front (flat_map variables_for is) (all_variables_of claims place ds) vs w) h.0, all_used_among declared vs claims place ds (among_behind (flat_map variables_for is) (all_variables_of claims place ds) vs w) h.1)
   used_among declared vs claims place (cited own q d ms ds) w h = all_used_among declared vs claims place ds (among_behind (flat_map (variables_at ms) (claim_at claims (place own q)).variables) (all_variables_of claims place ds) vs w) h
 
   all_used_among : (declared : List Token) (vs : List Variable) (claims : List Claim) (place : List Pattern → Pattern → ℕ) (ds : Derivations) → Among (all_variables_of claims place ds) vs → AllUsed (over_names declared) ds → AllUsed (open_over declared vs) ds
@@ -100,7 +100,7 @@ mutual
   cited_among : (declared : List Token) (vs : List Variable) (claims : List Claim) (place : List Pattern → Pattern → ℕ) (d : Derivation) → Among (variables_of claims place d) vs → EachCited (citable (over_names declared) claims place) d → EachCited (citable (open_over declared vs) claims place) d
   cited_among declared vs claims place (hypothesis p) w h = tt
   cited_among declared vs claims place (own_axiom n p) w h = citable_among declared vs claims place [] p [] (subst (λ (us : List Variable). Among us vs) (sym (own_variables (claim_at claims (place [] p)).variables)) w) h
-  cited_among declared vs claims place (row n is ds) w h = all_cited_among declared vs claims place ds (among_behind (flat_map variables_for is) (all_variables_of claims place ds) vs w) h
+  cited_among declared vs claims place (by_rule r is ds) w h = all_cited_among declared vs claims place ds (among_behind (flat_map variables_for is) (all_variables_of claims place ds) vs w) h
   cited_among declared vs claims place (cited own q d ms ds) w h = (
     citable_among declared vs claims place own q ms (among_front (flat_map (variables_at ms) (claim_at claims (place own q)).variables) (all_variables_of claims place ds) vs w) h.0,
     all_cited_among declared vs claims place ds (among_behind (flat_map (variables_at ms) (claim_at claims (place own q)).variables) (all_variables_of claims place ds) vs w) h.1,

@@ -20,7 +20,7 @@ use Rattle.mm_proof.specs.Tokens.{letters_of, text_by, name_of, own_naming}
 use Rattle.mm_proof.specs.Labels.{name_label, statement_label, own_labels}
 use Rattle.mm_proof.specs.Serving.{IsAssertion, closed_frame, punctuation, Declares, Serves}
 use Rattle.mm_proof.specs.Derivations.{holds_text, derivation_tree}
-use Rattle.mm_proof.proofs.OpenCitingDerivations.{cited_proves}
+use Rattle.mm_proof.proofs.CitingDerivations.{cited_proves}
 use Rattle.mm_claims.specs.Statements.{typecode_of, axiom_statement, theorem_statement}
 use Rattle.mm_claims.specs.Fitting.{AreNames, Holds}
 use Rattle.mm_claims.specs.Blocks.{Claim, IsClaim, open_frame, open_assertion}

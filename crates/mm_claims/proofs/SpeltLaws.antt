@@ -17,7 +17,8 @@ use Rattle.mm_header.specs.Header.{Row, header_rows}
 use Rattle.mm_header.specs.HeaderContext.{header_context}
 use Rattle.mm_header.proofs.HeaderFrames.{header_only}
 use Rattle.mm_proof.specs.Labels.{statement_label}
-use Rattle.mm_proof.proofs.LeafLaws.{both_true, split_true, list_all-append}
+use Rattle.ml_pat.proofs.LeafLaws.{both_true, split_true}
+use Rattle.mm_proof.proofs.LeafLaws.{list_all-append}
 use Rattle.mm_proof.proofs.Decimals.{list_all-decimal, decimal-same}
 use Rattle.mm_claims.specs.Statements.{is_name_byte}
 use Rattle.mm_claims.proofs.NameLaws.{all_printing, no_dollars, digit_of_label}

@@ -17,7 +17,8 @@ use Rattle.mm_header.specs.HeaderContext.{header_context}
 use Rattle.mm_proof.specs.Labels.{name_label, statement_label}
 use Rattle.mm_proof.specs.Serving.{punctuation}
 use Rattle.mm_proof.specs.Tokens.{name_of}
-use Rattle.mm_proof.proofs.LeafLaws.{both_true, list_all-append}
+use Rattle.ml_pat.proofs.LeafLaws.{both_true}
+use Rattle.mm_proof.proofs.LeafLaws.{list_all-append}
 use Rattle.mm_claims.specs.Statements.{NameKind, sort_name, symbol_name, value_name, kind_front, IsName}
 use Rattle.mm_claims.specs.Fitting.{AreNames, Holds}
 use Rattle.mm_claims.specs.Variables.{is_variable_token}

@@ -5,10 +5,10 @@ use Rattle.ml_pat.specs.Patterns.{Pattern, bot, meta}
 use Rattle.ml_kernel.specs.Lemmas.{instance}
 use Rattle.mm_proof.specs.Tokens.{Naming}
 use Rattle.mm_proof.specs.Labels.{statement_label, premise_label, own_labels}
-use Rattle.mm_proof.specs.Leaves.{LeafFacts, EachLeaf}
+use Rattle.ml_pat.specs.Leaves.{LeafFacts, EachLeaf}
 use Rattle.mm_proof.specs.Trees.{cite, syntax_tree}
 use Rattle.mm_proof.specs.Derivations.{Citing}
-use Rattle.mm_proof.specs.MayCite.{MayCite}
+use Rattle.ml_kernel.specs.MayCite.{MayCite}
 use Rattle.mm_claims.specs.Variables.{Variable, object_variable, pattern_variable}
 use Rattle.mm_claims.specs.Blocks.{Claim}
 

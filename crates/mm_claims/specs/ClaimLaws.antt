@@ -4,8 +4,8 @@ use Rattle.mm_text.specs.Bytes.{Token}
 use Rattle.ml_pat.specs.Patterns.{Pattern, and}
 use Rattle.ml_kernel.specs.Theorems.{Derivation}
 use Rattle.ml_kernel.specs.Concluding.{Concludes}
-use Rattle.mm_proof.specs.Derivations.{EachUsed}
-use Rattle.mm_proof.specs.MayCite.{EachCited}
+use Rattle.ml_kernel.specs.UsedLeaves.{EachUsed}
+use Rattle.ml_kernel.specs.MayCite.{EachCited}
 use Rattle.mm_claims.specs.Variables.{AreNumbered}
 use Rattle.mm_claims.specs.OverNames.{AreOverNames, over_names}
 use Rattle.mm_claims.specs.Blocks.{Claim, IsClaim}

@@ -11,8 +11,9 @@ use Rattle.ml_pat.specs.Patterns.{Pattern}
 use Rattle.ml_kernel.specs.Theorems.{Derivation}
 use Rattle.ml_kernel.specs.Concluding.{Concludes}
 use Rattle.mm_proof.specs.Labels.{statement_label, premise_label, own_labels}
-use Rattle.mm_proof.specs.Derivations.{derivation_tree, EachUsed}
-use Rattle.mm_proof.specs.MayCite.{EachCited}
+use Rattle.mm_proof.specs.Derivations.{derivation_tree}
+use Rattle.ml_kernel.specs.UsedLeaves.{EachUsed}
+use Rattle.ml_kernel.specs.MayCite.{EachCited}
 use Rattle.mm_claims.specs.Fitting.{AreNames, Holds}
 use Rattle.mm_claims.specs.Variables.{Variable, number_of, variable_token, variable_label, are_once, AreNumbered}
 use Rattle.mm_claims.specs.Blocks.{Claim, IsClaim, variable_float, open_frame, theorem_statements}

@@ -2,8 +2,9 @@
 use Rattle.std.specs.Prelude.{◌≡◌, ℕ, List, [], ◌∷◌}
 use Rattle.mm_database.specs.Proofs.{postorder}
 use Rattle.ml_pat.specs.Patterns.{Pattern, imp, next, var, meta, constant}
-use Rattle.ml_kernel.specs.Theorems.{Derivation, hypothesis, row, cited, no_derivation, more_derivations}
-use Rattle.ml_kernel.specs.ProofRows.{pattern}
+use Rattle.ml_kernel.specs.Theorems.{Derivation, hypothesis, by_rule, cited, no_derivation, more_derivations}
+use Rattle.ml_kernel.specs.Rules.{pattern}
+use Rattle.ml_kernel.specs.declared.rules.Rule.TheVariants as rule
 use Rattle.mm_proof.specs.Labels.{name_label, statement_label, object_label, meta_label, premise_label, own_labels}
 use Rattle.mm_proof.specs.Derivations.{derivation_tree}
 use Rattle.mm_claims.specs.Variables.{object_variable, pattern_variable}
@@ -23,7 +24,7 @@ next_claim = record { variables = object_variable 0 ∷ (pattern_variable 0 ∷ 
 
 -- its derivation, and one that cites it for a pattern in the place of m
 abbrev next_derivation : Derivation
-next_derivation = row 26 (pattern (var 0) ∷ (pattern (meta 0) ∷ [])) (more_derivations (hypothesis premise_of_next) no_derivation)
+next_derivation = by_rule rule.NextIn (pattern (var 0) ∷ (pattern (meta 0) ∷ [])) (more_derivations (hypothesis premise_of_next) no_derivation)
 
 abbrev citing_next : Pattern → Derivation
 citing_next p = cited (premise_of_next ∷ []) next_of_both next_derivation (p ∷ []) (more_derivations (hypothesis (imp (var 0) p)) no_derivation)

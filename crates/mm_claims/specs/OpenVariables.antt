@@ -3,8 +3,8 @@
 use Rattle.std.specs.Prelude.{ℕ, if◌then◌else◌, List, [], ◌∷◌, ◌++◌, flat_map}
 use Rattle.ml_pat.specs.Patterns.{Pattern, bot, top, imp, not, and, or, equal, member, fun, ex, all, app, at_sort, next, ev, var, meta, constant}
 use Rattle.ml_kernel.specs.Lemmas.{instance}
-use Rattle.ml_kernel.specs.ProofRows.{Instance, pattern, variable, sort}
-use Rattle.ml_kernel.specs.Theorems.{Derivation, Derivations, hypothesis, own_axiom, row, cited, no_derivation, more_derivations}
+use Rattle.ml_kernel.specs.Rules.{Instance, pattern, variable, sort}
+use Rattle.ml_kernel.specs.Theorems.{Derivation, Derivations, hypothesis, own_axiom, by_rule, cited, no_derivation, more_derivations}
 use Rattle.mm_claims.specs.Variables.{Variable, object_variable, pattern_variable, has_variable}
 use Rattle.mm_claims.specs.Blocks.{Claim}
 use Rattle.mm_claims.specs.CitedAt.{claim_at}
@@ -45,7 +45,7 @@ abbrev mutual
   pub variables_of : List Claim → (List Pattern → Pattern → ℕ) → Derivation → List Variable
   variables_of claims place (hypothesis p) = []
   variables_of claims place (own_axiom n p) = (claim_at claims (place [] p)).variables
-  variables_of claims place (row n is ds) = flat_map variables_for is ++ all_variables_of claims place ds
+  variables_of claims place (by_rule r is ds) = flat_map variables_for is ++ all_variables_of claims place ds
   variables_of claims place (cited own q d ms ds) = flat_map (variables_at ms) (claim_at claims (place own q)).variables ++ all_variables_of claims place ds
 
   pub all_variables_of : List Claim → (List Pattern → Pattern → ℕ) → Derivations → List Variable

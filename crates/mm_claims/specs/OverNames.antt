@@ -3,7 +3,7 @@ use Rattle.std.specs.Prelude.{◌≡◌, ◌<◌, true, List, [], ◌∷◌, len
 use Rattle.mm_text.specs.Bytes.{Token}
 use Rattle.ml_pat.specs.Patterns.{Pattern}
 use Rattle.mm_proof.specs.Tokens.{name_of}
-use Rattle.mm_proof.specs.Leaves.{LeafFacts, EachLeaf}
+use Rattle.ml_pat.specs.Leaves.{LeafFacts, EachLeaf}
 use Rattle.mm_claims.specs.Statements.{typecode_of}
 use Rattle.mm_claims.specs.Variables.{Variable, object_variable, pattern_variable, has_variable}
 

@@ -4,8 +4,8 @@ use Rattle.mm_text.specs.Bytes.{Token}
 use Rattle.mm_database.specs.FrameLaws.{written_statements}
 use Rattle.ml_pat.specs.Patterns.{Pattern}
 use Rattle.ml_kernel.specs.Theorems.{Theorem}
-use Rattle.mm_proof.specs.Derivations.{EachUsed}
-use Rattle.mm_proof.specs.MayCite.{MayCite, EachCited}
+use Rattle.ml_kernel.specs.UsedLeaves.{EachUsed}
+use Rattle.ml_kernel.specs.MayCite.{MayCite, EachCited}
 use Rattle.mm_claims.specs.Kept.{Kept}
 use Rattle.mm_claims.specs.OverNames.{over_names, AreOverNames}
 use Rattle.mm_claims.specs.Variables.{Variable}

@@ -3,7 +3,7 @@ ghost use Rattle.std.specs.Prelude.{◌≡◌, true, false, All};
 ghost use Rattle.mm_text.specs.Statements.{statements_of};
 ghost use Rattle.mm_text.specs.TextLaws.{ends_white};
 ghost use Rattle.mm_database.specs.Database.{empty_context};
-ghost use Rattle.mm_database.specs.Expansion.{has_repeated};
+ghost use Rattle.mm_text.specs.Bytes.{has_repeated};
 ghost use Rattle.mm_database.specs.Validity.{AreFine, IsValid};
 ghost use Rattle.mm_header.specs.Header.{header_rows};
 ghost use Rattle.mm_header.specs.HeaderText.{header_bytes};

@@ -11,7 +11,7 @@ use Rattle.ml_pat.specs.Patterns.{Pattern, imp, and, ev}
 use Rattle.term_core.specs.Patterns.{Pattern as RulePattern}
 use Rattle.rule_core.specs.declared.rules.Program.{Program}
 use Rattle.ml_image.specs.Images.{image_of}
-use Rattle.mm_proof.specs.Leaves.{EachLeaf}
+use Rattle.ml_pat.specs.Leaves.{EachLeaf}
 use Rattle.mm_proof.specs.Tokens.{own_naming}
 use Rattle.mm_proof.specs.Derivations.{holds_text}
 use Rattle.mm_claims.specs.Kept.{Kept}

@@ -16,7 +16,7 @@ use Rattle.ml_image.specs.Tokens.{sort_token, symbol_token, value_token, name_at
 use Rattle.ml_image.specs.Images.{both, symbol_image, at_sorts, injection_symbol, some_symbol_image, injection_image, image_of, applied}
 use Rattle.ml_image.proofs.ImageLaws.{numbered-keeps}
 use Rattle.mm_proof.specs.Tokens.{name_of}
-use Rattle.mm_proof.specs.Leaves.{EachLeaf}
+use Rattle.ml_pat.specs.Leaves.{EachLeaf}
 use Rattle.mm_claims.specs.Statements.{typecode_of}
 use Rattle.mm_claims.specs.OverNames.{closed_over}
 use Rattle.mm_justify.specs.Justifying.{rule_image, value_fact}

@@ -12,14 +12,15 @@ use Rattle.mm_header.specs.Header.{Row, header_rows}
 use Rattle.mm_header.specs.HeaderText.{header_bytes}
 use Rattle.mm_header.specs.HeaderContext.{expression_of}
 use Rattle.ml_pat.specs.Patterns.{Pattern, top, imp, and, next, ev, constant}
-use Rattle.ml_kernel.specs.ProofRows.{pattern, ev_1}
-use Rattle.ml_kernel.specs.Theorems.{Derivation, row, no_derivation}
+use Rattle.ml_kernel.specs.Rules.{pattern, ev_1}
+use Rattle.ml_kernel.specs.Theorems.{Derivation, by_rule, no_derivation}
 use Rattle.ml_kernel.specs.Concluding.{Concludes}
+use Rattle.ml_kernel.specs.declared.rules.Rule.TheVariants as rule
 use Rattle.rule_core.specs.declared.rules.Program.{Program}
 use Rattle.ml_image.specs.Tokens.{token_of_symbol, numbered}
 use Rattle.rule_core.specs.ProgramView.{rewrite_rule}
 use Rattle.ml_image.specs.Images.{both, image_of}
-use Rattle.mm_proof.specs.Leaves.{EachLeaf}
+use Rattle.ml_pat.specs.Leaves.{EachLeaf}
 use Rattle.mm_proof.specs.Tokens.{name_of, own_naming}
 use Rattle.mm_proof.specs.Derivations.{holds_text}
 use Rattle.mm_claims.specs.Statements.{symbol_name, typecode_of, all_name_statements}
@@ -45,8 +46,8 @@ names = codes "f:a" ∷ []
 abbrev reached : Pattern
 reached = imp (constant 0) (ev (constant 0))
 
-abbrev by_row : Derivation
-by_row = row 27 (pattern (constant 0) ∷ []) no_derivation
+abbrev one_rule : Derivation
+one_rule = by_rule rule.Ev1 (pattern (constant 0) ∷ []) no_derivation
 
 abbrev claim : Claim
 claim = record { variables = []; hypotheses = []; conclusion = reached }
@@ -62,7 +63,7 @@ abbrev declarations : List ℕ
 declarations = written_statements (all_name_statements 0 names)
 
 abbrev theorem : List ℕ
-theorem = written_statements (proved_statements names 0 [] nowhere no_premise claim [] by_row)
+theorem = written_statements (proved_statements names 0 [] nowhere no_premise claim [] one_rule)
 
 are_names : AreNames names
 are_names = (record { kind = symbol_name; rest = codes "a"; is = refl; bytes = refl }, tt)
@@ -76,13 +77,13 @@ closed_constant = (omega arith, refl)
 is_claim : IsClaim names claim
 is_claim = record { once = refl; numbered = tt; stand = refl; over = ((closed_constant, closed_constant), tt); few = omega arith }
 
-concludes : Concludes [] by_row reached
+concludes : Concludes [] one_rule reached
 concludes = ([], (ev_1 (constant 0), tt))
 
 no_premises : ArePremises [] no_premise
 no_premises p (k, lt, is) = absurd (omega (arith, lt))
 
-provable : IsProvable names [] claim [] by_row nowhere no_premise
+provable : IsProvable names [] claim [] one_rule nowhere no_premise
 provable = record { once = refl; numbered = tt; concludes = concludes; used = ((closed_constant, tt), tt); cites = tt; premises = no_premises }
 
 decimal_zero : decimal 0 ≡ codes "0"
@@ -110,8 +111,8 @@ small_image program f there = ap (λ (o : Option Token). option_map constant (nu
 pub small_justifies : SmallJustifies
 small_justifies program f there =
     let before : HasOnlyAxiomsOf program (header_bytes ++ declarations) = declared_behind program [] names [] header_bytes header_fits_claims are_names (tt, tt) (omega arith) (inr (inl (f, there)), tt) (header_has_only program) in
-    let fits : FitsClaims names (claim ∷ []) ((header_bytes ++ declarations) ++ theorem) = theorem_fits names [] (header_bytes ++ declarations) claim [] by_row nowhere no_premise declared_fits (omega arith) is_claim provable in
-    let just : HasJust (header_bytes ++ declarations) theorem 0 [] (open_assertion true names 0 claim) = theorem_is_gained names [] (header_bytes ++ declarations) claim [] by_row nowhere no_premise declared_fits (omega arith) is_claim provable in
+    let fits : FitsClaims names (claim ∷ []) ((header_bytes ++ declarations) ++ theorem) = theorem_fits names [] (header_bytes ++ declarations) claim [] one_rule nowhere no_premise declared_fits (omega arith) is_claim provable in
+    let just : HasJust (header_bytes ++ declarations) theorem 0 [] (open_assertion true names 0 claim) = theorem_is_gained names [] (header_bytes ++ declarations) claim [] one_rule nowhere no_premise declared_fits (omega arith) is_claim provable in
     subst (λ (bytes : List ℕ). Justifies bytes program (alone f) (alone f)) text_spelt (record {
       valid = claims_are_valid names (claim ∷ []) ((header_bytes ++ declarations) ++ theorem) fits;
       only = has_only_just program (header_bytes ++ declarations) theorem 0 [] (open_assertion true names 0 claim) before (λ never. absurd (false≢true (sym never)), tt) just;

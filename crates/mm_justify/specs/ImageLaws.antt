@@ -8,7 +8,7 @@ use Rattle.rule_core.specs.declared.signature.Signature.{Signature}
 use Rattle.rule_core.specs.declared.rules.Program.{Program}
 use Rattle.rule_core.specs.Rules.{RewriteRule}
 use Rattle.ml_image.specs.Images.{image_of, rule_image_of, HasImageAt, IsImageAt}
-use Rattle.mm_proof.specs.Leaves.{EachLeaf}
+use Rattle.ml_pat.specs.Leaves.{EachLeaf}
 use Rattle.mm_claims.specs.OverNames.{closed_over}
 use Rattle.mm_justify.specs.Justifying.{IsOwnAxiom}
 use Rattle.mm_justify.specs.NoVariables.{HasNoVariable}

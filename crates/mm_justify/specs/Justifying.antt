@@ -18,7 +18,7 @@ use Rattle.ml_image.specs.Tokens.{token_of_sort, token_of_value, numbered, is_va
 use Rattle.ml_image.specs.Images.{image_of, rule_image_of}
 use Rattle.ml_image.specs.Gained.{IsOwnToken}
 use Rattle.mm_proof.specs.Tokens.{own_naming}
-use Rattle.mm_proof.specs.Leaves.{EachLeaf}
+use Rattle.ml_pat.specs.Leaves.{EachLeaf}
 use Rattle.mm_proof.specs.Derivations.{holds_text}
 use Rattle.mm_claims.specs.Statements.{typecode_of}
 use Rattle.mm_claims.specs.OverNames.{closed_over}

@@ -4,7 +4,8 @@ use Rattle.std.specs.Prelude.{◌||◌, flat_map}
 use Rattle.std.proofs.lemmas.Bool.{false≢true}
 use Rattle.std.proofs.lemmas.Grind.{flat_map-append}
 use Rattle.std.specs.Borrow.{Bor}
-use Rattle.ml_pat.specs.Patterns.{Pattern, forms_in}
+use Rattle.ml_pat.specs.Patterns.{Pattern}
+use Rattle.ml_pat.specs.FormsIn.{forms_in}
 use Rattle.mm_proof.specs.Searching.{all_forms, patterns_of}
 use Rattle.mm_proof.proofs.Looking.{all_forms-push}
 use Rattle.mm_claims.specs.Variables.{Variable, AreNumbered}

@@ -53,7 +53,7 @@ fn take_step<'a>(
             let place = place_of(alloc, at, &[], p)?;
             add_values(alloc, at, list, place, &[])
         }
-        DerivStep::Row(_, instances, parts) => {
+        DerivStep::ByRule(_, instances, parts) => {
             add_instances(alloc, list, instances)?;
             put_derivations(stack, parts)
         }

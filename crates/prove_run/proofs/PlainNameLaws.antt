@@ -10,7 +10,7 @@ use Rattle.ml_image.specs.Tokens.{name_at, sort_token, symbol_token, value_token
 use Rattle.ml_image.specs.Gained.{IsOwnToken, AreOwnTokens}
 use Rattle.mm_claims.specs.Statements.{sort_name, symbol_name, value_name, is_name_byte, IsName}
 use Rattle.mm_claims.specs.Fitting.{AreNames}
-use Rattle.mm_proof.proofs.LeafLaws.{both_true, split_true}
+use Rattle.ml_pat.proofs.LeafLaws.{both_true, split_true}
 use Rattle.prove_run.specs.PlainNames.{HasPlainNames}
 
 none_some : {A : Type 0} (a : A) → None ≡ Some a → ⊥

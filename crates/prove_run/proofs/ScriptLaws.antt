@@ -23,7 +23,7 @@ use Rattle.mm_claims.specs.Kept.{Kept}
 use Rattle.mm_claims.specs.Places.{IsStated, MayProve, StatesLemma}
 use Rattle.mm_claims.proofs.LaterLaws.{fits_later, stated_stays}
 use Rattle.mm_justify.proofs.Allowing.{theorem_has_only}
-use Rattle.mm_proof.specs.Leaves.{EachLeaf}
+use Rattle.ml_pat.specs.Leaves.{EachLeaf}
 use Rattle.mm_claims.specs.OverNames.{closed_over}
 use Rattle.mm_claims.specs.Blocks.{open_assertion}
 use Rattle.mm_claims.specs.ClaimVariables.{claim_of}

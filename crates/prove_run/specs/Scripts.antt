@@ -11,7 +11,7 @@ use Rattle.ml_kernel.specs.declared.derivations.AxiomNo.{AxiomNo}
 use Rattle.ml_kernel.specs.Theorems.{Theorem}
 use Rattle.ml_image.specs.Images.{image_of, IsImageAt}
 use Rattle.ml_image.specs.Gained.{AreOwnTokens}
-use Rattle.mm_proof.specs.Leaves.{EachLeaf}
+use Rattle.ml_pat.specs.Leaves.{EachLeaf}
 use Rattle.mm_claims.specs.OverNames.{closed_over}
 use Rattle.mm_claims.specs.Keeping.{Fits, axiom_at}
 use Rattle.mm_claims.specs.Places.{IsStated}

@@ -3,7 +3,7 @@ use Rattle.rule_core.specs.declared.rules.Program.{Program}
 use Rattle.term_core.specs.RulePatterns.{plain_pattern}
 use Rattle.ml_kernel.specs.Theorems.{Theorem}
 use Rattle.ml_image.specs.Images.{image_of}
-use Rattle.mm_proof.specs.Leaves.{EachLeaf}
+use Rattle.ml_pat.specs.Leaves.{EachLeaf}
 use Rattle.mm_claims.specs.OverNames.{closed_over}
 use Rattle.mm_claims.specs.Places.{IsStated}
 use Rattle.std.specs.Global.{Vec}

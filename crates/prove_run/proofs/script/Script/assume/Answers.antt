@@ -7,7 +7,7 @@ use Rattle.ml_pat.specs.Patterns.{Pattern}
 use Rattle.rule_core.specs.ProgramView.{rewrite_rule}
 use Rattle.ml_image.specs.Images.{rule_image_of}
 use Rattle.mm_claims.specs.Kept.{Kept}
-use Rattle.mm_proof.specs.Leaves.{EachLeaf}
+use Rattle.ml_pat.specs.Leaves.{EachLeaf}
 use Rattle.mm_claims.specs.OverNames.{closed_over}
 use Rattle.mm_claims.specs.Keeping.{Fits, MayState, axiom_at, with_stated}
 use Rattle.mm_claims.specs.Places.{IsStated}

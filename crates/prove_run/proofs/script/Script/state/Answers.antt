@@ -2,7 +2,7 @@ use Rattle.std.proofs.Common.{◌≡◌, List, ℕ, take, Some, refl, ap, ◌∙
 use Rattle.mm_text.specs.Bytes.{Token}
 use Rattle.ml_pat.specs.Patterns.{imp, ev}
 use Rattle.ml_kernel.specs.Theorems.{Theorem}
-use Rattle.mm_proof.specs.Leaves.{EachLeaf}
+use Rattle.ml_pat.specs.Leaves.{EachLeaf}
 use Rattle.mm_claims.specs.OverNames.{closed_over}
 use Rattle.ml_image.specs.Images.{image_of}
 use Rattle.mm_claims.specs.Places.{MayProve, StatesLemma}
