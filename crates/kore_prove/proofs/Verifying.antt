@@ -4,10 +4,10 @@ use Rattle.desk_io.specs.Told.{Told}
 use Rattle.desk_io.specs.Sent.{Appends}
 use Rattle.mm_text.specs.Statements.{statements_of}
 use Rattle.mm_text.specs.declared.fault.MmFault.{MmFault}
-use Rattle.mm_frame.specs.Database.{empty_context}
-use Rattle.mm_frame.specs.Assertions.{axiom_count}
-use Rattle.mm_frame.specs.Validity.{IsFirstFault, first_fault}
-use Rattle.mm_frame.proofs.Faults.{valid_faultless, computed-IsFirstFaultIn}
+use Rattle.mm_database.specs.Database.{empty_context}
+use Rattle.mm_database.specs.Assertions.{axiom_count}
+use Rattle.mm_database.specs.Validity.{IsFirstFault, first_fault}
+use Rattle.mm_database.proofs.Faults.{valid_faultless, computed-IsFirstFaultIn}
 use Rattle.kore_prove.specs.declared.verification.Verdict.{Verdict}
 use Rattle.kore_prove.specs.declared.verification.Verdict.TheVariants as verdict
 use Rattle.kore_prove.specs.Words.{IsRunCommand, IsVerifyCommand}

@@ -1,8 +1,8 @@
 -- The verdict on a database, its line, and what a call printed of it.
 use Rattle.std.specs.Prelude.{◌≡◌, ℕ, List, [], ◌∷◌, ◌++◌, Option, Some, None, codes, decimal}
 use Rattle.mm_text.specs.declared.fault.MmFault.{MmFault}
-use Rattle.mm_frame.specs.Validity.{IsValid, IsFirstFault}
-use Rattle.mm_frame.specs.Assertions.{axiom_count, theorem_count}
+use Rattle.mm_database.specs.Validity.{IsValid, IsFirstFault}
+use Rattle.mm_database.specs.Assertions.{axiom_count, theorem_count}
 use Rattle.desk_io.specs.Told.{Told, Holds, file_of}
 use Rattle.desk_io.specs.Sent.{Appends}
 use Rattle.kore_prove.specs.declared.verification.Verdict.{Verdict}

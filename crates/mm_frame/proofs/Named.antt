@@ -7,11 +7,11 @@ use Rattle.std.specs.Prelude.{not, ◌&&◌, ◌||◌, nat_eq, if◌then◌else�
 use Rattle.std.specs.List.{list_any, list_all}
 use Rattle.std.specs.Cmp.Lexicographic.{pointwise}
 use Rattle.mm_text.specs.Bytes.{Token}
-use Rattle.mm_frame.specs.Frames.{Hypothesis, Frame, types}
-use Rattle.mm_frame.specs.Database.{Context}
-use Rattle.mm_frame.specs.Proofs.{Expression, substituted, instance_of, typed_variables, symbols_apart, texts_apart, pair_apart, keeps_apart}
-use Rattle.mm_frame.specs.Stack.{same_expression, same_expressions, behind_first, bindings_of, text_of}
-use Rattle.mm_frame.specs.Orderly.{TypeOnce}
+use Rattle.mm_database.specs.Frames.{Hypothesis, Frame, types}
+use Rattle.mm_database.specs.Database.{Context}
+use Rattle.mm_database.specs.Proofs.{Expression, substituted, instance_of, typed_variables, symbols_apart, texts_apart, pair_apart, keeps_apart}
+use Rattle.mm_database.specs.Stack.{same_expression, same_expressions, behind_first, bindings_of, text_of}
+use Rattle.mm_database.specs.Orderly.{TypeOnce}
 use Rattle.mm_frame.specs.Numbered.{NumberedHypothesis, numbered_floating, numbered_essential, NumberedFrame, NumberedPlace, IsNaming, named, named_hypothesis, IsNamedFrame, IsNamedPlace, NumberedBinding, numbers_behind_first, numbered_bindings, numbered_text, numbers_substituted, same_numbers, begins_with, all_agree, numbered_variables, numbers_apart, numbered_texts_apart, numbered_pair_apart, keeps_numbers_apart, AppliedIsNamed}
 
 -- what hypotheses ask for, over numbers

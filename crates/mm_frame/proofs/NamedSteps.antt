@@ -4,13 +4,13 @@ use Rattle.std.proofs.lemmas.List.{length-map, map-append}
 use Rattle.std.proofs.lemmas.Option.{slice_get-map}
 use Rattle.std.specs.Prelude.{nat_le, if◌then◌else◌, map, Option, Some, None, option_map, slice_get}
 use Rattle.mm_text.specs.Bytes.{Token}
-use Rattle.mm_frame.specs.Database.{Context}
-use Rattle.mm_frame.specs.Proofs.{Expression}
-use Rattle.mm_frame.specs.Expansion.{label_arity, frame_arity, arity, cites, saves, repeats}
-use Rattle.mm_frame.specs.Stack.{assertion_result, label_result, step_result, stack_after_step, saving}
+use Rattle.mm_database.specs.Database.{Context}
+use Rattle.mm_database.specs.Proofs.{Expression}
+use Rattle.mm_database.specs.Expansion.{label_arity, frame_arity, arity, cites, saves, repeats}
+use Rattle.mm_database.specs.Stack.{assertion_result, label_result, step_result, stack_after_step, saving}
 use Rattle.mm_frame.specs.Numbered.{NumberedFrame, NumberedPlace, IsNaming, named, named_hypothesis, IsNamedPlace, numbered_applied}
 use Rattle.mm_frame.specs.NumberedSteps.{gives, applies, saves_last, gives_saved, numbered_saving, numbers_after_frame, named_saving, NamesHypothesis, NamesFrame, StepIsNamed}
-use Rattle.mm_frame.proofs.Stacks.{le_true}
+use Rattle.mm_database.proofs.Stacks.{le_true}
 use Rattle.mm_frame.proofs.Named.{applied_is_named}
 
 take-map : (name : List ℕ → Expression) (n : ℕ) (xs : List (List ℕ)) → take n (map name xs) ≡ map name (take n xs)

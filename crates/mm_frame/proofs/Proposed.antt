@@ -4,14 +4,14 @@ use Rattle.std.specs.Prelude.{Option, Some, Ok, Err}
 use Rattle.mm_text.specs.Bytes.{Token}
 use Rattle.mm_text.specs.Reader.{words_of, statement_of}
 use Rattle.mm_text.specs.declared.tokens.MmToken.{MmToken}
-use Rattle.mm_frame.specs.Forms.{proves, plain, form_of}
-use Rattle.mm_frame.specs.Forms as forms
-use Rattle.mm_frame.specs.Frames.{frame_of}
+use Rattle.mm_database.specs.Forms.{proves, plain, form_of}
+use Rattle.mm_database.specs.Forms as forms
+use Rattle.mm_database.specs.Frames.{frame_of}
 use Rattle.mm_text.specs.Statements.{Statement as StatementOfTokens}
 use Rattle.std.proofs.lemmas.List.{take_at}
 use Rattle.mm_frame.specs.HeldSteps.{AddsAssertion}
-use Rattle.mm_frame.specs.Database.{Context, first_label, with_assertion, after_form, context_after}
-use Rattle.mm_frame.specs.Validity.{declaration_fault}
+use Rattle.mm_database.specs.Database.{Context, first_label, with_assertion, after_form, context_after}
+use Rattle.mm_database.specs.Validity.{declaration_fault}
 use Rattle.mm_frame.specs.Numbered.{NumberedFrame, IsNaming, IsNamedFrame}
 use Rattle.mm_frame.specs.FramesHeld.{frame_held}
 use Rattle.mm_frame.specs.FormsRead.{form_read, keyword_read}

@@ -5,7 +5,7 @@ use Rattle.std.proofs.lemmas.List.{drop-map}
 use Rattle.mm_text.specs.Bytes.{Token, has_token}
 use Rattle.mm_text.specs.Reader.{word_of, words_of}
 use Rattle.mm_text.specs.declared.tokens.MmToken.{MmToken}
-use Rattle.mm_frame.specs.Expansion.{has_repeated}
+use Rattle.mm_database.specs.Expansion.{has_repeated}
 
 or-true : (a b : Bool) → b ≡ true → (a || b) ≡ true
 or-true true b h = refl

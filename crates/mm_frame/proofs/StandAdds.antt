@@ -4,8 +4,8 @@ use Rattle.std.specs.Prelude.{not, ◌&&◌, ◌||◌, Option, Some, None, bytes
 use Rattle.std.proofs.lemmas.List.{take-append-le}
 use Rattle.std.proofs.lemmas.Slice.Eq.{bytes_eq-Decides}
 use Rattle.mm_text.specs.Bytes.{Token}
-use Rattle.mm_frame.specs.Frames.{Scope, Frame}
-use Rattle.mm_frame.specs.Database.{Block, Context}
+use Rattle.mm_database.specs.Frames.{Scope, Frame}
+use Rattle.mm_database.specs.Database.{Block, Context}
 use Rattle.mm_frame.specs.Numbered.{NumberedHypothesis, NumberedFrame}
 use Rattle.mm_frame.specs.FramesHeld.{number_label}
 use Rattle.mm_frame.specs.Held.{HeldSymbol, Held}

@@ -3,8 +3,8 @@ use Rattle.std.proofs.Common.{◌≡◌, ℕ, Bool, true, false, List, [], ◌�
 use Rattle.std.specs.Prelude.{◌&&◌, ◌||◌, filter, Option, Some, None, bytes_eq, if◌then◌else◌}
 use Rattle.std.specs.List.{list_any}
 use Rattle.mm_text.specs.Bytes.{Token}
-use Rattle.mm_frame.specs.Frames.{Hypothesis, Scope, Frame, stands_in, is_needed, is_mandatory, frame_of}
-use Rattle.mm_frame.specs.Database.{Context, with_frame, with_assertion}
+use Rattle.mm_database.specs.Frames.{Hypothesis, Scope, Frame, stands_in, is_needed, is_mandatory, frame_of}
+use Rattle.mm_database.specs.Database.{Context, with_frame, with_assertion}
 use Rattle.mm_frame.specs.Numbered.{NumberedHypothesis, numbered_floating, numbered_essential, NumberedFrame, IsNaming, named_hypothesis, IsNamedFrame}
 use Rattle.mm_frame.specs.FramesHeld.{has_number}
 use Rattle.mm_frame.specs.Held.{Held}

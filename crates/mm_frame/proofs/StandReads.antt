@@ -5,11 +5,11 @@ use Rattle.std.proofs.lemmas.Bool.{eqb-true}
 use Rattle.std.proofs.lemmas.List.{reverse-append}
 use Rattle.std.proofs.lemmas.Slice.Eq.{bytes_eq-Decides}
 use Rattle.mm_text.specs.Bytes.{Token}
-use Rattle.mm_frame.specs.Frames.{Hypothesis, label_of}
-use Rattle.mm_frame.specs.Database.{Block, Context}
+use Rattle.mm_database.specs.Frames.{Hypothesis, label_of}
+use Rattle.mm_database.specs.Database.{Block, Context}
 use Rattle.mm_frame.specs.Numbered.{NumberedHypothesis, numbered_floating, numbered_essential, NumberedFrame, IsNaming, named_hypothesis}
-use Rattle.mm_frame.specs.Proofs.{hypothesis_of}
-use Rattle.mm_frame.specs.Validity.{first_open}
+use Rattle.mm_database.specs.Proofs.{hypothesis_of}
+use Rattle.mm_database.specs.Validity.{first_open}
 use Rattle.mm_frame.specs.FramesHeld.{number_label}
 use Rattle.mm_frame.specs.Held.{HeldSymbol, Held}
 use Rattle.mm_frame.specs.HeldReads.{symbol_is_variable, first_block, hypothesis_named, hypothesis_at, hypothesis_by_name, frame_by_name, frame_named}

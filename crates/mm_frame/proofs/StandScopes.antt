@@ -8,8 +8,8 @@ use Rattle.std.proofs.lemmas.Option.{slice_get_within}
 use Rattle.std.proofs.lemmas.Bool.Decides.{same_from_decides}
 use Rattle.std.proofs.lemmas.Slice.Eq.{bytes_eq-Decides}
 use Rattle.mm_text.specs.Bytes.{Token, has_token}
-use Rattle.mm_frame.specs.Frames.{Hypothesis}
-use Rattle.mm_frame.specs.Database.{Block, Context, with_hypothesis, with_apart, are_different_tokens, with_block_opened}
+use Rattle.mm_database.specs.Frames.{Hypothesis}
+use Rattle.mm_database.specs.Database.{Block, Context, with_hypothesis, with_apart, are_different_tokens, with_block_opened}
 use Rattle.mm_frame.specs.Numbered.{NumberedHypothesis, numbered_floating, numbered_essential, IsNaming, named_hypothesis}
 use Rattle.mm_frame.specs.FramesHeld.{has_number, in_group, in_groups, number_label, types_number}
 use Rattle.mm_frame.specs.Held.{Held}

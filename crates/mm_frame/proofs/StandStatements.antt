@@ -8,14 +8,14 @@ use Rattle.std.proofs.lemmas.Slice.Eq.{bytes_eq-Decides}
 use Rattle.mm_text.specs.Bytes.{Token, has_token}
 use Rattle.mm_text.specs.Labels.{is_label}
 use Rattle.mm_text.specs.Reader.{words_of}
-use Rattle.mm_frame.specs.Forms as forms
-use Rattle.mm_frame.specs.Forms.{is_nil, plain}
-use Rattle.mm_frame.specs.Frames.{floating, essential}
-use Rattle.mm_frame.specs.Database.{Block, Context, with_tokens, first_label, floating_of, with_hypothesis, with_assertion, with_declared, with_block_closed, after_form}
-use Rattle.mm_frame.specs.Expansion.{has_repeated}
+use Rattle.mm_database.specs.Forms as forms
+use Rattle.mm_database.specs.Forms.{is_nil, plain}
+use Rattle.mm_database.specs.Frames.{floating, essential}
+use Rattle.mm_database.specs.Database.{Block, Context, with_tokens, first_label, floating_of, with_hypothesis, with_assertion, with_declared, with_block_closed, after_form}
+use Rattle.mm_database.specs.Expansion.{has_repeated}
 use Rattle.mm_frame.specs.Numbered.{NumberedHypothesis, numbered_floating, numbered_essential, NumberedFrame}
 use Rattle.mm_frame.specs.FormsRead.{keyword_read, form_read}
-use Rattle.mm_frame.specs.Validity.{has_two, is_open}
+use Rattle.mm_database.specs.Validity.{has_two, is_open}
 use Rattle.mm_frame.specs.FramesHeld.{has_number}
 use Rattle.mm_frame.specs.Held.{Held}
 use Rattle.mm_frame.specs.HeldFaults.{Statement, statement_under, floating_under, floating_of_numbers, floating_of_symbols, floating_in, begins_constant, stated_numbers, stated_in, unlabelled, separated_numbers, disjoint_in, is_open_in}

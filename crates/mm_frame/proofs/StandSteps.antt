@@ -2,8 +2,8 @@
 use Rattle.std.proofs.Common.{◌≡◌, ℕ, refl, ap, sym, ◌∙◌, is_some}
 use Rattle.std.specs.Prelude.{◌||◌, Option, Some, None, option_map}
 use Rattle.mm_text.specs.Bytes.{Token}
-use Rattle.mm_frame.specs.Frames.{Hypothesis, Frame, statement_of}
-use Rattle.mm_frame.specs.Proofs.{active_hypothesis}
+use Rattle.mm_database.specs.Frames.{Hypothesis, Frame, statement_of}
+use Rattle.mm_database.specs.Proofs.{active_hypothesis}
 use Rattle.mm_frame.specs.Numbered.{NumberedHypothesis, numbered_floating, numbered_essential, NumberedFrame, named, named_hypothesis}
 use Rattle.mm_frame.specs.NumberedSteps.{NamesFrame}
 use Rattle.mm_frame.specs.Held.{Held}

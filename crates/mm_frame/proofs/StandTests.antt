@@ -5,10 +5,10 @@ use Rattle.std.specs.List.{list_any, list_all}
 use Rattle.std.proofs.lemmas.Bool.{eqb-true}
 use Rattle.mm_text.specs.Bytes.{Token}
 use Rattle.mm_text.specs.Labels.{is_label}
-use Rattle.mm_frame.specs.Frames.{types}
-use Rattle.mm_frame.specs.Database.{Context}
+use Rattle.mm_database.specs.Frames.{types}
+use Rattle.mm_database.specs.Database.{Context}
 use Rattle.mm_frame.specs.Numbered.{NumberedHypothesis, numbered_floating, numbered_essential, IsNaming, named_hypothesis}
-use Rattle.mm_frame.specs.Validity.{has_type, is_active, is_typed, is_new_label, has_one_label}
+use Rattle.mm_database.specs.Validity.{has_type, is_active, is_typed, is_new_label, has_one_label}
 use Rattle.mm_frame.specs.FramesHeld.{has_number, types_number}
 use Rattle.mm_frame.specs.Held.{Held}
 use Rattle.mm_frame.specs.HeldSteps.{symbol_name}

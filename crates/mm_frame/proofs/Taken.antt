@@ -4,10 +4,10 @@ use Rattle.std.specs.Prelude.{Option, Some, Ok, Err}
 use Rattle.mm_text.specs.Bytes.{Token}
 use Rattle.mm_text.specs.Reader.{words_of, statement_of}
 use Rattle.mm_text.specs.declared.tokens.MmToken.{MmToken}
-use Rattle.mm_frame.specs.Forms as forms
-use Rattle.mm_frame.specs.Forms.{form_of}
-use Rattle.mm_frame.specs.Database.{Context, after_form}
-use Rattle.mm_frame.specs.Validity.{declaration_fault}
+use Rattle.mm_database.specs.Forms as forms
+use Rattle.mm_database.specs.Forms.{form_of}
+use Rattle.mm_database.specs.Database.{Context, after_form}
+use Rattle.mm_database.specs.Validity.{declaration_fault}
 use Rattle.mm_frame.specs.FormsRead.{form_read}
 use Rattle.mm_frame.specs.Held.{Held}
 use Rattle.mm_frame.specs.HeldFaults.{Judges}

@@ -2,8 +2,8 @@
 use Rattle.std.specs.Prelude.{ℕ, Bool, true, false, not, ◌&&◌, ◌||◌, if◌then◌else◌, List, [], ◌∷◌, Option, Some, None, codes, bytes_eq}
 use Rattle.mm_text.specs.Bytes.{Token}
 use Rattle.mm_text.specs.Reader.{words_of}
-use Rattle.mm_frame.specs.Forms as forms
-use Rattle.mm_frame.specs.Forms.{plain, block_start, block_end, before_dollar, from_dollar, is_end, is_nil}
+use Rattle.mm_database.specs.Forms as forms
+use Rattle.mm_database.specs.Forms.{plain, block_start, block_end, before_dollar, from_dollar, is_end, is_nil}
 use Rattle.mm_frame.specs.declared.forms.Keyword.{Keyword}
 use Rattle.mm_frame.specs.declared.forms.Keyword.TheVariants.{Constants, Variables, Floating, Essential, Disjoint, Axiom, Theorem}
 use Rattle.mm_frame.specs.declared.forms.Form.{Form}

@@ -4,10 +4,10 @@ use Rattle.std.specs.Prelude.{◌≡◌, ℕ, Bool, true, false, not, ◌||◌, 
 use Rattle.std.specs.List.{list_any, list_all}
 use Rattle.mm_text.specs.Bytes.{Token}
 use Rattle.mm_text.specs.FaultKinds.{inner_constant, redeclared, not_active, bad_typecode, second_float, bad_disjoint, bad_label}
-use Rattle.mm_frame.specs.Expansion.{has_repeated}
-use Rattle.mm_frame.specs.Forms.{is_nil}
+use Rattle.mm_database.specs.Expansion.{has_repeated}
+use Rattle.mm_database.specs.Forms.{is_nil}
 use Rattle.mm_frame.specs.Numbered.{NumberedHypothesis, numbered_floating}
-use Rattle.mm_frame.specs.Validity.{has_two}
+use Rattle.mm_database.specs.Validity.{has_two}
 use Rattle.mm_frame.specs.Held.{Held}
 use Rattle.mm_frame.specs.HeldTests.{is_held_typed, number_in, is_active_in, numbers_in, constant_in, label_in, redeclares_constant, redeclares_variable}
 use Rattle.mm_frame.specs.declared.scopes.OpenBlock.{OpenBlock}

@@ -4,10 +4,10 @@ use Rattle.std.specs.Prelude.{◌≡◌, ℕ, Bool, true, false, not, ◌&&◌, 
 use Rattle.std.specs.List.{list_all}
 use Rattle.std.specs.Cmp.Lexicographic.{pointwise}
 use Rattle.mm_text.specs.Bytes.{Token}
-use Rattle.mm_frame.specs.Frames.{Hypothesis, floating, essential, Frame}
-use Rattle.mm_frame.specs.Database.{Context}
-use Rattle.mm_frame.specs.Orderly.{TypeOnce}
-use Rattle.mm_frame.specs.Stack.{applied}
+use Rattle.mm_database.specs.Frames.{Hypothesis, floating, essential, Frame}
+use Rattle.mm_database.specs.Database.{Context}
+use Rattle.mm_database.specs.Orderly.{TypeOnce}
+use Rattle.mm_database.specs.Stack.{applied}
 
 -- a `$f` with its label, typecode and variable, or a `$e` with its label and statement
 pub data NumberedHypothesis : Type 0 where

@@ -1,12 +1,12 @@
 -- The steps of a proof over numbers: what they do to a stack and to the entries that are saved.
 use Rattle.std.specs.Prelude.{◌≡◌, ℕ, ◌-◌, nat_le, if◌then◌else◌, List, [], ◌∷◌, ◌++◌, map, length, take, drop, Option, Some, None, option_map, slice_get}
 use Rattle.mm_text.specs.Bytes.{Token}
-use Rattle.mm_frame.specs.Frames.{Hypothesis, Frame, statement_of}
-use Rattle.mm_frame.specs.Database.{Context}
-use Rattle.mm_frame.specs.Proofs.{active_hypothesis}
-use Rattle.mm_frame.specs.Expansion.{Step, cites, saves, repeats}
-use Rattle.mm_frame.specs.Stack.{Saving, saving, saving_after_step}
-use Rattle.mm_frame.specs.Orderly.{TypeOnce}
+use Rattle.mm_database.specs.Frames.{Hypothesis, Frame, statement_of}
+use Rattle.mm_database.specs.Database.{Context}
+use Rattle.mm_database.specs.Proofs.{active_hypothesis}
+use Rattle.mm_database.specs.Expansion.{Step, cites, saves, repeats}
+use Rattle.mm_database.specs.Stack.{Saving, saving, saving_after_step}
+use Rattle.mm_database.specs.Orderly.{TypeOnce}
 use Rattle.mm_frame.specs.Numbered.{NumberedFrame, NumberedPlace, IsNaming, named, IsNamedFrame, IsNamedPlace, numbered_applied}
 
 -- a step gives a statement, applies a frame, saves the last entry, or gives a saved one by its number

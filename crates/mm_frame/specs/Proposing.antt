@@ -3,10 +3,10 @@ use Rattle.std.specs.Prelude.{◌≡◌, ℕ, Bool, true, false, List, map, Opti
 use Rattle.mm_text.specs.Bytes.{Token}
 use Rattle.mm_text.specs.Statements.{Statement}
 use Rattle.mm_text.specs.Reader.{words_of}
-use Rattle.mm_frame.specs.Forms.{Keyword, declares_constants, declares_variables, types_variable, assumes, separates, asserts, proves, Form, block_start, block_end, plain, form_of}
-use Rattle.mm_frame.specs.Frames.{frame_of}
-use Rattle.mm_frame.specs.Database.{Context, first_label}
-use Rattle.mm_frame.specs.Validity.{declaration_fault}
+use Rattle.mm_database.specs.Forms.{Keyword, declares_constants, declares_variables, types_variable, assumes, separates, asserts, proves, Form, block_start, block_end, plain, form_of}
+use Rattle.mm_database.specs.Frames.{frame_of}
+use Rattle.mm_database.specs.Database.{Context, first_label}
+use Rattle.mm_database.specs.Validity.{declaration_fault}
 use Rattle.mm_frame.specs.Numbered.{IsNaming, IsNamedFrame}
 use Rattle.mm_frame.specs.FramesHeld.{frame_held}
 use Rattle.mm_frame.specs.Held.{Held}

@@ -2,8 +2,8 @@
 -- numbers for symbols, under every naming that gives the numbers their tokens.
 use Rattle.std.specs.Prelude.{◌≡◌, ℕ, ◌≤◌, Bool, true, false, List, [], ◌∷◌, map, length, take, reverse, slice_get, slice_index, Option, Some, None}
 use Rattle.mm_text.specs.Bytes.{Token}
-use Rattle.mm_frame.specs.Frames.{Scope, Frame}
-use Rattle.mm_frame.specs.Database.{Block, Context}
+use Rattle.mm_database.specs.Frames.{Scope, Frame}
+use Rattle.mm_database.specs.Database.{Block, Context}
 use Rattle.mm_frame.specs.Numbered.{NumberedHypothesis, numbered_floating, NumberedFrame, IsNaming, named_hypothesis, IsNamedFrame}
 use Rattle.mm_frame.specs.FramesHeld.{has_number, in_groups, number_label}
 use Rattle.mm_frame.specs.Held.{HeldSymbol, Held}

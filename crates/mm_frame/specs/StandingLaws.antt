@@ -1,11 +1,11 @@
 -- Laws on scopes that stand for a context, for those who do the steps of proofs over numbers.
 use Rattle.std.specs.Prelude.{◌≡◌, ℕ, false, List, [], ◌∷◌, slice_get, Some, None}
 use Rattle.mm_text.specs.Bytes.{Token}
-use Rattle.mm_frame.specs.Database.{Context}
-use Rattle.mm_frame.specs.Expansion.{is_citable}
+use Rattle.mm_database.specs.Database.{Context}
+use Rattle.mm_database.specs.Expansion.{is_citable}
 use Rattle.mm_frame.specs.Numbered.{NumberedHypothesis, numbered_floating, numbered_essential, NumberedFrame, NumberedPlace, IsNaming, IsNamedPlace}
 use Rattle.mm_frame.specs.NumberedSteps.{NamesHypothesis, NamesFrame}
-use Rattle.mm_frame.specs.Orderly.{IsOrderly}
+use Rattle.mm_database.specs.Orderly.{IsOrderly}
 use Rattle.mm_frame.specs.FramesHeld.{in_groups}
 use Rattle.mm_frame.specs.Held.{Held}
 use Rattle.mm_frame.specs.HeldReads.{symbol_is_variable, hypothesis_named, frame_named}

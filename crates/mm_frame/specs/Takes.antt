@@ -2,9 +2,9 @@
 use Rattle.std.specs.Prelude.{◌≡◌, ℕ, length, take, Some, None, Result, Ok, Err}
 use Rattle.mm_text.specs.FaultKinds.{fault}
 use Rattle.mm_text.specs.Statements.{Statement}
-use Rattle.mm_frame.specs.Forms.{form_of}
-use Rattle.mm_frame.specs.Database.{Context, context_after}
-use Rattle.mm_frame.specs.Validity.{declaration_fault}
+use Rattle.mm_database.specs.Forms.{form_of}
+use Rattle.mm_database.specs.Database.{Context, context_after}
+use Rattle.mm_database.specs.Validity.{declaration_fault}
 use Rattle.mm_frame.specs.Held.{Held}
 use Rattle.mm_frame.specs.Standing.{Stands}
 use Rattle.mm_frame.specs.declared.declare.Added.{Added}

@@ -4,10 +4,10 @@ ghost use Rattle.std.specs.Prelude.{◌≡◌, ℕ, option_map, slice_get, slice
 ghost use Rattle.mm_frame.specs.Held.{held, named};
 ghost use Rattle.mm_frame.specs.CitedView.{cited_hypothesis, cited_assertion};
 ghost use Rattle.mm_frame.specs.FramesHeld.{frames_held, in_groups, hypothesis_held, frame_held};
-ghost use Rattle.mm_frame.specs.Database.{Context, empty_context};
+ghost use Rattle.mm_database.specs.Database.{Context, empty_context};
 ghost use Rattle.mm_frame.specs.Standing.{Stands, Tells, FrameFound};
-ghost use Rattle.mm_frame.specs.Validity.{first_open};
-ghost use Rattle.mm_frame.specs.Proofs.{active_hypothesis};
+ghost use Rattle.mm_database.specs.Validity.{first_open};
+ghost use Rattle.mm_database.specs.Proofs.{active_hypothesis};
 ghost use Rattle.mm_frame.specs.Numbered.{named_hypothesis};
 ghost use Rattle.mm_frame.specs.HeldReads.{frame_named, symbol_is_variable, first_block, hypothesis_at, hypothesis_named};
 ghost use Rattle.mm_frame.specs.HeldTests.{is_held_active, is_held_typed, number_in};

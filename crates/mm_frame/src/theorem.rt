@@ -2,7 +2,7 @@
 
 ghost use Rattle.std.specs.Prelude.{◌≡◌, ℕ};
 ghost use Rattle.mm_text.specs.Reader.{statement_of};
-ghost use Rattle.mm_frame.specs.Database.{Context};
+ghost use Rattle.mm_database.specs.Database.{Context};
 ghost use Rattle.mm_frame.specs.Held.{held};
 ghost use Rattle.mm_frame.specs.Standing.{Stands};
 
@@ -24,7 +24,7 @@ pub struct Theorem<'a, 't> {
 impl<'a> Scopes<'a> {
     ghost use Rattle.std.specs.Prelude.{IfOk, List};
     ghost use Rattle.mm_text.specs.Statements.{Statement};
-    ghost use Rattle.mm_frame.specs.Database.{context_after};
+    ghost use Rattle.mm_database.specs.Database.{context_after};
     ghost use Rattle.mm_frame.specs.Takes.{KeepsFrames};
     ghost use Rattle.mm_frame.specs.Proposing.{IsProposed, Proposes};
 

@@ -4,8 +4,8 @@ use Rattle.std.specs.Prelude.{not, ◌&&◌, ◌||◌, if◌then◌else◌, Opti
 use Rattle.std.specs.List.{list_any}
 use Rattle.std.proofs.lemmas.List.{get_or-map}
 use Rattle.mm_text.specs.Bytes.{Token, has_token}
-use Rattle.mm_frame.specs.Frames.{Frame, is_needed}
-use Rattle.mm_frame.specs.Database.{with_apart, with_frame}
+use Rattle.mm_database.specs.Frames.{Frame, is_needed}
+use Rattle.mm_database.specs.Database.{with_apart, with_frame}
 use Rattle.mm_header.specs.Header.{Row, header_rows}
 use Rattle.mm_header.specs.HeaderContext.{header_context, header_labels, header_types, premises, expression_of, is_in_row, is_pair, row_scope, frame_of_row, HasRow, HasOnlyRows}
 use Rattle.mm_header.proofs.Pairs.{same_token, token_same, needed_pair}

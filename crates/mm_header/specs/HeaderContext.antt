@@ -2,8 +2,8 @@
 use Rattle.std.specs.Prelude.{◌≡◌, ℕ, Bool, false, ◌&&◌, ◌||◌, ◌==◌, if◌then◌else◌, List, [], ◌∷◌, ◌++◌, map, filter, fold, Some, None, bytes_eq}
 use Rattle.std.specs.List.{flat_map, list_any}
 use Rattle.mm_text.specs.Bytes.{Token, has_token}
-use Rattle.mm_frame.specs.Frames.{Hypothesis, floating, essential, label_of, Scope, Frame, frame_of}
-use Rattle.mm_frame.specs.Database.{Context, with_tokens, with_token, with_apart, with_frame}
+use Rattle.mm_database.specs.Frames.{Hypothesis, floating, essential, label_of, Scope, Frame, frame_of}
+use Rattle.mm_database.specs.Database.{Context, with_tokens, with_token, with_apart, with_frame}
 use Rattle.mm_header.specs.Header.{Row, header_rows}
 use Rattle.mm_header.specs.HeaderText.{constants_text, variables_text, types_texts, expression_text, labelled}
 

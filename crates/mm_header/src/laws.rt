@@ -2,9 +2,9 @@
 ghost use Rattle.std.specs.Prelude.{◌≡◌, true, false, All};
 ghost use Rattle.mm_text.specs.Statements.{statements_of};
 ghost use Rattle.mm_text.specs.TextLaws.{ends_white};
-ghost use Rattle.mm_frame.specs.Database.{empty_context};
-ghost use Rattle.mm_frame.specs.Expansion.{has_repeated};
-ghost use Rattle.mm_frame.specs.Validity.{AreFine, IsValid};
+ghost use Rattle.mm_database.specs.Database.{empty_context};
+ghost use Rattle.mm_database.specs.Expansion.{has_repeated};
+ghost use Rattle.mm_database.specs.Validity.{AreFine, IsValid};
 ghost use Rattle.mm_header.specs.Header.{header_rows};
 ghost use Rattle.mm_header.specs.HeaderText.{header_bytes};
 ghost use Rattle.mm_header.specs.HeaderContext.{HasOnlyRows, HasRow, header_context, header_labels};

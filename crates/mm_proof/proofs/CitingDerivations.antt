@@ -1,7 +1,7 @@
 -- A derivation that cites soundly is written as a proof of what it concludes, by induction.
 use Rattle.std.proofs.Common.{List, [], ◌∷◌, map, refl, subst}
-use Rattle.mm_frame.specs.Database.{Context}
-use Rattle.mm_frame.specs.Proofs.{Proves, AllProve}
+use Rattle.mm_database.specs.Database.{Context}
+use Rattle.mm_database.specs.Proofs.{Proves, AllProve}
 use Rattle.ml_pat.specs.Patterns.{Pattern}
 use Rattle.ml_kernel.specs.Lemmas.{instances}
 use Rattle.ml_kernel.specs.Theorems.{Derivation, Derivations, hypothesis, own_axiom, by_rule, cited, no_derivation, more_derivations}

@@ -1,10 +1,10 @@
 -- A row of the header over proofs of its hypotheses proves its instance.
 use Rattle.std.proofs.Common.{◌≡◌, ℕ, ◌+◌, Bool, true, List, [], ◌∷◌, ◌++◌, map, refl, ap, ◌∙◌, sym}
 use Rattle.mm_text.specs.Bytes.{Token}
-use Rattle.mm_frame.specs.Frames.{Hypothesis}
-use Rattle.mm_frame.specs.Database.{Context}
-use Rattle.mm_frame.specs.Proofs.{Expression, instance_of, keeps_apart, ProofTree, Proves, AllProve}
-use Rattle.mm_frame.specs.Stack.{bindings_of, text_of}
+use Rattle.mm_database.specs.Frames.{Hypothesis}
+use Rattle.mm_database.specs.Database.{Context}
+use Rattle.mm_database.specs.Proofs.{Expression, instance_of, keeps_apart, ProofTree, Proves, AllProve}
+use Rattle.mm_database.specs.Stack.{bindings_of, text_of}
 use Rattle.mm_proof.specs.Tokens.{Judgement, judgement_by}
 use Rattle.mm_proof.specs.Trees.{trees_of, cite}
 use Rattle.mm_proof.specs.Serving.{HasHeader}

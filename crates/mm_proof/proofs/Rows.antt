@@ -2,7 +2,7 @@
 use Rattle.std.proofs.Common.{◌≡◌, ℕ, ◌+◌, List, [], ◌∷◌, ◌++◌, refl, Bool}
 use Rattle.std.specs.Prelude.{◌==◌, if◌then◌else◌, Some, codes, false}
 use Rattle.mm_text.specs.Bytes.{Token}
-use Rattle.mm_frame.specs.Frames.{Hypothesis, floating, essential, Frame}
+use Rattle.mm_database.specs.Frames.{Hypothesis, floating, essential, Frame}
 use Rattle.mm_header.specs.Header.{header_rows, rule_apart}
 use Rattle.mm_header.specs.HeaderContext.{header_context, header_labels, frame_of_row}
 use Rattle.ml_pat.specs.Patterns.{Pattern, bot, top, imp, not, and, or, equal, member, fun, ex, all, app, at_sort, next, ev, var, meta}

@@ -3,7 +3,7 @@ use Rattle.std.proofs.Common.{◌≡◌, ℕ, Bool, true, false, List, [], ◌�
 use Rattle.std.specs.Prelude.{◌==◌, ◌||◌, if◌then◌else◌}
 use Rattle.std.proofs.lemmas.Grind.{flat_map-append}
 use Rattle.mm_text.specs.Bytes.{Token}
-use Rattle.mm_frame.specs.Proofs.{ProofTree, postorder, all_postorder}
+use Rattle.mm_database.specs.Proofs.{ProofTree, postorder, all_postorder}
 use Rattle.ml_kernel.specs.Rules.{Instance, label}
 use Rattle.ml_kernel.specs.declared.rules.Rule.{Rule}
 use Rattle.mm_proof.specs.Tokens.{Naming}

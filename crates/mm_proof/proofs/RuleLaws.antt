@@ -1,8 +1,8 @@
 -- A rule over proofs of what it concludes from proves what it concludes.
 use Rattle.std.proofs.Common.{List, [], ◌∷◌, ◌++◌, refl, map, subst, sym, append-nil}
 use Rattle.std.specs.Prelude.{codes}
-use Rattle.mm_frame.specs.Database.{Context}
-use Rattle.mm_frame.specs.Proofs.{Expression, ProofTree, Proves, AllProve, texts_apart}
+use Rattle.mm_database.specs.Database.{Context}
+use Rattle.mm_database.specs.Proofs.{Expression, ProofTree, Proves, AllProve, texts_apart}
 use Rattle.ml_pat.specs.Patterns.{Pattern, bot, top, imp, not, and, or, equal, member, fun, ex, all, app, next, ev, var}
 use Rattle.mm_proof.specs.Tokens.{Naming, letters_of, text_by, is_fresh, is_substituted, is_predicate, holds}
 use Rattle.ml_pat.specs.Leaves.{LeafFacts}

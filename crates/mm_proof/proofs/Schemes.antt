@@ -3,10 +3,10 @@ use Rattle.std.proofs.Common.{◌≡◌, ℕ, Bool, true, false, List, [], ◌�
 use Rattle.std.specs.Prelude.{◌||◌, if◌then◌else◌, map, slice_index_or, codes, bytes_eq}
 use Rattle.std.specs.List.{list_any}
 use Rattle.mm_text.specs.Bytes.{Token}
-use Rattle.mm_frame.specs.Frames.{Hypothesis, floating, essential, Frame, types}
-use Rattle.mm_frame.specs.Database.{Context}
-use Rattle.mm_frame.specs.Proofs.{Expression, substituted, instance_of, keeps_apart, Leads, by_assertion}
-use Rattle.mm_frame.specs.Stack.{behind_first, bindings_of, text_of}
+use Rattle.mm_database.specs.Frames.{Hypothesis, floating, essential, Frame, types}
+use Rattle.mm_database.specs.Database.{Context}
+use Rattle.mm_database.specs.Proofs.{Expression, substituted, instance_of, keeps_apart, Leads, by_assertion}
+use Rattle.mm_database.specs.Stack.{behind_first, bindings_of, text_of}
 use Rattle.ml_pat.specs.Patterns.{Pattern, bot, top, imp, not, and, or, equal, member, fun, ex, all, app, at_sort, next, ev, var, meta, constant}
 use Rattle.mm_proof.specs.Tokens.{Naming, Letters, letters_of, bracket, text_by, Judgement, is_pattern, holds, is_fresh, is_substituted, is_predicate, judgement_by}
 use Rattle.mm_proof.specs.Serving.{IsAssertion, punctuation}

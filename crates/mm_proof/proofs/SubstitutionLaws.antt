@@ -3,8 +3,8 @@ use Rattle.std.proofs.Common.{◌≡◌, ℕ, Bool, true, false, List, [], ◌�
 use Rattle.std.proofs.Common as std
 use Rattle.std.specs.Prelude.{◌==◌, ◌||◌, if◌then◌else◌, codes, option_map}
 use Rattle.mm_text.specs.Bytes.{Token}
-use Rattle.mm_frame.specs.Database.{Context}
-use Rattle.mm_frame.specs.Proofs.{Expression, Proves, symbols_apart, texts_apart}
+use Rattle.mm_database.specs.Database.{Context}
+use Rattle.mm_database.specs.Proofs.{Expression, Proves, symbols_apart, texts_apart}
 use Rattle.ml_pat.specs.Patterns.{Pattern, bot, top, imp, not, and, or, equal, member, fun, ex, all, app, at_sort, next, ev, var, meta, constant}
 use Rattle.ml_pat.specs.Judgements.{fresh, substituted, both_parts}
 use Rattle.mm_proof.specs.Tokens.{Naming, letters_of, is_fresh, is_substituted, judgement_by}

@@ -2,9 +2,9 @@
 use Rattle.std.proofs.Common.{◌≡◌, ℕ, [], ◌∷◌, refl}
 use Rattle.std.specs.Prelude.{codes}
 use Rattle.mm_text.specs.Bytes.{Token}
-use Rattle.mm_frame.specs.Frames.{floating}
-use Rattle.mm_frame.specs.Database.{Context}
-use Rattle.mm_frame.specs.Proofs.{Expression, by_hypothesis, Proves}
+use Rattle.mm_database.specs.Frames.{floating}
+use Rattle.mm_database.specs.Database.{Context}
+use Rattle.mm_database.specs.Proofs.{Expression, by_hypothesis, Proves}
 use Rattle.ml_pat.specs.Patterns.{Pattern, bot, top, imp, not, and, or, equal, member, fun, ex, all, app, at_sort, next, ev, var, meta, constant}
 use Rattle.mm_proof.specs.Tokens.{Naming, letters_of, is_pattern, judgement_by}
 use Rattle.mm_proof.specs.Trees.{cite, syntax_tree}

@@ -3,7 +3,7 @@ use Rattle.std.proofs.Common.{◌≡◌, ℕ, List, [], ◌∷◌, ◌++◌, zer
 use Rattle.std.specs.Prelude.{unwrap_or, slice_index_or}
 use Rattle.mm_text.specs.Bytes.{Token}
 use Rattle.mm_text.specs.TextLaws.{white_behind, written}
-use Rattle.mm_frame.specs.FrameLaws.{written_statements}
+use Rattle.mm_database.specs.FrameLaws.{written_statements}
 
 pub written-append : (xs ys : List Token) → written (xs ++ ys) ≡ written xs ++ written ys
 written-append [] ys = refl

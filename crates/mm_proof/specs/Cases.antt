@@ -1,6 +1,6 @@
 -- Small patterns with their tokens and proofs.
 use Rattle.std.specs.Prelude.{◌≡◌, ◌==◌, if◌then◌else◌, [], ◌∷◌, codes}
-use Rattle.mm_frame.specs.Proofs.{postorder}
+use Rattle.mm_database.specs.Proofs.{postorder}
 use Rattle.ml_pat.specs.Patterns.{bot, imp, app, all, ex, fun, equal, var, constant}
 use Rattle.ml_kernel.specs.Rules.{pattern, variable, sort}
 use Rattle.ml_kernel.specs.Theorems.{by_rule, own_axiom, no_derivation, more_derivations}

@@ -1,8 +1,8 @@
 -- What proof a derivation is written as, by recursion. How hypotheses, axioms and lemmas are cited is a matter of the statement in which
 -- it stands; a rule is its label over the proofs of what it concludes from.
 use Rattle.std.specs.Prelude.{List, [], ◌∷◌, map, Contains}
-use Rattle.mm_frame.specs.Database.{Context}
-use Rattle.mm_frame.specs.Proofs.{Expression, ProofTree, Proves, AllProve}
+use Rattle.mm_database.specs.Database.{Context}
+use Rattle.mm_database.specs.Proofs.{Expression, ProofTree, Proves, AllProve}
 use Rattle.ml_pat.specs.Patterns.{Pattern}
 use Rattle.ml_kernel.specs.Lemmas.{instance, instances, HaveNoVariables}
 use Rattle.ml_kernel.specs.Theorems.{Derivation, Derivations, hypothesis, own_axiom, by_rule, cited, no_derivation, more_derivations}

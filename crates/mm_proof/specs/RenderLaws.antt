@@ -1,8 +1,8 @@
 -- What the written proofs prove: the labels, in postorder, are a proof of the statement in every database that has the header
 -- and the declarations that they cite.
 use Rattle.std.specs.Prelude.{◌≡◌, ℕ, true, IsTrue, List, map, Some}
-use Rattle.mm_frame.specs.Database.{Context}
-use Rattle.mm_frame.specs.Proofs.{ProofTree, AllProve, IsProof, postorder}
+use Rattle.mm_database.specs.Database.{Context}
+use Rattle.mm_database.specs.Proofs.{ProofTree, AllProve, IsProof, postorder}
 use Rattle.ml_pat.specs.Patterns.{Pattern}
 use Rattle.ml_pat.specs.Leaves.{Known, are_known, EachLeaf}
 use Rattle.ml_pat.specs.Judgements.{fresh, substituted, predicate}

@@ -1,7 +1,7 @@
 -- The labels of proofs, as they are written one behind the other.
 use Rattle.std.specs.Prelude.{ℕ, List, flat_map}
 use Rattle.mm_text.specs.Bytes.{Token}
-use Rattle.mm_frame.specs.Proofs.{ProofTree, postorder}
+use Rattle.mm_database.specs.Proofs.{ProofTree, postorder}
 use Rattle.ml_kernel.specs.Rules.{Instance}
 use Rattle.mm_proof.specs.Labels.{own_labels}
 use Rattle.mm_proof.specs.Trees.{instance_tree}

@@ -1,9 +1,9 @@
 -- What a database has to have declared where a proof stands.
 use Rattle.std.specs.Prelude.{◌≡◌, ◌==◌, ℕ, true, false, List, [], ◌∷◌, map, Some, None, codes}
 use Rattle.mm_text.specs.Bytes.{Token}
-use Rattle.mm_frame.specs.Frames.{floating, Frame}
-use Rattle.mm_frame.specs.Database.{Context}
-use Rattle.mm_frame.specs.Proofs.{active_hypothesis, symbols_apart}
+use Rattle.mm_database.specs.Frames.{floating, Frame}
+use Rattle.mm_database.specs.Database.{Context}
+use Rattle.mm_database.specs.Proofs.{active_hypothesis, symbols_apart}
 use Rattle.mm_header.specs.HeaderContext.{header_context}
 use Rattle.mm_proof.specs.Tokens.{Naming}
 use Rattle.ml_pat.specs.Leaves.{LeafFacts}

@@ -1,7 +1,7 @@
 -- The proofs of what a pattern is and of the judgements on patterns, by the rows of the header.
 use Rattle.std.specs.Prelude.{ℕ, ◌==◌, if◌then◌else◌, List, [], ◌∷◌, ◌++◌, map, slice_index_or, codes}
 use Rattle.mm_text.specs.Bytes.{Token}
-use Rattle.mm_frame.specs.Proofs.{ProofTree, proof_node, ProofForest, no_proof, more_proofs}
+use Rattle.mm_database.specs.Proofs.{ProofTree, proof_node, ProofForest, no_proof, more_proofs}
 use Rattle.ml_pat.specs.Patterns.{Pattern, bot, top, imp, not, and, or, equal, member, fun, ex, all, app, at_sort, next, ev, var, meta, constant}
 use Rattle.ml_pat.specs.Judgements.{fresh}
 use Rattle.ml_kernel.specs.Rules.{Instance, pattern, variable, sort, label}

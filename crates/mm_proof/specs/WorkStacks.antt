@@ -2,7 +2,7 @@
 use Rattle.std.specs.Prelude.{◌≡◌, ℕ, ◌+◌, ◌*◌, ◌<◌, ◌≤◌, ◌==◌, if◌then◌else◌, codes, List, [], ◌∷◌, ◌++◌, length}
 use Rattle.mm_text.specs.Bytes.{Token}
 use Rattle.mm_text.specs.TextLaws.{written}
-use Rattle.mm_frame.specs.Proofs.{ProofTree, postorder}
+use Rattle.mm_database.specs.Proofs.{ProofTree, postorder}
 use Rattle.ml_pat.specs.Patterns.{Pattern}
 use Rattle.ml_pat.specs.Judgements.{fresh}
 use Rattle.mm_proof.specs.Tokens.{Naming, bracketed, bracket, tokens_of, name_of, object_token}

@@ -1,7 +1,7 @@
 -- What the words and works of a writer stand for.
 use Rattle.std.specs.Prelude.{ℕ, List, [], ◌∷◌, flat_map}
 use Rattle.mm_text.specs.Bytes.{Token}
-use Rattle.mm_frame.specs.Proofs.{postorder}
+use Rattle.mm_database.specs.Proofs.{postorder}
 use Rattle.mm_proof.specs.Tokens.{tokens_of, name_of, object_token, meta_token}
 use Rattle.mm_proof.specs.Labels.{name_label, statement_label, object_label, meta_label, premise_label, own_labels}
 use Rattle.mm_proof.specs.Trees.{syntax_tree, fresh_tree, unchanged_tree, substitution_tree, predicate_tree}

@@ -2,7 +2,7 @@
 ghost use Rattle.std.specs.Prelude.{OnOk};
 ghost use Rattle.mm_proof.specs.WorkStacks.{PutsOn, quantifier_steps, quantifier_tokens};
 ghost use Rattle.mm_proof.specs.Labels.{own_labels};
-ghost use Rattle.mm_frame.specs.Proofs.{postorder};
+ghost use Rattle.mm_database.specs.Proofs.{postorder};
 ghost use Rattle.mm_proof.specs.Tokens.{tokens_of};
 ghost use Rattle.mm_proof.specs.Trees.{syntax_tree};
 

@@ -3,7 +3,7 @@ use Rattle.std.proofs.Common.{◌≡◌, ℕ, ◌+◌, ◌*◌, ◌<◌, ◌≤�
 use Rattle.std.specs.Borrow.{Bor}
 use Rattle.mm_text.specs.Bytes.{Token}
 use Rattle.mm_text.specs.TextLaws.{written}
-use Rattle.mm_frame.specs.Proofs.{postorder}
+use Rattle.mm_database.specs.Proofs.{postorder}
 use Rattle.ml_pat.specs.Patterns.{Pattern}
 use Rattle.ml_kernel.specs.Rules.{Instance}
 use Rattle.ml_kernel.specs.Theorems.{Derivation, Derivations, own_axiom, by_rule, cited, no_derivation, derivations}
@@ -13,10 +13,6 @@ use Rattle.ml_kernel.specs.declared.rules.Rule.TheVariants as rule
 use Rattle.mm_proof.specs.Trees.{cite, fresh_tree, pattern_at, variable_at, trees_before, trees_behind}
 use Rattle.mm_proof.specs.Labels.{own_labels, statement_label}
 use Rattle.mm_proof.specs.RuleLabels.{all_labels, instance_labels}
-use Rattle.mm_render.specs.Variables.{Variable}
-use Rattle.mm_render.specs.Blocks.{Claim}
-use Rattle.mm_render.specs.CitedAt.{variable_tree, claim_at, claims_citing}
-use Rattle.mm_render.specs.Parts.{part_tokens, parts_tokens, part_weight, parts_weight, proof_of, proofs_of, PutsParts, PartIsTaken, rest_of_citation, rest_of_rule, value_labels}
 use Rattle.mm_proof.specs.Derivations.{Citing, derivation_trees}
 use Rattle.mm_proof.proofs.RuleLabelLaws.{cite_labels, rule_labels}
 use Rattle.mm_proof.proofs.WrittenTogether.{written-append}
@@ -25,6 +21,10 @@ use Rattle.mm_proof.specs.declared.words.Word.TheVariants as word
 use Rattle.mm_proof.specs.declared.works.Work.TheVariants as work
 use Rattle.mm_render.specs.declared.derivations.Part.{Part}
 use Rattle.mm_render.specs.declared.derivations.Part.TheVariants as part
+use Rattle.mm_claims.specs.Variables.{Variable}
+use Rattle.mm_claims.specs.Blocks.{Claim}
+use Rattle.mm_claims.specs.CitedAt.{variable_tree, claim_at, claims_citing}
+use Rattle.mm_render.specs.Parts.{part_tokens, parts_tokens, part_weight, parts_weight, proof_of, proofs_of, PutsParts, PartIsTaken, rest_of_citation, rest_of_rule, value_labels}
 
 pub parts_tokens-push : (names : List Token) (k : ℕ) (s : Citing) (ps : List Part) (p : Part) → parts_tokens names k s (ps ++ p ∷ []) ≡ part_tokens names k s p ++ parts_tokens names k s ps
 parts_tokens-push names k s [] p = sym (append-nil (part_tokens names k s p))

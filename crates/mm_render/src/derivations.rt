@@ -9,7 +9,7 @@ ghost use Rattle.ml_kernel.specs.Theorems.{derivations};
 ghost use Rattle.mm_proof.specs.Labels.{own_labels, premise_label};
 ghost use Rattle.mm_proof.specs.RuleLabels.{all_labels};
 ghost use Rattle.mm_proof.specs.Trees.{trees_behind};
-ghost use Rattle.mm_render.specs.CitedAt.{claim_at};
+ghost use Rattle.mm_claims.specs.CitedAt.{claim_at};
 ghost use Rattle.mm_render.specs.Parts.{PartIsTaken, PutsParts, citing_at, proof_of, proofs_of, rest_of_citation, rest_of_rule, value_labels};
 ghost use Rattle.mm_render.specs.PlaceTable.{claims_at, places_at, premises_at};
 ghost use Rattle.mm_render.specs.VariablesView.{variable_of};

@@ -4,12 +4,12 @@ use Rattle.std.specs.Prelude.{option_map, Result, Ok, Err, IfOk, IfErr}
 use Rattle.mm_text.specs.Bytes.{Token}
 use Rattle.mm_text.specs.Statements.{Statement}
 use Rattle.mm_text.specs.Reader.{words_of}
-use Rattle.mm_frame.specs.Forms.{declares_constants, declares_variables, types_variable, assumes, separates, asserts, proves, Form, block_start, block_end, plain, form_of}
-use Rattle.mm_frame.specs.Frames.{frame_of}
-use Rattle.mm_frame.specs.Database.{Context, first_label}
-use Rattle.mm_frame.specs.Validity.{or_else, task, task_fault, declaration_fault, proof_text_fault, statement_fault}
-use Rattle.mm_frame.specs.FrameLaws.{FaultlessIsFine}
-use Rattle.mm_frame.specs.Orderly.{IsOrderly, OrderlyAfter}
+use Rattle.mm_database.specs.Forms.{declares_constants, declares_variables, types_variable, assumes, separates, asserts, proves, Form, block_start, block_end, plain, form_of}
+use Rattle.mm_database.specs.Frames.{frame_of}
+use Rattle.mm_database.specs.Database.{Context, first_label}
+use Rattle.mm_database.specs.Validity.{or_else, task, task_fault, declaration_fault, proof_text_fault, statement_fault}
+use Rattle.mm_database.specs.FrameLaws.{FaultlessIsFine}
+use Rattle.mm_database.specs.Orderly.{IsOrderly, OrderlyAfter}
 use Rattle.mm_frame.specs.FramesHeld.{frame_held}
 use Rattle.mm_frame.specs.Held.{Held, held}
 use Rattle.mm_frame.specs.HeldFrames.{is_needed_number, is_mandatory_number}

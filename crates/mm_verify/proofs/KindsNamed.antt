@@ -7,16 +7,16 @@ use Rattle.std.proofs.lemmas.List.Elements.{All-head, All-tail, All-filter}
 use Rattle.mm_text.specs.Bytes.{Token, has_token}
 use Rattle.mm_text.specs.FaultKinds.{bad_proof_text}
 use Rattle.mm_text.specs.Compressed.{CompressedStep, steps_of}
-use Rattle.mm_frame.specs.Frames.{Hypothesis, label_of, Frame}
-use Rattle.mm_frame.specs.Database.{Context}
-use Rattle.mm_frame.specs.Proofs.{Expression}
-use Rattle.mm_frame.specs.Expansion.{arity, is_citable, Step, cites, meanings, has_repeated, before_close, behind_close, are_listed, mandatory_labels, compressed_steps, compressed_labels, expansion, labels_of}
-use Rattle.mm_frame.specs.Stack.{stack_after, saving, saving_after}
+use Rattle.mm_database.specs.Frames.{Hypothesis, label_of, Frame}
+use Rattle.mm_database.specs.Database.{Context}
+use Rattle.mm_database.specs.Proofs.{Expression}
+use Rattle.mm_database.specs.Expansion.{arity, is_citable, Step, cites, meanings, has_repeated, before_close, behind_close, are_listed, mandatory_labels, compressed_steps, compressed_labels, expansion, labels_of}
+use Rattle.mm_database.specs.Stack.{stack_after, saving, saving_after}
 use Rattle.mm_frame.specs.Numbered.{NumberedHypothesis, numbered_floating, numbered_essential, NumberedFrame, IsNaming, named, named_hypothesis, IsNamedFrame}
 use Rattle.mm_frame.specs.NumberedSteps.{NumberedStep, numbered_saving, named_saving, IsNamedStep, StepIsNamed}
-use Rattle.mm_frame.specs.FrameLaws.{SavingIsExpanding}
-use Rattle.mm_frame.specs.Orderly.{IsOrderly}
-use Rattle.mm_frame.specs.Validity.{or_else, Task, task_of, task_fault, stack_fault}
+use Rattle.mm_database.specs.FrameLaws.{SavingIsExpanding}
+use Rattle.mm_database.specs.Orderly.{IsOrderly}
+use Rattle.mm_database.specs.Validity.{or_else, Task, task_of, task_fault, stack_fault}
 use Rattle.mm_frame.specs.FramesHeld.{number_label}
 use Rattle.mm_frame.specs.Held.{Held}
 use Rattle.mm_frame.specs.HeldReads.{hypothesis_named, hypothesis_by_name, hypothesis_at, frame_named}

@@ -4,7 +4,7 @@ use Rattle.std.specs.Prelude.{option_and_then, if◌then◌else◌, codes}
 use Rattle.std.specs.Global.{Vec}
 use Rattle.mm_text.specs.Bytes.{Token, has_token}
 use Rattle.mm_text.specs.Compressed.{steps_of}
-use Rattle.mm_frame.specs.Expansion.{before_close, behind_close}
+use Rattle.mm_database.specs.Expansion.{before_close, behind_close}
 use Rattle.mm_frame.specs.Numbered.{NumberedHypothesis}
 use Rattle.mm_frame.specs.NumberedSteps.{NumberedStep}
 use Rattle.mm_frame.specs.Held.{Held}

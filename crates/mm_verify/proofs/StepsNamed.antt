@@ -6,13 +6,13 @@ use Rattle.std.specs.Cmp.Lexicographic.{pointwise}
 use Rattle.mm_text.specs.Bytes.{Token, has_token}
 use Rattle.mm_text.specs.FaultKinds.{bad_conclusion}
 use Rattle.mm_text.specs.Compressed.{CompressedStep, numbered, save}
-use Rattle.mm_frame.specs.Database.{Context}
-use Rattle.mm_frame.specs.Proofs.{Expression}
-use Rattle.mm_frame.specs.Expansion.{arity, Step, cites, saves, repeats, meaning, meaning_of, saved_after, meanings, with_step, has_repeated}
-use Rattle.mm_frame.specs.Stack.{same_expression, same_expressions, stack_after, stack_after_step, saving, saving_after}
+use Rattle.mm_database.specs.Database.{Context}
+use Rattle.mm_database.specs.Proofs.{Expression}
+use Rattle.mm_database.specs.Expansion.{arity, Step, cites, saves, repeats, meaning, meaning_of, saved_after, meanings, with_step, has_repeated}
+use Rattle.mm_database.specs.Stack.{same_expression, same_expressions, stack_after, stack_after_step, saving, saving_after}
 use Rattle.mm_frame.specs.Numbered.{NumberedPlace, IsNaming, named, IsNamedPlace, same_numbers}
 use Rattle.mm_frame.specs.NumberedSteps.{NumberedStep, gives_saved, NumberedSaving, numbered_saving_after, named_saving, IsNamedStep, StepIsNamed}
-use Rattle.mm_frame.specs.Validity.{stack_fault}
+use Rattle.mm_database.specs.Validity.{stack_fault}
 use Rattle.mm_verify.specs.Meaning.{numbered_meaning, with_meaning, numbered_meaning_of, saved_behind, numbered_meanings}
 use Rattle.mm_verify.specs.declared.machine.ProofFault.TheVariants as fault
 use Rattle.mm_verify.specs.Running.{numbered_saving_behind, left_fault}

@@ -8,10 +8,10 @@ use Rattle.mm_text.specs.Reader.{statements_left, statement_of}
 use Rattle.mm_text.specs.declared.tokens.MmTokens.{MmTokens}
 use Rattle.mm_text.specs.declared.tokens.MmToken.{MmToken}
 use Rattle.mm_text.specs.declared.fault.MmFault.{MmFault}
-use Rattle.mm_frame.specs.Forms.{declares_constants, declares_variables, types_variable, assumes, separates, asserts, proves, Form, block_start, block_end, plain, form_of}
-use Rattle.mm_frame.specs.Database.{Context, empty_context, context_after}
-use Rattle.mm_frame.specs.Assertions.{Assertion, form_assertion, with_assertion_first, assertions_in, axiom_count, theorem_count}
-use Rattle.mm_frame.specs.Validity.{first_open, fault_or, first_fault_in, first_fault}
+use Rattle.mm_database.specs.Forms.{declares_constants, declares_variables, types_variable, assumes, separates, asserts, proves, Form, block_start, block_end, plain, form_of}
+use Rattle.mm_database.specs.Database.{Context, empty_context, context_after}
+use Rattle.mm_database.specs.Assertions.{Assertion, form_assertion, with_assertion_first, assertions_in, axiom_count, theorem_count}
+use Rattle.mm_database.specs.Validity.{first_open, fault_or, first_fault_in, first_fault}
 use Rattle.mm_verify.specs.declared.checker.Checker.{Checker}
 use Rattle.mm_verify.specs.declared.ends.Report.{Report}
 use Rattle.mm_verify.specs.declared.ends.Stated.{Stated}

@@ -1,10 +1,10 @@
 -- What checking one statement does and answers.
 use Rattle.std.specs.Prelude.{◌≡◌, ℕ, List, map, option_map, Option, Some, None, Result, Ok, Err}
 use Rattle.mm_text.specs.Statements.{Statement}
-use Rattle.mm_frame.specs.Forms.{Keyword, asserts, proves, Form, block_start, block_end, plain, form_of}
-use Rattle.mm_frame.specs.Database.{Context, context_after}
-use Rattle.mm_frame.specs.Validity.{declaration_fault, statement_fault}
-use Rattle.mm_frame.specs.Orderly.{IsOrderly}
+use Rattle.mm_database.specs.Forms.{Keyword, asserts, proves, Form, block_start, block_end, plain, form_of}
+use Rattle.mm_database.specs.Database.{Context, context_after}
+use Rattle.mm_database.specs.Validity.{declaration_fault, statement_fault}
+use Rattle.mm_database.specs.Orderly.{IsOrderly}
 use Rattle.mm_frame.specs.Proposing.{IsProposed}
 use Rattle.mm_frame.specs.declared.theorem.Theorem.{Theorem}
 use Rattle.mm_frame.specs.AddedView.{form_added}

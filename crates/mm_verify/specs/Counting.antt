@@ -1,8 +1,8 @@
 -- The ends of a text, and the counts of its statements.
 use Rattle.std.specs.Prelude.{ℕ, ◌+◌, List, Option, Some, None, Result, Ok, Err}
 use Rattle.mm_text.specs.FaultKinds.{bad_keyword, bad_scope, fault}
-use Rattle.mm_frame.specs.Database.{Block}
-use Rattle.mm_frame.specs.Validity.{first_open}
+use Rattle.mm_database.specs.Database.{Block}
+use Rattle.mm_database.specs.Validity.{first_open}
 use Rattle.mm_verify.specs.declared.ends.Report.{Report}
 use Rattle.mm_verify.specs.declared.ends.Stated.{Stated}
 use Rattle.mm_verify.specs.declared.ends.Stated.TheVariants as stated

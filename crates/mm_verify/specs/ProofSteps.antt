@@ -2,7 +2,7 @@
 use Rattle.std.specs.Prelude.{ℕ, Bool, false, ◌||◌, if◌then◌else◌, List, [], ◌∷◌, ◌++◌, map, flat_map, Option, None, option_and_then, codes, bytes_eq}
 use Rattle.mm_text.specs.Bytes.{Token, has_token}
 use Rattle.mm_text.specs.Compressed.{steps_of}
-use Rattle.mm_frame.specs.Expansion.{before_close, behind_close}
+use Rattle.mm_database.specs.Expansion.{before_close, behind_close}
 use Rattle.mm_frame.specs.Numbered.{NumberedHypothesis}
 use Rattle.mm_frame.specs.NumberedSteps.{NumberedStep, gives}
 use Rattle.mm_frame.specs.StandingLaws.{symbols_of}

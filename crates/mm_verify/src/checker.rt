@@ -21,8 +21,8 @@ impl<'a> Checker<'a> {
     ghost use Rattle.mm_verify.specs.declared.ends.Stated.TheVariants.{Theorem as IsTheorem};
     ghost use Rattle.mm_verify.specs.declared.ends.VerifyEnd.TheVariants.{Memory};
     ghost use Rattle.mm_text.specs.Reader.{statement_of};
-    ghost use Rattle.mm_frame.specs.Database.{Context, empty_context};
-    ghost use Rattle.mm_frame.specs.Validity.{first_open};
+    ghost use Rattle.mm_database.specs.Database.{Context, empty_context};
+    ghost use Rattle.mm_database.specs.Validity.{first_open};
     ghost use Rattle.mm_frame.specs.Held.{held};
     ghost use Rattle.mm_frame.specs.Standing.{Stands};
     ghost use Rattle.mm_verify.specs.Checking.{HasFrames, IsBehind, Checks, Declares, Adds};
@@ -31,7 +31,7 @@ impl<'a> Checker<'a> {
     pub(crate) fn new(alloc: Global) -> Checker<'a>
         ensures { IsBehind result empty_context }
     {
-        mm_frame::proof_laws();
+        mm_database::proof_laws();
         Checker {
             scopes: Scopes::new(alloc),
             assertions: Vec::new(alloc),
@@ -49,7 +49,7 @@ impl<'a> Checker<'a> {
         requires frames { HasFrames self.old }
         ensures { (c : Context) → IsBehind self.old c → Checks c (statement_of bytes.now tokens.now) self.new result }
     {
-        mm_frame::proof_laws();
+        mm_database::proof_laws();
         let theorem = match self.scopes.theorem(alloc, bytes, tokens) {
             Err(end) => return Err(verify_end(end)),
             Ok(theorem) => theorem,
@@ -74,7 +74,8 @@ impl<'a> Checker<'a> {
         requires frames { HasFrames self.old }
         ensures { (c : Context) → IsBehind self.old c → IsProposed bytes.now (held self.old.scopes) c (statement_of bytes.now tokens.now) theorem.entry → Checks c (statement_of bytes.now tokens.now) self.new result }
     {
-        mm_frame::proof_laws();
+        mm_database::proof_laws();
+        mm_frame::number_laws();
         mm_frame::scope_laws();
         match proof_fault(alloc, &self.scopes, &self.assertions, bytes, &theorem) {
             Err(_) => Err(VerifyEnd::Memory),

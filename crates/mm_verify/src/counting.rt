@@ -1,6 +1,6 @@
 // The ends of a database, and what it has.
 ghost use Rattle.std.specs.Prelude.{◌≡◌, ◌+◌, ◌<◌, ◌^◌};
-ghost use Rattle.mm_frame.specs.Database.{Context};
+ghost use Rattle.mm_database.specs.Database.{Context};
 ghost use Rattle.mm_verify.specs.Counting.{axioms_with, theorems_with, end_of_open, unended_at};
 ghost use Rattle.mm_verify.specs.Checking.{IsBehind};
 

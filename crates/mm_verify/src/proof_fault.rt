@@ -1,7 +1,7 @@
 // Statements of a database, checked one after another.
 ghost use Rattle.std.specs.Prelude.{◌≡◌, ℕ, map, IfOk, OnOk, length, take};
 ghost use Rattle.mm_text.specs.Reader.{words_of, statement_of};
-ghost use Rattle.mm_frame.specs.Database.{Context};
+ghost use Rattle.mm_database.specs.Database.{Context};
 ghost use Rattle.mm_frame.specs.Held.{held};
 ghost use Rattle.mm_frame.specs.FramesHeld.{frame_held};
 ghost use Rattle.mm_frame.specs.StandingLaws.{place_of};

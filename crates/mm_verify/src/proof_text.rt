@@ -7,7 +7,7 @@ ghost use Rattle.std.specs.Ordering.{nat_cmp};
 ghost use Rattle.mm_text.specs.Bytes.{Token, has_token};
 ghost use Rattle.mm_text.specs.Reader.{words_of};
 ghost use Rattle.mm_text.specs.Compressed.{steps_of};
-ghost use Rattle.mm_frame.specs.Expansion.{before_close, behind_close};
+ghost use Rattle.mm_database.specs.Expansion.{before_close, behind_close};
 ghost use Rattle.mm_frame.specs.FramesHeld.{hypotheses_held};
 ghost use Rattle.mm_frame.specs.Held.{held};
 ghost use Rattle.mm_verify.specs.Running.{step_of, steps_in};

@@ -1,8 +1,8 @@
 // Whether a database is valid.
 ghost use Rattle.std.specs.Prelude.{◌≡◌, ℕ, Err, IfOk};
 ghost use Rattle.mm_text.specs.declared.fault.MmFault.{MmFault as AFault};
-ghost use Rattle.mm_frame.specs.Validity.{IsValid, IsFirstFault};
-ghost use Rattle.mm_frame.specs.Assertions.{axiom_count, theorem_count};
+ghost use Rattle.mm_database.specs.Validity.{IsValid, IsFirstFault};
+ghost use Rattle.mm_database.specs.Assertions.{axiom_count, theorem_count};
 ghost use Rattle.mm_verify.specs.declared.ends.VerifyEnd.TheVariants.{Invalid};
 ghost use Rattle.mm_verify.specs.Verifying.{Finds};
 
@@ -19,7 +19,7 @@ pub fn verify(alloc: Global, bytes: &[u8]) -> Result<Report, VerifyEnd>
     ensures valid { IfOk result (λ r. IsValid bytes.now × (r.axioms ≡ axiom_count bytes.now) × (r.theorems ≡ theorem_count bytes.now)) }
     ensures invalid { (f : AFault) → result ≡ Err (Invalid f) → IsFirstFault bytes.now f }
 {
-    mm_frame::proof_laws();
+    mm_database::proof_laws();
     verdict(alloc, bytes)
 }
 

@@ -7,3 +7,5 @@ pub mod TermSize
 pub mod Heads
 pub mod Patterns
 pub mod RulePatterns
+pub mod PatternLists
+pub mod GroundPatterns

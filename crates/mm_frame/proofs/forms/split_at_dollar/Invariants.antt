@@ -1,6 +1,6 @@
 use Rattle.std.proofs.Common.{◌≡◌, ◌++◌, ◌-◌, ◌≤◌, length, take, drop}
 use Rattle.mm_text.specs.Reader.{words_of}
-use Rattle.mm_frame.specs.Forms.{before_dollar, from_dollar}
+use Rattle.mm_database.specs.Forms.{before_dollar, from_dollar}
 use Rattle.mm_frame.proofs.forms.split_at_dollar.Given as goal
 
 abbrev pub invariant-loop-at : goal.invariant-loop-at

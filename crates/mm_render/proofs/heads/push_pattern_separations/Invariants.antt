@@ -1,5 +1,5 @@
 use Rattle.std.proofs.Common.{◌≡◌, ◌++◌, map, take}
-use Rattle.mm_frame.specs.FrameLaws.{written_statements}
+use Rattle.mm_database.specs.FrameLaws.{written_statements}
 use Rattle.mm_render.specs.HeadText.{pattern_separations}
 use Rattle.mm_render.specs.VariablesView.{plain_variables}
 use Rattle.mm_proof.specs.Writing.{word_token}

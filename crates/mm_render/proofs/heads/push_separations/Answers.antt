@@ -1,6 +1,6 @@
 use Rattle.std.proofs.Common.{List, ◌≡◌, ◌++◌, map, subst}
 use Rattle.mm_text.specs.Bytes.{Token}
-use Rattle.mm_frame.specs.FrameLaws.{written_statements}
+use Rattle.mm_database.specs.FrameLaws.{written_statements}
 use Rattle.mm_render.specs.HeadText.{separation}
 use Rattle.mm_render.specs.VariablesView.{plain_variables}
 use Rattle.mm_proof.specs.Writing.{word_token}

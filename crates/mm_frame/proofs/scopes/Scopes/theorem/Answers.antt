@@ -1,7 +1,7 @@
 use Rattle.std.proofs.Common.{rules, ◌≡◌, refl}
 use Rattle.std.specs.Prelude.{Some}
 use Rattle.mm_text.specs.Reader.{words_of}
-use Rattle.mm_frame.specs.Forms.{form_of}
+use Rattle.mm_database.specs.Forms.{form_of}
 use Rattle.mm_frame.specs.FormsRead.{form_read}
 use Rattle.mm_frame.specs.Held.{held}
 use Rattle.mm_frame.specs.HeldFaults.{stated_held}

@@ -1,7 +1,7 @@
 use Rattle.std.proofs.Common.{◌≡◌, Option, subst}
 use Rattle.std.specs.Prelude.{Ok, false}
 use Rattle.mm_text.specs.Reader.{statement_of}
-use Rattle.mm_frame.specs.Forms.{form_of}
+use Rattle.mm_database.specs.Forms.{form_of}
 use Rattle.mm_frame.specs.Held.{held}
 use Rattle.mm_frame.specs.Proposing.{is_theorem, Proposes}
 use Rattle.mm_frame.specs.declared.theorem.Theorem.{Theorem}

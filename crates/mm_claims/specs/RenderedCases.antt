@@ -1,0 +1,33 @@
+-- Small databases that a renderer writes, judged by the definition of the first fault.
+use Rattle.std.specs.Prelude.{◌≡◌, ℕ, List, ◌++◌, Some, None, codes}
+use Rattle.mm_text.specs.FaultKinds.{fault}
+use Rattle.mm_database.specs.Validity.{first_fault}
+use Rattle.mm_header.specs.HeaderText.{header_bytes}
+
+-- the declarations of a sort and of two symbols
+abbrev pub names_text : List ℕ
+names_text = codes "$c s:S $.\nn.0 $a #Sort s:S $.\n$c f:a $.\nn.1 $a #Pattern f:a $.\n$c f:f $.\nn.2 $a #Pattern f:f $.\n"
+
+-- an axiom
+abbrev pub axiom_text : List ℕ
+axiom_text = codes "t.0 $a |- ( \\app f:f f:a ) $.\n"
+
+-- a lemma by it
+abbrev pub lemma_text : List ℕ
+lemma_text = codes "t.1 $p |- ( \\ev ( \\app f:f f:a ) ) $= n.2 n.1 w.app n.2 n.1 w.app w.ev t.0 n.2 n.1 w.app ev.1 mp $.\n"
+
+-- a lemma with two variables and a hypothesis, one that cites it for the symbol, and one whose proof has a variable that it has not
+abbrev pub hypothesis_block : List ℕ
+hypothesis_block = codes "${\n$v x:0 $.\nx.0.0 $f #Var x:0 $.\n$v m:0 $.\nm.0.0 $f #Pattern m:0 $.\n$d x:0 m:0 $.\ne.0.0 $e |- ( \\imp x:0 m:0 ) $.\nt.0 $p |- ( \\imp ( \\next x:0 ) ( \\next m:0 ) ) $= x.0.0 w.var m.0.0 e.0.0 next.in $.\n$}\n"
+
+abbrev pub citing_block : List ℕ
+citing_block = codes "${\n$v x:0 $.\nx.1.0 $f #Var x:0 $.\ne.1.0 $e |- ( \\imp x:0 f:a ) $.\nt.1 $p |- ( \\imp ( \\next x:0 ) ( \\next f:a ) ) $= x.1.0 n.1 e.1.0 t.0 $.\n$}\n"
+
+abbrev pub variable_block : List ℕ
+variable_block = codes "${\n$v m:3 $.\nm.2.3 $f #Pattern m:3 $.\nt.2 $p |- \\top $= m.2.3 m.2.3 m.2.3 w.imp w.imp w.top m.2.3 m.2.3 p.1 w.top m.2.3 m.2.3 m.2.3 w.imp w.imp w.top w.imp top w.top m.2.3 m.2.3 m.2.3 w.imp w.imp p.1 mp mp $.\n$}\n"
+
+-- behind the header, of 5968 bytes, there is no fault; without the axiom that it cites the lemma has a bad step
+pub record RenderedCases : Type 0 where
+  pub stated : first_fault (header_bytes ++ (names_text ++ (axiom_text ++ lemma_text))) ≡ None
+  pub blocks : first_fault (header_bytes ++ (names_text ++ (hypothesis_block ++ (citing_block ++ variable_block)))) ≡ None
+  pub uncited : first_fault (header_bytes ++ (names_text ++ lemma_text)) ≡ Some (fault 12 6064)

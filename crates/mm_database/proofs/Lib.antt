@@ -1,0 +1,12 @@
+pub mod Tests
+pub mod Applying
+pub mod Forests
+pub mod Building
+pub mod Stacks
+pub mod Faults
+pub mod Texts
+pub mod Stated
+pub mod WrittenForms
+pub mod Continued
+pub mod TypedOnce
+pub mod ClosedFrames

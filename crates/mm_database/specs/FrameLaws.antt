@@ -1,0 +1,118 @@
+-- Laws on databases and proofs.
+use Rattle.std.specs.Prelude.{◌≡◌, ◌↔◌, ℕ, ◌+◌, Bool, true, false, not, List, [], ◌∷◌, ◌++◌, length, map, flat_map, Some, None, codes}
+use Rattle.std.specs.List.{list_all}
+use Rattle.mm_text.specs.Bytes.{Token}
+use Rattle.mm_text.specs.Statements.{Statement, Statements, next_statement, statement, statements_from, statements_of}
+use Rattle.mm_text.specs.TextLaws.{ends_white, is_plain_token, is_one_statement, written}
+use Rattle.mm_text.specs.declared.fault.MmFault.{MmFault}
+use Rattle.mm_database.specs.Forms.{Keyword, declares_constants, declares_variables, types_variable, assumes, separates, asserts, proves, plain, form_of, has_dollar}
+use Rattle.mm_database.specs.Database.{Context, empty_context, context_after, active_at}
+use Rattle.mm_database.specs.Assertions.{assertions_in, assertions_of, typings_in, typings_of}
+use Rattle.mm_database.specs.Proofs.{Expression, ProofTree, ProofForest, all_postorder}
+use Rattle.mm_database.specs.Steps.{Step, cites, AllBuild, Forms}
+use Rattle.mm_database.specs.Stack.{stack_after}
+use Rattle.mm_database.specs.Validity.{statement_fault, IsFine, AreFine, IsValid, IsFirstFault, first_fault}
+
+-- steps that only cite labels build just the forest of which these are the postorder
+abbrev pub LabelsArePostorder : Type 0
+LabelsArePostorder =
+    (labels : List Token) (forest : ProofForest) (saved : List ProofTree) →
+    AllBuild [] (map (λ label. cites label) labels) forest saved ↔ ((all_postorder forest ≡ labels) × (saved ≡ []))
+
+-- a stack accepts just the steps that build a forest, and is left with what it proves
+abbrev pub StacksAreForests : Type 0
+StacksAreForests =
+    (c : Context) (steps : List (Step Token)) (results : List Expression) →
+    (stack_after c steps ≡ Some results) ↔ Forms c steps results
+
+-- a text is valid just where no fault is computed
+abbrev pub ValidIsFaultless : Type 0
+ValidIsFaultless = (bytes : List ℕ) → IsValid bytes ↔ (first_fault bytes ≡ None)
+
+-- the fault that is computed is the first one
+abbrev pub FirstFaultIsComputed : Type 0
+FirstFaultIsComputed = (bytes : List ℕ) (f : MmFault) → IsFirstFault bytes f ↔ (first_fault bytes ≡ Some f)
+
+-- a statement of which no fault is computed is without fault
+abbrev pub FaultlessIsFine : Type 0
+FaultlessIsFine = (c : Context) (tokens : List Token) → statement_fault c tokens ≡ None → IsFine c tokens
+
+-- statements, and others behind them
+abbrev pub in_front : List Statement → Statements → Statements
+in_front [] statements = statements
+in_front (s ∷ before) statements = next_statement s (in_front before statements)
+
+-- each statement of a valid text is without fault in what is declared and active at it
+abbrev pub FineWhereActive : Type 0
+FineWhereActive =
+    (bytes : List ℕ) (before : List Statement) (s : Statement) (rest : Statements) → IsValid bytes →
+    statements_of bytes ≡ in_front before (next_statement s rest) →
+    IsFine (active_at before) s.tokens
+
+-- what is appended to a text without fault is judged from the context that the text leaves
+abbrev pub AppendedIsFine : Type 0
+AppendedIsFine =
+    (text more : List ℕ) (left last : Context) → ends_white text ≡ true →
+    AreFine empty_context (statements_of text) left →
+    AreFine left (statements_from (length text) more) last →
+    AreFine empty_context (statements_of (text ++ more)) last
+
+-- the text of some statements
+abbrev pub written_statements : List (List Token) → List ℕ
+written_statements statements = flat_map written statements
+
+-- written statements without fault, from a context and a place on, and the context that they leave
+abbrev pub Adds : Context → ℕ → List (List Token) → Context → Type 0
+Adds c at [] left = left ≡ c
+Adds c at (tokens ∷ statements) left =
+    (list_all is_plain_token tokens ≡ true) × (is_one_statement tokens ≡ true) × IsFine c tokens × Adds (context_after c (statement at tokens)) (at + length (written tokens)) statements left
+
+-- the text of such statements is read as them
+abbrev pub WrittenIsFine : Type 0
+WrittenIsFine =
+    (c : Context) (at : ℕ) (statements : List (List Token)) (left : Context) →
+    Adds c at statements left → AreFine c (statements_from at (written_statements statements)) left
+
+-- what is appended to a text adds its assertions, with the frames that they have in the context that
+-- the text leaves, and its typings
+abbrev pub AppendedStates : Type 0
+AppendedStates =
+    (text more : List ℕ) (left : Context) → ends_white text ≡ true →
+    AreFine empty_context (statements_of text) left →
+    (assertions_of (text ++ more) ≡ assertions_of text ++ assertions_in left (statements_from (length text) more)) × (typings_of (text ++ more) ≡ typings_of text ++ typings_in (statements_from (length text) more))
+
+abbrev pub are_clean : List Token → Bool
+are_clean tokens = list_all (λ t. not (has_dollar t)) tokens
+
+abbrev pub keyword_token : Keyword → Token
+keyword_token declares_constants = codes "$c"
+keyword_token declares_variables = codes "$v"
+keyword_token types_variable = codes "$f"
+keyword_token assumes = codes "$e"
+keyword_token separates = codes "$d"
+keyword_token asserts = codes "$a"
+keyword_token proves = codes "$p"
+
+abbrev pub has_proof : Keyword → Bool
+has_proof proves = true
+has_proof keyword = false
+
+-- the tokens of a statement with these labels, keyword and symbols, and of one with a proof
+abbrev pub plain_tokens : List Token → Keyword → List Token → List Token
+plain_tokens labels keyword symbols = labels ++ (keyword_token keyword ∷ (symbols ++ codes "$." ∷ []))
+
+abbrev pub proof_tokens : List Token → List Token → List Token → List Token
+proof_tokens labels symbols proof = labels ++ (codes "$p" ∷ (symbols ++ (codes "$=" ∷ (proof ++ codes "$." ∷ []))))
+
+-- such tokens say what was written
+abbrev pub PlainTokensSay : Type 0
+PlainTokensSay =
+    (labels : List Token) (keyword : Keyword) (symbol : Token) (symbols : List Token) →
+    are_clean labels ≡ true → are_clean (symbol ∷ symbols) ≡ true → has_proof keyword ≡ false →
+    form_of (plain_tokens labels keyword (symbol ∷ symbols)) ≡ Some (plain labels keyword (symbol ∷ symbols) [])
+
+abbrev pub ProofTokensSay : Type 0
+ProofTokensSay =
+    (labels symbols proof : List Token) → are_clean labels ≡ true → are_clean symbols ≡ true →
+    are_clean proof ≡ true →
+    form_of (proof_tokens labels symbols proof) ≡ Some (plain labels proves symbols proof)

@@ -1,0 +1,13 @@
+pub mod Forms
+pub mod Frames
+pub mod Database
+pub mod Proofs
+pub mod Steps
+pub mod ProofText
+pub mod Stack
+pub mod Validity
+pub mod Cases
+pub mod FrameLaws
+pub mod Assertions
+pub mod Writing
+pub mod Orderly

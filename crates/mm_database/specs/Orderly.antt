@@ -1,0 +1,33 @@
+-- In what a text without fault declares, no two active hypotheses type one variable, and no two of a
+-- frame do.
+use Rattle.std.specs.Prelude.{◌≡◌, false, List, [], ◌∷◌, Some}
+use Rattle.std.specs.List.{list_any}
+use Rattle.mm_text.specs.Bytes.{Token}
+use Rattle.mm_text.specs.Statements.{Statement}
+use Rattle.mm_database.specs.Frames.{Hypothesis, floating, essential, Frame, types}
+use Rattle.mm_database.specs.Database.{Block, Context, empty_context, context_after}
+use Rattle.mm_database.specs.Validity.{IsFine}
+
+abbrev pub TypeOnce : List Hypothesis → Type 0
+TypeOnce [] = Unit {0}
+TypeOnce (floating label typecode variable ∷ hypotheses) =
+    (list_any (types variable) hypotheses ≡ false) × TypeOnce hypotheses
+TypeOnce (essential label statement ∷ hypotheses) = TypeOnce hypotheses
+
+-- each block that is open has such hypotheses outside it
+abbrev pub BlocksTypeOnce : List Block → Type 0
+BlocksTypeOnce [] = Unit {0}
+BlocksTypeOnce (block ∷ blocks) = TypeOnce block.outside.hypotheses × BlocksTypeOnce blocks
+
+pub record IsOrderly (c : Context) : Type 0 where
+  pub active : TypeOnce c.scope.hypotheses
+  pub blocks : BlocksTypeOnce c.blocks
+  pub frames : (label : Token) (f : Frame) → c.frames label ≡ Some f → TypeOnce f.hypotheses
+
+-- a database begins so, and a statement without fault leaves it so
+abbrev pub EmptyIsOrderly : Type 0
+EmptyIsOrderly = IsOrderly empty_context
+
+abbrev pub OrderlyAfter : Type 0
+OrderlyAfter =
+    (c : Context) (s : Statement) → IsOrderly c → IsFine c s.tokens → IsOrderly (context_after c s)

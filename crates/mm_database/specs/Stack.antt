@@ -1,0 +1,115 @@
+-- A proof computed on a stack, whose top is the last of the list.
+use Rattle.std.specs.Prelude.{ℕ, ◌-◌, Bool, ◌&&◌, nat_le, if◌then◌else◌, List, [], ◌∷◌, ◌++◌, map, length, take, drop, Option, Some, None, option_map, option_and_then, slice_get, bytes_eq}
+use Rattle.std.specs.Cmp.Lexicographic.{pointwise}
+use Rattle.mm_text.specs.Bytes.{Token}
+use Rattle.mm_database.specs.Frames.{Hypothesis, floating, essential, statement_of, Frame}
+use Rattle.mm_database.specs.Database.{Context}
+use Rattle.mm_database.specs.Proofs.{Expression, substituted, instance_of, keeps_apart, active_hypothesis}
+use Rattle.mm_database.specs.Steps.{Step, cites, saves, repeats}
+
+abbrev pub same_expression : Expression → Expression → Bool
+same_expression = pointwise bytes_eq
+
+abbrev pub same_expressions : List Expression → List Expression → Bool
+same_expressions = pointwise same_expression
+
+-- a variable and the text that stands for it
+pub record Binding : Type 0 where
+  pub variable : Token
+  pub text : Expression
+
+abbrev pub behind_first : Expression → Expression
+behind_first [] = []
+behind_first (symbol ∷ symbols) = symbols
+
+-- what entries of the stack give the variables of hypotheses
+abbrev pub bindings_of : List Hypothesis → List Expression → List Binding
+bindings_of [] entries = []
+bindings_of (h ∷ hypotheses) [] = []
+bindings_of (floating label typecode variable ∷ hypotheses) (entry ∷ entries) =
+    record { variable = variable; text = behind_first entry } ∷ bindings_of hypotheses entries
+bindings_of (essential label statement ∷ hypotheses) (entry ∷ entries) = bindings_of hypotheses entries
+
+-- the text of a symbol, which is itself where it is not bound
+abbrev pub text_of : List Binding → Token → Expression
+text_of [] symbol = symbol ∷ []
+text_of (b ∷ bindings) symbol = if bytes_eq b.variable symbol then b.text else text_of bindings symbol
+
+-- what an assertion gives from entries under a substitution
+abbrev pub applied_under : Context → Frame → (Token → Expression) → List Expression → Option Expression
+applied_under c f sigma entries =
+    if same_expressions entries (map (instance_of sigma) f.hypotheses) && keeps_apart c f sigma
+    then Some (substituted sigma f.statement)
+    else None
+
+abbrev pub applied : Context → Frame → List Expression → Option Expression
+applied c f entries = applied_under c f (text_of (bindings_of f.hypotheses entries)) entries
+
+abbrev pub assertion_result : Context → Option Frame → List Expression → Option Expression
+assertion_result c None entries = None
+assertion_result c (Some f) entries = applied c f entries
+
+-- a hypothesis gives its statement from no entries
+abbrev pub hypothesis_result : Hypothesis → List Expression → Option Expression
+hypothesis_result h [] = Some (statement_of h)
+hypothesis_result h (entry ∷ entries) = None
+
+abbrev pub label_result : Context → Option Hypothesis → Option Frame → List Expression → Option Expression
+label_result c (Some h) frame entries = hypothesis_result h entries
+label_result c None frame entries = assertion_result c frame entries
+
+-- what a label gives from the entries that it takes
+abbrev pub step_result : Context → Token → List Expression → Option Expression
+step_result c label entries = label_result c (active_hypothesis c label) (c.frames label) entries
+
+-- how many entries a label takes: as many as its assertion has mandatory hypotheses
+abbrev pub frame_arity : Option Frame → ℕ
+frame_arity None = 0
+frame_arity (Some f) = length f.hypotheses
+
+abbrev pub label_arity : Option Hypothesis → Option Frame → ℕ
+label_arity None frame = frame_arity frame
+label_arity (Some h) frame = 0
+
+abbrev pub arity : Context → Token → ℕ
+arity c label = label_arity (active_hypothesis c label) (c.frames label)
+
+-- the n last entries give way to what is made of them, where there are so many
+abbrev pub stack_with : {E : Type 0} → (List E → Option E) → ℕ → List E → Option (List E)
+stack_with result n stack =
+    if nat_le n (length stack)
+    then option_map (λ e. take (length stack - n) stack ++ e ∷ []) (result (drop (length stack - n) stack))
+    else None
+
+-- the stack behind a label
+abbrev pub stack_after_label : Context → Token → List Expression → Option (List Expression)
+stack_after_label c label stack = stack_with (step_result c label) (arity c label) stack
+
+-- a stack, and the entries that are saved
+pub record Saving (E : Type 0) : Type 0 where
+  pub stack : List E
+  pub saved : List E
+
+abbrev pub saving : {E : Type 0} → List E → List E → Saving E
+saving stack saved = record { stack = stack; saved = saved }
+
+-- A step changes the stack by what it cites, saves the last entry, or puts a saved one on the stack
+-- again.
+abbrev pub saving_after_step : {A E : Type 0} → (A → List E → Option (List E)) → Step A → Saving E → Option (Saving E)
+saving_after_step cited (cites x) w = option_map (λ s. saving s w.saved) (cited x w.stack)
+saving_after_step cited saves w =
+    option_map (λ e. saving w.stack (w.saved ++ e ∷ [])) (slice_get w.stack (length w.stack - 1))
+saving_after_step cited (repeats n) w =
+    option_map (λ e. saving (w.stack ++ e ∷ []) w.saved) (slice_get w.saved n)
+
+abbrev pub saving_after : {A E : Type 0} → (A → List E → Option (List E)) → List (Step A) → Saving E → Option (Saving E)
+saving_after cited [] w = Some w
+saving_after cited (step ∷ steps) w = option_and_then (saving_after cited steps) (saving_after_step cited step w)
+
+-- the stack that steps leave, where each fits
+abbrev pub stack_left : {A E : Type 0} → (A → List E → Option (List E)) → List (Step A) → Option (List E)
+stack_left cited steps = option_map (λ w. w.stack) (saving_after cited steps (saving [] []))
+
+-- the stack behind the steps of a proof
+abbrev pub stack_after : Context → List (Step Token) → Option (List Expression)
+stack_after c steps = stack_left (stack_after_label c) steps

@@ -1,0 +1,248 @@
+-- The first fault of a Metamath text, and that it is valid where there is none (Metamath book, "The
+-- Complete Language Specification"). Faults are reported by statement, and within a statement by
+-- kind. A block that is not closed is looked at behind all other faults.
+use Rattle.std.specs.Prelude.{◌≡◌, ℕ, Bool, true, false, not, ◌&&◌, ◌||◌, ◌⊎◌, if◌then◌else◌, List, [], ◌∷◌, Option, Some, None, IfSome, is_none, option_map}
+use Rattle.std.specs.List.{list_any, list_all}
+use Rattle.mm_text.specs.Bytes.{Token, has_repeated}
+use Rattle.mm_text.specs.Labels.{is_label}
+use Rattle.mm_text.specs.FaultKinds.{bad_keyword, inner_constant, redeclared, not_active, bad_typecode, second_float, bad_disjoint, bad_scope, bad_label, bad_proof_text, bad_step, bad_conclusion, fault}
+use Rattle.mm_text.specs.Statements.{Statements, no_statement, unended, bad_statement, next_statement, statements_of}
+use Rattle.mm_text.specs.declared.fault.MmFault.{MmFault}
+use Rattle.mm_database.specs.Forms.{Keyword, declares_constants, declares_variables, types_variable, separates, proves, Form, block_start, block_end, plain, form_of, is_nil}
+use Rattle.mm_database.specs.Frames.{types, Frame, frame_of}
+use Rattle.mm_database.specs.Database.{Block, Context, empty_context, context_after, first_label}
+use Rattle.mm_database.specs.Proofs.{Expression}
+use Rattle.mm_database.specs.Steps.{Step, Forms}
+use Rattle.mm_database.specs.ProofText.{proof_steps}
+use Rattle.mm_database.specs.Stack.{same_expressions, stack_after}
+
+-- an active `$f` types the symbol
+abbrev pub has_type : Context → Token → Bool
+has_type c symbol = list_any (types symbol) c.scope.hypotheses
+
+abbrev pub is_active : Context → Token → Bool
+is_active c symbol = c.constants symbol || c.scope.variables symbol
+
+-- a constant, or an active variable with a type
+abbrev pub is_typed : Context → Token → Bool
+is_typed c symbol = c.constants symbol || (c.scope.variables symbol && has_type c symbol)
+
+abbrev pub is_open : List Block → Bool
+is_open [] = false
+is_open (block ∷ blocks) = true
+
+-- a constant is declared in a block
+abbrev pub is_inner_constant : Context → Keyword → Bool
+is_inner_constant c declares_constants = is_open c.blocks
+is_inner_constant c keyword = false
+
+abbrev pub declares_again : Context → Keyword → List Token → Bool
+declares_again c declares_constants symbols =
+    list_any (λ t. c.constants t || (c.variables t || c.labels t)) symbols || has_repeated symbols
+declares_again c declares_variables symbols =
+    list_any (λ t. c.constants t || (c.scope.variables t || c.labels t)) symbols || has_repeated symbols
+declares_again c keyword symbols = false
+
+-- a symbol is not active, or is a variable without a type where it has to have one
+abbrev pub names_inactive : Context → Keyword → List Token → Bool
+names_inactive c declares_constants symbols = false
+names_inactive c declares_variables symbols = false
+names_inactive c types_variable symbols = not (list_all (is_active c) symbols)
+names_inactive c separates symbols = not (list_all c.scope.variables symbols)
+names_inactive c keyword symbols = not (list_all (is_typed c) symbols)
+
+abbrev pub begins_with_constant : Context → List Token → Bool
+begins_with_constant c [] = false
+begins_with_constant c (symbol ∷ symbols) = c.constants symbol
+
+-- a constant and a variable
+abbrev pub is_typing : Context → List Token → Bool
+is_typing c [] = false
+is_typing c (typecode ∷ []) = false
+is_typing c (typecode ∷ (variable ∷ [])) = c.constants typecode && c.scope.variables variable
+is_typing c (typecode ∷ (variable ∷ (other ∷ symbols))) = false
+
+abbrev pub is_mistyped : Context → Keyword → List Token → Bool
+is_mistyped c declares_constants symbols = false
+is_mistyped c declares_variables symbols = false
+is_mistyped c separates symbols = false
+is_mistyped c types_variable symbols = not (is_typing c symbols)
+is_mistyped c keyword symbols = not (begins_with_constant c symbols)
+
+-- the variable of a `$f` has a type
+abbrev pub second_has_type : Context → List Token → Bool
+second_has_type c [] = false
+second_has_type c (typecode ∷ []) = false
+second_has_type c (typecode ∷ (variable ∷ symbols)) = has_type c variable
+
+abbrev pub types_again : Context → Keyword → List Token → Bool
+types_again c types_variable symbols = second_has_type c symbols
+types_again c keyword symbols = false
+
+abbrev pub has_two : List Token → Bool
+has_two [] = false
+has_two (symbol ∷ []) = false
+has_two (symbol ∷ (other ∷ symbols)) = true
+
+abbrev pub is_bad_disjoint : Keyword → List Token → Bool
+is_bad_disjoint separates symbols = not (has_two symbols) || has_repeated symbols
+is_bad_disjoint keyword symbols = false
+
+-- no label of an earlier statement, and no symbol
+abbrev pub is_new_label : Context → Token → Bool
+is_new_label c label =
+    is_label label && (not (c.labels label) && (not (c.constants label) && not (c.variables label)))
+
+abbrev pub has_one_label : Context → List Token → Bool
+has_one_label c [] = false
+has_one_label c (label ∷ []) = is_new_label c label
+has_one_label c (label ∷ (other ∷ labels)) = false
+
+-- declarations and `$d` have no label, the others one
+abbrev pub is_mislabelled : Context → Keyword → List Token → Bool
+is_mislabelled c declares_constants labels = not (is_nil labels)
+is_mislabelled c declares_variables labels = not (is_nil labels)
+is_mislabelled c separates labels = not (is_nil labels)
+is_mislabelled c keyword labels = not (has_one_label c labels)
+
+-- what a `$p` has to prove, and the steps of its proof, if its text says some
+pub record Task : Type 0 where
+  pub conclusion : Expression
+  pub steps : List (Step Token)
+
+abbrev pub task_of : Context → Frame → List Token → Option Task
+task_of c f proof =
+    option_map (λ ss. record { conclusion = f.statement; steps = ss }) (proof_steps c f proof)
+
+abbrev pub theorem_task : Context → List Token → List Token → List Token → Option Task
+theorem_task c labels symbols proof = task_of c (frame_of c.scope (first_label labels) symbols) proof
+
+abbrev pub task : Context → Option Form → Option Task
+task c (Some (plain labels proves symbols proof)) = theorem_task c labels symbols proof
+task c form = None
+
+abbrev pub has_bad_proof_text : Context → List Token → Keyword → List Token → List Token → Bool
+has_bad_proof_text c labels proves symbols proof = is_none (theorem_task c labels symbols proof)
+has_bad_proof_text c labels keyword symbols proof = false
+
+-- a kind of fault, and whether it is there
+pub record Tested : Type 0 where
+  pub kind : ℕ
+  pub found : Bool
+
+abbrev pub tested : ℕ → Bool → Tested
+tested kind found = record { kind = kind; found = found }
+
+abbrev pub first_found : List Tested → Option ℕ
+first_found [] = None
+first_found (t ∷ tests) = if t.found then Some t.kind else first_found tests
+
+-- the smallest kind of fault of a statement, but for those of its proof
+abbrev pub declaration_fault : Context → Option Form → Option ℕ
+declaration_fault c None = Some bad_keyword
+declaration_fault c (Some block_start) = None
+declaration_fault c (Some block_end) = if is_open c.blocks then None else Some bad_scope
+declaration_fault c (Some (plain labels keyword symbols proof)) = first_found (
+    tested inner_constant (is_inner_constant c keyword) ∷
+    tested redeclared (declares_again c keyword symbols) ∷
+    tested not_active (names_inactive c keyword symbols) ∷
+    tested bad_typecode (is_mistyped c keyword symbols) ∷
+    tested second_float (types_again c keyword symbols) ∷
+    tested bad_disjoint (is_bad_disjoint keyword symbols) ∷
+    tested bad_label (is_mislabelled c keyword labels) ∷ [])
+
+abbrev pub proof_text_fault : Context → Option Form → Option ℕ
+proof_text_fault c None = None
+proof_text_fault c (Some block_start) = None
+proof_text_fault c (Some block_end) = None
+proof_text_fault c (Some (plain labels keyword symbols proof)) =
+    if has_bad_proof_text c labels keyword symbols proof then Some bad_proof_text else None
+
+abbrev pub or_else : Option ℕ → Option ℕ → Option ℕ
+or_else None other = other
+or_else (Some kind) other = Some kind
+
+-- the smallest kind of fault of a statement, but for those of a proof's steps
+abbrev pub form_fault : Context → Option Form → Option ℕ
+form_fault c form = or_else (declaration_fault c form) (proof_text_fault c form)
+
+-- the steps build no forest that proves something
+abbrev pub HasBadStep : Context → Task → Type 0
+HasBadStep c t = (results : List Expression) → Forms c t.steps results → ⊥
+
+-- the steps build a forest that proves something, and not the statement alone
+pub record HasBadConclusion (c : Context) (t : Task) : Type 0 where
+  pub results : List Expression
+  pub forms : Forms c t.steps results
+  pub differs : results ≡ t.conclusion ∷ [] → ⊥
+
+-- the first fault of a statement, but for bytes and comments, is of this kind
+pub data IsFaulty (c : Context) (tokens : List Token) : ℕ → Type 0 where
+  by_form : (kind : ℕ) → form_fault c (form_of tokens) ≡ Some kind → IsFaulty c tokens kind
+  by_step : (t : Task) → form_fault c (form_of tokens) ≡ None → task c (form_of tokens) ≡ Some t → HasBadStep c t → IsFaulty c tokens bad_step
+  by_conclusion : (t : Task) → form_fault c (form_of tokens) ≡ None → task c (form_of tokens) ≡ Some t → HasBadConclusion c t → IsFaulty c tokens bad_conclusion
+
+-- the statement has no fault: its proof, if it has one, builds one tree, of what it states
+pub record IsFine (c : Context) (tokens : List Token) : Type 0 where
+  pub form : form_fault c (form_of tokens) ≡ None
+  pub proof : IfSome (task c (form_of tokens)) (λ t. Forms c t.steps (t.conclusion ∷ []))
+
+-- the statements have no fault from one context on, and leave another
+abbrev pub AreFine : Context → Statements → Context → Type 0
+AreFine c no_statement left = left ≡ c
+AreFine c (unended at) left = ⊥
+AreFine c (bad_statement f) left = ⊥
+AreFine c (next_statement s statements) left =
+    IsFine c s.tokens × AreFine (context_after c s) statements left
+
+-- each statement of the text is without fault, and each block is closed
+pub record IsValid (bytes : List ℕ) : Type 0 where
+  pub left : Context
+  pub fine : AreFine empty_context (statements_of bytes) left
+  pub closed : left.blocks ≡ []
+
+-- the outermost block that is open
+abbrev pub first_open : List Block → Option ℕ
+first_open [] = None
+first_open (block ∷ []) = Some block.at
+first_open (block ∷ (outer ∷ blocks)) = first_open (outer ∷ blocks)
+
+-- the first fault of statements, from a context on
+abbrev pub IsFirstFaultIn : Context → Statements → MmFault → Type 0
+IsFirstFaultIn c no_statement f = (at : ℕ) × (first_open c.blocks ≡ Some at) × (f ≡ fault bad_scope at)
+IsFirstFaultIn c (unended at) f = f ≡ fault bad_keyword at
+IsFirstFaultIn c (bad_statement g) f = f ≡ g
+IsFirstFaultIn c (next_statement s statements) f =
+    ((kind : ℕ) × IsFaulty c s.tokens kind × (f ≡ fault kind s.at)) ⊎ (IsFine c s.tokens × IsFirstFaultIn (context_after c s) statements f)
+
+abbrev pub IsFirstFault : List ℕ → MmFault → Type 0
+IsFirstFault bytes f = IsFirstFaultIn empty_context (statements_of bytes) f
+
+-- The same computed, with a stack.
+
+abbrev pub stack_fault : Expression → Option (List Expression) → Option ℕ
+stack_fault conclusion None = Some bad_step
+stack_fault conclusion (Some stack) =
+    if same_expressions stack (conclusion ∷ []) then None else Some bad_conclusion
+
+abbrev pub task_fault : Context → Option Task → Option ℕ
+task_fault c None = None
+task_fault c (Some t) = stack_fault t.conclusion (stack_after c t.steps)
+
+abbrev pub statement_fault : Context → List Token → Option ℕ
+statement_fault c tokens =
+    or_else (form_fault c (form_of tokens)) (task_fault c (task c (form_of tokens)))
+
+abbrev pub fault_or : Option ℕ → ℕ → Option MmFault → Option MmFault
+fault_or None at other = other
+fault_or (Some kind) at other = Some (fault kind at)
+
+abbrev pub first_fault_in : Context → Statements → Option MmFault
+first_fault_in c no_statement = option_map (fault bad_scope) (first_open c.blocks)
+first_fault_in c (unended at) = Some (fault bad_keyword at)
+first_fault_in c (bad_statement f) = Some f
+first_fault_in c (next_statement s statements) =
+    fault_or (statement_fault c s.tokens) s.at (first_fault_in (context_after c s) statements)
+
+abbrev pub first_fault : List ℕ → Option MmFault
+first_fault bytes = first_fault_in empty_context (statements_of bytes)

@@ -1,0 +1,70 @@
+-- Laws for a text that is written statement by statement: what it leaves, and which statements may
+-- follow.
+use Rattle.std.specs.Prelude.{◌≡◌, ℕ, Bool, true, false, List, [], ◌∷◌, ◌++◌, length, codes, bytes_eq}
+use Rattle.std.specs.List.{list_all}
+use Rattle.mm_text.specs.Bytes.{Token, has_token}
+use Rattle.mm_text.specs.Statements.{statements_of}
+use Rattle.mm_text.specs.TextLaws.{ends_white}
+use Rattle.mm_database.specs.Forms.{asserts}
+use Rattle.mm_database.specs.Frames.{Hypothesis, floating, essential, Scope, frame_of}
+use Rattle.mm_database.specs.Database.{Context, empty_context}
+use Rattle.mm_database.specs.Proofs.{ProofTree, Proves, postorder}
+use Rattle.mm_database.specs.Validity.{is_typed, is_new_label, IsFine, AreFine, IsValid}
+use Rattle.mm_database.specs.FrameLaws.{written_statements, Adds, are_clean, plain_tokens, proof_tokens}
+
+-- A text without fault that ends with white space and has no open block, and what it declares.
+pub record Leaves (bytes : List ℕ) (c : Context) : Type 0 where
+  pub white : ends_white bytes ≡ true
+  pub fine : AreFine empty_context (statements_of bytes) c
+  pub closed : c.blocks ≡ []
+
+-- such a text is valid
+abbrev pub LeavesIsValid : Type 0
+LeavesIsValid = (bytes : List ℕ) (c : Context) → Leaves bytes c → IsValid bytes
+
+-- and so is it with written statements behind it that are without fault there
+abbrev pub ContinuedLeaves : Type 0
+ContinuedLeaves =
+    (bytes : List ℕ) (c left : Context) (statements : List (List Token)) → Leaves bytes c →
+    Adds c (length bytes) statements left → left.blocks ≡ [] →
+    Leaves (bytes ++ written_statements statements) left
+
+-- what the statement of a `$a` or `$p` has to be: it begins with a constant, its symbols are active and
+-- its variables typed, and its label is new
+pub record MayBeStated (c : Context) (label typecode : Token) (symbols : List Token) : Type 0 where
+  pub new : is_new_label c label ≡ true
+  pub constant : c.constants typecode ≡ true
+  pub typed : list_all (is_typed c) (typecode ∷ symbols) ≡ true
+  pub clean_label : are_clean (label ∷ []) ≡ true
+  pub clean : are_clean (typecode ∷ symbols) ≡ true
+
+-- such a `$a` has no fault
+abbrev pub AxiomIsFine : Type 0
+AxiomIsFine =
+    (c : Context) (label typecode : Token) (symbols : List Token) → MayBeStated c label typecode symbols →
+    IsFine c (plain_tokens (label ∷ []) asserts (typecode ∷ symbols))
+
+abbrev pub begins_compressed : List Token → Bool
+begins_compressed [] = false
+begins_compressed (token ∷ tokens) = bytes_eq token (codes "(")
+
+-- nor has such a `$p` with the labels of a tree that proves it
+abbrev pub TheoremIsFine : Type 0
+TheoremIsFine =
+    (c : Context) (label typecode : Token) (symbols : List Token) (tree : ProofTree) →
+    MayBeStated c label typecode symbols → Proves c tree (typecode ∷ symbols) →
+    are_clean (postorder tree) ≡ true → begins_compressed (postorder tree) ≡ false →
+    IsFine c (proof_tokens (label ∷ []) (typecode ∷ symbols) (postorder tree))
+
+-- each of these hypotheses is a `$f` of a variable that does not stand among the symbols
+abbrev pub AreUnneeded : List Token → List Hypothesis → Type 0
+AreUnneeded symbols [] = Unit {0}
+AreUnneeded symbols (floating label typecode variable ∷ hypotheses) =
+    (has_token symbols variable ≡ false) × AreUnneeded symbols hypotheses
+AreUnneeded symbols (essential label statement ∷ hypotheses) = ⊥
+
+-- where all that is active is so, an assertion has no mandatory hypothesis
+abbrev pub ClosedHasNone : Type 0
+ClosedHasNone =
+    (scope : Scope) (label : Token) (symbols : List Token) → AreUnneeded symbols scope.hypotheses →
+    (frame_of scope label symbols).hypotheses ≡ []
