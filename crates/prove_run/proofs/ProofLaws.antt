@@ -53,9 +53,9 @@ reaching_used : (f : LeafFacts) (a b c : Pattern) (sofar step : Derivation) → 
 reaching_used f a b c sofar step ha hb hc hs ht =
     chaining_used f a (ev b) (ev c) sofar (kept_reaching b c (reaching_by b c step)) ha hb hc hs (kept_reaching_used f b c (reaching_by b c step) hb hc (reaching_by_used f b c step hb hc ht))
 
-freeing_used : (f : LeafFacts) (p q : Pattern) (rule : Derivation) → EachLeaf f p → EachLeaf f q → EachUsed f rule → EachUsed f (freeing p q rule)
-freeing_used f p q rule hp hq hr =
-    chaining_used f p (and p top) q (adding_top p) rule hp (hp, tt) hq
+freeing_used : (f : LeafFacts) (p q : Pattern) (given : Derivation) → EachLeaf f p → EachLeaf f q → EachUsed f given → EachUsed f (freeing p q given)
+freeing_used f p q given hp hq hr =
+    chaining_used f p (and p top) q (adding_top p) given hp (hp, tt) hq
     (detaching_under_used f p top (and p top) (lifting p top (by_rule rule.Top [] (derivations []))) (by_rule rule.And3 (pattern p ∷ pattern top ∷ []) (derivations [])) hp tt (hp, tt)
     (lifting_used f p top (by_rule rule.Top [] (derivations [])) hp tt (tt, tt)) ((hp, (tt, tt)), tt)) hr
 
