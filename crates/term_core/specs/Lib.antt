@@ -2,6 +2,7 @@ pub mod Terms
 pub mod TermCode
 pub mod TreeTest
 pub mod Values
+pub mod HookValues
 pub mod TermView
 pub mod TermSize
 pub mod Heads
