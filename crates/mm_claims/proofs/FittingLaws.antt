@@ -10,8 +10,7 @@ use Rattle.mm_text.specs.TextLaws.{is_plain_token, is_one_statement, written}
 use Rattle.mm_database.specs.Forms.{Form, declares_constants, asserts, plain, form_of, has_dollar}
 use Rattle.mm_database.specs.Frames.{Frame, frame_of}
 use Rattle.mm_database.specs.Database.{Context, context_after, after_form, with_declared}
-use Rattle.mm_database.specs.Proofs.{IsProof}
-use Rattle.mm_database.specs.Validity.{task, form_fault, is_new_label, IsFine}
+use Rattle.mm_database.specs.Validity.{IsProved, task, form_fault, is_new_label, IsFine}
 use Rattle.mm_database.specs.FrameLaws.{Adds, plain_tokens}
 use Rattle.mm_database.specs.Writing.{MayBeStated}
 use Rattle.mm_database.proofs.WrittenForms.{plain_tokens_say}
@@ -76,7 +75,7 @@ constant_is_fine c t closed constants variables labels clean =
     let well : form_fault c (Some (plain [] declares_constants (t ∷ []) [])) ≡ None = rw (closed, constants, variables, labels) refl in
     record {
       form = ap (form_fault c) said ∙ well;
-      proof = subst (λ (o : Option Form). IfSome (task c o) (λ t. IsProof c t.steps t.conclusion)) (sym said) tt;
+      proof = subst (λ (o : Option Form). IfSome (task c o) (IsProved c)) (sym said) tt;
     }
 
 behind_constant : (c : Context) (at : ℕ) (t : Token) → has_dollar t ≡ false → context_after c (statement at (plain_tokens [] declares_constants (t ∷ []))) ≡ with_constant c t

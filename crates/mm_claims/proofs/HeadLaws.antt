@@ -3,13 +3,12 @@ use Rattle.std.proofs.Common.{◌≡◌, ℕ, ◌<◌, ◌^◌, Bool, true, fals
 use Rattle.std.specs.Prelude.{◌||◌, not, bytes_eq}
 use Rattle.std.specs.List.{list_any, list_all}
 use Rattle.std.proofs.lemmas.Bool.{false≢true}
-use Rattle.mm_text.specs.Bytes.{Token, has_token}
+use Rattle.mm_text.specs.Bytes.{Token, has_token, has_repeated}
 use Rattle.mm_text.specs.Labels.{is_label}
 use Rattle.mm_text.specs.TextLaws.{is_plain_token}
 use Rattle.mm_database.specs.Forms.{declares_variables, types_variable, assumes, separates, plain, has_dollar}
 use Rattle.mm_database.specs.Frames.{Hypothesis, label_of, types, Scope}
 use Rattle.mm_database.specs.Database.{Context}
-use Rattle.mm_text.specs.Bytes.{has_repeated}
 use Rattle.mm_database.specs.FrameLaws.{plain_tokens}
 use Rattle.mm_database.specs.Validity.{declaration_fault, has_two, has_type, is_new_label, is_typed}
 use Rattle.mm_header.specs.HeaderContext.{header_context}

@@ -13,8 +13,7 @@ use Rattle.mm_database.specs.Forms.{Form, Keyword, declares_constants, declares_
 use Rattle.mm_database.specs.Frames.{Hypothesis, label_of, Frame, frame_of}
 use Rattle.mm_database.specs.Database.{Block, Context, context_after, after_form, with_declared, with_block_opened, with_block_closed, with_tokens, with_token, with_hypothesis, with_assertion, are_different_tokens}
 use Rattle.mm_database.specs.Assertions.{Assertion, assertion, keyword_assertion, assertions_in, form_assertion, with_assertion_first, keyword_typing, form_typing, with_typing_first, typings_in}
-use Rattle.mm_database.specs.Proofs.{IsProof}
-use Rattle.mm_database.specs.Validity.{task, form_fault, declaration_fault, or_else, IsFine}
+use Rattle.mm_database.specs.Validity.{IsProved, task, form_fault, declaration_fault, or_else, IsFine}
 use Rattle.mm_database.specs.FrameLaws.{Adds, written_statements, are_clean, keyword_token, has_proof, plain_tokens}
 use Rattle.mm_database.proofs.WrittenForms.{plain_tokens_say}
 use Rattle.ml_pat.proofs.LeafLaws.{both_true, split_true}
@@ -201,7 +200,7 @@ plain_fine c labels k symbol symbols no_proof clean_labels clean well =
     let said : form_of (plain_tokens labels k (symbol ∷ symbols)) ≡ Some (plain labels k (symbol ∷ symbols) []) = plain_tokens_say labels k symbol symbols clean_labels clean no_proof in
     record {
       form = ap (form_fault c) said ∙ whole k no_proof well;
-      proof = subst (λ (o : Option Form). IfSome (task c o) (λ t. IsProof c t.steps t.conclusion)) (sym said) (no_task k no_proof);
+      proof = subst (λ (o : Option Form). IfSome (task c o) (IsProved c)) (sym said) (no_task k no_proof);
     }
   where
     whole : (k : Keyword) → has_proof k ≡ false → declaration_fault c (Some (plain labels k (symbol ∷ symbols) [])) ≡ None → form_fault c (Some (plain labels k (symbol ∷ symbols) [])) ≡ None
@@ -213,7 +212,7 @@ plain_fine c labels k symbol symbols no_proof clean_labels clean well =
     whole asserts h w = ap (λ (o : Option ℕ). or_else o None) w
     whole proves h w = absurd (false≢true (sym h))
 
-    no_task : (k : Keyword) → has_proof k ≡ false → IfSome (task c (Some (plain labels k (symbol ∷ symbols) []))) (λ t. IsProof c t.steps t.conclusion)
+    no_task : (k : Keyword) → has_proof k ≡ false → IfSome (task c (Some (plain labels k (symbol ∷ symbols) []))) (IsProved c)
     no_task declares_constants h = tt
     no_task declares_variables h = tt
     no_task types_variable h = tt

@@ -8,7 +8,7 @@ use Rattle.std.proofs.lemmas.Slice.Eq.{bytes_eq-Decides}
 use Rattle.mm_text.specs.Bytes.{Token, has_token}
 use Rattle.mm_database.specs.Frames.{Hypothesis, essential}
 use Rattle.mm_database.specs.Database.{Context}
-use Rattle.mm_database.specs.Proofs.{Expression, instance_of, typed_variables, texts_apart, pair_apart, keeps_apart, by_hypothesis, ProofTree, Proves, AllProve}
+use Rattle.mm_database.specs.Proofs.{Expression, instance_of, typed_variables, texts_apart, pair_apart, keeps_apart, by_hypothesis, ProofTree, Proves, AllProve, symbols_apart}
 use Rattle.ml_pat.specs.Patterns.{Pattern, meta}
 use Rattle.ml_kernel.specs.Lemmas.{instance, instances, HaveNoVariables}
 use Rattle.mm_proof.specs.Tokens.{Naming, own_naming, object_token, meta_token}
@@ -71,15 +71,15 @@ patterns_apart vs i j =
 
 -- what stands for two variables is apart, or they need not be
 values_apart : (c : Context) (l : Naming) (declared : List Token) (known : LeafFacts) (ms : List Pattern) (vs : List Variable) (u v : Variable) → Serves c l (own_naming declared) known → HaveNoVariables ms → HasInstance known ms u → HasInstance known ms v
-    → (not (are_apart vs (variable_token u) (variable_token v)) || texts_apart c (value (own_naming declared) ms u) (value (own_naming declared) ms v)) ≡ true
+    → (not (are_apart vs (variable_token u) (variable_token v)) || texts_apart (symbols_apart c) (value (own_naming declared) ms u) (value (own_naming declared) ms v)) ≡ true
 values_apart c l declared known ms vs (object_variable x) (object_variable y) w none hx hy = go (x == y) refl
   where
-    go : (b : Bool) → (x == y) ≡ b → (not (are_apart vs (object_token x) (object_token y)) || texts_apart c (object_token x ∷ []) (object_token y ∷ [])) ≡ true
+    go : (b : Bool) → (x == y) ≡ b → (not (are_apart vs (object_token x) (object_token y)) || texts_apart (symbols_apart c) (object_token x ∷ []) (object_token y ∷ [])) ≡ true
     go true is =
-        not_needed (are_apart vs (object_token x) (object_token y)) (texts_apart c (object_token x ∷ []) (object_token y ∷ []))
+        not_needed (are_apart vs (object_token x) (object_token y)) (texts_apart (symbols_apart c) (object_token x ∷ []) (object_token y ∷ []))
         (subst (λ (z : ℕ). are_apart vs (object_token x) (object_token z) ≡ false) (eqb-true x y is) (one_apart vs (object_token x)))
     go false is =
-        second_true (not (are_apart vs (object_token x) (object_token y))) (texts_apart c (object_token x ∷ []) (object_token y ∷ []))
+        second_true (not (are_apart vs (object_token x) (object_token y))) (texts_apart (symbols_apart c) (object_token x ∷ []) (object_token y ∷ []))
         (rw (w.objects_apart x y hx hy is) refl)
 values_apart c l declared known ms vs (object_variable x) (pattern_variable j) w none hx hj =
     second_true (not (are_apart vs (object_token x) (meta_token j))) _
@@ -106,16 +106,16 @@ typed-claim declared k [] ps = typed-premises declared k 0 ps
 typed-claim declared k (v ∷ vs) ps = ap (λ ts. variable_token v ∷ ts) (typed-claim declared k vs ps)
 
 claim_apart : (c : Context) (l : Naming) (declared : List Token) (known : LeafFacts) (i : ℕ) (s : Claim) (ms : List Pattern) (sigma : Token → Expression) → Serves c l (own_naming declared) known → HaveNoVariables ms → HaveInstances known ms s.variables → GivesInstances sigma declared ms s.variables
-    → keeps_apart c (open_frame declared i s) sigma ≡ true
+    → keeps_apart (symbols_apart c) (open_frame declared i s) sigma ≡ true
 claim_apart c l declared known i s ms sigma w none given gives =
     rw (typed-claim declared i s.variables s.hypotheses)
-    (each_passes (λ a. list_all (pair_apart c (open_frame declared i s) sigma a) (map variable_token s.variables)) s.variables
-    (λ u hu. each_passes (pair_apart c (open_frame declared i s) sigma (variable_token u)) s.variables (λ v hv. pair u v hu hv)))
+    (each_passes (λ a. list_all (pair_apart (symbols_apart c) (open_frame declared i s) sigma a) (map variable_token s.variables)) s.variables
+    (λ u hu. each_passes (pair_apart (symbols_apart c) (open_frame declared i s) sigma (variable_token u)) s.variables (λ v hv. pair u v hu hv)))
   where
-    pair : (u v : Variable) → has_variable s.variables u ≡ true → has_variable s.variables v ≡ true → pair_apart c (open_frame declared i s) sigma (variable_token u) (variable_token v) ≡ true
+    pair : (u v : Variable) → has_variable s.variables u ≡ true → has_variable s.variables v ≡ true → pair_apart (symbols_apart c) (open_frame declared i s) sigma (variable_token u) (variable_token v) ≡ true
     pair u v hu hv =
-        ap (λ e. not (are_apart s.variables (variable_token u) (variable_token v)) || texts_apart c e (sigma (variable_token v))) (gives.there u hu)
-        ∙ ap (λ e. not (are_apart s.variables (variable_token u) (variable_token v)) || texts_apart c (value (own_naming declared) ms u) e) (gives.there v hv)
+        ap (λ e. not (are_apart s.variables (variable_token u) (variable_token v)) || texts_apart (symbols_apart c) e (sigma (variable_token v))) (gives.there u hu)
+        ∙ ap (λ e. not (are_apart s.variables (variable_token u) (variable_token v)) || texts_apart (symbols_apart c) (value (own_naming declared) ms u) e) (gives.there v hv)
         ∙ values_apart c l declared known ms s.variables u v w none (instance_at known ms s.variables u given hu) (instance_at known ms s.variables v given hv)
 
 -- The citation of a claim proves its conclusion at the instances.

@@ -4,11 +4,10 @@ use Rattle.std.specs.Prelude.{◌&&◌, ◌||◌, not, if◌then◌else◌, filt
 use Rattle.std.specs.List.{list_any, list_all}
 use Rattle.std.proofs.lemmas.Bool.{false≢true}
 use Rattle.std.proofs.lemmas.Slice.Eq.{bytes_eq-Decides}
-use Rattle.mm_text.specs.Bytes.{Token, has_token}
+use Rattle.mm_text.specs.Bytes.{Token, has_token, has_repeated}
 use Rattle.mm_text.specs.TextLaws.{is_plain_token}
 use Rattle.mm_database.specs.Forms.{has_dollar}
 use Rattle.mm_database.specs.Database.{are_different_tokens}
-use Rattle.mm_text.specs.Bytes.{has_repeated}
 use Rattle.mm_database.specs.FrameLaws.{are_clean}
 use Rattle.ml_pat.proofs.LeafLaws.{both_true, split_true, not_true}
 use Rattle.mm_claims.specs.Variables.{Variable, object_variable, pattern_variable, is_object, number_of, same_variable, has_variable, are_once, AreNumbered, variable_token, variable_tokens, object_tokens, are_several}

@@ -8,7 +8,7 @@ use Rattle.mm_text.specs.Bytes.{Token}
 use Rattle.mm_text.proofs.Truths.{both_true}
 use Rattle.mm_database.specs.Frames.{Hypothesis, floating, essential, statement_of, Frame, types}
 use Rattle.mm_database.specs.Database.{Context}
-use Rattle.mm_database.specs.Proofs.{Expression, substituted, instance_of, keeps_apart, Applies, active_hypothesis, Leads, by_hypothesis, by_assertion}
+use Rattle.mm_database.specs.Proofs.{Expression, substituted, instance_of, symbols_apart, keeps_apart, Applies, active_hypothesis, Leads, by_hypothesis, by_assertion}
 use Rattle.mm_database.specs.Stack.{same_expressions, behind_first, bindings_of, text_of, applied_under, applied, assertion_result, hypothesis_result, label_result, step_result}
 use Rattle.mm_database.proofs.Tests.{same_expressions-Decides, if_some}
 
@@ -22,7 +22,7 @@ text_of-instances sigma (floating label typecode variable ∷ hypotheses) t othe
     go false is h behind = behind h
 text_of-instances sigma (essential label statement ∷ hypotheses) t others = text_of-instances sigma hypotheses t others
 
-applied-instances : (c : Context) (f : Frame) (sigma : Token → Expression) → ((t : Token) → list_any (types t) f.hypotheses ≡ false → sigma t ≡ t ∷ []) → keeps_apart c f sigma ≡ true → applied c f (map (instance_of sigma) f.hypotheses) ≡ Some (substituted sigma f.statement)
+applied-instances : (c : Context) (f : Frame) (sigma : Token → Expression) → ((t : Token) → list_any (types t) f.hypotheses ≡ false → sigma t ≡ t ∷ []) → keeps_apart (symbols_apart c) f sigma ≡ true → applied c f (map (instance_of sigma) f.hypotheses) ≡ Some (substituted sigma f.statement)
 applied-instances c f sigma others apart =
     let same : same_expressions (map (instance_of sigma) f.hypotheses) (map (instance_of sigma) f.hypotheses) ≡ true = (same_expressions-Decides (map (instance_of sigma) f.hypotheses) (map (instance_of sigma) f.hypotheses)).1 refl in
     ap (λ (s : Token → Expression). applied_under c f s (map (instance_of sigma) f.hypotheses)) (fun_ext (λ t. text_of-instances sigma f.hypotheses t (others t)))
@@ -46,8 +46,8 @@ text_of-other (essential label statement ∷ hypotheses) (entry ∷ entries) t o
 pub applied-sound : (c : Context) (f : Frame) (given : List Expression) (result : Expression) → applied c f given ≡ Some result → Applies c f (text_of (bindings_of f.hypotheses given)) given result
 applied-sound c f given result h =
     let sigma : Token → Expression = text_of (bindings_of f.hypotheses given) in
-    let test : ((same_expressions given (map (instance_of sigma) f.hypotheses) && keeps_apart c f sigma) ≡ true) × (substituted sigma f.statement ≡ result) = if_some (same_expressions given (map (instance_of sigma) f.hypotheses) && keeps_apart c f sigma) (substituted sigma f.statement) result h in
-    let both : (same_expressions given (map (instance_of sigma) f.hypotheses) ≡ true) × (keeps_apart c f sigma ≡ true) = both_true (same_expressions given (map (instance_of sigma) f.hypotheses)) (keeps_apart c f sigma) test.0 in
+    let test : ((same_expressions given (map (instance_of sigma) f.hypotheses) && keeps_apart (symbols_apart c) f sigma) ≡ true) × (substituted sigma f.statement ≡ result) = if_some (same_expressions given (map (instance_of sigma) f.hypotheses) && keeps_apart (symbols_apart c) f sigma) (substituted sigma f.statement) result h in
+    let both : (same_expressions given (map (instance_of sigma) f.hypotheses) ≡ true) × (keeps_apart (symbols_apart c) f sigma ≡ true) = both_true (same_expressions given (map (instance_of sigma) f.hypotheses)) (keeps_apart (symbols_apart c) f sigma) test.0 in
     record {
       others = λ t other. text_of-other f.hypotheses given t other;
       hypotheses = (same_expressions-Decides given (map (instance_of sigma) f.hypotheses)).0 both.0;

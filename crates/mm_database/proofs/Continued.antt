@@ -11,7 +11,7 @@ use Rattle.mm_database.specs.Database.{Context}
 use Rattle.mm_database.specs.Proofs.{Expression, Leads, by_hypothesis, by_assertion, ProofTree, proof_node, ProofForest, no_proof, more_proofs, Proves, AllProve, postorder, all_postorder}
 use Rattle.mm_database.specs.Steps.{Step, cites, Forms}
 use Rattle.mm_database.specs.ProofText.{is_citable, proof_steps}
-use Rattle.mm_database.specs.Validity.{Task, task, theorem_task, form_fault, is_typed}
+use Rattle.mm_database.specs.Validity.{IsProved, Task, task, theorem_task, form_fault, is_typed}
 use Rattle.mm_database.specs.FrameLaws.{written_statements, plain_tokens, proof_tokens}
 use Rattle.mm_database.specs.Writing.{LeavesIsValid, ContinuedLeaves, AxiomIsFine, begins_compressed, TheoremIsFine}
 use Rattle.mm_database.proofs.Building.{citing, postorder-builds, built-one}
@@ -65,7 +65,7 @@ axiom_is_fine c label typecode symbols w =
     let well : form_fault c (Some (plain (label ∷ []) asserts (typecode ∷ symbols) [])) ≡ None = rw (w.typed, w.constant, w.new) refl in
     record {
       form = ap (form_fault c) said ∙ well;
-      proof = subst (λ (o : Option Form). IfSome (task c o) (λ t. Forms c t.steps (t.conclusion ∷ []))) (sym said) tt;
+      proof = subst (λ (o : Option Form). IfSome (task c o) (IsProved c)) (sym said) tt;
     }
 
 -- a `$p`
@@ -121,5 +121,5 @@ theorem_is_fine c label typecode symbols tree w proves_it clean plain_proof =
     let proof : Forms c (citing (postorder tree)) ((typecode ∷ symbols) ∷ []) = record { forest = more_proofs tree no_proof; saved = []; builds = built-one [] (citing (postorder tree)) tree [] (postorder-builds tree []); proves = (typecode ∷ symbols, [], refl, proves_it, refl) } in
     record {
       form = ap (form_fault c) said ∙ well;
-      proof = subst (λ (o : Option Form). IfSome (task c o) (λ t. Forms c t.steps (t.conclusion ∷ []))) (sym said) (subst (λ (o : Option Task). IfSome o (λ t. Forms c t.steps (t.conclusion ∷ []))) (sym done) proof);
+      proof = subst (λ (o : Option Form). IfSome (task c o) (IsProved c)) (sym said) (subst (λ (o : Option Task). IfSome o (IsProved c)) (sym done) proof);
     }

@@ -10,7 +10,7 @@ use Rattle.mm_database.specs.Database.{Block, Context, empty_context, context_af
 use Rattle.mm_database.specs.Proofs.{Expression}
 use Rattle.mm_database.specs.Steps.{Forms}
 use Rattle.mm_database.specs.Stack.{same_expressions, stack_after}
-use Rattle.mm_database.specs.Validity.{Task, task, form_fault, HasBadStep, HasBadConclusion, IsFaulty, by_form, by_step, by_conclusion, IsFine, AreFine, IsValid, first_open, IsFirstFaultIn, stack_fault, task_fault, or_else, statement_fault, fault_or, first_fault_in, first_fault}
+use Rattle.mm_database.specs.Validity.{IsProved, Task, task, form_fault, HasBadStep, HasBadConclusion, IsFaulty, by_form, by_step, by_conclusion, IsFine, AreFine, IsValid, first_open, IsFirstFaultIn, stack_fault, task_fault, or_else, statement_fault, fault_or, first_fault_in, first_fault}
 use Rattle.mm_database.specs.FrameLaws.{in_front, FineWhereActive}
 use Rattle.mm_database.proofs.Tests.{same_expressions-Decides}
 use Rattle.mm_database.proofs.Stacks.{stack_after-complete, stack_after-sound}
@@ -40,7 +40,7 @@ same_false xs ys differ = go (same_expressions xs ys) refl
     go false is = refl
 
 -- the stack's fault of a proof is none, where the proof is one
-stack_fault-proof : (c : Context) (t : Task) → Forms c t.steps (t.conclusion ∷ []) → task_fault c (Some t) ≡ None
+stack_fault-proof : (c : Context) (t : Task) → IsProved c t → task_fault c (Some t) ≡ None
 stack_fault-proof c t w =
     ap (stack_fault t.conclusion) (stack_after-complete c t.steps (t.conclusion ∷ []) w)
     ∙ rw (same_true (t.conclusion ∷ []) (t.conclusion ∷ []) refl) refl
@@ -55,7 +55,7 @@ stack_fault-conclusion c t bad =
 
 -- and what each answer of the stack says
 data StackSays (c : Context) (t : Task) : Option ℕ → Type 0 where
-  says_proof : Forms c t.steps (t.conclusion ∷ []) → StackSays c t None
+  says_proof : IsProved c t → StackSays c t None
   says_step : HasBadStep c t → StackSays c t (Some bad_step)
   says_conclusion : HasBadConclusion c t → StackSays c t (Some bad_conclusion)
 
@@ -78,7 +78,7 @@ stack_says c t = go (stack_after c t.steps) refl
 pub IsFine-statement : (c : Context) (tokens : List Token) → statement_fault c tokens ≡ None → IsFine c tokens
 IsFine-statement c tokens none = go (form_fault c (form_of tokens)) (task c (form_of tokens)) refl refl none
   where
-    said : (t : Task) (kind : Option ℕ) → StackSays c t kind → kind ≡ None → Forms c t.steps (t.conclusion ∷ [])
+    said : (t : Task) (kind : Option ℕ) → StackSays c t kind → kind ≡ None → IsProved c t
     said t kind (says_proof w) h = w
     said t kind (says_step w) h = absurd (cc)
     said t kind (says_conclusion w) h = absurd (cc)
@@ -91,7 +91,7 @@ IsFine-statement c tokens none = go (form_fault c (form_of tokens)) (task c (for
 pub statement-IsFine : (c : Context) (tokens : List Token) → IsFine c tokens → statement_fault c tokens ≡ None
 statement-IsFine c tokens w = ap (λ k. or_else k (task_fault c (task c (form_of tokens)))) w.form ∙ go (task c (form_of tokens)) w.proof
   where
-    go : (o : Option Task) → IfSome o (λ t. Forms c t.steps (t.conclusion ∷ [])) → task_fault c o ≡ None
+    go : (o : Option Task) → IfSome o (IsProved c) → task_fault c o ≡ None
     go None h = refl
     go (Some t) h = stack_fault-proof c t h
 

@@ -27,37 +27,28 @@ typed_variables [] = []
 typed_variables (floating label typecode variable ∷ hypotheses) = variable ∷ typed_variables hypotheses
 typed_variables (essential label statement ∷ hypotheses) = typed_variables hypotheses
 
--- each two symbols, one from each text, are kept apart
-abbrev pub are_apart : {A : Type 0} → (A → A → Bool) → List A → List A → Bool
-are_apart apart xs ys = list_all (λ x. list_all (apart x) ys) xs
-
--- the texts of a pair that has to stay apart do so
-abbrev pub is_pair_apart : {A : Type 0} → (A → A → Bool) → FrameOver A → (A → List A) → A → A → Bool
-is_pair_apart apart f sigma a b = not (f.apart a b) || are_apart apart (sigma a) (sigma b)
-
-abbrev pub are_pairs_apart : {A : Type 0} → (A → A → Bool) → FrameOver A → (A → List A) → Bool
-are_pairs_apart apart f sigma =
-    list_all (λ a. list_all (is_pair_apart apart f sigma a) (typed_variables f.hypotheses)) (typed_variables f.hypotheses)
-
 -- two variables are not one, and have an active `$d`
 abbrev pub symbols_apart : Context → Token → Token → Bool
 symbols_apart c x y = not (c.variables x && c.variables y) || (not (bytes_eq x y) && c.scope.apart x y)
 
-abbrev pub texts_apart : Context → Expression → Expression → Bool
-texts_apart c xs ys = are_apart (symbols_apart c) xs ys
+-- each two symbols, one from each text, are kept apart
+abbrev pub texts_apart : {A : Type 0} → (A → A → Bool) → List A → List A → Bool
+texts_apart apart xs ys = list_all (λ x. list_all (apart x) ys) xs
 
-abbrev pub pair_apart : Context → Frame → (Token → Expression) → Token → Token → Bool
-pair_apart c f sigma a b = is_pair_apart (symbols_apart c) f sigma a b
+-- the texts of a pair that has to stay apart do so
+abbrev pub pair_apart : {A : Type 0} → (A → A → Bool) → FrameOver A → (A → List A) → A → A → Bool
+pair_apart apart f sigma a b = not (f.apart a b) || texts_apart apart (sigma a) (sigma b)
 
-abbrev pub keeps_apart : Context → Frame → (Token → Expression) → Bool
-keeps_apart c f sigma = are_pairs_apart (symbols_apart c) f sigma
+abbrev pub keeps_apart : {A : Type 0} → (A → A → Bool) → FrameOver A → (A → List A) → Bool
+keeps_apart apart f sigma =
+    list_all (λ a. list_all (pair_apart apart f sigma a) (typed_variables f.hypotheses)) (typed_variables f.hypotheses)
 
 -- An assertion leads from expressions to one under a substitution, which changes only the variables
 -- that the assertion's mandatory hypotheses type.
 pub record Applies (c : Context) (f : Frame) (sigma : Token → Expression) (given : List Expression) (result : Expression) : Type 0 where
   pub others : (t : Token) → list_any (types t) f.hypotheses ≡ false → sigma t ≡ t ∷ []
   pub hypotheses : given ≡ map (instance_of sigma) f.hypotheses
-  pub apart : keeps_apart c f sigma ≡ true
+  pub apart : keeps_apart (symbols_apart c) f sigma ≡ true
   pub conclusion : result ≡ substituted sigma f.statement
 
 -- the hypothesis of a label among some

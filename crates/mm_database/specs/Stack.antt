@@ -2,9 +2,9 @@
 use Rattle.std.specs.Prelude.{ℕ, ◌-◌, Bool, ◌&&◌, nat_le, if◌then◌else◌, List, [], ◌∷◌, ◌++◌, map, length, take, drop, Option, Some, None, option_map, option_and_then, slice_get, bytes_eq}
 use Rattle.std.specs.Cmp.Lexicographic.{pointwise}
 use Rattle.mm_text.specs.Bytes.{Token}
-use Rattle.mm_database.specs.Frames.{Hypothesis, floating, essential, statement_of, Frame}
+use Rattle.mm_database.specs.Frames.{HypothesisOver, Hypothesis, floating, essential, statement_of, Frame}
 use Rattle.mm_database.specs.Database.{Context}
-use Rattle.mm_database.specs.Proofs.{Expression, substituted, instance_of, keeps_apart, active_hypothesis}
+use Rattle.mm_database.specs.Proofs.{Expression, substituted, instance_of, symbols_apart, keeps_apart, active_hypothesis}
 use Rattle.mm_database.specs.Steps.{Step, cites, saves, repeats}
 
 abbrev pub same_expression : Expression → Expression → Bool
@@ -14,31 +14,34 @@ abbrev pub same_expressions : List Expression → List Expression → Bool
 same_expressions = pointwise same_expression
 
 -- a variable and the text that stands for it
-pub record Binding : Type 0 where
-  pub variable : Token
-  pub text : Expression
+pub record Binding (A : Type 0) : Type 0 where
+  pub variable : A
+  pub text : List A
 
-abbrev pub behind_first : Expression → Expression
+abbrev pub behind_first : {A : Type 0} → List A → List A
 behind_first [] = []
 behind_first (symbol ∷ symbols) = symbols
 
 -- what entries of the stack give the variables of hypotheses
-abbrev pub bindings_of : List Hypothesis → List Expression → List Binding
+abbrev pub bindings_of : {A : Type 0} → List (HypothesisOver A) → List (List A) → List (Binding A)
 bindings_of [] entries = []
 bindings_of (h ∷ hypotheses) [] = []
 bindings_of (floating label typecode variable ∷ hypotheses) (entry ∷ entries) =
     record { variable = variable; text = behind_first entry } ∷ bindings_of hypotheses entries
 bindings_of (essential label statement ∷ hypotheses) (entry ∷ entries) = bindings_of hypotheses entries
 
--- the text of a symbol, which is itself where it is not bound
-abbrev pub text_of : List Binding → Token → Expression
-text_of [] symbol = symbol ∷ []
-text_of (b ∷ bindings) symbol = if bytes_eq b.variable symbol then b.text else text_of bindings symbol
+-- the text of a symbol, by a test whether two are one: it is itself where it is not bound
+abbrev pub text_in : {A : Type 0} → (A → A → Bool) → List (Binding A) → A → List A
+text_in same [] symbol = symbol ∷ []
+text_in same (b ∷ bindings) symbol = if same b.variable symbol then b.text else text_in same bindings symbol
+
+abbrev pub text_of : List (Binding Token) → Token → Expression
+text_of bindings symbol = text_in bytes_eq bindings symbol
 
 -- what an assertion gives from entries under a substitution
 abbrev pub applied_under : Context → Frame → (Token → Expression) → List Expression → Option Expression
 applied_under c f sigma entries =
-    if same_expressions entries (map (instance_of sigma) f.hypotheses) && keeps_apart c f sigma
+    if same_expressions entries (map (instance_of sigma) f.hypotheses) && keeps_apart (symbols_apart c) f sigma
     then Some (substituted sigma f.statement)
     else None
 

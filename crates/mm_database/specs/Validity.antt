@@ -166,6 +166,10 @@ or_else (Some kind) other = Some kind
 abbrev pub form_fault : Context → Option Form → Option ℕ
 form_fault c form = or_else (declaration_fault c form) (proof_text_fault c form)
 
+-- the steps build one tree, which proves the conclusion
+abbrev pub IsProved : Context → Task → Type 0
+IsProved c t = Forms c t.steps (t.conclusion ∷ [])
+
 -- the steps build no forest that proves something
 abbrev pub HasBadStep : Context → Task → Type 0
 HasBadStep c t = (results : List Expression) → Forms c t.steps results → ⊥
@@ -182,10 +186,10 @@ pub data IsFaulty (c : Context) (tokens : List Token) : ℕ → Type 0 where
   by_step : (t : Task) → form_fault c (form_of tokens) ≡ None → task c (form_of tokens) ≡ Some t → HasBadStep c t → IsFaulty c tokens bad_step
   by_conclusion : (t : Task) → form_fault c (form_of tokens) ≡ None → task c (form_of tokens) ≡ Some t → HasBadConclusion c t → IsFaulty c tokens bad_conclusion
 
--- the statement has no fault: its proof, if it has one, builds one tree, of what it states
+-- the statement has no fault
 pub record IsFine (c : Context) (tokens : List Token) : Type 0 where
   pub form : form_fault c (form_of tokens) ≡ None
-  pub proof : IfSome (task c (form_of tokens)) (λ t. Forms c t.steps (t.conclusion ∷ []))
+  pub proof : IfSome (task c (form_of tokens)) (IsProved c)
 
 -- the statements have no fault from one context on, and leave another
 abbrev pub AreFine : Context → Statements → Context → Type 0

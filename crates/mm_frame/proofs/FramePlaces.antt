@@ -6,13 +6,14 @@ use Rattle.std.specs.List.Sorted.{IsPermutation, IsStrictlyIncreasing}
 use Rattle.std.proofs.lemmas.Bool.{eqb-true, eq-eqb}
 use Rattle.std.proofs.lemmas.List.Folds.{list_any-append}
 use Rattle.std.proofs.lemmas.List.Sorted.{list_any-IsPermutation}
-use Rattle.mm_frame.specs.Numbered.{NumberedHypothesis, numbered_floating, numbered_essential}
+use Rattle.mm_frame.specs.Numbered.{NumberedHypothesis}
 use Rattle.mm_frame.specs.FramesHeld.{has_number, is_essential}
 use Rattle.mm_frame.specs.Held.{Held}
 use Rattle.mm_frame.specs.HeldTests.{types_in, is_held_typed}
 use Rattle.mm_frame.specs.HeldFrames.{number_stands_in, is_needed_number, is_mandatory_number, premise_at, ArePlaced, typed_places}
 use Rattle.mm_frame.specs.Places.{places_from, places_of, passes, found_at}
 use Rattle.mm_frame.proofs.Placing.{places-has, places-filter, dedup-has}
+use Rattle.mm_database.specs.Frames.{floating, essential}
 
 -- sorted, and each once: the same numbers
 pub sorted-has : (xs ys zs : List ℕ) → IsPermutation xs ys → zs ≡ dedup nat_eq ys → (n : ℕ) → has_number zs n ≡ has_number xs n
@@ -21,8 +22,8 @@ sorted-has xs ys zs moved is n = ap (λ (ms : List ℕ). has_number ms n) is ∙
 -- the symbols of the active `$e`, gathered at their places
 premises-from : (all hs : List NumberedHypothesis) (at n : ℕ) → ((k : ℕ) → slice_get all (at + k) ≡ slice_get hs k) → has_number (flat_map (λ i. premise_at (slice_get all i)) (places_from is_essential at hs)) n ≡ list_any (number_stands_in n) hs
 premises-from all [] at n stand = refl
-premises-from all (numbered_floating l k v ∷ hs) at n stand = premises-from all hs (at + 1) n (λ j. let same : (at + 1) + j ≡ at + suc j = omega arith in ap (slice_get all) same ∙ stand (suc j))
-premises-from all (numbered_essential l s ∷ hs) at n stand =
+premises-from all (floating l k v ∷ hs) at n stand = premises-from all hs (at + 1) n (λ j. let same : (at + 1) + j ≡ at + suc j = omega arith in ap (slice_get all) same ∙ stand (suc j))
+premises-from all (essential l s ∷ hs) at n stand =
     let same : at ≡ at + 0 = omega arith in
     ap (λ o. has_number (premise_at o ++ flat_map (λ i. premise_at (slice_get all i)) (places_from is_essential (at + 1) hs)) n) (ap (slice_get all) same ∙ stand 0)
     ∙ list_any-append (λ m. nat_eq m n) s (flat_map (λ i. premise_at (slice_get all i)) (places_from is_essential (at + 1) hs))
@@ -43,14 +44,14 @@ typed-append h (n ∷ ns) ms = go (is_held_typed h n) (typed-append h ns ms)
 
 -- it is the `$f` of one of the variables
 abbrev types_one : List ℕ → NumberedHypothesis → Bool
-types_one ns (numbered_floating label typecode variable) = has_number ns variable
-types_one ns (numbered_essential label statement) = false
+types_one ns (floating label typecode variable) = has_number ns variable
+types_one ns (essential label statement) = false
 
 -- the `$f` of a variable stands at the place that is kept for it, if anywhere
 types-there : (h : Held) → ArePlaced h → (n i : ℕ) (o : Option NumberedHypothesis) → slice_get h.hypotheses i ≡ o → types_in n o ≡ true → slice_index h.types n ≡ i
 types-there h placed n i None is types = absurd (cc)
-types-there h placed n i (Some (numbered_essential l s)) is types = absurd (cc)
-types-there h placed n i (Some (numbered_floating l k v)) is types = let same : v ≡ n = eqb-true v n types in ap (slice_index h.types) (sym same) ∙ placed i l k v is
+types-there h placed n i (Some (essential l s)) is types = absurd (cc)
+types-there h placed n i (Some (floating l k v)) is types = let same : v ≡ n = eqb-true v n types in ap (slice_index h.types) (sym same) ∙ placed i l k v is
 
 typed-there : (h : Held) → ArePlaced h → (n i : ℕ) → (is_held_typed h n && nat_eq (slice_index h.types n) i) ≡ types_in n (slice_get h.hypotheses i)
 typed-there h placed n i = go (nat_eq (slice_index h.types n) i) refl
@@ -85,8 +86,8 @@ typed-has h placed [] i = none (slice_get h.hypotheses i)
   where
     none : (o : Option NumberedHypothesis) → false ≡ passes (types_one []) o
     none None = refl
-    none (Some (numbered_floating l k v)) = refl
-    none (Some (numbered_essential l s)) = refl
+    none (Some (floating l k v)) = refl
+    none (Some (essential l s)) = refl
 typed-has h placed (n ∷ ns) i = go (is_held_typed h n) ∙ ap (λ b. b || has_number (typed_places h ns) i) (typed-there h placed n i) ∙ ap (λ b. types_in n (slice_get h.hypotheses i) || b) (typed-has h placed ns i) ∙ join (slice_get h.hypotheses i)
   where
     go : (b : Bool) → has_number (if b then slice_index h.types n ∷ typed_places h ns else typed_places h ns) i ≡ ((b && nat_eq (slice_index h.types n) i) || has_number (typed_places h ns) i)
@@ -95,8 +96,8 @@ typed-has h placed (n ∷ ns) i = go (is_held_typed h n) ∙ ap (λ b. b || has_
 
     join : (o : Option NumberedHypothesis) → (types_in n o || passes (types_one ns) o) ≡ passes (types_one (n ∷ ns)) o
     join None = refl
-    join (Some (numbered_floating l k v)) = ap (λ b. b || has_number ns v) (eq-turned v n)
-    join (Some (numbered_essential l s)) = refl
+    join (Some (floating l k v)) = ap (λ b. b || has_number ns v) (eq-turned v n)
+    join (Some (essential l s)) = refl
 
 pub mandatory-filter : (h : Held) → ArePlaced h → (ns places : List ℕ) → IsStrictlyIncreasing places → ((i : ℕ) → has_number places i ≡ (has_number (places_of is_essential h.hypotheses) i || has_number (typed_places h ns) i)) → flat_map (λ i. found_at (slice_get h.hypotheses i)) places ≡ filter (is_mandatory_number (has_number ns)) h.hypotheses
 mandatory-filter h placed ns places up has =
@@ -108,5 +109,5 @@ mandatory-filter h placed ns places up has =
   where
     join : (o : Option NumberedHypothesis) → (passes is_essential o || passes (types_one ns) o) ≡ passes (is_mandatory_number (has_number ns)) o
     join None = refl
-    join (Some (numbered_floating l k v)) = refl
-    join (Some (numbered_essential l s)) = refl
+    join (Some (floating l k v)) = refl
+    join (Some (essential l s)) = refl

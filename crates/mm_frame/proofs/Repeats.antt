@@ -2,10 +2,9 @@
 use Rattle.std.proofs.Common.{◌≡◌, ℕ, ◌-◌, ◌<◌, ◌≤◌, zero, suc, length, drop, Bool, true, false, List, [], ◌∷◌, slice_index_or, drop-cons, refl, ap, sym, ◌∙◌, arith, is_some, cond}
 use Rattle.std.specs.Prelude.{◌||◌, Option, Some, bytes_eq}
 use Rattle.std.proofs.lemmas.List.{drop-map}
-use Rattle.mm_text.specs.Bytes.{Token, has_token}
+use Rattle.mm_text.specs.Bytes.{Token, has_token, has_repeated}
 use Rattle.mm_text.specs.Reader.{word_of, words_of}
 use Rattle.mm_text.specs.declared.tokens.MmToken.{MmToken}
-use Rattle.mm_database.specs.Expansion.{has_repeated}
 
 or-true : (a b : Bool) → b ≡ true → (a || b) ≡ true
 or-true true b h = refl

@@ -4,10 +4,9 @@ use Rattle.std.specs.Prelude.{not, ◌&&◌, ◌||◌, Option, Some, None, bytes
 use Rattle.std.proofs.lemmas.List.{take-append-le}
 use Rattle.std.proofs.lemmas.Slice.Eq.{bytes_eq-Decides}
 use Rattle.mm_text.specs.Bytes.{Token}
-use Rattle.mm_database.specs.Frames.{Scope, Frame}
+use Rattle.mm_database.specs.Frames.{Scope, Frame, label_of}
 use Rattle.mm_database.specs.Database.{Block, Context}
 use Rattle.mm_frame.specs.Numbered.{NumberedHypothesis, NumberedFrame}
-use Rattle.mm_frame.specs.FramesHeld.{number_label}
 use Rattle.mm_frame.specs.Held.{HeldSymbol, Held}
 use Rattle.mm_frame.specs.HeldSteps.{symbol, symbol_name, Renames, AddsSymbol}
 use Rattle.mm_frame.specs.Standing.{names_constant, names_variable, names_label, SymbolStands, ScopeStands, BlocksStand, FrameStands, StandsUnder, Stands}
@@ -151,7 +150,7 @@ symbol-added old c token b n new w fresh adds = subst (λ (h : Held). Stands h (
   many_types = length-push old.types 0 ∙ ap (λ k. k + 1) w.many_types ∙ sym (length-push old.symbols (symbol token b));
   placed = λ i v is. get_or-zero old.places v ∙ w.placed i v is;
   typed = λ i l k v is. get_or-zero old.types v ∙ w.typed i l k v is;
-  labelled = λ i x is. other-name old.names new.names token (number_label x) (symbol_name b n) (HypothesisName i) fresh adds.names (w.labelled i x is);
+  labelled = λ i x is. other-name old.names new.names token (label_of x) (symbol_name b n) (HypothesisName i) fresh adds.names (w.labelled i x is);
   under = λ name naming names. under name (w.under name naming (λ m s is. names m s (slice_get-front old.symbols (symbol token b) m s is)));
 })
   where

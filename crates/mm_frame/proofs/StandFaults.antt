@@ -4,11 +4,10 @@ use Rattle.std.proofs.Common.{◌≡◌, ℕ, Bool, true, false, List, [], ◌�
 use Rattle.std.specs.Prelude.{not, ◌&&◌, ◌||◌, slice_get, Option, Some, None, Result, Ok, Err, if◌then◌else◌}
 use Rattle.std.specs.List.{list_all}
 use Rattle.std.proofs.lemmas.List.{reverse-append}
-use Rattle.mm_text.specs.Bytes.{Token}
+use Rattle.mm_text.specs.Bytes.{Token, has_repeated}
 use Rattle.mm_text.specs.Reader.{words_of}
 use Rattle.mm_database.specs.Forms.{is_nil, plain}
 use Rattle.mm_database.specs.Database.{Block, Context}
-use Rattle.mm_database.specs.Expansion.{has_repeated}
 use Rattle.mm_frame.specs.Numbered.{NumberedHypothesis}
 use Rattle.mm_database.specs.Validity.{is_active, is_typed, is_open, begins_with_constant, has_two, has_one_label, is_typing, second_has_type, declaration_fault}
 use Rattle.mm_frame.specs.FormsRead.{keyword_read, form_read}

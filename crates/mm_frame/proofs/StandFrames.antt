@@ -3,9 +3,9 @@ use Rattle.std.proofs.Common.{◌≡◌, ℕ, Bool, true, false, List, [], ◌�
 use Rattle.std.specs.Prelude.{◌&&◌, ◌||◌, filter, Option, Some, None, bytes_eq, if◌then◌else◌}
 use Rattle.std.specs.List.{list_any}
 use Rattle.mm_text.specs.Bytes.{Token}
-use Rattle.mm_database.specs.Frames.{Hypothesis, Scope, Frame, stands_in, is_needed, is_mandatory, frame_of}
+use Rattle.mm_database.specs.Frames.{Hypothesis, Scope, Frame, stands_in, is_needed, is_mandatory, frame_of, floating, essential}
 use Rattle.mm_database.specs.Database.{Context, with_frame, with_assertion}
-use Rattle.mm_frame.specs.Numbered.{NumberedHypothesis, numbered_floating, numbered_essential, NumberedFrame, IsNaming, named_hypothesis, IsNamedFrame}
+use Rattle.mm_frame.specs.Numbered.{NumberedHypothesis, NumberedFrame, IsNaming, named_hypothesis, IsNamedFrame}
 use Rattle.mm_frame.specs.FramesHeld.{has_number}
 use Rattle.mm_frame.specs.Held.{Held}
 use Rattle.mm_frame.specs.HeldFaults.{Statement}
@@ -20,8 +20,8 @@ use Rattle.mm_frame.proofs.StandScopes.{has_token-named, bytes_eq-turned, and-tr
 
 stands_in-named : (name : ℕ → Token) → IsNaming name → (n : ℕ) (hs : List NumberedHypothesis) → list_any (stands_in (name n)) (map (named_hypothesis name) hs) ≡ list_any (number_stands_in n) hs
 stands_in-named name naming n [] = refl
-stands_in-named name naming n (numbered_floating l k v ∷ hs) = stands_in-named name naming n hs
-stands_in-named name naming n (numbered_essential l s ∷ hs) =
+stands_in-named name naming n (floating l k v ∷ hs) = stands_in-named name naming n hs
+stands_in-named name naming n (essential l s ∷ hs) =
     ap (λ b. b || list_any (stands_in (name n)) (map (named_hypothesis name) hs)) (has_token-named name naming s n)
     ∙ ap (λ b. has_number s n || b) (stands_in-named name naming n hs)
 
@@ -40,8 +40,8 @@ filter-map g p q same (x ∷ xs) = go (q x) (same x) (filter-map g p q same xs)
     go false is rest = rw is rest
 
 mandatory-named : (name : ℕ → Token) → IsNaming name → (d : Token → Bool) (vs : List ℕ) (hs : List NumberedHypothesis) (ds : List (List ℕ)) (scope : Scope) (ns : List ℕ) → ScopeStands name d vs hs ds scope → (x : NumberedHypothesis) → is_mandatory scope (map name ns) (named_hypothesis name x) ≡ is_mandatory_number (is_needed_number hs ns) x
-mandatory-named name naming d vs hs ds scope ns s (numbered_floating l k v) = needed-named name naming d vs hs ds scope ns v s
-mandatory-named name naming d vs hs ds scope ns s (numbered_essential l t) = refl
+mandatory-named name naming d vs hs ds scope ns s (floating l k v) = needed-named name naming d vs hs ds scope ns v s
+mandatory-named name naming d vs hs ds scope ns s (essential l t) = refl
 
 both-same : (a b e x y z : Bool) → a ≡ x → b ≡ y → e ≡ z → (a && (b && e)) ≡ (x && (y && z))
 both-same a b e x y z p q r = rw (p, q, r) refl

@@ -5,12 +5,11 @@ use Rattle.std.proofs.lemmas.Bool.{eqb-true}
 use Rattle.std.proofs.lemmas.List.{reverse-append}
 use Rattle.std.proofs.lemmas.Slice.Eq.{bytes_eq-Decides}
 use Rattle.mm_text.specs.Bytes.{Token}
-use Rattle.mm_database.specs.Frames.{Hypothesis, label_of}
+use Rattle.mm_database.specs.Frames.{Hypothesis, label_of, floating, essential}
 use Rattle.mm_database.specs.Database.{Block, Context}
-use Rattle.mm_frame.specs.Numbered.{NumberedHypothesis, numbered_floating, numbered_essential, NumberedFrame, IsNaming, named_hypothesis}
+use Rattle.mm_frame.specs.Numbered.{NumberedHypothesis, NumberedFrame, IsNaming, named_hypothesis}
 use Rattle.mm_database.specs.Proofs.{hypothesis_of}
 use Rattle.mm_database.specs.Validity.{first_open}
-use Rattle.mm_frame.specs.FramesHeld.{number_label}
 use Rattle.mm_frame.specs.Held.{HeldSymbol, Held}
 use Rattle.mm_frame.specs.HeldReads.{symbol_is_variable, first_block, hypothesis_named, hypothesis_at, hypothesis_by_name, frame_by_name, frame_named}
 use Rattle.mm_frame.specs.HeldSteps.{symbol_name}
@@ -77,34 +76,34 @@ first-block h c w = first-open (naming_of h.symbols) c.variables h.variables h.h
 
 -- the hypothesis with a label
 
-found-none : (name : ℕ → Token) (t : Token) (hs : List NumberedHypothesis) → ((i : ℕ) (x : NumberedHypothesis) → slice_get hs i ≡ Some x → number_label x ≡ t → ⊥) → hypothesis_of (map (named_hypothesis name) hs) t ≡ None
+found-none : (name : ℕ → Token) (t : Token) (hs : List NumberedHypothesis) → ((i : ℕ) (x : NumberedHypothesis) → slice_get hs i ≡ Some x → label_of x ≡ t → ⊥) → hypothesis_of (map (named_hypothesis name) hs) t ≡ None
 found-none name t [] none = refl
 found-none name t (x ∷ hs) none = go (bytes_eq (label_of (named_hypothesis name x)) t) refl (found-none name t hs (λ i y e l. none (suc i) y e l))
   where
-    label-same : (y : NumberedHypothesis) → label_of (named_hypothesis name y) ≡ number_label y
-    label-same (numbered_floating l k v) = refl
-    label-same (numbered_essential l s) = refl
+    label-same : (y : NumberedHypothesis) → label_of (named_hypothesis name y) ≡ label_of y
+    label-same (floating l k v) = refl
+    label-same (essential l s) = refl
 
     go : (b : Bool) → bytes_eq (label_of (named_hypothesis name x)) t ≡ b → hypothesis_of (map (named_hypothesis name) hs) t ≡ None → hypothesis_of (map (named_hypothesis name) (x ∷ hs)) t ≡ None
     go true e rest = absurd (none 0 x refl (sym (label-same x) ∙ (bytes_eq-Decides (label_of (named_hypothesis name x)) t).0 e))
     go false e rest = rw e rest
 
-pub label-named : (name : ℕ → Token) (y : NumberedHypothesis) → label_of (named_hypothesis name y) ≡ number_label y
-label-named name (numbered_floating l k v) = refl
-label-named name (numbered_essential l s) = refl
+pub label-named : (name : ℕ → Token) (y : NumberedHypothesis) → label_of (named_hypothesis name y) ≡ label_of y
+label-named name (floating l k v) = refl
+label-named name (essential l s) = refl
 
 -- where a label can stand only at one place
-found-label : (name : ℕ → Token) (t : Token) (hs : List NumberedHypothesis) (k : ℕ) → ((i : ℕ) (x : NumberedHypothesis) → slice_get hs i ≡ Some x → number_label x ≡ t → k ≡ i) → hypothesis_of (map (named_hypothesis name) hs) t ≡ option_map (named_hypothesis name) (hypothesis_at t (slice_get hs k))
+found-label : (name : ℕ → Token) (t : Token) (hs : List NumberedHypothesis) (k : ℕ) → ((i : ℕ) (x : NumberedHypothesis) → slice_get hs i ≡ Some x → label_of x ≡ t → k ≡ i) → hypothesis_of (map (named_hypothesis name) hs) t ≡ option_map (named_hypothesis name) (hypothesis_at t (slice_get hs k))
 found-label name t [] k only = refl
-found-label name t (x ∷ hs) zero only = go (bytes_eq (number_label x) t) refl (found-none name t hs (λ i y e l. let no : 0 ≡ suc i = only (suc i) y e l in omega (arith, no)))
+found-label name t (x ∷ hs) zero only = go (bytes_eq (label_of x) t) refl (found-none name t hs (λ i y e l. let no : 0 ≡ suc i = only (suc i) y e l in omega (arith, no)))
   where
-    go : (b : Bool) → bytes_eq (number_label x) t ≡ b → hypothesis_of (map (named_hypothesis name) hs) t ≡ None → hypothesis_of (map (named_hypothesis name) (x ∷ hs)) t ≡ option_map (named_hypothesis name) (if bytes_eq (number_label x) t then Some x else None)
+    go : (b : Bool) → bytes_eq (label_of x) t ≡ b → hypothesis_of (map (named_hypothesis name) hs) t ≡ None → hypothesis_of (map (named_hypothesis name) (x ∷ hs)) t ≡ option_map (named_hypothesis name) (if bytes_eq (label_of x) t then Some x else None)
     go true e rest = rw (label-named name x, e) refl
     go false e rest = rw (label-named name x, e) rest
-found-label name t (x ∷ hs) (suc k) only = go (bytes_eq (number_label x) t) refl (found-label name t hs k (λ i y e l. let one : suc k ≡ suc i = only (suc i) y e l in omega (arith, one)))
+found-label name t (x ∷ hs) (suc k) only = go (bytes_eq (label_of x) t) refl (found-label name t hs k (λ i y e l. let one : suc k ≡ suc i = only (suc i) y e l in omega (arith, one)))
   where
-    go : (b : Bool) → bytes_eq (number_label x) t ≡ b → hypothesis_of (map (named_hypothesis name) hs) t ≡ option_map (named_hypothesis name) (hypothesis_at t (slice_get hs k)) → hypothesis_of (map (named_hypothesis name) (x ∷ hs)) t ≡ option_map (named_hypothesis name) (hypothesis_at t (slice_get hs k))
-    go true e rest = absurd (let no : suc k ≡ 0 = only 0 x refl ((bytes_eq-Decides (number_label x) t).0 e) in let z : ⊥ = omega (arith, no) in z)
+    go : (b : Bool) → bytes_eq (label_of x) t ≡ b → hypothesis_of (map (named_hypothesis name) hs) t ≡ option_map (named_hypothesis name) (hypothesis_at t (slice_get hs k)) → hypothesis_of (map (named_hypothesis name) (x ∷ hs)) t ≡ option_map (named_hypothesis name) (hypothesis_at t (slice_get hs k))
+    go true e rest = absurd (let no : suc k ≡ 0 = only 0 x refl ((bytes_eq-Decides (label_of x) t).0 e) in let z : ⊥ = omega (arith, no) in z)
     go false e rest = rw (label-named name x, e) rest
 
 pub hypothesis-found : (h : Held) (c : Context) (name : ℕ → Token) → Stands h c → IsNaming name → NamesSymbols name h.symbols → (t : Token) → hypothesis_of c.scope.hypotheses t ≡ option_map (named_hypothesis name) (hypothesis_named h t)

@@ -8,10 +8,10 @@ use Rattle.std.proofs.lemmas.Option.{slice_get_within}
 use Rattle.std.proofs.lemmas.Bool.Decides.{same_from_decides}
 use Rattle.std.proofs.lemmas.Slice.Eq.{bytes_eq-Decides}
 use Rattle.mm_text.specs.Bytes.{Token, has_token}
-use Rattle.mm_database.specs.Frames.{Hypothesis}
+use Rattle.mm_database.specs.Frames.{Hypothesis, floating, essential, label_of}
 use Rattle.mm_database.specs.Database.{Block, Context, with_hypothesis, with_apart, are_different_tokens, with_block_opened}
-use Rattle.mm_frame.specs.Numbered.{NumberedHypothesis, numbered_floating, numbered_essential, IsNaming, named_hypothesis}
-use Rattle.mm_frame.specs.FramesHeld.{has_number, in_group, in_groups, number_label, types_number}
+use Rattle.mm_frame.specs.Numbered.{NumberedHypothesis, IsNaming, named_hypothesis}
+use Rattle.mm_frame.specs.FramesHeld.{has_number, in_group, in_groups, types_number}
 use Rattle.mm_frame.specs.Held.{Held}
 use Rattle.mm_frame.specs.HeldSteps.{symbol, symbol_name, Activates, types_with, AddsHypothesis, AddsDisjoint, block_at, OpensBlock, ClosesBlock}
 use Rattle.mm_frame.specs.Standing.{names_constant, names_variable, names_label, SymbolStands, NamesSymbols, ScopeStands, BlocksStand, StandsUnder, Stands}
@@ -89,17 +89,17 @@ bytes_eq-turned a b =
 
 -- it has an active `$f` of no other variable that it types
 abbrev pub MayBeActive : Held → NumberedHypothesis → Type 0
-MayBeActive h (numbered_floating l k v) = (v < length h.types) × (list_any (types_number v) h.hypotheses ≡ false)
-MayBeActive h (numbered_essential l s) = Unit {0}
+MayBeActive h (floating l k v) = (v < length h.types) × (list_any (types_number v) h.hypotheses ≡ false)
+MayBeActive h (essential l s) = Unit {0}
 
 length-types : (types : List ℕ) (place : ℕ) (x : NumberedHypothesis) → length (types_with types place x) ≡ length types
-length-types types place (numbered_floating l k v) = length-set types v place
-length-types types place (numbered_essential l s) = refl
+length-types types place (floating l k v) = length-set types v place
+length-types types place (essential l s) = refl
 
-not-typed : (hs : List NumberedHypothesis) (n i : ℕ) (l : Token) (k v : ℕ) → list_any (types_number n) hs ≡ false → slice_get hs i ≡ Some (numbered_floating l k v) → v ≡ n → ⊥
+not-typed : (hs : List NumberedHypothesis) (n i : ℕ) (l : Token) (k v : ℕ) → list_any (types_number n) hs ≡ false → slice_get hs i ≡ Some (floating l k v) → v ≡ n → ⊥
 not-typed [] n i l k v none is same = cc
 not-typed (x ∷ hs) n zero l k v none is same =
-    let here : x ≡ numbered_floating l k v = cc in
+    let here : x ≡ floating l k v = cc in
     let yes : types_number n x ≡ true = ap (types_number n) here ∙ eq-eqb v n same in
     let wrong : true ≡ false = ap (λ b. b || list_any (types_number n) hs) (sym yes) ∙ none in
     cc
@@ -109,47 +109,47 @@ not-typed (x ∷ hs) n (suc i) l k v none is same = not-typed hs n i l k v (behi
     behind true e = absurd (cc)
     behind false e = e
 
-types-kept : (h : Held) (c : Context) → Stands h c → (x : NumberedHypothesis) → MayBeActive h x → (i : ℕ) (l : Token) (k v : ℕ) → slice_get h.hypotheses i ≡ Some (numbered_floating l k v) → slice_index (types_with h.types (length h.hypotheses) x) v ≡ i
-types-kept h c w (numbered_floating m j u) (room, none) i l k v is = get_or-set_other h.types u v (length h.hypotheses) 0 (not-typed h.hypotheses u i l k v none is) ∙ w.typed i l k v is
-types-kept h c w (numbered_essential m s) may i l k v is = w.typed i l k v is
+types-kept : (h : Held) (c : Context) → Stands h c → (x : NumberedHypothesis) → MayBeActive h x → (i : ℕ) (l : Token) (k v : ℕ) → slice_get h.hypotheses i ≡ Some (floating l k v) → slice_index (types_with h.types (length h.hypotheses) x) v ≡ i
+types-kept h c w (floating m j u) (room, none) i l k v is = get_or-set_other h.types u v (length h.hypotheses) 0 (not-typed h.hypotheses u i l k v none is) ∙ w.typed i l k v is
+types-kept h c w (essential m s) may i l k v is = w.typed i l k v is
 
-type-placed : (h : Held) (x : NumberedHypothesis) → MayBeActive h x → (l : Token) (k v : ℕ) → x ≡ numbered_floating l k v → slice_index (types_with h.types (length h.hypotheses) x) v ≡ length h.hypotheses
-type-placed h (numbered_floating m j u) (room, none) l k v is =
+type-placed : (h : Held) (x : NumberedHypothesis) → MayBeActive h x → (l : Token) (k v : ℕ) → x ≡ floating l k v → slice_index (types_with h.types (length h.hypotheses) x) v ≡ length h.hypotheses
+type-placed h (floating m j u) (room, none) l k v is =
     let same : v ≡ u = cc in
     ap (λ y. get_or (set h.types u (length h.hypotheses)) y 0) same ∙ get_or-set_same h.types u (length h.hypotheses) 0 room
-type-placed h (numbered_essential m s) may l k v is = absurd (cc)
+type-placed h (essential m s) may l k v is = absurd (cc)
 
-pub hypothesis-added : (old : Held) (c : Context) (x : NumberedHypothesis) (hyp : Hypothesis) (new : Held) → Stands old c → old.names (number_label x) ≡ None → MayBeActive old x → ((name : ℕ → Token) → NamesSymbols name old.symbols → hyp ≡ named_hypothesis name x) → AddsHypothesis old x new → Stands new (with_hypothesis c (number_label x) hyp)
-hypothesis-added old c x hyp new w fresh may says adds = subst (λ (h : Held). Stands h (with_hypothesis c (number_label x) hyp)) (sym adds.rest) (record {
-  constants = set-kept old.names new.names (number_label x) place names_constant c.constants fresh adds.names refl refl w.constants;
-  variables = set-kept old.names new.names (number_label x) place names_variable c.variables fresh adds.names refl refl w.variables;
-  labels = λ t. turned (c.labels t) t ∙ set-renamed old.names new.names (number_label x) place names_label true c.labels fresh adds.names refl refl w.labels t;
-  numbered = λ t. subst (λ (o : Option Name). SymbolStands old.symbols t o) (sym (adds.names t)) (numbered t (bytes_eq (number_label x) t));
-  named = λ m s is. other-name old.names new.names (number_label x) s.token place (symbol_name s.is_variable m) fresh adds.names (w.named m s is);
+pub hypothesis-added : (old : Held) (c : Context) (x : NumberedHypothesis) (hyp : Hypothesis) (new : Held) → Stands old c → old.names (label_of x) ≡ None → MayBeActive old x → ((name : ℕ → Token) → NamesSymbols name old.symbols → hyp ≡ named_hypothesis name x) → AddsHypothesis old x new → Stands new (with_hypothesis c (label_of x) hyp)
+hypothesis-added old c x hyp new w fresh may says adds = subst (λ (h : Held). Stands h (with_hypothesis c (label_of x) hyp)) (sym adds.rest) (record {
+  constants = set-kept old.names new.names (label_of x) place names_constant c.constants fresh adds.names refl refl w.constants;
+  variables = set-kept old.names new.names (label_of x) place names_variable c.variables fresh adds.names refl refl w.variables;
+  labels = λ t. turned (c.labels t) t ∙ set-renamed old.names new.names (label_of x) place names_label true c.labels fresh adds.names refl refl w.labels t;
+  numbered = λ t. subst (λ (o : Option Name). SymbolStands old.symbols t o) (sym (adds.names t)) (numbered t (bytes_eq (label_of x) t));
+  named = λ m s is. other-name old.names new.names (label_of x) s.token place (symbol_name s.is_variable m) fresh adds.names (w.named m s is);
   many_places = w.many_places;
   many_types = length-types old.types (length old.hypotheses) x ∙ w.many_types;
   placed = w.placed;
-  typed = λ i l k v is. slice_get-cases old.hypotheses x i (numbered_floating l k v) is (λ was. types-kept old c w x may i l k v was) (λ last same. type-placed old x may l k v same ∙ sym last);
+  typed = λ i l k v is. slice_get-cases old.hypotheses x i (floating l k v) is (λ was. types-kept old c w x may i l k v was) (λ last same. type-placed old x may l k v same ∙ sym last);
   labelled = λ i y is. slice_get-cases old.hypotheses x i y is
-      (λ was. other-name old.names new.names (number_label x) (number_label y) place (HypothesisName i) fresh adds.names (w.labelled i y was))
-      (λ last same. ap (λ (z : NumberedHypothesis). new.names (number_label z)) (sym same) ∙ here ∙ ap (λ k. Some (HypothesisName k)) (sym last));
+      (λ was. other-name old.names new.names (label_of x) (label_of y) place (HypothesisName i) fresh adds.names (w.labelled i y was))
+      (λ last same. ap (λ (z : NumberedHypothesis). new.names (label_of z)) (sym same) ∙ here ∙ ap (λ k. Some (HypothesisName k)) (sym last));
   under = λ name naming names. under name names (w.under name naming names);
 })
   where
     place : Name
     place = HypothesisName (length old.hypotheses)
 
-    turned : (b : Bool) (t : Token) → (b || bytes_eq t (number_label x)) ≡ (b || (bytes_eq (number_label x) t && true))
-    turned b t = ap (λ e. b || e) (bytes_eq-turned t (number_label x) ∙ sym (and-true (bytes_eq (number_label x) t)))
+    turned : (b : Bool) (t : Token) → (b || bytes_eq t (label_of x)) ≡ (b || (bytes_eq (label_of x) t && true))
+    turned b t = ap (λ e. b || e) (bytes_eq-turned t (label_of x) ∙ sym (and-true (bytes_eq (label_of x) t)))
 
     numbered : (t : Token) (e : Bool) → SymbolStands old.symbols t (if e then Some place else old.names t)
     numbered t true = tt
     numbered t false = w.numbered t
 
-    here : new.names (number_label x) ≡ Some place
-    here = let same : bytes_eq (number_label x) (number_label x) ≡ true = (bytes_eq-Decides (number_label x) (number_label x)).1 refl in adds.names (number_label x) ∙ rw same refl
+    here : new.names (label_of x) ≡ Some place
+    here = let same : bytes_eq (label_of x) (label_of x) ≡ true = (bytes_eq-Decides (label_of x) (label_of x)).1 refl in adds.names (label_of x) ∙ rw same refl
 
-    under : (name : ℕ → Token) → NamesSymbols name old.symbols → StandsUnder name old c → StandsUnder name (record old { names = new.names; hypotheses = old.hypotheses ++ x ∷ []; types = types_with old.types (length old.hypotheses) x }) (with_hypothesis c (number_label x) hyp)
+    under : (name : ℕ → Token) → NamesSymbols name old.symbols → StandsUnder name old c → StandsUnder name (record old { names = new.names; hypotheses = old.hypotheses ++ x ∷ []; types = types_with old.types (length old.hypotheses) x }) (with_hypothesis c (label_of x) hyp)
     under name names u = record {
       scope = record {
         only = u.scope.only;
@@ -158,7 +158,7 @@ hypothesis-added old c x hyp new w fresh may says adds = subst (λ (h : Held). S
         separate = u.scope.separate;
       };
       blocks = blocks-longer name c.variables old.variables old.variables old.hypotheses _ old.disjoint old.disjoint (reverse old.blocks) c.blocks (same-list old.variables) (one-more old.hypotheses x) (same-list old.disjoint) u.blocks;
-      frames = frame-renamed name old.frames c.frames old.names new.names (number_label x) place fresh adds.names (λ o none. none) u.frames;
+      frames = frame-renamed name old.frames c.frames old.names new.names (label_of x) place fresh adds.names (λ o none. none) u.frames;
     }
 
 -- Variables become apart.
@@ -246,7 +246,7 @@ block-closed old c b bs o new w is closes = subst (λ (h : Held). Stands h (reco
   many_places = w.many_places;
   many_types = w.many_types;
   placed = λ i v e. w.placed i v (slice_get-take old.variables o.variables i v e);
-  typed = λ i l k v e. w.typed i l k v (slice_get-take old.hypotheses o.hyps i (numbered_floating l k v) e);
+  typed = λ i l k v e. w.typed i l k v (slice_get-take old.hypotheses o.hyps i (floating l k v) e);
   labelled = λ i x e. w.labelled i x (slice_get-take old.hypotheses o.hyps i x e);
   under = λ name naming names. under name (w.under name naming names);
 })

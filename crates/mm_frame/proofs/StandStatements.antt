@@ -5,15 +5,14 @@ use Rattle.std.specs.Prelude.{not, ◌&&◌, ◌||◌, slice_get, Option, Some, 
 use Rattle.std.specs.List.{list_any, list_all}
 use Rattle.std.proofs.lemmas.Option.{slice_get_within}
 use Rattle.std.proofs.lemmas.Slice.Eq.{bytes_eq-Decides}
-use Rattle.mm_text.specs.Bytes.{Token, has_token}
+use Rattle.mm_text.specs.Bytes.{Token, has_token, has_repeated}
 use Rattle.mm_text.specs.Labels.{is_label}
 use Rattle.mm_text.specs.Reader.{words_of}
 use Rattle.mm_database.specs.Forms as forms
 use Rattle.mm_database.specs.Forms.{is_nil, plain}
 use Rattle.mm_database.specs.Frames.{floating, essential}
 use Rattle.mm_database.specs.Database.{Block, Context, with_tokens, first_label, floating_of, with_hypothesis, with_assertion, with_declared, with_block_closed, after_form}
-use Rattle.mm_database.specs.Expansion.{has_repeated}
-use Rattle.mm_frame.specs.Numbered.{NumberedHypothesis, numbered_floating, numbered_essential, NumberedFrame}
+use Rattle.mm_frame.specs.Numbered.{NumberedHypothesis, NumberedFrame}
 use Rattle.mm_frame.specs.FormsRead.{keyword_read, form_read}
 use Rattle.mm_database.specs.Validity.{has_two, is_open}
 use Rattle.mm_frame.specs.FramesHeld.{has_number}
@@ -221,7 +220,7 @@ pub record FloatingRead (h : Held) (ls ws : List Token) (x : NumberedHypothesis)
   pub kind : Token
   pub of : Token
   pub symbols : ws ≡ kind ∷ (of ∷ [])
-  pub is : x ≡ numbered_floating label typecode variable
+  pub is : x ≡ floating label typecode variable
   pub constant : constant_in h kind ≡ Some typecode
   pub number : number_in h need.Variable of ≡ Some variable
   pub untyped : is_held_typed h variable ≡ false
@@ -229,7 +228,7 @@ pub record FloatingRead (h : Held) (ls ws : List Token) (x : NumberedHypothesis)
 
 under-label : (h : Held) (ls : List Token) (t v : Token) (k n : ℕ) (x : NumberedHypothesis) (o : Option Token) → constant_in h t ≡ Some k → number_in h need.Variable v ≡ Some n → is_held_typed h n ≡ false → label_in h ls ≡ o → floating_under k n o ≡ Ok x → FloatingRead h ls (t ∷ (v ∷ [])) x
 under-label h ls t v k n x None a b e f g = absurd (cc)
-under-label h ls t v k n x (Some l) a b e f g = record { label = l; typecode = k; variable = n; kind = t; of = v; symbols = refl; is = let same : numbered_floating l k n ≡ x = cc in sym same; constant = a; number = b; untyped = e; labelled = f }
+under-label h ls t v k n x (Some l) a b e f g = record { label = l; typecode = k; variable = n; kind = t; of = v; symbols = refl; is = let same : floating l k n ≡ x = cc in sym same; constant = a; number = b; untyped = e; labelled = f }
 
 read-numbers : (h : Held) (ls : List Token) (t v : Token) (x : NumberedHypothesis) (o p : Option ℕ) → constant_in h t ≡ o → number_in h need.Variable v ≡ p → floating_of_numbers h ls o p ≡ Ok x → FloatingRead h ls (t ∷ (v ∷ [])) x
 read-numbers h ls t v x None p a b g = absurd (cc)
@@ -258,8 +257,8 @@ floating-added old c ls ws x new w r adds =
     let label : (first_label ls ≡ r.label) × (old.names r.label ≡ None) = label-is old ls r.label r.labelled in
     let known : slice_get old.symbols r.variable ≡ Some (symbol r.of true) = variable-token old c w r.of r.variable r.number in
     let room : r.variable < length old.types = omega (arith, slice_get_within old.symbols r.variable (symbol r.of true) known, w.many_types) in
-    let adds' : AddsHypothesis old (numbered_floating r.label r.typecode r.variable) new = subst (λ (y : NumberedHypothesis). AddsHypothesis old y new) r.is adds in
-    let stands : Stands new (with_hypothesis c r.label (floating r.label r.kind r.of)) = hypothesis-added old c (numbered_floating r.label r.typecode r.variable) (floating r.label r.kind r.of) new w label.1 (room, held-typed old c w r.variable ∙ r.untyped)
+    let adds' : AddsHypothesis old (floating r.label r.typecode r.variable) new = subst (λ (y : NumberedHypothesis). AddsHypothesis old y new) r.is adds in
+    let stands : Stands new (with_hypothesis c r.label (floating r.label r.kind r.of)) = hypothesis-added old c (floating r.label r.typecode r.variable) (floating r.label r.kind r.of) new w label.1 (room, held-typed old c w r.variable ∙ r.untyped)
     (λ name names. ap (λ (t : Token). floating r.label t r.of) (sym (names r.typecode (symbol r.kind false) (constant-token old c w r.kind r.typecode r.constant))) ∙ ap (λ (t : Token). floating r.label (name r.typecode) t) (sym (names r.variable (symbol r.of true) known))) adds' in
     subst (λ (us : List Token). Stands new (with_hypothesis c (first_label ls) (floating_of (first_label ls) us))) (sym r.symbols)
     (subst (λ (l : Token). Stands new (with_hypothesis c l (floating_of l (r.kind ∷ (r.of ∷ []))))) (sym label.0) stands)
@@ -286,10 +285,10 @@ stated-read h ls ws s g = go (numbers_in h need.Typed ws) refl g
     go None a e = absurd (cc)
     go (Some ns) a e = begun (begins_constant h ws) ns a e
 
-essential-added : (old : Held) (c : Context) (ls ws : List Token) (s : Statement) (new : Held) → Stands old c → StatedRead old ls ws s → AddsHypothesis old (numbered_essential s.label s.symbols) new → Stands new (with_hypothesis c (first_label ls) (essential (first_label ls) ws))
+essential-added : (old : Held) (c : Context) (ls ws : List Token) (s : Statement) (new : Held) → Stands old c → StatedRead old ls ws s → AddsHypothesis old (essential s.label s.symbols) new → Stands new (with_hypothesis c (first_label ls) (essential (first_label ls) ws))
 essential-added old c ls ws s new w r adds =
     let label : (first_label ls ≡ s.label) × (old.names s.label ≡ None) = label-is old ls s.label r.labelled in
-    let stands : Stands new (with_hypothesis c s.label (essential s.label ws)) = hypothesis-added old c (numbered_essential s.label s.symbols) (essential s.label ws) new w label.1 tt
+    let stands : Stands new (with_hypothesis c s.label (essential s.label ws)) = hypothesis-added old c (essential s.label s.symbols) (essential s.label ws) new w label.1 tt
     (λ name names. ap (essential s.label) (sym (numbers-named old c w name names need.Typed ws s.symbols r.numbers))) adds in
     subst (λ (l : Token). Stands new (with_hypothesis c l (essential l ws))) (sym label.0) stands
 
@@ -332,7 +331,7 @@ plain-added old c Floating ls ws ps at said new w judged follows = go (floating_
 plain-added old c Essential ls ws ps at said new w judged follows = go (stated_in old ls ws) refl judged
   where
     go : (r : Result Statement ℕ) → stated_in old ls ws ≡ r → saying_essential r ≡ Ok said → Stands new (with_declared c ls forms.assumes ws)
-    go (Ok s) e f = let same : supposes (numbered_essential s.label s.symbols) ≡ said = cc in essential-added old c ls ws s new w (stated-read old ls ws s e) (subst (λ (s : Saying). Follows old at s new) (sym same) follows)
+    go (Ok s) e f = let same : supposes (essential s.label s.symbols) ≡ said = cc in essential-added old c ls ws s new w (stated-read old ls ws s e) (subst (λ (s : Saying). Follows old at s new) (sym same) follows)
     go (Err k) e f = absurd (cc)
 plain-added old c Disjoint ls ws ps at said new w judged follows = go (disjoint_in old ls ws) refl judged
   where

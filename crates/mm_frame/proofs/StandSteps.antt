@@ -2,14 +2,14 @@
 use Rattle.std.proofs.Common.{◌≡◌, ℕ, refl, ap, sym, ◌∙◌, is_some}
 use Rattle.std.specs.Prelude.{◌||◌, Option, Some, None, option_map}
 use Rattle.mm_text.specs.Bytes.{Token}
-use Rattle.mm_database.specs.Frames.{Hypothesis, Frame, statement_of}
+use Rattle.mm_database.specs.Frames.{Hypothesis, Frame, statement_of, floating, essential}
 use Rattle.mm_database.specs.Proofs.{active_hypothesis}
-use Rattle.mm_frame.specs.Numbered.{NumberedHypothesis, numbered_floating, numbered_essential, NumberedFrame, named, named_hypothesis}
+use Rattle.mm_frame.specs.Numbered.{NumberedHypothesis, NumberedFrame, named, named_hypothesis}
 use Rattle.mm_frame.specs.NumberedSteps.{NamesFrame}
 use Rattle.mm_frame.specs.Held.{Held}
 use Rattle.mm_frame.specs.HeldReads.{hypothesis_by_name, frame_by_name}
 use Rattle.mm_frame.specs.Standing.{FrameFound}
-use Rattle.mm_frame.specs.StandingLaws.{symbols_of, NamingExists, PlaceStands, HypothesisStands, FrameCited, NothingCited}
+use Rattle.mm_frame.specs.StandingLaws.{NamingExists, PlaceStands, HypothesisStands, FrameCited, NothingCited}
 use Rattle.mm_frame.specs.declared.scopes.Name.{Name}
 use Rattle.mm_frame.specs.declared.scopes.Name.TheVariants.{Constant, Variable, Hypothesis as HypothesisName, Assertion}
 use Rattle.mm_frame.proofs.Namings.{naming_of, naming_of-IsNaming, naming_of-NamesSymbols}
@@ -25,9 +25,9 @@ place_stands h c name w naming names = record {
   apart = (w.under name naming names).scope.separate;
 }
 
-symbols-named : (name : ℕ → Token) (x : NumberedHypothesis) → statement_of (named_hypothesis name x) ≡ named name (symbols_of x)
-symbols-named name (numbered_floating l k v) = refl
-symbols-named name (numbered_essential l s) = refl
+symbols-named : (name : ℕ → Token) (x : NumberedHypothesis) → statement_of (named_hypothesis name x) ≡ named name (statement_of x)
+symbols-named name (floating l k v) = refl
+symbols-named name (essential l s) = refl
 
 pub hypothesis_stands : HypothesisStands
 hypothesis_stands h label x is c name w naming names = record {

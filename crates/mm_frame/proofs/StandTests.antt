@@ -5,9 +5,9 @@ use Rattle.std.specs.List.{list_any, list_all}
 use Rattle.std.proofs.lemmas.Bool.{eqb-true}
 use Rattle.mm_text.specs.Bytes.{Token}
 use Rattle.mm_text.specs.Labels.{is_label}
-use Rattle.mm_database.specs.Frames.{types}
+use Rattle.mm_database.specs.Frames.{types, floating, essential}
 use Rattle.mm_database.specs.Database.{Context}
-use Rattle.mm_frame.specs.Numbered.{NumberedHypothesis, numbered_floating, numbered_essential, IsNaming, named_hypothesis}
+use Rattle.mm_frame.specs.Numbered.{NumberedHypothesis, IsNaming, named_hypothesis}
 use Rattle.mm_database.specs.Validity.{has_type, is_active, is_typed, is_new_label, has_one_label}
 use Rattle.mm_frame.specs.FramesHeld.{has_number, types_number}
 use Rattle.mm_frame.specs.Held.{Held}
@@ -51,8 +51,8 @@ held-active h c w n =
     look (Some m) = refl
 
 types-placed : (h : Held) (c : Context) → Stands h c → (n i : ℕ) (x : NumberedHypothesis) → slice_get h.hypotheses i ≡ Some x → types_number n x ≡ true → slice_index h.types n ≡ i
-types-placed h c w n i (numbered_floating l k v) e t = ap (slice_index h.types) (sym (eqb-true v n t)) ∙ w.typed i l k v e
-types-placed h c w n i (numbered_essential l s) e t = absurd (cc)
+types-placed h c w n i (floating l k v) e t = ap (slice_index h.types) (sym (eqb-true v n t)) ∙ w.typed i l k v e
+types-placed h c w n i (essential l s) e t = absurd (cc)
 
 pub held-typed : (h : Held) (c : Context) → Stands h c → (n : ℕ) → list_any (types_number n) h.hypotheses ≡ is_held_typed h n
 held-typed h c w n =
@@ -65,10 +65,10 @@ held-typed h c w n =
 
 types-named : (name : ℕ → Token) → IsNaming name → (v : ℕ) (hs : List NumberedHypothesis) → list_any (types (name v)) (map (named_hypothesis name) hs) ≡ list_any (types_number v) hs
 types-named name naming v [] = refl
-types-named name naming v (numbered_floating l k u ∷ hs) =
+types-named name naming v (floating l k u ∷ hs) =
     ap (λ b. b || list_any (types (name v)) (map (named_hypothesis name) hs)) (naming u v)
     ∙ ap (λ b. nat_eq u v || b) (types-named name naming v hs)
-types-named name naming v (numbered_essential l s ∷ hs) = types-named name naming v hs
+types-named name naming v (essential l s ∷ hs) = types-named name naming v hs
 
 -- a variable by its token and its number
 

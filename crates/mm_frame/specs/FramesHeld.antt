@@ -4,10 +4,11 @@ use Rattle.std.specs.Prelude.{ℕ, Bool, true, false, not, ◌&&◌, nat_eq, Lis
 use Rattle.std.specs.Global.{Vec}
 use Rattle.std.specs.List.{list_any}
 use Rattle.mm_text.specs.Bytes.{Token}
-use Rattle.mm_frame.specs.Numbered.{NumberedHypothesis, numbered_floating, numbered_essential, NumberedFrame}
+use Rattle.mm_frame.specs.Numbered.{NumberedHypothesis, NumberedFrame}
 use Rattle.mm_frame.specs.declared.frames.Hyp.{Hyp}
 use Rattle.mm_frame.specs.declared.frames.Hyp.TheVariants.{Floating, Essential}
 use Rattle.mm_frame.specs.declared.frames.Frame.{Frame}
+use Rattle.mm_database.specs.Frames.{floating, essential}
 
 abbrev pub has_number : List ℕ → ℕ → Bool
 has_number numbers n = list_any (λ m. nat_eq m n) numbers
@@ -23,8 +24,8 @@ abbrev pub items_of : Vec ℕ → List ℕ
 items_of v = v.items
 
 abbrev pub hypothesis_held : Hyp → NumberedHypothesis
-hypothesis_held (Floating label typecode variable) = numbered_floating label.now typecode variable
-hypothesis_held (Essential label statement) = numbered_essential label.now statement.items
+hypothesis_held (Floating label typecode variable) = floating label.now typecode variable
+hypothesis_held (Essential label statement) = essential label.now statement.items
 
 abbrev pub hypotheses_held : List Hyp → List NumberedHypothesis
 hypotheses_held hyps = map hypothesis_held hyps
@@ -43,15 +44,11 @@ frame_held f = record {
 abbrev pub frames_held : List Frame → List NumberedFrame
 frames_held frames = map frame_held frames
 
-abbrev pub number_label : NumberedHypothesis → Token
-number_label (numbered_floating label typecode variable) = label
-number_label (numbered_essential label statement) = label
-
 abbrev pub is_essential : NumberedHypothesis → Bool
-is_essential (numbered_floating label typecode variable) = false
-is_essential (numbered_essential label statement) = true
+is_essential (floating label typecode variable) = false
+is_essential (essential label statement) = true
 
 -- it is a `$f` of the variable
 abbrev pub types_number : ℕ → NumberedHypothesis → Bool
-types_number n (numbered_floating label typecode variable) = nat_eq variable n
-types_number n (numbered_essential label statement) = false
+types_number n (floating label typecode variable) = nat_eq variable n
+types_number n (essential label statement) = false

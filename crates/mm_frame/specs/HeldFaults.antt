@@ -2,11 +2,10 @@
 -- functions alone. Laws say that it is the fault that the definitions give.
 use Rattle.std.specs.Prelude.{◌≡◌, ℕ, Bool, true, false, not, ◌||◌, if◌then◌else◌, List, [], ◌∷◌, Option, Some, None, is_some, Result, Ok, Err}
 use Rattle.std.specs.List.{list_any, list_all}
-use Rattle.mm_text.specs.Bytes.{Token}
+use Rattle.mm_text.specs.Bytes.{Token, has_repeated}
 use Rattle.mm_text.specs.FaultKinds.{inner_constant, redeclared, not_active, bad_typecode, second_float, bad_disjoint, bad_label}
-use Rattle.mm_database.specs.Expansion.{has_repeated}
 use Rattle.mm_database.specs.Forms.{is_nil}
-use Rattle.mm_frame.specs.Numbered.{NumberedHypothesis, numbered_floating}
+use Rattle.mm_frame.specs.Numbered.{NumberedHypothesis}
 use Rattle.mm_database.specs.Validity.{has_two}
 use Rattle.mm_frame.specs.Held.{Held}
 use Rattle.mm_frame.specs.HeldTests.{is_held_typed, number_in, is_active_in, numbers_in, constant_in, label_in, redeclares_constant, redeclares_variable}
@@ -15,6 +14,7 @@ use Rattle.mm_frame.specs.declared.scopes.Need.TheVariants as need
 use Rattle.mm_frame.specs.declared.judge.Refusal.{Refusal}
 use Rattle.mm_frame.specs.declared.judge.Refusal.TheVariants.{Fault, Memory}
 use Rattle.mm_frame.specs.declared.judge.Stated.{Stated}
+use Rattle.mm_database.specs.Frames.{floating}
 
 -- what was judged is this, as far as there was memory
 abbrev pub Judges : {X Y : Type 0} → (X → Y) → Result X Refusal → Result Y ℕ → Type 0
@@ -36,7 +36,7 @@ statement_under symbols (Some label) = Ok (record { label = label; symbols = sym
 
 abbrev pub floating_under : ℕ → ℕ → Option Token → Result NumberedHypothesis ℕ
 floating_under typecode variable None = Err bad_label
-floating_under typecode variable (Some label) = Ok (numbered_floating label typecode variable)
+floating_under typecode variable (Some label) = Ok (floating label typecode variable)
 
 abbrev pub floating_of_numbers : Held → List Token → Option ℕ → Option ℕ → Result NumberedHypothesis ℕ
 floating_of_numbers h labels None variable = Err bad_typecode

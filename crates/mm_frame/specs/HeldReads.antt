@@ -2,11 +2,11 @@
 use Rattle.std.specs.Prelude.{ℕ, Bool, false, if◌then◌else◌, List, [], ◌∷◌, slice_get, Option, Some, None, bytes_eq}
 use Rattle.mm_text.specs.Bytes.{Token}
 use Rattle.mm_frame.specs.Numbered.{NumberedHypothesis, NumberedFrame}
-use Rattle.mm_frame.specs.FramesHeld.{number_label}
 use Rattle.mm_frame.specs.Held.{HeldSymbol, Held}
 use Rattle.mm_frame.specs.declared.scopes.Name.{Name}
 use Rattle.mm_frame.specs.declared.scopes.Name.TheVariants.{Constant, Variable, Hypothesis, Assertion}
 use Rattle.mm_frame.specs.declared.scopes.OpenBlock.{OpenBlock}
+use Rattle.mm_database.specs.Frames.{label_of}
 
 abbrev pub symbol_is_variable : Option HeldSymbol → Bool
 symbol_is_variable None = false
@@ -19,7 +19,7 @@ first_block (block ∷ blocks) = Some block.at
 -- the hypothesis at a place, where it has the label
 abbrev pub hypothesis_at : Token → Option NumberedHypothesis → Option NumberedHypothesis
 hypothesis_at label None = None
-hypothesis_at label (Some h) = if bytes_eq (number_label h) label then Some h else None
+hypothesis_at label (Some h) = if bytes_eq (label_of h) label then Some h else None
 
 abbrev pub hypothesis_by_name : Held → Token → Option Name → Option NumberedHypothesis
 hypothesis_by_name h label None = None

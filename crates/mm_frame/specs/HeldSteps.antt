@@ -1,12 +1,12 @@
 -- What adding a declaration does to what scopes hold: cited by the clauses of private functions alone.
 use Rattle.std.specs.Prelude.{◌≡◌, ℕ, Bool, true, false, if◌then◌else◌, List, [], ◌∷◌, ◌++◌, length, take, slice_set, Option, Some, None, bytes_eq}
 use Rattle.mm_text.specs.Bytes.{Token}
-use Rattle.mm_frame.specs.Numbered.{NumberedHypothesis, numbered_floating, numbered_essential, NumberedFrame}
-use Rattle.mm_frame.specs.FramesHeld.{number_label}
+use Rattle.mm_frame.specs.Numbered.{NumberedHypothesis, NumberedFrame}
 use Rattle.mm_frame.specs.Held.{HeldSymbol, Held}
 use Rattle.mm_frame.specs.declared.scopes.Name.{Name}
 use Rattle.mm_frame.specs.declared.scopes.Name.TheVariants.{Constant, Variable, Hypothesis, Assertion}
 use Rattle.mm_frame.specs.declared.scopes.OpenBlock.{OpenBlock}
+use Rattle.mm_database.specs.Frames.{floating, essential, label_of}
 
 -- the token gets a name, and the others keep theirs
 abbrev pub Renames : (Token → Option Name) → Token → Name → (Token → Option Name) → Type 0
@@ -47,11 +47,11 @@ Activates old n new = new ≡ record old {
 
 -- the places of the `$f` of variables, with another hypothesis at a place
 abbrev pub types_with : List ℕ → ℕ → NumberedHypothesis → List ℕ
-types_with types place (numbered_floating label typecode variable) = slice_set types variable place
-types_with types place (numbered_essential label statement) = types
+types_with types place (floating label typecode variable) = slice_set types variable place
+types_with types place (essential label statement) = types
 
 pub record AddsHypothesis (old : Held) (h : NumberedHypothesis) (new : Held) : Type 0 where
-  pub names : Renames old.names (number_label h) (Hypothesis (length old.hypotheses)) new.names
+  pub names : Renames old.names (label_of h) (Hypothesis (length old.hypotheses)) new.names
   pub rest : new ≡ record old {
     names = new.names;
     hypotheses = old.hypotheses ++ h ∷ [];

@@ -4,7 +4,7 @@ use Rattle.std.specs.Prelude.{◌≡◌, ℕ, List, [], ◌∷◌, Option, Some,
 use Rattle.mm_text.specs.Bytes.{Token}
 use Rattle.mm_text.specs.FaultKinds.{bad_scope}
 use Rattle.mm_text.specs.Reader.{words_of}
-use Rattle.mm_frame.specs.Numbered.{NumberedHypothesis, numbered_essential, NumberedFrame}
+use Rattle.mm_frame.specs.Numbered.{NumberedHypothesis, NumberedFrame}
 use Rattle.mm_frame.specs.FramesHeld.{hypothesis_held}
 use Rattle.mm_frame.specs.Held.{Held}
 use Rattle.mm_frame.specs.HeldFaults.{Statement, stated_held, floating_in, stated_in, disjoint_in, constants_fault, variables_fault}
@@ -18,6 +18,7 @@ use Rattle.mm_frame.specs.declared.scopes.OpenBlock.{OpenBlock}
 use Rattle.mm_frame.specs.declared.judge.Refusal.{Refusal}
 use Rattle.mm_frame.specs.declared.judge.Refusal.TheVariants.{Fault}
 use Rattle.mm_frame.specs.declared.declare.Said.{Said}
+use Rattle.mm_database.specs.Frames.{essential}
 use Rattle.mm_frame.specs.declared.declare.Said.TheVariants as code
 
 pub data Saying : Type 0 where
@@ -51,7 +52,7 @@ saying_floating (Ok h) = Ok (supposes h)
 saying_floating (Err kind) = Err kind
 
 abbrev pub saying_essential : Result Statement ℕ → Result Saying ℕ
-saying_essential (Ok s) = Ok (supposes (numbered_essential s.label s.symbols))
+saying_essential (Ok s) = Ok (supposes (essential s.label s.symbols))
 saying_essential (Err kind) = Err kind
 
 abbrev pub saying_disjoint : Result (List ℕ) ℕ → Result Saying ℕ

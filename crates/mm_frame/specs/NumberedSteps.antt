@@ -1,46 +1,66 @@
--- The steps of a proof over numbers: what they do to a stack and to the entries that are saved.
-use Rattle.std.specs.Prelude.{◌≡◌, ℕ, ◌-◌, nat_le, if◌then◌else◌, List, [], ◌∷◌, ◌++◌, map, length, take, drop, Option, Some, None, option_map, slice_get}
+-- The steps of a proof over numbers: what they do to a stack of numbers is what the steps over tokens do
+-- to a stack of their tokens.
+use Rattle.std.specs.Prelude.{◌≡◌, ℕ, Bool, true, false, not, ◌&&◌, ◌||◌, nat_eq, if◌then◌else◌, List, [], ◌∷◌, ◌++◌, map, length, Option, Some, None, option_map}
+use Rattle.std.specs.Cmp.Lexicographic.{pointwise}
 use Rattle.mm_text.specs.Bytes.{Token}
-use Rattle.mm_database.specs.Frames.{Hypothesis, Frame, statement_of}
+use Rattle.mm_database.specs.Frames.{Hypothesis, floating, essential, Frame, statement_of}
 use Rattle.mm_database.specs.Database.{Context}
-use Rattle.mm_database.specs.Proofs.{active_hypothesis}
-use Rattle.mm_database.specs.Expansion.{Step, cites, saves, repeats}
-use Rattle.mm_database.specs.Stack.{Saving, saving, saving_after_step}
+use Rattle.mm_database.specs.Proofs.{substituted, keeps_apart, active_hypothesis}
+use Rattle.mm_database.specs.Stack.{bindings_of, text_in, stack_with, stack_after_label}
 use Rattle.mm_database.specs.Orderly.{TypeOnce}
-use Rattle.mm_frame.specs.Numbered.{NumberedFrame, NumberedPlace, IsNaming, named, IsNamedFrame, IsNamedPlace, numbered_applied}
+use Rattle.mm_frame.specs.Numbered.{NumberedHypothesis, NumberedFrame, IsNaming, named, IsNamedFrame}
 
--- a step gives a statement, applies a frame, saves the last entry, or gives a saved one by its number
-pub data NumberedStep : Type 0 where
-  gives : List ℕ → NumberedStep
-  applies : NumberedFrame → NumberedStep
-  saves_last : NumberedStep
-  gives_saved : ℕ → NumberedStep
+-- what a step asks of a place: which numbers are variables, and which pairs a `$d` keeps apart there
+pub record NumberedPlace : Type 0 where
+  pub is_variable : ℕ → Bool
+  pub apart : ℕ → ℕ → Bool
 
-pub record NumberedSaving : Type 0 where
-  pub stack : List (List ℕ)
-  pub saved : List (List ℕ)
+pub record IsNamedPlace (name : ℕ → Token) (p : NumberedPlace) (c : Context) : Type 0 where
+  pub variables : (a : ℕ) → c.variables (name a) ≡ p.is_variable a
+  pub apart : (a b : ℕ) → c.scope.apart (name a) (name b) ≡ p.apart a b
 
-abbrev pub numbered_saving : List (List ℕ) → List (List ℕ) → NumberedSaving
-numbered_saving stack saved = record { stack = stack; saved = saved }
+abbrev pub numbers_apart : NumberedPlace → ℕ → ℕ → Bool
+numbers_apart p x y = not (p.is_variable x && p.is_variable y) || (not (nat_eq x y) && p.apart x y)
 
--- the last entries give way to what the frame gives from them, where there are enough
-abbrev pub numbers_after_frame : NumberedPlace → NumberedFrame → ℕ → List (List ℕ) → Option (List (List ℕ))
-numbers_after_frame p f n stack =
-    if nat_le n (length stack)
-    then option_map (λ e. take (length stack - n) stack ++ e ∷ []) (numbered_applied p f (drop (length stack - n) stack))
+abbrev pub same_numbers : List ℕ → List ℕ → Bool
+same_numbers = pointwise nat_eq
+
+abbrev pub begins_with : ℕ → List ℕ → Bool
+begins_with typecode [] = false
+begins_with typecode (symbol ∷ symbols) = nat_eq symbol typecode
+
+-- an entry is what a hypothesis asks for: at a `$f` any text behind its typecode, at a `$e` the
+-- statement with the texts in it
+abbrev pub agrees : (ℕ → List ℕ) → NumberedHypothesis → List ℕ → Bool
+agrees sigma (floating label typecode variable) entry = begins_with typecode entry
+agrees sigma (essential label statement) entry = same_numbers entry (substituted sigma statement)
+
+abbrev pub all_agree : (ℕ → List ℕ) → List NumberedHypothesis → List (List ℕ) → Bool
+all_agree sigma [] [] = true
+all_agree sigma [] (entry ∷ entries) = false
+all_agree sigma (h ∷ hypotheses) [] = false
+all_agree sigma (h ∷ hypotheses) (entry ∷ entries) = agrees sigma h entry && all_agree sigma hypotheses entries
+
+abbrev pub numbered_applied_under : NumberedPlace → NumberedFrame → (ℕ → List ℕ) → List (List ℕ) → Option (List ℕ)
+numbered_applied_under p f sigma entries =
+    if all_agree sigma f.hypotheses entries && keeps_apart (numbers_apart p) f sigma
+    then Some (substituted sigma f.statement)
     else None
 
-abbrev pub numbered_saving_after : NumberedPlace → NumberedStep → NumberedSaving → Option NumberedSaving
-numbered_saving_after p (gives statement) w = Some (numbered_saving (w.stack ++ statement ∷ []) w.saved)
-numbered_saving_after p (applies f) w =
-    option_map (λ s. numbered_saving s w.saved) (numbers_after_frame p f (length f.hypotheses) w.stack)
-numbered_saving_after p saves_last w =
-    option_map (λ e. numbered_saving w.stack (w.saved ++ e ∷ [])) (slice_get w.stack (length w.stack - 1))
-numbered_saving_after p (gives_saved n) w =
-    option_map (λ e. numbered_saving (w.stack ++ e ∷ []) w.saved) (slice_get w.saved n)
+-- what an assertion gives from entries of numbers
+abbrev pub numbered_applied : NumberedPlace → NumberedFrame → List (List ℕ) → Option (List ℕ)
+numbered_applied p f entries =
+    numbered_applied_under p f (text_in nat_eq (bindings_of f.hypotheses entries)) entries
 
-abbrev pub named_saving : (ℕ → Token) → NumberedSaving → Saving
-named_saving name w = saving (map (named name) w.stack) (map (named name) w.saved)
+-- what a label cites: the statement of a hypothesis, or the frame of an assertion
+pub data Citation : Type 0 where
+  gives : List ℕ → Citation
+  applies : NumberedFrame → Citation
+
+-- the stack behind what is cited
+abbrev pub stack_after_citation : NumberedPlace → Citation → List (List ℕ) → Option (List (List ℕ))
+stack_after_citation p (gives statement) stack = Some (stack ++ statement ∷ [])
+stack_after_citation p (applies f) stack = stack_with (numbered_applied p f) (length f.hypotheses) stack
 
 -- the label of an active hypothesis with this statement
 pub record NamesHypothesis (name : ℕ → Token) (c : Context) (label : Token) (statement : List ℕ) : Type 0 where
@@ -56,24 +76,13 @@ pub record NamesFrame (name : ℕ → Token) (c : Context) (label : Token) (n : 
   pub named : IsNamedFrame name n frame
   pub once : TypeOnce frame.hypotheses
 
--- the step of numbers that a step is
-abbrev pub IsNamedStep : (ℕ → Token) → Context → Step → NumberedStep → Type 0
-IsNamedStep name c (cites label) (gives statement) = NamesHypothesis name c label statement
-IsNamedStep name c (cites label) (applies n) = NamesFrame name c label n
-IsNamedStep name c (cites label) saves_last = ⊥
-IsNamedStep name c (cites label) (gives_saved n) = ⊥
-IsNamedStep name c saves (gives statement) = ⊥
-IsNamedStep name c saves (applies f) = ⊥
-IsNamedStep name c saves saves_last = Unit {0}
-IsNamedStep name c saves (gives_saved n) = ⊥
-IsNamedStep name c (repeats m) (gives statement) = ⊥
-IsNamedStep name c (repeats m) (applies f) = ⊥
-IsNamedStep name c (repeats m) saves_last = ⊥
-IsNamedStep name c (repeats m) (gives_saved n) = m ≡ n
+abbrev pub IsNamedCitation : (ℕ → Token) → Context → Token → Citation → Type 0
+IsNamedCitation name c label (gives statement) = NamesHypothesis name c label statement
+IsNamedCitation name c label (applies n) = NamesFrame name c label n
 
--- a step of numbers does to numbers what the step does to their tokens
-abbrev pub StepIsNamed : Type 0
-StepIsNamed =
-    (name : ℕ → Token) (p : NumberedPlace) (c : Context) (step : Step) (n : NumberedStep) (w : NumberedSaving) →
-    IsNaming name → IsNamedPlace name p c → IsNamedStep name c step n →
-    saving_after_step c step (named_saving name w) ≡ option_map (named_saving name) (numbered_saving_after p n w)
+-- what is cited does to a stack of numbers what its label does to the stack of their tokens
+abbrev pub CitationIsNamed : Type 0
+CitationIsNamed =
+    (name : ℕ → Token) (p : NumberedPlace) (c : Context) (label : Token) (n : Citation) (stack : List (List ℕ)) →
+    IsNaming name → IsNamedPlace name p c → IsNamedCitation name c label n →
+    stack_after_label c label (map (named name) stack) ≡ option_map (map (named name)) (stack_after_citation p n stack)

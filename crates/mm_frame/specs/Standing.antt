@@ -2,10 +2,10 @@
 -- numbers for symbols, under every naming that gives the numbers their tokens.
 use Rattle.std.specs.Prelude.{◌≡◌, ℕ, ◌≤◌, Bool, true, false, List, [], ◌∷◌, map, length, take, reverse, slice_get, slice_index, Option, Some, None}
 use Rattle.mm_text.specs.Bytes.{Token}
-use Rattle.mm_database.specs.Frames.{Scope, Frame}
+use Rattle.mm_database.specs.Frames.{Scope, Frame, floating, label_of}
 use Rattle.mm_database.specs.Database.{Block, Context}
-use Rattle.mm_frame.specs.Numbered.{NumberedHypothesis, numbered_floating, NumberedFrame, IsNaming, named_hypothesis, IsNamedFrame}
-use Rattle.mm_frame.specs.FramesHeld.{has_number, in_groups, number_label}
+use Rattle.mm_frame.specs.Numbered.{NumberedHypothesis, NumberedFrame, IsNaming, named_hypothesis, IsNamedFrame}
+use Rattle.mm_frame.specs.FramesHeld.{has_number, in_groups}
 use Rattle.mm_frame.specs.Held.{HeldSymbol, Held}
 use Rattle.mm_frame.specs.HeldSteps.{symbol, symbol_name}
 use Rattle.mm_frame.specs.declared.scopes.Name.{Name}
@@ -83,8 +83,8 @@ pub record Stands (h : Held) (c : Context) : Type 0 where
   pub many_places : length h.places ≡ length h.symbols
   pub many_types : length h.types ≡ length h.symbols
   pub placed : (i v : ℕ) → slice_get h.variables i ≡ Some v → slice_index h.places v ≡ i
-  pub typed : (i : ℕ) (l : Token) (k v : ℕ) → slice_get h.hypotheses i ≡ Some (numbered_floating l k v) → slice_index h.types v ≡ i
-  pub labelled : (i : ℕ) (x : NumberedHypothesis) → slice_get h.hypotheses i ≡ Some x → h.names (number_label x) ≡ Some (Hypothesis i)
+  pub typed : (i : ℕ) (l : Token) (k v : ℕ) → slice_get h.hypotheses i ≡ Some (floating l k v) → slice_index h.types v ≡ i
+  pub labelled : (i : ℕ) (x : NumberedHypothesis) → slice_get h.hypotheses i ≡ Some x → h.names (label_of x) ≡ Some (Hypothesis i)
   pub under : (name : ℕ → Token) → IsNaming name → NamesSymbols name h.symbols → StandsUnder name h c
 
 -- a fact on each context that scopes stand for, under each naming of their symbols

@@ -1,20 +1,16 @@
 -- Laws on scopes that stand for a context, for those who do the steps of proofs over numbers.
-use Rattle.std.specs.Prelude.{◌≡◌, ℕ, false, List, [], ◌∷◌, slice_get, Some, None}
+use Rattle.std.specs.Prelude.{◌≡◌, ℕ, false, slice_get, Some, None}
 use Rattle.mm_text.specs.Bytes.{Token}
 use Rattle.mm_database.specs.Database.{Context}
-use Rattle.mm_database.specs.Expansion.{is_citable}
-use Rattle.mm_frame.specs.Numbered.{NumberedHypothesis, numbered_floating, numbered_essential, NumberedFrame, NumberedPlace, IsNaming, IsNamedPlace}
-use Rattle.mm_frame.specs.NumberedSteps.{NamesHypothesis, NamesFrame}
+use Rattle.mm_frame.specs.Numbered.{NumberedHypothesis, NumberedFrame, IsNaming}
+use Rattle.mm_frame.specs.NumberedSteps.{NamesHypothesis, NamesFrame, NumberedPlace, IsNamedPlace}
 use Rattle.mm_database.specs.Orderly.{IsOrderly}
 use Rattle.mm_frame.specs.FramesHeld.{in_groups}
 use Rattle.mm_frame.specs.Held.{Held}
 use Rattle.mm_frame.specs.HeldReads.{symbol_is_variable, hypothesis_named, frame_named}
 use Rattle.mm_frame.specs.Standing.{NamesSymbols, Stands, Tells}
-
--- the statement of a hypothesis of numbers
-abbrev pub symbols_of : NumberedHypothesis → List ℕ
-symbols_of (numbered_floating label typecode variable) = typecode ∷ (variable ∷ [])
-symbols_of (numbered_essential label statement) = statement
+use Rattle.mm_database.specs.ProofText.{is_citable}
+use Rattle.mm_database.specs.Frames.{statement_of}
 
 -- the variables and the active pairs of scopes
 abbrev pub place_of : Held → NumberedPlace
@@ -36,7 +32,7 @@ PlaceStands = (h : Held) → Tells h (λ c name. IsNamedPlace name (place_of h) 
 abbrev pub HypothesisStands : Type 0
 HypothesisStands =
     (h : Held) (label : Token) (x : NumberedHypothesis) → hypothesis_named h label ≡ Some x →
-    Tells h (λ c name. NamesHypothesis name c label (symbols_of x))
+    Tells h (λ c name. NamesHypothesis name c label (statement_of x))
 
 abbrev pub FrameCited : Type 0
 FrameCited =

@@ -1,7 +1,8 @@
 // Hypotheses and frames.
 
 ghost use Rattle.std.specs.Prelude.{◌≡◌};
-ghost use Rattle.mm_frame.specs.FramesHeld.{is_essential, types_number, number_label, hypothesis_held};
+ghost use Rattle.mm_frame.specs.FramesHeld.{is_essential, types_number, hypothesis_held};
+ghost use Rattle.mm_database.specs.Frames.{label_of};
 
 /// A hypothesis, whose symbols are numbers.
 #[derive(Drop)]
@@ -34,7 +35,7 @@ pub enum Cited<'s, 'a> {
 impl<'a> Hyp<'a> {
     /// Its label.
     pub fn label(&self) -> &'a [u8]
-        ensures { result.now ≡ number_label (hypothesis_held self.now) }
+        ensures { result.now ≡ label_of (hypothesis_held self.now) }
     {
         match self {
             Hyp::Floating(label, _, _) => label,

@@ -4,12 +4,12 @@ ghost use Rattle.std.specs.Prelude.{◌≡◌, IfOk, option_map, is_none, is_som
 ghost use Rattle.std.specs.List.{list_any, list_all};
 ghost use Rattle.mm_text.specs.Reader.{words_of};
 ghost use Rattle.mm_text.specs.Labels.{is_label, is_label_byte};
-ghost use Rattle.mm_database.specs.Expansion.{has_repeated};
 ghost use Rattle.mm_database.specs.Forms.{is_nil};
 ghost use Rattle.mm_frame.specs.FramesHeld.{items_of, hypothesis_held};
 ghost use Rattle.mm_frame.specs.Held.{held};
 ghost use Rattle.mm_frame.specs.HeldTests.{numbers_in, is_active_in, constant_in, label_in, redeclares_constant, redeclares_variable};
 ghost use Rattle.mm_frame.specs.HeldFaults.{Judges, stated_held, floating_in, stated_in, disjoint_in, constants_fault, variables_fault};
+ghost use Rattle.mm_text.specs.Bytes.{has_repeated};
 
 use crate::frames::Hyp;
 use crate::scopes::{Name, Need, Scopes};

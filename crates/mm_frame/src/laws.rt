@@ -1,13 +1,11 @@
 // Laws on scopes, and on steps of proofs over the numbers that scopes give to symbols.
-ghost use Rattle.mm_frame.specs.Numbered.{AppliedIsNamed};
-ghost use Rattle.mm_frame.specs.NumberedSteps.{StepIsNamed};
+ghost use Rattle.mm_frame.specs.NumberedSteps.{CitationIsNamed};
 ghost use Rattle.mm_frame.specs.StandingLaws.{FrameCited, HypothesisStands, NamingExists, NothingCited, PlaceStands};
 
-/// Under each naming, a step of a proof over numbers does to these what the step over their tokens does to the
-/// tokens.
+/// Under each naming, what a label cites does to a stack of numbers what the label does to the stack of
+/// their tokens.
 pub fn number_laws()
-    ensures named { AppliedIsNamed }
-    ensures step { StepIsNamed }
+    ensures cited { CitationIsNamed }
 {}
 
 /// Of scopes that stand for a context: some naming gives their symbols their tokens, and under each one

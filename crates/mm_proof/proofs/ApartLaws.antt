@@ -58,7 +58,7 @@ apart_fixed c x (t ∷ ts) h =
     others (b ∷ bs) = bs
 
 -- an object variable stays apart from a pattern in which it does not stand
-pub text_apart : (c : Context) (l n : Naming) (known : LeafFacts) (x : ℕ) (p : Pattern) → Serves c l n known → known.object x → EachLeaf (other_leaves x known) p → texts_apart c (n.object x ∷ []) (text_by (letters_of n) p) ≡ true
+pub text_apart : (c : Context) (l n : Naming) (known : LeafFacts) (x : ℕ) (p : Pattern) → Serves c l n known → known.object x → EachLeaf (other_leaves x known) p → texts_apart (symbols_apart c) (n.object x ∷ []) (text_by (letters_of n) p) ≡ true
 text_apart c l n known x p w hx h =
     both_true (list_all (symbols_apart c (n.object x)) (text_by (letters_of n) p)) true
     (list_all-text (symbols_apart c (n.object x)) n p (fixed_apart c (n.object x) punctuation w.fixed)
@@ -84,7 +84,7 @@ turned x y h = go (y == x) refl
     go true is = let no : (x == y) ≡ true = eq-eqb x y (sym (eqb-true y x is)) in absurd (false≢true (sym h ∙ no))
     go false is = is
 
-pub apart_text : (c : Context) (l n : Naming) (known : LeafFacts) (x : ℕ) (p : Pattern) → Serves c l n known → known.object x → EachLeaf (other_leaves x known) p → texts_apart c (text_by (letters_of n) p) (n.object x ∷ []) ≡ true
+pub apart_text : (c : Context) (l n : Naming) (known : LeafFacts) (x : ℕ) (p : Pattern) → Serves c l n known → known.object x → EachLeaf (other_leaves x known) p → texts_apart (symbols_apart c) (text_by (letters_of n) p) (n.object x ∷ []) ≡ true
 apart_text c l n known x p w hx h =
     all_alone c (n.object x) (text_by (letters_of n) p)
     (list_all-text (λ t. symbols_apart c t (n.object x)) n p (apart_fixed c (n.object x) punctuation w.fixed)

@@ -4,7 +4,7 @@ use Rattle.std.specs.Prelude.{◌==◌, ◌&&◌, ◌||◌, if◌then◌else◌,
 use Rattle.std.proofs.lemmas.Bool.{false≢true}
 use Rattle.mm_text.specs.Bytes.{Token}
 use Rattle.mm_database.specs.Database.{Context}
-use Rattle.mm_database.specs.Proofs.{Expression, Proves, texts_apart}
+use Rattle.mm_database.specs.Proofs.{Expression, Proves, texts_apart, symbols_apart}
 use Rattle.ml_pat.specs.Patterns.{Pattern, bot, top, imp, not, and, or, equal, member, fun, ex, all, app, at_sort, next, ev, var, meta, constant}
 use Rattle.ml_pat.specs.Judgements.{fresh}
 use Rattle.mm_proof.specs.Tokens.{Naming, letters_of, text_by, is_fresh, judgement_by}
@@ -29,7 +29,7 @@ pub absent_proves : (c : Context) (l n : Naming) (known : LeafFacts) (x : ℕ) (
     → Proves c (cite (codes "fr.d") (syntax_tree l p ∷ cite (l.object x) [] ∷ [])) (fresh_text n x p)
 absent_proves c l n known x p w hx hp other =
     row_proves c (codes "fr.d") (pair_of (codes "x") (codes "p") (codes "fr.d") [] (codes "#Fresh x p")) (fp ∷ fx ∷ []) [] (is_fresh 0 P) (pattern_text n p ∷ object_text n x ∷ []) (fresh_text n x p) (syntax_tree l p ∷ cite (l.object x) [] ∷ []) w.header fr_d refl
-    (two_apart (texts_apart c (text_by (letters_of n) p) (n.object x ∷ [])) (texts_apart c (n.object x ∷ []) (text_by (letters_of n) p)) (apart_text c l n known x p w hx other) (text_apart c l n known x p w hx other))
+    (two_apart (texts_apart (symbols_apart c) (text_by (letters_of n) p) (n.object x ∷ [])) (texts_apart (symbols_apart c) (n.object x ∷ []) (text_by (letters_of n) p)) (apart_text c l n known x p w hx other) (text_apart c l n known x p w hx other))
     refl refl (_, _, refl, syntax_proves c l n p known w hp, (_, _, refl, object_proves c l n x (w.object x hx), refl))
 
 fresh_two : (c : Context) (l n : Naming) (name : Token) (k : Pattern → Pattern → Pattern) (x : ℕ) (p q : Pattern) (known : LeafFacts) → Serves c l n known → IsRow name no_pair (fp ∷ fq ∷ fx ∷ []) (is_fresh 0 P ∷ is_fresh 0 Q ∷ []) (is_fresh 0 (k P Q))

@@ -3,7 +3,7 @@ use Rattle.std.proofs.Common.{◌≡◌, ℕ, ◌+◌, Bool, true, List, [], ◌
 use Rattle.mm_text.specs.Bytes.{Token}
 use Rattle.mm_database.specs.Frames.{Hypothesis}
 use Rattle.mm_database.specs.Database.{Context}
-use Rattle.mm_database.specs.Proofs.{Expression, instance_of, keeps_apart, ProofTree, Proves, AllProve}
+use Rattle.mm_database.specs.Proofs.{Expression, instance_of, keeps_apart, ProofTree, Proves, AllProve, symbols_apart}
 use Rattle.mm_database.specs.Stack.{bindings_of, text_of}
 use Rattle.mm_proof.specs.Tokens.{Judgement, judgement_by}
 use Rattle.mm_proof.specs.Trees.{trees_of, cite}
@@ -27,7 +27,7 @@ map-append f (x ∷ xs) ys = ap (λ es. f x ∷ es) (map-append f xs ys)
 
 pub row_proves : (c : Context) (name : Token) (pairs : Token → Token → Bool) (floats : List Hypothesis) (js : List Judgement) (j : Judgement) (es : List Expression) (result : Expression) (trees : List ProofTree) → HasHeader c → IsRow name pairs floats js j
     → es ≡ map (instance_of (sigma_of name floats js es)) floats ++ map (judgement_by (under (sigma_of name floats js es) header_naming)) js
-    → keeps_apart c (frame name pairs floats js j) (sigma_of name floats js es) ≡ true
+    → keeps_apart (symbols_apart c) (frame name pairs floats js j) (sigma_of name floats js es) ≡ true
     → Leaves (sigma_of name floats js es)
     → judgement_by (under (sigma_of name floats js es) header_naming) j ≡ result
     → AllProve c (trees_of trees) es → Proves c (cite name trees) result

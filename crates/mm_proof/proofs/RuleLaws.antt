@@ -2,7 +2,7 @@
 use Rattle.std.proofs.Common.{List, [], ◌∷◌, ◌++◌, refl, map, subst, sym, append-nil}
 use Rattle.std.specs.Prelude.{codes}
 use Rattle.mm_database.specs.Database.{Context}
-use Rattle.mm_database.specs.Proofs.{Expression, ProofTree, Proves, AllProve, texts_apart}
+use Rattle.mm_database.specs.Proofs.{Expression, ProofTree, Proves, AllProve, texts_apart, symbols_apart}
 use Rattle.ml_pat.specs.Patterns.{Pattern, bot, top, imp, not, and, or, equal, member, fun, ex, all, app, next, ev, var}
 use Rattle.mm_proof.specs.Tokens.{Naming, letters_of, text_by, is_fresh, is_substituted, is_predicate, holds}
 use Rattle.ml_pat.specs.Leaves.{LeafFacts}
@@ -78,7 +78,7 @@ rule_proves c l n known trees w (rules.inst p q r x s h0) known_is all_hold =
     row_proves c (codes "inst") no_pair (fp ∷ fq ∷ fr ∷ fx ∷ fs ∷ []) (is_substituted R P Q 0 ∷ []) (holds (imp (all 0 0 P) (imp (fun Q 0) R))) (pattern_text n p ∷ pattern_text n q ∷ pattern_text n r ∷ object_text n x ∷ sort_text n s ∷ substitution_text n r p q x ∷ []) _ (below l rule.Inst (pattern p ∷ pattern q ∷ pattern r ∷ variable x ∷ sort s ∷ []) trees) w.header row_inst refl refl refl refl
     (_, _, refl, syntax_proves c l n p known w known_is.0, (_, _, refl, syntax_proves c l n q known w known_is.1.0, (_, _, refl, syntax_proves c l n r known w known_is.1.1.0, (_, _, refl, object_proves c l n x (w.object x known_is.1.1.1.0), (_, _, refl, sort_proves c l n s (w.sort s known_is.1.1.1.1.0), (_, _, refl, substitution_proves c l n known x q p r w known_is.1.1.1.0 known_is.1.0 known_is.0 known_is.1.1.0 h0, unbehind c trees _ all_hold))))))
 rule_proves c l n known trees w (rules.fun_ex p y s h0) known_is all_hold =
-    row_proves c (codes "fun.ex") (pair_of (codes "y") (codes "p") (codes "fun.ex") [] (codes "( \\imp ( \\ex y s ( \\eq y p ) ) ( \\fun p s ) )")) (fp ∷ fy ∷ fs ∷ []) ([]) (holds (imp (ex 1 0 (equal (var 1) P)) (fun P 0))) (pattern_text n p ∷ object_text n y ∷ sort_text n s ∷ []) _ (below l rule.FunEx (pattern p ∷ variable y ∷ sort s ∷ []) trees) w.header row_fun_ex refl (two_apart (texts_apart c (text_by (letters_of n) p) (n.object y ∷ [])) (texts_apart c (n.object y ∷ []) (text_by (letters_of n) p)) (apart_text c l n known y p w known_is.1.0 (EachLeaf-absent known y p h0 known_is.0)) (text_apart c l n known y p w known_is.1.0 (EachLeaf-absent known y p h0 known_is.0))) refl refl
+    row_proves c (codes "fun.ex") (pair_of (codes "y") (codes "p") (codes "fun.ex") [] (codes "( \\imp ( \\ex y s ( \\eq y p ) ) ( \\fun p s ) )")) (fp ∷ fy ∷ fs ∷ []) ([]) (holds (imp (ex 1 0 (equal (var 1) P)) (fun P 0))) (pattern_text n p ∷ object_text n y ∷ sort_text n s ∷ []) _ (below l rule.FunEx (pattern p ∷ variable y ∷ sort s ∷ []) trees) w.header row_fun_ex refl (two_apart (texts_apart (symbols_apart c) (text_by (letters_of n) p) (n.object y ∷ [])) (texts_apart (symbols_apart c) (n.object y ∷ []) (text_by (letters_of n) p)) (apart_text c l n known y p w known_is.1.0 (EachLeaf-absent known y p h0 known_is.0)) (text_apart c l n known y p w known_is.1.0 (EachLeaf-absent known y p h0 known_is.0))) refl refl
     (_, _, refl, syntax_proves c l n p known w known_is.0, (_, _, refl, object_proves c l n y (w.object y known_is.1.0), (_, _, refl, sort_proves c l n s (w.sort s known_is.1.1.0), unbehind c trees _ all_hold)))
 rule_proves c l n known trees w (rules.ex_el p q x s h0) known_is all_hold =
     row_proves c (codes "ex.el") no_pair (fp ∷ fq ∷ fx ∷ fs ∷ []) (holds (imp (fun (var 0) 0) (imp P Q)) ∷ is_fresh 0 Q ∷ []) (holds (imp (ex 0 0 P) Q)) (pattern_text n p ∷ pattern_text n q ∷ object_text n x ∷ sort_text n s ∷ holds_text n (imp (fun (var x) s) (imp p q)) ∷ fresh_text n x q ∷ []) _ (below l rule.ExEl (pattern p ∷ pattern q ∷ variable x ∷ sort s ∷ []) trees) w.header row_ex_el refl refl refl refl

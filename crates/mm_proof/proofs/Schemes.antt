@@ -5,7 +5,7 @@ use Rattle.std.specs.List.{list_any}
 use Rattle.mm_text.specs.Bytes.{Token}
 use Rattle.mm_database.specs.Frames.{Hypothesis, floating, essential, Frame, types}
 use Rattle.mm_database.specs.Database.{Context}
-use Rattle.mm_database.specs.Proofs.{Expression, substituted, instance_of, keeps_apart, Leads, by_assertion}
+use Rattle.mm_database.specs.Proofs.{Expression, substituted, instance_of, keeps_apart, Leads, by_assertion, symbols_apart}
 use Rattle.mm_database.specs.Stack.{behind_first, bindings_of, text_of}
 use Rattle.ml_pat.specs.Patterns.{Pattern, bot, top, imp, not, and, or, equal, member, fun, ex, all, app, at_sort, next, ev, var, meta, constant}
 use Rattle.mm_proof.specs.Tokens.{Naming, Letters, letters_of, bracket, text_by, Judgement, is_pattern, holds, is_fresh, is_substituted, is_predicate, judgement_by}
@@ -99,7 +99,7 @@ text_of-other (essential label statement ∷ hypotheses) (entry ∷ entries) t o
 
 -- an assertion leads from expressions, under the substitution that they say, to its statement
 pub leads-by : (c : Context) (label : Token) (f : Frame) (given : List Expression) (result : Expression) → IsAssertion c label f
-    → given ≡ map (instance_of (text_of (bindings_of f.hypotheses given))) f.hypotheses → keeps_apart c f (text_of (bindings_of f.hypotheses given)) ≡ true
+    → given ≡ map (instance_of (text_of (bindings_of f.hypotheses given))) f.hypotheses → keeps_apart (symbols_apart c) f (text_of (bindings_of f.hypotheses given)) ≡ true
     → substituted (text_of (bindings_of f.hypotheses given)) f.statement ≡ result → Leads c label given result
 leads-by c label f given result w same apart concludes =
     by_assertion f (text_of (bindings_of f.hypotheses given)) given result w.no_hypothesis w.kept

@@ -59,7 +59,7 @@ substituted_sort c l n name k x u p t s known w row same hx hu hp ht hs below =
     row_proves c name no_pair (fp ∷ ft ∷ fu ∷ fx ∷ fs ∷ []) (is_substituted T P U 0 ∷ []) (is_substituted (k T 0) (k P 0) U 0) (pattern_text n p ∷ pattern_text n t ∷ pattern_text n u ∷ object_text n x ∷ sort_text n s ∷ substitution_text n t p u x ∷ []) _ (syntax_tree l p ∷ syntax_tree l t ∷ syntax_tree l u ∷ cite (l.object x) [] ∷ cite (l.sort s) [] ∷ substitution_tree l x u p t ∷ []) w.header row refl refl refl same
     (_, _, refl, syntax_proves c l n p known w hp, (_, _, refl, syntax_proves c l n t known w ht, (_, _, refl, syntax_proves c l n u known w hu, (_, _, refl, object_proves c l n x (w.object x hx), (_, _, refl, sort_proves c l n s (w.sort s hs), (_, _, refl, below, refl))))))
 
-parted_texts : (c : Context) (a b : Token) → symbols_apart c a b ≡ true → texts_apart c (a ∷ []) (b ∷ []) ≡ true
+parted_texts : (c : Context) (a b : Token) → symbols_apart c a b ≡ true → texts_apart (symbols_apart c) (a ∷ []) (b ∷ []) ≡ true
 parted_texts c a b h = rw h refl
 
 substituted_ex : (c : Context) (l n : Naming) (known : LeafFacts) (x y s : ℕ) (u p t : Pattern) → Serves c l n known → known.object x → known.object y → known.sort s → EachLeaf known u → EachLeaf known p → EachLeaf known t
@@ -67,7 +67,7 @@ substituted_ex : (c : Context) (l n : Naming) (known : LeafFacts) (x y s : ℕ) 
     → Proves c (cite (codes "su.ex") (syntax_tree l p ∷ syntax_tree l t ∷ syntax_tree l u ∷ cite (l.object x) [] ∷ cite (l.object y) [] ∷ cite (l.sort s) [] ∷ fresh_tree l y u ∷ substitution_tree l x u p t ∷ [])) (substitution_text n (ex y s t) (ex y s p) u x)
 substituted_ex c l n known x y s u p t w hx hy hs hu hp ht differ f below =
     row_proves c (codes "su.ex") (pair_of (codes "x") (codes "y") (codes "su.ex") (codes "#Fresh y u" ∷ codes "#Sub t p u x" ∷ []) (codes "#Sub ( \\ex y s t ) ( \\ex y s p ) u x")) (fp ∷ ft ∷ fu ∷ fx ∷ fy ∷ fs ∷ []) (is_fresh 1 U ∷ is_substituted T P U 0 ∷ []) (is_substituted (ex 1 0 T) (ex 1 0 P) U 0) (pattern_text n p ∷ pattern_text n t ∷ pattern_text n u ∷ object_text n x ∷ object_text n y ∷ sort_text n s ∷ fresh_text n y u ∷ substitution_text n t p u x ∷ []) _ (syntax_tree l p ∷ syntax_tree l t ∷ syntax_tree l u ∷ cite (l.object x) [] ∷ cite (l.object y) [] ∷ cite (l.sort s) [] ∷ fresh_tree l y u ∷ substitution_tree l x u p t ∷ []) w.header su_ex refl
-    (two_apart (texts_apart c (n.object x ∷ []) (n.object y ∷ [])) (texts_apart c (n.object y ∷ []) (n.object x ∷ [])) (parted_texts c (n.object x) (n.object y) (w.objects_apart x y hx hy differ)) (parted_texts c (n.object y) (n.object x) (w.objects_apart y x hy hx (turned x y differ))))
+    (two_apart (texts_apart (symbols_apart c) (n.object x ∷ []) (n.object y ∷ [])) (texts_apart (symbols_apart c) (n.object y ∷ []) (n.object x ∷ [])) (parted_texts c (n.object x) (n.object y) (w.objects_apart x y hx hy differ)) (parted_texts c (n.object y) (n.object x) (w.objects_apart y x hy hx (turned x y differ))))
     refl refl (_, _, refl, syntax_proves c l n p known w hp, (_, _, refl, syntax_proves c l n t known w ht, (_, _, refl, syntax_proves c l n u known w hu, (_, _, refl, object_proves c l n x (w.object x hx), (_, _, refl, object_proves c l n y (w.object y hy), (_, _, refl, sort_proves c l n s (w.sort s hs), (_, _, refl, fresh_proves c l n known y u w hy hu f, (_, _, refl, below, refl))))))))
 
 substituted_all : (c : Context) (l n : Naming) (known : LeafFacts) (x y s : ℕ) (u p t : Pattern) → Serves c l n known → known.object x → known.object y → known.sort s → EachLeaf known u → EachLeaf known p → EachLeaf known t
@@ -75,7 +75,7 @@ substituted_all : (c : Context) (l n : Naming) (known : LeafFacts) (x y s : ℕ)
     → Proves c (cite (codes "su.all") (syntax_tree l p ∷ syntax_tree l t ∷ syntax_tree l u ∷ cite (l.object x) [] ∷ cite (l.object y) [] ∷ cite (l.sort s) [] ∷ fresh_tree l y u ∷ substitution_tree l x u p t ∷ [])) (substitution_text n (all y s t) (all y s p) u x)
 substituted_all c l n known x y s u p t w hx hy hs hu hp ht differ f below =
     row_proves c (codes "su.all") (pair_of (codes "x") (codes "y") (codes "su.all") (codes "#Fresh y u" ∷ codes "#Sub t p u x" ∷ []) (codes "#Sub ( \\all y s t ) ( \\all y s p ) u x")) (fp ∷ ft ∷ fu ∷ fx ∷ fy ∷ fs ∷ []) (is_fresh 1 U ∷ is_substituted T P U 0 ∷ []) (is_substituted (all 1 0 T) (all 1 0 P) U 0) (pattern_text n p ∷ pattern_text n t ∷ pattern_text n u ∷ object_text n x ∷ object_text n y ∷ sort_text n s ∷ fresh_text n y u ∷ substitution_text n t p u x ∷ []) _ (syntax_tree l p ∷ syntax_tree l t ∷ syntax_tree l u ∷ cite (l.object x) [] ∷ cite (l.object y) [] ∷ cite (l.sort s) [] ∷ fresh_tree l y u ∷ substitution_tree l x u p t ∷ []) w.header su_all refl
-    (two_apart (texts_apart c (n.object x ∷ []) (n.object y ∷ [])) (texts_apart c (n.object y ∷ []) (n.object x ∷ [])) (parted_texts c (n.object x) (n.object y) (w.objects_apart x y hx hy differ)) (parted_texts c (n.object y) (n.object x) (w.objects_apart y x hy hx (turned x y differ))))
+    (two_apart (texts_apart (symbols_apart c) (n.object x ∷ []) (n.object y ∷ [])) (texts_apart (symbols_apart c) (n.object y ∷ []) (n.object x ∷ [])) (parted_texts c (n.object x) (n.object y) (w.objects_apart x y hx hy differ)) (parted_texts c (n.object y) (n.object x) (w.objects_apart y x hy hx (turned x y differ))))
     refl refl (_, _, refl, syntax_proves c l n p known w hp, (_, _, refl, syntax_proves c l n t known w ht, (_, _, refl, syntax_proves c l n u known w hu, (_, _, refl, object_proves c l n x (w.object x hx), (_, _, refl, object_proves c l n y (w.object y hy), (_, _, refl, sort_proves c l n s (w.sort s hs), (_, _, refl, fresh_proves c l n known y u w hy hu f, (_, _, refl, below, refl))))))))
 
 -- what an option that is there was made of

@@ -2,7 +2,7 @@
 use Rattle.std.proofs.Common.{◌≡◌, ℕ, Bool, true, false, List, [], ◌∷◌, nat_eq, refl, ap, ◌∙◌}
 use Rattle.std.specs.Prelude.{not, ◌&&◌, ◌||◌}
 use Rattle.std.specs.List.{list_all}
-use Rattle.mm_frame.specs.Numbered.{NumberedPlace, numbers_apart}
+use Rattle.mm_frame.specs.NumberedSteps.{NumberedPlace, numbers_apart}
 
 pub constant_apart : (p : NumberedPlace) (x : ℕ) (ys : List ℕ) → p.is_variable x ≡ false → list_all (numbers_apart p x) ys ≡ true
 constant_apart p x [] h = refl

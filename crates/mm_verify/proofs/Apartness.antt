@@ -3,12 +3,15 @@ use Rattle.std.proofs.Common.{◌≡◌, ℕ, ◌+◌, Bool, true, false, List, 
 use Rattle.std.specs.Prelude.{not, ◌&&◌, ◌||◌, is_some}
 use Rattle.std.specs.List.{position_from, list_any, list_all}
 use Rattle.std.specs.Global.{Vec}
-use Rattle.mm_frame.specs.Numbered.{NumberedHypothesis, numbered_floating, numbered_essential, NumberedFrame, NumberedPlace, numbered_variables, numbered_texts_apart, numbered_pair_apart, keeps_numbers_apart}
+use Rattle.mm_frame.specs.Numbered.{NumberedHypothesis, NumberedFrame}
 use Rattle.mm_frame.specs.FramesHeld.{types_number, has_number, in_group, in_groups}
 use Rattle.mm_verify.specs.declared.parts.Part.{Part}
 use Rattle.mm_verify.specs.Places.{place_of, place_in, symbol_of, parts_of, symbols_in, ArePlaced}
 use Rattle.mm_verify.specs.Filling.{places_apart, are_parts_apart, is_group_apart, are_groups_apart}
 use Rattle.mm_verify.proofs.Resolving.{same-test, both-true, and-true, first-placed, others-placed, placed-front, placed-behind, at_place, bound, sigma-place}
+use Rattle.mm_database.specs.Frames.{floating, essential}
+use Rattle.mm_database.specs.Proofs.{typed_variables, texts_apart, pair_apart, keeps_apart}
+use Rattle.mm_frame.specs.NumberedSteps.{NumberedPlace, numbers_apart}
 
 eq-from : (a b : ℕ) → nat_eq a b ≡ true → a ≡ b
 eq-from a b h = grind (arith, h)
@@ -73,29 +76,29 @@ placed-typed t k (x ∷ xs) = go (t x) (placed-typed t (k + 1) xs)
     go true h = refl
     go false h = h
 
-variables-from : (f : ℕ → Bool) (hs : List NumberedHypothesis) → ((u : ℕ) → is_typed hs u ≡ true → f u ≡ true) → list_all f (numbered_variables hs) ≡ true
+variables-from : (f : ℕ → Bool) (hs : List NumberedHypothesis) → ((u : ℕ) → is_typed hs u ≡ true → f u ≡ true) → list_all f (typed_variables hs) ≡ true
 variables-from f [] k = refl
-variables-from f (numbered_floating label typecode v ∷ hs) k =
-    and-true (f v) (list_all f (numbered_variables hs)) (k v (or-left (nat_eq v v) (is_typed hs v) (eq-same v))) (variables-from f hs (λ u h. k u (or-right (nat_eq v u) (is_typed hs u) h)))
-variables-from f (numbered_essential label statement ∷ hs) k = variables-from f hs k
+variables-from f (floating label typecode v ∷ hs) k =
+    and-true (f v) (list_all f (typed_variables hs)) (k v (or-left (nat_eq v v) (is_typed hs v) (eq-same v))) (variables-from f hs (λ u h. k u (or-right (nat_eq v u) (is_typed hs u) h)))
+variables-from f (essential label statement ∷ hs) k = variables-from f hs k
 
-variables-at : (f : ℕ → Bool) (u : ℕ) (hs : List NumberedHypothesis) → list_all f (numbered_variables hs) ≡ true → is_typed hs u ≡ true → f u ≡ true
+variables-at : (f : ℕ → Bool) (u : ℕ) (hs : List NumberedHypothesis) → list_all f (typed_variables hs) ≡ true → is_typed hs u ≡ true → f u ≡ true
 variables-at f u [] h k = absurd (cc)
-variables-at f u (numbered_floating label typecode v ∷ hs) h k =
-    go (nat_eq v u) refl (variables-at f u hs (both-true (f v) (list_all f (numbered_variables hs)) h).1) k
+variables-at f u (floating label typecode v ∷ hs) h k =
+    go (nat_eq v u) refl (variables-at f u hs (both-true (f v) (list_all f (typed_variables hs)) h).1) k
   where
     go : (b : Bool) → nat_eq v u ≡ b → (is_typed hs u ≡ true → f u ≡ true) → (b || is_typed hs u) ≡ true → f u ≡ true
-    go true e rest k = ap f (sym (eq-from v u e)) ∙ (both-true (f v) (list_all f (numbered_variables hs)) h).0
+    go true e rest k = ap f (sym (eq-from v u e)) ∙ (both-true (f v) (list_all f (typed_variables hs)) h).0
     go false e rest k = rest k
-variables-at f u (numbered_essential label statement ∷ hs) h k = variables-at f u hs h k
+variables-at f u (essential label statement ∷ hs) h k = variables-at f u hs h k
 
 -- texts of two places that there are
-texts-at : (p : NumberedPlace) (entries : List (List ℕ)) (u v : ℕ) (ou ov : Option ℕ) → is_some ou ≡ true → is_some ov ≡ true → places_apart p entries ou ov ≡ numbered_texts_apart p (at_place entries u ou) (at_place entries v ov)
+texts-at : (p : NumberedPlace) (entries : List (List ℕ)) (u v : ℕ) (ou ov : Option ℕ) → is_some ou ≡ true → is_some ov ≡ true → places_apart p entries ou ov ≡ texts_apart (numbers_apart p) (at_place entries u ou) (at_place entries v ov)
 texts-at p entries u v None ov a b = absurd (cc)
 texts-at p entries u v (Some i) None a b = absurd (cc)
 texts-at p entries u v (Some i) (Some j) a b = refl
 
-places-from : (p : NumberedPlace) (entries : List (List ℕ)) (u v : ℕ) (ou ov : Option ℕ) → (is_some ou ≡ true → is_some ov ≡ true → numbered_texts_apart p (at_place entries u ou) (at_place entries v ov) ≡ true) → places_apart p entries ou ov ≡ true
+places-from : (p : NumberedPlace) (entries : List (List ℕ)) (u v : ℕ) (ou ov : Option ℕ) → (is_some ou ≡ true → is_some ov ≡ true → texts_apart (numbers_apart p) (at_place entries u ou) (at_place entries v ov) ≡ true) → places_apart p entries ou ov ≡ true
 places-from p entries u v None ov k = refl
 places-from p entries u v (Some i) None k = refl
 places-from p entries u v (Some i) (Some j) k = k refl refl
@@ -105,15 +108,15 @@ module _ (p : NumberedPlace) (f : NumberedFrame) (entries : List (List ℕ)) (gr
   sigma = bound f.hypotheses entries
 
   abbrev texts : ℕ → ℕ → Bool
-  texts u v = numbered_texts_apart p (sigma u) (sigma v)
+  texts u v = texts_apart (numbers_apart p) (sigma u) (sigma v)
 
   typed-place : (u : ℕ) → is_typed f.hypotheses u ≡ true → is_some (place_of f.hypotheses u) ≡ true
   typed-place u h = placed-typed (types_number u) 0 f.hypotheses ∙ h
 
-  texts-placed : (u v : ℕ) → texts u v ≡ numbered_texts_apart p (at_place entries u (place_of f.hypotheses u)) (at_place entries v (place_of f.hypotheses v))
+  texts-placed : (u v : ℕ) → texts u v ≡ texts_apart (numbers_apart p) (at_place entries u (place_of f.hypotheses u)) (at_place entries v (place_of f.hypotheses v))
   texts-placed u v =
-      ap (λ (t : List ℕ). numbered_texts_apart p t (sigma v)) (sigma-place f.hypotheses entries u long)
-      ∙ ap (λ (t : List ℕ). numbered_texts_apart p (at_place entries u (place_of f.hypotheses u)) t) (sigma-place f.hypotheses entries v long)
+      ap (λ (t : List ℕ). texts_apart (numbers_apart p) t (sigma v)) (sigma-place f.hypotheses entries u long)
+      ∙ ap (λ (t : List ℕ). texts_apart (numbers_apart p) (at_place entries u (place_of f.hypotheses u)) t) (sigma-place f.hypotheses entries v long)
 
   -- two different variables of a group whose parts are apart
   pair-holds : (u v : ℕ) → is_typed f.hypotheses u ≡ true → is_typed f.hypotheses v ≡ true → nat_eq u v ≡ false → (a b : Part) → IsAt f.hypotheses a → IsAt f.hypotheses b → symbol_of a ≡ u → symbol_of b ≡ v → are_parts_apart p entries a b ≡ true → texts u v ≡ true
@@ -137,10 +140,10 @@ module _ (p : NumberedPlace) (f : NumberedFrame) (entries : List (List ℕ)) (gr
       unequal true h = absurd (cc)
       unequal false h = refl
 
-  frame-holds : are_groups_apart p entries groups ≡ true → keeps_numbers_apart p f sigma ≡ true
+  frame-holds : are_groups_apart p entries groups ≡ true → keeps_apart (numbers_apart p) f sigma ≡ true
   frame-holds h =
-      variables-from (λ u. list_all (numbered_pair_apart p f sigma u) (numbered_variables f.hypotheses)) f.hypotheses (λ u tu.
-      variables-from (numbered_pair_apart p f sigma u) f.hypotheses (λ v tv. pair u v tu tv (in_groups (map symbols_in groups) u v) refl))
+      variables-from (λ u. list_all (pair_apart (numbers_apart p) f sigma u) (typed_variables f.hypotheses)) f.hypotheses (λ u tu.
+      variables-from (pair_apart (numbers_apart p) f sigma u) f.hypotheses (λ v tv. pair u v tu tv (in_groups (map symbols_in groups) u v) refl))
     where
       pair : (u v : ℕ) → is_typed f.hypotheses u ≡ true → is_typed f.hypotheses v ≡ true → (b : Bool) → in_groups (map symbols_in groups) u v ≡ b → (not (f.apart u v) || texts u v) ≡ true
       pair u v tu tv true e =
@@ -149,7 +152,7 @@ module _ (p : NumberedPlace) (f : NumberedFrame) (entries : List (List ℕ)) (gr
       pair u v tu tv false e = ap (λ (c : Bool). not c || texts u v) (apart u v ∙ e)
 
   -- two parts of a group, where the frame's pairs are apart
-  parts-hold : keeps_numbers_apart p f sigma ≡ true → (g : Vec Part) → ((u v : ℕ) → in_group u v (symbols_in g) ≡ true → in_groups (map symbols_in groups) u v ≡ true) → (a b : Part) → IsAt f.hypotheses a → IsAt f.hypotheses b → has_number (symbols_in g) (symbol_of a) ≡ true → has_number (symbols_in g) (symbol_of b) ≡ true → (c : Bool) → nat_eq (symbol_of a) (symbol_of b) ≡ c → (c || places_apart p entries (place_in a) (place_in b)) ≡ true
+  parts-hold : keeps_apart (numbers_apart p) f sigma ≡ true → (g : Vec Part) → ((u v : ℕ) → in_group u v (symbols_in g) ≡ true → in_groups (map symbols_in groups) u v ≡ true) → (a b : Part) → IsAt f.hypotheses a → IsAt f.hypotheses b → has_number (symbols_in g) (symbol_of a) ≡ true → has_number (symbols_in g) (symbol_of b) ≡ true → (c : Bool) → nat_eq (symbol_of a) (symbol_of b) ≡ c → (c || places_apart p entries (place_in a) (place_in b)) ≡ true
   parts-hold k g inside a b ata atb hasa hasb true e = refl
   parts-hold k g inside a b ata atb hasa hasb false e =
       let u = symbol_of a in
@@ -160,16 +163,16 @@ module _ (p : NumberedPlace) (f : NumberedFrame) (entries : List (List ℕ)) (gr
       ∙ places-from p entries u v (place_of f.hypotheses u) (place_of f.hypotheses v) (λ su sv.
       let tu = sym (placed-typed (types_number u) 0 f.hypotheses) ∙ su in
       let tv = sym (placed-typed (types_number v) 0 f.hypotheses) ∙ sv in
-      let row = variables-at (λ w. list_all (numbered_pair_apart p f sigma w) (numbered_variables f.hypotheses)) u f.hypotheses k tu in
-      let pair = variables-at (numbered_pair_apart p f sigma u) v f.hypotheses row tv in
+      let row = variables-at (λ w. list_all (pair_apart (numbers_apart p) f sigma w) (typed_variables f.hypotheses)) u f.hypotheses k tu in
+      let pair = variables-at (pair_apart (numbers_apart p) f sigma u) v f.hypotheses row tv in
       sym (texts-placed u v) ∙ sym (ap (λ (c : Bool). not c || texts u v) listed) ∙ pair)
 
-  groups-hold : keeps_numbers_apart p f sigma ≡ true → are_groups_apart p entries groups ≡ true
+  groups-hold : keeps_apart (numbers_apart p) f sigma ≡ true → are_groups_apart p entries groups ≡ true
   groups-hold k =
       groups-from f.hypotheses (λ g. is_group_apart p entries (parts_of g)) groups placed (λ g pg inside.
       parts-from f.hypotheses (λ a. list_all (are_parts_apart p entries a) (parts_of g)) (parts_of g) pg (λ a ata hasa.
       parts-from f.hypotheses (are_parts_apart p entries a) (parts_of g) pg (λ b atb hasb.
       parts-hold k g inside a b ata atb hasa hasb (nat_eq (symbol_of a) (symbol_of b)) refl)))
 
-  pub groups-apart-is : are_groups_apart p entries groups ≡ keeps_numbers_apart p f sigma
-  groups-apart-is = same-test (are_groups_apart p entries groups) (keeps_numbers_apart p f sigma) frame-holds groups-hold
+  pub groups-apart-is : are_groups_apart p entries groups ≡ keeps_apart (numbers_apart p) f sigma
+  groups-apart-is = same-test (are_groups_apart p entries groups) (keeps_apart (numbers_apart p) f sigma) frame-holds groups-hold

@@ -27,7 +27,7 @@ use Rattle.mm_verify.specs.declared.ends.Stated.{Stated}
 use Rattle.mm_verify.specs.declared.ends.Stated.TheVariants as stated
 use Rattle.mm_verify.specs.declared.ends.VerifyEnd.{VerifyEnd}
 use Rattle.mm_verify.specs.declared.ends.VerifyEnd.TheVariants.{Invalid, Memory}
-use Rattle.mm_verify.specs.ProofSteps.{proof_steps}
+use Rattle.mm_verify.specs.ProofSteps.{steps_named}
 use Rattle.mm_verify.specs.Judging.{proof_kind}
 use Rattle.mm_verify.specs.Stating.{stated_for, end_for}
 use Rattle.mm_verify.specs.Checking.{form_stated, IsBehind, Checks, Declares, Adds}
@@ -56,7 +56,7 @@ not-theorem c tokens e = go (form_of tokens) e
     go (Some (plain ls proves ss ws)) e = absurd (cc)
 
 -- the fault of a theorem is that of its proof
-pub theorem-kind : Laws → NamingExists → (h : Held) (c : Context) (bytes : List ℕ) (s : Statement) (t : Theorem) → Stands h c → IsOrderly c → IsProposed bytes h c s t → statement_fault c s.tokens ≡ proof_kind (place_of h) (frame_held t.frame).statement (proof_steps h (frame_held t.frame).hypotheses (words_of bytes t.proof.now))
+pub theorem-kind : Laws → NamingExists → (h : Held) (c : Context) (bytes : List ℕ) (s : Statement) (t : Theorem) → Stands h c → IsOrderly c → IsProposed bytes h c s t → statement_fault c s.tokens ≡ proof_kind (place_of h) (frame_held t.frame).statement (steps_named h (frame_held t.frame).hypotheses (words_of bytes t.proof.now))
 theorem-kind laws exists h c bytes s t stands orderly p =
     let name = exists h c stands in
     let f = frame_of c.scope (first_label p.labels) p.symbols in

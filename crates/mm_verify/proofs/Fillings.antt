@@ -3,9 +3,9 @@ use Rattle.std.proofs.Common.{◌≡◌, ℕ, ◌+◌, ◌<◌, Bool, true, fals
 use Rattle.std.specs.Borrow.{Bor}
 use Rattle.std.specs.Prelude.{◌&&◌, Option, None, Some, MatchOption}
 use Rattle.std.proofs.lemmas.List.{drop_more}
-use Rattle.mm_frame.specs.Numbered.{same_numbers}
 use Rattle.mm_verify.specs.declared.parts.Part.{Part}
 use Rattle.mm_verify.specs.Filling.{part_text, filled}
+use Rattle.mm_frame.specs.NumberedSteps.{same_numbers}
 
 -- a list is a text and another behind it where it begins with the text and goes on with the other
 pub same-append : (xs text zs : List ℕ) → same_numbers xs (text ++ zs) ≡ (same_numbers (take (length text) xs) text && same_numbers (drop (length text) xs) zs)

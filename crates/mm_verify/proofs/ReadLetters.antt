@@ -2,15 +2,20 @@
 use Rattle.std.proofs.Common.{◌≡◌, ℕ, zero, suc, ◌+◌, ◌-◌, ◌*◌, ◌<◌, ◌≤◌, Bool, true, false, List, [], ◌∷◌, ◌++◌, length, get_or, Option, Some, None, refl, ap, ◌∙◌, sym, arith, append_assoc}
 use Rattle.std.specs.Prelude.{nat_lt, if◌then◌else◌, option_and_then}
 use Rattle.mm_text.specs.Compressed.{Letter, last_digit, digit, saves, no_letter, letter_of, Before, beginning, digits, a_number, a_save, value_before, before_next, CompressedStep, numbered, save, steps_of_letter, joined_steps, steps_from}
-use Rattle.mm_frame.specs.NumberedSteps.{NumberedStep, saves_last, gives_saved}
-use Rattle.mm_verify.specs.Meaning.{numbered_meaning, with_meaning, numbered_meanings, left_meanings}
-use Rattle.mm_verify.specs.Reading.{behind_steps}
+use Rattle.mm_database.specs.Steps.{Step, cites, saves as saves_last, repeats}
+use Rattle.mm_database.specs.ProofText.{meaning, with_step, meanings}
+use Rattle.mm_frame.specs.NumberedSteps.{Citation}
+use Rattle.mm_verify.specs.Reading.{left_meanings, behind_items}
+
+-- a saved step again, under a test
+abbrev pub repeat_if : Bool → ℕ → Option (Step Citation)
+repeat_if test n = if test then Some (repeats n) else None
 
 -- a number past the table and the saved entries stands for nothing
-pub meaning-past : (table : List NumberedStep) (saved n : ℕ) → length table + saved ≤ n → numbered_meaning table saved n ≡ None
+pub meaning-past : (table : List Citation) (saved n : ℕ) → length table + saved ≤ n → meaning table saved n ≡ None
 meaning-past [] saved n le = go (nat_lt n saved) refl
   where
-    go : (b : Bool) → nat_lt n saved ≡ b → (if b then Some (gives_saved n) else None) ≡ None
+    go : (b : Bool) → nat_lt n saved ≡ b → repeat_if b n ≡ None
     go true e = absurd (below n saved le e)
       where
         below : (n saved : ℕ) → 0 + saved ≤ n → nat_lt n saved ≡ true → ⊥
@@ -23,73 +28,73 @@ meaning-past (step ∷ steps) saved zero le = absurd (none (length steps) saved 
 meaning-past (step ∷ steps) saved (suc n) le = meaning-past steps saved n (omega (arith, le))
 
 -- a last digit completes a number
-abbrev read_on : List NumberedStep → ℕ → Option (List CompressedStep) → Option (List NumberedStep)
-read_on table saved steps = option_and_then (numbered_meanings table saved) steps
+abbrev read_on : List Citation → ℕ → Option (List CompressedStep) → Option (List (Step Citation))
+read_on table saved steps = option_and_then (meanings table saved) steps
 
-number-read : (table : List NumberedStep) (saved n : ℕ) (steps : Option (List CompressedStep)) → read_on table saved (joined_steps (Some (numbered n ∷ [])) steps) ≡ with_meaning (numbered_meaning table saved (n - 1)) (read_on table saved steps)
+number-read : (table : List Citation) (saved n : ℕ) (steps : Option (List CompressedStep)) → read_on table saved (joined_steps (Some (numbered n ∷ [])) steps) ≡ with_step (meaning table saved (n - 1)) (read_on table saved steps)
 number-read table saved n (Some steps) = refl
-number-read table saved n None = sym (none (numbered_meaning table saved (n - 1)))
+number-read table saved n None = sym (none (meaning table saved (n - 1)))
   where
-    none : (o : Option NumberedStep) → with_meaning o None ≡ None
+    none : (o : Option (Step Citation)) → with_step o None ≡ None
     none None = refl
     none (Some s) = refl
 
-digits-read : (table : List NumberedStep) (saved : ℕ) (steps : Option (List CompressedStep)) → read_on table saved (joined_steps (Some []) steps) ≡ read_on table saved steps
+digits-read : (table : List Citation) (saved : ℕ) (steps : Option (List CompressedStep)) → read_on table saved (joined_steps (Some []) steps) ≡ read_on table saved steps
 digits-read table saved None = refl
 digits-read table saved (Some steps) = refl
 
-save-read : (table : List NumberedStep) (saved : ℕ) (steps : Option (List CompressedStep)) → read_on table saved (joined_steps (Some (save ∷ [])) steps) ≡ with_meaning (Some saves_last) (read_on table (saved + 1) steps)
+save-read : (table : List Citation) (saved : ℕ) (steps : Option (List CompressedStep)) → read_on table saved (joined_steps (Some (save ∷ [])) steps) ≡ with_step (Some saves_last) (read_on table (saved + 1) steps)
 save-read table saved None = refl
 save-read table saved (Some steps) = refl
 
-nothing-read : (table : List NumberedStep) (saved : ℕ) (steps : Option (List CompressedStep)) → read_on table saved (joined_steps None steps) ≡ None
+nothing-read : (table : List Citation) (saved : ℕ) (steps : Option (List CompressedStep)) → read_on table saved (joined_steps None steps) ≡ None
 nothing-read table saved steps = refl
 
 steps-letter : (before : Before) (b : ℕ) (letters : List ℕ) (l : Letter) → letter_of b ≡ l → steps_from before (b ∷ letters) ≡ joined_steps (steps_of_letter before l) (steps_from (before_next before l) letters)
 steps-letter before b letters l is = ap (λ (k : Letter). joined_steps (steps_of_letter before k) (steps_from (before_next before k) letters)) is
 
-pub last-read : (table : List NumberedStep) (saved d b : ℕ) (before : Before) (letters : List ℕ) → letter_of b ≡ last_digit d → left_meanings table saved before (b ∷ letters) ≡ with_meaning (numbered_meaning table saved (20 * value_before before + d - 1)) (left_meanings table saved a_number letters)
+pub last-read : (table : List Citation) (saved d b : ℕ) (before : Before) (letters : List ℕ) → letter_of b ≡ last_digit d → left_meanings table saved before (b ∷ letters) ≡ with_step (meaning table saved (20 * value_before before + d - 1)) (left_meanings table saved a_number letters)
 last-read table saved d b before letters is =
     ap (λ (s : Option (List CompressedStep)). read_on table saved s) (steps-letter before b letters (last_digit d) is)
     ∙ number-read table saved (20 * value_before before + d) (steps_from a_number letters)
 
-pub digit-read : (table : List NumberedStep) (saved d b : ℕ) (before : Before) (letters : List ℕ) → letter_of b ≡ digit d → left_meanings table saved before (b ∷ letters) ≡ left_meanings table saved (digits (5 * value_before before + d)) letters
+pub digit-read : (table : List Citation) (saved d b : ℕ) (before : Before) (letters : List ℕ) → letter_of b ≡ digit d → left_meanings table saved before (b ∷ letters) ≡ left_meanings table saved (digits (5 * value_before before + d)) letters
 digit-read table saved d b before letters is =
     ap (λ (s : Option (List CompressedStep)). read_on table saved s) (steps-letter before b letters (digit d) is)
     ∙ digits-read table saved (steps_from (digits (5 * value_before before + d)) letters)
 
-pub saves-read : (table : List NumberedStep) (saved b : ℕ) (letters : List ℕ) → letter_of b ≡ saves → left_meanings table saved a_number (b ∷ letters) ≡ with_meaning (Some saves_last) (left_meanings table (saved + 1) a_save letters)
+pub saves-read : (table : List Citation) (saved b : ℕ) (letters : List ℕ) → letter_of b ≡ saves → left_meanings table saved a_number (b ∷ letters) ≡ with_step (Some saves_last) (left_meanings table (saved + 1) a_save letters)
 saves-read table saved b letters is =
     ap (λ (s : Option (List CompressedStep)). read_on table saved s) (steps-letter a_number b letters saves is)
     ∙ save-read table saved (steps_from a_save letters)
 
 -- a `Z` behind anything else, or a byte that is no letter
-pub no-save-read : (table : List NumberedStep) (saved b : ℕ) (before : Before) (letters : List ℕ) → letter_of b ≡ saves → (before ≡ a_number → ⊥) → left_meanings table saved before (b ∷ letters) ≡ None
+pub no-save-read : (table : List Citation) (saved b : ℕ) (before : Before) (letters : List ℕ) → letter_of b ≡ saves → (before ≡ a_number → ⊥) → left_meanings table saved before (b ∷ letters) ≡ None
 no-save-read table saved b beginning letters is no_number = ap (λ (s : Option (List CompressedStep)). read_on table saved s) (steps-letter beginning b letters saves is)
 no-save-read table saved b (digits n) letters is no_number = ap (λ (s : Option (List CompressedStep)). read_on table saved s) (steps-letter (digits n) b letters saves is)
 no-save-read table saved b a_number letters is no_number = absurd (no_number refl)
 no-save-read table saved b a_save letters is no_number = ap (λ (s : Option (List CompressedStep)). read_on table saved s) (steps-letter a_save b letters saves is)
 
-pub other-read : (table : List NumberedStep) (saved b : ℕ) (before : Before) (letters : List ℕ) → letter_of b ≡ no_letter → left_meanings table saved before (b ∷ letters) ≡ None
+pub other-read : (table : List Citation) (saved b : ℕ) (before : Before) (letters : List ℕ) → letter_of b ≡ no_letter → left_meanings table saved before (b ∷ letters) ≡ None
 other-read table saved b before letters is = ap (λ (s : Option (List CompressedStep)). read_on table saved s) (steps-letter before b letters no_letter is)
 
 -- one more step in front of what is left
-pub step-behind : (done : List NumberedStep) (step : NumberedStep) (left : Option (List NumberedStep)) → behind_steps done (with_meaning (Some step) left) ≡ behind_steps (done ++ step ∷ []) left
+pub step-behind : (done : List (Step Citation)) (step : Step Citation) (left : Option (List (Step Citation))) → behind_items done (with_step (Some step) left) ≡ behind_items (done ++ step ∷ []) left
 step-behind done step None = refl
-step-behind done step (Some steps) = ap (λ (s : List NumberedStep). Some s) (sym (append_assoc done (step ∷ []) steps))
+step-behind done step (Some steps) = ap (λ (s : List (Step Citation)). Some s) (sym (append_assoc done (step ∷ []) steps))
 
-pub meaning-in : (table : List NumberedStep) (saved n : ℕ) (s : NumberedStep) → n < length table → s ≡ get_or table n s → numbered_meaning table saved n ≡ Some s
+pub meaning-in : (table : List Citation) (saved n : ℕ) (s : Citation) → n < length table → s ≡ get_or table n s → meaning table saved n ≡ Some (cites s)
 meaning-in [] saved n s lt is = absurd (none n lt)
   where
     none : (n : ℕ) → n < 0 → ⊥
     none n lt = omega (arith, lt)
-meaning-in (step ∷ steps) saved zero s lt is = ap (λ (t : NumberedStep). Some t) (sym is)
+meaning-in (step ∷ steps) saved zero s lt is = ap (λ (t : Citation). Some (cites t)) (sym is)
 meaning-in (step ∷ steps) saved (suc n) s lt is = meaning-in steps saved n s (omega (arith, lt)) is
 
-pub meaning-behind : (table : List NumberedStep) (saved n m : ℕ) → length table ≤ n → m ≡ n - length table → numbered_meaning table saved n ≡ (if nat_lt m saved then Some (gives_saved m) else None)
+pub meaning-behind : (table : List Citation) (saved n m : ℕ) → length table ≤ n → m ≡ n - length table → meaning table saved n ≡ repeat_if (nat_lt m saved) m
 meaning-behind [] saved n m le is =
     let same : n ≡ m = omega (arith, is) in
-    ap (λ (k : ℕ). if nat_lt k saved then Some (gives_saved k) else None) same
+    ap (λ (k : ℕ). repeat_if (nat_lt k saved) k) same
 meaning-behind (step ∷ steps) saved zero m le is = absurd (none (length steps) le)
   where
     none : (k : ℕ) → suc k ≤ 0 → ⊥
@@ -97,15 +102,15 @@ meaning-behind (step ∷ steps) saved zero m le is = absurd (none (length steps)
 meaning-behind (step ∷ steps) saved (suc n) m le is = meaning-behind steps saved n m (omega (arith, le)) (omega (arith, is))
 
 -- digits whose value is past the table and the saved entries are no number of a step
-pub letters-past : (table : List NumberedStep) (saved v : ℕ) (letters : List ℕ) → length table + saved ≤ v → left_meanings table saved (digits v) letters ≡ None
+pub letters-past : (table : List Citation) (saved v : ℕ) (letters : List ℕ) → length table + saved ≤ v → left_meanings table saved (digits v) letters ≡ None
 letters-past table saved v [] le = refl
 letters-past table saved v (b ∷ letters) le = go (letter_of b) refl (λ w more. letters-past table saved w letters more)
   where
-    number : (d : ℕ) → numbered_meaning table saved (20 * v + d - 1) ≡ None
+    number : (d : ℕ) → meaning table saved (20 * v + d - 1) ≡ None
     number d = meaning-past table saved (20 * v + d - 1) (omega (arith, le))
 
     go : (l : Letter) → letter_of b ≡ l → ((w : ℕ) → length table + saved ≤ w → left_meanings table saved (digits w) letters ≡ None) → left_meanings table saved (digits v) (b ∷ letters) ≡ None
-    go (last_digit d) is rest = last-read table saved d b (digits v) letters is ∙ ap (λ (o : Option NumberedStep). with_meaning o (left_meanings table saved a_number letters)) (number d)
+    go (last_digit d) is rest = last-read table saved d b (digits v) letters is ∙ ap (λ (o : Option (Step Citation)). with_step o (left_meanings table saved a_number letters)) (number d)
     go (digit d) is rest = digit-read table saved d b (digits v) letters is ∙ rest (5 * v + d) (omega (arith, le))
     go saves is rest = no-save-read table saved b (digits v) letters is (λ e. absurd (cc))
     go no_letter is rest = other-read table saved b (digits v) letters is

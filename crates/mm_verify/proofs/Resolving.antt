@@ -4,7 +4,7 @@ use Rattle.std.specs.Prelude.{◌&&◌, IfSome, All}
 use Rattle.std.specs.List.{position_from, AllByRecursion}
 use Rattle.std.proofs.lemmas.List.Elements.{All-from_recursion}
 use Rattle.std.proofs.lemmas.List.{get_or-drop, drop-drop}
-use Rattle.mm_frame.specs.Numbered.{NumberedHypothesis, numbered_floating, numbered_essential, numbers_behind_first, numbered_bindings, numbered_text, numbers_substituted, same_numbers, agrees, all_agree}
+use Rattle.mm_frame.specs.Numbered.{NumberedHypothesis}
 use Rattle.mm_frame.specs.FramesHeld.{types_number}
 use Rattle.mm_verify.specs.declared.parts.Part.{Part}
 use Rattle.mm_verify.specs.declared.parts.Part.TheVariants as part
@@ -13,6 +13,10 @@ use Rattle.mm_verify.specs.declared.parts.Wanted.TheVariants as wanted
 use Rattle.mm_verify.specs.Places.{place_of, place_in, symbol_of, ArePlaced}
 use Rattle.mm_verify.specs.Resolved.{wanted_hypothesis, hypotheses_of, parts_in}
 use Rattle.mm_verify.specs.Filling.{IsWithin, AreWithin, text_at, part_text, filled, is_wanted, are_wanted}
+use Rattle.mm_database.specs.Frames.{floating, essential}
+use Rattle.mm_database.specs.Stack.{behind_first, bindings_of, text_in}
+use Rattle.mm_database.specs.Proofs.{substituted}
+use Rattle.mm_frame.specs.NumberedSteps.{same_numbers, agrees, all_agree}
 
 -- what entries give a symbol, by the place of its `$f`
 abbrev pub at_place : List (List ℕ) → ℕ → Option ℕ → List ℕ
@@ -21,7 +25,7 @@ at_place entries symbol (Some place) = text_at entries place
 
 -- what entries give a symbol by the bindings of hypotheses
 abbrev pub bound : List NumberedHypothesis → List (List ℕ) → ℕ → List ℕ
-bound hypotheses entries = numbered_text (numbered_bindings hypotheses entries)
+bound hypotheses entries = text_in nat_eq (bindings_of hypotheses entries)
 
 entry-here : (entries : List (List ℕ)) (k : ℕ) (e : List ℕ) (es : List (List ℕ)) → e ∷ es ≡ drop k entries → get_or entries k [] ≡ e
 entry-here entries k e es is =
@@ -37,13 +41,13 @@ text-place entries (h ∷ hs) k [] symbol is long = absurd (none (length hs) lon
   where
     none : (n : ℕ) → suc n ≡ 0 → ⊥
     none n e = omega (arith, e)
-text-place entries (numbered_essential label statement ∷ hs) k (e ∷ es) symbol is long =
+text-place entries (essential label statement ∷ hs) k (e ∷ es) symbol is long =
     text-place entries hs (k + 1) es symbol (entries-behind entries k e es is) (omega (arith, long))
-text-place entries (numbered_floating label typecode variable ∷ hs) k (e ∷ es) symbol is long =
+text-place entries (floating label typecode variable ∷ hs) k (e ∷ es) symbol is long =
     go (nat_eq variable symbol) (text-place entries hs (k + 1) es symbol (entries-behind entries k e es is) (omega (arith, long)))
   where
-    go : (b : Bool) → bound hs es symbol ≡ at_place entries symbol (position_from (types_number symbol) (k + 1) hs) → cond b (numbers_behind_first e) (bound hs es symbol) ≡ at_place entries symbol (cond b (Some k) (position_from (types_number symbol) (k + 1) hs))
-    go true h = sym (ap numbers_behind_first (entry-here entries k e es is))
+    go : (b : Bool) → bound hs es symbol ≡ at_place entries symbol (position_from (types_number symbol) (k + 1) hs) → cond b (behind_first e) (bound hs es symbol) ≡ at_place entries symbol (cond b (Some k) (position_from (types_number symbol) (k + 1) hs))
+    go true h = sym (ap behind_first (entry-here entries k e es is))
     go false h = h
 
 pub sigma-place : (hypotheses : List NumberedHypothesis) (entries : List (List ℕ)) (symbol : ℕ) → length hypotheses ≡ length entries → bound hypotheses entries symbol ≡ at_place entries symbol (place_of hypotheses symbol)
@@ -70,7 +74,7 @@ pub placed-behind : (hypotheses : List NumberedHypothesis) (ps qs : List Part) �
 placed-behind hypotheses [] qs h = h
 placed-behind hypotheses (p ∷ ps) qs h = placed-behind hypotheses ps qs (others-placed hypotheses p (ps ++ qs) h)
 
-pub filled-is : (hypotheses : List NumberedHypothesis) (entries : List (List ℕ)) (parts : List Part) → length hypotheses ≡ length entries → ArePlaced hypotheses parts → filled entries parts ≡ numbers_substituted (bound hypotheses entries) (map symbol_of parts)
+pub filled-is : (hypotheses : List NumberedHypothesis) (entries : List (List ℕ)) (parts : List Part) → length hypotheses ≡ length entries → ArePlaced hypotheses parts → filled entries parts ≡ substituted (bound hypotheses entries) (map symbol_of parts)
 filled-is hypotheses entries [] long h = refl
 filled-is hypotheses entries (p ∷ ps) long h =
     let one : part_text entries p ≡ bound hypotheses entries (symbol_of p) = part-place entries p ∙ ap (λ (o : Option ℕ). at_place entries (symbol_of p) o) (first-placed hypotheses p ps h) ∙ sym (sigma-place hypotheses entries (symbol_of p) long) in

@@ -1,97 +1,153 @@
 -- Steps over numbers that are steps over tokens.
-use Rattle.std.proofs.Common.{◌≡◌, ℕ, zero, suc, ◌+◌, ◌-◌, Bool, true, false, List, [], ◌∷◌, ◌++◌, map, nat_eq, Option, Some, None, refl, ap, sym, ◌∙◌, subst}
-use Rattle.std.specs.Prelude.{nat_lt, ◌&&◌, ◌||◌, if◌then◌else◌, option_map, option_and_then, MatchOption}
+use Rattle.std.proofs.Common.{◌≡◌, ℕ, zero, suc, ◌+◌, ◌-◌, Bool, true, false, List, [], ◌∷◌, ◌++◌, length, map, nat_eq, Option, Some, None, refl, ap, sym, ◌∙◌, subst}
+use Rattle.std.proofs.lemmas.List.{length-map, map-append}
+use Rattle.std.proofs.lemmas.Option.{slice_get-map}
+use Rattle.std.specs.Prelude.{nat_lt, ◌&&◌, ◌||◌, if◌then◌else◌, option_map, option_and_then, slice_get, MatchOption}
 use Rattle.std.specs.List.{list_any}
 use Rattle.std.specs.Cmp.Lexicographic.{pointwise}
-use Rattle.mm_text.specs.Bytes.{Token, has_token}
+use Rattle.mm_text.specs.Bytes.{Token, has_token, has_repeated}
 use Rattle.mm_text.specs.FaultKinds.{bad_conclusion}
 use Rattle.mm_text.specs.Compressed.{CompressedStep, numbered, save}
 use Rattle.mm_database.specs.Database.{Context}
 use Rattle.mm_database.specs.Proofs.{Expression}
-use Rattle.mm_database.specs.Expansion.{arity, Step, cites, saves, repeats, meaning, meaning_of, saved_after, meanings, with_step, has_repeated}
-use Rattle.mm_database.specs.Stack.{same_expression, same_expressions, stack_after, stack_after_step, saving, saving_after}
-use Rattle.mm_frame.specs.Numbered.{NumberedPlace, IsNaming, named, IsNamedPlace, same_numbers}
-use Rattle.mm_frame.specs.NumberedSteps.{NumberedStep, gives_saved, NumberedSaving, numbered_saving_after, named_saving, IsNamedStep, StepIsNamed}
+use Rattle.mm_database.specs.Steps.{Step, cites, saves, repeats}
+use Rattle.mm_database.specs.ProofText.{meaning, meaning_of, saved_after, meanings, with_step}
+use Rattle.mm_database.specs.Stack.{same_expression, same_expressions, stack_after_label, Saving, saving, saving_after_step, saving_after}
+use Rattle.mm_frame.specs.Numbered.{IsNaming, named}
+use Rattle.mm_frame.specs.NumberedSteps.{NumberedPlace, IsNamedPlace, same_numbers, Citation, gives, applies, stack_after_citation, IsNamedCitation, CitationIsNamed}
 use Rattle.mm_database.specs.Validity.{stack_fault}
-use Rattle.mm_verify.specs.Meaning.{numbered_meaning, with_meaning, numbered_meaning_of, saved_behind, numbered_meanings}
 use Rattle.mm_verify.specs.declared.machine.ProofFault.TheVariants as fault
-use Rattle.mm_verify.specs.Running.{numbered_saving_behind, left_fault}
+use Rattle.mm_verify.specs.Running.{numbered_step, numbered_steps, left_fault}
 use Rattle.mm_verify.specs.Judging.{kind_of}
-use Rattle.mm_verify.specs.ProofSteps.{clashes}
+use Rattle.mm_verify.specs.ProofSteps.{clashes, citing}
 
--- one by one
-abbrev pub AreNamed : (ℕ → Token) → Context → List Step → List NumberedStep → Type 0
+-- labels and what they cite, one by one
+abbrev pub AreCited : (ℕ → Token) → Context → List Token → List Citation → Type 0
+AreCited name c [] [] = Unit {0}
+AreCited name c [] (n ∷ ns) = ⊥
+AreCited name c (l ∷ ls) [] = ⊥
+AreCited name c (l ∷ ls) (n ∷ ns) = IsNamedCitation name c l n × AreCited name c ls ns
+
+pub cited-append : (name : ℕ → Token) (c : Context) (ls ks : List Token) (ns ms : List Citation) → AreCited name c ls ns → AreCited name c ks ms → AreCited name c (ls ++ ks) (ns ++ ms)
+cited-append name c [] ks [] ms h k = k
+cited-append name c [] ks (n ∷ ns) ms h k = absurd (h)
+cited-append name c (l ∷ ls) ks [] ms h k = absurd (h)
+cited-append name c (l ∷ ls) ks (n ∷ ns) ms h k = (h.0, cited-append name c ls ks ns ms h.1 k)
+
+-- the step of numbers that a step is
+abbrev pub IsNamedStep : (ℕ → Token) → Context → Step Token → Step Citation → Type 0
+IsNamedStep name c (cites label) (cites n) = IsNamedCitation name c label n
+IsNamedStep name c (cites label) saves = ⊥
+IsNamedStep name c (cites label) (repeats n) = ⊥
+IsNamedStep name c saves (cites n) = ⊥
+IsNamedStep name c saves saves = Unit {0}
+IsNamedStep name c saves (repeats n) = ⊥
+IsNamedStep name c (repeats m) (cites n) = ⊥
+IsNamedStep name c (repeats m) saves = ⊥
+IsNamedStep name c (repeats m) (repeats n) = m ≡ n
+
+abbrev pub AreNamed : (ℕ → Token) → Context → List (Step Token) → List (Step Citation) → Type 0
 AreNamed name c [] [] = Unit {0}
 AreNamed name c [] (n ∷ ns) = ⊥
 AreNamed name c (s ∷ ss) [] = ⊥
 AreNamed name c (s ∷ ss) (n ∷ ns) = IsNamedStep name c s n × AreNamed name c ss ns
 
-pub named-append : (name : ℕ → Token) (c : Context) (ss rs : List Step) (ns ms : List NumberedStep) → AreNamed name c ss ns → AreNamed name c rs ms → AreNamed name c (ss ++ rs) (ns ++ ms)
-named-append name c [] rs [] ms h k = k
-named-append name c [] rs (n ∷ ns) ms h k = absurd (h)
-named-append name c (s ∷ ss) rs [] ms h k = absurd (h)
-named-append name c (s ∷ ss) rs (n ∷ ns) ms h k = (h.0, named-append name c ss rs ns ms h.1 k)
+pub citing-named : (name : ℕ → Token) (c : Context) (ls : List Token) (ns : List Citation) → AreCited name c ls ns → AreNamed name c (map (λ l. cites l) ls) (citing ns)
+citing-named name c [] [] h = tt
+citing-named name c [] (n ∷ ns) h = absurd (h)
+citing-named name c (l ∷ ls) [] h = absurd (h)
+citing-named name c (l ∷ ls) (n ∷ ns) h = (h.0, citing-named name c ls ns h.1)
 
--- they do to numbers what those do to tokens
-pub run-named : StepIsNamed → (name : ℕ → Token) (p : NumberedPlace) (c : Context) → IsNaming name → IsNamedPlace name p c → (ss : List Step) (ns : List NumberedStep) (w : NumberedSaving) → AreNamed name c ss ns → saving_after c ss (named_saving name w) ≡ option_map (named_saving name) (numbered_saving_behind p ns w)
+abbrev pub named_saving : (ℕ → Token) → Saving (List ℕ) → Saving Expression
+named_saving name w = saving (map (named name) w.stack) (map (named name) w.saved)
+
+-- a step does to numbers what the step does to their tokens
+
+pushed-named : (name : ℕ → Token) (stack : List (List ℕ)) (e : List ℕ) → map (named name) (stack ++ e ∷ []) ≡ map (named name) stack ++ named name e ∷ []
+pushed-named name stack e = map-append (named name) stack (e ∷ [])
+
+stack-named : (name : ℕ → Token) (saved : List (List ℕ)) (o : Option (List (List ℕ))) → option_map (λ s. saving s (map (named name) saved)) (option_map (map (named name)) o) ≡ option_map (named_saving name) (option_map (λ s. saving s saved) o)
+stack-named name saved None = refl
+stack-named name saved (Some s) = refl
+
+saved-named : (name : ℕ → Token) (stack saved : List (List ℕ)) (o : Option (List ℕ)) → option_map (λ e. saving (map (named name) stack) (map (named name) saved ++ e ∷ [])) (option_map (named name) o) ≡ option_map (named_saving name) (option_map (λ e. saving stack (saved ++ e ∷ [])) o)
+saved-named name stack saved None = refl
+saved-named name stack saved (Some e) = ap (λ (es : List Expression). Some (saving (map (named name) stack) es)) (sym (pushed-named name saved e))
+
+again-named : (name : ℕ → Token) (stack saved : List (List ℕ)) (o : Option (List ℕ)) → option_map (λ e. saving (map (named name) stack ++ e ∷ []) (map (named name) saved)) (option_map (named name) o) ≡ option_map (named_saving name) (option_map (λ e. saving (stack ++ e ∷ []) saved) o)
+again-named name stack saved None = refl
+again-named name stack saved (Some e) = ap (λ (es : List Expression). Some (saving es (map (named name) saved))) (sym (pushed-named name stack e))
+
+step-named : CitationIsNamed → (name : ℕ → Token) (p : NumberedPlace) (c : Context) → IsNaming name → IsNamedPlace name p c → (s : Step Token) (n : Step Citation) (w : Saving (List ℕ)) → IsNamedStep name c s n → saving_after_step (stack_after_label c) s (named_saving name w) ≡ option_map (named_saving name) (numbered_step p n w)
+step-named law name p c naming place (cites label) (cites n) w is =
+    ap (option_map (λ s. saving s (map (named name) w.saved))) (law name p c label n w.stack naming place is)
+    ∙ stack-named name w.saved (stack_after_citation p n w.stack)
+step-named law name p c naming place (cites label) saves w is = absurd is
+step-named law name p c naming place (cites label) (repeats n) w is = absurd is
+step-named law name p c naming place saves (cites n) w is = absurd is
+step-named law name p c naming place saves saves w is =
+    ap (λ (m : ℕ). option_map (λ e. saving (map (named name) w.stack) (map (named name) w.saved ++ e ∷ [])) (slice_get (map (named name) w.stack) (m - 1))) (length-map w.stack (named name))
+    ∙ ap (option_map (λ e. saving (map (named name) w.stack) (map (named name) w.saved ++ e ∷ []))) (slice_get-map (named name) w.stack (length w.stack - 1))
+    ∙ saved-named name w.stack w.saved (slice_get w.stack (length w.stack - 1))
+step-named law name p c naming place saves (repeats n) w is = absurd is
+step-named law name p c naming place (repeats m) (cites n) w is = absurd is
+step-named law name p c naming place (repeats m) saves w is = absurd is
+step-named law name p c naming place (repeats m) (repeats n) w is =
+    ap (λ (k : ℕ). option_map (λ e. saving (map (named name) w.stack ++ e ∷ []) (map (named name) w.saved)) (slice_get (map (named name) w.saved) k)) is
+    ∙ ap (option_map (λ e. saving (map (named name) w.stack ++ e ∷ []) (map (named name) w.saved))) (slice_get-map (named name) w.saved n)
+    ∙ again-named name w.stack w.saved (slice_get w.saved n)
+
+pub run-named : CitationIsNamed → (name : ℕ → Token) (p : NumberedPlace) (c : Context) → IsNaming name → IsNamedPlace name p c → (ss : List (Step Token)) (ns : List (Step Citation)) (w : Saving (List ℕ)) → AreNamed name c ss ns → saving_after (stack_after_label c) ss (named_saving name w) ≡ option_map (named_saving name) (numbered_steps p ns w)
 run-named law name p c naming place [] [] w h = refl
 run-named law name p c naming place [] (n ∷ ns) w h = absurd (h)
 run-named law name p c naming place (s ∷ ss) [] w h = absurd (h)
 run-named law name p c naming place (s ∷ ss) (n ∷ ns) w h =
-    ap (option_and_then (saving_after c ss)) (law name p c s n w naming place h.0)
-    ∙ go (numbered_saving_after p n w) (λ v. run-named law name p c naming place ss ns v h.1)
+    ap (option_and_then (saving_after (stack_after_label c) ss)) (step-named law name p c naming place s n w h.0)
+    ∙ go (numbered_step p n w) (λ v. run-named law name p c naming place ss ns v h.1)
   where
-    go : (o : Option NumberedSaving) → ((v : NumberedSaving) → saving_after c ss (named_saving name v) ≡ option_map (named_saving name) (numbered_saving_behind p ns v)) → option_and_then (saving_after c ss) (option_map (named_saving name) o) ≡ option_map (named_saving name) (option_and_then (numbered_saving_behind p ns) o)
+    go : (o : Option (Saving (List ℕ))) → ((v : Saving (List ℕ)) → saving_after (stack_after_label c) ss (named_saving name v) ≡ option_map (named_saving name) (numbered_steps p ns v)) → option_and_then (saving_after (stack_after_label c) ss) (option_map (named_saving name) o) ≡ option_map (named_saving name) (option_and_then (numbered_steps p ns) o)
     go None rest = refl
     go (Some v) rest = rest v
 
--- a proof in labels alone
-pub labels-run : (c : Context) (labels : List Token) (stack saved : List Expression) → stack_after c labels stack ≡ option_map (λ w. w.stack) (saving_after c (map (λ l. cites l) labels) (saving stack saved))
-labels-run c [] stack saved = refl
-labels-run c (l ∷ ls) stack saved = go (stack_after_step c l (arity c l) stack) (λ s. labels-run c ls s saved)
-  where
-    go : (o : Option (List Expression)) → ((s : List Expression) → stack_after c ls s ≡ option_map (λ w. w.stack) (saving_after c (map (λ k. cites k) ls) (saving s saved))) → option_and_then (stack_after c ls) o ≡ option_map (λ w. w.stack) (option_and_then (saving_after c (map (λ k. cites k) ls)) (option_map (λ s. saving s saved) o))
-    go None rest = refl
-    go (Some s) rest = rest s
-
 -- what a number of a compressed proof stands for
 
-meaning-named : (name : ℕ → Token) (c : Context) (table : List Token) (steps : List NumberedStep) (saved n : ℕ) → AreNamed name c (map (λ l. cites l) table) steps → MatchOption (numbered_meaning steps saved n) (meaning table saved n ≡ None) (λ m. (s : Step) × (meaning table saved n ≡ Some s) × IsNamedStep name c s m)
-meaning-named name c [] [] saved n h = go (nat_lt n saved) refl
+meaning-named : (name : ℕ → Token) (c : Context) (table : List Token) (cited : List Citation) (saved n : ℕ) → AreCited name c table cited → MatchOption (meaning cited saved n) (meaning table saved n ≡ None) (λ m. (s : Step Token) × (meaning table saved n ≡ Some s) × IsNamedStep name c s m)
+meaning-named name c [] [] saved n h = go (nat_lt n saved)
   where
-    go : (b : Bool) → nat_lt n saved ≡ b → MatchOption (if b then Some (gives_saved n) else None) ((if b then Some (repeats n) else None) ≡ None) (λ m. (s : Step) × ((if b then Some (repeats n) else None) ≡ Some s) × IsNamedStep name c s m)
-    go true e = (repeats n, refl, refl)
-    go false e = refl
-meaning-named name c [] (s ∷ steps) saved n h = absurd (h)
+    label_if : Bool → Option (Step Token)
+    label_if b = if b then Some (repeats n) else None
+
+    cited_if : Bool → Option (Step Citation)
+    cited_if b = if b then Some (repeats n) else None
+
+    go : (b : Bool) → MatchOption (cited_if b) (label_if b ≡ None) (λ m. (s : Step Token) × (label_if b ≡ Some s) × IsNamedStep name c s m)
+    go true = (repeats n, refl, refl)
+    go false = refl
+meaning-named name c [] (x ∷ cited) saved n h = absurd (h)
 meaning-named name c (l ∷ table) [] saved n h = absurd (h)
-meaning-named name c (l ∷ table) (s ∷ steps) saved zero h = (cites l, refl, h.0)
-meaning-named name c (l ∷ table) (s ∷ steps) saved (suc n) h = meaning-named name c table steps saved n h.1
+meaning-named name c (l ∷ table) (x ∷ cited) saved zero h = (cites l, refl, h.0)
+meaning-named name c (l ∷ table) (x ∷ cited) saved (suc n) h = meaning-named name c table cited saved n h.1
 
-step-named : (name : ℕ → Token) (c : Context) (table : List Token) (steps : List NumberedStep) (saved : ℕ) (k : CompressedStep) → AreNamed name c (map (λ l. cites l) table) steps → MatchOption (numbered_meaning_of steps saved k) (meaning_of table saved k ≡ None) (λ m. (s : Step) × (meaning_of table saved k ≡ Some s) × IsNamedStep name c s m)
-step-named name c table steps saved (numbered n) h = meaning-named name c table steps saved (n - 1) h
-step-named name c table steps saved save h = (saves, refl, tt)
+meaning_of-named : (name : ℕ → Token) (c : Context) (table : List Token) (cited : List Citation) (saved : ℕ) (k : CompressedStep) → AreCited name c table cited → MatchOption (meaning_of cited saved k) (meaning_of table saved k ≡ None) (λ m. (s : Step Token) × (meaning_of table saved k ≡ Some s) × IsNamedStep name c s m)
+meaning_of-named name c table cited saved (numbered n) h = meaning-named name c table cited saved (n - 1) h
+meaning_of-named name c table cited saved save h = (saves, refl, tt)
 
-abbrev pub MeanNamed : (ℕ → Token) → Context → Option (List Step) → Option (List NumberedStep) → Type 0
+abbrev pub MeanNamed : (ℕ → Token) → Context → Option (List (Step Token)) → Option (List (Step Citation)) → Type 0
 MeanNamed name c steps None = steps ≡ None
-MeanNamed name c steps (Some ns) = (ss : List Step) × (steps ≡ Some ss) × AreNamed name c ss ns
+MeanNamed name c steps (Some ns) = (ss : List (Step Token)) × (steps ≡ Some ss) × AreNamed name c ss ns
 
-pub meanings-named : (name : ℕ → Token) (c : Context) (table : List Token) (steps : List NumberedStep) (saved : ℕ) (ks : List CompressedStep) → AreNamed name c (map (λ l. cites l) table) steps → MeanNamed name c (meanings table saved ks) (numbered_meanings steps saved ks)
-meanings-named name c table steps saved [] h = ([], refl, tt)
-meanings-named name c table steps saved (k ∷ ks) h =
-    go k (numbered_meaning_of steps saved k) (step-named name c table steps saved k h) (λ n. meanings-named name c table steps n ks h)
+pub meanings-named : (name : ℕ → Token) (c : Context) (table : List Token) (cited : List Citation) (saved : ℕ) (ks : List CompressedStep) → AreCited name c table cited → MeanNamed name c (meanings table saved ks) (meanings cited saved ks)
+meanings-named name c table cited saved [] h = ([], refl, tt)
+meanings-named name c table cited saved (k ∷ ks) h =
+    go k (meaning_of cited saved k) (meaning_of-named name c table cited saved k h) (λ n. meanings-named name c table cited n ks h)
   where
-    none : (o : Option Step) → with_step o None ≡ None
-    none None = refl
-    none (Some s) = refl
-
-    both : (s : Step) (m : NumberedStep) (o : Option (List Step)) (q : Option (List NumberedStep)) → IsNamedStep name c s m → MeanNamed name c o q → MeanNamed name c (with_step (Some s) o) (with_meaning (Some m) q)
+    both : (s : Step Token) (m : Step Citation) (o : Option (List (Step Token))) (q : Option (List (Step Citation))) → IsNamedStep name c s m → MeanNamed name c o q → MeanNamed name c (with_step (Some s) o) (with_step (Some m) q)
     both s m o None a b = ap (with_step (Some s)) b
     both s m o (Some ns) a b = (s ∷ b.0, ap (with_step (Some s)) b.1, (a, b.2))
 
-    go : (j : CompressedStep) (o : Option NumberedStep) → MatchOption o (meaning_of table saved j ≡ None) (λ m. (s : Step) × (meaning_of table saved j ≡ Some s) × IsNamedStep name c s m) → ((n : ℕ) → MeanNamed name c (meanings table n ks) (numbered_meanings steps n ks)) → MeanNamed name c (with_step (meaning_of table saved j) (meanings table (saved_after saved j) ks)) (with_meaning o (numbered_meanings steps (saved_behind saved j) ks))
-    go j None e rest = ap (λ (o : Option Step). with_step o (meanings table (saved_after saved j) ks)) e
-    go (numbered n) (Some m) e rest = subst (λ (o : Option Step). MeanNamed name c (with_step o (meanings table saved ks)) (with_meaning (Some m) (numbered_meanings steps saved ks))) (sym e.1) (both e.0 m (meanings table saved ks) (numbered_meanings steps saved ks) e.2 (rest saved))
-    go save (Some m) e rest = subst (λ (o : Option Step). MeanNamed name c (with_step o (meanings table (saved + 1) ks)) (with_meaning (Some m) (numbered_meanings steps (saved + 1) ks))) (sym e.1) (both e.0 m (meanings table (saved + 1) ks) (numbered_meanings steps (saved + 1) ks) e.2 (rest (saved + 1)))
+    go : (j : CompressedStep) (o : Option (Step Citation)) → MatchOption o (meaning_of table saved j ≡ None) (λ m. (s : Step Token) × (meaning_of table saved j ≡ Some s) × IsNamedStep name c s m) → ((n : ℕ) → MeanNamed name c (meanings table n ks) (meanings cited n ks)) → MeanNamed name c (with_step (meaning_of table saved j) (meanings table (saved_after saved j) ks)) (with_step o (meanings cited (saved_after saved j) ks))
+    go j None e rest = ap (λ (o : Option (Step Token)). with_step o (meanings table (saved_after saved j) ks)) e
+    go j (Some m) e rest = subst (λ (o : Option (Step Token)). MeanNamed name c (with_step o (meanings table (saved_after saved j) ks)) (with_step (Some m) (meanings cited (saved_after saved j) ks))) (sym e.1) (both e.0 m (meanings table (saved_after saved j) ks) (meanings cited (saved_after saved j) ks) e.2 (rest (saved_after saved j)))
 
 -- what is left is the statement alone
 
@@ -111,7 +167,7 @@ all-same-named name naming (x ∷ xs) (y ∷ ys) =
     ap (λ (b : Bool). b && same_expressions (map (named name) xs) (map (named name) ys)) (same-named name naming x y)
     ∙ ap (λ (b : Bool). same_numbers x y && b) (all-same-named name naming xs ys)
 
-pub left-named : (name : ℕ → Token) → IsNaming name → (conclusion : List ℕ) (o : Option NumberedSaving) → stack_fault (named name conclusion) (option_map (λ w. w.stack) (option_map (named_saving name) o)) ≡ kind_of (left_fault conclusion o)
+pub left-named : (name : ℕ → Token) → IsNaming name → (conclusion : List ℕ) (o : Option (Saving (List ℕ))) → stack_fault (named name conclusion) (option_map (λ w. w.stack) (option_map (named_saving name) o)) ≡ kind_of (left_fault conclusion o)
 left-named name naming conclusion None = refl
 left-named name naming conclusion (Some w) =
     ap (λ (b : Bool). if b then None else Some bad_conclusion) (all-same-named name naming w.stack (conclusion ∷ []))

@@ -2,17 +2,19 @@
 use Rattle.std.specs.Prelude.{ℕ, ◌<◌, Bool, true, false, ◌&&◌, ◌||◌, nat_eq, List, [], ◌∷◌, flat_map, slice_index_or, Option, Some, None, IfSome, All}
 use Rattle.std.specs.List.{list_all}
 use Rattle.std.specs.Global.{Vec}
-use Rattle.mm_frame.specs.Numbered.{NumberedPlace, numbers_behind_first, same_numbers, begins_with, numbered_texts_apart}
 use Rattle.mm_verify.specs.declared.parts.Part.{Part}
 use Rattle.mm_verify.specs.declared.parts.Part.TheVariants as part
 use Rattle.mm_verify.specs.declared.parts.Wanted.{Wanted}
 use Rattle.mm_verify.specs.declared.parts.Wanted.TheVariants as wanted
 use Rattle.mm_verify.specs.Resolved.{parts_in}
 use Rattle.mm_verify.specs.Places.{symbol_of, place_in, parts_of}
+use Rattle.mm_database.specs.Stack.{behind_first}
+use Rattle.mm_database.specs.Proofs.{texts_apart}
+use Rattle.mm_frame.specs.NumberedSteps.{NumberedPlace, same_numbers, begins_with, numbers_apart}
 
 -- the text of the entry at a place: what stands behind its typecode
 abbrev pub text_at : List (List ℕ) → ℕ → List ℕ
-text_at entries i = numbers_behind_first (slice_index_or entries i [])
+text_at entries i = behind_first (slice_index_or entries i [])
 
 abbrev pub part_text : List (List ℕ) → Part → List ℕ
 part_text entries (part.Kept symbol) = symbol ∷ []
@@ -50,7 +52,7 @@ are_wanted entries (w ∷ ws) (e ∷ es) = is_wanted entries w e && are_wanted e
 abbrev pub places_apart : NumberedPlace → List (List ℕ) → Option ℕ → Option ℕ → Bool
 places_apart p entries None b = true
 places_apart p entries (Some a) None = true
-places_apart p entries (Some a) (Some b) = numbered_texts_apart p (text_at entries a) (text_at entries b)
+places_apart p entries (Some a) (Some b) = texts_apart (numbers_apart p) (text_at entries a) (text_at entries b)
 
 -- two parts with different symbols are kept apart
 abbrev pub are_parts_apart : NumberedPlace → List (List ℕ) → Part → Part → Bool

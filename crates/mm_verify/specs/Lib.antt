@@ -7,7 +7,6 @@ pub mod Filling
 pub mod Applied
 pub mod Running
 pub mod Digits
-pub mod Meaning
 pub mod Reading
 pub mod Citing
 pub mod ProofSteps

@@ -1,44 +1,46 @@
 -- The steps that the text of a proof names, by what scopes hold.
-use Rattle.std.specs.Prelude.{ℕ, Bool, false, ◌||◌, if◌then◌else◌, List, [], ◌∷◌, ◌++◌, map, flat_map, Option, None, option_and_then, codes, bytes_eq}
+use Rattle.std.specs.Prelude.{ℕ, Bool, false, ◌||◌, if◌then◌else◌, List, [], ◌∷◌, ◌++◌, map, flat_map, Option, None, option_map, option_and_then, codes, bytes_eq}
 use Rattle.mm_text.specs.Bytes.{Token, has_token}
-use Rattle.mm_text.specs.Compressed.{steps_of}
-use Rattle.mm_database.specs.Expansion.{before_close, behind_close}
+use Rattle.mm_database.specs.Frames.{label_of, statement_of}
+use Rattle.mm_database.specs.Steps.{Step, cites}
+use Rattle.mm_database.specs.ProofText.{before_close, behind_close, lettered_steps}
 use Rattle.mm_frame.specs.Numbered.{NumberedHypothesis}
-use Rattle.mm_frame.specs.NumberedSteps.{NumberedStep, gives}
-use Rattle.mm_frame.specs.StandingLaws.{symbols_of}
-use Rattle.mm_frame.specs.FramesHeld.{number_label}
+use Rattle.mm_frame.specs.NumberedSteps.{Citation, gives}
 use Rattle.mm_frame.specs.Held.{Held}
-use Rattle.mm_verify.specs.Meaning.{numbered_meanings}
 use Rattle.mm_verify.specs.Citing.{all_cited}
 
--- the steps and the labels of mandatory hypotheses
-abbrev pub given_steps : List NumberedHypothesis → List NumberedStep
-given_steps hypotheses = map (λ x. gives (symbols_of x)) hypotheses
+-- what the labels of mandatory hypotheses cite, and these labels
+abbrev pub given_by : List NumberedHypothesis → List Citation
+given_by hypotheses = map (λ x. gives (statement_of x)) hypotheses
 
 abbrev pub labels_in : List NumberedHypothesis → List Token
-labels_in hypotheses = map number_label hypotheses
+labels_in hypotheses = map label_of hypotheses
 
 -- a label is one of the others or stands twice
 abbrev pub clashes : List Token → List Token → Bool
 clashes others [] = false
 clashes others (label ∷ labels) = (has_token others label || has_token labels label) || clashes others labels
 
--- the steps of the labels that a compressed proof lists
-abbrev pub listed_steps : Held → List NumberedHypothesis → List Token → Option (List NumberedStep)
-listed_steps h hypotheses listed = if clashes (labels_in hypotheses) listed then None else all_cited h listed
+-- what the labels that a compressed proof lists cite
+abbrev pub listed_citations : Held → List NumberedHypothesis → List Token → Option (List Citation)
+listed_citations h hypotheses listed = if clashes (labels_in hypotheses) listed then None else all_cited h listed
 
 -- the steps of letters by a table
-abbrev pub lettered : List NumberedHypothesis → List ℕ → List NumberedStep → Option (List NumberedStep)
-lettered hypotheses letters listed = option_and_then (numbered_meanings (given_steps hypotheses ++ listed) 0) (steps_of letters)
+abbrev pub lettered : List NumberedHypothesis → List ℕ → List Citation → Option (List (Step Citation))
+lettered hypotheses letters listed = lettered_steps (given_by hypotheses ++ listed) letters
 
 -- the steps of the tokens behind the `(` of a compressed proof
-abbrev pub compressed_proof : Held → List NumberedHypothesis → List Token → Option (List NumberedStep)
+abbrev pub compressed_proof : Held → List NumberedHypothesis → List Token → Option (List (Step Citation))
 compressed_proof h hypotheses tokens =
     if has_token tokens (codes ")")
-    then option_and_then (lettered hypotheses (flat_map (λ t. t) (behind_close tokens))) (listed_steps h hypotheses (before_close tokens))
+    then option_and_then (lettered hypotheses (flat_map (λ t. t) (behind_close tokens))) (listed_citations h hypotheses (before_close tokens))
     else None
 
-abbrev pub proof_steps : Held → List NumberedHypothesis → List Token → Option (List NumberedStep)
-proof_steps h hypotheses [] = None
-proof_steps h hypotheses (token ∷ tokens) =
-    if bytes_eq token (codes "(") then compressed_proof h hypotheses tokens else all_cited h (token ∷ tokens)
+-- steps that only cite
+abbrev pub citing : {A : Type 0} → List A → List (Step A)
+citing citations = map (λ x. cites x) citations
+
+abbrev pub steps_named : Held → List NumberedHypothesis → List Token → Option (List (Step Citation))
+steps_named h hypotheses [] = None
+steps_named h hypotheses (token ∷ tokens) =
+    if bytes_eq token (codes "(") then compressed_proof h hypotheses tokens else option_map citing (all_cited h (token ∷ tokens))

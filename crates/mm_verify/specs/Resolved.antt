@@ -1,14 +1,15 @@
 -- Assertions whose variables have the places of their `$f`.
 use Rattle.std.specs.Prelude.{List, [], map}
-use Rattle.mm_frame.specs.Numbered.{NumberedHypothesis, numbered_floating, numbered_essential}
+use Rattle.mm_frame.specs.Numbered.{NumberedHypothesis}
 use Rattle.mm_verify.specs.declared.parts.Part.{Part}
 use Rattle.mm_verify.specs.declared.parts.Wanted.{Wanted}
 use Rattle.mm_verify.specs.declared.parts.Wanted.TheVariants as wanted
 use Rattle.mm_verify.specs.Places.{symbol_of}
+use Rattle.mm_database.specs.Frames.{floating, essential}
 
 abbrev pub wanted_hypothesis : Wanted → NumberedHypothesis
-wanted_hypothesis (wanted.Typed label typecode variable) = numbered_floating label.now typecode variable
-wanted_hypothesis (wanted.Stated label parts) = numbered_essential label.now (map symbol_of parts.items)
+wanted_hypothesis (wanted.Typed label typecode variable) = floating label.now typecode variable
+wanted_hypothesis (wanted.Stated label parts) = essential label.now (map symbol_of parts.items)
 
 -- the parts that stand in what is wanted
 abbrev pub parts_in : Wanted → List Part

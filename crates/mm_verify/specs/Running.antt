@@ -1,39 +1,50 @@
 -- Steps of a proof one behind another.
-use Rattle.std.specs.Prelude.{ℕ, if◌then◌else◌, List, [], ◌∷◌, map, Option, Some, None, option_and_then}
+use Rattle.std.specs.Prelude.{ℕ, if◌then◌else◌, List, [], ◌∷◌, map, Option, Some, None}
 use Rattle.std.specs.Global.{Vec}
 use Rattle.std.specs.Cmp.Lexicographic.{pointwise}
-use Rattle.mm_frame.specs.Numbered.{NumberedPlace, same_numbers}
-use Rattle.mm_frame.specs.StandingLaws.{symbols_of}
+use Rattle.mm_database.specs.Frames.{statement_of}
+use Rattle.mm_database.specs.Steps.{cites, saves, repeats}
+use Rattle.mm_database.specs.Steps as steps
+use Rattle.mm_database.specs.Stack.{Saving, saving, saving_after_step, saving_after}
 use Rattle.mm_frame.specs.FramesHeld.{hypothesis_held}
-use Rattle.mm_frame.specs.NumberedSteps.{NumberedStep, gives, applies, saves_last, gives_saved, NumberedSaving, numbered_saving, numbered_saving_after}
+use Rattle.mm_frame.specs.NumberedSteps.{NumberedPlace, same_numbers, gives, applies, stack_after_citation}
+use Rattle.mm_frame.specs.NumberedSteps as numbered
 use Rattle.mm_verify.specs.declared.machine.Machine.{Machine}
+use Rattle.mm_verify.specs.declared.machine.Citation.{Citation}
+use Rattle.mm_verify.specs.declared.machine.Citation.TheVariants as citation
 use Rattle.mm_verify.specs.declared.machine.Step.{Step}
 use Rattle.mm_verify.specs.declared.machine.Step.TheVariants as step
 use Rattle.mm_verify.specs.declared.machine.ProofFault.{ProofFault}
 use Rattle.mm_verify.specs.declared.machine.ProofFault.TheVariants as fault
 use Rattle.mm_verify.specs.AssertionView.{assertion_frame}
 
-abbrev pub step_of : Step → NumberedStep
-step_of (step.Gives hyp) = gives (symbols_of (hypothesis_held hyp.now))
-step_of (step.Applies assertion) = applies (assertion_frame assertion.now)
-step_of step.Saves = saves_last
-step_of (step.Repeats number) = gives_saved number
+abbrev pub citation_of : Citation → numbered.Citation
+citation_of (citation.Gives hyp) = gives (statement_of (hypothesis_held hyp.now))
+citation_of (citation.Applies assertion) = applies (assertion_frame assertion.now)
 
-abbrev pub steps_in : Vec Step → List NumberedStep
+abbrev pub step_of : Step → steps.Step numbered.Citation
+step_of (step.Cites x) = cites (citation_of x)
+step_of step.Saves = saves
+step_of (step.Repeats number) = repeats number
+
+abbrev pub steps_in : Vec Step → List (steps.Step numbered.Citation)
 steps_in v = map step_of v.items
 
-abbrev pub saving_of : Machine → NumberedSaving
-saving_of m = numbered_saving m.stack m.saved
+abbrev pub saving_of : Machine → Saving (List ℕ)
+saving_of m = saving m.stack m.saved
+
+-- what a step leaves, where it fits
+abbrev pub numbered_step : NumberedPlace → steps.Step numbered.Citation → Saving (List ℕ) → Option (Saving (List ℕ))
+numbered_step p s w = saving_after_step (stack_after_citation p) s w
 
 -- what some steps leave, where each fits
-abbrev pub numbered_saving_behind : NumberedPlace → List NumberedStep → NumberedSaving → Option NumberedSaving
-numbered_saving_behind p [] w = Some w
-numbered_saving_behind p (s ∷ steps) w = option_and_then (numbered_saving_behind p steps) (numbered_saving_after p s w)
+abbrev pub numbered_steps : NumberedPlace → List (steps.Step numbered.Citation) → Saving (List ℕ) → Option (Saving (List ℕ))
+numbered_steps p ss w = saving_after (stack_after_citation p) ss w
 
 -- the entries left are the conclusion alone
-abbrev pub left_fault : List ℕ → Option NumberedSaving → Option ProofFault
+abbrev pub left_fault : List ℕ → Option (Saving (List ℕ)) → Option ProofFault
 left_fault conclusion None = Some fault.Step
 left_fault conclusion (Some w) = if pointwise same_numbers w.stack (conclusion ∷ []) then None else Some fault.Conclusion
 
-abbrev pub steps_fault : NumberedPlace → List NumberedStep → List ℕ → Option ProofFault
-steps_fault p steps conclusion = left_fault conclusion (numbered_saving_behind p steps (numbered_saving [] []))
+abbrev pub steps_fault : NumberedPlace → List (steps.Step numbered.Citation) → List ℕ → Option ProofFault
+steps_fault p ss conclusion = left_fault conclusion (numbered_steps p ss (saving [] []))

@@ -1,7 +1,7 @@
 // Steps that apply assertions.
 ghost use Rattle.std.specs.Prelude.{◌≡◌, ◌-◌, ◌≤◌, length, drop, take, ◌++◌, IfOk, OnOk, OnErr};
-ghost use Rattle.mm_frame.specs.Numbered.{numbered_applied};
-ghost use Rattle.mm_frame.specs.NumberedSteps.{numbers_after_frame};
+ghost use Rattle.mm_database.specs.Stack.{stack_with};
+ghost use Rattle.mm_frame.specs.NumberedSteps.{numbered_applied};
 ghost use Rattle.mm_verify.specs.AssertionView.{assertion_frame};
 ghost use Rattle.mm_verify.specs.Applied.{bindings_in, Answers};
 
@@ -20,7 +20,7 @@ pub(crate) fn apply<P: Place>(
     stack: &mut Stack,
     buffer: &mut Vec<u32>,
 ) -> Result<bool, AllocError>
-    ensures step { IfOk result (Answers (numbers_after_frame (P.place place.now) (assertion_frame assertion.now) (length (assertion_frame assertion.now).hypotheses) stack.old) stack.old stack.new) }
+    ensures step { IfOk result (Answers (stack_with (numbered_applied (P.place place.now) (assertion_frame assertion.now)) (length (assertion_frame assertion.now).hypotheses) stack.old) stack.old stack.new) }
 {
     let count = assertion.count();
     if stack.len() < count {

@@ -25,10 +25,11 @@ pub(crate) struct Assertion<'a> {
 
 impl<'a> Assertion<'a> {
     ghost use Rattle.std.specs.Prelude.{◌≡◌, ◌++◌, length, drop, IfOk, OnOk};
-    ghost use Rattle.mm_frame.specs.Numbered.{numbers_substituted, all_agree, keeps_numbers_apart};
     ghost use Rattle.mm_verify.specs.Applied.{bindings_in, is_met as met};
     ghost use Rattle.mm_frame.specs.FramesHeld.{frame_held};
     ghost use Rattle.mm_verify.specs.AssertionView.{assertion_frame};
+    ghost use Rattle.mm_database.specs.Proofs.{substituted, keeps_apart};
+    ghost use Rattle.mm_frame.specs.NumberedSteps.{all_agree, numbers_apart};
 
     /// The assertion with this frame. It takes time in the frame's size, but for a factor of the
     /// logarithm of the number of its variables.
@@ -73,7 +74,7 @@ impl<'a> Assertion<'a> {
     /// Whether the texts keep apart what `$d` asks for.
     fn is_apart<P: Place>(&self, place: &P, stack: &Stack, base: usize) -> bool
         requires { length (assertion_frame self.now).hypotheses ≡ length (drop base stack.now) }
-        ensures { result ≡ keeps_numbers_apart (P.place place.now) (assertion_frame self.now) (bindings_in (assertion_frame self.now) (drop base stack.now)) }
+        ensures { result ≡ keeps_apart (numbers_apart (P.place place.now)) (assertion_frame self.now) (bindings_in (assertion_frame self.now) (drop base stack.now)) }
     {
         are_groups_apart(place, &self.apart, stack, base)
     }
@@ -86,7 +87,7 @@ impl<'a> Assertion<'a> {
         to: &mut Vec<u32>,
     ) -> Result<(), AllocError>
         requires { length (assertion_frame self.now).hypotheses ≡ length (drop base stack.now) }
-        ensures { OnOk result (to.new.items ≡ to.old.items ++ numbers_substituted (bindings_in (assertion_frame self.now) (drop base stack.now)) (assertion_frame self.now).statement) }
+        ensures { OnOk result (to.new.items ≡ to.old.items ++ substituted (bindings_in (assertion_frame self.now) (drop base stack.now)) (assertion_frame self.now).statement) }
     {
         fill(&self.conclusion, stack, base, to)
     }

@@ -1,8 +1,9 @@
 // Whether entries are what an assertion asks for.
 ghost use Rattle.std.specs.Prelude.{◌≡◌, length, drop, All};
 ghost use Rattle.std.specs.List.{list_all};
-ghost use Rattle.mm_frame.specs.Numbered.{begins_with as begins, numbers_apart, numbered_texts_apart};
 ghost use Rattle.mm_verify.specs.Filling.{IsWithin, AreWithin, HasWithin, GroupWithin, is_wanted as wants, are_wanted as all_wanted, are_parts_apart as parts_apart, is_group_apart as group_apart, are_groups_apart as groups_apart};
+ghost use Rattle.mm_database.specs.Proofs.{texts_apart};
+ghost use Rattle.mm_frame.specs.NumberedSteps.{begins_with as begins, numbers_apart};
 
 use crate::filling::{is_filled, text_of};
 use crate::parts::{Part, Wanted};
@@ -114,7 +115,7 @@ fn are_parts_apart<P: Place>(place: &P, a: &Part, b: &Part, stack: &Stack, base:
 
 /// Whether two texts have no variable in common, and each pair of their variables is kept apart.
 fn are_texts_apart<P: Place>(place: &P, xs: &[u32], ys: &[u32]) -> bool
-    ensures { result ≡ numbered_texts_apart (P.place place.now) xs.now ys.now }
+    ensures { result ≡ texts_apart (numbers_apart (P.place place.now)) xs.now ys.now }
 {
     for x in xs {
         if !is_symbol_apart(place, *x, ys) {

@@ -1,11 +1,11 @@
 // Letters and the numbers that they make.
 ghost use Rattle.std.specs.Prelude.{◌≡◌, ◌≤◌, ◌-◌, ◌*◌, ◌+◌, ◌^◌, map, option_map, MatchOption};
 ghost use Rattle.mm_text.specs.Compressed.{letter_of, value_before};
-ghost use Rattle.mm_verify.specs.Running.{step_of};
+ghost use Rattle.mm_database.specs.ProofText.{meaning as meaning_in};
+ghost use Rattle.mm_verify.specs.Running.{citation_of, step_of};
 ghost use Rattle.mm_verify.specs.Digits.{before_of, letter_is, IsLetter};
-ghost use Rattle.mm_verify.specs.Meaning.{numbered_meaning};
 
-use crate::machine::Step;
+use crate::machine::{Citation, Step};
 
 /// A letter.
 #[derive(Clone, Copy, PartialEq, Eq)]
@@ -53,15 +53,19 @@ pub(crate) fn extended(value: u64, factor: u64, digit: u8) -> Option<u64>
     }
 }
 
-/// The step that a number from 1 on stands for: one of the table, or a saved entry again.
-pub(crate) fn meaning<'a>(table: &[Step<'a>], saved: usize, number: u64) -> Option<Step<'a>>
+/// The step that a number from 1 on stands for: it cites what the table has, or is a saved step again.
+pub(crate) fn meaning<'a>(
+    table: &[Citation<'a>],
+    saved: usize,
+    number: u64,
+) -> Option<Step<'a>>
     requires { 1 ≤ number }
-    ensures { option_map step_of result ≡ numbered_meaning (map step_of table.now) saved (number - 1) }
+    ensures { option_map step_of result ≡ meaning_in (map citation_of table.now) saved (number - 1) }
 {
     let place = number - 1;
     let count = table.len() as u64;
     if place < count {
-        Some(table[place as usize])
+        Some(Step::Cites(table[place as usize]))
     } else if place - count < saved as u64 {
         Some(Step::Repeats((place - count) as usize))
     } else {

@@ -1,7 +1,8 @@
 // Statements of assertions with the texts of a stack's entries in the places of variables.
 ghost use Rattle.std.specs.Prelude.{◌≡◌, ◌+◌, ◌-◌, ◌<◌, ◌≤◌, ◌++◌, ◌∷◌, [], ℕ, List, false, length, drop, OnOk, MatchOption};
-ghost use Rattle.mm_frame.specs.Numbered.{numbers_behind_first, same_numbers};
 ghost use Rattle.mm_verify.specs.Filling.{part_text, filled, IsWithin, AreWithin};
+ghost use Rattle.mm_database.specs.Stack.{behind_first};
+ghost use Rattle.mm_frame.specs.NumberedSteps.{same_numbers};
 
 use crate::parts::Part;
 use crate::stack::Stack;
@@ -22,7 +23,7 @@ pub(crate) fn text_of<'a>(part: &'a Part, stack: &'a Stack, base: usize) -> &'a 
 
 /// What stands behind the first symbol of an entry.
 fn behind_typecode(entry: &[u32]) -> &[u32]
-    ensures { result.now ≡ numbers_behind_first entry.now }
+    ensures { result.now ≡ behind_first entry.now }
 {
     match entry {
         [_typecode, text @ ..] => text,

@@ -4,7 +4,7 @@ ghost use Rattle.mm_frame.specs.Held.{held};
 ghost use Rattle.mm_verify.specs.AssertionView.{assertion_frame};
 
 use crate::assertion::Assertion;
-use crate::machine::Step;
+use crate::machine::Citation;
 use crate::place::Place;
 use mm_frame::{Cited, Scopes};
 
@@ -18,7 +18,7 @@ pub(crate) struct Known<'s, 'a> {
 
 impl<'s, 'a> Known<'s, 'a> {
     ghost use Rattle.std.specs.Prelude.{option_map};
-    ghost use Rattle.mm_verify.specs.Running.{step_of};
+    ghost use Rattle.mm_verify.specs.Running.{citation_of};
     ghost use Rattle.mm_verify.specs.Citing.{cited_at};
 
     /// What is known of these scopes, whose assertions these are.
@@ -29,15 +29,15 @@ impl<'s, 'a> Known<'s, 'a> {
         Known { scopes, assertions }
     }
 
-    /// The step of a label: none exactly where it cites no active hypothesis and no assertion.
-    pub(crate) fn cite(&self, label: &'a [u8]) -> Option<Step<'s>>
-        ensures { option_map step_of result ≡ cited_at (held self.now.scopes.now) label.now }
+    /// What a label cites: none exactly where it is of no active hypothesis and of no assertion.
+    pub(crate) fn cite(&self, label: &'a [u8]) -> Option<Citation<'s>>
+        ensures { option_map citation_of result ≡ cited_at (held self.now.scopes.now) label.now }
     {
         match self.scopes.cited(label)? {
-            Cited::Hypothesis(hyp) => Some(Step::Gives(hyp)),
+            Cited::Hypothesis(hyp) => Some(Citation::Gives(hyp)),
             Cited::Assertion(place) => {
                 let assertion = self.assertions.get(place)?;
-                Some(Step::Applies(assertion))
+                Some(Citation::Applies(assertion))
             }
         }
     }

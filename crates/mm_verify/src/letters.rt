@@ -2,15 +2,14 @@
 ghost use Rattle.std.specs.Prelude.{◌≤◌, length};
 
 use crate::digits::{Behind, Letter, extended, meaning, read_letter, value};
-use crate::machine::Step;
+use crate::machine::{Citation, Step};
 use mm_text::MmToken;
 use std::alloc::{AllocError, Global};
 
-/// The steps that letters stand for, as far as they are read. The table has the steps of the first
-/// numbers.
+/// The steps that letters stand for, as far as they are read. The table has what the first numbers cite.
 #[derive(Drop)]
 pub(crate) struct ReadSteps<'a> {
-    table: Vec<Step<'a>>,
+    table: Vec<Citation<'a>>,
     steps: Vec<Step<'a>>,
     behind: Behind,
     saved: usize,
@@ -27,7 +26,7 @@ impl<'a> ReadSteps<'a> {
     ghost use Rattle.mm_verify.specs.Reading.{meant, letters_of, ReadsOn};
 
     /// Nothing is read.
-    pub(crate) fn new(alloc: Global, table: Vec<Step<'a>>) -> ReadSteps<'a>
+    pub(crate) fn new(alloc: Global, table: Vec<Citation<'a>>) -> ReadSteps<'a>
         ensures table { result.table ≡ table.entry }
         ensures steps { result.steps.items ≡ [] }
         ensures behind { result.behind ≡ Nothing }

@@ -1,10 +1,13 @@
 // Proofs as steps on a stack.
 ghost use Rattle.std.specs.Prelude.{◌≡◌, Some, IfOk, [], map};
-ghost use Rattle.mm_frame.specs.NumberedSteps.{gives, saves_last, gives_saved, numbered_saving, numbered_saving_after};
+ghost use Rattle.mm_database.specs.Frames.{statement_of};
+ghost use Rattle.mm_database.specs.Steps.{cites, saves, repeats};
+ghost use Rattle.mm_database.specs.Stack.{saving};
+ghost use Rattle.mm_frame.specs.NumberedSteps.{gives};
 ghost use Rattle.mm_frame.specs.FramesHeld.{hypothesis_held};
-ghost use Rattle.mm_frame.specs.StandingLaws.{symbols_of};
 ghost use Rattle.mm_verify.specs.Applied.{Answers};
-ghost use Rattle.mm_verify.specs.Running.{step_of, saving_of, left_fault as left_fault_of, steps_fault};
+ghost use Rattle.mm_verify.specs.Running.{step_of, saving_of, numbered_step, left_fault as left_fault_of, steps_fault};
+ghost use Rattle.mm_database.specs.Frames.{statement_of};
 
 use crate::applying::apply;
 use crate::assertion::Assertion;
@@ -13,13 +16,20 @@ use crate::stack::Stack;
 use mm_frame::Hyp;
 use std::alloc::{AllocError, Global};
 
-/// A step of a proof, by what it does to the stack.
+/// What a label cites, by what it does to the stack.
 #[derive(Clone, Copy)]
-pub(crate) enum Step<'a> {
+pub(crate) enum Citation<'a> {
     /// Puts the statement of a hypothesis on top.
     Gives(&'a Hyp<'a>),
     /// Applies an assertion to the last entries.
     Applies(&'a Assertion<'a>),
+}
+
+/// A step of a proof.
+#[derive(Clone, Copy)]
+pub(crate) enum Step<'a> {
+    /// Does what is cited.
+    Cites(Citation<'a>),
     /// Saves the last entry.
     Saves,
     /// Puts the saved entry with this number, from 0, on top.
@@ -46,7 +56,7 @@ pub(crate) enum ProofFault {
 impl Machine {
     /// Nothing on the stack, and nothing saved.
     fn new(alloc: Global) -> Machine
-        ensures { saving_of result ≡ numbered_saving [] [] }
+        ensures { saving_of result ≡ saving [] [] }
     {
         Machine {
             stack: Stack::new(alloc),
@@ -57,11 +67,13 @@ impl Machine {
 
     /// Does a step. Answers whether it fits; where not, nothing changes.
     fn take<P: Place>(&mut self, place: &P, step: Step<'_>) -> Result<bool, AllocError>
-        ensures { IfOk result (Answers (numbered_saving_after (P.place place.now) (step_of step.entry) (saving_of self.old)) (saving_of self.old) (saving_of self.new)) }
+        ensures { IfOk result (Answers (numbered_step (P.place place.now) (step_of step.entry) (saving_of self.old)) (saving_of self.old) (saving_of self.new)) }
     {
         match step {
-            Step::Gives(hyp) => self.give(place, hyp),
-            Step::Applies(assertion) => apply(place, assertion, &mut self.stack, &mut self.buffer),
+            Step::Cites(Citation::Gives(hyp)) => self.give(place, hyp),
+            Step::Cites(Citation::Applies(assertion)) => {
+                apply(place, assertion, &mut self.stack, &mut self.buffer)
+            }
             Step::Saves => self.save(place),
             Step::Repeats(number) => self.repeat(place, number),
         }
@@ -69,7 +81,7 @@ impl Machine {
 
     /// Puts the statement of a hypothesis on top.
     fn give<P: Place>(&mut self, place: &P, hyp: &Hyp<'_>) -> Result<bool, AllocError>
-        ensures { IfOk result (Answers (numbered_saving_after (P.place place.now) (gives (symbols_of (hypothesis_held hyp.now))) (saving_of self.old)) (saving_of self.old) (saving_of self.new)) }
+        ensures { IfOk result (Answers (numbered_step (P.place place.now) (cites (gives (statement_of (hypothesis_held hyp.now)))) (saving_of self.old)) (saving_of self.old) (saving_of self.new)) }
     {
         match hyp {
             Hyp::Floating(_label, typecode, variable) => self.stack.push(&[*typecode, *variable])?,
@@ -80,7 +92,7 @@ impl Machine {
 
     /// Saves the last entry, where there is one.
     fn save<P: Place>(&mut self, place: &P) -> Result<bool, AllocError>
-        ensures { IfOk result (Answers (numbered_saving_after (P.place place.now) saves_last (saving_of self.old)) (saving_of self.old) (saving_of self.new)) }
+        ensures { IfOk result (Answers (numbered_step (P.place place.now) saves (saving_of self.old)) (saving_of self.old) (saving_of self.new)) }
     {
         let count = self.stack.len();
         if count == 0 {
@@ -92,7 +104,7 @@ impl Machine {
 
     /// Puts a saved entry on top, where there is one of this number.
     fn repeat<P: Place>(&mut self, place: &P, number: usize) -> Result<bool, AllocError>
-        ensures { IfOk result (Answers (numbered_saving_after (P.place place.now) (gives_saved number) (saving_of self.old)) (saving_of self.old) (saving_of self.new)) }
+        ensures { IfOk result (Answers (numbered_step (P.place place.now) (repeats number) (saving_of self.old)) (saving_of self.old) (saving_of self.new)) }
     {
         if number >= self.saved.len() {
             return Ok(false);

@@ -3,7 +3,7 @@ ghost use Rattle.std.specs.Prelude.{◌≡◌};
 
 /// The place of a proof in a database.
 pub(crate) trait Place {
-    ghost use Rattle.mm_frame.specs.Numbered.{NumberedPlace};
+    ghost use Rattle.mm_frame.specs.NumberedSteps.{NumberedPlace};
 
     // Which symbols are variables, and which pairs of them an active `$d` keeps apart.
     ghost place: { Self → NumberedPlace };

@@ -6,7 +6,7 @@ ghost use Rattle.mm_frame.specs.Held.{held};
 ghost use Rattle.mm_frame.specs.FramesHeld.{frame_held};
 ghost use Rattle.mm_frame.specs.StandingLaws.{place_of};
 ghost use Rattle.mm_verify.specs.AssertionView.{assertion_frame};
-ghost use Rattle.mm_verify.specs.ProofSteps.{proof_steps};
+ghost use Rattle.mm_verify.specs.ProofSteps.{steps_named};
 ghost use Rattle.mm_verify.specs.Judging.{kind_of, proof_kind};
 
 use crate::assertion::Assertion;
@@ -33,7 +33,7 @@ pub(crate) fn proof_fault<'a>(
     theorem: &Theorem<'a, '_>,
 ) -> Result<Option<u8>, AllocError>
     requires same { map assertion_frame assertions.now ≡ (held scopes.now).frames }
-    ensures { IfOk result (λ k. k ≡ proof_kind (place_of (held scopes.now)) (frame_held theorem.now.frame).statement (proof_steps (held scopes.now) (frame_held theorem.now.frame).hypotheses (words_of bytes.now theorem.now.proof.now))) }
+    ensures { IfOk result (λ k. k ≡ proof_kind (place_of (held scopes.now)) (frame_held theorem.now.frame).statement (steps_named (held scopes.now) (frame_held theorem.now.frame).hypotheses (words_of bytes.now theorem.now.proof.now))) }
 {
     let known = Known::new(scopes, assertions);
     match read_proof(alloc, &known, bytes, &theorem.frame.hyps, theorem.proof)? {

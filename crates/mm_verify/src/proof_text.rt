@@ -6,19 +6,18 @@ ghost use Rattle.std.specs.Cmp.Lexicographic.{slice_cmp};
 ghost use Rattle.std.specs.Ordering.{nat_cmp};
 ghost use Rattle.mm_text.specs.Bytes.{Token, has_token};
 ghost use Rattle.mm_text.specs.Reader.{words_of};
-ghost use Rattle.mm_text.specs.Compressed.{steps_of};
-ghost use Rattle.mm_database.specs.Expansion.{before_close, behind_close};
 ghost use Rattle.mm_frame.specs.FramesHeld.{hypotheses_held};
 ghost use Rattle.mm_frame.specs.Held.{held};
-ghost use Rattle.mm_verify.specs.Running.{step_of, steps_in};
-ghost use Rattle.mm_verify.specs.Meaning.{numbered_meanings};
-ghost use Rattle.mm_verify.specs.Reading.{letters_of, behind_steps};
+ghost use Rattle.mm_database.specs.ProofText.{lettered_steps};
+ghost use Rattle.mm_verify.specs.Running.{citation_of, step_of, steps_in};
+ghost use Rattle.mm_verify.specs.Reading.{letters_of, behind_items};
 ghost use Rattle.mm_verify.specs.Citing.{all_cited};
-ghost use Rattle.mm_verify.specs.ProofSteps.{given_steps, clashes, listed_steps, compressed_proof, proof_steps, labels_in};
+ghost use Rattle.mm_verify.specs.ProofSteps.{given_by, clashes, listed_citations, compressed_proof, citing as citing_all, steps_named, labels_in};
+ghost use Rattle.mm_database.specs.ProofText.{before_close, behind_close};
 
 use crate::known::Known;
 use crate::letters::ReadSteps;
-use crate::machine::Step;
+use crate::machine::{Citation, Step};
 use crate::scattered::are_scattered;
 use mm_frame::Hyp;
 use mm_text::MmToken;
@@ -35,7 +34,7 @@ pub(crate) fn read_proof<'s, 'a>(
     hyps: &'s [Hyp<'a>],
     proof: &[MmToken],
 ) -> Result<Option<Vec<Step<'s>>>, AllocError>
-    ensures { IfOk result (λ r. option_map steps_in r ≡ proof_steps (held known.now.scopes.now) (hypotheses_held hyps.now) (words_of bytes.now proof.now)) }
+    ensures { IfOk result (λ r. option_map steps_in r ≡ steps_named (held known.now.scopes.now) (hypotheses_held hyps.now) (words_of bytes.now proof.now)) }
 {
     match proof {
         [] => Ok(None),
@@ -56,29 +55,40 @@ fn read_normal<'s, 'a>(
     bytes: &'a [u8],
     proof: &[MmToken],
 ) -> Result<Option<Vec<Step<'s>>>, AllocError>
-    ensures { IfOk result (λ r. option_map steps_in r ≡ all_cited (held known.now.scopes.now) (words_of bytes.now proof.now)) }
+    ensures { IfOk result (λ r. option_map steps_in r ≡ option_map citing_all (all_cited (held known.now.scopes.now) (words_of bytes.now proof.now))) }
 {
-    let mut steps = Vec::new(alloc);
-    if cite_all(known, bytes, proof, &mut steps)? {
-        Ok(Some(steps))
+    let mut citations = Vec::new(alloc);
+    if cite_all(known, bytes, proof, &mut citations)? {
+        Ok(Some(citing(alloc, &citations)?))
     } else {
         Ok(None)
     }
 }
 
-/// Appends the steps of labels, where each cites something.
+/// The steps that only cite.
+fn citing<'s>(alloc: Global, citations: &[Citation<'s>]) -> Result<Vec<Step<'s>>, AllocError>
+    ensures { IfOk result (λ v. map step_of v.items ≡ citing_all (map citation_of citations.now)) }
+{
+    let mut steps = Vec::with_capacity(alloc, citations.len())?;
+    for citation in citations {
+        steps.push(Step::Cites(*citation))?;
+    }
+    Ok(steps)
+}
+
+/// Appends what labels cite, where each cites something.
 fn cite_all<'s, 'a>(
     known: &Known<'s, 'a>,
     bytes: &'a [u8],
     labels: &[MmToken],
-    steps: &mut Vec<Step<'s>>,
+    citations: &mut Vec<Citation<'s>>,
 ) -> Result<bool, AllocError>
-    ensures { IfOk result (λ all. behind_steps (map step_of steps.old.items) (all_cited (held known.now.scopes.now) (words_of bytes.now labels.now)) ≡ (if all then Some (map step_of steps.new.items) else None)) }
+    ensures { IfOk result (λ all. behind_items (map citation_of citations.old.items) (all_cited (held known.now.scopes.now) (words_of bytes.now labels.now)) ≡ (if all then Some (map citation_of citations.new.items) else None)) }
 {
     for label in labels {
         match known.cite(label.word(bytes)) {
             None => return Ok(false),
-            Some(step) => steps.push(step)?,
+            Some(citation) => citations.push(citation)?,
         }
     }
     Ok(true)
@@ -122,18 +132,18 @@ fn split_at_close<'t>(bytes: &[u8], tokens: &'t [MmToken]) -> Option<(&'t [MmTok
     None
 }
 
-/// The steps of mandatory hypotheses.
-fn given<'s, 'a>(alloc: Global, hyps: &'s [Hyp<'a>]) -> Result<Vec<Step<'s>>, AllocError>
-    ensures { IfOk result (λ v. map step_of v.items ≡ given_steps (hypotheses_held hyps.now)) }
+/// What the labels of mandatory hypotheses cite.
+fn given<'s, 'a>(alloc: Global, hyps: &'s [Hyp<'a>]) -> Result<Vec<Citation<'s>>, AllocError>
+    ensures { IfOk result (λ v. map citation_of v.items ≡ given_by (hypotheses_held hyps.now)) }
 {
-    let mut steps = Vec::with_capacity(alloc, hyps.len())?;
+    let mut citations = Vec::with_capacity(alloc, hyps.len())?;
     for hyp in hyps {
-        steps.push(Step::Gives(hyp))?;
+        citations.push(Citation::Gives(hyp))?;
     }
-    Ok(steps)
+    Ok(citations)
 }
 
-/// Appends the steps of the labels that a compressed proof lists, where each cites something, and none
+/// Appends what the labels cite that a compressed proof lists, where each cites something, and none
 /// stands twice or is that of a mandatory hypothesis.
 fn read_listed<'s, 'a>(
     alloc: Global,
@@ -141,9 +151,9 @@ fn read_listed<'s, 'a>(
     bytes: &'a [u8],
     hyps: &'s [Hyp<'a>],
     listed: &[MmToken],
-    table: &mut Vec<Step<'s>>,
+    table: &mut Vec<Citation<'s>>,
 ) -> Result<bool, AllocError>
-    ensures { IfOk result (λ all. behind_steps (map step_of table.old.items) (listed_steps (held known.now.scopes.now) (hypotheses_held hyps.now) (words_of bytes.now listed.now)) ≡ (if all then Some (map step_of table.new.items) else None)) }
+    ensures { IfOk result (λ all. behind_items (map citation_of table.old.items) (listed_citations (held known.now.scopes.now) (hypotheses_held hyps.now) (words_of bytes.now listed.now)) ≡ (if all then Some (map citation_of table.new.items) else None)) }
 {
     if has_clash(alloc, bytes, hyps, listed)? {
         return Ok(false);
@@ -186,15 +196,15 @@ fn own_labels<'a>(alloc: Global, hyps: &[Hyp<'a>]) -> Result<BTreeMap<&'a [u8], 
 }
 
 /// The steps that the letters of some tokens stand for: none exactly where they stand for none. The
-/// table has the steps of the first numbers; the next numbers are those of the saved entries, in order.
+/// table has what the first numbers cite; the next numbers are those of the saved steps, in order.
 /// It takes time in the number of letters.
 pub(crate) fn read_letters<'a>(
     alloc: Global,
-    table: Vec<Step<'a>>,
+    table: Vec<Citation<'a>>,
     bytes: &[u8],
     tokens: &[MmToken],
 ) -> Result<Option<Vec<Step<'a>>>, AllocError>
-    ensures { IfOk result (λ r. option_map steps_in r ≡ option_and_then (numbered_meanings (map step_of table.entry.items) 0) (steps_of (letters_of bytes.now tokens.now))) }
+    ensures { IfOk result (λ r. option_map steps_in r ≡ lettered_steps (map citation_of table.entry.items) (letters_of bytes.now tokens.now)) }
 {
     let mut read = ReadSteps::new(alloc, table);
     if read.take_words(bytes, tokens)? {

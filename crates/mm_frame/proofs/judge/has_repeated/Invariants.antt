@@ -2,9 +2,8 @@ use Rattle.std.proofs.Common.{◌≡◌, ◌≤◌, length, drop, false, is_some
 use Rattle.std.specs.BTreeMap.{get_by}
 use Rattle.std.specs.Cmp.Lexicographic.{slice_cmp}
 use Rattle.std.specs.Ordering.{nat_cmp}
-use Rattle.mm_text.specs.Bytes.{Token, has_token}
+use Rattle.mm_text.specs.Bytes.{Token, has_token, has_repeated}
 use Rattle.mm_text.specs.Reader.{words_of}
-use Rattle.mm_database.specs.Expansion.{has_repeated}
 use Rattle.mm_frame.proofs.judge.has_repeated.Given as goal
 
 abbrev pub invariant-loop-at : goal.invariant-loop-at

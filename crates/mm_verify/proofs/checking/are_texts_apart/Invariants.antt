@@ -1,6 +1,6 @@
 use Rattle.std.specs.Prelude.{◌≡◌, true, take}
 use Rattle.std.specs.List.{list_all}
-use Rattle.mm_frame.specs.Numbered.{numbers_apart}
+use Rattle.mm_frame.specs.NumberedSteps.{numbers_apart}
 use Rattle.mm_verify.proofs.checking.are_texts_apart.Given as goal
 
 abbrev pub invariant-loop-x : goal.invariant-loop-x

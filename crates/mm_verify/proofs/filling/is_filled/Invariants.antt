@@ -1,6 +1,6 @@
 use Rattle.std.specs.Prelude.{◌≡◌, drop}
-use Rattle.mm_frame.specs.Numbered.{same_numbers}
 use Rattle.mm_verify.specs.Filling.{filled}
+use Rattle.mm_frame.specs.NumberedSteps.{same_numbers}
 use Rattle.mm_verify.proofs.filling.is_filled.Given as goal
 
 abbrev pub invariant-loop-part : goal.invariant-loop-part

@@ -1,7 +1,7 @@
 use Rattle.std.specs.Prelude.{◌≡◌, ◌≤◌, ◌-◌, ◌++◌, length, take, drop, codes}
 use Rattle.mm_text.specs.Bytes.{has_token}
 use Rattle.mm_text.specs.Reader.{words_of}
-use Rattle.mm_database.specs.Expansion.{before_close, behind_close}
+use Rattle.mm_database.specs.ProofText.{before_close, behind_close}
 use Rattle.mm_verify.proofs.proof_text.split_at_close.Given as goal
 
 abbrev pub invariant-loop-at : goal.invariant-loop-at
