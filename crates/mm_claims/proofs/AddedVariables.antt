@@ -1,9 +1,7 @@
 -- Variables behind others, each once, as a list gets them one by one.
-use Rattle.std.proofs.Common.{◌≡◌, ◌+◌, ◌<◌, Bool, true, false, List, [], ◌∷◌, ◌++◌, refl, ap, ◌∙◌, sym, subst, arith, append_assoc, append-nil}
-use Rattle.std.specs.Prelude.{◌||◌, flat_map}
+use Rattle.std.proofs.Common.{◌≡◌, Bool, true, false, List, [], ◌∷◌, ◌++◌, refl, ap, ◌∙◌, sym, subst, append_assoc, append-nil}
+use Rattle.std.specs.Prelude.{◌||◌}
 use Rattle.std.proofs.lemmas.Bool.{false≢true}
-use Rattle.std.proofs.lemmas.Grind.{flat_map-append}
-use Rattle.std.specs.Borrow.{Bor}
 use Rattle.mm_claims.specs.Variables.{Variable, same_variable, has_variable, are_once}
 use Rattle.mm_claims.specs.OpenVariables.{other_variables}
 use Rattle.mm_claims.specs.ClaimVariables.{added}

@@ -1,7 +1,7 @@
 -- Which patterns are a claim, and which variables its block needs.
-use Rattle.std.specs.Prelude.{◌<◌, ◌^◌, List, [], ◌∷◌, ◌++◌, length, flat_map, ℕ, if◌then◌else◌}
+use Rattle.std.specs.Prelude.{◌<◌, ◌^◌, List, ◌∷◌, length, ℕ}
 use Rattle.mm_text.specs.Bytes.{Token}
-use Rattle.ml_pat.specs.Patterns.{Pattern, and}
+use Rattle.ml_pat.specs.Patterns.{Pattern}
 use Rattle.ml_kernel.specs.Theorems.{Derivation}
 use Rattle.ml_kernel.specs.Concluding.{Concludes}
 use Rattle.ml_kernel.specs.UsedLeaves.{EachUsed}

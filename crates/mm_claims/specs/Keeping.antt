@@ -1,5 +1,5 @@
 -- Which texts fit what a renderer keeps.
-use Rattle.std.specs.Prelude.{◌≡◌, ℕ, ◌<◌, ◌≤◌, ◌^◌, Bool, true, false, IsTrue, List, [], ◌∷◌, ◌++◌, length, take, drop, slice_index_or}
+use Rattle.std.specs.Prelude.{◌≡◌, ℕ, Bool, true, false, IsTrue, List, [], ◌∷◌, ◌++◌, length, take, slice_index_or}
 use Rattle.mm_text.specs.Bytes.{Token}
 use Rattle.mm_database.specs.Assertions.{Assertion}
 use Rattle.ml_pat.specs.Patterns.{Pattern, bot}

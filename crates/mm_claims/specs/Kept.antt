@@ -1,6 +1,5 @@
 -- What a renderer keeps of what it wrote.
-use Rattle.std.specs.Prelude.{◌≡◌, refl, ℕ, Bool, true, false, List, []}
-use Rattle.std.specs.Coded.{Coded, code_by, coded×, coded_bool, coded_ℕ, coded_list}
+use Rattle.std.specs.Prelude.{ℕ, Bool, true, false, List, []}
 use Rattle.mm_claims.specs.Blocks.{Claim}
 
 -- whether the header was written, how many names were declared: those with the first numbers, and which claims were stated

@@ -1,5 +1,5 @@
 -- What follows of statements behind a text that fits.
-use Rattle.std.specs.Prelude.{◌≡◌, ℕ, ◌<◌, ◌≤◌, ◌^◌, true, false, List, [], ◌∷◌, ◌++◌, map, length, slice_get, Some, None}
+use Rattle.std.specs.Prelude.{ℕ, ◌<◌, ◌^◌, true, false, List, [], ◌∷◌, ◌++◌, length}
 use Rattle.mm_text.specs.Bytes.{Token}
 use Rattle.mm_database.specs.Validity.{IsValid}
 use Rattle.mm_database.specs.FrameLaws.{written_statements}
