@@ -1,5 +1,5 @@
 -- What rules and their combinations rest on.
-use Rattle.std.proofs.Common.{ℕ, List, [], ◌∷◌, inl, inr, subst, arith}
+use Rattle.std.proofs.Common.{List, [], ◌∷◌, inl, inr, subst, arith}
 use Rattle.std.specs.Prelude.{Contains, IfOk, Result, Ok, Err}
 use Rattle.std.proofs.lemmas.List.Elements.{Contains-append_left, Contains-append_right, Contains-append_cases}
 use Rattle.ml_pat.specs.Patterns.{Pattern}
