@@ -2,7 +2,7 @@
 -- of the first one.
 use Rattle.std.specs.Prelude.{◌≡◌, ℕ, List, [], ◌∷◌, ◌++◌, Some, None, codes}
 use Rattle.mm_text.specs.FaultKinds.{fault}
-use Rattle.mm_database.specs.Validity.{first_fault}
+use Rattle.mm_database.specs.ComputedFault.{first_fault}
 
 -- one constant and two variables, of 44 bytes, and an axiom behind them, of 15
 abbrev pub declared : List ℕ

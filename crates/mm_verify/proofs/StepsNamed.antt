@@ -15,11 +15,11 @@ use Rattle.mm_database.specs.ProofText.{meaning, meaning_of, saved_after, meanin
 use Rattle.mm_database.specs.Stack.{same_expression, same_expressions, stack_after_label, Saving, saving, saving_after_step, saving_after}
 use Rattle.mm_frame.specs.Numbered.{IsNaming, named}
 use Rattle.mm_frame.specs.NumberedSteps.{NumberedPlace, IsNamedPlace, same_numbers, Citation, gives, applies, stack_after_citation, IsNamedCitation, CitationIsNamed}
-use Rattle.mm_database.specs.Validity.{stack_fault}
 use Rattle.mm_verify.specs.declared.machine.ProofFault.TheVariants as fault
 use Rattle.mm_verify.specs.Running.{numbered_step, numbered_steps, left_fault}
 use Rattle.mm_verify.specs.Judging.{kind_of}
 use Rattle.mm_verify.specs.ProofSteps.{clashes, citing}
+use Rattle.mm_database.specs.ComputedFault.{stack_fault}
 
 -- labels and what they cite, one by one
 abbrev pub AreCited : (ℕ → Token) → Context → List Token → List Citation → Type 0
