@@ -4,5 +4,7 @@ pub mod FirstFile
 pub mod MemDesk
 pub mod MemSink
 pub mod Memory
+pub mod MemoryChanges
+pub mod ReadingOn
 pub mod Sent
 pub mod Told

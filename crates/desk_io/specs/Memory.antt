@@ -1,6 +1,5 @@
 -- Files in memory: how far one of them is read, and which is created. The created file is the first.
-use Rattle.std.specs.Prelude.{ℕ, ◌+◌, ◌-◌, Bool, true, false, if◌then◌else◌, List, [], ◌∷◌, ◌++◌, take, drop, map, nat_eq, slice_index_or, Option, Some, None, String, string_bytes}
-use Rattle.std.specs.Cmp.Lexicographic.{pointwise}
+use Rattle.std.specs.Prelude.{ℕ, ◌-◌, Bool, true, false, List, [], ◌∷◌, take, drop, map, slice_index_or, Option, Some, None, String, string_bytes}
 use Rattle.std.specs.Global.{Vec, Global}
 use Rattle.desk_io.specs.declared.mem_desk.Place.{Place}
 
@@ -18,11 +17,6 @@ abbrev pub passed_of : Option Place → ℕ
 passed_of None = 0
 passed_of (Some place) = place.passed
 
--- how many files there are at least, where this place is among them
-abbrev pub files_needed : Option Place → ℕ
-files_needed None = 0
-files_needed (Some place) = place.file + 1
-
 -- how many bytes the opened file had when it was opened, for a write may add to it
 abbrev pub end_of : Option Place → ℕ
 end_of None = 0
@@ -37,13 +31,3 @@ abbrev pub created_name : Bool → List (List ℕ × List ℕ) → Option (List 
 created_name false files = None
 created_name true [] = None
 created_name true (file ∷ files) = Some file.0
-
--- the files without the first one of that name
-abbrev pub without : List (List ℕ × List ℕ) → List ℕ → List (List ℕ × List ℕ)
-without [] name = []
-without (file ∷ files) name = if pointwise nat_eq file.0 name then files else file ∷ without files name
-
--- the files, where the first one has these bytes more
-abbrev pub grown : List (List ℕ × List ℕ) → List ℕ → List (List ℕ × List ℕ)
-grown [] bytes = []
-grown (file ∷ files) bytes = (file.0, file.1 ++ bytes) ∷ files

@@ -1,6 +1,6 @@
 -- What a desk tells of itself, and what its calls do to that. A clause on a desk that tells nothing
 -- says nothing.
-use Rattle.std.specs.Prelude.{◌≡◌, ◌≢◌, ℕ, ◌<◌, ◌≤◌, Bool, true, false, if◌then◌else◌, List, [], ◌∷◌, ◌++◌, length, drop, Option, Some, None, Result, Ok, Err, nat_eq}
+use Rattle.std.specs.Prelude.{◌≡◌, ◌≢◌, ℕ, ◌<◌, Bool, true, false, if◌then◌else◌, List, [], ◌∷◌, ◌++◌, length, drop, Option, Some, None, Result, Ok, Err, nat_eq}
 use Rattle.std.specs.Cmp.Lexicographic.{pointwise}
 use Rattle.desk_io.specs.declared.desk.DeskFault.{DeskFault}
 
@@ -69,20 +69,6 @@ HoldsMore (Some told) name limit = (content : List ℕ) × (file_of told.files n
 abbrev pub Leaves : Option Told → Option Told → List ℕ → ℕ → Type 0
 Leaves None new name n = Unit {0}
 Leaves (Some old) new name n = (content : List ℕ) × (file_of old.files name ≡ Some content) × (new ≡ Some (record old { unread = drop n content }))
-
--- these bytes were all that was unread, and nothing is now
-abbrev pub Drains : Option Told → Option Told → List ℕ → Type 0
-Drains None new bytes = Unit {0}
-Drains (Some old) new bytes = (old.unread ≡ bytes) × (new ≡ Some (record old { unread = [] }))
-
--- the first n unread bytes are unread no longer
-abbrev pub PassedMany : Option Told → Option Told → ℕ → Type 0
-PassedMany None new n = Unit {0}
-PassedMany (Some old) new n = (n ≤ length old.unread) × (new ≡ Some (record old { unread = drop n old.unread }))
-
--- a list grew by bytes that were the first unread ones, and are unread no longer
-abbrev pub PassedTo : Option Told → Option Told → List ℕ → List ℕ → Type 0
-PassedTo told told' list list' = (bytes : List ℕ) × (list' ≡ list ++ bytes) × Passed told told' bytes
 
 -- it tells a created file, by the name of a file that is there, exactly where one is created
 abbrev pub TellsCreated : Bool → Option Told → Type 0

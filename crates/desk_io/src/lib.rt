@@ -7,8 +7,9 @@
 //! answered only where a count of that desk's or that sink's own faults rose: a desk has one for
 //! reading and one for writing.
 //!
-//! A desk and a sink in memory tell all, and fail as they are asked to. The real ones are the
-//! trusted edge: they tell nothing, and count their faults.
+//! A desk and a sink in memory tell all, and fail as they are asked to. The real ones are the edge to
+//! the system, and count their faults. A real sink tells what its writer tells. A real desk tells no
+//! files; each of its reads and writes tells what std says of the open file.
 #![tactic(auto)]
 
 mod desk;
@@ -19,6 +20,7 @@ mod read;
 mod real_desk;
 mod real_sink;
 mod sink;
+mod system;
 mod write;
 
 pub use desk::{Desk, DeskFault};

@@ -3,7 +3,8 @@ ghost use Rattle.std.specs.Prelude.{◌≡◌, ◌∷◌, ◌<◌, ◌≤◌, []
 ghost use Rattle.std.specs.List.{position};
 ghost use Rattle.std.specs.Cmp.Lexicographic.{pointwise};
 ghost use Rattle.desk_io.specs.Told.{file_of, NamesDiffer};
-ghost use Rattle.desk_io.specs.Memory.{named_bytes, content_of, passed_of, end_of, files_needed, without, grown};
+ghost use Rattle.desk_io.specs.Memory.{named_bytes, content_of, passed_of, end_of};
+ghost use Rattle.desk_io.specs.MemoryChanges.{files_needed, without, grown};
 ghost use Rattle.desk_io.specs.FirstFile.{tells_first};
 
 use crate::desk::{Desk, DeskFault};

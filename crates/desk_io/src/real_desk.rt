@@ -1,13 +1,17 @@
-// The desk of the system: the trusted edge for files.
-ghost use Rattle.std.specs.Prelude.{◌≡◌, None, is_some, IsFalse};
+// The desk of the system: the edge for files.
+ghost use Rattle.std.specs.Prelude.{◌≡◌, ◌<◌, ◌≤◌, None, length, is_some, option_and_then, IsFalse, IsTrue, IfOk, IsErrOf};
+ghost use Rattle.std.specs.Io.KnownBytes.{ReadConsumes, WriteAppends};
+ghost use Rattle.desk_io.specs.Counts.{Rose};
 
 use crate::desk::{Desk, DeskFault};
-use crate::faults::{counted, raised};
+use crate::faults::counted;
+use crate::system::{read_some, write_some};
 use std::fs;
-use std::io::{self, ErrorKind, Read, Write};
+use std::io::{self, ErrorKind};
 use std::rt::Files;
 
-/// The files of the system, under the runtime `R`. It tells nothing. A call that the system
+/// The files of the system, under the runtime `R`. It tells no files. A read passes all that the open
+/// file gave, and a write appends to the created file all that it says (clauses `bytes`). A call that the system
 /// interrupts is a fault as any other: the program handles no signals. A write that takes nothing of
 /// some bytes is a fault. Each write is handed to the system at once, and closing adds no call that
 /// could fail.
@@ -60,13 +64,19 @@ impl<R: Files> Desk for RealDesk<R> {
         }
     }
 
-    fn read(&mut self, buf: &mut [u8]) -> Result<usize, DeskFault> {
-        let Some(file) = &mut self.reading else {
-            return Ok(0);
-        };
-        match file.read(buf) {
-            Ok(n) => Ok(n),
-            Err(error) => Err(counted(&error, &mut self.read_faults)),
+    fn read(&mut self, buf: &mut [u8]) -> Result<usize, DeskFault>
+        ensures within { IfOk result (λ n. n ≤ length buf.new) }
+        ensures bytes { ReadConsumes
+            (option_and_then R.File.remaining self.old.reading)
+            (option_and_then R.File.remaining self.new.reading) result buf.new }
+        ensures failed { IsErrOf result DeskFault.Failed → Rose self.old.read_faults self.new.read_faults }
+        ensures counts { self.old.read_faults ≤ self.new.read_faults }
+        ensures writes { self.new.write_faults ≡ self.old.write_faults }
+        ensures created { self.new.created ≡ self.old.created }
+    {
+        match &mut self.reading {
+            Some(file) => read_some(file, buf, &mut self.read_faults),
+            None => Ok(0),
         }
     }
 
@@ -81,18 +91,22 @@ impl<R: Files> Desk for RealDesk<R> {
         }
     }
 
-    fn write(&mut self, piece: &[u8]) -> Result<usize, DeskFault> {
+    fn write(&mut self, piece: &[u8]) -> Result<usize, DeskFault>
+        requires { IsTrue (is_some self.old.created) }
+        ensures within { IfOk result (λ n. n ≤ length piece.now) }
+        ensures some { IfOk result (λ n. 0 < length piece.now → 0 < n) }
+        ensures bytes { WriteAppends
+            (option_and_then R.File.contents self.old.created)
+            (option_and_then R.File.contents self.new.created) result piece.now }
+        ensures created { IsTrue (is_some self.new.created) }
+        ensures failed { IsErrOf result DeskFault.Failed → Rose self.old.write_faults self.new.write_faults }
+        ensures counts { self.old.write_faults ≤ self.new.write_faults }
+        ensures reads { self.new.read_faults ≡ self.old.read_faults }
+    {
         let Some(file) = &mut self.created else {
             unreachable!()
         };
-        match file.write(piece) {
-            Ok(0) if !piece.is_empty() => {
-                self.write_faults = raised(self.write_faults);
-                Err(DeskFault::Failed)
-            }
-            Ok(n) => Ok(n),
-            Err(error) => Err(counted(&error, &mut self.write_faults)),
-        }
+        write_some(file, piece, &mut self.write_faults)
     }
 
     fn close_file(&mut self) -> Result<(), DeskFault> {

@@ -1,13 +1,14 @@
-// A sink over a writer of the system: the trusted edge for text.
-ghost use Rattle.std.specs.Prelude.{◌≡◌, None};
+// A sink over a writer of the system: the edge for text.
+ghost use Rattle.std.specs.Prelude.{◌≡◌};
 
 use crate::desk::DeskFault;
-use crate::faults::{counted, raised};
 use crate::sink::Sink;
+use crate::system::write_some;
 use std::io::Write;
 
 /// A writer that passes its bytes on at once, as standard output and the error stream do. It tells
-/// nothing. A write that takes nothing of some bytes is a fault.
+/// what the writer tells of its contents: of the system's streams that is nothing. A write that takes
+/// nothing of some bytes is a fault.
 #[derive(Drop)]
 pub struct RealSink<W: Write> {
     writer: W,
@@ -24,18 +25,11 @@ impl<W: Write> RealSink<W> {
 }
 
 impl<W: Write> Sink for RealSink<W> {
-    ghost bytes = { λ _. None };
+    ghost bytes = { λ sink. W.contents sink.writer };
 
     ghost faults = { λ sink. sink.faults };
 
     fn write(&mut self, piece: &[u8]) -> Result<usize, DeskFault> {
-        match self.writer.write(piece) {
-            Ok(0) if !piece.is_empty() => {
-                self.faults = raised(self.faults);
-                Err(DeskFault::Failed)
-            }
-            Ok(n) => Ok(n),
-            Err(error) => Err(counted(&error, &mut self.faults)),
-        }
+        write_some(&mut self.writer, piece, &mut self.faults)
     }
 }

@@ -2,7 +2,7 @@
 use Rattle.std.specs.Prelude.{ℕ, Bool, true, false, ◌||◌, Option, Some, None, List, []}
 use Rattle.kore_text.specs.declared.names.Built.{Built}
 use Rattle.kore_text.specs.TokenStream.{Token, identifier, set_identifier, builtin, string_token, Stream, end, fault, token}
-use Rattle.kore_text.specs.Table.{is_mark}
+use Rattle.kore_text.specs.Apart.{is_mark}
 use Rattle.kore_ast.specs.declared.reader.Keyword.{Keyword}
 use Rattle.kore_ast.specs.declared.reader.Keyword.TheVariants as keyword
 use Rattle.kore_ast.specs.Keywords.{keyword_at}

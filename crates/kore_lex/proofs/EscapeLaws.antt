@@ -8,7 +8,8 @@ use Rattle.std.specs.Option.{SomeIff}
 use Rattle.std.specs.Char.{IsScalar}
 use lib.Utf8.{scalar}
 use Rattle.kore_lex.specs.declared.escape.Escape.{Escape}
-use Rattle.kore_lex.specs.Escapes.{hex_digit, bind, hex_number, escape, further, on_escape, bad_at, unit_len}
+use Rattle.kore_lex.specs.Escapes.{hex_digit, bind, hex_number, escape, further, on_escape, bad_at}
+use Rattle.kore_lex.specs.Steps.{unit_len}
 use Rattle.kore_lex.proofs.Runs.{further-none, further-sum, drop-past, drop-here}
 
 -- a number digit by digit

@@ -7,3 +7,4 @@ pub mod Longest
 pub mod WholePieces
 pub mod AllTokens
 pub mod EachToken
+pub mod Covering

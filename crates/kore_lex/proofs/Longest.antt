@@ -32,7 +32,7 @@ word-long (suc i) [] l h = absurd (omega arith)
 word-long (suc i) (c ∷ cs) l h =
     subst (λ ws. suc i ≤ length ws) (sym (take_while-cons is_word c cs)) (word-if c i cs (is_word c) h.0 (word-long i cs (omega arith) h.1))
 
-letter-space : (c : ℕ) → is_letter c ≡ true → is_space c ≡ false
+pub letter-space : (c : ℕ) → is_letter c ≡ true → is_space c ≡ false
 letter-space c h = grind (arith, nat_tests)
 
 ident-long : (c i n : ℕ) (cs : List ℕ) (k : TokenKind) → piece (c ∷ cs) ≡ Whole k n → i ≤ length cs → IsName (c ∷ take i cs) → suc i ≤ n
@@ -68,7 +68,7 @@ quote-on-if c i cs true l h e = e
 quote-on-if c i cs false l h e =
     ap (further 1) (h (further-out i _ e)) ∙ ap Some (let q : 1 + i ≡ suc i = omega arith in q)
 
-quote-on : (n i : ℕ) (cs : List ℕ) → i ≤ length cs → quote_len n (take i cs) ≡ Some i → quote_len n cs ≡ Some i
+pub quote-on : (n i : ℕ) (cs : List ℕ) → i ≤ length cs → quote_len n (take i cs) ≡ Some i → quote_len n cs ≡ Some i
 unfolding quote_len
 quote-on n zero cs l e = absurd (let z : ⊥ = cc in z)
 quote-on n (suc i) [] l e = absurd (omega arith)
@@ -128,11 +128,11 @@ no-longer End k (suc i) n (c ∷ cs) e l h = absurd h
 
 -- what the lexer takes is a token
 
-piece-to : (b : Bool) (p q r : Piece) (G : Type 0) → (b ≡ true → p ≡ r → G) → (q ≡ r → G) → (if b then p else q) ≡ r → G
+pub piece-to : (b : Bool) (p q r : Piece) (G : Type 0) → (b ≡ true → p ≡ r → G) → (q ≡ r → G) → (if b then p else q) ≡ r → G
 piece-to true p q r G h k e = h refl e
 piece-to false p q r G h k e = k e
 
-same-byte : (c d : ℕ) → (c == d) ≡ true → c ≡ d
+pub same-byte : (c d : ℕ) → (c == d) ≡ true → c ≡ d
 same-byte c d h = grind (arith, nat_tests)
 
 word-take-if : (c : ℕ) (cs : List ℕ) (b : Bool) → is_word c ≡ b → AllWord (take (word_len cs) cs)

@@ -70,9 +70,3 @@ bad_at zero (c ∷ cs) =
 pub record IsInner (bs : List ℕ) : Type 0 where
   pub utf8 : IsUtf8 bs
   pub escapes : bad_at 0 bs ≡ None
-
--- the bytes of what stands at the head inside a string: a byte, or an escape with its backslash;
--- nothing at a backslash that begins no escape
-abbrev pub unit_len : List ℕ → Option ℕ
-unit_len [] = Some 1
-unit_len (c ∷ cs) = if c == 92 then on_escape None (λ n. Some (n + 1)) (escape cs) else Some 1

@@ -42,3 +42,12 @@ abbrev pub tail : Stream → Stream
 tail (end n) = end n
 tail (fault n) = fault n
 tail (token k from to s) = s
+
+-- a text, and the byte up to which its tokens are taken
+pub record Unread : Type 0 where
+  pub text : List ℕ
+  pub at : ℕ
+
+-- the tokens that are left
+abbrev pub left : Unread → Stream
+left u = lexed u.at (drop u.at u.text)

@@ -4,6 +4,7 @@ pub mod Pieces
 pub mod Lexed
 pub mod Tokens
 pub mod Value
+-- Laws.
 pub mod TokenLaws
 -- What only private functions cite.
 pub mod Steps

@@ -1,7 +1,8 @@
 // The escapes of strings.
 
 ghost use Rattle.std.specs.Prelude.{◌≡◌, ◌+◌, ◌<◌, ◌^◌, ◌≤◌, length, IfSome, OnSome};
-ghost use Rattle.kore_lex.specs.Escapes.{hex_digit, hex_number, escape, single, numbered, unit_len, bad_at};
+ghost use Rattle.kore_lex.specs.Escapes.{hex_digit, hex_number, escape, single, numbered, bad_at};
+ghost use Rattle.kore_lex.specs.Steps.{unit_len};
 
 use crate::bytes::behind;
 

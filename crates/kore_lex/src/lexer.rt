@@ -1,13 +1,14 @@
 // The lexer: the tokens of a text, one after the other.
 
 ghost use Rattle.std.specs.Prelude.{◌≡◌, ◌≢◌, ◌≤◌, ◌<◌, ◌+◌, ◌-◌, ◌^◌, length, take, drop, IfOk};
-ghost use Rattle.kore_lex.specs.Lexed.{lexed, head, tail};
+ghost use Rattle.kore_lex.specs.Lexed.{left, head, tail};
 ghost use Rattle.kore_lex.specs.Value.{IsString};
 ghost use Rattle.kore_lex.specs.Tokens.{IsLongest};
 ghost use Rattle.kore_lex.specs.declared.lexer.TokenKind.TheVariants.{Text, End};
 
 use crate::bytes::behind;
 use crate::piece::{Piece, piece_at};
+use std::marker::Model;
 
 /// The kind of a token.
 #[derive(Clone, Copy, PartialEq, Eq)]
@@ -45,41 +46,61 @@ pub struct LexFault {
     pub at: u32,
 }
 
-/// A text of which some tokens are taken. A copy goes on from the same place by itself.
-#[derive(Clone, Copy)]
+/// A text of which some tokens are taken. A contract sees the text and the byte up to which it is
+/// taken.
+#[derive(Drop)]
 pub struct Lexer<'a> {
     text: &'a [u8],
     at: usize,
-    ghost small: { length text.now < 2 ^ 32 },
-    ghost within: { at ≤ length text.now },
+}
+
+impl<'a> Model for Lexer<'a> {
+    ghost use Rattle.std.specs.Prelude.{◌≤◌, ◌<◌, ◌^◌, length};
+    ghost use Rattle.kore_lex.specs.Lexed.{Unread};
+
+    ghost Value = { Unread };
+
+    ghost view = { λ l. record { text = l.text.now; at = l.at } };
+
+    ghost invariant = { λ l. (l.at ≤ length l.text.now) × (length l.text.now < 2 ^ 32) };
 }
 
 impl<'a> Lexer<'a> {
     /// The whole text, of fewer than 2^32 bytes.
     pub fn new(text: &'a [u8]) -> Lexer<'a>
         requires { length text.now < 2 ^ 32 }
-        ensures text { result.text.now ≡ text.now }
+        ensures text { result.text ≡ text.now }
         ensures start { result.at ≡ 0 }
     {
         Lexer { text, at: 0 }
     }
 
+    /// Another lexer of the text, which goes on from the same place by itself.
+    pub fn fork(&self) -> Lexer<'a>
+        ensures { result ≡ self.now }
+    {
+        Lexer {
+            text: self.text,
+            at: self.at,
+        }
+    }
+
     /// Takes the next token. At the end and at a fault nothing is taken, so the same answer comes
     /// again. Takes no memory; the whole text is read in a time linear in its length.
     pub fn next(&mut self) -> Result<Token, LexFault>
-        ensures token { result ≡ head (lexed self.old.at (drop self.old.at self.old.text.now)) }
-        ensures rest { lexed self.new.at (drop self.new.at self.new.text.now) ≡ tail (lexed self.old.at (drop self.old.at self.old.text.now)) }
-        ensures text { self.new.text.now ≡ self.old.text.now }
-        ensures within { IfOk result (λ t. (t.from ≤ t.to) × (t.to ≤ length self.old.text.now)) }
-        ensures longest { IfOk result (λ t. t.kind ≢ End → IsLongest t.kind (t.to - t.from) (drop t.from self.old.text.now)) }
-        ensures string { IfOk result (λ t. t.kind ≡ Text → IsString (take (t.to - t.from) (drop t.from self.old.text.now))) }
+        ensures token { result ≡ head (left self.old) }
+        ensures rest { left self.new ≡ tail (left self.old) }
+        ensures text { self.new.text ≡ self.old.text }
+        ensures within { IfOk result (λ t. (t.from ≤ t.to) × (t.to ≤ length self.old.text)) }
+        ensures longest { IfOk result (λ t. t.kind ≢ End → IsLongest t.kind (t.to - t.from) (drop t.from self.old.text)) }
+        ensures string { IfOk result (λ t. t.kind ≡ Text → IsString (take (t.to - t.from) (drop t.from self.old.text))) }
     {
         loop {
             match piece_at(behind(self.text, self.at)) {
-                Piece::Nothing => return Ok(self.token(TokenKind::End, 0)),
+                Piece::Nothing => return Ok(token_at(TokenKind::End, self.at, 0)),
                 Piece::Gap(len) => self.at += len,
                 Piece::Whole(kind, len) => {
-                    let token = self.token(kind, len);
+                    let token = token_at(kind, self.at, len);
                     self.at += len;
                     return Ok(token);
                 }
@@ -91,18 +112,18 @@ impl<'a> Lexer<'a> {
             }
         }
     }
+}
 
-    /// The token of so many bytes that stands here.
-    fn token(&self, kind: TokenKind, len: usize) -> Token
-        requires { self.now.at + len ≤ length self.now.text.now }
-        ensures kind { result.kind ≡ kind }
-        ensures from { result.from ≡ self.now.at }
-        ensures to { result.to ≡ self.now.at + len }
-    {
-        Token {
-            kind,
-            from: self.at as u32,
-            to: (self.at + len) as u32,
-        }
+/// The token of so many bytes that stands at this byte.
+fn token_at(kind: TokenKind, from: usize, len: usize) -> Token
+    requires { from + len < 2 ^ 32 }
+    ensures kind { result.kind ≡ kind }
+    ensures from { result.from ≡ from }
+    ensures to { result.to ≡ from + len }
+{
+    Token {
+        kind,
+        from: from as u32,
+        to: (from + len) as u32,
     }
 }

@@ -2,8 +2,9 @@
 //
 // `Lexer` cuts bytes into the tokens of the Kore language document, and `text_value` gives the
 // text that a string token stands for. The definitions stand in `specs/`: `Escapes` and `Pieces`
-// say what stands at the head of bytes, `Lexed` gives the tokens of a text, and `Value` the text
-// of a string. `TokenLaws` has laws on these, which are the contract of `token_laws`.
+// say what stands at the head of bytes, `Lexed` gives the tokens of a text, `Tokens` says which
+// bytes are a token, and `Value` is the text of a string. `TokenLaws` has laws on these, which are
+// the contract of `token_laws`. `Steps` has what only private functions cite.
 #![tactic(auto)]
 
 mod bytes;

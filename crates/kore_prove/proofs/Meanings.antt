@@ -9,7 +9,8 @@ use Rattle.kore_ast.specs.declared.tree.PatForm.TheVariants.{App}
 use Rattle.kore_ast.specs.Plain.{plain_sort, plain_pattern}
 use Rattle.kore_text.specs.Trees.{PatternTree, element_variable, set_variable, string, symbol_applied, connected, binding, domain_value, folded, PatternTrees, no_patterns, pattern_then, no_sorts, sort_trees, pattern_trees}
 use Rattle.term_core.specs.Patterns.{Pattern, Patterns, application, no_pattern, more_patterns, patterns, instance_of, instances_of}
-use Rattle.term_core.specs.RulePatterns.{plain_pattern as rule_pattern, plain_patterns as rule_patterns}
+use Rattle.term_core.specs.RulePatterns.{plain_pattern as rule_pattern}
+use Rattle.term_core.specs.PatternLists.{plain_patterns as rule_patterns}
 use Rattle.term_core.specs.declared.ids.SortId.{SortId}
 use Rattle.term_core.specs.declared.rule_patterns.RulePat.{RulePat}
 use Rattle.term_core.specs.Terms.{Tree, node, Forest, no_tree, more_trees, height, heights}

@@ -1,5 +1,5 @@
 -- Patterns built of symbols alone, and the rules of programs whose runs have proofs.
-use Rattle.std.proofs.Common.{◌≡◌, ℕ, List, [], Option, Some, None, slice_get, refl, sym, subst}
+use Rattle.std.proofs.Common.{◌≡◌, ℕ, List, [], Option, Some, None, slice_get, refl, ap, ◌∙◌, sym, subst}
 use Rattle.std.specs.Prelude.{option_map}
 use Rattle.term_core.specs.Terms.{DomainValue, Tree, leaf, node, inj, Forest, no_tree, more_trees}
 use Rattle.term_core.specs.Patterns.{Pattern, Patterns, variable, domain_value, application, injection, call, no_pattern, more_patterns, with_first, instance_of, instances_of, ground_pattern, ground_patterns}
@@ -9,10 +9,11 @@ use Rattle.rule_core.specs.declared.signature.Signature.{Signature}
 use Rattle.rule_core.specs.declared.rules.Rule.{Rule}
 use Rattle.rule_core.specs.declared.rules.Program.{Program}
 use Rattle.ml_image.specs.Images.{HasImage, HaveImages, HasImageAt}
-use Rattle.mm_render.specs.JustifyingLaws.{HasNoVariable, HaveNoVariable}
-use Rattle.prove_run.specs.declared.proof.Proof.{Proof}
-use Rattle.prove_run.specs.Scripts.{AreGroundAt}
-use Rattle.prove_run.specs.Proving.{IsProofOf, IsAtRule, StepsBy}
+use Rattle.mm_justify.specs.NoVariables.{HasNoVariable, HaveNoVariable}
+use Rattle.term_core.specs.declared.rule_patterns.RulePat.{RulePat}
+use Rattle.mm_justify.specs.Justifying.{Justifies}
+use Rattle.prove_run.specs.RunProof.{RunProof}
+use Rattle.prove_run.specs.Proving.{AreGroundAt, Begins, IsAtRule, IsJustified, StepsBy}
 use Rattle.kore_prove.specs.Provable.{IsBuiltOf, AreBuiltOf, IsProvableRule, IsProvable}
 use Rattle.kore_prove.specs.Runnable.{LeadsBy}
 
@@ -102,24 +103,40 @@ rule_is_ground program i provable r there =
     let rule : IsProvableRule program.sig r = provable.rules i r there in
     (built_ground program.sig (plain_pattern r.left) rule.left, built_ground program.sig (plain_pattern r.right) rule.right)
 
+-- a proof is one of a program's run from a start to a configuration
+pub record IsProofOf (proof : RunProof) (program : Program) (start reached : Pattern) : Type 0 where
+  pub same_program : proof.program ≡ program
+  pub starts : plain_pattern proof.start ≡ start
+  pub reaches : plain_pattern proof.reached ≡ reached
+
+-- it is one that the start reaches itself where it begins
+pub begun : (proof : RunProof) (program : Program) (start : RulePat) → Begins program start proof → IsProofOf proof program (plain_pattern start) (plain_pattern start)
+begun proof program start h = record { same_program = h.same_program; starts = ap plain_pattern h.starts; reaches = ap plain_pattern h.reached }
+
 -- the left side of the rule that leads on is the present configuration
-pub is_at_rule : (proof : Proof) (program : Program) (start : Pattern) (i : ℕ) (t u : Tree) → IsProvable program → IsProofOf proof program start (ground_pattern t) → LeadsBy program.rules.items i t u → IsAtRule proof i
+pub is_at_rule : (proof : RunProof) (program : Program) (start : Pattern) (i : ℕ) (t u : Tree) → IsProvable program → IsProofOf proof program start (ground_pattern t) → LeadsBy program.rules.items i t u → IsAtRule proof i
 is_at_rule proof program start i t u provable is leads =
     let rule : IsProvableRule program.sig leads.rule = provable.rules i leads.rule leads.there in
-    let left : plain_pattern leads.rule.left ≡ ground_pattern t = built_becomes program.sig [] (plain_pattern leads.rule.left) t rule.left leads.left in
-    let same : program ≡ proof.script.program.now = sym is.same_program in (
+    let left : plain_pattern leads.rule.left ≡ ground_pattern t = built_becomes program.sig [] (plain_pattern leads.rule.left) t rule.left leads.left in (
       leads.rule,
-      (
-        subst (λ (p : Program). slice_get p.rules.items i ≡ Some leads.rule) same leads.there,
-        (start, subst (λ (p : Program). IsProofOf proof p start (plain_pattern leads.rule.left)) same (subst (IsProofOf proof program start) (sym left) is)),
-      ),
+      (subst (λ (p : Program). slice_get p.rules.items i ≡ Some leads.rule) (sym is.same_program) leads.there, is.reaches ∙ sym left),
     )
 
 -- and its right side is the next one
-pub goes_on : (old new : Proof) (program : Program) (start : Pattern) (i : ℕ) (t u : Tree) → IsProvable program → IsProofOf old program start (ground_pattern t) → LeadsBy program.rules.items i t u → StepsBy old new i
+pub goes_on : (old new : RunProof) (program : Program) (start : Pattern) (i : ℕ) (t u : Tree) → IsProvable program → IsProofOf old program start (ground_pattern t) → LeadsBy program.rules.items i t u → StepsBy old new i
     → IsProofOf new program start (ground_pattern u)
 goes_on old new program start i t u provable is leads step =
     let rule : IsProvableRule program.sig leads.rule = provable.rules i leads.rule leads.there in
-    let left : plain_pattern leads.rule.left ≡ ground_pattern t = built_becomes program.sig [] (plain_pattern leads.rule.left) t rule.left leads.left in
     let right : plain_pattern leads.rule.right ≡ ground_pattern u = built_becomes program.sig [] (plain_pattern leads.rule.right) u rule.right leads.right in
-    subst (IsProofOf new program start) right (step program start leads.rule leads.there (subst (IsProofOf old program start) (sym left) is))
+    record {
+      same_program = step.same_program ∙ is.same_program;
+      starts = ap plain_pattern step.same_start ∙ is.starts;
+      reaches = ap plain_pattern (step.reached leads.rule (subst (λ (p : Program). slice_get p.rules.items i ≡ Some leads.rule) (sym is.same_program) leads.there)) ∙ right;
+    }
+
+-- what its text justifies
+pub justified_by : (proof : RunProof) (program : Program) (start reached : Pattern) (text : List ℕ) → IsProofOf proof program start reached → text ≡ proof.text → IsJustified proof → Justifies text program start reached
+justified_by proof program start reached text is same justified =
+    subst (λ (bytes : List ℕ). Justifies bytes program start reached) (sym same)
+    (subst (λ (p : Program). Justifies proof.text p start reached) is.same_program
+    (subst (λ (a : Pattern). Justifies proof.text proof.program a reached) is.starts (subst (Justifies proof.text proof.program (plain_pattern proof.start)) is.reaches justified)))

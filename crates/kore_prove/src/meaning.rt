@@ -5,7 +5,8 @@ ghost use Rattle.kore_text.specs.Trees.{pattern_trees};
 ghost use Rattle.rule_core.specs.Named.{number_of};
 ghost use Rattle.rule_core.specs.declared.signature.SortRef.TheVariants.{Sort};
 ghost use Rattle.term_core.specs.Patterns.{Pattern, Patterns};
-ghost use Rattle.term_core.specs.RulePatterns.{plain_pattern as rule_pattern, plain_patterns as rule_patterns};
+ghost use Rattle.term_core.specs.RulePatterns.{plain_pattern as rule_pattern};
+ghost use Rattle.term_core.specs.PatternLists.{plain_patterns as rule_patterns};
 ghost use Rattle.kore_prove.specs.Acceptance.{Denotes, AllDenote};
 ghost use Rattle.kore_prove.specs.Refusals.{OnRefused};
 

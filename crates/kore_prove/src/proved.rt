@@ -1,12 +1,12 @@
 // The run of a start by the rules of a program, proved as it goes.
-ghost use Rattle.std.specs.Prelude.{◌≡◌, [], Some, IfOk, OnOk, All};
+ghost use Rattle.std.specs.Prelude.{◌≡◌, [], Some, IfOk, All};
 ghost use Rattle.term_core.specs.Terms.{Tree};
 ghost use Rattle.term_core.specs.Patterns.{instance_of, ground_pattern};
 ghost use Rattle.term_core.specs.RulePatterns.{plain_pattern};
 ghost use Rattle.rule_core.specs.Runs.{IsRunOf};
 ghost use Rattle.rule_core.specs.Trial.{IsInTrialOrder};
 ghost use Rattle.rule_core.specs.ProgramView.{rewrite_rules};
-ghost use Rattle.mm_render.specs.Justifying.{Justifies};
+ghost use Rattle.mm_justify.specs.Justifying.{Justifies};
 ghost use Rattle.prove_run.specs.Proving.{IsAtRule, StepsBy};
 ghost use Rattle.kore_prove.specs.Lines.{run_of};
 ghost use Rattle.kore_prove.specs.Provable.{IsBuiltOf, IsProvable};
@@ -43,7 +43,7 @@ pub fn proved_run(
     for made in 0..limit {
         match next(alloc, program, &config)? {
             Some((rule, to)) => {
-                prove_step(alloc, &mut proof, rule)?;
+                proof = prove_step(alloc, proof, rule)?;
                 config = to;
             }
             None => return Ok((Outcome::Stuck(made), config, proof.into_text())),
@@ -54,10 +54,10 @@ pub fn proved_run(
 
 /// Proves one step more, by the rule at a place, whose left side is the present configuration. Its
 /// right side is the present configuration then. The error is want of memory.
-fn prove_step(alloc: Global, proof: &mut Proof<'_>, rule: usize) -> Result<(), AllocError>
-    requires provable { IsProvable proof.old.script.program.now }
-    requires applies { IsAtRule proof.old rule }
-    ensures { OnOk result (StepsBy proof.old proof.new rule) }
+fn prove_step<'p>(alloc: Global, proof: Proof<'p>, rule: usize) -> Result<Proof<'p>, AllocError>
+    requires provable { IsProvable proof.program }
+    requires applies { IsAtRule proof rule }
+    ensures { IfOk result (λ further. StepsBy proof.entry further rule) }
 {
     proof.step(alloc, rule as u32)
 }

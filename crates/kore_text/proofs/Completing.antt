@@ -12,7 +12,8 @@ use Rattle.kore_text.specs.Trees.{sort_parameter, no_sorts, sort_count}
 use Rattle.kore_text.specs.Trees.{element_variable, symbol_applied}
 use Rattle.kore_text.specs.Trees.{no_patterns, pattern_then}
 use Rattle.kore_text.specs.Grammar.{Want, any, listed, Takes, spell_sorts}
-use Rattle.kore_text.specs.Table.{byte_of, is_mark, is_fold, turn, step, passes, empty_fold}
+use Rattle.kore_text.specs.Table.{byte_of, is_fold, turn, step, passes, empty_fold}
+use Rattle.kore_text.specs.Apart.{is_mark}
 use Rattle.kore_text.specs.Faults.{FoldHead, of_symbol, of_connective, spell_unfilled}
 use Rattle.kore_text.specs.Table.{item_move, rest_of, is_empty, onto}
 use Rattle.kore_text.proofs.Accepting.{number-is}

@@ -4,8 +4,9 @@ use Rattle.kore_lex.specs.declared.lexer.TokenKind.{TokenKind}
 use Rattle.kore_lex.specs.declared.lexer.TokenKind.TheVariants as kind
 use Rattle.kore_lex.specs.declared.lexer.Token.{Token as LexToken}
 use Rattle.kore_lex.specs.declared.lexer.LexFault.{LexFault}
-use Rattle.kore_lex.specs.Lexed.{Stream as Cut, end as cut_end, fault as cut_fault, token as cut_token, head, tail}
+use Rattle.kore_lex.specs.Lexed.{Stream as Cut, end as cut_end, fault as cut_fault, token as cut_token, head, tail, Unread, left as cut_left}
 use Rattle.kore_text.specs.TokenStream.{Stream, end, fault, token, token_of, joined, named}
+use Rattle.kore_text.specs.Left.{left}
 
 joined-end : (text : List ℕ) (k : TokenKind) (from to : ℕ) (s : Stream) → k ≡ kind.End → joined text k from to s ≡ end from
 joined-end text kind.End from to s h = refl
@@ -50,3 +51,17 @@ next-token text (cut_token t from to s) a h k =
     let i : t ≢ kind.End = λ j. k (ap (λ b. b.kind) e ∙ j) in
     joined-token text t from to (named text s) i
     ∙ ap (λ b. token (token_of b.kind (take (b.to - b.from) (drop b.from text))) b.from (named text s)) (sym e)
+
+-- what is left of a text, where this text is the lexer's, and behind its first token
+
+pub left-token : (u v : Unread) (text : List ℕ) (a : LexToken) → Ok a ≡ head (cut_left u) → a.kind ≢ kind.End
+    → cut_left v ≡ tail (cut_left u) → v.text ≡ u.text → u.text ≡ text
+    → left u ≡ token (token_of a.kind (take (a.to - a.from) (drop a.from text))) a.from (left v)
+unfolding left
+left-token u v text a h k rest same whole =
+    let bytes : List ℕ → List ℕ = λ t. take (a.to - a.from) (drop a.from t) in
+    let r : named u.text (tail (cut_left u)) ≡ named v.text (cut_left v) =
+    ap (λ (s : Cut). named u.text s) (sym rest) ∙ ap (λ (t : List ℕ). named t (cut_left v)) (sym same) in
+    next-token u.text (cut_left u) a h k
+    ∙ ap (λ (s : Stream). token (token_of a.kind (bytes u.text)) a.from s) r
+    ∙ ap (λ (t : List ℕ). token (token_of a.kind (bytes t)) a.from (named v.text (cut_left v))) whole

@@ -13,3 +13,4 @@ pub mod Stepping
 pub mod Looking
 pub mod Faultless
 pub mod Named
+pub mod Unique

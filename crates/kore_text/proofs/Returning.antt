@@ -16,7 +16,8 @@ use Rattle.kore_text.specs.Trees.{SortTree, sort_parameter, sort_applied, no_sor
 use Rattle.kore_text.specs.Trees.{PatternTree, element_variable, set_variable, string, symbol_applied, connected, binding, domain_value, folded}
 use Rattle.kore_text.specs.Trees.{pattern_then, pattern_count}
 use Rattle.kore_text.specs.Grammar.{Want, placed, any, listed, more_listed, in_order, Takes, sorts_of, arguments_of, takes, is_count, binder_sorts, binds_sets, is_variable, is_associative, spell_names, spell_sort, spell_sorts, spell_pattern, spell_patterns}
-use Rattle.kore_text.specs.Table.{byte_of, symbol_of, is_mark, turn, no_arguments, folded_arguments, exactly, argument_symbols, built_symbols}
+use Rattle.kore_text.specs.Table.{byte_of, symbol_of, turn, no_arguments, folded_arguments, exactly, argument_symbols, built_symbols}
+use Rattle.kore_text.specs.Apart.{is_mark}
 use Rattle.std.proofs.lemmas.Slice.Eq.{bytes_eq-Decides}
 use Rattle.kore_text.specs.declared.names.Binder.{Binder}
 use Rattle.kore_text.specs.Trees.{sort_trees, pattern_trees}

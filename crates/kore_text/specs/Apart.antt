@@ -1,8 +1,12 @@
 -- What may follow a sort without braces.
-use Rattle.std.specs.Prelude.{◌≡◌, false, List, [], ◌∷◌}
-use Rattle.kore_text.specs.TokenStream.{Stream, end, fault, token}
+use Rattle.std.specs.Prelude.{◌≡◌, ℕ, Bool, false, ◌==◌, List, [], ◌∷◌}
+use Rattle.kore_text.specs.TokenStream.{Token, mark, Stream, end, fault, token}
 use Rattle.kore_text.specs.Grammar.{Want, placed, any, given}
-use Rattle.kore_text.specs.Table.{is_mark}
+
+-- the token is this mark
+abbrev pub is_mark : ℕ → Token → Bool
+is_mark c (mark d) = d == c
+is_mark c _ = false
 
 -- no opening brace follows
 abbrev pub Apart : List Want → Stream → Type 0

@@ -1,17 +1,16 @@
 -- What is left of a text while its tokens are taken.
-use Rattle.std.specs.Prelude.{◌≡◌, ◌≢◌, ℕ, suc, zero, drop}
+use Rattle.std.specs.Prelude.{◌≡◌, ◌≢◌, ℕ, suc, zero}
 use Rattle.kore_lex.specs.declared.lexer.TokenKind.TheVariants.{End, Text}
 use Rattle.kore_lex.specs.Tokens.{IsToken}
 use Rattle.kore_lex.specs.Value.{IsString}
-use Rattle.kore_lex.specs.Lexed.{lexed}
+use Rattle.kore_lex.specs.Lexed.{Unread, left as cut_left}
 use Rattle.kore_text.specs.TokenStream.{Stream, end, fault, token, token_of, named}
-use Rattle.kore_text.specs.declared.tokens.Tokens.{Tokens}
 use Rattle.kore_text.specs.declared.tokens.Next.{Next}
 use Rattle.kore_text.specs.declared.tokens.Next.TheVariants as next
 
 -- the tokens that are left
-unfoldable pub left : Tokens → Stream
-left r = named r.text.now (lexed r.lexer.at (drop r.lexer.at r.lexer.text.now))
+unfoldable pub left : Unread → Stream
+left u = named u.text (cut_left u)
 
 -- the answer is what comes first in the one stream, and the other is what follows it
 abbrev pub Comes : Next → Stream → Stream → Type 0

@@ -16,6 +16,7 @@ use Rattle.kore_text.specs.declared.faults.TextFault.TheVariants.{Lex, Syntax, D
 use Rattle.kore_text.specs.TokenStream.{Token, identifier, set_identifier, builtin, string_token, mark, assign, Stream, end, fault, token}
 use Rattle.kore_text.specs.Grammar.{sorts_of, arguments_of, binder_sorts, binds_sets, is_associative}
 use Rattle.kore_text.specs.Faults.{opened}
+use Rattle.kore_text.specs.Apart.{is_mark}
 
 abbrev pub byte_of : Close → ℕ
 byte_of close.Brace = 125
@@ -26,10 +27,6 @@ abbrev pub symbol_of : Item → Symbol
 symbol_of item.Name = symbol.Name
 symbol_of item.Sort = symbol.Sort
 symbol_of (item.Pattern b) = symbol.Pattern b
-
-abbrev pub is_mark : ℕ → Token → Bool
-is_mark c (mark d) = d == c
-is_mark c _ = false
 
 -- an identifier, or just this one
 abbrev pub is_name : Token → Bool

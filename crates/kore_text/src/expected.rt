@@ -5,13 +5,84 @@ ghost use Rattle.kore_lex.specs.declared.lexer.TokenKind.TheVariants.{End};
 ghost use Rattle.kore_text.specs.declared.names.Built.TheVariants.{Connective, Binding};
 ghost use Rattle.kore_text.specs.declared.symbols.Symbol.TheVariants.{First, More};
 ghost use Rattle.kore_text.specs.TokenStream.{token_of, identifier, set_identifier, builtin, string_token};
-ghost use Rattle.kore_text.specs.Table.{turn, rest_of, step, can_end, is_empty, when, exactly, argument_symbols, built_symbols, pattern_move, pattern_tail_move, folded_move, item_move, word_move, declarations_move, folded_arguments, variable_move, byte_of, symbol_of, is_mark};
+ghost use Rattle.kore_text.specs.Table.{turn, rest_of, step, can_end, is_empty, when, exactly, argument_symbols, built_symbols, pattern_move, pattern_tail_move, folded_move, item_move, word_move, declarations_move, folded_arguments, variable_move, byte_of, symbol_of};
+ghost use Rattle.kore_text.specs.Apart.{is_mark};
 
 use crate::names::{Binder, Built, Op};
 use crate::symbols::{Close, Item, Symbol};
 use crate::words::Word;
 use kore_lex::TokenKind;
 use std::alloc::{AllocError, Global};
+
+/// Behind the brace that opens a list of sorts.
+const SORTS: [Symbol; 1] = [Symbol::First(Item::Sort, Close::Brace)];
+
+/// Behind the brace that opens a list of names.
+const NAMES: [Symbol; 1] = [Symbol::First(Item::Name, Close::Brace)];
+
+/// Behind the bracket that opens attributes.
+const ATTRIBUTES: [Symbol; 1] = [Symbol::First(Item::Pattern(true), Close::Bracket)];
+
+/// Behind the parenthesis that opens a signature.
+const SIGNATURE: [Symbol; 3] = [
+    Symbol::First(Item::Sort, Close::Paren),
+    Symbol::Mark(b':'),
+    Symbol::Sort,
+];
+
+/// Behind `module`, of a module alone.
+const MODULE: [Symbol; 2] = [Symbol::Name, Symbol::Declarations];
+
+/// Behind `module`, where more modules may follow.
+const MODULES: [Symbol; 3] = [Symbol::Name, Symbol::Declarations, Symbol::Modules];
+
+/// Behind `endmodule`.
+const END: [Symbol; 1] = [Symbol::Attributes];
+
+/// Behind `import`.
+const IMPORT: [Symbol; 3] = [Symbol::Name, Symbol::Attributes, Symbol::Declarations];
+
+/// Behind `sort` and `hooked-sort`.
+const SORT: [Symbol; 4] = [
+    Symbol::Name,
+    Symbol::Names,
+    Symbol::Attributes,
+    Symbol::Declarations,
+];
+
+/// Behind `symbol` and `hooked-symbol`.
+const SYMBOL: [Symbol; 5] = [
+    Symbol::Name,
+    Symbol::Names,
+    Symbol::Signature,
+    Symbol::Attributes,
+    Symbol::Declarations,
+];
+
+/// Behind `alias`.
+const ALIAS: [Symbol; 13] = [
+    Symbol::Name,
+    Symbol::Names,
+    Symbol::Signature,
+    Symbol::Where,
+    Symbol::Name,
+    Symbol::Mark(b'{'),
+    Symbol::First(Item::Sort, Close::Brace),
+    Symbol::Mark(b'('),
+    Symbol::First(Item::Pattern(false), Close::Paren),
+    Symbol::Assign,
+    Symbol::Pattern(false),
+    Symbol::Attributes,
+    Symbol::Declarations,
+];
+
+/// Behind `axiom` and `claim`.
+const STATEMENT: [Symbol; 4] = [
+    Symbol::Names,
+    Symbol::Pattern(false),
+    Symbol::Attributes,
+    Symbol::Declarations,
+];
 
 /// What may come next, the next symbol last.
 #[derive(Drop)]
@@ -103,10 +174,7 @@ impl Expected {
             Symbol::Assign => self.put_where(word.is_assign(), &[]),
             Symbol::Text => self.put_where(word.is_text(), &[]),
             Symbol::Sort => self.put_where(word.is_name(), &[Symbol::SortTail]),
-            Symbol::SortTail => self.put_where(
-                word.is_mark(b'{'),
-                &[Symbol::First(Item::Sort, Close::Brace)],
-            ),
+            Symbol::SortTail => self.put_where(word.is_mark(b'{'), &SORTS),
             Symbol::Pattern(strings) => self.pattern(strings, word),
             Symbol::PatternTail(strings) => self.pattern_tail(strings, word),
             Symbol::Variable(set) => self.variable(set, word),
@@ -114,31 +182,12 @@ impl Expected {
             Symbol::EmptyFolded => { self.folded(word, &[Symbol::Mark(b'('), Symbol::Mark(b')')]) }
             Symbol::First(item, close) => self.first(item, close, word),
             Symbol::More(item, close) => self.more(item, close, word),
-            Symbol::Attributes => self.put_where(
-                word.is_mark(b'['),
-                &[Symbol::First(Item::Pattern(true), Close::Bracket)],
-            ),
-            Symbol::Names => self.put_where(
-                word.is_mark(b'{'),
-                &[Symbol::First(Item::Name, Close::Brace)],
-            ),
-            Symbol::Signature => self.put_where(
-                word.is_mark(b'('),
-                &[
-                    Symbol::First(Item::Sort, Close::Paren),
-                    Symbol::Mark(b':'),
-                    Symbol::Sort,
-                ],
-            ),
+            Symbol::Attributes => self.put_where(word.is_mark(b'['), &ATTRIBUTES),
+            Symbol::Names => self.put_where(word.is_mark(b'{'), &NAMES),
+            Symbol::Signature => self.put_where(word.is_mark(b'('), &SIGNATURE),
             Symbol::Declarations => self.declaration(word),
-            Symbol::Module => self.put_where(
-                word.is_word(b"module"),
-                &[Symbol::Name, Symbol::Declarations],
-            ),
-            Symbol::Modules => self.put_where(
-                word.is_word(b"module"),
-                &[Symbol::Name, Symbol::Declarations, Symbol::Modules],
-            ),
+            Symbol::Module => self.put_where(word.is_word(b"module"), &MODULE),
+            Symbol::Modules => self.put_where(word.is_word(b"module"), &MODULES),
         }
     }
 
@@ -342,62 +391,17 @@ impl Expected {
         ensures { IfOk result (λ yes. Expands yes (word_move name.now) (stack self.old) (stack self.new)) }
     {
         if name == b"endmodule".as_slice() {
-            self.put_where(true, &[Symbol::Attributes])
+            self.put_where(true, &END)
         } else if name == b"import".as_slice() {
-            self.put_where(
-                true,
-                &[Symbol::Name, Symbol::Attributes, Symbol::Declarations],
-            )
+            self.put_where(true, &IMPORT)
         } else if name == b"sort".as_slice() || name == b"hooked-sort".as_slice() {
-            self.put_where(
-                true,
-                &[
-                    Symbol::Name,
-                    Symbol::Names,
-                    Symbol::Attributes,
-                    Symbol::Declarations,
-                ],
-            )
+            self.put_where(true, &SORT)
         } else if name == b"symbol".as_slice() || name == b"hooked-symbol".as_slice() {
-            self.put_where(
-                true,
-                &[
-                    Symbol::Name,
-                    Symbol::Names,
-                    Symbol::Signature,
-                    Symbol::Attributes,
-                    Symbol::Declarations,
-                ],
-            )
+            self.put_where(true, &SYMBOL)
         } else if name == b"alias".as_slice() {
-            self.put_where(
-                true,
-                &[
-                    Symbol::Name,
-                    Symbol::Names,
-                    Symbol::Signature,
-                    Symbol::Where,
-                    Symbol::Name,
-                    Symbol::Mark(b'{'),
-                    Symbol::First(Item::Sort, Close::Brace),
-                    Symbol::Mark(b'('),
-                    Symbol::First(Item::Pattern(false), Close::Paren),
-                    Symbol::Assign,
-                    Symbol::Pattern(false),
-                    Symbol::Attributes,
-                    Symbol::Declarations,
-                ],
-            )
+            self.put_where(true, &ALIAS)
         } else if name == b"axiom".as_slice() || name == b"claim".as_slice() {
-            self.put_where(
-                true,
-                &[
-                    Symbol::Names,
-                    Symbol::Pattern(false),
-                    Symbol::Attributes,
-                    Symbol::Declarations,
-                ],
-            )
+            self.put_where(true, &STATEMENT)
         } else {
             Ok(false)
         }

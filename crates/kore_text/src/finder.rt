@@ -107,7 +107,7 @@ impl<'a> Finder<'a> {
             Next::Fault(at) => Ok(Look::Fault(TextFault::Lex(at))),
             Next::Token(kind, at, bytes) => {
                 let word = Word { kind, bytes };
-                if begins_empty_fold(self.alloc, &word, self.tokens)? {
+                if begins_empty_fold(self.alloc, &word, &self.tokens)? {
                     return Ok(Look::Fault(TextFault::Syntax(at)));
                 }
                 if !self.expected.take(&word)? {
@@ -137,13 +137,17 @@ impl<'a> Finder<'a> {
 }
 
 /// Whether this token and what comes are a fold without an argument.
-fn begins_empty_fold(alloc: Global, word: &Word<'_>, tokens: Tokens<'_>) -> Result<bool, AllocError>
-    ensures { IfOk result (λ yes. yes ≡ (is_fold (token_of word.now.kind word.now.bytes.now) && passes (left tokens.entry) empty_fold)) }
+fn begins_empty_fold(
+    alloc: Global,
+    word: &Word<'_>,
+    tokens: &Tokens<'_>,
+) -> Result<bool, AllocError>
+    ensures { IfOk result (λ yes. yes ≡ (is_fold (token_of word.now.kind word.now.bytes.now) && passes (left tokens.now) empty_fold)) }
 {
     if !word.is_fold() {
         return Ok(false);
     }
-    is_empty_fold(alloc, tokens)
+    is_empty_fold(alloc, tokens.fork())
 }
 
 /// Whether what comes makes a fold one without an argument.

@@ -1,12 +1,14 @@
 // Laws on the definitions.
-ghost use Rattle.kore_text.specs.TextLaws.{DefinitionHasNoFault, NoMoreTokensThanBytes, PatternHasNoFault};
+ghost use Rattle.kore_text.specs.TextLaws.{DefinitionFaultIsUnique, DefinitionHasNoFault, NoMoreTokensThanBytes, PatternFaultIsUnique, PatternHasNoFault};
 ghost use Rattle.kore_text.specs.Identifiers.{NamesAreIdentifiers, PatternNamesAreIdentifiers};
 
-/// A text that spells a definition or a pattern, with at most 500 brackets open, has no fault, and no
-/// text has more tokens than bytes.
+/// A text that spells a definition or a pattern, with at most 500 brackets open, has no fault. The
+/// first fault of any other is unique, in its kind and its byte. No text has more tokens than bytes.
 pub fn text_laws()
     ensures definition { DefinitionHasNoFault }
     ensures pattern { PatternHasNoFault }
+    ensures one_definition { DefinitionFaultIsUnique }
+    ensures one_pattern { PatternFaultIsUnique }
     ensures few { NoMoreTokensThanBytes }
 {
     kore_lex::token_laws();

@@ -4,6 +4,7 @@ ghost use Rattle.std.specs.Prelude.{◌≡◌, ◌≢◌, ◌≤◌, ◌<◌, �
 ghost use Rattle.kore_text.specs.TokenStream.{tokens_of};
 
 use kore_lex::{Lexer, TokenKind};
+use std::marker::Model;
 
 /// What comes next in a text.
 #[derive(Clone, Copy)]
@@ -16,12 +17,23 @@ pub enum Next<'a> {
     Fault(u32),
 }
 
-/// A text of which some tokens are taken. A copy goes on from the same place by itself.
-#[derive(Clone, Copy)]
+/// A text of which some tokens are taken. A contract sees the text and the byte up to which it is
+/// taken.
+#[derive(Drop)]
 pub struct Tokens<'a> {
     lexer: Lexer<'a>,
     text: &'a [u8],
-    ghost same: { lexer.text.now ≡ text.now },
+}
+
+impl<'a> Model for Tokens<'a> {
+    ghost use Rattle.std.specs.Prelude.{◌≡◌};
+    ghost use Rattle.kore_lex.specs.Lexed.{Unread};
+
+    ghost Value = { Unread };
+
+    ghost view = { λ t. t.lexer };
+
+    ghost invariant = { λ t. t.lexer.text ≡ t.text.now };
 }
 
 impl<'a> Tokens<'a> {
@@ -35,6 +47,16 @@ impl<'a> Tokens<'a> {
         Tokens {
             lexer: Lexer::new(text),
             text,
+        }
+    }
+
+    /// Another view of the text, which goes on from the same place by itself.
+    pub fn fork(&self) -> Tokens<'a>
+        ensures { result ≡ self.now }
+    {
+        Tokens {
+            lexer: self.lexer.fork(),
+            text: self.text,
         }
     }
 

@@ -3,7 +3,8 @@
 ghost use Rattle.std.specs.Prelude.{◌≡◌, ◌≢◌, List, ℕ, drop};
 ghost use Rattle.kore_lex.specs.declared.lexer.TokenKind.TheVariants.{End};
 ghost use Rattle.kore_text.specs.TokenStream.{token_of};
-ghost use Rattle.kore_text.specs.Table.{is_mark, is_fold, is_name, is_word, is_set_name, is_text, is_assign};
+ghost use Rattle.kore_text.specs.Table.{is_fold, is_name, is_word, is_set_name, is_text, is_assign};
+ghost use Rattle.kore_text.specs.Apart.{is_mark};
 
 use crate::names::Built;
 use kore_lex::TokenKind;

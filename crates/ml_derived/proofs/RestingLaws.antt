@@ -3,8 +3,9 @@ use Rattle.std.proofs.Common.{ℕ, List, [], ◌∷◌, inl, inr, subst, arith}
 use Rattle.std.specs.Prelude.{Contains, IfOk, Result, Ok, Err}
 use Rattle.std.proofs.lemmas.List.Elements.{Contains-append_left, Contains-append_right, Contains-append_cases}
 use Rattle.ml_pat.specs.Patterns.{Pattern}
-use Rattle.ml_kernel.specs.ProofRows.{Instance}
-use Rattle.ml_kernel.specs.Theorems.{Theorem, Derivation, all_hypotheses, all_derivations, axioms_of, all_axioms, IsByRow}
+use Rattle.ml_kernel.specs.Rules.{Instance}
+use Rattle.ml_kernel.specs.Theorems.{Theorem, Derivation, all_hypotheses, all_derivations, axioms_of, all_axioms, IsByRule}
+use Rattle.ml_kernel.specs.declared.rules.Rule.{Rule}
 use Rattle.ml_kernel.proofs.Merging.{Contains-AddsNew_only}
 use Rattle.ml_derived.specs.Resting.{RestsOn}
 
@@ -33,20 +34,20 @@ RestsOn-through ts us t r h = record {
 }
 
 -- what a rule gives rests on what it is given
-pub RestsOn-row : (n : ℕ) (is : List Instance) (us : List Theorem) (t : Theorem) → IsByRow n is us t → RestsOn us t
-RestsOn-row n is us t r = record {
-  hypotheses = λ p k. Contains-AddsNew_only (all_hypotheses us) t.hypotheses p r.kept_hypotheses k;
-  axioms = λ p k. subst (λ (d : Derivation). Contains (axioms_of d) p) r.last_step k;
+pub RestsOn-rule : (r : Rule) (is : List Instance) (us : List Theorem) (q : Pattern) (t : Theorem) → IsByRule r is us q t → RestsOn us t
+RestsOn-rule r is us q t h = record {
+  hypotheses = λ p k. Contains-AddsNew_only (all_hypotheses us) t.hypotheses p h.kept_hypotheses k;
+  axioms = λ p k. subst (λ (d : Derivation). Contains (axioms_of d) p) h.last_step k;
 }
 
-pub rests_row_none : (ts : List Theorem) (n : ℕ) (is : List Instance) (t : Theorem) → IsByRow n is [] t → RestsOn ts t
-rests_row_none ts n is t r = RestsOn-through ts [] t (RestsOn-row n is [] t r) tt
+pub rests_rule_none : (ts : List Theorem) (r : Rule) (is : List Instance) (q : Pattern) (t : Theorem) → IsByRule r is [] q t → RestsOn ts t
+rests_rule_none ts r is q t h = RestsOn-through ts [] t (RestsOn-rule r is [] q t h) tt
 
-pub rests_row_one : (ts : List Theorem) (n : ℕ) (is : List Instance) (a t : Theorem) → IsByRow n is (a ∷ []) t → RestsOn ts a → RestsOn ts t
-rests_row_one ts n is a t r h = RestsOn-through ts (a ∷ []) t (RestsOn-row n is (a ∷ []) t r) (h, tt)
+pub rests_rule_one : (ts : List Theorem) (r : Rule) (is : List Instance) (a : Theorem) (q : Pattern) (t : Theorem) → IsByRule r is (a ∷ []) q t → RestsOn ts a → RestsOn ts t
+rests_rule_one ts r is a q t h k = RestsOn-through ts (a ∷ []) t (RestsOn-rule r is (a ∷ []) q t h) (k, tt)
 
-pub rests_row_two : (ts : List Theorem) (n : ℕ) (is : List Instance) (a b t : Theorem) → IsByRow n is (a ∷ b ∷ []) t → RestsOn ts a → RestsOn ts b → RestsOn ts t
-rests_row_two ts n is a b t r h k = RestsOn-through ts (a ∷ b ∷ []) t (RestsOn-row n is (a ∷ b ∷ []) t r) (h, (k, tt))
+pub rests_rule_two : (ts : List Theorem) (r : Rule) (is : List Instance) (a b : Theorem) (q : Pattern) (t : Theorem) → IsByRule r is (a ∷ b ∷ []) q t → RestsOn ts a → RestsOn ts b → RestsOn ts t
+rests_rule_two ts r is a b q t h k l = RestsOn-through ts (a ∷ b ∷ []) t (RestsOn-rule r is (a ∷ b ∷ []) q t h) (k, (l, tt))
 
 pub rests_none : (ts : List Theorem) (t : Theorem) → RestsOn [] t → RestsOn ts t
 rests_none ts t r = RestsOn-through ts [] t r tt

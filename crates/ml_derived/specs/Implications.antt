@@ -4,15 +4,6 @@ use Rattle.ml_pat.specs.Patterns.{Pattern, top, imp, and, next, ev}
 use Rattle.ml_kernel.specs.Theorems.{Theorem}
 use Rattle.ml_derived.specs.Derived.{chaining, reaching, freeing}
 
-abbrev pub IsImplication : Pattern → Type 0
-IsImplication t = (p : Pattern) × ((q : Pattern) × (t ≡ imp p q))
-
-abbrev pub IsConjunction : Pattern → Type 0
-IsConjunction t = (p : Pattern) × ((q : Pattern) × (t ≡ and p q))
-
-abbrev pub IsNext : Pattern → Type 0
-IsNext t = (p : Pattern) × (t ≡ next p)
-
 -- two implications, the first to what the second is from
 abbrev pub AreLinked : Pattern → Pattern → Type 0
 AreLinked first second = (p : Pattern) × ((q : Pattern) × ((r : Pattern) × ((first ≡ imp p q) × (second ≡ imp q r))))

@@ -1,3 +1,4 @@
 pub mod Implications
-pub mod Resting
 pub mod Derived
+pub mod Resting
+pub mod Parts

@@ -2,7 +2,8 @@
 ghost use Rattle.std.specs.Prelude.{◌≡◌, [], ◌∷◌, IfOk};
 ghost use Rattle.ml_pat.specs.Patterns.{top, imp, and};
 ghost use Rattle.ml_derived.specs.Derived.{adding_top, chaining, detaching_under, distributing, freeing, lifting};
-ghost use Rattle.ml_derived.specs.Implications.{IsConjunction, IsImplication, AreLinked, HasTopCondition, IsChain, IsChainOf, IsFreed};
+ghost use Rattle.ml_derived.specs.Implications.{AreLinked, HasTopCondition, IsChain, IsChainOf, IsFreed};
+ghost use Rattle.ml_derived.specs.Parts.{IsConjunction, IsImplication};
 ghost use Rattle.ml_derived.specs.Resting.{RestsOn};
 
 use ml_kernel::Thm;

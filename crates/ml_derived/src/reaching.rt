@@ -1,10 +1,12 @@
 // Reaching a pattern in steps.
 ghost use Rattle.std.specs.Prelude.{◌≡◌, [], ◌∷◌, IfOk};
 ghost use Rattle.ml_pat.specs.Patterns.{imp, next, ev};
-ghost use Rattle.ml_kernel.specs.ProofRows.{pattern};
-ghost use Rattle.ml_kernel.specs.Theorems.{derivations, row};
+ghost use Rattle.ml_kernel.specs.Rules.{pattern};
+ghost use Rattle.ml_kernel.specs.Theorems.{derivations, by_rule};
+ghost use Rattle.ml_kernel.specs.declared.rules.Rule.TheVariants as rule;
 ghost use Rattle.ml_derived.specs.Derived.{kept_reaching, reaching_by};
-ghost use Rattle.ml_derived.specs.Implications.{IsNext, IsOneStepOn, IsStepOf, ReachesOneFurther};
+ghost use Rattle.ml_derived.specs.Implications.{IsOneStepOn, IsStepOf, ReachesOneFurther};
+ghost use Rattle.ml_derived.specs.Parts.{IsNext};
 ghost use Rattle.ml_derived.specs.Resting.{RestsOn};
 
 use crate::implications::{chained, sides};
@@ -15,7 +17,7 @@ use std::alloc::{AllocError, Global};
 /// `a -> ev a`.
 pub fn reach_here(alloc: Global, a: &MPat) -> Result<Thm, AllocError>
     ensures conclusion { IfOk result (λ t. t.conclusion ≡ imp a.now (ev a.now)) }
-    ensures derivation { IfOk result (λ t. t.derivation ≡ row 27 (pattern a.now ∷ []) (derivations [])) }
+    ensures derivation { IfOk result (λ t. t.derivation ≡ by_rule rule.Ev1 (pattern a.now ∷ []) (derivations [])) }
     ensures rests { IfOk result (λ t. RestsOn [] t) }
 {
     Thm::ev_1(alloc, a)

@@ -1,7 +1,8 @@
 // The images of patterns and rules.
 ghost use Rattle.std.specs.Prelude.{◌≡◌, ◌<◌, [], ◌∷◌, length, slice_get, IfOk, IfSome, IsSome, Some};
 ghost use Rattle.ml_pat.specs.Patterns.{Pattern, top, imp, and, next};
-ghost use Rattle.term_core.specs.RulePatterns.{plain_pattern, plain_patterns, sort_numbers};
+ghost use Rattle.term_core.specs.RulePatterns.{plain_pattern, sort_numbers};
+ghost use Rattle.term_core.specs.PatternLists.{plain_patterns};
 ghost use Rattle.ml_image.specs.Images.{image_of, applied, at_sorts, symbol_image, HasImage, HaveImages, AreSorts, HasImageAt, IsImageAt, IsInjectionAt, injection_symbol, injection_image};
 ghost use Rattle.ml_image.specs.Gained.{HasGained};
 

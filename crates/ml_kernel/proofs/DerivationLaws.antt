@@ -3,12 +3,13 @@ use Rattle.std.proofs.Common.{◌≡◌, ℕ, ◌<◌, List, [], ◌∷◌, ◌+
 use Rattle.std.specs.Prelude.{Contains}
 use Rattle.std.proofs.lemmas.List.Elements.{Contains-append_left, Contains-append_right, Contains-append_cases}
 use Rattle.ml_pat.specs.Patterns.{Pattern}
-use Rattle.ml_kernel.specs.ProofRows as rows
-use Rattle.ml_kernel.specs.ProofRows.{Instance, pattern, variable, sort, ProofRow}
+use Rattle.ml_kernel.specs.Rules as rules
+use Rattle.ml_kernel.specs.Rules.{Instance, pattern, variable, sort, Infers}
+use Rattle.ml_kernel.specs.declared.rules.Rule.{Rule}
 use Rattle.ml_kernel.specs.Renamings.{IsRenaming}
-use Rattle.ml_kernel.specs.Derivability.{Derives, AllDerive, by_hypothesis, by_axiom, by_renaming, by_row, none_left, one_more}
+use Rattle.ml_kernel.specs.Derivability.{Derives, AllDerive, by_hypothesis, by_axiom, by_renaming, by_rule as ruled, none_left, one_more}
 use Rattle.ml_kernel.specs.Lemmas.{instance, instances, HasNoMeta, HaveNoVariables}
-use Rattle.ml_kernel.specs.Theorems.{Derivation, Derivations, hypothesis, own_axiom, row, cited, no_derivation, more_derivations, axioms_of, all_axioms}
+use Rattle.ml_kernel.specs.Theorems.{Derivation, Derivations, hypothesis, own_axiom, by_rule, cited, no_derivation, more_derivations, axioms_of, all_axioms}
 use Rattle.ml_kernel.specs.Concluding.{Concludes, AllConclude}
 use Rattle.ml_kernel.proofs.InstanceLaws.{fresh-instance, absent-instance, predicate-instance, substituted-instance, instance-without, HasNoMeta-renamed}
 
@@ -18,7 +19,7 @@ mutual
   Derives-cut f g (by_hypothesis p h) = f p h
   Derives-cut f g (by_axiom p h) = by_axiom p (g p h)
   Derives-cut f g (by_renaming p q h r) = by_renaming p q (g p h) r
-  Derives-cut f g (by_row n is ps q r ds) = by_row n is ps q r (AllDerive-cut f g ds)
+  Derives-cut f g (ruled r is ps q i ds) = ruled r is ps q i (AllDerive-cut f g ds)
 
   pub AllDerive-cut : {hs axs hs' axs' ps : List Pattern} → ((p : Pattern) → Contains hs p → Derives hs' axs' p) → ((p : Pattern) → Contains axs p → Contains axs' p) → AllDerive hs axs ps → AllDerive hs' axs' ps
   AllDerive-cut f g none_left = none_left
@@ -35,40 +36,40 @@ all_instances_at ms [] = []
 all_instances_at ms (i ∷ is) = instance_at ms i ∷ all_instances_at ms is
 
 -- an instance of a rule's instance is one, one line for each rule
-pub ProofRow-instance : {n : ℕ} {is : List Instance} {ps : List Pattern} {q : Pattern} (ms : List Pattern) → HaveNoVariables ms → ProofRow n is ps q → ProofRow n (all_instances_at ms is) (instances ms ps) (instance ms q)
-ProofRow-instance ms h (rows.p_1 p q) = rows.p_1 (instance ms p) (instance ms q)
-ProofRow-instance ms h (rows.p_2 p q r) = rows.p_2 (instance ms p) (instance ms q) (instance ms r)
-ProofRow-instance ms h (rows.p_3 p) = rows.p_3 (instance ms p)
-ProofRow-instance ms h (rows.mp p q) = rows.mp (instance ms p) (instance ms q)
-ProofRow-instance ms h (rows.not_1 p) = rows.not_1 (instance ms p)
-ProofRow-instance ms h (rows.not_2 p) = rows.not_2 (instance ms p)
-ProofRow-instance ms h (rows.and_1 p q) = rows.and_1 (instance ms p) (instance ms q)
-ProofRow-instance ms h (rows.and_2 p q) = rows.and_2 (instance ms p) (instance ms q)
-ProofRow-instance ms h (rows.and_3 p q) = rows.and_3 (instance ms p) (instance ms q)
-ProofRow-instance ms h (rows.or_1 p q) = rows.or_1 (instance ms p) (instance ms q)
-ProofRow-instance ms h (rows.or_2 p q) = rows.or_2 (instance ms p) (instance ms q)
-ProofRow-instance ms h (rows.or_3 p q r) = rows.or_3 (instance ms p) (instance ms q) (instance ms r)
-ProofRow-instance ms h rows.truth = rows.truth
-ProofRow-instance ms h (rows.inst p q r x s e) = rows.inst (instance ms p) (instance ms q) (instance ms r) x s (substituted-instance ms p x q h ∙ ap (option_map (instance ms)) e)
-ProofRow-instance ms h (rows.fun_ex p y s e) = rows.fun_ex (instance ms p) y s (absent-instance ms y p h ∙ e)
-ProofRow-instance ms h (rows.ex_el p q x s e) = rows.ex_el (instance ms p) (instance ms q) x s (fresh-instance ms x q h ∙ e)
-ProofRow-instance ms h (rows.eq_refl p) = rows.eq_refl (instance ms p)
-ProofRow-instance ms h (rows.eq_el p q r t u x e f) =
-    rows.eq_el (instance ms p) (instance ms q) (instance ms r) (instance ms t) (instance ms u) x
+pub Infers-instance : {r : Rule} {is : List Instance} {ps : List Pattern} {q : Pattern} (ms : List Pattern) → HaveNoVariables ms → Infers r is ps q → Infers r (all_instances_at ms is) (instances ms ps) (instance ms q)
+Infers-instance ms h (rules.p_1 p q) = rules.p_1 (instance ms p) (instance ms q)
+Infers-instance ms h (rules.p_2 p q r) = rules.p_2 (instance ms p) (instance ms q) (instance ms r)
+Infers-instance ms h (rules.p_3 p) = rules.p_3 (instance ms p)
+Infers-instance ms h (rules.mp p q) = rules.mp (instance ms p) (instance ms q)
+Infers-instance ms h (rules.not_1 p) = rules.not_1 (instance ms p)
+Infers-instance ms h (rules.not_2 p) = rules.not_2 (instance ms p)
+Infers-instance ms h (rules.and_1 p q) = rules.and_1 (instance ms p) (instance ms q)
+Infers-instance ms h (rules.and_2 p q) = rules.and_2 (instance ms p) (instance ms q)
+Infers-instance ms h (rules.and_3 p q) = rules.and_3 (instance ms p) (instance ms q)
+Infers-instance ms h (rules.or_1 p q) = rules.or_1 (instance ms p) (instance ms q)
+Infers-instance ms h (rules.or_2 p q) = rules.or_2 (instance ms p) (instance ms q)
+Infers-instance ms h (rules.or_3 p q r) = rules.or_3 (instance ms p) (instance ms q) (instance ms r)
+Infers-instance ms h rules.truth = rules.truth
+Infers-instance ms h (rules.inst p q r x s e) = rules.inst (instance ms p) (instance ms q) (instance ms r) x s (substituted-instance ms p x q h ∙ ap (option_map (instance ms)) e)
+Infers-instance ms h (rules.fun_ex p y s e) = rules.fun_ex (instance ms p) y s (absent-instance ms y p h ∙ e)
+Infers-instance ms h (rules.ex_el p q x s e) = rules.ex_el (instance ms p) (instance ms q) x s (fresh-instance ms x q h ∙ e)
+Infers-instance ms h (rules.eq_refl p) = rules.eq_refl (instance ms p)
+Infers-instance ms h (rules.eq_el p q r t u x e f) =
+    rules.eq_el (instance ms p) (instance ms q) (instance ms r) (instance ms t) (instance ms u) x
     (substituted-instance ms r x p h ∙ ap (option_map (instance ms)) e)
     (substituted-instance ms r x q h ∙ ap (option_map (instance ms)) f)
-ProofRow-instance ms h (rows.eq_in p q) = rows.eq_in (instance ms p) (instance ms q)
-ProofRow-instance ms h (rows.mem_in p s) = rows.mem_in (instance ms p) s
-ProofRow-instance ms h (rows.mem_no p q r e) = rows.mem_no (instance ms p) (instance ms q) (instance ms r) (predicate-instance ms r e)
-ProofRow-instance ms h (rows.apart p q s v) = rows.apart (instance ms p) (instance ms q) s v
-ProofRow-instance ms h (rows.app_l p q r t e) = rows.app_l (instance ms p) (instance ms q) (instance ms r) (instance ms t) (predicate-instance ms r e)
-ProofRow-instance ms h (rows.app_r p q r t e) = rows.app_r (instance ms p) (instance ms q) (instance ms r) (instance ms t) (predicate-instance ms r e)
-ProofRow-instance ms h (rows.bot_l p) = rows.bot_l (instance ms p)
-ProofRow-instance ms h (rows.bot_r p) = rows.bot_r (instance ms p)
-ProofRow-instance ms h (rows.next_in p q) = rows.next_in (instance ms p) (instance ms q)
-ProofRow-instance ms h (rows.ev_1 p) = rows.ev_1 (instance ms p)
-ProofRow-instance ms h (rows.ev_2 p) = rows.ev_2 (instance ms p)
-ProofRow-instance ms h (rows.ev_kt p q) = rows.ev_kt (instance ms p) (instance ms q)
+Infers-instance ms h (rules.eq_in p q) = rules.eq_in (instance ms p) (instance ms q)
+Infers-instance ms h (rules.mem_in p s) = rules.mem_in (instance ms p) s
+Infers-instance ms h (rules.mem_no p q r e) = rules.mem_no (instance ms p) (instance ms q) (instance ms r) (predicate-instance ms r e)
+Infers-instance ms h (rules.apart p q s v) = rules.apart (instance ms p) (instance ms q) s v
+Infers-instance ms h (rules.app_l p q r t e) = rules.app_l (instance ms p) (instance ms q) (instance ms r) (instance ms t) (predicate-instance ms r e)
+Infers-instance ms h (rules.app_r p q r t e) = rules.app_r (instance ms p) (instance ms q) (instance ms r) (instance ms t) (predicate-instance ms r e)
+Infers-instance ms h (rules.bot_l p) = rules.bot_l (instance ms p)
+Infers-instance ms h (rules.bot_r p) = rules.bot_r (instance ms p)
+Infers-instance ms h (rules.next_in p q) = rules.next_in (instance ms p) (instance ms q)
+Infers-instance ms h (rules.ev_1 p) = rules.ev_1 (instance ms p)
+Infers-instance ms h (rules.ev_2 p) = rules.ev_2 (instance ms p)
+Infers-instance ms h (rules.ev_kt p q) = rules.ev_kt (instance ms p) (instance ms q)
 
 instances-at : (ms ps : List Pattern) (k : ℕ) (p : Pattern) → k < length ps → slice_index_or ps k p ≡ p → Contains (instances ms ps) (instance ms p)
 instances-at ms [] k p lt e = absurd (omega (arith, lt))
@@ -91,7 +92,7 @@ mutual
   Derives-instance {hs = hs} {axs = axs} ms h m (by_hypothesis p c) = by_hypothesis (instance ms p) (Contains-instances ms hs p c)
   Derives-instance {hs = hs} {axs = axs} ms h m (by_axiom p c) = same_instance ms (instances ms hs) axs p (m p c) (by_axiom p c)
   Derives-instance {hs = hs} {axs = axs} ms h m (by_renaming p q c r) = same_instance ms (instances ms hs) axs q (renamed_without p q (m p c) r) (by_renaming p q c r)
-  Derives-instance ms h m (by_row n is ps q r ds) = by_row n (all_instances_at ms is) (instances ms ps) (instance ms q) (ProofRow-instance ms h r) (AllDerive-instance ms h m ds)
+  Derives-instance ms h m (ruled r is ps q i ds) = ruled r (all_instances_at ms is) (instances ms ps) (instance ms q) (Infers-instance ms h i) (AllDerive-instance ms h m ds)
 
   pub AllDerive-instance : {hs axs ps : List Pattern} (ms : List Pattern) → HaveNoVariables ms → ((p : Pattern) → Contains axs p → HasNoMeta p) → AllDerive hs axs ps → AllDerive (instances ms hs) axs (instances ms ps)
   AllDerive-instance ms h m none_left = none_left
@@ -114,7 +115,7 @@ mutual
   pub HasNoMeta-axioms : (hs : List Pattern) (d : Derivation) (q : Pattern) → Concludes hs d q → (p : Pattern) → Contains (axioms_of d) p → HasNoMeta p
   HasNoMeta-axioms hs (hypothesis r) q k p c = absurd (omega (arith, c.1))
   HasNoMeta-axioms hs (own_axiom n r) q k p c = subst (λ (t : Pattern). HasNoMeta t) (only_item r p c) k.0
-  HasNoMeta-axioms hs (row n is ds) q k p c = HasNoMeta-all_axioms hs ds k.0 k.1.1 p c
+  HasNoMeta-axioms hs (by_rule r is ds) q k p c = HasNoMeta-all_axioms hs ds k.0 k.1.1 p c
   HasNoMeta-axioms hs (cited own r d ms ds) q k p c =
       elim (Contains-append_cases (axioms_of d) (all_axioms ds) p c)
       [ inl a ↦ HasNoMeta-axioms own d r k.0 p a | inr b ↦ HasNoMeta-all_axioms hs ds (instances ms own) k.1.1.1 p b ]
@@ -138,7 +139,7 @@ mutual
   Derives-Concludes hs (hypothesis p) q k = subst (λ (t : Pattern). Derives hs [] t) k.1 (by_hypothesis p k.0)
   Derives-Concludes hs (own_axiom n p) q k =
       subst (λ (t : Pattern). Derives hs (p ∷ []) t) k.1 (by_axiom p (0, omega arith, refl))
-  Derives-Concludes hs (row n is ds) q k = by_row n is k.0 q k.1.0 (AllDerive-AllConclude hs ds k.0 k.1.1)
+  Derives-Concludes hs (by_rule r is ds) q k = ruled r is k.0 q k.1.0 (AllDerive-AllConclude hs ds k.0 k.1.1)
   Derives-Concludes hs (cited own p d ms ds) q k =
       let below : AllDerive hs (all_axioms ds) (instances ms own) = AllDerive-AllConclude hs ds (instances ms own) k.1.1.1 in
       let lemma : Derives (instances ms own) (axioms_of d) (instance ms p) =

@@ -4,18 +4,12 @@ use Rattle.std.proofs.Common as std
 use Rattle.std.proofs.lemmas.Bool.{false≢true}
 use Rattle.ml_pat.specs.Patterns.{Pattern, bot, top, imp, not, and, or, equal, member, fun, ex, all, app, at_sort, next, ev, var, meta, constant}
 use Rattle.ml_pat.specs.Judgements.{fresh, absent, substituted, predicate, both_parts, under_quantifier}
+use Rattle.ml_pat.proofs.LeafLaws.{both_true, split_true}
 use Rattle.ml_kernel.specs.Lemmas.{instance, IsMetaBelow, HasNoMeta, HasNoVariable, HaveNoVariables, HaveNoMetas}
 use Rattle.ml_kernel.specs.Renamings.{renamed}
 
 both : (a b c d : Bool) → a ≡ c → b ≡ d → (a && b) ≡ (c && d)
 both a b c d e f = cc
-
-both_true : (a b : Bool) → a ≡ true → b ≡ true → (a && b) ≡ true
-both_true a b e f = rw (e, f) refl
-
-split_true : (a b : Bool) → (a && b) ≡ true → (a ≡ true) × (b ≡ true)
-split_true true b h = (refl, h)
-split_true false b h = absurd (false≢true h)
 
 -- every variable is fresh where none stands
 pub fresh-without : (x : ℕ) (p : Pattern) → HasNoVariable p → fresh x p ≡ true

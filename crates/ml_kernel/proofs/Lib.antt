@@ -1,7 +1,6 @@
 pub mod InstanceLaws
 pub mod DerivationLaws
 pub mod Merging
-pub mod RowLaws
-pub mod OtherRowLaws
+pub mod RuleLaws
 pub mod StepLaws
 pub mod SpineLaws

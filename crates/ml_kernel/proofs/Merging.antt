@@ -5,13 +5,14 @@ use Rattle.std.specs.Borrow.{Bor}
 use Rattle.std.proofs.lemmas.List.{take_more, map-append}
 use Rattle.std.proofs.lemmas.List.Elements.{Contains-append_left, Contains-append_right, Contains-push, Contains-append_cases}
 use Rattle.ml_pat.specs.Patterns.{Pattern}
-use Rattle.ml_kernel.specs.ProofRows.{Instance, ProofRow}
-use Rattle.ml_kernel.specs.Theorems.{Theorem, Derivation, Derivations, row, cited, hypothesis, own_axiom, no_derivation, more_derivations, AddsNew, all_hypotheses, conclusions, all_derivations, derivations}
-use Rattle.ml_kernel.specs.Concluding.{Concludes, AllConclude, IsKept, AreKept}
+use Rattle.ml_kernel.specs.Rules.{Instance, Infers}
+use Rattle.ml_kernel.specs.Theorems.{Theorem, Derivation, Derivations, by_rule, cited, hypothesis, own_axiom, no_derivation, more_derivations, AddsNew, all_hypotheses, conclusions, all_derivations, derivations}
+use Rattle.ml_kernel.specs.Concluding.{Concludes, AllConclude, IsKept}
 use Rattle.ml_kernel.specs.Lemmas.{instance, instances, HaveNoVariables}
 use Rattle.ml_kernel.specs.StepView.{instance_of, instances_of}
-use Rattle.ml_kernel.specs.Premises.{part_of, parts_of, theorems_of}
+use Rattle.ml_kernel.specs.Premises.{part_of, parts_of, theorems_of, AreKept}
 use Rattle.ml_kernel.specs.declared.derivations.Inst.{Inst}
+use Rattle.ml_kernel.specs.declared.rules.Rule.{Rule}
 use Rattle.ml_kernel.specs.declared.theorems.Part.{Part}
 
 pub AddsNew-append : (old xs mid ys new : List Pattern) → AddsNew old xs mid → AddsNew mid ys new → AddsNew old (xs ++ ys) new
@@ -140,7 +141,7 @@ mutual
   pub Concludes-more : (hs hs' : List Pattern) (d : Derivation) (q : Pattern) → ((p : Pattern) → Contains hs p → Contains hs' p) → Concludes hs d q → Concludes hs' d q
   Concludes-more hs hs' (hypothesis p) q f k = (f p k.0, k.1)
   Concludes-more hs hs' (own_axiom n p) q f k = k
-  Concludes-more hs hs' (row n is ds) q f k = (k.0, (k.1.0, AllConclude-more hs hs' ds k.0 f k.1.1))
+  Concludes-more hs hs' (by_rule r is ds) q f k = (k.0, (k.1.0, AllConclude-more hs hs' ds k.0 f k.1.1))
   Concludes-more hs hs' (cited own p d ms ds) q f k =
       (k.0, (k.1.0, (k.1.1.0, AllConclude-more hs hs' ds (instances ms own) f k.1.1.1)))
 
@@ -160,12 +161,13 @@ AllConclude-kept (t ∷ ts) hs k f = (
 )
 
 -- a theorem by a rule is kept
-pub row-kept : (n : ℕ) (is held : List Instance) (ts : List Theorem) (hs : List Pattern) (ds : List Derivation) (d : Derivation) (q : Pattern)
-    → ProofRow n is (conclusions ts) q → AreKept ts → AddsNew [] (all_hypotheses ts) hs → held ≡ is → derivations ds ≡ all_derivations ts → d ≡ row n held (derivations ds) → Concludes hs d q
-row-kept n is held ts hs ds d q r k a e g last =
-    let below : AllConclude hs (all_derivations ts) (conclusions ts) = AllConclude-kept ts hs k (λ p c. Contains-AddsNew [] (all_hypotheses ts) hs p a c) in
-    subst (λ (o : Derivation). Concludes hs o q) (sym (last ∙ ap (λ is'. row n is' (derivations ds)) e ∙ ap (λ ds'. row n is ds') g))
-    (let whole : Concludes hs (row n is (all_derivations ts)) q = (conclusions ts, (r, below)) in whole)
+pub rule-kept : (r : Rule) (is held : List Instance) (ts : List Theorem) (hs : List Pattern) (ds : List Derivation) (d : Derivation) (q c : Pattern)
+    → Infers r is (conclusions ts) q → AreKept ts → AddsNew [] (all_hypotheses ts) hs → held ≡ is → derivations ds ≡ all_derivations ts → d ≡ by_rule r held (derivations ds) → c ≡ q → Concludes hs d c
+rule-kept r is held ts hs ds d q c h k a e g last same =
+    let below : AllConclude hs (all_derivations ts) (conclusions ts) = AllConclude-kept ts hs k (λ p there. Contains-AddsNew [] (all_hypotheses ts) hs p a there) in
+    subst (λ (o : Pattern). Concludes hs d o) (sym same)
+    (subst (λ (o : Derivation). Concludes hs o q) (sym (last ∙ ap (λ is'. by_rule r is' (derivations ds)) e ∙ ap (λ ds'. by_rule r is ds') g))
+    (let whole : Concludes hs (by_rule r is (all_derivations ts)) q = (conclusions ts, (h, below)) in whole))
 
 -- a theorem by a lemma is kept
 pub cited-kept : (lemma : Theorem) (ms held : List Pattern) (ts : List Theorem) (hs : List Pattern) (ds : List Derivation) (d : Derivation) (q : Pattern)

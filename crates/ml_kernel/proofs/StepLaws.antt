@@ -1,5 +1,5 @@
 use Rattle.std.proofs.Common.{◌≡◌, ◌≤◌, ◌<◌, ◌*◌, Bool, true, false, if◌then◌else◌, ◌+◌, List, [], ◌∷◌, ◌++◌, ap, ◌∙◌, arith}
-use Rattle.ml_kernel.specs.Theorems.{Derivation, hypothesis, own_axiom, row, cited, derivations}
+use Rattle.ml_kernel.specs.Theorems.{Derivation, hypothesis, own_axiom, by_rule, cited, derivations}
 use denote.Param.Weighed.{most, w_this}
 use Rattle.ml_kernel.specs.declared.derivations.Deriv.{Deriv}
 use Rattle.ml_kernel.specs.declared.derivations.Deriv.TheDeep.{size-Deriv}
@@ -8,7 +8,7 @@ use Rattle.ml_kernel.specs.StepsIn.{steps_in, all_steps}
 pub steps_in-positive : (d : Derivation) → 0 < steps_in d
 steps_in-positive (hypothesis p) = omega arith
 steps_in-positive (own_axiom n p) = omega arith
-steps_in-positive (row n is ds) = omega arith
+steps_in-positive (by_rule r is ds) = omega arith
 steps_in-positive (cited hyps q d ms ds) = omega arith
 
 -- the steps of two lists of derivations

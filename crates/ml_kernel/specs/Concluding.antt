@@ -1,15 +1,15 @@
 -- What a derivation as it is kept concludes from hypotheses, step by step.
 use Rattle.std.specs.Prelude.{◌≡◌, List, [], ◌∷◌, Contains}
 use Rattle.ml_pat.specs.Patterns.{Pattern}
-use Rattle.ml_kernel.specs.ProofRows.{ProofRow}
+use Rattle.ml_kernel.specs.Rules.{Infers}
 use Rattle.ml_kernel.specs.Lemmas.{instance, instances, HasNoMeta, HaveNoVariables}
-use Rattle.ml_kernel.specs.Theorems.{Derivation, Derivations, hypothesis, own_axiom, row, cited, no_derivation, more_derivations, Theorem}
+use Rattle.ml_kernel.specs.Theorems.{Derivation, Derivations, hypothesis, own_axiom, by_rule, cited, no_derivation, more_derivations, Theorem}
 
 abbrev mutual
   pub Concludes : List Pattern → Derivation → Pattern → Type 0
   Concludes hyps (hypothesis p) q = Contains hyps p × (p ≡ q)
   Concludes hyps (own_axiom n p) q = HasNoMeta p × (p ≡ q)
-  Concludes hyps (row n is ds) q = (ps : List Pattern) × (ProofRow n is ps q × AllConclude hyps ds ps)
+  Concludes hyps (by_rule r is ds) q = (ps : List Pattern) × (Infers r is ps q × AllConclude hyps ds ps)
   Concludes hyps (cited own p d ms ds) q =
       Concludes own d p × (HaveNoVariables ms × ((instance ms p ≡ q) × AllConclude hyps ds (instances ms own)))
 
@@ -23,8 +23,3 @@ abbrev mutual
 -- a theorem's derivation concludes its conclusion from its hypotheses
 abbrev pub IsKept : Theorem → Type 0
 IsKept t = Concludes t.hypotheses t.derivation t.conclusion
-
--- each theorem is kept so
-abbrev pub AreKept : List Theorem → Type 0
-AreKept [] = Unit {0}
-AreKept (t ∷ ts) = IsKept t × AreKept ts

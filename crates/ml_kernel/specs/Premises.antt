@@ -1,8 +1,9 @@
 -- What the code gives a rule: what stands for its variables, and theorems.
 use Rattle.std.specs.Prelude.{List, [], ◌∷◌}
 use Rattle.std.specs.Borrow.{Bor}
-use Rattle.ml_kernel.specs.ProofRows.{Instance, pattern, variable, sort}
+use Rattle.ml_kernel.specs.Rules.{Instance, pattern, variable, sort}
 use Rattle.ml_kernel.specs.Theorems.{Theorem}
+use Rattle.ml_kernel.specs.Concluding.{IsKept}
 use Rattle.ml_kernel.specs.declared.theorems.Part.{Part}
 use Rattle.ml_kernel.specs.declared.theorems.Part.TheVariants as part
 
@@ -19,3 +20,8 @@ parts_of (p ∷ ps) = part_of p ∷ parts_of ps
 abbrev pub theorems_of : List (Bor Theorem) → List Theorem
 theorems_of [] = []
 theorems_of (t ∷ ts) = t.now ∷ theorems_of ts
+
+-- each theorem is kept so
+abbrev pub AreKept : List Theorem → Type 0
+AreKept [] = Unit {0}
+AreKept (t ∷ ts) = IsKept t × AreKept ts

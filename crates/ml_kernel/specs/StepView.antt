@@ -1,13 +1,11 @@
--- The derivation that a step of the code stands for, and the theorem that a lemma stands for.
+-- The derivation that a step of the code stands for.
 use Rattle.std.specs.Prelude.{List, map}
-use Rattle.ml_kernel.specs.ProofRows.{Instance, pattern, variable, sort}
-use Rattle.ml_kernel.specs.Theorems.{Derivation, hypothesis, own_axiom, row, cited, derivations, Theorem}
+use Rattle.ml_kernel.specs.Rules.{Instance, pattern, variable, sort}
+use Rattle.ml_kernel.specs.Theorems.{Derivation, hypothesis, own_axiom, by_rule, cited, derivations}
 use Rattle.ml_kernel.specs.declared.derivations.Inst.{Inst}
 use Rattle.ml_kernel.specs.declared.derivations.Inst.TheVariants as piece
 use Rattle.ml_kernel.specs.declared.derivations.DerivStep.{DerivStep}
 use Rattle.ml_kernel.specs.declared.derivations.DerivStep.TheVariants as step
-use Rattle.ml_kernel.specs.declared.derivations.Deriv.TheInside as tree
-use Rattle.ml_kernel.specs.declared.derivations.Lemma.TheInside as lemma
 
 abbrev pub instance_of : Inst → Instance
 instance_of (piece.Pat p) = pattern p
@@ -20,11 +18,5 @@ instances_of is = map instance_of is
 abbrev pub derivation_of : DerivStep → Derivation
 derivation_of (step.Hyp p) = hypothesis p
 derivation_of (step.Axiom n p) = own_axiom n.0 p
-derivation_of (step.Row n is ds) = row n (instances_of is.items) (derivations ds.items)
+derivation_of (step.ByRule r is ds) = by_rule r (instances_of is.items) (derivations ds.items)
 derivation_of (step.Cited l ms ds) = cited l.hypotheses l.conclusion l.derivation ms.items (derivations ds.items)
-
-abbrev pub whole_derivation : tree.Inside → Derivation
-whole_derivation a = derivation_of a.node.value
-
-abbrev pub lemma_theorem : lemma.Inside → Theorem
-lemma_theorem a = record { hypotheses = a.hypotheses.items; conclusion = a.conclusion; derivation = a.derivation }

@@ -1,12 +1,12 @@
 -- How many steps a derivation has, with those of the lemmas that it cites; a lemma itself counts as one more.
 use Rattle.std.specs.Prelude.{ℕ, ◌+◌}
-use Rattle.ml_kernel.specs.Theorems.{Derivation, Derivations, hypothesis, own_axiom, row, cited, no_derivation, more_derivations, Theorem}
+use Rattle.ml_kernel.specs.Theorems.{Derivation, Derivations, hypothesis, own_axiom, by_rule, cited, no_derivation, more_derivations, Theorem}
 
 abbrev mutual
   pub steps_in : Derivation → ℕ
   steps_in (hypothesis p) = 1
   steps_in (own_axiom n p) = 1
-  steps_in (row n is ds) = all_steps ds + 1
+  steps_in (by_rule r is ds) = all_steps ds + 1
   steps_in (cited hyps q d ms ds) = steps_in d + all_steps ds + 2
 
   pub all_steps : Derivations → ℕ

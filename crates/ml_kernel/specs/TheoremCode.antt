@@ -1,12 +1,58 @@
 -- Derivations and theorems as lists of tokens, and back: by this the proofs tell them apart.
-use Rattle.std.specs.Prelude.{◌≡◌, refl, ℕ, List, [], ◌∷◌, ◌⊎◌}
+use Rattle.std.specs.Prelude.{◌≡◌, refl, ℕ, List, [], ◌∷◌, ◌⊎◌, if◌then◌else◌, bytes_eq}
 use Rattle.std.proofs.Common.{inl, inr, ◌∙◌, ap}
 use Rattle.std.specs.Coded.{Coded, code_by, coded×, coded⊎, coded_ℕ, coded_list}
 use base.Stored.{coded_unit}
-use Rattle.ml_pat.specs.Patterns.{Pattern}
+use Rattle.ml_pat.specs.Patterns.{Pattern, bot}
 use Rattle.ml_pat.specs.PatternCode.{pattern_code}
-use Rattle.ml_kernel.specs.ProofRows.{Instance, pattern, variable, sort}
-use Rattle.ml_kernel.specs.Theorems.{Derivation, Derivations, hypothesis, own_axiom, row, cited, no_derivation, more_derivations, Theorem}
+use Rattle.ml_kernel.specs.Rules.{Instance, pattern, variable, sort, label}
+use Rattle.ml_kernel.specs.Theorems.{Derivation, Derivations, hypothesis, own_axiom, by_rule, cited, no_derivation, more_derivations, Theorem}
+use Rattle.ml_kernel.specs.declared.rules.Rule.{Rule}
+use Rattle.ml_kernel.specs.declared.rules.Rule.TheVariants as rule
+
+-- a rule is stored as its label
+abbrev all_rules : List Rule
+all_rules =
+    rule.P1 ∷ rule.P2 ∷ rule.P3 ∷ rule.Mp ∷ rule.Not1 ∷ rule.Not2 ∷ rule.And1 ∷ rule.And2 ∷ rule.And3 ∷ rule.Or1 ∷ rule.Or2 ∷ rule.Or3 ∷ rule.Top ∷ rule.Inst ∷ rule.FunEx ∷ rule.ExEl ∷ rule.EqRefl ∷ rule.EqEl ∷ rule.EqIn ∷ rule.MemIn ∷ rule.MemNo ∷ rule.Apart ∷ rule.AppL ∷ rule.AppR ∷ rule.BotL ∷ rule.BotR ∷ rule.NextIn ∷ rule.Ev1 ∷ rule.Ev2 ∷ rule.EvKt ∷ []
+
+abbrev rule_with : List Rule → List ℕ → Rule
+rule_with [] token = rule.P1
+rule_with (r ∷ rs) token = if bytes_eq (label r) token then r else rule_with rs token
+
+pub rule_with-label : (r : Rule) → rule_with all_rules (label r) ≡ r
+rule_with-label rule.P1 = refl
+rule_with-label rule.P2 = refl
+rule_with-label rule.P3 = refl
+rule_with-label rule.Mp = refl
+rule_with-label rule.Not1 = refl
+rule_with-label rule.Not2 = refl
+rule_with-label rule.And1 = refl
+rule_with-label rule.And2 = refl
+rule_with-label rule.And3 = refl
+rule_with-label rule.Or1 = refl
+rule_with-label rule.Or2 = refl
+rule_with-label rule.Or3 = refl
+rule_with-label rule.Top = refl
+rule_with-label rule.Inst = refl
+rule_with-label rule.FunEx = refl
+rule_with-label rule.ExEl = refl
+rule_with-label rule.EqRefl = refl
+rule_with-label rule.EqEl = refl
+rule_with-label rule.EqIn = refl
+rule_with-label rule.MemIn = refl
+rule_with-label rule.MemNo = refl
+rule_with-label rule.Apart = refl
+rule_with-label rule.AppL = refl
+rule_with-label rule.AppR = refl
+rule_with-label rule.BotL = refl
+rule_with-label rule.BotR = refl
+rule_with-label rule.NextIn = refl
+rule_with-label rule.Ev1 = refl
+rule_with-label rule.Ev2 = refl
+rule_with-label rule.EvKt = refl
+
+abbrev rule_code : Coded Rule
+rule_code = code_by (List ℕ) (coded_list coded_ℕ) label (rule_with all_rules) rule_with-label
 
 abbrev instance_cases : Instance → Pattern ⊎ (ℕ ⊎ ℕ)
 instance_cases (pattern p) = inl p
@@ -27,21 +73,21 @@ abbrev instance_code : Coded Instance
 instance_code =
     code_by (Pattern ⊎ (ℕ ⊎ ℕ)) (coded⊎ pattern_code (coded⊎ coded_ℕ coded_ℕ)) instance_cases instance_of_cases instance_of_cases-instance_cases
 
--- A token opens a list of derivations, or is a hypothesis or an axiom, or ends the derivations below a row or a citation.
+-- A token opens a list of derivations, or is a hypothesis or an axiom, or ends the derivations below a rule or a citation.
 abbrev Token : Type 0
-Token = (Unit {0} ⊎ (Pattern ⊎ (ℕ × Pattern))) ⊎ ((ℕ × List Instance) ⊎ (List Pattern × (Pattern × List Pattern)))
+Token = (Unit {0} ⊎ (Pattern ⊎ (ℕ × Pattern))) ⊎ ((Rule × List Instance) ⊎ (List Pattern × (Pattern × List Pattern)))
 
 abbrev token_code : Coded Token
 token_code =
     coded⊎ (coded⊎ coded_unit (coded⊎ pattern_code (coded× coded_ℕ pattern_code)))
-    (coded⊎ (coded× coded_ℕ (coded_list instance_code)) (coded× (coded_list pattern_code) (coded× pattern_code (coded_list pattern_code))))
+    (coded⊎ (coded× rule_code (coded_list instance_code)) (coded× (coded_list pattern_code) (coded× pattern_code (coded_list pattern_code))))
 
 -- the tokens of a derivation, and of derivations from the last one on, in front of others
 abbrev mutual
   tokens : Derivation → List Token → List Token
   tokens (hypothesis p) rest = inl (inr (inl p)) ∷ rest
   tokens (own_axiom n p) rest = inl (inr (inr (n, p))) ∷ rest
-  tokens (row n is ds) rest = inl (inl tt) ∷ all_tokens ds (inr (inl (n, is)) ∷ rest)
+  tokens (by_rule r is ds) rest = inl (inl tt) ∷ all_tokens ds (inr (inl (r, is)) ∷ rest)
   tokens (cited hyps q d ms ds) rest =
       inl (inl tt) ∷ tokens d (inl (inl tt) ∷ all_tokens ds (inr (inr (hyps, (q, ms))) ∷ rest))
 
@@ -57,7 +103,7 @@ read_token (inl (inr (inl p))) (f ∷ fs) = more_derivations (hypothesis p) f �
 read_token (inl (inr (inr k))) (f ∷ fs) = more_derivations (own_axiom k.0 k.1) f ∷ fs
 read_token (inr k) [] = []
 read_token (inr k) (ds ∷ []) = []
-read_token (inr (inl k)) (ds ∷ (f ∷ fs)) = more_derivations (row k.0 k.1 ds) f ∷ fs
+read_token (inr (inl k)) (ds ∷ (f ∷ fs)) = more_derivations (by_rule k.0 k.1 ds) f ∷ fs
 read_token (inr (inr k)) (ds ∷ (no_derivation ∷ fs)) = []
 read_token (inr (inr k)) (ds ∷ (more_derivations d rest ∷ [])) = []
 read_token (inr (inr k)) (ds ∷ (more_derivations d rest ∷ (f ∷ fs))) = more_derivations (cited k.0 k.1.0 d k.1.1 ds) f ∷ fs
@@ -70,7 +116,7 @@ mutual
   read_all-tokens : (d : Derivation) (rest : List Token) (f : Derivations) (fs : List Derivations) → read_all (tokens d rest) (f ∷ fs) ≡ read_all rest (more_derivations d f ∷ fs)
   read_all-tokens (hypothesis p) rest f fs = refl
   read_all-tokens (own_axiom n p) rest f fs = refl
-  read_all-tokens (row n is ds) rest f fs = read_all-all_tokens ds (inr (inl (n, is)) ∷ rest) (f ∷ fs)
+  read_all-tokens (by_rule r is ds) rest f fs = read_all-all_tokens ds (inr (inl (r, is)) ∷ rest) (f ∷ fs)
   read_all-tokens (cited hyps q d ms ds) rest f fs =
       read_all-tokens d (inl (inl tt) ∷ all_tokens ds (inr (inr (hyps, (q, ms))) ∷ rest)) no_derivation (f ∷ fs)
       ∙ read_all-all_tokens ds (inr (inr (hyps, (q, ms))) ∷ rest) (more_derivations d no_derivation ∷ (f ∷ fs))
@@ -82,8 +128,8 @@ mutual
 
 -- the first derivation of the list on top
 abbrev first_derivation : List Derivations → Derivation
-first_derivation [] = row 0 [] no_derivation
-first_derivation (no_derivation ∷ fs) = row 0 [] no_derivation
+first_derivation [] = hypothesis bot
+first_derivation (no_derivation ∷ fs) = hypothesis bot
 first_derivation (more_derivations d ds ∷ fs) = d
 
 pub first_derivation-tokens : (d : Derivation) → first_derivation (read_all (tokens d []) (no_derivation ∷ [])) ≡ d

@@ -2,8 +2,9 @@
 -- lemma at instances of its pattern variables.
 use Rattle.std.specs.Prelude.{◌≡◌, ℕ, List, [], ◌∷◌, ◌++◌, ◌⊎◌, Contains}
 use Rattle.ml_pat.specs.Patterns.{Pattern}
-use Rattle.ml_kernel.specs.ProofRows.{Instance}
+use Rattle.ml_kernel.specs.Rules.{Instance}
 use Rattle.ml_kernel.specs.Derivability.{Derives}
+use Rattle.ml_kernel.specs.declared.rules.Rule.{Rule}
 
 -- An axiom has its number in its theory. A citation has the lemma's hypotheses, conclusion and derivation, what stands for
 -- its pattern variables, and the derivations of its hypotheses.
@@ -11,7 +12,7 @@ mutual
   pub data Derivation : Type 0 where
     hypothesis : Pattern → Derivation
     own_axiom : ℕ → Pattern → Derivation
-    row : ℕ → List Instance → Derivations → Derivation
+    by_rule : Rule → List Instance → Derivations → Derivation
     cited : List Pattern → Pattern → Derivation → List Pattern → Derivations → Derivation
 
   pub data Derivations : Type 0 where
@@ -46,7 +47,7 @@ abbrev mutual
   pub axioms_of : Derivation → List Pattern
   axioms_of (hypothesis p) = []
   axioms_of (own_axiom n p) = p ∷ []
-  axioms_of (row n is ds) = all_axioms ds
+  axioms_of (by_rule r is ds) = all_axioms ds
   axioms_of (cited hyps q d ms ds) = axioms_of d ++ all_axioms ds
 
   pub all_axioms : Derivations → List Pattern
@@ -59,11 +60,12 @@ AddsNew old [] new = new ≡ old
 AddsNew old (p ∷ ps) new =
     (Contains old p × AddsNew old ps new) ⊎ ((Contains old p → ⊥) × AddsNew (old ++ p ∷ []) ps new)
 
--- The theorem has just the hypotheses of these theorems, in order, each once, and its last step is the row at these
--- instances over their derivations.
-pub record IsByRow (n : ℕ) (is : List Instance) (ts : List Theorem) (t : Theorem) : Type 0 where
+-- The theorem concludes q from these theorems by the rule: it has just their hypotheses, in order, each once, and its last
+-- step is the rule at these instances over their derivations.
+pub record IsByRule (r : Rule) (is : List Instance) (ts : List Theorem) (q : Pattern) (t : Theorem) : Type 0 where
+  pub conclusion : t.conclusion ≡ q
   pub kept_hypotheses : AddsNew [] (all_hypotheses ts) t.hypotheses
-  pub last_step : t.derivation ≡ row n is (all_derivations ts)
+  pub last_step : t.derivation ≡ by_rule r is (all_derivations ts)
 
 -- The theorem has just the hypotheses of these theorems, and its last step cites the lemma at these instances over their
 -- derivations.

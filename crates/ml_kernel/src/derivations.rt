@@ -5,6 +5,7 @@ ghost use Rattle.ml_kernel.specs.Theorems.{derivations};
 ghost use Rattle.ml_kernel.specs.StepsIn.{steps_in, all_steps};
 ghost use Rattle.ml_kernel.specs.Concluding.{IsKept};
 
+use crate::rules::Rule;
 use ml_pat::{MPat, MSort, VarNo};
 use std::alloc::{AllocError, Global};
 use std::marker::Model;
@@ -39,9 +40,8 @@ pub enum DerivStep {
     Hyp(MPat),
     /// An axiom, by its number in its theory.
     Axiom(AxiomNo, MPat),
-    /// A rule by its number, from 0 on in the order of the rules; what stands for its variables, in the order of its call;
-    /// and the derivations of what it asks.
-    Row(u8, Vec<Inst>, Vec<Deriv>),
+    /// A rule; what stands for its variables, in the order of its call; and the derivations of what it concludes from.
+    ByRule(Rule, Vec<Inst>, Vec<Deriv>),
     /// A lemma, what stands for its pattern variables, and the derivations of its hypotheses.
     Cited(Lemma, Vec<MPat>, Vec<Deriv>),
 }
@@ -65,7 +65,7 @@ impl Model for Deriv {
     ghost coded = { derivation_code };
 
     ghost use Rattle.ml_kernel.specs.StepsIn.{steps_in};
-    ghost use Rattle.ml_kernel.specs.StepView.{whole_derivation};
+    ghost use Rattle.ml_kernel.specs.DerivationView.{whole_derivation};
 
     ghost view = { whole_derivation };
 
@@ -87,7 +87,7 @@ impl Model for Lemma {
 
     ghost use Rattle.ml_kernel.specs.StepsIn.{theorem_steps};
     ghost use Rattle.ml_kernel.specs.Concluding.{IsKept};
-    ghost use Rattle.ml_kernel.specs.StepView.{lemma_theorem};
+    ghost use Rattle.ml_kernel.specs.DerivationView.{lemma_theorem};
 
     ghost view = { lemma_theorem };
 
@@ -137,7 +137,7 @@ impl DerivStep {
         match self {
             DerivStep::Hyp(_p) => None,
             DerivStep::Axiom(_no, _p) => None,
-            DerivStep::Row(_no, _instances, parts) => Some(parts),
+            DerivStep::ByRule(_rule, _instances, parts) => Some(parts),
             DerivStep::Cited(lemma, _metas, mut parts) => {
                 let Lemma {
                     hypotheses: _hypotheses,

@@ -4,6 +4,7 @@ ghost use Rattle.ml_pat.specs.Patterns.{top, imp};
 
 use crate::derivations::{DerivStep, Lemma};
 use crate::instances::instance;
+use crate::rules::Rule;
 use crate::theorems::Thm;
 use crate::theory::Theory;
 use ml_pat::{ConstNo, MPat, MSort, VarNo};
@@ -29,7 +30,7 @@ fn detaches(rt: HostRuntime) -> Result<(), Fail> {
     assert!(rt; thm.conclusion().same(&q));
     assert_eq!(rt; thm.hypotheses().len(), 2);
     assert!(rt; thm.hypotheses()[0].same(&p));
-    assert!(rt; matches!(thm.derivation().step(), DerivStep::Row(3, _, _)));
+    assert!(rt; matches!(thm.derivation().step(), DerivStep::ByRule(Rule::Mp, _, _)));
     Ok(())
 }
 

@@ -1,14 +1,15 @@
 // Theorems, and the private call by which each rule makes one.
 ghost use Rattle.std.specs.Prelude.{◌≡◌, ◌↔◌, [], ◌∷◌, length, IfOk, OnOk, IsTrue, Contains};
-ghost use Rattle.ml_kernel.specs.ProofRows.{ProofRow};
-ghost use Rattle.ml_kernel.specs.Theorems.{Theorem, hypothesis, own_axiom, cited, AddsNew, all_hypotheses, conclusions, all_derivations, derivations, IsByRow, IsByLemma, IsDerived};
+ghost use Rattle.ml_kernel.specs.Rules.{Infers};
+ghost use Rattle.ml_kernel.specs.Theorems.{Theorem, hypothesis, own_axiom, cited, AddsNew, all_hypotheses, conclusions, all_derivations, derivations, IsByRule, IsByLemma, IsDerived};
 ghost use Rattle.ml_kernel.specs.Lemmas.{instance, instances, IsMetaBelow, AreMetasBelow, HasNoMeta, HaveNoVariables};
-ghost use Rattle.ml_kernel.specs.Concluding.{IsKept, AreKept};
+ghost use Rattle.ml_kernel.specs.Concluding.{IsKept};
 ghost use Rattle.ml_kernel.specs.StepView.{instance_of, instances_of};
-ghost use Rattle.ml_kernel.specs.Premises.{part_of, parts_of, theorems_of};
+ghost use Rattle.ml_kernel.specs.Premises.{part_of, parts_of, theorems_of, AreKept};
 
 use crate::derivations::{AxiomNo, Deriv, DerivStep, Inst, Lemma, all_shared};
 use crate::instances::instance;
+use crate::rules::Rule;
 use ml_pat::{MPat, MSort, VarNo};
 use std::alloc::{AllocError, Global};
 use std::marker::Model;
@@ -136,24 +137,23 @@ impl Thm {
     }
 
     // The theorem that a rule concludes from theorems.
-    pub(crate) fn by_row(
+    pub(crate) fn by_rule(
         alloc: Global,
-        number: u8,
+        rule: Rule,
         parts: &[Part<'_>],
         premises: &[&Thm],
-        conclusion: MPat,
+        conclusion: &MPat,
     ) -> Result<Thm, AllocError>
-        requires { ProofRow number (parts_of parts.now) (conclusions (theorems_of premises.now)) conclusion }
-        ensures conclusion { IfOk result (λ t. t.conclusion ≡ conclusion) }
-        ensures row { IfOk result (λ t. IsByRow number (parts_of parts.now) (theorems_of premises.now) t) }
+        requires { Infers rule (parts_of parts.now) (conclusions (theorems_of premises.now)) conclusion.now }
+        ensures { IfOk result (IsByRule rule (parts_of parts.now) (theorems_of premises.now) conclusion.now) }
     {
         let instances = kept_parts(alloc, parts)?;
         let hypotheses = merged(alloc, premises)?;
         let below = kept_derivations(alloc, premises)?;
-        let derivation = Deriv::of(alloc, DerivStep::Row(number, instances, below))?;
+        let derivation = Deriv::of(alloc, DerivStep::ByRule(rule, instances, below))?;
         Ok(Thm {
             hypotheses,
-            conclusion,
+            conclusion: conclusion.share()?,
             derivation,
         })
     }

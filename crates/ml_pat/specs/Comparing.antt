@@ -1,6 +1,7 @@
 -- How forms compare, where the comparison of their first parts may be left.
 use Rattle.std.specs.Prelude.{◌≡◌, ◌↔◌, ◌<◌, Bool, true, false, IsTrue}
-use Rattle.ml_pat.specs.Patterns.{Pattern, forms_in}
+use Rattle.ml_pat.specs.Patterns.{Pattern}
+use Rattle.ml_pat.specs.FormsIn.{forms_in}
 use Rattle.ml_pat.specs.declared.same.Comparison.{Comparison}
 use Rattle.ml_pat.specs.declared.same.Comparison.TheVariants as comparison
 

@@ -1,6 +1,9 @@
 pub mod Patterns
-pub mod PatternCode
+pub mod FormsIn
+pub mod Leaves
 pub mod PatternView
+pub mod WholePattern
+pub mod PatternCode
 pub mod PatternSize
 pub mod Judgements
 pub mod Named

@@ -1,7 +1,7 @@
 -- The parts of a pattern are smaller than the pattern.
 use Rattle.std.specs.Prelude.{◌≤◌}
 use Rattle.std.proofs.Common.{arith}
-use Rattle.ml_pat.specs.Patterns.{forms_in}
+use Rattle.ml_pat.specs.FormsIn.{forms_in}
 use Rattle.ml_pat.specs.PatternView.{pattern_of}
 use Rattle.ml_pat.specs.declared.patterns.MForm.{MForm}
 use Rattle.ml_pat.specs.declared.patterns.MForm.TheVariants as form

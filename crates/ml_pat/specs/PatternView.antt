@@ -2,7 +2,6 @@
 use Rattle.ml_pat.specs.Patterns.{Pattern, bot, top, imp, not, and, or, equal, member, fun, ex, all, app, at_sort, next, ev, var, meta, constant}
 use Rattle.ml_pat.specs.declared.patterns.MForm.{MForm}
 use Rattle.ml_pat.specs.declared.patterns.MForm.TheVariants as form
-use Rattle.ml_pat.specs.declared.patterns.MPat.TheInside.{Inside}
 
 abbrev pub pattern_of : MForm → Pattern
 pattern_of form.Bot = bot
@@ -23,6 +22,3 @@ pattern_of (form.Ev p) = ev p
 pattern_of (form.Var x) = var x.0
 pattern_of (form.Meta i) = meta i
 pattern_of (form.Const c) = constant c.0
-
-abbrev pub whole_pattern : Inside → Pattern
-whole_pattern a = pattern_of a.node.value

@@ -1,6 +1,6 @@
 -- Patterns of matching logic with one-step and many-step reachability (Rosu 2017; Chen and Rosu 2019). Variables, sorts
 -- and constants are numbers here, without bound.
-use Rattle.std.specs.Prelude.{ℕ, ◌+◌}
+use Rattle.std.specs.Prelude.{ℕ}
 
 -- `equal` and `member` are definedness of an equality and of a membership, and `fun p s` says that p is one element of
 -- the sort s. `ex` and `all` bind a variable of a sort. `app` applies p to q, and `at p s` gives p a sort argument.
@@ -25,24 +25,3 @@ pub data Pattern : Type 0 where
   var : ℕ → Pattern
   meta : ℕ → Pattern
   constant : ℕ → Pattern
-
--- the number of a pattern's forms
-abbrev pub forms_in : Pattern → ℕ
-forms_in bot = 1
-forms_in top = 1
-forms_in (imp p q) = forms_in p + forms_in q + 1
-forms_in (not p) = forms_in p + 1
-forms_in (and p q) = forms_in p + forms_in q + 1
-forms_in (or p q) = forms_in p + forms_in q + 1
-forms_in (equal p q) = forms_in p + forms_in q + 1
-forms_in (member p q) = forms_in p + forms_in q + 1
-forms_in (fun p s) = forms_in p + 1
-forms_in (ex x s p) = forms_in p + 1
-forms_in (all x s p) = forms_in p + 1
-forms_in (app p q) = forms_in p + forms_in q + 1
-forms_in (at_sort p s) = forms_in p + 1
-forms_in (next p) = forms_in p + 1
-forms_in (ev p) = forms_in p + 1
-forms_in (var x) = 1
-forms_in (meta i) = 1
-forms_in (constant c) = 1

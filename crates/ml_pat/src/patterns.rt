@@ -1,6 +1,7 @@
 // Patterns of matching logic, shared and not copied.
 ghost use Rattle.std.specs.Prelude.{◌≡◌, ◌<◌, IfOk, IfSome};
-ghost use Rattle.ml_pat.specs.Patterns.{forms_in, bot, top, imp, not, and, or, equal, member, fun, ex, all, app, at_sort, next, ev, var, meta, constant};
+ghost use Rattle.ml_pat.specs.FormsIn.{forms_in};
+ghost use Rattle.ml_pat.specs.Patterns.{bot, top, imp, not, and, or, equal, member, fun, ex, all, app, at_sort, next, ev, var, meta, constant};
 ghost use Rattle.ml_pat.specs.PatternView.{pattern_of};
 
 use crate::numbers::{ConstNo, MSort, VarNo};
@@ -57,14 +58,15 @@ pub enum MForm {
 }
 
 impl Model for MPat {
-    ghost use Rattle.ml_pat.specs.Patterns.{Pattern, forms_in};
+    ghost use Rattle.ml_pat.specs.FormsIn.{forms_in};
+    ghost use Rattle.ml_pat.specs.Patterns.{Pattern};
     ghost use Rattle.ml_pat.specs.PatternCode.{pattern_code};
 
     ghost Value = { Pattern };
 
     ghost coded = { pattern_code };
 
-    ghost use Rattle.ml_pat.specs.PatternView.{whole_pattern};
+    ghost use Rattle.ml_pat.specs.WholePattern.{whole_pattern};
 
     ghost view = { whole_pattern };
 

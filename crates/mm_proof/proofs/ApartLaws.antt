@@ -8,9 +8,10 @@ use Rattle.mm_database.specs.Database.{Context}
 use Rattle.mm_database.specs.Proofs.{symbols_apart, texts_apart}
 use Rattle.ml_pat.specs.Patterns.{Pattern}
 use Rattle.mm_proof.specs.Tokens.{Naming, letters_of, text_by}
-use Rattle.mm_proof.specs.Leaves.{LeafFacts, EachLeaf}
+use Rattle.ml_pat.specs.Leaves.{LeafFacts, EachLeaf}
 use Rattle.mm_proof.specs.Serving.{Serves, punctuation}
-use Rattle.mm_proof.proofs.LeafLaws.{EachLeaf-implied, tested_leaves, other_leaves, both_true, list_all-text}
+use Rattle.ml_pat.proofs.LeafLaws.{EachLeaf-implied, other_leaves, both_true}
+use Rattle.mm_proof.proofs.LeafLaws.{tested_leaves, list_all-text}
 
 first_constant : (a b : Bool) (e s : Bool) → b ≡ false → (not (a && b) || (e && s)) ≡ true
 first_constant true b e s h = rw h refl

@@ -4,7 +4,7 @@ use Rattle.std.specs.Prelude.{decimal, ◌&&◌}
 use Rattle.std.specs.List.{list_all}
 use Rattle.std.proofs.lemmas.Fmt.{decimal_by_steps, decimal_is_IsNumeral}
 use Rattle.std.specs.Str.Parse.{digits_value}
-use Rattle.mm_proof.proofs.LeafLaws.{both_true}
+use Rattle.ml_pat.proofs.LeafLaws.{both_true}
 
 list_all-append : (test : ℕ → Bool) (xs ys : List ℕ) → list_all test xs ≡ true → list_all test ys ≡ true → list_all test (xs ++ ys) ≡ true
 list_all-append test [] ys h k = k

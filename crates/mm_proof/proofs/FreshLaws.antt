@@ -8,13 +8,13 @@ use Rattle.mm_database.specs.Proofs.{Expression, Proves, texts_apart, symbols_ap
 use Rattle.ml_pat.specs.Patterns.{Pattern, bot, top, imp, not, and, or, equal, member, fun, ex, all, app, at_sort, next, ev, var, meta, constant}
 use Rattle.ml_pat.specs.Judgements.{fresh}
 use Rattle.mm_proof.specs.Tokens.{Naming, letters_of, text_by, is_fresh, judgement_by}
-use Rattle.mm_proof.specs.Leaves.{LeafFacts, EachLeaf}
+use Rattle.ml_pat.specs.Leaves.{LeafFacts, EachLeaf}
 use Rattle.mm_proof.specs.Serving.{Serves}
 use Rattle.mm_proof.specs.Trees.{cite, syntax_tree, fresh_tree}
 use Rattle.mm_proof.proofs.Schemes.{under}
 use Rattle.mm_proof.proofs.RowProofs.{sigma_of, row_proves}
 use Rattle.mm_proof.proofs.SyntaxLaws.{pattern_text, sort_text, object_text, sort_proves, object_proves, syntax_proves}
-use Rattle.mm_proof.proofs.LeafLaws.{split_true, not_true, other_leaves}
+use Rattle.ml_pat.proofs.LeafLaws.{split_true, not_true, other_leaves}
 use Rattle.mm_proof.proofs.ApartLaws.{text_apart, apart_text}
 use Rattle.mm_proof.proofs.Rows.{header_naming, no_pair, pair_of, IsRow, P, Q, fp, fq, fx, fy, fs, fr_d, fr_imp, fr_and, fr_or, fr_eq, fr_mem, fr_app, fr_not, fr_next, fr_ev, fr_at, fr_fun, fr_ex, fr_all, fr_exb, fr_allb}
 

@@ -11,9 +11,8 @@ pub mod SubstitutionLaws
 pub mod Stacking
 pub mod Looking
 pub mod RuleLaws
-pub mod DerivationProofs
 pub mod WrittenTogether
 pub mod Decimals
 pub mod AgreeLaws
-pub mod OpenCitingDerivations
-pub mod RowLabelLaws
+pub mod CitingDerivations
+pub mod RuleLabelLaws

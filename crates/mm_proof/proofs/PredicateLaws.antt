@@ -8,13 +8,13 @@ use Rattle.mm_database.specs.Proofs.{Expression, Proves}
 use Rattle.ml_pat.specs.Patterns.{Pattern, bot, top, imp, not, and, or, equal, member, fun, ex, all, app, at_sort, next, ev, var, meta, constant}
 use Rattle.ml_pat.specs.Judgements.{predicate}
 use Rattle.mm_proof.specs.Tokens.{Naming, letters_of, is_predicate, judgement_by}
-use Rattle.mm_proof.specs.Leaves.{LeafFacts, EachLeaf}
+use Rattle.ml_pat.specs.Leaves.{LeafFacts, EachLeaf}
 use Rattle.mm_proof.specs.Serving.{Serves}
 use Rattle.mm_proof.specs.Trees.{cite, syntax_tree, predicate_tree}
 use Rattle.mm_proof.proofs.Schemes.{under}
 use Rattle.mm_proof.proofs.RowProofs.{sigma_of, row_proves}
 use Rattle.mm_proof.proofs.SyntaxLaws.{pattern_text, sort_text, object_text, sort_proves, object_proves, syntax_proves}
-use Rattle.mm_proof.proofs.LeafLaws.{split_true}
+use Rattle.ml_pat.proofs.LeafLaws.{split_true}
 use Rattle.mm_proof.proofs.Rows.{header_naming, no_pair, IsRow, P, Q, fp, fq, fx, fs, pr_bot, pr_top, pr_imp, pr_and, pr_or, pr_eq, pr_mem, pr_not, pr_fun, pr_ex, pr_all}
 
 abbrev pub predicate_text : Naming → Pattern → Expression

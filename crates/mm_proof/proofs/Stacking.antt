@@ -3,7 +3,8 @@ use Rattle.std.proofs.Common.{◌≡◌, ℕ, ◌+◌, ◌*◌, ◌<◌, ◌≤�
 use Rattle.std.specs.Prelude.{OnOk, ◌-◌}
 use Rattle.mm_text.specs.TextLaws.{written}
 use Rattle.mm_text.specs.Bytes.{Token}
-use Rattle.mm_proof.specs.Writing.{word_token, work_tokens, stack_tokens, IsTaken, weight, stack_weight, PutsOn, PutsMore}
+use Rattle.mm_proof.specs.Writing.{word_token, work_tokens}
+use Rattle.mm_proof.specs.WorkStacks.{stack_tokens, IsTaken, weight, stack_weight, PutsOn, PutsMore}
 use Rattle.mm_proof.specs.declared.words.Word.{Word}
 use Rattle.mm_proof.specs.declared.works.Work.{Work}
 use Rattle.mm_proof.specs.declared.works.Work.TheVariants as work

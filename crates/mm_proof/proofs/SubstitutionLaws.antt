@@ -8,13 +8,13 @@ use Rattle.mm_database.specs.Proofs.{Expression, Proves, symbols_apart, texts_ap
 use Rattle.ml_pat.specs.Patterns.{Pattern, bot, top, imp, not, and, or, equal, member, fun, ex, all, app, at_sort, next, ev, var, meta, constant}
 use Rattle.ml_pat.specs.Judgements.{fresh, substituted, both_parts}
 use Rattle.mm_proof.specs.Tokens.{Naming, letters_of, is_fresh, is_substituted, judgement_by}
-use Rattle.mm_proof.specs.Leaves.{LeafFacts, EachLeaf}
+use Rattle.ml_pat.specs.Leaves.{LeafFacts, EachLeaf}
 use Rattle.mm_proof.specs.Serving.{Serves}
 use Rattle.mm_proof.specs.Trees.{cite, syntax_tree, fresh_tree, first_part, unchanged_tree, substitution_tree}
 use Rattle.mm_proof.proofs.Schemes.{under}
 use Rattle.mm_proof.proofs.RowProofs.{sigma_of, row_proves}
 use Rattle.mm_proof.proofs.SyntaxLaws.{pattern_text, sort_text, object_text, sort_proves, object_proves, syntax_proves}
-use Rattle.mm_proof.proofs.LeafLaws.{split_true, not_true}
+use Rattle.ml_pat.proofs.LeafLaws.{split_true, not_true}
 use Rattle.mm_proof.proofs.ApartLaws.{turned}
 use Rattle.mm_proof.proofs.FreshLaws.{fresh_text, fresh_proves, two_apart}
 use Rattle.mm_proof.proofs.Rows.{header_naming, no_pair, pair_of, IsRow, P, Q, R, T, U, fp, fq, fr, ft, fu, fx, fy, fs, su_v, su_f, su_imp, su_and, su_or, su_eq, su_mem, su_app, su_not, su_next, su_ev, su_at, su_fun, su_ex, su_all}

@@ -2,10 +2,11 @@
 use Rattle.std.specs.Prelude.{◌≡◌, ◌==◌, if◌then◌else◌, [], ◌∷◌, codes}
 use Rattle.mm_database.specs.Proofs.{postorder}
 use Rattle.ml_pat.specs.Patterns.{bot, imp, app, all, ex, fun, equal, var, constant}
-use Rattle.ml_kernel.specs.ProofRows.{pattern, variable, sort}
-use Rattle.ml_kernel.specs.Theorems.{row, own_axiom, no_derivation, more_derivations}
+use Rattle.ml_kernel.specs.Rules.{pattern, variable, sort}
+use Rattle.ml_kernel.specs.Theorems.{by_rule, own_axiom, no_derivation, more_derivations}
+use Rattle.ml_kernel.specs.declared.rules.Rule.TheVariants as rule
 use Rattle.mm_proof.specs.Tokens.{Naming, tokens_of, object_token}
-use Rattle.mm_proof.specs.Trees.{cite, syntax_tree, fresh_tree, substitution_tree, predicate_tree, row_tree}
+use Rattle.mm_proof.specs.Trees.{cite, syntax_tree, fresh_tree, substitution_tree, predicate_tree, rule_tree}
 use Rattle.mm_proof.specs.Derivations.{Citing, derivation_tree}
 
 -- short labels: the sort is S, the constants are a and b, and the variables x and y
@@ -33,6 +34,6 @@ pub record TriedCases : Type 0 where
   pub other : postorder (fresh_tree short 0 (ex 1 0 (constant 0))) ≡ codes "a" ∷ codes "x" ∷ codes "y" ∷ codes "S" ∷ codes "a" ∷ codes "x" ∷ codes "fr.d" ∷ codes "fr.ex" ∷ []
   pub replaced : postorder (substitution_tree short 0 (constant 0) (var 0) (constant 0)) ≡ codes "a" ∷ codes "x" ∷ codes "su.v" ∷ []
   pub equality : postorder (predicate_tree short (equal (constant 0) (constant 1))) ≡ codes "a" ∷ codes "b" ∷ codes "pr.eq" ∷ []
-  pub schema : postorder (row_tree short 27 (pattern (constant 0) ∷ []) []) ≡ codes "a" ∷ codes "ev.1" ∷ []
-  pub instantiated : postorder (row_tree short 13 (pattern (var 0) ∷ pattern (constant 0) ∷ pattern (constant 0) ∷ variable 0 ∷ sort 0 ∷ []) []) ≡ codes "x" ∷ codes "w.var" ∷ codes "a" ∷ codes "a" ∷ codes "x" ∷ codes "S" ∷ codes "a" ∷ codes "x" ∷ codes "su.v" ∷ codes "inst" ∷ []
-  pub step : postorder (derivation_tree short one_axiom (row 26 (pattern (constant 0) ∷ pattern (constant 1) ∷ []) (more_derivations (own_axiom 0 (imp (constant 0) (constant 1))) no_derivation))) ≡ codes "a" ∷ codes "b" ∷ codes "A" ∷ codes "next.in" ∷ []
+  pub schema : postorder (rule_tree short rule.Ev1 (pattern (constant 0) ∷ []) []) ≡ codes "a" ∷ codes "ev.1" ∷ []
+  pub instantiated : postorder (rule_tree short rule.Inst (pattern (var 0) ∷ pattern (constant 0) ∷ pattern (constant 0) ∷ variable 0 ∷ sort 0 ∷ []) []) ≡ codes "x" ∷ codes "w.var" ∷ codes "a" ∷ codes "a" ∷ codes "x" ∷ codes "S" ∷ codes "a" ∷ codes "x" ∷ codes "su.v" ∷ codes "inst" ∷ []
+  pub step : postorder (derivation_tree short one_axiom (by_rule rule.NextIn (pattern (constant 0) ∷ pattern (constant 1) ∷ []) (more_derivations (own_axiom 0 (imp (constant 0) (constant 1))) no_derivation))) ≡ codes "a" ∷ codes "b" ∷ codes "A" ∷ codes "next.in" ∷ []

@@ -4,15 +4,14 @@ use Rattle.std.specs.Prelude.{◌≡◌, ℕ, true, IsTrue, List, map, Some}
 use Rattle.mm_database.specs.Database.{Context}
 use Rattle.mm_database.specs.Proofs.{ProofTree, AllProve, IsProof, postorder}
 use Rattle.ml_pat.specs.Patterns.{Pattern}
+use Rattle.ml_pat.specs.Leaves.{Known, are_known, EachLeaf}
 use Rattle.ml_pat.specs.Judgements.{fresh, substituted, predicate}
-use Rattle.ml_kernel.specs.ProofRows.{Instance, ProofRow}
-use Rattle.ml_kernel.specs.Theorems.{Derivation}
-use Rattle.ml_kernel.specs.Concluding.{Concludes}
+use Rattle.ml_kernel.specs.Rules.{Instance, Infers}
+use Rattle.ml_kernel.specs.UsedLeaves.{EachInstance}
+use Rattle.ml_kernel.specs.declared.rules.Rule.{Rule}
 use Rattle.mm_proof.specs.Tokens.{Naming, Judgement, is_pattern, is_fresh, is_substituted, is_predicate, holds, letters_of, judgement_by}
-use Rattle.mm_proof.specs.Leaves.{Known, are_known, EachLeaf, EachInstance}
 use Rattle.mm_proof.specs.Serving.{Serves}
-use Rattle.mm_proof.specs.Trees.{trees_of, syntax_tree, fresh_tree, substitution_tree, predicate_tree, row_tree}
-use Rattle.mm_proof.specs.Derivations.{Citing, Cites, derivation_tree, EachUsed, CitesOnly, AreSound}
+use Rattle.mm_proof.specs.Trees.{trees_of, syntax_tree, fresh_tree, substitution_tree, predicate_tree, rule_tree}
 
 -- the labels of the tree are a proof of the judgement
 abbrev pub IsWritten : Context → Naming → ProofTree → Judgement → Type 0
@@ -44,14 +43,7 @@ PredicatesAreProved =
 -- a rule over proofs of what it concludes from is a proof of what it concludes
 abbrev pub RulesAreProved : Type 0
 RulesAreProved =
-    (c : Context) (l n : Naming) (known : Known) (k : ℕ) (is : List Instance) (ps : List Pattern) (q : Pattern) (trees : List ProofTree) →
-    Serves c l n (are_known known) → ProofRow k is ps q → EachInstance (are_known known) is →
+    (c : Context) (l n : Naming) (known : Known) (r : Rule) (is : List Instance) (ps : List Pattern) (q : Pattern) (trees : List ProofTree) →
+    Serves c l n (are_known known) → Infers r is ps q → EachInstance (are_known known) is →
     AllProve c (trees_of trees) (map (λ p. judgement_by (letters_of n) (holds p)) ps) →
-    IsWritten c n (row_tree l k is trees) (holds q)
-
--- a derivation is written as a proof of what it concludes, where what it cites is sound
-abbrev pub DerivationsAreProved : Type 0
-DerivationsAreProved =
-    (c : Context) (l n : Naming) (known : Known) (hypotheses : List Pattern) (k : Cites) (s : Citing) (d : Derivation) (q : Pattern) →
-    Serves c l n (are_known known) → AreSound c n hypotheses k s → Concludes hypotheses d q → EachUsed (are_known known) d → CitesOnly k d →
-    IsWritten c n (derivation_tree l s d) (holds q)
+    IsWritten c n (rule_tree l r is trees) (holds q)

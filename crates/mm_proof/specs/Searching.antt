@@ -1,7 +1,8 @@
 -- Patterns on a stack, the top last: cited by the clauses of private functions alone.
 use Rattle.std.specs.Prelude.{◌≡◌, ◌<◌, ℕ, ◌+◌, Bool, true, ◌&&◌, List, [], ◌∷◌}
 use Rattle.std.specs.Borrow.{Bor}
-use Rattle.ml_pat.specs.Patterns.{Pattern, forms_in}
+use Rattle.ml_pat.specs.Patterns.{Pattern}
+use Rattle.ml_pat.specs.FormsIn.{forms_in}
 use Rattle.ml_pat.specs.Judgements.{fresh}
 
 abbrev pub patterns_of : List (Bor Pattern) → List Pattern

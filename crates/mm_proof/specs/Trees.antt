@@ -1,10 +1,12 @@
 -- The proofs of what a pattern is and of the judgements on patterns, by the rows of the header.
-use Rattle.std.specs.Prelude.{ℕ, ◌==◌, ◌||◌, if◌then◌else◌, List, [], ◌∷◌, ◌++◌, map, slice_index_or, codes}
+use Rattle.std.specs.Prelude.{ℕ, ◌==◌, if◌then◌else◌, List, [], ◌∷◌, ◌++◌, map, slice_index_or, codes}
 use Rattle.mm_text.specs.Bytes.{Token}
 use Rattle.mm_database.specs.Proofs.{ProofTree, proof_node, ProofForest, no_proof, more_proofs}
 use Rattle.ml_pat.specs.Patterns.{Pattern, bot, top, imp, not, and, or, equal, member, fun, ex, all, app, at_sort, next, ev, var, meta, constant}
 use Rattle.ml_pat.specs.Judgements.{fresh}
-use Rattle.ml_kernel.specs.ProofRows.{Instance, pattern, variable, sort}
+use Rattle.ml_kernel.specs.Rules.{Instance, pattern, variable, sort, label}
+use Rattle.ml_kernel.specs.declared.rules.Rule.{Rule}
+use Rattle.ml_kernel.specs.declared.rules.Rule.TheVariants as rule
 use Rattle.mm_proof.specs.Tokens.{Naming}
 
 abbrev pub trees_of : List ProofTree → ProofForest
@@ -157,16 +159,6 @@ predicate_tree l (ex x s p) = cite (codes "pr.ex") (syntax_tree l p ∷ cite (l.
 predicate_tree l (all x s p) = cite (codes "pr.all") (syntax_tree l p ∷ cite (l.object x) [] ∷ cite (l.sort s) [] ∷ predicate_tree l p ∷ [])
 predicate_tree l p = syntax_tree l p
 
--- The rules, by the labels of their rows, in the order of their numbers.
-abbrev pub rule_labels : List Token
-rule_labels =
-    codes "p.1" ∷ codes "p.2" ∷ codes "p.3" ∷ codes "mp" ∷ codes "not.1" ∷ codes "not.2" ∷ codes "and.1" ∷ codes "and.2" ∷ codes "and.3" ∷ codes "or.1" ∷
-    codes "or.2" ∷ codes "or.3" ∷ codes "top" ∷ codes "inst" ∷ codes "fun.ex" ∷ codes "ex.el" ∷ codes "eq.refl" ∷ codes "eq.el" ∷ codes "eq.in" ∷ codes "mem.in" ∷
-    codes "mem.no" ∷ codes "apart" ∷ codes "app.l" ∷ codes "app.r" ∷ codes "bot.l" ∷ codes "bot.r" ∷ codes "next.in" ∷ codes "ev.1" ∷ codes "ev.2" ∷ codes "ev.kt" ∷ []
-
-abbrev pub rule_label : ℕ → Token
-rule_label n = slice_index_or rule_labels n []
-
 -- the proof that what stands for a variable of a rule is of its type
 abbrev pub instance_tree : Naming → Instance → ProofTree
 instance_tree l (pattern p) = syntax_tree l p
@@ -190,18 +182,22 @@ pattern_at is i = pattern_of_instance (slice_index_or is i (sort 0))
 abbrev pub variable_at : List Instance → ℕ → ℕ
 variable_at is i = variable_of_instance (slice_index_or is i (sort 0))
 
--- The proofs below a rule, in the order of its row: those of its judgements, and those of what it concludes from. `inst` is
--- the rule 13, `ex.el` 15, `eq.el` 17, `mem.no` 20, `app.l` 22 and `app.r` 23.
-abbrev pub premise_trees : Naming → ℕ → List Instance → List ProofTree → List ProofTree
-premise_trees l n is trees =
-    if n == 13 then substitution_tree l (variable_at is 3) (pattern_at is 1) (pattern_at is 0) (pattern_at is 2) ∷ trees else
-    if n == 15 then trees ++ fresh_tree l (variable_at is 2) (pattern_at is 1) ∷ [] else
-    if n == 17 then
+-- The judgements of a rule, before and behind the proofs of what it concludes from.
+abbrev pub trees_before : Naming → Rule → List Instance → List ProofTree
+trees_before l rule.Inst is = substitution_tree l (variable_at is 3) (pattern_at is 1) (pattern_at is 0) (pattern_at is 2) ∷ []
+trees_before l rule.EqEl is =
     substitution_tree l (variable_at is 5) (pattern_at is 0) (pattern_at is 2) (pattern_at is 3) ∷
-    substitution_tree l (variable_at is 5) (pattern_at is 1) (pattern_at is 2) (pattern_at is 4) ∷ trees
-    else
-    if (n == 20) || ((n == 22) || (n == 23)) then predicate_tree l (pattern_at is 2) ∷ trees else trees
+    substitution_tree l (variable_at is 5) (pattern_at is 1) (pattern_at is 2) (pattern_at is 4) ∷ []
+trees_before l rule.MemNo is = predicate_tree l (pattern_at is 2) ∷ []
+trees_before l rule.AppL is = predicate_tree l (pattern_at is 2) ∷ []
+trees_before l rule.AppR is = predicate_tree l (pattern_at is 2) ∷ []
+trees_before l r is = []
 
--- the proof by a rule with a number, at these instances, over proofs
-abbrev pub row_tree : Naming → ℕ → List Instance → List ProofTree → ProofTree
-row_tree l n is trees = cite (rule_label n) (map (instance_tree l) is ++ premise_trees l n is trees)
+abbrev pub trees_behind : Naming → Rule → List Instance → List ProofTree
+trees_behind l rule.ExEl is = fresh_tree l (variable_at is 2) (pattern_at is 1) ∷ []
+trees_behind l r is = []
+
+-- the proof by a rule, at these instances, over proofs of what it concludes from
+abbrev pub rule_tree : Naming → Rule → List Instance → List ProofTree → ProofTree
+rule_tree l r is trees =
+    cite (label r) (map (instance_tree l) is ++ (trees_before l r is ++ (trees ++ trees_behind l r is)))

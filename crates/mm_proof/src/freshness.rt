@@ -1,6 +1,6 @@
 // How the proofs of freshness and of predicates come apart.
 ghost use Rattle.std.specs.Prelude.{OnOk};
-ghost use Rattle.mm_proof.specs.Writing.{PutsOn, quantified_steps, fresh_two_steps, fresh_one_steps, fresh_sorted_steps, predicate_two_steps, predicate_under_steps};
+ghost use Rattle.mm_proof.specs.WorkStacks.{PutsOn, quantified_steps, fresh_two_steps, fresh_one_steps, fresh_sorted_steps, predicate_two_steps, predicate_under_steps};
 ghost use Rattle.mm_proof.specs.Labels.{own_labels};
 ghost use Rattle.mm_database.specs.Proofs.{postorder};
 ghost use Rattle.mm_proof.specs.Trees.{fresh_tree, unchanged_tree, predicate_tree};

@@ -1,6 +1,6 @@
 // Laws on the definitions, and the definitions tried on small patterns.
 ghost use Rattle.mm_proof.specs.Cases.{TriedCases};
-ghost use Rattle.mm_proof.specs.RenderLaws.{DerivationsAreProved, FreshnessIsProved, PatternsParse, PredicatesAreProved, RulesAreProved, SubstitutionIsProved};
+ghost use Rattle.mm_proof.specs.RenderLaws.{FreshnessIsProved, PatternsParse, PredicatesAreProved, RulesAreProved, SubstitutionIsProved};
 
 /// The definitions say of small patterns what is written for them.
 pub fn tried()
@@ -15,5 +15,4 @@ pub fn proof_laws()
     ensures substitution { SubstitutionIsProved }
     ensures predicate { PredicatesAreProved }
     ensures rules { RulesAreProved }
-    ensures derivations { DerivationsAreProved }
 {}

@@ -23,7 +23,7 @@ mod words;
 mod works;
 
 pub use laws::{proof_laws, tried};
-pub use rules::{EX_EL, pattern_at, rule_label, variable_at, write_before, write_instances};
+pub use rules::{pattern_at, variable_at, write_before, write_instances};
 pub use words::{Word, push_word, push_words};
 pub use works::{Work, write_works};
 

@@ -1,6 +1,6 @@
 // How the tokens of a pattern and the proof of its syntax come apart.
 ghost use Rattle.std.specs.Prelude.{OnOk};
-ghost use Rattle.mm_proof.specs.Writing.{PutsOn, quantifier_steps, quantifier_tokens};
+ghost use Rattle.mm_proof.specs.WorkStacks.{PutsOn, quantifier_steps, quantifier_tokens};
 ghost use Rattle.mm_proof.specs.Labels.{own_labels};
 ghost use Rattle.mm_database.specs.Proofs.{postorder};
 ghost use Rattle.mm_proof.specs.Tokens.{tokens_of};

@@ -1,30 +1,17 @@
-// Rules: what stands for their variables, their judgements and their labels.
+// Rules: what stands for their variables, and their judgements.
 ghost use Rattle.std.specs.Prelude.{◌≡◌, [], ◌∷◌, ◌++◌, OnOk};
 ghost use Rattle.mm_text.specs.TextLaws.{written};
 ghost use Rattle.ml_pat.specs.Patterns.{bot};
 ghost use Rattle.ml_kernel.specs.StepView.{instances_of};
 ghost use Rattle.mm_proof.specs.Labels.{own_labels};
-ghost use Rattle.mm_proof.specs.RowLabels.{all_labels, instance_labels, trees_before};
-ghost use Rattle.mm_proof.specs.Trees.{pattern_at, rule_label, variable_at};
+ghost use Rattle.mm_proof.specs.RuleLabels.{all_labels, instance_labels};
+ghost use Rattle.mm_proof.specs.Trees.{pattern_at, trees_before, variable_at};
 
 use crate::words::{Word, push_word};
 use crate::works::{Work, write_works};
-use ml_kernel::Inst;
+use ml_kernel::{Inst, Rule};
 use ml_pat::{MPat, Names, VarNo};
 use std::alloc::AllocError;
-
-// The rules that have judgements.
-const INST: u8 = 13;
-
-pub const EX_EL: u8 = 15;
-
-const EQ_EL: u8 = 17;
-
-const MEM_NO: u8 = 20;
-
-const APP_L: u8 = 22;
-
-const APP_R: u8 = 23;
 
 /// Writes what stands for the variables of a rule.
 pub fn write_instances(
@@ -63,42 +50,37 @@ pub fn write_before(
     to: &mut Vec<u8>,
     names: &Names,
     serial: u64,
-    no: u8,
+    rule: Rule,
     instances: &[Inst],
     nothing: &MPat,
 ) -> Result<(), AllocError>
     requires { nothing.now ≡ bot }
-    ensures { OnOk result (to.new.items ≡ to.old.items ++ written (all_labels (trees_before (own_labels serial) no (instances_of instances.now)))) }
+    ensures { OnOk result (to.new.items ≡ to.old.items ++ written (all_labels (trees_before (own_labels serial) rule (instances_of instances.now)))) }
 {
-    if no == INST {
-        let judged = Work::Substituted(
-            variable_at(instances, 3),
-            pattern_at(instances, 1, nothing),
-            pattern_at(instances, 0, nothing),
-            pattern_at(instances, 2, nothing),
-        );
-        return write_works(to, names, serial, &[judged]);
+    match rule {
+        Rule::Inst => {
+            let p = pattern_at(instances, 0, nothing);
+            let q = pattern_at(instances, 1, nothing);
+            let r = pattern_at(instances, 2, nothing);
+            let judged = Work::Substituted(variable_at(instances, 3), q, p, r);
+            write_works(to, names, serial, &[judged])
+        }
+        Rule::EqEl => {
+            let p = pattern_at(instances, 0, nothing);
+            let q = pattern_at(instances, 1, nothing);
+            let r = pattern_at(instances, 2, nothing);
+            let t = pattern_at(instances, 3, nothing);
+            let u = pattern_at(instances, 4, nothing);
+            let x = variable_at(instances, 5);
+            let judged = [Work::Substituted(x, p, r, t), Work::Substituted(x, q, r, u)];
+            write_works(to, names, serial, &judged)
+        }
+        Rule::MemNo | Rule::AppL | Rule::AppR => {
+            let judged = Work::Predicate(pattern_at(instances, 2, nothing));
+            write_works(to, names, serial, &[judged])
+        }
+        _ => Ok(()),
     }
-    if no == EQ_EL {
-        let first = Work::Substituted(
-            variable_at(instances, 5),
-            pattern_at(instances, 0, nothing),
-            pattern_at(instances, 2, nothing),
-            pattern_at(instances, 3, nothing),
-        );
-        let second = Work::Substituted(
-            variable_at(instances, 5),
-            pattern_at(instances, 1, nothing),
-            pattern_at(instances, 2, nothing),
-            pattern_at(instances, 4, nothing),
-        );
-        return write_works(to, names, serial, &[first, second]);
-    }
-    if no == MEM_NO || no == APP_L || no == APP_R {
-        let judged = Work::Predicate(pattern_at(instances, 2, nothing));
-        return write_works(to, names, serial, &[judged]);
-    }
-    Ok(())
 }
 
 /// The pattern that stands for the variable of a rule at a place.
@@ -127,44 +109,5 @@ pub fn variable_at(instances: &[Inst], at: usize) -> VarNo
         Inst::Pat(_) => VarNo(0),
         Inst::Var(x) => *x,
         Inst::Sort(_) => VarNo(0),
-    }
-}
-
-/// The label of a rule.
-pub fn rule_label(no: u8) -> &'static str
-    ensures { result.now ≡ rule_label no }
-{
-    match no {
-        0 => "p.1",
-        1 => "p.2",
-        2 => "p.3",
-        3 => "mp",
-        4 => "not.1",
-        5 => "not.2",
-        6 => "and.1",
-        7 => "and.2",
-        8 => "and.3",
-        9 => "or.1",
-        10 => "or.2",
-        11 => "or.3",
-        12 => "top",
-        13 => "inst",
-        14 => "fun.ex",
-        15 => "ex.el",
-        16 => "eq.refl",
-        17 => "eq.el",
-        18 => "eq.in",
-        19 => "mem.in",
-        20 => "mem.no",
-        21 => "apart",
-        22 => "app.l",
-        23 => "app.r",
-        24 => "bot.l",
-        25 => "bot.r",
-        26 => "next.in",
-        27 => "ev.1",
-        28 => "ev.2",
-        29 => "ev.kt",
-        _ => "",
     }
 }

@@ -1,7 +1,7 @@
 // Whether a variable is free in a pattern.
 ghost use Rattle.std.specs.Prelude.{◌≡◌, ◌&&◌, ◌||◌, ◌==◌, ◌+◌, ◌<◌, IfOk, OnOk};
 ghost use Rattle.ml_pat.specs.Judgements.{fresh};
-ghost use Rattle.ml_pat.specs.Patterns.{forms_in};
+ghost use Rattle.ml_pat.specs.FormsIn.{forms_in};
 ghost use Rattle.mm_proof.specs.Searching.{IsLeft, all_fresh, all_forms, patterns_of};
 
 use ml_pat::{MForm, MPat, VarNo};

@@ -1,6 +1,7 @@
 // Works put on a stack.
 ghost use Rattle.std.specs.Prelude.{[], ◌∷◌, ◌++◌, OnOk, codes};
-ghost use Rattle.mm_proof.specs.Writing.{PutsOn, PutsMore, all_tokens, word_token};
+ghost use Rattle.mm_proof.specs.WorkStacks.{PutsOn, PutsMore};
+ghost use Rattle.mm_proof.specs.Writing.{all_tokens, word_token};
 
 use crate::words::Word;
 use crate::works::Work;

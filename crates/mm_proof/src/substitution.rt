@@ -1,6 +1,6 @@
 // How the proof of a substitution comes apart.
 ghost use Rattle.std.specs.Prelude.{◌≡◌, OnOk};
-ghost use Rattle.mm_proof.specs.Writing.{PutsOn, two_steps, one_steps, sorted_steps, under_steps, variable_steps, quantified_substitution};
+ghost use Rattle.mm_proof.specs.WorkStacks.{PutsOn, two_steps, one_steps, sorted_steps, under_steps, variable_steps, quantified_substitution};
 ghost use Rattle.mm_proof.specs.Labels.{own_labels};
 ghost use Rattle.mm_database.specs.Proofs.{postorder};
 ghost use Rattle.mm_proof.specs.Trees.{substitution_tree, first_part, second_part};

@@ -5,24 +5,26 @@ use Rattle.mm_text.specs.Bytes.{Token}
 use Rattle.mm_text.specs.TextLaws.{written}
 use Rattle.mm_database.specs.Proofs.{postorder}
 use Rattle.ml_pat.specs.Patterns.{Pattern}
-use Rattle.ml_kernel.specs.ProofRows.{Instance}
-use Rattle.ml_kernel.specs.Theorems.{Derivation, Derivations, own_axiom, row, cited, no_derivation, derivations}
+use Rattle.ml_kernel.specs.Rules.{Instance}
+use Rattle.ml_kernel.specs.Theorems.{Derivation, Derivations, own_axiom, by_rule, cited, no_derivation, derivations}
 use Rattle.ml_kernel.specs.StepsIn.{steps_in, all_steps}
-use Rattle.mm_proof.specs.Trees.{cite, fresh_tree, pattern_at, variable_at}
+use Rattle.ml_kernel.specs.declared.rules.Rule.{Rule}
+use Rattle.ml_kernel.specs.declared.rules.Rule.TheVariants as rule
+use Rattle.mm_proof.specs.Trees.{cite, fresh_tree, pattern_at, variable_at, trees_before, trees_behind}
 use Rattle.mm_proof.specs.Labels.{own_labels, statement_label}
-use Rattle.mm_proof.specs.RowLabels.{all_labels, instance_labels, trees_before, trees_behind}
-use Rattle.mm_render.specs.Variables.{Variable}
-use Rattle.mm_render.specs.Blocks.{Claim}
-use Rattle.mm_render.specs.CitedAt.{variable_tree, claim_at, claims_citing}
-use Rattle.mm_render.specs.Parts.{part_tokens, parts_tokens, part_weight, parts_weight, proof_of, proofs_of, PutsParts, PartIsTaken, rest_of_citation, rest_of_row, value_labels}
+use Rattle.mm_proof.specs.RuleLabels.{all_labels, instance_labels}
 use Rattle.mm_proof.specs.Derivations.{Citing, derivation_trees}
-use Rattle.mm_proof.proofs.RowLabelLaws.{cite_labels, row_labels}
+use Rattle.mm_proof.proofs.RuleLabelLaws.{cite_labels, rule_labels}
 use Rattle.mm_proof.proofs.WrittenTogether.{written-append}
 use Rattle.ml_pat.specs.declared.numbers.VarNo.{VarNo}
 use Rattle.mm_proof.specs.declared.words.Word.TheVariants as word
 use Rattle.mm_proof.specs.declared.works.Work.TheVariants as work
 use Rattle.mm_render.specs.declared.derivations.Part.{Part}
 use Rattle.mm_render.specs.declared.derivations.Part.TheVariants as part
+use Rattle.mm_claims.specs.Variables.{Variable}
+use Rattle.mm_claims.specs.Blocks.{Claim}
+use Rattle.mm_claims.specs.CitedAt.{variable_tree, claim_at, claims_citing}
+use Rattle.mm_render.specs.Parts.{part_tokens, parts_tokens, part_weight, parts_weight, proof_of, proofs_of, PutsParts, PartIsTaken, rest_of_citation, rest_of_rule, value_labels}
 
 pub parts_tokens-push : (names : List Token) (k : ℕ) (s : Citing) (ps : List Part) (p : Part) → parts_tokens names k s (ps ++ p ∷ []) ≡ part_tokens names k s p ++ parts_tokens names k s ps
 parts_tokens-push names k s [] p = sym (append-nil (part_tokens names k s p))
@@ -61,11 +63,11 @@ pub part_one : (f : List Token → ℕ → Citing → List Token) (n : ℕ) (p :
 part_one f n p old new is same heavy = part_more (λ names k s. []) f 0 n p old old new (part_none (λ names k s. []) 0 old (λ names k s. refl)) is same (omega (arith, heavy))
 
 -- the judgement behind a rule
-pub put_fresh : (n : ℕ) (is : List Instance) (x : VarNo) (p : Bor Pattern) (old new : List Part) → n ≡ 15 → x.0 ≡ variable_at is 2 → p.now ≡ pattern_at is 1 → new ≡ old ++ part.Plain (work.Fresh x p) ∷ []
-    → PutsParts (λ names k s. all_labels (trees_behind (own_labels k) n is)) 1 old new
-put_fresh n is x p old new rule variable pattern pushed =
-    part_one (λ names k s. all_labels (trees_behind (own_labels k) n is)) 1 (part.Plain (work.Fresh x p)) old new pushed
-    (λ names k s. ap (λ (m : ℕ). all_labels (trees_behind (own_labels k) m is)) rule ∙ ap (λ (y : ℕ). postorder (fresh_tree (own_labels k) y (pattern_at is 1)) ++ []) (sym variable) ∙ ap (λ (q : Pattern). postorder (fresh_tree (own_labels k) x.0 q) ++ []) (sym pattern)) (omega arith)
+pub put_fresh : (r : Rule) (is : List Instance) (x : VarNo) (p : Bor Pattern) (old new : List Part) → r ≡ rule.ExEl → x.0 ≡ variable_at is 2 → p.now ≡ pattern_at is 1 → new ≡ old ++ part.Plain (work.Fresh x p) ∷ []
+    → PutsParts (λ names k s. all_labels (trees_behind (own_labels k) r is)) 1 old new
+put_fresh r is x p old new same variable pattern pushed =
+    part_one (λ names k s. all_labels (trees_behind (own_labels k) r is)) 1 (part.Plain (work.Fresh x p)) old new pushed
+    (λ names k s. ap (λ (m : Rule). all_labels (trees_behind (own_labels k) m is)) same ∙ ap (λ (y : ℕ). postorder (fresh_tree (own_labels k) y (pattern_at is 1)) ++ []) (sym variable) ∙ ap (λ (q : Pattern). postorder (fresh_tree (own_labels k) x.0 q) ++ []) (sym pattern)) (omega arith)
 
 -- a step of writing
 pub part_written : (names : List Token) (k : ℕ) (s : Citing) (p : Part) (before popped new : List Part) (start text text' : List ℕ) (all : List Token) → before ≡ popped ++ p ∷ [] → PartIsTaken names k s p popped new text text'
@@ -92,16 +94,16 @@ first_taken names k s p old new text text' first rest labels put left =
     ∙ ap (λ (t : List ℕ). text ++ t) (sym (written-append first (rest ++ o)) ∙ ap written (sym (append_assoc first rest o) ∙ ap (λ (ts : List Token). ts ++ o) (sym labels)))
 
 -- a rule is taken apart
-pub row_taken : (names : List Token) (k : ℕ) (s : Citing) (p : Part) (d : Bor Derivation) (n : ℕ) (is : List Instance) (ds : Derivations) (old new : List Part) (text text' text'' : List ℕ) → p ≡ part.Derived d → d.now ≡ row n is ds
-    → text' ≡ text ++ written (instance_labels k is) → text'' ≡ text' ++ written (all_labels (trees_before (own_labels k) n is)) → PutsParts (λ names k s. rest_of_row k s n is ds) (3 * all_steps ds + 2) old new → PartIsTaken names k s p old new text text''
-row_taken names k s p d n is ds old new text text' text'' taken whole first second puts =
+pub rule_taken : (names : List Token) (k : ℕ) (s : Citing) (p : Part) (d : Bor Derivation) (r : Rule) (is : List Instance) (ds : Derivations) (old new : List Part) (text text' text'' : List ℕ) → p ≡ part.Derived d → d.now ≡ by_rule r is ds
+    → text' ≡ text ++ written (instance_labels k is) → text'' ≡ text' ++ written (all_labels (trees_before (own_labels k) r is)) → PutsParts (λ names k s. rest_of_rule k s r is ds) (3 * all_steps ds + 2) old new → PartIsTaken names k s p old new text text''
+rule_taken names k s p d r is ds old new text text' text'' taken whole first second puts =
     let i : List Token = instance_labels k is in
-    let b : List Token = all_labels (trees_before (own_labels k) n is) in
-    let r : List Token = rest_of_row k s n is ds in
-    let labels : part_tokens names k s p ≡ (i ++ b) ++ r = ap (part_tokens names k s) taken ∙ ap (proof_of k s) whole ∙ row_labels k n is (derivation_trees (own_labels k) s ds) ∙ sym (append_assoc i b r) in
-    let light : part_weight p ≡ 3 * steps_in (row n is ds) = ap part_weight taken ∙ ap (λ (e : Derivation). 3 * steps_in e) whole in
+    let b : List Token = all_labels (trees_before (own_labels k) r is) in
+    let rest : List Token = rest_of_rule k s r is ds in
+    let labels : part_tokens names k s p ≡ (i ++ b) ++ rest = ap (part_tokens names k s) taken ∙ ap (proof_of k s) whole ∙ rule_labels k r is (derivation_trees (own_labels k) s ds) ∙ sym (append_assoc i b rest) in
+    let light : part_weight p ≡ 3 * steps_in (by_rule r is ds) = ap part_weight taken ∙ ap (λ (e : Derivation). 3 * steps_in e) whole in
     record {
-      tokens = first_taken names k s p old new text text'' (i ++ b) r labels (more_labels text text' text'' i b (i ++ b) first second refl) (puts.tokens names k s);
+      tokens = first_taken names k s p old new text text'' (i ++ b) rest labels (more_labels text text' text'' i b (i ++ b) first second refl) (puts.tokens names k s);
       weight = omega (arith, puts.weight, light);
     }
 

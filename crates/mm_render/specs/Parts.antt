@@ -4,20 +4,21 @@ use Rattle.mm_text.specs.Bytes.{Token}
 use Rattle.mm_text.specs.TextLaws.{written}
 use Rattle.mm_database.specs.Proofs.{postorder}
 use Rattle.ml_pat.specs.Patterns.{Pattern}
-use Rattle.ml_kernel.specs.ProofRows.{Instance}
+use Rattle.ml_kernel.specs.Rules.{Instance, label}
 use Rattle.ml_kernel.specs.Theorems.{Derivation, Derivations}
 use Rattle.ml_kernel.specs.StepsIn.{steps_in}
+use Rattle.ml_kernel.specs.declared.rules.Rule.{Rule}
 use Rattle.mm_proof.specs.Labels.{own_labels, statement_label}
-use Rattle.mm_proof.specs.Trees.{rule_label}
 use Rattle.mm_proof.specs.Derivations.{Citing, derivation_tree, derivation_trees}
-use Rattle.mm_proof.specs.RowLabels.{all_labels, trees_behind}
+use Rattle.mm_proof.specs.RuleLabels.{all_labels}
+use Rattle.mm_proof.specs.Trees.{trees_behind}
 use Rattle.mm_proof.specs.Writing.{work_tokens}
-use Rattle.mm_render.specs.Variables.{Variable}
-use Rattle.mm_render.specs.CitedAt.{variable_tree, claims_citing}
-use Rattle.mm_render.specs.PlaceTable.{claims_at, places_at, premises_at}
 use Rattle.mm_render.specs.declared.places.Standing.{Standing}
 use Rattle.mm_render.specs.declared.derivations.Part.{Part}
 use Rattle.mm_render.specs.declared.derivations.Part.TheVariants as part
+use Rattle.mm_claims.specs.Variables.{Variable}
+use Rattle.mm_claims.specs.CitedAt.{variable_tree, claims_citing}
+use Rattle.mm_render.specs.PlaceTable.{claims_at, places_at, premises_at}
 
 -- the proof by a derivation in the block of a statement, and those by some
 abbrev pub proof_of : ℕ → Citing → Derivation → List Token
@@ -56,8 +57,8 @@ pub record PartIsTaken (names : List Token) (k : ℕ) (s : Citing) (p : Part) (o
   pub weight : parts_weight new < parts_weight old + part_weight p
 
 -- what is left of a rule: the proofs of what it concludes from, its judgement behind them and its label
-abbrev pub rest_of_row : ℕ → Citing → ℕ → List Instance → Derivations → List Token
-rest_of_row k s n is ds = proofs_of k s ds ++ (all_labels (trees_behind (own_labels k) n is) ++ rule_label n ∷ [])
+abbrev pub rest_of_rule : ℕ → Citing → Rule → List Instance → Derivations → List Token
+rest_of_rule k s r is ds = proofs_of k s ds ++ (all_labels (trees_behind (own_labels k) r is) ++ label r ∷ [])
 
 -- what is left of the citation of the statement with a number: the proofs of its hypotheses and its label
 abbrev pub rest_of_citation : ℕ → Citing → ℕ → Derivations → List Token

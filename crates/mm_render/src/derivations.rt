@@ -7,19 +7,19 @@ ghost use Rattle.ml_kernel.specs.StepView.{instances_of};
 ghost use Rattle.ml_kernel.specs.StepsIn.{all_steps};
 ghost use Rattle.ml_kernel.specs.Theorems.{derivations};
 ghost use Rattle.mm_proof.specs.Labels.{own_labels, premise_label};
-ghost use Rattle.mm_proof.specs.RowLabels.{all_labels, trees_behind};
-ghost use Rattle.mm_render.specs.CitedAt.{claim_at};
-ghost use Rattle.mm_render.specs.Parts.{PartIsTaken, PutsParts, citing_at, proof_of, proofs_of, rest_of_citation, rest_of_row, value_labels};
+ghost use Rattle.mm_proof.specs.RuleLabels.{all_labels};
+ghost use Rattle.mm_proof.specs.Trees.{trees_behind};
+ghost use Rattle.mm_claims.specs.CitedAt.{claim_at};
+ghost use Rattle.mm_render.specs.Parts.{PartIsTaken, PutsParts, citing_at, proof_of, proofs_of, rest_of_citation, rest_of_rule, value_labels};
 ghost use Rattle.mm_render.specs.PlaceTable.{claims_at, places_at, premises_at};
 ghost use Rattle.mm_render.specs.VariablesView.{variable_of};
 
 use crate::places::{Standing, place_of, premise_of};
 use crate::variables::Variable;
-use ml_kernel::{Deriv, DerivStep, Inst};
+use ml_kernel::{Deriv, DerivStep, Inst, Rule};
 use ml_pat::MPat;
 use mm_proof::{
-    EX_EL, Word, Work, pattern_at, push_word, rule_label, variable_at, write_before,
-    write_instances, write_works,
+    Word, Work, pattern_at, push_word, variable_at, write_before, write_instances, write_works,
 };
 use std::alloc::AllocError;
 
@@ -76,10 +76,10 @@ fn write_part<'a>(
             patterns,
             parts,
         ),
-        DerivStep::Row(no, instances, parts) => {
+        DerivStep::ByRule(rule, instances, parts) => {
             write_instances(to, at.names, at.serial, instances)?;
-            write_before(to, at.names, at.serial, *no, instances, nothing)?;
-            put_row(stack, *no, instances, nothing, parts)
+            write_before(to, at.names, at.serial, *rule, instances, nothing)?;
+            put_rule(stack, *rule, instances, nothing, parts)
         }
     }
 }
@@ -145,35 +145,37 @@ fn put_derived<'a>(stack: &mut Vec<Part<'a>>, parts: &'a [Deriv]) -> Result<(), 
 }
 
 /// Puts on a stack what is left of a rule: the proofs of what it concludes from, the judgement behind them and its label.
-fn put_row<'a>(
+fn put_rule<'a>(
     stack: &mut Vec<Part<'a>>,
-    no: u8,
+    rule: Rule,
     instances: &'a [Inst],
     nothing: &'a MPat,
     parts: &'a [Deriv],
 ) -> Result<(), AllocError>
     requires { nothing.now ≡ bot }
-    ensures { OnOk result (PutsParts (λ names k s. rest_of_row k s no (instances_of instances.now) (derivations parts.now)) (3 * all_steps (derivations parts.now) + 2) stack.old.items stack.new.items) }
+    ensures { OnOk result (PutsParts (λ names k s. rest_of_rule k s rule (instances_of instances.now) (derivations parts.now)) (3 * all_steps (derivations parts.now) + 2) stack.old.items stack.new.items) }
 {
-    stack.push(Part::Plain(Work::One(Word::Fixed(rule_label(no)))))?;
-    put_behind(stack, no, instances, nothing)?;
+    stack.push(Part::Plain(Work::One(Word::Fixed(rule.label()))))?;
+    put_behind(stack, rule, instances, nothing)?;
     put_derived(stack, parts)
 }
 
 /// Puts on a stack the judgement of a rule behind the proofs of what it concludes from, where it has one.
 fn put_behind<'a>(
     stack: &mut Vec<Part<'a>>,
-    no: u8,
+    rule: Rule,
     instances: &'a [Inst],
     nothing: &'a MPat,
 ) -> Result<(), AllocError>
     requires { nothing.now ≡ bot }
-    ensures { OnOk result (PutsParts (λ names k s. all_labels (trees_behind (own_labels k) no (instances_of instances.now))) 1 stack.old.items stack.new.items) }
+    ensures { OnOk result (PutsParts (λ names k s. all_labels (trees_behind (own_labels k) rule (instances_of instances.now))) 1 stack.old.items stack.new.items) }
 {
-    if no != EX_EL {
-        return Ok(());
+    match rule {
+        Rule::ExEl => {
+            let judged = Work::Fresh(variable_at(instances, 2), pattern_at(instances, 1, nothing));
+            stack.push(Part::Plain(judged))?;
+            Ok(())
+        }
+        _ => Ok(()),
     }
-    let judged = Work::Fresh(variable_at(instances, 2), pattern_at(instances, 1, nothing));
-    stack.push(Part::Plain(judged))?;
-    Ok(())
 }

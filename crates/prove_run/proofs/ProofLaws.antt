@@ -4,15 +4,16 @@ use Rattle.std.specs.Prelude.{Contains}
 use Rattle.std.proofs.lemmas.List.Elements.{Contains-append_left, Contains-push}
 use Rattle.mm_text.specs.Bytes.{Token}
 use Rattle.ml_pat.specs.Patterns.{Pattern, top, imp, and, next, ev}
-use Rattle.ml_kernel.specs.ProofRows.{pattern}
-use Rattle.ml_kernel.specs.Theorems.{Derivation, derivations, row, Theorem}
+use Rattle.ml_kernel.specs.Rules.{pattern}
+use Rattle.ml_kernel.specs.Theorems.{Derivation, derivations, by_rule, Theorem}
 use Rattle.ml_derived.specs.Derived.{detaching, lifting, distributing, detaching_under, chaining, closing, moving, reaching_by, kept_reaching, reaching, adding_top, freeing}
-use Rattle.mm_render.specs.Kept.{Kept}
-use Rattle.mm_proof.specs.Leaves.{LeafFacts, EachLeaf}
-use Rattle.mm_proof.specs.Derivations.{EachUsed}
-use Rattle.mm_proof.specs.MayCite.{MayCite, EachCited}
-use Rattle.mm_render.specs.OverNames.{over_names, AreOverNames}
-use Rattle.mm_render.specs.Places.{MayProve, stated_cites}
+use Rattle.mm_claims.specs.Kept.{Kept}
+use Rattle.ml_pat.specs.Leaves.{LeafFacts, EachLeaf}
+use Rattle.ml_kernel.specs.UsedLeaves.{EachUsed}
+use Rattle.ml_kernel.specs.MayCite.{MayCite, EachCited}
+use Rattle.ml_kernel.specs.declared.rules.Rule.TheVariants as rule
+use Rattle.mm_claims.specs.OverNames.{over_names, AreOverNames}
+use Rattle.mm_claims.specs.Places.{MayProve, stated_cites}
 use Rattle.prove_run.proofs.ScriptLaws.{take_all}
 
 -- what rests on nothing has no hypotheses
@@ -25,11 +26,11 @@ detaching_used : (f : LeafFacts) (p q : Pattern) (a b : Derivation) → EachLeaf
 detaching_used f p q a b hp hq ha hb = ((hp, (hq, tt)), (ha, (hb, tt)))
 
 lifting_used : (f : LeafFacts) (h q : Pattern) (a : Derivation) → EachLeaf f h → EachLeaf f q → EachUsed f a → EachUsed f (lifting h q a)
-lifting_used f h q a hh hq ha = detaching_used f q (imp h q) a (row 0 (pattern q ∷ pattern h ∷ []) (derivations [])) hq (hh, hq) ha ((hq, (hh, tt)), tt)
+lifting_used f h q a hh hq ha = detaching_used f q (imp h q) a (by_rule rule.P1 (pattern q ∷ pattern h ∷ []) (derivations [])) hq (hh, hq) ha ((hq, (hh, tt)), tt)
 
 distributing_used : (f : LeafFacts) (h p q : Pattern) (b : Derivation) → EachLeaf f h → EachLeaf f p → EachLeaf f q → EachUsed f b → EachUsed f (distributing h p q b)
 distributing_used f h p q b hh hp hq hb =
-    detaching_used f (imp h (imp p q)) (imp (imp h p) (imp h q)) b (row 1 (pattern h ∷ pattern p ∷ pattern q ∷ []) (derivations []))
+    detaching_used f (imp h (imp p q)) (imp (imp h p) (imp h q)) b (by_rule rule.P2 (pattern h ∷ pattern p ∷ pattern q ∷ []) (derivations []))
     (hh, (hp, hq)) ((hh, hp), (hh, hq)) hb ((hh, (hp, (hq, tt))), tt)
 
 detaching_under_used : (f : LeafFacts) (h p q : Pattern) (a b : Derivation) → EachLeaf f h → EachLeaf f p → EachLeaf f q → EachUsed f a → EachUsed f b → EachUsed f (detaching_under h p q a b)
@@ -52,11 +53,11 @@ reaching_used : (f : LeafFacts) (a b c : Pattern) (sofar step : Derivation) → 
 reaching_used f a b c sofar step ha hb hc hs ht =
     chaining_used f a (ev b) (ev c) sofar (kept_reaching b c (reaching_by b c step)) ha hb hc hs (kept_reaching_used f b c (reaching_by b c step) hb hc (reaching_by_used f b c step hb hc ht))
 
-freeing_used : (f : LeafFacts) (p q : Pattern) (rule : Derivation) → EachLeaf f p → EachLeaf f q → EachUsed f rule → EachUsed f (freeing p q rule)
-freeing_used f p q rule hp hq hr =
-    chaining_used f p (and p top) q (adding_top p) rule hp (hp, tt) hq
-    (detaching_under_used f p top (and p top) (lifting p top (row 12 [] (derivations []))) (row 8 (pattern p ∷ pattern top ∷ []) (derivations [])) hp tt (hp, tt)
-    (lifting_used f p top (row 12 [] (derivations [])) hp tt (tt, tt)) ((hp, (tt, tt)), tt)) hr
+freeing_used : (f : LeafFacts) (p q : Pattern) (given : Derivation) → EachLeaf f p → EachLeaf f q → EachUsed f given → EachUsed f (freeing p q given)
+freeing_used f p q given hp hq hr =
+    chaining_used f p (and p top) q (adding_top p) given hp (hp, tt) hq
+    (detaching_under_used f p top (and p top) (lifting p top (by_rule rule.Top [] (derivations []))) (by_rule rule.And3 (pattern p ∷ pattern top ∷ []) (derivations [])) hp tt (hp, tt)
+    (lifting_used f p top (by_rule rule.Top [] (derivations [])) hp tt (tt, tt)) ((hp, (tt, tt)), tt)) hr
 
 -- and it cites what is given alone
 chaining_cites : (k : MayCite) (p q r : Pattern) (ab bc : Derivation) → EachCited k ab → EachCited k bc → EachCited k (chaining p q r ab bc)
@@ -75,7 +76,7 @@ freeing_cites k p q rule hr = chaining_cites k p (and p top) q (adding_top p) ru
 
 -- `a -> ev a` may be proved
 pub may_begin : (names : List Token) (k : Kept) (t : Theorem) (a : Pattern) → k.begun ≡ true → k.named ≡ length names → EachLeaf (over_names names) a → t.hypotheses ≡ [] → t.conclusion ≡ imp a (ev a)
-    → t.derivation ≡ row 27 (pattern a ∷ []) (derivations []) → MayProve names k t
+    → t.derivation ≡ by_rule rule.Ev1 (pattern a ∷ []) (derivations []) → MayProve names k t
 may_begin names k t a begun named over none says by =
     let all : take k.named names ≡ names = take_all k.named names named in
     let declared : List Token = take k.named names in

@@ -1,5 +1,5 @@
 -- What stays known of a proof's text while names, axioms and theorems are added.
-use Rattle.std.proofs.Common.{◌≡◌, ℕ, ◌+◌, ◌<◌, ◌≤◌, List, [], ◌∷◌, ◌++◌, Some, None, Option, length, take, zero, suc, refl, ap, ◌∙◌, sym, subst, arith, length-append}
+use Rattle.std.proofs.Common.{◌≡◌, ℕ, Bool, true, false, map, ◌+◌, ◌<◌, ◌≤◌, List, [], ◌∷◌, ◌++◌, Some, None, Option, length, take, zero, suc, refl, ap, ◌∙◌, sym, subst, arith, length-append}
 use Rattle.std.specs.Prelude.{IsTrue, Result, Ok, Err, OnOk, IfSome, slice_get, slice_set, replicate, option_map}
 use Rattle.std.proofs.lemmas.List.{append-nil, append_assoc}
 use Rattle.std.proofs.lemmas.Option.{get_or_from_slice_get}
@@ -15,19 +15,25 @@ use Rattle.ml_image.specs.Gained.{HasGained}
 use Rattle.term_core.specs.Patterns.{Pattern as RulePattern}
 use Rattle.term_core.specs.RulePatterns.{plain_pattern}
 use Rattle.ml_image.specs.Images.{both, image_of, rule_image_of, HasImageAt, IsImageAt}
-use Rattle.mm_render.specs.Keeping.{Fits, axiom_at, with_stated}
+use Rattle.mm_claims.specs.Keeping.{Fits, axiom_at, with_stated}
 use Rattle.ml_kernel.specs.Theorems.{Theorem}
 use Rattle.std.specs.Global.{Vec}
-use Rattle.mm_render.specs.Kept.{Kept}
-use Rattle.mm_render.specs.Places.{IsStated, MayProve, StatesLemma}
-use Rattle.mm_render.proofs.Allowing.{fits_later, stated_stays, theorem_has_only}
-use Rattle.mm_proof.specs.Leaves.{EachLeaf}
-use Rattle.mm_render.specs.OverNames.{closed_over}
-use Rattle.mm_render.specs.ClaimVariables.{claim_of}
-use Rattle.mm_render.specs.JustifyingLaws.{HasNoVariable}
-use Rattle.mm_render.proofs.ImageLeaves.{image_stays, rule_image_stays, rule_image_is_closed}
+use Rattle.std.specs.Option.{is_some}
+use Rattle.mm_claims.specs.Kept.{Kept}
+use Rattle.mm_claims.specs.Places.{IsStated, MayProve, StatesLemma}
+use Rattle.mm_claims.proofs.LaterLaws.{fits_later, stated_stays}
+use Rattle.mm_justify.proofs.Allowing.{theorem_has_only}
+use Rattle.ml_pat.specs.Leaves.{EachLeaf}
+use Rattle.mm_claims.specs.OverNames.{closed_over}
+use Rattle.mm_claims.specs.Blocks.{open_assertion}
+use Rattle.mm_claims.specs.ClaimVariables.{claim_of}
+use Rattle.mm_database.specs.Assertions.{assertions_of}
+use Rattle.mm_justify.specs.NoVariables.{HasNoVariable}
+use Rattle.ml_image.proofs.NamingLaws.{image_stays, rule_image_stays}
+use Rattle.mm_justify.proofs.ImageLeaves.{rule_image_is_closed}
 use Rattle.prove_run.specs.declared.script.Script.{Script}
-use Rattle.prove_run.specs.Scripts.{HasStated, AreStated, IsSound, IsDeclared, Extends, Continues, AreGroundAt}
+use Rattle.prove_run.specs.Scripts.{HasStated, AreStated, IsSound, IsDeclared, Extends, Continues}
+use Rattle.prove_run.specs.Proving.{AreGroundAt, GainsTheorem}
 use Rattle.prove_run.proofs.PlainNameLaws.{own_append}
 
 pub on_one : {T E : Type 0} {P Q : Type 0} (r : Result T E) → (P → Q) → OnOk r P → OnOk r Q
@@ -82,6 +88,18 @@ kept_set s i j zero (None ∷ kept) new is stated h = let same : j ≡ i = omega
 kept_set s i j zero (Some other ∷ kept) new is stated h = let same : j ≡ i = omega (arith, is) in (subst (λ (m : ℕ). HasStated s m new.0) same stated, h.1)
 kept_set s i j (suc k) (None ∷ kept) new is stated h = kept_set s (suc i) j k kept new (omega (arith, is)) stated h
 kept_set s i j (suc k) (Some other ∷ kept) new is stated h = (h.0, kept_set s (suc i) j k kept new (omega (arith, is)) stated h.1)
+
+-- which rules were used
+
+pub none_used : (n : ℕ) → map is_some (replicate n (None {X = AxiomNo})) ≡ replicate n false
+none_used zero = refl
+none_used (suc n) = ap (λ (bs : List Bool). false ∷ bs) (none_used n)
+
+-- what stands at a place, put there again
+pub set_same : (xs : List Bool) (k : ℕ) (x : Bool) → slice_get xs k ≡ Some x → xs ≡ slice_set xs k x
+set_same [] k x h = refl
+set_same (y ∷ xs) zero x h = ap (λ (b : Bool). b ∷ xs) (some_same y x h)
+set_same (y ∷ xs) (suc k) x h = ap (λ (bs : List Bool). y ∷ bs) (set_same xs k x h)
 
 -- what is known of a text stays known when names gain tokens
 pub sound_later : (s : Script) (names : List Token) → IsSound s → HasGained s.program.now.sig s.names names → IsSound (record s { names = names })
@@ -160,4 +178,12 @@ sound_stated s kept text t h declared may states is = record {
         image = k.image;
         stated = subst (λ (l : Kept). IsStated l.stated [] (axiom_at s.theory n)) (sym is) (stated_stays s.renderer.stated (claim_of t.hypotheses t.conclusion ∷ []) [] (axiom_at s.theory n) k.stated);
       }) 0 s.axioms.items h.axioms;
+}
+
+-- and it has gained just this theorem
+pub gains_theorem : (names : List Token) (old new : Kept) (t : Theorem) (text text' : List ℕ) → StatesLemma names old new t text text' → MayProve names old t → Fits names old text → GainsTheorem text text'
+gains_theorem names old new t text text' states may fits = record {
+  theorem = open_assertion true (take old.named names) (length old.stated) (claim_of t.hypotheses t.conclusion);
+  is_proved = refl;
+  assertions = ap assertions_of states.appended ∙ ((states.gains may).just text fits).assertions;
 }

@@ -15,30 +15,29 @@ use Rattle.rule_core.specs.declared.rules.Rule.{Rule}
 use Rattle.rule_core.specs.declared.rules.Program.{Program}
 use Rattle.rule_core.specs.ProgramView.{rewrite_rule}
 use Rattle.ml_image.specs.Images.{image_of}
-use Rattle.mm_render.specs.Keeping.{axiom_at}
-use Rattle.mm_render.specs.OverNames.{over_names}
-use Rattle.mm_proof.specs.Leaves.{EachLeaf}
-use Rattle.mm_proof.specs.Derivations.{EachUsed}
-use Rattle.mm_proof.specs.MayCite.{MayCite, EachCited}
-use Rattle.mm_render.specs.Places.{IsStated, MayProve, stated_cites}
-use Rattle.mm_render.specs.Blocks.{Claim}
-use Rattle.mm_render.specs.JustifyingLaws.{HasNoVariable}
-use Rattle.mm_render.proofs.Allowing.{closed_has_no_meta, closed_is_over, stated_stays}
-use Rattle.mm_render.proofs.ImageLeaves.{image_is_closed}
+use Rattle.mm_claims.specs.Keeping.{axiom_at}
+use Rattle.mm_claims.specs.OverNames.{over_names}
+use Rattle.ml_pat.specs.Leaves.{EachLeaf}
+use Rattle.ml_kernel.specs.UsedLeaves.{EachUsed}
+use Rattle.ml_kernel.specs.MayCite.{MayCite, EachCited}
+use Rattle.mm_claims.specs.Places.{IsStated, MayProve, stated_cites}
+use Rattle.mm_claims.specs.Blocks.{Claim}
+use Rattle.mm_justify.specs.NoVariables.{HasNoVariable}
+use Rattle.mm_claims.proofs.ClosedPatterns.{closed_has_no_meta, closed_is_over}
+use Rattle.mm_claims.proofs.LaterLaws.{stated_stays}
+use Rattle.mm_justify.proofs.ImageLeaves.{image_is_closed}
 use Rattle.prove_run.specs.declared.script.Script.{Script}
-use Rattle.prove_run.specs.declared.proof.Proof.{Proof}
 use Rattle.prove_run.specs.Scripts.{HasStated, IsSound, IsDeclared, Continues}
-use Rattle.prove_run.specs.Proving.{HasReached}
+use Rattle.prove_run.specs.ProofView.{HasReached}
 use Rattle.prove_run.proofs.ScriptLaws.{some_same, image_later, rule_parts}
 use Rattle.prove_run.proofs.ProofLaws.{none_left, may_go_on}
 
 -- what the proof says has no pattern variables
-pub reached_no_meta : (proof : Proof) (start reached : RulePattern) → HasReached proof start reached → HasNoMeta proof.sofar.conclusion
-reached_no_meta proof start reached h =
-    let s = proof.script in
+pub reached_no_meta : (old : Script) (last : Theorem) (start reached : RulePattern) → HasReached old last start reached → HasNoMeta last.conclusion
+reached_no_meta old last start reached h =
     subst HasNoMeta (sym h.says)
-    (closed_has_no_meta s.names (imp h.from (ev h.to))
-    (image_is_closed s.program.now.sig s.names start h.from h.from_ground h.from_image, image_is_closed s.program.now.sig s.names reached h.to h.to_ground h.to_image))
+    (closed_has_no_meta old.names (imp h.from (ev h.to))
+    (image_is_closed old.program.now.sig old.names start h.from h.from_ground h.from_image, image_is_closed old.program.now.sig old.names reached h.to h.to_ground h.to_image))
 
 -- a cited theorem says the same
 pub cited_says : (ms : List Pattern) (p q : Pattern) → ms ≡ [] → HasNoMeta p → q ≡ instance ms p → q ≡ p
@@ -82,15 +81,15 @@ pub record Step (new : Script) (r : Rule) (from to : Pattern) (further : Theorem
   pub none : further.hypotheses ≡ []
   pub says : further.conclusion ≡ imp from (ev to)
 
-pub step_of : (proof : Proof) (new : Script) (start : RulePattern) (r : Rule) (i n : ℕ) (sofar image made further : Theorem) (reached : HasReached proof start (plain_pattern r.left)) → Continues proof.script new → HasStated new i n
-    → slice_get proof.script.program.now.rules.items i ≡ Some r → slice_get new.theory n ≡ Some image.conclusion → image.hypotheses ≡ [] → IsFreed image made → RestsOn (image ∷ []) made
-    → sofar.conclusion ≡ instance [] proof.sofar.conclusion → sofar.hypotheses ≡ [] → ReachesOneFurther sofar.conclusion made.conclusion further.conclusion → RestsOn (sofar ∷ made ∷ []) further
+pub step_of : (old : Script) (last : Theorem) (new : Script) (start : RulePattern) (r : Rule) (i n : ℕ) (sofar image made further : Theorem) (reached : HasReached old last start (plain_pattern r.left)) → Continues old new → HasStated new i n
+    → slice_get old.program.now.rules.items i ≡ Some r → slice_get new.theory n ≡ Some image.conclusion → image.hypotheses ≡ [] → IsFreed image made → RestsOn (image ∷ []) made
+    → sofar.conclusion ≡ instance [] last.conclusion → sofar.hypotheses ≡ [] → ReachesOneFurther sofar.conclusion made.conclusion further.conclusion → RestsOn (sofar ∷ made ∷ []) further
     → (to : Pattern) × Step new r reached.from to further
-step_of proof new start r i n sofar image made further reached on stated there found none freed made_rests is sofar_none reaches rests =
+step_of old last new start r i n sofar image made further reached on stated there found none freed made_rests is sofar_none reaches rests =
     let says : (to : Pattern) × (image_of new.program.now.sig new.names (plain_pattern r.right) ≡ Some to) × (image.conclusion ≡ imp (and reached.to top) (next to)) =
-    image_says proof.script new i n r reached.to image.conclusion on stated there reached.to_image found in
+    image_says old new i n r reached.to image.conclusion on stated there reached.to_image found in
     let made_says : made.conclusion ≡ imp reached.to (next says.0) = (freed reached.to (next says.0) says.2).0 in
-    let sofar_says : sofar.conclusion ≡ imp reached.from (ev reached.to) = cited_says [] proof.sofar.conclusion sofar.conclusion refl (reached_no_meta proof start (plain_pattern r.left) reached) is ∙ reached.says in
+    let sofar_says : sofar.conclusion ≡ imp reached.from (ev reached.to) = cited_says [] last.conclusion sofar.conclusion refl (reached_no_meta old last start (plain_pattern r.left) reached) is ∙ reached.says in
     let made_none : made.hypotheses ≡ [] = no_hypotheses (image ∷ []) made (one_none image none) made_rests in (
       says.0,
       record {
@@ -101,47 +100,47 @@ step_of proof new start r i n sofar image made further reached on stated there f
     )
 
 -- the theorem so far and the rule are linked
-pub linked : (proof : Proof) (new : Script) (start : RulePattern) (r : Rule) (i n : ℕ) (sofar image made : Theorem) → HasReached proof start (plain_pattern r.left) → Continues proof.script new → HasStated new i n
-    → slice_get proof.script.program.now.rules.items i ≡ Some r → slice_get new.theory n ≡ Some image.conclusion → IsFreed image made → sofar.conclusion ≡ instance [] proof.sofar.conclusion
+pub linked : (old : Script) (last : Theorem) (new : Script) (start : RulePattern) (r : Rule) (i n : ℕ) (sofar image made : Theorem) → HasReached old last start (plain_pattern r.left) → Continues old new → HasStated new i n
+    → slice_get old.program.now.rules.items i ≡ Some r → slice_get new.theory n ≡ Some image.conclusion → IsFreed image made → sofar.conclusion ≡ instance [] last.conclusion
     → IsOneStepOn sofar.conclusion made.conclusion
-linked proof new start r i n sofar image made reached on stated there found freed is =
+linked old last new start r i n sofar image made reached on stated there found freed is =
     let says : (to : Pattern) × (image_of new.program.now.sig new.names (plain_pattern r.right) ≡ Some to) × (image.conclusion ≡ imp (and reached.to top) (next to)) =
-    image_says proof.script new i n r reached.to image.conclusion on stated there reached.to_image found in (
+    image_says old new i n r reached.to image.conclusion on stated there reached.to_image found in (
       reached.from,
       (
         reached.to,
         (
           says.0,
-          (cited_says [] proof.sofar.conclusion sofar.conclusion refl (reached_no_meta proof start (plain_pattern r.left) reached) is ∙ reached.says, (freed reached.to (next says.0) says.2).0),
+          (cited_says [] last.conclusion sofar.conclusion refl (reached_no_meta old last start (plain_pattern r.left) reached) is ∙ reached.says, (freed reached.to (next says.0) says.2).0),
         ),
       ),
     )
 
 -- the theorem of a step may be proved
-pub may_step : (proof : Proof) (new : Script) (start : RulePattern) (r : Rule) (i n : ℕ) (sofar image made further : Theorem) → HasReached proof start (plain_pattern r.left) → Continues proof.script new → HasStated new i n
-    → slice_get proof.script.program.now.rules.items i ≡ Some r → HasNoVariable (plain_pattern r.right) → IsSound new → IsDeclared new
+pub may_step : (old : Script) (last : Theorem) (new : Script) (start : RulePattern) (r : Rule) (i n : ℕ) (sofar image made further : Theorem) → HasReached old last start (plain_pattern r.left) → Continues old new → HasStated new i n
+    → slice_get old.program.now.rules.items i ≡ Some r → HasNoVariable (plain_pattern r.right) → IsSound new → IsDeclared new
     → slice_get new.theory n ≡ Some image.conclusion → image.hypotheses ≡ [] → image.derivation ≡ own_axiom n image.conclusion → IsFreed image made → RestsOn (image ∷ []) made
-    → sofar.conclusion ≡ instance [] proof.sofar.conclusion → IsByLemma proof.sofar [] [] sofar → ReachesOneFurther sofar.conclusion made.conclusion further.conclusion → IsStepOf sofar made further
+    → sofar.conclusion ≡ instance [] last.conclusion → IsByLemma last [] [] sofar → ReachesOneFurther sofar.conclusion made.conclusion further.conclusion → IsStepOf sofar made further
     → RestsOn (sofar ∷ made ∷ []) further → MayProve new.names new.renderer further
-may_step proof new start r i n sofar image made further reached on stated there right_ground sound declared found none by_axiom freed made_rests is by_lemma reaches steps rests =
+may_step old last new start r i n sofar image made further reached on stated there right_ground sound declared found none by_axiom freed made_rests is by_lemma reaches steps rests =
     let says : (to : Pattern) × (image_of new.program.now.sig new.names (plain_pattern r.right) ≡ Some to) × (image.conclusion ≡ imp (and reached.to top) (next to)) =
-    image_says proof.script new i n r reached.to image.conclusion on stated there reached.to_image found in
+    image_says old new i n r reached.to image.conclusion on stated there reached.to_image found in
     let to = says.0 in
     let made_is = freed reached.to (next to) says.2 in
-    let sofar_says : sofar.conclusion ≡ imp reached.from (ev reached.to) = cited_says [] proof.sofar.conclusion sofar.conclusion refl (reached_no_meta proof start (plain_pattern r.left) reached) is ∙ reached.says in
+    let sofar_says : sofar.conclusion ≡ imp reached.from (ev reached.to) = cited_says [] last.conclusion sofar.conclusion refl (reached_no_meta old last start (plain_pattern r.left) reached) is ∙ reached.says in
     let step : (t : Pattern) × Step new r reached.from t further =
-    step_of proof new start r i n sofar image made further reached on stated there found none freed made_rests is by_lemma.kept_hypotheses reaches rests in
+    step_of old last new start r i n sofar image made further reached on stated there found none freed made_rests is by_lemma.kept_hypotheses reaches rests in
     let f = over_names new.names in
     let k = stated_cites new.names new.renderer.stated in
-    let sofar_stated : IsStated new.renderer.stated proof.sofar.hypotheses proof.sofar.conclusion =
-    subst (λ (ss : List Claim). IsStated ss proof.sofar.hypotheses proof.sofar.conclusion) (sym on.stated.1) (stated_stays proof.script.renderer.stated on.stated.0 proof.sofar.hypotheses proof.sofar.conclusion reached.stated) in
+    let sofar_stated : IsStated new.renderer.stated last.hypotheses last.conclusion =
+    subst (λ (ss : List Claim). IsStated ss last.hypotheses last.conclusion) (sym on.stated.1) (stated_stays old.renderer.stated on.stated.0 last.hypotheses last.conclusion reached.stated) in
     let image_stated : IsStated new.renderer.stated [] image.conclusion =
     subst (IsStated new.renderer.stated []) (axiom_found new.theory n image.conclusion found) stated.stated in
     let over : (a : RulePattern) (p : Pattern) → HasNoVariable a → image_of new.program.now.sig new.names a ≡ Some p → EachLeaf (over_names new.names) p =
     λ a p none_there image_is. closed_is_over new.names p (image_is_closed new.program.now.sig new.names a p none_there image_is) in
     may_go_on new.names new.renderer further reached.from reached.to to sofar.derivation image.derivation sound.begun declared
-    (over start reached.from reached.from_ground (image_later proof.script new start reached.from on reached.from_image))
-    (over (plain_pattern r.left) reached.to reached.to_ground (image_later proof.script new (plain_pattern r.left) reached.to on reached.to_image))
+    (over start reached.from reached.from_ground (image_later old new start reached.from on reached.from_image))
+    (over (plain_pattern r.left) reached.to reached.to_ground (image_later old new (plain_pattern r.left) reached.to on reached.to_image))
     (over (plain_pattern r.right) to right_ground says.1)
     step.1.none (reaches reached.from reached.to to sofar_says made_is.0)
     (steps reached.from reached.to to sofar_says made_is.0 ∙ ap (reaching reached.from reached.to to sofar.derivation) made_is.1)

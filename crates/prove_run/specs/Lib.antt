@@ -1,3 +1,5 @@
 pub mod PlainNames
-pub mod Scripts
+pub mod RunProof
 pub mod Proving
+pub mod Scripts
+pub mod ProofView

@@ -1,44 +1,46 @@
--- That a proof is one of a run, up to the present configuration.
-use Rattle.std.specs.Prelude.{◌≡◌, ℕ, [], slice_get, Some}
-use Rattle.term_core.specs.Patterns.{Pattern as RulePattern}
+-- How a proof of a run begins, and what a step makes of it.
+use Rattle.std.specs.Prelude.{◌≡◌, ℕ, Bool, true, false, List, [], ◌∷◌, ◌++◌, length, slice_get, slice_set, replicate, Some}
+use Rattle.term_core.specs.declared.rule_patterns.RulePat.{RulePat}
 use Rattle.term_core.specs.RulePatterns.{plain_pattern}
 use Rattle.rule_core.specs.declared.rules.Rule.{Rule}
 use Rattle.rule_core.specs.declared.rules.Program.{Program}
-use Rattle.ml_pat.specs.Patterns.{Pattern, imp, ev}
-use Rattle.ml_image.specs.Images.{image_of}
-use Rattle.mm_render.specs.Places.{IsStated}
-use Rattle.mm_render.specs.Justifying.{Justifies}
-use Rattle.mm_render.specs.JustifyingLaws.{HasNoVariable}
-use Rattle.prove_run.specs.declared.proof.Proof.{Proof}
-use Rattle.prove_run.specs.Scripts.{IsSound, IsDeclared}
+use Rattle.mm_database.specs.Assertions.{Assertion, assertions_of}
+use Rattle.mm_justify.specs.Justifying.{Justifies}
+use Rattle.mm_justify.specs.NoVariables.{HasNoVariable}
+use Rattle.prove_run.specs.RunProof.{RunProof}
 
--- The last theorem that was stated says that the image of the start reaches that of the present configuration.
-pub record HasReached (proof : Proof) (start reached : RulePattern) : Type 0 where
-  pub from : Pattern
-  pub to : Pattern
-  pub from_image : image_of proof.script.program.now.sig proof.script.names start ≡ Some from
-  pub to_image : image_of proof.script.program.now.sig proof.script.names reached ≡ Some to
-  pub from_ground : HasNoVariable start
-  pub to_ground : HasNoVariable reached
-  pub says : proof.sofar.conclusion ≡ imp from (ev to)
-  pub no_hypotheses : proof.sofar.hypotheses ≡ []
-  pub stated : IsStated proof.script.renderer.stated proof.sofar.hypotheses proof.sofar.conclusion
+-- a proof that a start reaches itself, by no step
+pub record Begins (program : Program) (start : RulePat) (proof : RunProof) : Type 0 where
+  pub same_program : proof.program ≡ program
+  pub starts : proof.start ≡ start
+  pub reached : proof.reached ≡ start
+  pub used : proof.used ≡ replicate (length program.rules.items) false
 
--- The proof is one of the program's run from the start to the present configuration: its text justifies it.
-pub record IsProofOf (proof : Proof) (program : Program) (start reached : RulePattern) : Type 0 where
-  pub same_program : proof.script.program.now ≡ program
-  pub sound : IsSound proof.script
-  pub declared : IsDeclared proof.script
-  pub has_reached : HasReached proof start reached
-  pub justifies : Justifies proof.script.text.items program start reached
+-- the present configuration is the left side of the rule at a place
+abbrev pub IsAtRule : RunProof → ℕ → Type 0
+IsAtRule proof i = (r : Rule) × ((slice_get proof.program.rules.items i ≡ Some r) × (plain_pattern proof.reached ≡ plain_pattern r.left))
 
--- the proof is one of some run up to the left side of the rule at a place
-abbrev pub IsAtRule : Proof → ℕ → Type 0
-IsAtRule proof i =
-    (r : Rule) × ((slice_get proof.script.program.now.rules.items i ≡ Some r) × ((start : RulePattern) × IsProofOf proof proof.script.program.now start (plain_pattern r.left)))
+-- no variable stands in the sides of the rule at a place
+abbrev pub AreGroundAt : Program → ℕ → Type 0
+AreGroundAt program i = (r : Rule) → slice_get program.rules.items i ≡ Some r → HasNoVariable (plain_pattern r.left) × HasNoVariable (plain_pattern r.right)
 
--- a proof up to the left side of the rule at a place becomes one up to its right side
-abbrev pub StepsBy : Proof → Proof → ℕ → Type 0
-StepsBy old new i =
-    (program : Program) (start : RulePattern) (r : Rule) → slice_get program.rules.items i ≡ Some r → IsProofOf old program start (plain_pattern r.left) →
-    IsProofOf new program start (plain_pattern r.right)
+-- the proof goes on by the rule at a place: its right side is the present configuration then
+pub record StepsBy (old new : RunProof) (i : ℕ) : Type 0 where
+  pub same_program : new.program ≡ old.program
+  pub same_start : new.start ≡ old.start
+  pub reached : (r : Rule) → slice_get old.program.rules.items i ≡ Some r → new.reached ≡ r.right
+  pub used : new.used ≡ slice_set old.used i true
+
+-- a step was made by the rule at a place
+abbrev pub IsUsed : RunProof → ℕ → Type 0
+IsUsed proof i = slice_get proof.used i ≡ Some true
+
+-- a text has gained a theorem, and no other assertion
+pub record GainsTheorem (old new : List ℕ) : Type 0 where
+  pub theorem : Assertion
+  pub is_proved : theorem.is_proved ≡ true
+  pub assertions : assertions_of new ≡ assertions_of old ++ theorem ∷ []
+
+-- the text justifies the run from the start to the present configuration
+abbrev pub IsJustified : RunProof → Type 0
+IsJustified proof = Justifies proof.text proof.program (plain_pattern proof.start) (plain_pattern proof.reached)

@@ -1,5 +1,7 @@
--- What is known of the names, the axioms and the text of a proof while it is written.
-use Rattle.std.specs.Prelude.{◌≡◌, ℕ, suc, ◌<◌, ◌≤◌, true, List, [], ◌∷◌, ◌++◌, length, vec_len, slice_get, Option, Some, None}
+-- What is known of the names, the axioms and the text of a proof while it is written: cited by the clauses of private functions
+-- alone.
+use Rattle.std.specs.Prelude.{◌≡◌, ℕ, suc, ◌<◌, ◌≤◌, true, List, [], ◌∷◌, ◌++◌, length, vec_len, slice_get, Option, Some, None, Bool, map}
+use Rattle.std.specs.Option.{is_some}
 use Rattle.term_core.specs.Patterns.{Pattern as RulePattern}
 use Rattle.term_core.specs.RulePatterns.{plain_pattern}
 use Rattle.rule_core.specs.declared.rules.Rule.{Rule}
@@ -9,12 +11,12 @@ use Rattle.ml_kernel.specs.declared.derivations.AxiomNo.{AxiomNo}
 use Rattle.ml_kernel.specs.Theorems.{Theorem}
 use Rattle.ml_image.specs.Images.{image_of, IsImageAt}
 use Rattle.ml_image.specs.Gained.{AreOwnTokens}
-use Rattle.mm_proof.specs.Leaves.{EachLeaf}
-use Rattle.mm_render.specs.OverNames.{closed_over}
-use Rattle.mm_render.specs.Keeping.{Fits, axiom_at}
-use Rattle.mm_render.specs.Places.{IsStated}
-use Rattle.mm_render.specs.Justifying.{HasOnlyAxiomsOf, Justifies}
-use Rattle.mm_render.specs.JustifyingLaws.{HasNoVariable}
+use Rattle.ml_pat.specs.Leaves.{EachLeaf}
+use Rattle.mm_claims.specs.OverNames.{closed_over}
+use Rattle.mm_claims.specs.Keeping.{Fits, axiom_at}
+use Rattle.mm_claims.specs.Places.{IsStated}
+use Rattle.mm_justify.specs.Justifying.{HasOnlyAxiomsOf, Justifies}
+use Rattle.mm_justify.specs.NoVariables.{HasNoVariable}
 use Rattle.prove_run.specs.declared.script.Script.{Script}
 
 -- the axiom with this number is the image of the rule at a place, and it was stated
@@ -48,6 +50,10 @@ IsDeclared s = s.renderer.named ≡ length s.names
 abbrev pub Extends : {X : Type 0} → List X → List X → Type 0
 Extends {X} old new = (more : List X) × (new ≡ old ++ more)
 
+-- for each rule of the program, whether its axiom was stated
+abbrev pub rules_used : Script → List Bool
+rules_used s = map is_some s.axioms.items
+
 -- the proof of the same program goes on: names and statements were added, and none was lost
 pub record Continues (old new : Script) : Type 0 where
   pub program : new.program.now ≡ old.program.now
@@ -60,7 +66,3 @@ abbrev pub Justified : Script → Theorem → Type 0
 Justified s t =
     (a b : RulePattern) (from to : Pattern) → image_of s.program.now.sig s.names a ≡ Some from → image_of s.program.now.sig s.names b ≡ Some to →
     t.hypotheses ≡ [] → t.conclusion ≡ imp from (ev to) → EachLeaf (closed_over s.names) (imp from (ev to)) → Justifies s.text.items s.program.now a b
-
--- no variable stands in the sides of the rule at a place
-abbrev pub AreGroundAt : Program → ℕ → Type 0
-AreGroundAt program i = (r : Rule) → slice_get program.rules.items i ≡ Some r → HasNoVariable (plain_pattern r.left) × HasNoVariable (plain_pattern r.right)

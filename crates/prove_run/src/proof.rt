@@ -1,25 +1,41 @@
 // A proof of a run, step by step.
-ghost use Rattle.std.specs.Prelude.{◌≡◌, IfOk, OnOk};
+ghost use Rattle.std.specs.Prelude.{◌≡◌, IfOk};
 ghost use Rattle.term_core.specs.RulePatterns.{plain_pattern};
 ghost use Rattle.ml_image.specs.Images.{HasImage, HasImageAt};
-ghost use Rattle.mm_render.specs.JustifyingLaws.{HasNoVariable};
+ghost use Rattle.mm_justify.specs.NoVariables.{HasNoVariable};
 ghost use Rattle.prove_run.specs.PlainNames.{HasPlainNames};
-ghost use Rattle.prove_run.specs.Scripts.{AreGroundAt};
-ghost use Rattle.prove_run.specs.Proving.{IsAtRule, IsProofOf, StepsBy};
+ghost use Rattle.prove_run.specs.Proving.{AreGroundAt, Begins, GainsTheorem, IsAtRule, IsJustified, IsUsed, StepsBy};
 
 use crate::script::Script;
 use ml_derived::{free_of_top, reach_here, reach_step};
 use ml_kernel::{Lemma, Thm};
-use mm_render::{image_laws, later_laws};
+use mm_justify::image_laws;
 use rule_core::Program;
 use std::alloc::{AllocError, Global};
+use std::marker::Model;
 use term_core::RulePat;
 
-/// A proof that the start of a run reaches the present configuration.
+/// A proof that the start of a run reaches the present configuration. Contracts see it as these two, the program, the rules by which
+/// steps were made, and the text.
 #[derive(Drop)]
 pub struct Proof<'p> {
-    pub(crate) script: Script<'p>,
-    pub(crate) sofar: Lemma,
+    script: Script<'p>,
+    start: &'p RulePat,
+    reached: &'p RulePat,
+    // The theorem that says so.
+    last: Lemma,
+}
+
+impl<'p> Model for Proof<'p> {
+    ghost use Rattle.prove_run.specs.RunProof.{RunProof};
+
+    ghost Value = { RunProof };
+
+    ghost use Rattle.prove_run.specs.ProofView.{run_proof, IsProof};
+
+    ghost view = { run_proof };
+
+    ghost invariant = { IsProof };
 }
 
 impl<'p> Proof<'p> {
@@ -27,41 +43,58 @@ impl<'p> Proof<'p> {
     pub fn begin(
         alloc: Global,
         program: &'p Program,
-        start: &RulePat,
+        start: &'p RulePat,
     ) -> Result<Proof<'p>, AllocError>
         requires names { HasPlainNames program.now.sig }
         requires image { HasImage program.now.sig (plain_pattern start.now) }
         requires ground { HasNoVariable (plain_pattern start.now) }
-        ensures { IfOk result (λ proof. IsProofOf proof program.now (plain_pattern start.now) (plain_pattern start.now)) }
+        ensures begins { IfOk result (Begins program.now start.now) }
+        ensures justified { IfOk result IsJustified }
     {
         image_laws();
         let mut script = Script::begin(alloc, program)?;
         let here = script.image(alloc, start)?;
-        let sofar = script.state(reach_here(alloc, &here)?)?;
-        Ok(Proof { script, sofar })
+        let last = script.state(reach_here(alloc, &here)?)?;
+        Ok(Proof {
+            script,
+            start,
+            reached: start,
+            last,
+        })
     }
 
     /// One step more, by the rule at a place of the program, whose left side is the present configuration. Its right side is the
-    /// present configuration then. The error is want of memory; the proof is of no use after it.
-    pub fn step(&mut self, alloc: Global, rule: u32) -> Result<(), AllocError>
-        requires names { HasPlainNames self.old.script.program.now.sig }
-        requires image { HasImageAt self.old.script.program.now rule }
-        requires ground { AreGroundAt self.old.script.program.now rule }
-        requires applies { IsAtRule self.old rule }
-        ensures { OnOk result (StepsBy self.old self.new rule) }
+    /// present configuration then. Where a step was made by this rule before, its axiom is in the text already, which gains just the
+    /// theorem of this step. The error is want of memory, and no proof is left then.
+    pub fn step(self, alloc: Global, rule: u32) -> Result<Proof<'p>, AllocError>
+        requires names { HasPlainNames self.program.sig }
+        requires image { HasImageAt self.program rule }
+        requires ground { AreGroundAt self.program rule }
+        requires applies { IsAtRule self rule }
+        ensures steps { IfOk result (λ further. StepsBy self.entry further rule) }
+        ensures justified { IfOk result IsJustified }
+        ensures once { IfOk result (λ further. IsUsed self.entry rule → GainsTheorem self.entry.text further.text) }
     {
-        let no = self.script.rule(alloc, rule)?;
-        let image = self.script.theory.axiom(alloc, no)?;
+        let mut script = self.script;
+        let program = script.program;
+        let no = script.rule(alloc, rule)?;
+        let image = script.theory.axiom(alloc, no)?;
         let made = free_of_top(alloc, &image)?;
-        let sofar = Thm::use_lemma(alloc, &self.sofar, &[], &[])?;
+        let sofar = Thm::use_lemma(alloc, &self.last, &[], &[])?;
         let further = reach_step(alloc, &sofar, &made)?;
-        self.sofar = self.script.state(further)?;
-        Ok(())
+        let last = script.state(further)?;
+        Ok(Proof {
+            script,
+            start: self.start,
+            reached: &program.rules[rule as usize].right,
+            last,
+        })
     }
 
     /// The text of the proof, a Metamath database, where no step follows.
     pub fn into_text(self) -> Vec<u8>
-        ensures { result.items ≡ self.entry.script.text.items }
+        ensures text { result.items ≡ self.entry.text }
+        ensures justified { IsJustified self.entry }
     {
         self.script.text
     }

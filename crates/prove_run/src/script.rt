@@ -1,15 +1,18 @@
 // What is written of a proof: names, axioms and theorems, and the text that states them.
-ghost use Rattle.std.specs.Prelude.{◌≡◌, IfOk, OnOk, Some};
+ghost use Rattle.std.specs.Prelude.{◌≡◌, IfOk, OnOk, Some, false, length, replicate, slice_get, slice_set, true};
 ghost use Rattle.term_core.specs.RulePatterns.{plain_pattern};
 ghost use Rattle.ml_image.specs.Images.{HasImage, HasImageAt, IsImageAt, image_of};
-ghost use Rattle.mm_render.specs.Places.{IsStated, MayProve};
+ghost use Rattle.mm_claims.specs.Places.{IsStated, MayProve};
 ghost use Rattle.prove_run.specs.PlainNames.{HasPlainNames};
-ghost use Rattle.prove_run.specs.Scripts.{AreGroundAt, Continues, HasStated, IsSound, IsDeclared, Justified};
+ghost use Rattle.prove_run.specs.Proving.{AreGroundAt, GainsTheorem};
+ghost use Rattle.prove_run.specs.Scripts.{Continues, HasStated, IsDeclared, IsSound, Justified, rules_used};
 
-use ml_image::{rule_image, term_image};
+use ml_image::{naming_laws, rule_image, term_image};
 use ml_kernel::{AxiomNo, Lemma, Theory, Thm};
 use ml_pat::{MPat, Names};
-use mm_render::{Renderer, image_laws, justifying_laws, later_laws};
+use mm_claims::{closed_laws, later_laws};
+use mm_justify::{image_laws, justifying_laws};
+use mm_render::Renderer;
 use rule_core::Program;
 use std::alloc::{AllocError, Global};
 use term_core::RulePat;
@@ -31,6 +34,7 @@ impl<'p> Script<'p> {
         ensures sound { IfOk result IsSound }
         ensures declared { IfOk result IsDeclared }
         ensures program { IfOk result (λ s. s.program.now ≡ program.now) }
+        ensures used { IfOk result (λ s. rules_used s ≡ replicate (length program.now.rules.items) false) }
     {
         justifying_laws();
         let mut renderer = Renderer::new(alloc);
@@ -56,6 +60,7 @@ impl<'p> Script<'p> {
         ensures sound { OnOk result (IsSound self.new) }
         ensures declared { OnOk result (IsDeclared self.new) }
         ensures continues { OnOk result (Continues self.old self.new) }
+        ensures kept { OnOk result (self.new.axioms ≡ self.old.axioms) }
     {
         let image = term_image(alloc, self.program, &mut self.names, pat)?;
         self.declare()?;
@@ -73,6 +78,8 @@ impl<'p> Script<'p> {
         ensures sound { OnOk result (IsSound self.new) }
         ensures declared { OnOk result (IsDeclared self.new) }
         ensures continues { OnOk result (Continues self.old self.new) }
+        ensures once { OnOk result (slice_get (rules_used self.old) rule ≡ Some true → self.new ≡ self.old) }
+        ensures used { OnOk result (rules_used self.new ≡ slice_set (rules_used self.old) rule true) }
     {
         let known = self.axioms[rule as usize];
         match known {
@@ -91,9 +98,12 @@ impl<'p> Script<'p> {
         ensures sound { OnOk result (IsSound self.new) }
         ensures declared { OnOk result (IsDeclared self.new) }
         ensures continues { OnOk result (Continues self.old self.new) }
+        ensures used { OnOk result (rules_used self.new ≡ slice_set (rules_used self.old) rule true) }
     {
+        closed_laws();
         image_laws();
         later_laws();
+        naming_laws();
         let image = rule_image(alloc, self.program, &mut self.names, rule)?;
         self.declare()?;
         self.assume(rule, image)
@@ -110,10 +120,13 @@ impl<'p> Script<'p> {
         ensures sound { OnOk result (IsSound self.new) }
         ensures declared { OnOk result (IsDeclared self.new) }
         ensures continues { OnOk result (Continues self.old self.new) }
+        ensures used { OnOk result (rules_used self.new ≡ slice_set (rules_used self.old) rule true) }
     {
         justifying_laws();
+        closed_laws();
         image_laws();
         later_laws();
+        naming_laws();
         let no = self.theory.add(image)?;
         self.renderer
             .axiom(&self.names, &self.theory, no, &mut self.text)?;
@@ -133,6 +146,8 @@ impl<'p> Script<'p> {
         ensures sound { OnOk result (IsSound self.new) }
         ensures declared { OnOk result (IsDeclared self.new) }
         ensures continues { OnOk result (Continues self.old self.new) }
+        ensures gained { OnOk result (GainsTheorem self.old.text.items self.new.text.items) }
+        ensures kept { OnOk result (self.new.axioms ≡ self.old.axioms) }
     {
         justifying_laws();
         later_laws();
@@ -148,6 +163,7 @@ impl<'p> Script<'p> {
         ensures sound { OnOk result (IsSound self.new) }
         ensures declared { OnOk result (IsDeclared self.new) }
         ensures continues { OnOk result (Continues self.old self.new) }
+        ensures kept { OnOk result (self.new.axioms ≡ self.old.axioms) }
         ensures names { OnOk result (self.new.names ≡ self.old.names) }
     {
         justifying_laws();

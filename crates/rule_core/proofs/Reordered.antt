@@ -1,5 +1,5 @@
 -- A run does not depend on the order in which a program's rules are listed, since priority and place say which is tried first.
-use Rattle.std.proofs.Common.{◌≡◌, ℕ, ◌+◌, List, Option, Contains}
+use Rattle.std.proofs.Common.{ℕ, List, Option}
 use Rattle.std.specs.List.Sorted.{IsPermutation}
 use Rattle.std.proofs.lemmas.List.Sorted.{IsPermutation-sym, Contains-permutation}
 use Rattle.term_core.specs.Terms.{Tree}

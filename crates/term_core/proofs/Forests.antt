@@ -1,8 +1,8 @@
 -- Forests and lists of trees are one thing; heights and normal forms of a forest's trees.
-use Rattle.std.proofs.Common.{◌≡◌, ℕ, ◌+◌, ◌<◌, ◌≤◌, zero, suc, max, List, [], ◌∷◌, ◌++◌, length, slice_get, ◌↔◌, Some, get_or, take, refl, sym, ◌∙◌, ap, arith}
+use Rattle.std.proofs.Common.{◌≡◌, ℕ, ◌+◌, ◌<◌, ◌≤◌, zero, suc, max, List, [], ◌∷◌, ◌++◌, length, slice_get, ◌↔◌, Some, get_or, take, drop, refl, sym, ◌∙◌, ap, arith}
 use Rattle.std.proofs.lemmas.Option.{slice_get_read, slice_get_within, get_or_from_slice_get}
 use Rattle.std.proofs.lemmas.List.{take_more}
-use Rattle.term_core.specs.Terms.{Tree, leaf, node, inj, Forest, no_tree, more_trees, forest, trees, children, height, heights, IsNoInjection, IsNormal, AreNormal, injected, norm, norms}
+use Rattle.term_core.specs.Terms.{Tree, leaf, node, inj, Forest, no_tree, more_trees, forest, trees, children, height, heights, size, sizes, IsNoInjection, IsNormal, AreNormal, injected, norm, norms}
 
 pub trees-forest : (ts : List Tree) → trees (forest ts) ≡ ts
 trees-forest [] = refl
@@ -37,6 +37,18 @@ pub height_positive : (t : Tree) → 0 < height t
 height_positive (leaf s v) = omega arith
 height_positive (node f ts) = omega arith
 height_positive (inj a b t) = omega arith
+
+-- Every tree has a root.
+pub size_positive : (t : Tree) → 0 < size t
+size_positive (leaf s v) = omega arith
+size_positive (node f ts) = omega arith
+size_positive (inj a b t) = omega arith
+
+-- the size of the trees from i on, the one at i apart
+pub sizes-drop : (ts : List Tree) (i : ℕ) (t : Tree) → slice_get ts i ≡ Some t → sizes (forest (drop i ts)) ≡ size t + sizes (forest (drop (i + 1) ts))
+sizes-drop [] i t e = let no : ⊥ = cc in absurd no
+sizes-drop (u ∷ ts) zero t e = let same : u ≡ t = cc in ap (λ (v : Tree). size v + sizes (forest ts)) same
+sizes-drop (u ∷ ts) (suc i) t e = let next : suc i + 1 ≡ suc (i + 1) = omega arith in rw next (sizes-drop ts i t e)
 
 pub heights-push : (ts : List Tree) (t : Tree) → heights (forest (ts ++ t ∷ [])) ≡ max (heights (forest ts)) (height t)
 heights-push [] t = omega arith

@@ -2,3 +2,4 @@ pub mod Forests
 pub mod PlainPatterns
 pub mod PatternLaws
 pub mod TreeTests
+mod HookTries

@@ -5,8 +5,10 @@ use Rattle.std.proofs.lemmas.Bool.{false≢true}
 use Rattle.std.proofs.lemmas.List.{drop_more}
 use Rattle.std.proofs.lemmas.Option.{get_or_from_slice_get, slice_get_within}
 use Rattle.term_core.specs.Terms.{Tree, leaf, node, inj, Forest, no_tree, more_trees, forest, children, height, heights, IsNormal, AreNormal, injected, norm, norms}
-use Rattle.term_core.specs.Patterns.{Pattern, variable, domain_value, application, injection, call, Patterns, no_pattern, more_patterns, patterns, binding, AreNormalBindings, with_first, substituted, all_substituted, instance_of, instances_of, FitsWithin, AllFitWithin, IsGround, AreGround, ground_pattern, ground_patterns}
-use Rattle.term_core.specs.RulePatterns.{plain_pattern, plain_patterns}
+use Rattle.term_core.specs.Patterns.{Pattern, variable, domain_value, application, injection, call, Patterns, no_pattern, more_patterns, patterns, binding, AreNormalBindings, with_first, substituted, all_substituted, instance_of, instances_of, FitsWithin, ground_pattern, ground_patterns}
+use Rattle.term_core.specs.RulePatterns.{plain_pattern}
+use Rattle.term_core.specs.PatternLists.{AllFitWithin, plain_patterns}
+use Rattle.term_core.specs.GroundPatterns.{IsGround, AreGround}
 use Rattle.term_core.proofs.Forests.{injected-injected, norm-normal, injected-other}
 use Rattle.term_core.specs.declared.rule_patterns.RulePat.{RulePat}
 

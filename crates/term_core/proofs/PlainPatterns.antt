@@ -3,7 +3,8 @@ use Rattle.std.proofs.Common.{◌≡◌, ℕ, sym, ◌∙◌, ap}
 use Rattle.std.specs.Global.{Vec, Box}
 use Rattle.term_core.specs.Patterns.{Pattern, variable, domain_value, application, injection, call}
 use Rattle.term_core.specs.Values.{value_of}
-use Rattle.term_core.specs.RulePatterns.{sort_numbers, plain_layer, plain_pattern, plain_patterns}
+use Rattle.term_core.specs.RulePatterns.{sort_numbers, plain_layer, plain_pattern}
+use Rattle.term_core.specs.PatternLists.{plain_patterns}
 use Rattle.term_core.specs.declared.ids.SortId.{SortId}
 use Rattle.term_core.specs.declared.ids.SymId.{SymId}
 use Rattle.term_core.specs.declared.values.Value.{Value}

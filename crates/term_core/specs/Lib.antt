@@ -2,8 +2,11 @@ pub mod Terms
 pub mod TermCode
 pub mod TreeTest
 pub mod Values
+pub mod HookValues
 pub mod TermView
 pub mod TermSize
 pub mod Heads
 pub mod Patterns
 pub mod RulePatterns
+pub mod PatternLists
+pub mod GroundPatterns

@@ -1,7 +1,7 @@
 -- Patterns of rules (Kore language document, "Patterns"): terms with variables and calls of functions. Variables are
 -- numbers too; a substitution is the list of what stands for them, by number, where something does.
 use Rattle.std.specs.Prelude.{ℕ, List, [], ◌∷◌, Option, Some, None, option_map, slice_index_or, IsSomeAnd, ◌≤◌}
-use Rattle.term_core.specs.Terms.{DomainValue, Tree, leaf, node, inj, Forest, no_tree, more_trees, height, heights, IsNormal, injected}
+use Rattle.term_core.specs.Terms.{DomainValue, Tree, leaf, node, inj, Forest, no_tree, more_trees, height, IsNormal, injected}
 
 -- `call` has the symbol of a function, the sorts that it is applied at, and its arguments.
 mutual
@@ -68,23 +68,6 @@ abbrev mutual
 -- There is an instance, and its height is at most n.
 abbrev pub FitsWithin : ℕ → List (Option Tree) → Pattern → Type 0
 FitsWithin n theta p = IsSomeAnd (instance_of theta p) (λ (t : Tree). height t ≤ n)
-
--- the same of each of some patterns
-abbrev pub AllFitWithin : ℕ → List (Option Tree) → Patterns → Type 0
-AllFitWithin n theta ps = IsSomeAnd (instances_of theta ps) (λ (ts : Forest). heights ts ≤ n)
-
--- no variable stands in it and no function is called
-abbrev mutual
-  pub IsGround : Pattern → Type 0
-  IsGround (variable x) = ⊥
-  IsGround (domain_value s v) = Unit {0}
-  IsGround (application f ps) = AreGround ps
-  IsGround (injection a b p) = IsGround p
-  IsGround (call f ss ps) = ⊥
-
-  pub AreGround : Patterns → Type 0
-  AreGround no_pattern = Unit {0}
-  AreGround (more_patterns p ps) = IsGround p × AreGround ps
 
 -- the pattern that stands for one term alone
 abbrev mutual

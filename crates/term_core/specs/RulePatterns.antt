@@ -1,6 +1,6 @@
 -- The plain pattern that a `RulePat` of the code stands for.
 use Rattle.std.specs.Prelude.{ℕ, List, map}
-use Rattle.term_core.specs.Patterns.{Pattern, Patterns, variable, domain_value, application, injection, call, patterns}
+use Rattle.term_core.specs.Patterns.{Pattern, variable, domain_value, application, injection, call, patterns}
 use Rattle.term_core.specs.Values.{value_of}
 use Rattle.term_core.specs.declared.ids.SortId.{SortId}
 use Rattle.term_core.specs.declared.rule_patterns.RulePat.{RulePat}
@@ -22,6 +22,3 @@ plain_layer (layer.Call f ss ps) = call f.0 (sort_numbers ss.items) (patterns ps
 
 abbrev pub plain_pattern : RulePat → Pattern
 plain_pattern = fold-RulePat Pattern plain_layer
-
-abbrev pub plain_patterns : List RulePat → Patterns
-plain_patterns ps = patterns (map plain_pattern ps)

@@ -1,5 +1,6 @@
 -- The tree that a `Term` of the code stands for: its children stand for theirs.
-use Rattle.term_core.specs.Terms.{Tree, leaf, node, inj, forest}
+use Rattle.std.specs.Prelude.{ℕ, ◌≡◌, ◌≤◌}
+use Rattle.term_core.specs.Terms.{Tree, leaf, node, inj, forest, height, IsNormal}
 use Rattle.term_core.specs.Values.{value_of}
 use Rattle.term_core.specs.declared.terms.Node.{Node}
 use Rattle.term_core.specs.declared.terms.Node.TheVariants as form
@@ -12,3 +13,9 @@ node_tree (form.Inj a b t) = inj a.0 b.0 t
 
 abbrev pub tree_of : Inside → Tree
 tree_of a = node_tree a.node.value
+
+-- what holds of every term of the code: it is normal, and its height is the one that it keeps and at most 500
+pub record IsTermOfHeight (high : ℕ) (t : Tree) : Type 0 where
+  pub normal : IsNormal t
+  pub value : high ≡ height t
+  pub bound : high ≤ 500

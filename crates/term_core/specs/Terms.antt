@@ -1,6 +1,6 @@
 -- Ground terms of Kore (Kore language document, "Patterns"; Chen and Rosu 2019): a domain value of a sort, a constructor
 -- applied to terms, or an injection of a term of one sort into a sort above it. Sorts and symbols are numbers here.
-use Rattle.std.specs.Prelude.{ℕ, ◌+◌, ◌≡◌, ◌≤◌, max, ℤ, Bool, List, [], ◌∷◌}
+use Rattle.std.specs.Prelude.{ℕ, ◌+◌, max, ℤ, Bool, List, [], ◌∷◌}
 
 -- what a domain value stands for: an integer, a truth value or a text, by its bytes
 pub data DomainValue : Type 0 where
@@ -47,6 +47,17 @@ abbrev mutual
   heights no_tree = 0
   heights (more_trees t ts) = max (height t) (heights ts)
 
+-- How many values, constructors and injections a tree has.
+abbrev mutual
+  pub size : Tree → ℕ
+  size (leaf s v) = 1
+  size (node f ts) = sizes ts + 1
+  size (inj a b t) = size t + 1
+
+  pub sizes : Forest → ℕ
+  sizes no_tree = 0
+  sizes (more_trees t ts) = size t + sizes ts
+
 -- the root is no injection
 abbrev pub IsNoInjection : Tree → Type 0
 IsNoInjection (leaf s v) = Unit {0}
@@ -80,9 +91,3 @@ abbrev mutual
   pub norms : Forest → Forest
   norms no_tree = no_tree
   norms (more_trees t ts) = more_trees (norm t) (norms ts)
-
--- what holds of every term of the code: it is normal, and its height is the one that it keeps and at most 500
-pub record IsTermOfHeight (high : ℕ) (t : Tree) : Type 0 where
-  pub normal : IsNormal t
-  pub value : high ≡ height t
-  pub bound : high ≤ 500

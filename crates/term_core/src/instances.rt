@@ -1,8 +1,9 @@
 // What a pattern becomes when its variables stand for terms.
-ghost use Rattle.std.specs.Prelude.{ℕ, ◌≡◌, ◌↔◌, ◌-◌, [], length, IfOk, IsTrue, Some, option_map};
-ghost use Rattle.term_core.specs.Terms.{forest, children, injected, norm};
-ghost use Rattle.term_core.specs.Patterns.{injection, substituted, instance_of, instances_of, FitsWithin, AllFitWithin};
-ghost use Rattle.term_core.specs.RulePatterns.{plain_pattern, plain_patterns};
+ghost use Rattle.std.specs.Prelude.{ℕ, ◌≡◌, ◌↔◌, ◌+◌, ◌-◌, ◌≤◌, [], length, IfOk, IsTrue, Some, option_map};
+ghost use Rattle.term_core.specs.Terms.{forest, children, injected, norm, size, sizes};
+ghost use Rattle.term_core.specs.Patterns.{injection, substituted, instance_of, instances_of, FitsWithin};
+ghost use Rattle.term_core.specs.RulePatterns.{plain_pattern};
+ghost use Rattle.term_core.specs.PatternLists.{AllFitWithin, plain_patterns};
 
 use crate::ids::SortId;
 use crate::rule_patterns::RulePat;
@@ -109,10 +110,11 @@ use std::alloc::{AllocError, Global};
 use std::sync::ledger::Ledger;
 
 /// Whether `term` is the term that `pat` stands for by itself. A pattern with a variable or a call stands for none. It
-/// takes no memory, and a step for each value, constructor and injection of the term that it looks at.
+/// takes no memory, and looks at each value, constructor and injection of the term at most once.
 #[cycle(is_instance)]
 pub fn is_instance<L: Ledger>(pat: &RulePat, term: &Term, steps: &mut Steps<L>) -> bool
-    ensures { IsTrue result ↔ (instance_of [] (plain_pattern pat.now) ≡ Some term.now) }
+    ensures instance { IsTrue result ↔ (instance_of [] (plain_pattern pat.now) ≡ Some term.now) }
+    ensures looks { steps.new ≤ steps.old + size term.now }
 {
     match pat {
         RulePat::Var(_) | RulePat::Call(..) => false,
@@ -134,7 +136,8 @@ pub fn is_instance<L: Ledger>(pat: &RulePat, term: &Term, steps: &mut Steps<L>) 
 #[cycle(is_instance)]
 fn are_instances<L: Ledger>(pats: &[RulePat], term: &Term, steps: &mut Steps<L>) -> bool
     requires { length pats.now ≡ length (children term.now) }
-    ensures { IsTrue result ↔ (instances_of [] (plain_patterns pats.now) ≡ Some (forest (children term.now))) }
+    ensures instances { IsTrue result ↔ (instances_of [] (plain_patterns pats.now) ≡ Some (forest (children term.now))) }
+    ensures looks { steps.new ≤ steps.old + sizes (forest (children term.now)) }
 {
     for i in 0..pats.len() {
         if !is_instance(&pats[i], term.child(i), steps) {
@@ -153,7 +156,8 @@ fn is_injected<L: Ledger>(
     term: &Term,
     steps: &mut Steps<L>,
 ) -> bool
-    ensures { IsTrue result ↔ (option_map (injected from.0 to.0) (instance_of [] (plain_pattern pat.now)) ≡ Some term.now) }
+    ensures instance { IsTrue result ↔ (option_map (injected from.0 to.0) (instance_of [] (plain_pattern pat.now)) ≡ Some term.now) }
+    ensures looks { steps.new ≤ steps.old + size term.now }
 {
     if let RulePat::Inj(first, _, below) = pat {
         return is_injected(*first, to, below, term, steps);

@@ -2,7 +2,8 @@
 ghost use Rattle.std.specs.Prelude.{◌≡◌, [], length, IfOk, Some};
 ghost use Rattle.term_core.specs.Terms.{forest, children};
 ghost use Rattle.term_core.specs.Patterns.{instance_of, ground_pattern, ground_patterns};
-ghost use Rattle.term_core.specs.RulePatterns.{plain_pattern, plain_patterns};
+ghost use Rattle.term_core.specs.RulePatterns.{plain_pattern};
+ghost use Rattle.term_core.specs.PatternLists.{plain_patterns};
 
 use crate::ids::{SortId, SymId};
 use crate::terms::{Term, View};

@@ -33,14 +33,14 @@ enum Node {
 
 impl Model for Term {
     ghost use Rattle.std.specs.Prelude.{◌≡◌, ◌≤◌};
-    ghost use Rattle.term_core.specs.Terms.{Tree, height, IsTermOfHeight};
+    ghost use Rattle.term_core.specs.Terms.{Tree, height};
     ghost use Rattle.term_core.specs.TermCode.{tree_code};
 
     ghost Value = { Tree };
 
     ghost coded = { tree_code };
 
-    ghost use Rattle.term_core.specs.TermView.{tree_of};
+    ghost use Rattle.term_core.specs.TermView.{tree_of, IsTermOfHeight};
 
     ghost view = { tree_of };
 

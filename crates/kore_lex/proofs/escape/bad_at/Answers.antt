@@ -1,5 +1,5 @@
 use Rattle.std.proofs.Common.{◌≡◌, ◌∙◌, length, sym, ap, arith, length-drop, drop, Some}
-use Rattle.kore_lex.specs.Escapes.{unit_len}
+use Rattle.kore_lex.specs.Steps.{unit_len}
 use Rattle.kore_lex.proofs.EscapeLaws.{unit-pass, unit-none, bad-past}
 use Rattle.kore_lex.proofs.escape.bad_at.Goals as goal
 

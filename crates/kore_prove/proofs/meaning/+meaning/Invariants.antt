@@ -1,7 +1,7 @@
 use Rattle.std.proofs.Common.{map, take}
 use Rattle.kore_ast.specs.Plain.{plain_pattern}
 use Rattle.kore_text.specs.Trees.{pattern_trees}
-use Rattle.term_core.specs.RulePatterns.{plain_patterns}
+use Rattle.term_core.specs.PatternLists.{plain_patterns}
 use Rattle.kore_prove.specs.Acceptance.{AllDenote}
 use Rattle.kore_prove.proofs.meaning.+meaning.Given as goal
 

@@ -5,9 +5,9 @@ use Rattle.term_core.specs.RulePatterns.{plain_pattern}
 use Rattle.rule_core.specs.Runs.{Reaches, at_start, after_step}
 use Rattle.rule_core.specs.FirstRule.{Rewrites}
 use Rattle.rule_core.specs.ProgramView.{rewrite_rules}
-use Rattle.prove_run.specs.Proving.{IsProofOf, StepsBy}
+use Rattle.prove_run.specs.Proving.{StepsBy}
 use Rattle.kore_prove.specs.Runnable.{IsShown, LeadsBy}
-use Rattle.kore_prove.proofs.Provable.{built_image, built_ground, built_becomes, is_at_rule, goes_on}
+use Rattle.kore_prove.proofs.Provable.{IsProofOf, begun, justified_by, built_image, built_ground, built_becomes, is_at_rule, goes_on}
 use Rattle.kore_prove.proofs.proved.proved_run.Goals as goal
 
 pub begin-requires-clause-image : goal.begin-requires-clause-image
@@ -30,7 +30,7 @@ loop-made-init c =
           let one_tree : first ≡ t = cc in
           subst (λ (u : Tree). Reaches (rewrite_rules c.args.program.now.rules.items) u 0 first) one_tree at_start;
       shown = subst (IsShown c.args.program.now.sig.symbols) one c.requires.showable.shown;
-      proved = subst (IsProofOf c.in_ok-proof.proof c.args.program.now start) ground c.in_ok-proof.ensures;
+      proved = subst (IsProofOf c.in_ok-proof.proof c.args.program.now start) ground (begun c.in_ok-proof.proof c.args.program.now c.args.start.now c.in_ok-proof.ensures.begins);
     }
 
 pub prove_step-requires-clause-applies : goal.prove_step-requires-clause-applies
@@ -43,9 +43,9 @@ pub loop-made-preserved : goal.loop-made-preserved
 loop-made-preserved c =
     let program = c.args.program.now in
     let step : Rewrites (rewrite_rules program.rules.items) c.loop-made.config c.in-Some.to × IsShown program.sig.symbols c.in-Some.to × LeadsBy program.rules.items c.in-Some.rule c.loop-made.config c.in-Some.to = search rules in
-    let further : StepsBy c.loop-made.proof c.prove_step.new.proof c.in-Some.rule = search rules in
+    let further : StepsBy c.loop-made.proof c.in_ok-proof-2.proof c.in-Some.rule = search rules in
     record {
       reached = λ t is. after_step c.loop-made.made c.loop-made.config c.in-Some.to (c.loop-made.invariant.reached t is) step.0;
       shown = step.1;
-      proved = goes_on c.loop-made.proof c.prove_step.new.proof program (plain_pattern c.args.start.now) c.in-Some.rule c.loop-made.config c.in-Some.to c.requires.provable c.loop-made.invariant.proved step.2 further;
+      proved = goes_on c.loop-made.proof c.in_ok-proof-2.proof program (plain_pattern c.args.start.now) c.in-Some.rule c.loop-made.config c.in-Some.to c.requires.provable c.loop-made.invariant.proved step.2 further;
     }

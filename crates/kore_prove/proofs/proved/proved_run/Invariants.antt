@@ -4,8 +4,8 @@ use Rattle.term_core.specs.Patterns.{instance_of, ground_pattern}
 use Rattle.term_core.specs.RulePatterns.{plain_pattern}
 use Rattle.rule_core.specs.ProgramView.{rewrite_rules}
 use Rattle.rule_core.specs.Runs.{Reaches}
-use Rattle.prove_run.specs.Proving.{IsProofOf}
 use Rattle.kore_prove.specs.Runnable.{IsShown}
+use Rattle.kore_prove.proofs.Provable.{IsProofOf}
 use Rattle.kore_prove.proofs.proved.proved_run.Given as goal
 
 abbrev pub invariant-loop-made : goal.invariant-loop-made

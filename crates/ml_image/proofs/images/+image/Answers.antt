@@ -1,7 +1,8 @@
 use Rattle.std.proofs.Common.{◌≡◌, Some, List, Option, IfOk, ap, sym, ◌∙◌, subst, ◌+◌, ◌≤◌, arith}
 use Rattle.ml_pat.specs.Patterns.{Pattern, app}
 use Rattle.term_core.specs.Patterns.{Pattern as RulePattern, application, injection, call}
-use Rattle.term_core.specs.RulePatterns.{plain_pattern, plain_patterns, sort_numbers}
+use Rattle.term_core.specs.RulePatterns.{plain_pattern, sort_numbers}
+use Rattle.term_core.specs.PatternLists.{plain_patterns}
 use Rattle.term_core.specs.declared.ids.SortId.{SortId}
 use Rattle.term_core.specs.declared.rule_patterns.RulePat.{RulePat}
 use Rattle.term_core.proofs.PatternLaws.{depth, depths, depth_of-item}

@@ -1,5 +1,6 @@
 use Rattle.std.proofs.Common.{◌≡◌, ◌+◌, ◌*◌, Some, take}
-use Rattle.term_core.specs.RulePatterns.{plain_pattern, plain_patterns}
+use Rattle.term_core.specs.RulePatterns.{plain_pattern}
+use Rattle.term_core.specs.PatternLists.{plain_patterns}
 use Rattle.term_core.proofs.PatternLaws.{depth, depths}
 use Rattle.ml_image.specs.Images.{applied}
 use Rattle.ml_image.specs.Gained.{HasGained}

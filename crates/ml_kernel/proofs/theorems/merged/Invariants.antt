@@ -1,7 +1,6 @@
 use Rattle.std.proofs.Common.{take, []}
 use Rattle.ml_kernel.specs.Theorems.{AddsNew, all_hypotheses}
-use Rattle.ml_kernel.specs.Concluding.{AreKept}
-use Rattle.ml_kernel.specs.Premises.{theorems_of}
+use Rattle.ml_kernel.specs.Premises.{theorems_of, AreKept}
 use Rattle.ml_kernel.proofs.theorems.merged.Given as goal
 
 abbrev pub invariant-loop-thm : goal.invariant-loop-thm

@@ -1,5 +1,5 @@
 use Rattle.std.proofs.Common.{◌*◌, ◌+◌, ◌≤◌}
-use Rattle.ml_pat.specs.Patterns.{forms_in}
+use Rattle.ml_pat.specs.FormsIn.{forms_in}
 use Rattle.ml_pat.specs.PatternView.{pattern_of}
 use Rattle.ml_pat.proofs.patterns.+pattern_drop.Given as goal
 

@@ -2,15 +2,13 @@ use Rattle.std.proofs.Common.{refl}
 use Rattle.mm_database.specs.Database.{Context}
 use Rattle.mm_database.specs.Proofs.{Expression, ProofTree, Proves, IsProof, postorder}
 use Rattle.mm_proof.specs.Tokens.{letters_of, judgement_by, is_pattern, is_fresh, is_substituted, is_predicate, holds}
-use Rattle.mm_proof.specs.Trees.{syntax_tree, fresh_tree, substitution_tree, predicate_tree, row_tree}
-use Rattle.mm_proof.specs.Derivations.{derivation_tree}
-use Rattle.mm_proof.specs.Leaves.{are_known}
+use Rattle.mm_proof.specs.Trees.{syntax_tree, fresh_tree, substitution_tree, predicate_tree, rule_tree}
+use Rattle.ml_pat.specs.Leaves.{are_known}
 use Rattle.mm_proof.proofs.SyntaxLaws.{syntax_proves}
 use Rattle.mm_proof.proofs.FreshLaws.{fresh_proves}
 use Rattle.mm_proof.proofs.SubstitutionLaws.{substitution_proves}
 use Rattle.mm_proof.proofs.PredicateLaws.{predicate_proves}
 use Rattle.mm_proof.proofs.RuleLaws.{rule_proves}
-use Rattle.mm_proof.proofs.DerivationProofs.{derivation_proves}
 use Rattle.mm_proof.proofs.laws.proof_laws.Goals as goal
 
 is_proof : (c : Context) (tree : ProofTree) (e : Expression) → Proves c tree e → IsProof c (postorder tree) e
@@ -33,9 +31,5 @@ returns-clause-predicate a c l n known p w h t =
     is_proof c (predicate_tree l p) (judgement_by (letters_of n) (is_predicate p)) (predicate_proves c l n (are_known known) p w h t)
 
 pub returns-clause-rules : goal.returns-clause-rules
-returns-clause-rules a c l n known k is ps q trees w row h all =
-    is_proof c (row_tree l k is trees) (judgement_by (letters_of n) (holds q)) (rule_proves c l n (are_known known) trees w row h all)
-
-pub returns-clause-derivations : goal.returns-clause-derivations
-returns-clause-derivations a c l n known hyps k s d q w sound concludes used only =
-    is_proof c (derivation_tree l s d) (judgement_by (letters_of n) (holds q)) (derivation_proves c l n (are_known known) hyps k s w sound d q concludes used only)
+returns-clause-rules a c l n known r is ps q trees w infers h all =
+    is_proof c (rule_tree l r is trees) (judgement_by (letters_of n) (holds q)) (rule_proves c l n (are_known known) trees w infers h all)

@@ -1,5 +1,6 @@
 use Rattle.std.proofs.Common.{◌≤◌, length, drop}
-use Rattle.mm_proof.specs.Writing.{PutsMore, all_tokens}
+use Rattle.mm_proof.specs.WorkStacks.{PutsMore}
+use Rattle.mm_proof.specs.Writing.{all_tokens}
 use Rattle.mm_proof.proofs.stacks.put_all.Given as goal
 
 abbrev pub invariant-loop-left : goal.invariant-loop-left

@@ -3,24 +3,25 @@ use Rattle.mm_text.specs.TextLaws.{written}
 use Rattle.ml_kernel.specs.declared.derivations.Inst.{Inst}
 use Rattle.ml_kernel.specs.StepView.{instances_of, derivation_of}
 use Rattle.ml_kernel.specs.StepsIn.{all_steps}
-use Rattle.ml_kernel.specs.Theorems.{Derivation, derivations, own_axiom, row, cited, Theorem}
+use Rattle.ml_kernel.specs.Theorems.{Derivation, derivations, own_axiom, by_rule, cited, Theorem}
 use Rattle.mm_proof.specs.Labels.{own_labels}
-use Rattle.mm_proof.specs.RowLabels.{all_labels, instance_labels, trees_before}
-use Rattle.mm_render.specs.Parts.{PutsParts, citing_at, rest_of_row}
+use Rattle.mm_proof.specs.RuleLabels.{all_labels, instance_labels}
+use Rattle.mm_proof.specs.Trees.{trees_before}
+use Rattle.mm_render.specs.Parts.{PutsParts, citing_at, rest_of_rule}
 use Rattle.mm_render.specs.PlaceTable.{claims_at, places_at, premises_at}
 use Rattle.mm_proof.proofs.Stacking.{on_ok, both_ok}
-use Rattle.mm_render.proofs.PartLaws.{row_taken, fact_taken, lemma_taken}
+use Rattle.mm_render.proofs.PartLaws.{rule_taken, fact_taken, lemma_taken}
 use Rattle.mm_render.proofs.derivations.write_part.Goals as goal
 
-pub returns-in_ok-write_before-in-Row : goal.returns-in_ok-write_before-in-Row
-returns-in_ok-write_before-in-Row c =
-    let whole : c.in-Derived.derivation.now ≡ row c.in-Row.no (instances_of c.in-Row.instances.items) (derivations c.in-Row.parts.items) = sym c.step.ensures ∙ ap derivation_of c.in-Row.is in
-    on_ok c.put_row.result (λ puts. row_taken c.args.at.now.names.now c.args.at.now.serial (citing_at c.args.at.now) c.args.part c.in-Derived.derivation c.in-Row.no (instances_of c.in-Row.instances.items) (derivations c.in-Row.parts.items)
-    c.args.stack.now.items c.put_row.new.stack.items c.args.to.now.items c.write_instances.new.to.items c.write_before.new.to.items c.in-Derived.is whole
-    (c.in_ok-write_instances-in-Row.ensures ∙ ap (λ (is : List Inst). c.args.to.now.items ++ written (instance_labels c.args.at.now.serial (instances_of is))) c.deref-in-Row.ensures.value)
-    (c.in_ok-write_before-in-Row.ensures ∙ ap (λ (is : List Inst). c.write_instances.new.to.items ++ written (all_labels (trees_before (own_labels c.args.at.now.serial) c.in-Row.no (instances_of is)))) c.deref-in-Row-2.ensures.value)
-    (subst (λ (ds : List Derivation). PutsParts (λ names k s. rest_of_row k s c.in-Row.no (instances_of c.in-Row.instances.items) (derivations ds)) (3 * all_steps (derivations ds) + 2) c.args.stack.now.items c.put_row.new.stack.items) c.deref-in-Row-4.ensures.value
-    (subst (λ (is : List Inst). PutsParts (λ names k s. rest_of_row k s c.in-Row.no (instances_of is) (derivations c.deref-in-Row-4.result.now)) (3 * all_steps (derivations c.deref-in-Row-4.result.now) + 2) c.args.stack.now.items c.put_row.new.stack.items) c.deref-in-Row-3.ensures.value puts))) c.put_row.ensures
+pub returns-in_ok-write_before-in-ByRule : goal.returns-in_ok-write_before-in-ByRule
+returns-in_ok-write_before-in-ByRule c =
+    let whole : c.in-Derived.derivation.now ≡ by_rule c.in-ByRule.rule (instances_of c.in-ByRule.instances.items) (derivations c.in-ByRule.parts.items) = sym c.step.ensures ∙ ap derivation_of c.in-ByRule.is in
+    on_ok c.put_rule.result (λ puts. rule_taken c.args.at.now.names.now c.args.at.now.serial (citing_at c.args.at.now) c.args.part c.in-Derived.derivation c.in-ByRule.rule (instances_of c.in-ByRule.instances.items) (derivations c.in-ByRule.parts.items)
+    c.args.stack.now.items c.put_rule.new.stack.items c.args.to.now.items c.write_instances.new.to.items c.write_before.new.to.items c.in-Derived.is whole
+    (c.in_ok-write_instances-in-ByRule.ensures ∙ ap (λ (is : List Inst). c.args.to.now.items ++ written (instance_labels c.args.at.now.serial (instances_of is))) c.deref-in-ByRule.ensures.value)
+    (c.in_ok-write_before-in-ByRule.ensures ∙ ap (λ (is : List Inst). c.write_instances.new.to.items ++ written (all_labels (trees_before (own_labels c.args.at.now.serial) c.in-ByRule.rule (instances_of is)))) c.deref-in-ByRule-2.ensures.value)
+    (subst (λ (ds : List Derivation). PutsParts (λ names k s. rest_of_rule k s c.in-ByRule.rule (instances_of c.in-ByRule.instances.items) (derivations ds)) (3 * all_steps (derivations ds) + 2) c.args.stack.now.items c.put_rule.new.stack.items) c.deref-in-ByRule-4.ensures.value
+    (subst (λ (is : List Inst). PutsParts (λ names k s. rest_of_rule k s c.in-ByRule.rule (instances_of is) (derivations c.deref-in-ByRule-4.result.now)) (3 * all_steps (derivations c.deref-in-ByRule-4.result.now) + 2) c.args.stack.now.items c.put_rule.new.stack.items) c.deref-in-ByRule-3.ensures.value puts))) c.put_rule.ensures
 
 pub returns-in-Axiom : goal.returns-in-Axiom
 returns-in-Axiom c =

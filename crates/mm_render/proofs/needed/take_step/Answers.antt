@@ -4,19 +4,19 @@ use Rattle.ml_pat.specs.Patterns.{Pattern}
 use Rattle.ml_kernel.specs.declared.derivations.Inst.{Inst}
 use Rattle.ml_kernel.specs.StepView.{derivation_of, instances_of}
 use Rattle.ml_kernel.specs.StepsIn.{steps_in, all_steps}
-use Rattle.ml_kernel.specs.Theorems.{Derivation, derivations, own_axiom, row, cited}
-use Rattle.mm_render.specs.Blocks.{Claim}
-use Rattle.mm_render.specs.CitedAt.{claim_at}
-use Rattle.mm_render.specs.ClaimVariables.{added}
+use Rattle.ml_kernel.specs.Theorems.{Derivation, derivations, own_axiom, by_rule, cited}
+use Rattle.mm_claims.specs.Blocks.{Claim}
+use Rattle.mm_claims.specs.CitedAt.{claim_at}
+use Rattle.mm_claims.specs.ClaimVariables.{added}
 use Rattle.mm_render.specs.ListedVariables.{listed}
 use Rattle.mm_render.specs.NeededView.{PutsDerivations}
-use Rattle.mm_render.specs.OpenVariables.{variables_at, variables_for, variables_of}
+use Rattle.mm_claims.specs.OpenVariables.{variables_at, variables_for, variables_of}
 use Rattle.mm_render.specs.PlaceTable.{claims_at, places_at}
-use Rattle.mm_render.specs.Variables.{Variable}
+use Rattle.mm_claims.specs.Variables.{Variable}
 use Rattle.mm_proof.proofs.Stacking.{on_ok}
 use Rattle.mm_render.proofs.NeededLaws.{leaf_needed, step_needed}
 use Rattle.mm_render.proofs.needed.take_step.Goals as goal
-use Rattle.mm_render.proofs.OpenVariableLaws.{own_variables}
+use Rattle.mm_claims.proofs.OpenVariableLaws.{own_variables}
 
 pub returns-in_ok-place-in-Axiom : goal.returns-in_ok-place-in-Axiom
 returns-in_ok-place-in-Axiom c =
@@ -28,18 +28,18 @@ returns-in_ok-place-in-Axiom c =
     on_ok c.add_values.result (λ is. leaf_needed claims place c.args.derivation.now (flat_map (variables_at []) us) c.args.stack.now.items (listed c.args.list.now) (listed c.add_values.new.list)
     (ap (variables_of claims place) whole ∙ ap (λ (k : ℕ). (claim_at claims k).variables) (sym there) ∙ sym (own_variables us)) (ap steps_in whole) is) c.add_values.ensures
 
-pub returns-in_ok-add_instances-in-Row : goal.returns-in_ok-add_instances-in-Row
-returns-in_ok-add_instances-in-Row c =
+pub returns-in_ok-add_instances-in-ByRule : goal.returns-in_ok-add_instances-in-ByRule
+returns-in_ok-add_instances-in-ByRule c =
     let claims : List Claim = claims_at c.args.at.now in
     let place : List Pattern → Pattern → ℕ = places_at c.args.at.now in
-    let whole : c.args.derivation.now ≡ row c.in-Row.field-0 (instances_of c.in-Row.instances.items) (derivations c.in-Row.parts.items) = sym c.step.ensures ∙ ap derivation_of c.in-Row.is in
-    let size : steps_in c.args.derivation.now ≡ all_steps (derivations c.in-Row.parts.items) + 1 = ap steps_in whole in
-    let us : List Variable = flat_map variables_for (instances_of c.in-Row.instances.items) in
+    let whole : c.args.derivation.now ≡ by_rule c.in-ByRule.field-0 (instances_of c.in-ByRule.instances.items) (derivations c.in-ByRule.parts.items) = sym c.step.ensures ∙ ap derivation_of c.in-ByRule.is in
+    let size : steps_in c.args.derivation.now ≡ all_steps (derivations c.in-ByRule.parts.items) + 1 = ap steps_in whole in
+    let us : List Variable = flat_map variables_for (instances_of c.in-ByRule.instances.items) in
     let is : listed c.add_instances.new.list ≡ added (listed c.args.list.now) us =
-    c.in_ok-add_instances-in-Row.ensures ∙ ap (λ (is : List Inst). added (listed c.args.list.now) (flat_map variables_for (instances_of is))) c.deref.ensures.value in
-    on_ok c.put_derivations.result (λ put. step_needed claims place c.args.derivation.now us (derivations c.in-Row.parts.items) c.args.stack.now.items c.put_derivations.new.stack.items (listed c.args.list.now) (listed c.add_instances.new.list)
+    c.in_ok-add_instances-in-ByRule.ensures ∙ ap (λ (is : List Inst). added (listed c.args.list.now) (flat_map variables_for (instances_of is))) c.deref.ensures.value in
+    on_ok c.put_derivations.result (λ put. step_needed claims place c.args.derivation.now us (derivations c.in-ByRule.parts.items) c.args.stack.now.items c.put_derivations.new.stack.items (listed c.args.list.now) (listed c.add_instances.new.list)
     (ap (variables_of claims place) whole) (omega (arith, size)) is
-    (subst (λ (ds : List Derivation). PutsDerivations (derivations ds) c.args.stack.now.items c.put_derivations.new.stack.items) c.deref-in-Row.ensures.value put)) c.put_derivations.ensures
+    (subst (λ (ds : List Derivation). PutsDerivations (derivations ds) c.args.stack.now.items c.put_derivations.new.stack.items) c.deref-in-ByRule.ensures.value put)) c.put_derivations.ensures
 
 pub returns-in_ok-add_values-in-Cited : goal.returns-in_ok-add_values-in-Cited
 returns-in_ok-add_values-in-Cited c =

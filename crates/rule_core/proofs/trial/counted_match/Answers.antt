@@ -20,4 +20,4 @@ loop-i-preserved g c =
     let lt : c.loop-i.i < length c.args.rules.now = omega arith in
     NoneMatches-more (rewrite_rules c.args.rules.now) c.args.from c.loop-i.i c.args.term.now (rewrite_rule c.index-rules-i.result) c.loop-i.invariant
     (rule_at c.args.rules.now c.loop-i.i c.index-rules-i.result lt c.index-rules-i.is)
-    (unmatched c.is_instance.result _ (plain_pattern c.index-rules-i.result.left) c.args.term.now (no_variables_at c.args.rules.now c.loop-i.i c.index-rules-i.result c.requires.no_variables lt c.index-rules-i.is) c.if-is_instance.false c.is_instance.ensures.1)
+    (unmatched c.is_instance.result _ (plain_pattern c.index-rules-i.result.left) c.args.term.now (no_variables_at c.args.rules.now c.loop-i.i c.index-rules-i.result c.requires.no_variables lt c.index-rules-i.is) c.if-is_instance.false c.is_instance.ensures.instance.1)

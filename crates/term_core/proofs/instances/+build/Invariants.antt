@@ -1,7 +1,7 @@
 use Rattle.std.proofs.Common.{◌≡◌, ◌++◌, Some, drop}
 use Rattle.term_core.specs.Terms.{Forest, forest, trees}
-use Rattle.term_core.specs.Patterns.{instances_of, AllFitWithin}
-use Rattle.term_core.specs.RulePatterns.{plain_patterns}
+use Rattle.term_core.specs.Patterns.{instances_of}
+use Rattle.term_core.specs.PatternLists.{AllFitWithin, plain_patterns}
 use Rattle.term_core.proofs.instances.+build.Given as goal
 
 abbrev pub invariant-build_all-loop-pat : goal.invariant-build_all-loop-pat

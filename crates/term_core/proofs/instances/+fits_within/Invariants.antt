@@ -1,6 +1,5 @@
 use Rattle.std.proofs.Common.{◌↔◌, drop}
-use Rattle.term_core.specs.Patterns.{AllFitWithin}
-use Rattle.term_core.specs.RulePatterns.{plain_patterns}
+use Rattle.term_core.specs.PatternLists.{AllFitWithin, plain_patterns}
 use Rattle.term_core.proofs.instances.+fits_within.Given as goal
 
 abbrev pub invariant-all_fit_within-loop-pat : goal.invariant-all_fit_within-loop-pat

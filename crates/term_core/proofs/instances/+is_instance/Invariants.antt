@@ -1,7 +1,8 @@
-use Rattle.std.proofs.Common.{◌≡◌, ◌+◌, ◌*◌, ◌↔◌, [], Some, drop}
-use Rattle.term_core.specs.Terms.{forest, children}
+use Rattle.std.proofs.Common.{◌≡◌, ◌≤◌, ◌+◌, ◌*◌, ◌↔◌, [], Some, drop}
+use Rattle.term_core.specs.Terms.{forest, children, sizes}
 use Rattle.term_core.specs.Patterns.{instances_of}
-use Rattle.term_core.specs.RulePatterns.{plain_pattern, plain_patterns}
+use Rattle.term_core.specs.PatternLists.{plain_patterns}
+use Rattle.term_core.specs.RulePatterns.{plain_pattern}
 use Rattle.term_core.proofs.PatternLaws.{depth, depths}
 use Rattle.term_core.proofs.instances.+is_instance.Given as goal
 
@@ -15,4 +16,7 @@ abbrev pub decreases-is_injected : goal.decreases-is_injected
 decreases-is_injected g l = 2 * depth (plain_pattern l.pat.now) + 1
 
 abbrev pub invariant-are_instances-loop-i : goal.invariant-are_instances-loop-i
-invariant-are_instances-loop-i g l = (instances_of [] (plain_patterns (drop l.i l.pats)) ≡ Some (forest (drop l.i (children l.term)))) ↔ (instances_of [] (plain_patterns l.pats) ≡ Some (forest (children l.term)))
+invariant-are_instances-loop-i g l = record {
+  instances : (instances_of [] (plain_patterns (drop l.i l.pats)) ≡ Some (forest (drop l.i (children l.term)))) ↔ (instances_of [] (plain_patterns l.pats) ≡ Some (forest (children l.term)));
+  looks : l.steps + sizes (forest (drop l.i (children l.term))) ≤ l.initial.steps + sizes (forest (children l.term));
+}

@@ -1,12 +1,14 @@
-use Rattle.std.proofs.Common.{◌≡◌, ◌-◌, length, drop}
-use Rattle.kore_lex.specs.Lexed.{lexed}
+use Rattle.std.proofs.Common.{◌≡◌, ◌≤◌, ◌<◌, ◌^◌, ◌-◌, length, drop}
+use Rattle.kore_lex.specs.Lexed.{lexed, left}
 use Rattle.kore_lex.proofs.lexer.Lexer.next.Given as goal
 
-abbrev pub invariant-loop-self : goal.invariant-loop-self
-invariant-loop-self l = record {
-  same : lexed l.self.at (drop l.self.at l.self.text.now) ≡ lexed l.fn.self.at (drop l.fn.self.at l.fn.self.text.now);
-  text : l.self.text.now ≡ l.fn.self.text.now;
+abbrev pub invariant-loop-len : goal.invariant-loop-len
+invariant-loop-len l = record {
+  same : lexed l.self-inside.at (drop l.self-inside.at l.self-inside.text.now) ≡ left l.fn.self;
+  text : l.self-inside.text.now ≡ l.fn.self.text;
+  within : l.self-inside.at ≤ length l.self-inside.text.now;
+  small : length l.self-inside.text.now < 2 ^ 32;
 }
 
-abbrev pub decreases-loop-self : goal.decreases-loop-self
-decreases-loop-self l = length l.self.text.now - l.self.at
+abbrev pub decreases-loop-len : goal.decreases-loop-len
+decreases-loop-len l = length l.self-inside.text.now - l.self-inside.at

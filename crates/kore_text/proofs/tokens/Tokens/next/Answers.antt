@@ -1,27 +1,33 @@
-use Rattle.std.proofs.Common.{◌-◌, take, drop, sym, ◌∙◌, ap}
-use Rattle.kore_text.specs.TokenStream.{token, token_of, named}
-use Rattle.std.proofs.Common.{ℕ, List, subst}
+use Rattle.std.proofs.Common.{◌-◌, ℕ, List, take, drop, sym, ◌∙◌, subst}
+use Rattle.kore_lex.specs.Lexed.{Unread}
 use Rattle.kore_lex.specs.Tokens.{IsToken}
 use Rattle.kore_lex.specs.Value.{IsString}
-use Rattle.kore_text.specs.Left.{left}
-use Rattle.kore_text.proofs.Cutting.{next-end, next-fault, next-token}
+use Rattle.kore_text.specs.declared.tokens.Next.{Next}
+use Rattle.kore_text.specs.Left.{left, Comes}
+use Rattle.kore_text.proofs.Cutting.{next-end, next-fault, left-token}
+use Rattle.kore_text.proofs.tokens.Tokens.next.Goals.{in-Err, in-Ok+in-End, in-Ok+in_default}
 use Rattle.kore_text.proofs.tokens.Tokens.next.Goals as goal
 
-pub returns-in-End : goal.returns-in-End
+pub returns : goal.returns
 unfolding left
-returns-in-End c = next-end c.args.self.now.text.now _ c.in-Ok.token (sym c.in-Ok.is ∙ c.next.ensures.token) c.in-End.is
-
-pub returns-in-Err : goal.returns-in-Err
-unfolding left
-returns-in-Err c = next-fault c.args.self.now.text.now _ c.in-Err.fault (sym c.in-Err.is ∙ c.next.ensures.token)
-
-pub returns-in_default : goal.returns-in_default
-unfolding left
-returns-in_default c = (
-  next-token c.args.self.now.text.now _ c.in-Ok.token (sym c.in-Ok.is ∙ c.next.ensures.token) c.in_default.not-End
-      ∙ ap (λ r. token (token_of c.in-Ok.token.kind (take (c.in-Ok.token.to - c.in-Ok.token.from) (drop c.in-Ok.token.from c.args.self.now.text.now))) c.in-Ok.token.from (named c.args.self.now.text.now r)) (sym c.next.ensures.rest),
-  c.in_default.not-End,
-  subst (λ (text : List ℕ). IsToken c.in-Ok.token.kind (take (c.in-Ok.token.to - c.in-Ok.token.from) (drop c.in-Ok.token.from text))) c.args.self.now.same
-      (c.in-Ok.ensures.longest c.in_default.not-End).0,
-  λ k. subst (λ (text : List ℕ). IsString (take (c.in-Ok.token.to - c.in-Ok.token.from) (drop c.in-Ok.token.from text))) c.args.self.now.same (c.in-Ok.ensures.string k),
-)
+returns c =
+    let u : Unread = c.self.inside.lexer in
+    let v : Unread = c.next.new.self in
+    subst (λ (x : Unread). Comes c.match-next.result (left x) (left v)) c.self.view_is
+    (elim c.match-next.branch [
+      | in-Err w ↦
+          subst (λ (x : Next). Comes x (left u) (left v)) (sym w.result-is) (next-fault u.text _ w.in-Err.fault (sym w.in-Err.is ∙ c.next.ensures.token))
+      | in-Ok+in-End w ↦
+          subst (λ (x : Next). Comes x (left u) (left v)) (sym w.result-is)
+          (next-end u.text _ w.in-Ok.token (sym w.in-Ok.is ∙ c.next.ensures.token) w.in-End.is)
+      | in-Ok+in_default w ↦
+          subst (λ (x : Next). Comes x (left u) (left v)) (sym w.result-is) (
+            left-token u v c.self.inside.text.now w.in-Ok.token (sym w.in-Ok.is ∙ c.next.ensures.token) w.in_default.not-End
+                c.next.ensures.rest c.next.ensures.text c.self.invariant,
+            w.in_default.not-End,
+            subst (λ (text : List ℕ). IsToken w.in-Ok.token.kind (take (w.in-Ok.token.to - w.in-Ok.token.from) (drop w.in-Ok.token.from text)))
+                c.self.invariant (w.in-Ok.ensures.longest w.in_default.not-End).0,
+            λ k. subst (λ (text : List ℕ). IsString (take (w.in-Ok.token.to - w.in-Ok.token.from) (drop w.in-Ok.token.from text)))
+                c.self.invariant (w.in-Ok.ensures.string k),
+          )
+    ])

@@ -1,8 +1,7 @@
 use Rattle.std.proofs.Common.{◌≡◌, List, [], ap, sym, ◌∙◌, subst, refl}
 use Rattle.ml_kernel.specs.Lemmas.{instance}
 use Rattle.ml_kernel.specs.Theorems.{Theorem, AddsNew, all_hypotheses, all_derivations}
-use Rattle.ml_kernel.specs.Concluding.{AreKept}
-use Rattle.ml_kernel.specs.Premises.{theorems_of}
+use Rattle.ml_kernel.specs.Premises.{theorems_of, AreKept}
 use Rattle.ml_kernel.proofs.Merging.{cited-kept}
 use Rattle.ml_kernel.proofs.theorems.Thm.use_lemma.Goals as goal
 

@@ -1,14 +1,16 @@
-use Rattle.std.proofs.Common.{◌≡◌, Some, ap, ◌∙◌, sym, subst}
+use Rattle.std.proofs.Common.{◌≡◌, Option, [], map, refl, Some, ap, ◌∙◌, sym, subst}
 use Rattle.rule_core.specs.declared.rules.Program.{Program}
 use Rattle.term_core.specs.RulePatterns.{plain_pattern}
 use Rattle.ml_kernel.specs.Theorems.{Theorem}
 use Rattle.ml_image.specs.Images.{image_of}
-use Rattle.mm_proof.specs.Leaves.{EachLeaf}
-use Rattle.mm_render.specs.OverNames.{closed_over}
-use Rattle.mm_render.specs.Places.{IsStated}
-use Rattle.mm_render.specs.Justifying.{Justifies}
-use Rattle.mm_render.proofs.Allowing.{closed_is_over}
-use Rattle.mm_render.proofs.ImageLeaves.{image_is_closed}
+use Rattle.ml_pat.specs.Leaves.{EachLeaf}
+use Rattle.mm_claims.specs.OverNames.{closed_over}
+use Rattle.mm_claims.specs.Places.{IsStated}
+use Rattle.std.specs.Global.{Vec}
+use Rattle.std.specs.Option.{is_some}
+use Rattle.ml_kernel.specs.declared.derivations.AxiomNo.{AxiomNo}
+use Rattle.mm_claims.proofs.ClosedPatterns.{closed_is_over}
+use Rattle.mm_justify.proofs.ImageLeaves.{image_is_closed}
 use Rattle.prove_run.proofs.ScriptLaws.{image_later}
 use Rattle.prove_run.proofs.ProofLaws.{none_left, may_begin}
 use Rattle.prove_run.proofs.proof.Proof.begin.Goals as goal
@@ -22,21 +24,21 @@ state-requires-clause-proved c =
     (closed_is_over s.names c.in_ok-here.here (image_is_closed s.program.now.sig s.names (plain_pattern c.args.start.now) c.in_ok-here.here c.requires.ground image))
     (none_left c.in_ok-reach_here.field-0.hypotheses c.in_ok-reach_here.ensures.rests.hypotheses) c.in_ok-reach_here.ensures.conclusion c.in_ok-reach_here.ensures.derivation
 
-pub returns : goal.returns
-returns c =
+pub invariant_of-result : goal.invariant_of-result
+invariant_of-result c =
     let program : c.state.new.self.program.now ≡ c.args.program.now =
-    c.in_ok-sofar.ensures.continues.program ∙ c.in_ok-here.ensures.continues.program ∙ c.in_ok-script.ensures.program in
+    c.in_ok-last.ensures.continues.program ∙ c.in_ok-here.ensures.continues.program ∙ c.in_ok-script.ensures.program in
     let start = plain_pattern c.args.start.now in
     let here = c.in_ok-here.here in
     let image : image_of c.image.new.self.program.now.sig c.image.new.self.names start ≡ Some here =
     subst (λ (p : Program). image_of p.sig c.image.new.self.names start ≡ Some here) (sym c.in_ok-here.ensures.continues.program) c.in_ok-here.ensures.image in
-    let image_now : image_of c.state.new.self.program.now.sig c.state.new.self.names start ≡ Some here = image_later c.image.new.self c.state.new.self start here c.in_ok-sofar.ensures.continues image in
+    let image_now : image_of c.state.new.self.program.now.sig c.state.new.self.names start ≡ Some here = image_later c.image.new.self c.state.new.self start here c.in_ok-last.ensures.continues image in
     let closed : EachLeaf (closed_over c.state.new.self.names) here = image_is_closed c.state.new.self.program.now.sig c.state.new.self.names start here c.requires.ground image_now in
-    let same : c.in_ok-sofar.sofar ≡ c.in_ok-reach_here.field-0 = c.in_ok-sofar.ensures.lemma in
+    let same : c.in_ok-last.last ≡ c.in_ok-reach_here.field-0 = c.in_ok-last.ensures.lemma in
+    let none : c.in_ok-reach_here.field-0.hypotheses ≡ [] = none_left c.in_ok-reach_here.field-0.hypotheses c.in_ok-reach_here.ensures.rests.hypotheses in
     record {
-      same_program = program;
-      sound = c.in_ok-sofar.ensures.sound;
-      declared = c.in_ok-sofar.ensures.declared;
+      sound = c.in_ok-last.ensures.sound;
+      declared = c.in_ok-last.ensures.declared;
       has_reached = record {
         from = here;
         to = here;
@@ -45,9 +47,18 @@ returns c =
         from_ground = c.requires.ground;
         to_ground = c.requires.ground;
         says = ap (λ (t : Theorem). t.conclusion) same ∙ c.in_ok-reach_here.ensures.conclusion;
-        no_hypotheses = ap (λ (t : Theorem). t.hypotheses) same ∙ none_left c.in_ok-reach_here.field-0.hypotheses c.in_ok-reach_here.ensures.rests.hypotheses;
-        stated = subst (λ (t : Theorem). IsStated c.state.new.self.renderer.stated t.hypotheses t.conclusion) (sym same) c.in_ok-sofar.ensures.stated;
+        no_hypotheses = ap (λ (t : Theorem). t.hypotheses) same ∙ none;
+        stated = subst (λ (t : Theorem). IsStated c.state.new.self.renderer.stated t.hypotheses t.conclusion) (sym same) c.in_ok-last.ensures.stated;
       };
-      justifies = subst (λ (p : Program). Justifies c.state.new.self.text.items p start start) program
-          (c.in_ok-sofar.ensures.justified start start here here image_now image_now (none_left c.in_ok-reach_here.field-0.hypotheses c.in_ok-reach_here.ensures.rests.hypotheses) c.in_ok-reach_here.ensures.conclusion (closed, closed));
+      justifies = c.in_ok-last.ensures.justified start start here here image_now image_now none c.in_ok-reach_here.ensures.conclusion (closed, closed);
+    }
+
+pub returns-clause-begins : goal.returns-clause-begins
+returns-clause-begins c =
+    let axioms = c.in_ok-last.ensures.kept ∙ c.in_ok-here.ensures.kept in
+    record {
+      same_program = c.in_ok-last.ensures.continues.program ∙ c.in_ok-here.ensures.continues.program ∙ c.in_ok-script.ensures.program;
+      starts = refl;
+      reached = refl;
+      used = ap (λ (kept : Vec (Option AxiomNo)). map is_some kept.items) axioms ∙ c.in_ok-script.ensures.used;
     }

@@ -1,4 +1,8 @@
-use Rattle.std.proofs.Common.{sym, subst}
+use Rattle.std.proofs.Common.{Option, true, map, ap, ◌∙◌, sym, subst}
+use Rattle.std.specs.Prelude.{slice_set}
+use Rattle.std.specs.Global.{Vec}
+use Rattle.std.specs.Option.{is_some}
+use Rattle.ml_kernel.specs.declared.derivations.AxiomNo.{AxiomNo}
 use Rattle.rule_core.specs.declared.rules.Program.{Program}
 use Rattle.ml_image.specs.Images.{HasImageAt}
 use Rattle.prove_run.proofs.ScriptLaws.{on_one, sound_later, extends_then, continues_then}
@@ -20,3 +24,9 @@ returns-clause-continues c =
       stated = c.in_ok-declare.ensures.continues.stated;
     }) on)
     c.assume.ensures.continues
+
+pub returns-clause-used : goal.returns-clause-used
+returns-clause-used c =
+    on_one c.assume.result
+    (λ used. used ∙ ap (λ (axioms : Vec (Option AxiomNo)). slice_set (map is_some axioms.items) c.args.rule true) c.in_ok-declare.ensures.kept)
+    c.assume.ensures.used

@@ -1,18 +1,22 @@
 use Rattle.std.proofs.Common.{◌≡◌, ℕ, ◌≤◌, ◌<◌, List, [], ◌∷◌, ◌++◌, Some, length, take, ap, ◌∙◌, sym, subst, arith, length-append}
+use Rattle.std.specs.Option.{is_some}
+use Rattle.std.proofs.lemmas.List.{map-set}
 use Rattle.std.proofs.lemmas.Option.{slice_get_within}
 use Rattle.mm_text.specs.Bytes.{Token}
 use Rattle.ml_pat.specs.Patterns.{Pattern}
 use Rattle.rule_core.specs.ProgramView.{rewrite_rule}
 use Rattle.ml_image.specs.Images.{rule_image_of}
-use Rattle.mm_render.specs.Kept.{Kept}
-use Rattle.mm_proof.specs.Leaves.{EachLeaf}
-use Rattle.mm_render.specs.OverNames.{closed_over}
-use Rattle.mm_render.specs.Keeping.{Fits, MayState, axiom_at, with_stated}
-use Rattle.mm_render.specs.Places.{IsStated}
-use Rattle.mm_render.specs.ClaimVariables.{claim_of}
-use Rattle.mm_render.specs.Justifying.{HasOnlyAxiomsOf, IsOwnAxiom}
-use Rattle.mm_render.proofs.Allowing.{axiom_has_only, closed_has_no_meta, closed_is_over, last_is_stated, stated_stays}
-use Rattle.mm_render.proofs.ImageLeaves.{rule_image_is_own}
+use Rattle.mm_claims.specs.Kept.{Kept}
+use Rattle.ml_pat.specs.Leaves.{EachLeaf}
+use Rattle.mm_claims.specs.OverNames.{closed_over}
+use Rattle.mm_claims.specs.Keeping.{Fits, MayState, axiom_at, with_stated}
+use Rattle.mm_claims.specs.Places.{IsStated}
+use Rattle.mm_claims.specs.ClaimVariables.{claim_of}
+use Rattle.mm_justify.specs.Justifying.{HasOnlyAxiomsOf, IsOwnAxiom}
+use Rattle.mm_justify.proofs.Allowing.{axiom_has_only}
+use Rattle.mm_claims.proofs.ClosedPatterns.{closed_has_no_meta, closed_is_over}
+use Rattle.mm_claims.proofs.LaterLaws.{last_is_stated, stated_stays}
+use Rattle.mm_justify.proofs.ImageLeaves.{rule_image_is_own}
 use Rattle.prove_run.proofs.ScriptLaws.{take_all, kept_stay, kept_set, axiom_last, axiom_before, image_closed}
 use Rattle.prove_run.proofs.script.Script.assume.Goals as goal
 
@@ -79,3 +83,6 @@ returns-clause-sound c =
                 (stated_stays s.renderer.stated (claim_of [] (axiom_at c.add.new.self number) ∷ []) [] (axiom_at c.add.new.self n) (subst (IsStated s.renderer.stated []) (sym same) h.stated));
           }) 0 s.axioms.items c.requires.sound.axioms);
     }
+
+pub returns-clause-used : goal.returns-clause-used
+returns-clause-used c = map-set is_some c.args.self.now.axioms.items c.args.rule (Some c.in_ok-no.no)

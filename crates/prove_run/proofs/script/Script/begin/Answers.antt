@@ -1,12 +1,14 @@
-use Rattle.std.proofs.Common.{◌≡◌, ℕ, ◌≤◌, List, [], ◌++◌, length, refl, ap, ◌∙◌, sym, subst, arith, rules}
+use Rattle.std.proofs.Common.{◌≡◌, ℕ, ◌≤◌, List, [], ◌++◌, length, map, false, refl, ap, ◌∙◌, sym, subst, arith, rules}
 use Rattle.mm_header.specs.HeaderText.{header_bytes}
-use Rattle.mm_render.specs.Kept.{Kept}
-use Rattle.mm_render.specs.Keeping.{Fits}
-use Rattle.mm_render.specs.Justifying.{HasOnlyAxiomsOf}
+use Rattle.mm_claims.specs.Kept.{Kept}
+use Rattle.mm_claims.specs.Keeping.{Fits}
+use Rattle.mm_justify.specs.Justifying.{HasOnlyAxiomsOf}
 use Rattle.ml_image.specs.Gained.{AreOwnTokens}
-use Rattle.mm_render.proofs.HeaderStates.{header_has_only}
+use Rattle.mm_justify.proofs.HeaderStates.{header_has_only}
+use Rattle.std.specs.Prelude.{replicate}
+use Rattle.std.specs.Option.{is_some}
 use Rattle.prove_run.specs.Scripts.{AreStated}
-use Rattle.prove_run.proofs.ScriptLaws.{none_kept}
+use Rattle.prove_run.proofs.ScriptLaws.{none_kept, none_used}
 use Rattle.prove_run.proofs.script.Script.begin.Goals as goal
 
 pub returns-clause-sound : goal.returns-clause-sound
@@ -22,3 +24,8 @@ returns-clause-sound c =
       places = c.in_ok-axioms.ensures.len ∙ c.len.ensures;
       axioms = subst (AreStated _ 0) (sym (c.in_ok-axioms.ensures.items_if_clones_equal (λ y h. search rules))) (none_kept _ 0 c.len.result);
     }
+
+pub returns-clause-used : goal.returns-clause-used
+returns-clause-used c =
+    ap (map is_some) (c.in_ok-axioms.ensures.items_if_clones_equal (λ y h. search rules)) ∙ none_used c.len.result
+    ∙ ap (λ (n : ℕ). replicate n false) (c.len.ensures ∙ c.args.program.now.rules.ok.0)

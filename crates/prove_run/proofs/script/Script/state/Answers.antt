@@ -1,13 +1,13 @@
-use Rattle.std.proofs.Common.{◌≡◌, List, take, Some, sym, subst}
+use Rattle.std.proofs.Common.{◌≡◌, List, ℕ, take, Some, refl, ap, ◌∙◌, sym, subst}
 use Rattle.mm_text.specs.Bytes.{Token}
 use Rattle.ml_pat.specs.Patterns.{imp, ev}
 use Rattle.ml_kernel.specs.Theorems.{Theorem}
-use Rattle.mm_proof.specs.Leaves.{EachLeaf}
-use Rattle.mm_render.specs.OverNames.{closed_over}
+use Rattle.ml_pat.specs.Leaves.{EachLeaf}
+use Rattle.mm_claims.specs.OverNames.{closed_over}
 use Rattle.ml_image.specs.Images.{image_of}
-use Rattle.mm_render.specs.Places.{MayProve, StatesLemma}
-use Rattle.mm_render.proofs.Allowing.{theorem_justifies}
-use Rattle.prove_run.proofs.ScriptLaws.{take_all, sound_stated}
+use Rattle.mm_claims.specs.Places.{MayProve, StatesLemma}
+use Rattle.mm_justify.proofs.Allowing.{theorem_justifies}
+use Rattle.prove_run.proofs.ScriptLaws.{take_all, sound_stated, gains_theorem}
 use Rattle.prove_run.proofs.script.Script.state.Goals as goal
 
 pub returns-clause-justified : goal.returns-clause-justified
@@ -26,3 +26,9 @@ returns-clause-sound c =
     sound_stated c.args.self.now c.lemma-2.new.self c.lemma-2.new.to c.in_ok-lemma.lemma c.requires.sound c.requires.declared
     (subst (λ (t : Theorem). MayProve c.args.self.now.names c.args.self.now.renderer t) (sym c.in_ok-lemma.ensures) c.requires.proved)
     c.in_ok-lemma-2.ensures.states c.in_ok-lemma-2.ensures.kept
+
+pub returns-clause-gained : goal.returns-clause-gained
+returns-clause-gained c =
+    let s = c.args.self.now in
+    gains_theorem s.names s.renderer c.lemma-2.new.self c.in_ok-lemma.lemma s.text.items c.lemma-2.new.to.items c.in_ok-lemma-2.ensures.states
+    (subst (λ (t : Theorem). MayProve s.names s.renderer t) (sym c.in_ok-lemma.ensures) c.requires.proved) c.requires.sound.fits

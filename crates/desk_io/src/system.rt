@@ -1,0 +1,50 @@
+// One read and one write of the system, whose bytes std's contracts tell.
+ghost use Rattle.std.specs.Prelude.{◌≡◌, ◌<◌, ◌≤◌, length, IfOk, IsErrOf};
+ghost use Rattle.std.specs.Io.KnownBytes.{ReadConsumes, WriteAppends};
+ghost use Rattle.desk_io.specs.Counts.{Rose};
+
+use crate::desk::DeskFault;
+use crate::faults::{counted, raised};
+use std::io::{Read, Write};
+
+/// Reads the next bytes of a file to the front of `buf`, and answers how many: 0 only where none is
+/// left. After a fault none was read. A fault is counted, but for want of memory.
+pub fn read_some<F: Read>(
+    file: &mut F,
+    buf: &mut [u8],
+    faults: &mut u64,
+) -> Result<usize, DeskFault>
+    ensures within { IfOk result (λ n. n ≤ length buf.new) }
+    ensures bytes { ReadConsumes (F.remaining file.old) (F.remaining file.new) result buf.new }
+    ensures failed { IsErrOf result DeskFault.Failed → Rose faults.old faults.new }
+    ensures counts { faults.old ≤ faults.new }
+{
+    match file.read(buf) {
+        Ok(n) => Ok(n),
+        Err(error) => Err(counted(&error, faults)),
+    }
+}
+
+/// Writes the first bytes of `piece`, and answers how many: 0 only where the piece is empty, so that
+/// a write that takes nothing of some bytes is a fault. After a fault none was written. A fault is
+/// counted, but for want of memory.
+pub fn write_some<W: Write>(
+    writer: &mut W,
+    piece: &[u8],
+    faults: &mut u64,
+) -> Result<usize, DeskFault>
+    ensures within { IfOk result (λ n. n ≤ length piece.now) }
+    ensures some { IfOk result (λ n. 0 < length piece.now → 0 < n) }
+    ensures bytes { WriteAppends (W.contents writer.old) (W.contents writer.new) result piece.now }
+    ensures failed { IsErrOf result DeskFault.Failed → Rose faults.old faults.new }
+    ensures counts { faults.old ≤ faults.new }
+{
+    match writer.write(piece) {
+        Ok(0) if !piece.is_empty() => {
+            *faults = raised(*faults);
+            Err(DeskFault::Failed)
+        }
+        Ok(n) => Ok(n),
+        Err(error) => Err(counted(&error, faults)),
+    }
+}

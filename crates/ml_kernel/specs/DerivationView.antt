@@ -1,0 +1,11 @@
+-- The derivation that a `Deriv` of the code stands for, and the theorem that a `Lemma` does.
+use Rattle.ml_kernel.specs.Theorems.{Derivation, Theorem}
+use Rattle.ml_kernel.specs.StepView.{derivation_of}
+use Rattle.ml_kernel.specs.declared.derivations.Deriv.TheInside as tree
+use Rattle.ml_kernel.specs.declared.derivations.Lemma.TheInside as lemma
+
+abbrev pub whole_derivation : tree.Inside → Derivation
+whole_derivation a = derivation_of a.node.value
+
+abbrev pub lemma_theorem : lemma.Inside → Theorem
+lemma_theorem a = record { hypotheses = a.hypotheses.items; conclusion = a.conclusion; derivation = a.derivation }
