@@ -8,7 +8,7 @@ use Rattle.mm_database.specs.Forms.{Form, asserts, proves, plain, form_of}
 use Rattle.mm_database.specs.Frames.{Frame, frame_of}
 use Rattle.mm_database.specs.Database.{Context}
 use Rattle.mm_database.specs.Proofs.{Expression, Leads, by_hypothesis, by_assertion, ProofTree, proof_node, ProofForest, no_proof, more_proofs, Proves, AllProve, postorder, all_postorder}
-use Rattle.mm_database.specs.Steps.{Step, cites, Forms}
+use Rattle.mm_database.specs.Steps.{Step, Forms}
 use Rattle.mm_database.specs.ProofText.{is_citable, proof_steps}
 use Rattle.mm_database.specs.Validity.{IsProved, Task, task, theorem_task, form_fault, is_typed}
 use Rattle.mm_database.specs.Writing.{LeavesIsValid, ContinuedLeaves, AxiomIsFine, begins_compressed, TheoremIsFine}

@@ -20,7 +20,6 @@ use Rattle.mm_frame.specs.declared.judge.Refusal.TheVariants.{Fault}
 use Rattle.mm_frame.specs.declared.declare.Said.{Said}
 use Rattle.mm_database.specs.Frames.{essential}
 use Rattle.mm_frame.specs.declared.declare.Said.TheVariants as code
-use Rattle.mm_text.specs.Statements.{Statement}
 use Rattle.mm_frame.specs.HeldPlaces.{ArePlaced}
 
 pub data Saying : Type 0 where
