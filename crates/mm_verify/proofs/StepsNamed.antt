@@ -1,8 +1,8 @@
 -- Steps over numbers that are steps over tokens.
-use Rattle.std.proofs.Common.{◌≡◌, ℕ, zero, suc, ◌+◌, ◌-◌, Bool, true, false, List, [], ◌∷◌, ◌++◌, length, map, nat_eq, Option, Some, None, refl, ap, sym, ◌∙◌, subst}
-use Rattle.std.proofs.lemmas.List.{length-map, map-append}
+use Rattle.std.proofs.Common.{◌≡◌, ℕ, zero, suc, ◌-◌, Bool, true, false, List, [], ◌∷◌, ◌++◌, length, map, Option, Some, None, refl, ap, sym, ◌∙◌, subst}
+use Rattle.std.proofs.lemmas.List.{length-map}
 use Rattle.std.proofs.lemmas.Option.{slice_get-map}
-use Rattle.std.specs.Prelude.{nat_lt, ◌&&◌, ◌||◌, if◌then◌else◌, option_map, option_and_then, slice_get, MatchOption}
+use Rattle.std.specs.Prelude.{nat_lt, ◌||◌, if◌then◌else◌, option_map, option_and_then, slice_get, MatchOption}
 use Rattle.std.specs.List.{list_any}
 use Rattle.std.specs.Cmp.Lexicographic.{pointwise}
 use Rattle.mm_text.specs.Bytes.{Token, has_token, has_repeated}
@@ -12,9 +12,9 @@ use Rattle.mm_database.specs.Database.{Context}
 use Rattle.mm_database.specs.Proofs.{Expression}
 use Rattle.mm_database.specs.Steps.{Step, cites, saves, repeats}
 use Rattle.mm_database.specs.ProofText.{meaning, meaning_of, saved_after, meanings, with_step}
-use Rattle.mm_database.specs.Stack.{same_expression, same_expressions, stack_after_label, Saving, saving, saving_after_step, saving_after}
+use Rattle.mm_database.specs.Stack.{stack_after_label, Saving, saving, saving_after_step, saving_after}
 use Rattle.mm_frame.specs.Numbered.{IsNaming, named}
-use Rattle.mm_frame.specs.NumberedSteps.{NumberedPlace, IsNamedPlace, same_numbers, Citation, gives, applies, stack_after_citation, IsNamedCitation, CitationIsNamed}
+use Rattle.mm_frame.specs.NumberedSteps.{NumberedPlace, IsNamedPlace, same_numbers, Citation, stack_after_citation, IsNamedCitation, CitationIsNamed}
 use Rattle.mm_frame.proofs.Named.{same_expressions-named}
 use Rattle.mm_frame.proofs.NamedSteps.{pushed-named}
 use Rattle.mm_verify.specs.declared.machine.ProofFault.TheVariants as fault
