@@ -3,7 +3,6 @@ use Rattle.std.proofs.Common.{◌≡◌, ℕ, ◌+◌, ◌<◌, ◌^◌, Bool, t
 use Rattle.std.specs.Prelude.{IsTrue, if◌then◌else◌, slice_index_or, codes}
 use Rattle.std.proofs.lemmas.Bool.{false≢true}
 use Rattle.mm_text.specs.Bytes.{Token}
-use Rattle.mm_database.specs.FrameLaws.{written_statements, plain_tokens, proof_tokens}
 use Rattle.mm_database.specs.Forms.{asserts, assumes}
 use Rattle.mm_database.specs.Assertions.{Assertion}
 use Rattle.mm_database.specs.Proofs.{ProofTree, postorder}
@@ -35,6 +34,7 @@ use Rattle.mm_claims.proofs.NamedClaims.{declared_fits_claims}
 use Rattle.mm_claims.proofs.OpenFits.{header_fits_claims, axiom_fits, axiom_is_gained, theorem_fits, theorem_is_gained}
 use Rattle.mm_claims.proofs.OpenVariableLaws.{needed_are_enough}
 use Rattle.mm_claims.proofs.ClaimLaws.{over_names_is_claim}
+use Rattle.mm_database.specs.StatementTexts.{written_statements, plain_tokens, proof_tokens}
 
 pub empty_fits : EmptyFits
 empty_fits names = refl

@@ -11,8 +11,7 @@ use Rattle.mm_database.specs.Frames.{Hypothesis, label_of, Scope, Frame}
 use Rattle.mm_database.specs.Proofs.{hypothesis_of, ProofTree, Proves}
 use Rattle.mm_database.specs.Database.{Context, with_assertion}
 use Rattle.mm_database.specs.Assertions.{Assertion, assertions_of, typings_of}
-use Rattle.mm_database.specs.Writing.{Leaves}
-use Rattle.mm_database.specs.FrameLaws.{Adds, written_statements}
+use Rattle.mm_database.specs.FrameLaws.{Adds}
 use Rattle.mm_database.proofs.Continued.{continued_leaves, leaves_is_valid}
 use Rattle.mm_database.proofs.Stated.{appended_states}
 use Rattle.mm_header.specs.Header.{Row, header_rows}
@@ -46,6 +45,8 @@ use Rattle.mm_claims.proofs.OpenServes.{serves_inside}
 use Rattle.mm_claims.proofs.CitedLaws.{claims_sound}
 use Rattle.mm_claims.proofs.BlockLaws.{inside_block, behind_block, block_left, claims_hold, ground, all_more_variables, claim_may_be_stated, block_adds}
 use Rattle.mm_claims.proofs.PlainStatements.{axiom_asserts, theorem_asserts, plain_axiom_adds, plain_theorem_adds}
+use Rattle.mm_database.specs.Leaving.{Leaves}
+use Rattle.mm_database.specs.StatementTexts.{written_statements}
 
 pub claims_are_valid : ClaimsAreValid
 claims_are_valid declared claims bytes (c, leaves, w) = leaves_is_valid bytes c leaves

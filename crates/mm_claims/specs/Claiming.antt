@@ -6,7 +6,6 @@ use Rattle.mm_database.specs.Frames.{Frame}
 use Rattle.mm_database.specs.Database.{Context}
 use Rattle.mm_database.specs.Proofs.{active_hypothesis}
 use Rattle.mm_database.specs.Assertions.{Assertion, assertions_of, typings_of}
-use Rattle.mm_database.specs.Writing.{Leaves}
 use Rattle.ml_pat.specs.Patterns.{Pattern}
 use Rattle.ml_kernel.specs.Theorems.{Derivation}
 use Rattle.ml_kernel.specs.Concluding.{Concludes}
@@ -19,6 +18,7 @@ use Rattle.mm_claims.specs.Variables.{Variable, number_of, variable_token, varia
 use Rattle.mm_claims.specs.Blocks.{Claim, IsClaim, variable_float, open_frame, theorem_statements}
 use Rattle.mm_claims.specs.OverNames.{open_over}
 use Rattle.mm_claims.specs.CitedAt.{claims_citing, citable, ArePremises}
+use Rattle.mm_database.specs.Leaving.{Leaves}
 
 -- no label of a block with this number is taken
 pub record IsFree (c : Context) (k : ℕ) : Type 0 where

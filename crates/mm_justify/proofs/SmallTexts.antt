@@ -7,7 +7,6 @@ use Rattle.std.proofs.lemmas.Slice.Eq.{bytes_eq-Decides}
 use Rattle.mm_text.specs.Bytes.{Token, has_token}
 use Rattle.mm_database.specs.Forms.{declares_constants, asserts}
 use Rattle.mm_database.specs.Assertions.{assertions_of}
-use Rattle.mm_database.specs.FrameLaws.{written_statements, plain_tokens, proof_tokens}
 use Rattle.mm_header.specs.Header.{Row, header_rows}
 use Rattle.mm_header.specs.HeaderText.{header_bytes}
 use Rattle.mm_header.specs.HeaderContext.{expression_of}
@@ -37,6 +36,7 @@ use Rattle.mm_justify.proofs.Allowing.{has_only_just}
 use Rattle.mm_justify.proofs.DeclaredStates.{declared_behind}
 use Rattle.mm_justify.proofs.HeaderStates.{header_has_only}
 use Rattle.mm_justify.proofs.ImageLeaves.{none_some}
+use Rattle.mm_database.specs.StatementTexts.{written_statements, plain_tokens, proof_tokens}
 
 -- a small text
 

@@ -1,4 +1,4 @@
-use Rattle.std.proofs.Common.{◌≡◌, ◌-◌, ◌≤◌, ◌<◌, length}
+use Rattle.std.proofs.Common.{◌≡◌, ◌-◌, ◌≤◌, length}
 use Rattle.mm_text.specs.Next.{left}
 use Rattle.mm_text.specs.Statements.{statements_in}
 use Rattle.mm_text.specs.Reader.{begun, statements_left}
