@@ -1,5 +1,5 @@
 -- The code of what a renderer keeps.
-use Rattle.std.specs.Prelude.{◌≡◌, refl, ℕ, Bool, true, false, List, []}
+use Rattle.std.specs.Prelude.{◌≡◌, refl, ℕ, Bool, true, false, List}
 use Rattle.std.specs.Coded.{Coded, code_by, coded×, coded_bool, coded_ℕ, coded_list}
 use Rattle.ml_pat.specs.Patterns.{Pattern}
 use Rattle.ml_pat.specs.PatternCode.{pattern_code}

@@ -1,5 +1,5 @@
 -- The places that are found by the bytes of a statement.
-use Rattle.std.specs.Prelude.{◌≡◌, ℕ, true, IsTrue, List, [], ◌∷◌, ◌++◌, length, take, slice_get, Option, Some, unwrap_or}
+use Rattle.std.specs.Prelude.{ℕ, List, Option, unwrap_or}
 use Rattle.ml_pat.specs.Patterns.{Pattern}
 use Rattle.mm_render.specs.Keys.{pattern_key, statement_key}
 
