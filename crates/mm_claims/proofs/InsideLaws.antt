@@ -19,8 +19,10 @@ use Rattle.ml_pat.proofs.LeafLaws.{both_true, split_true}
 use Rattle.mm_proof.proofs.LeafLaws.{list_all-append}
 use Rattle.mm_claims.proofs.StatedLaws.{ends_last}
 use Rattle.mm_claims.proofs.BoolLaws.{not_false, with_false}
-use Rattle.mm_text.specs.Written.{is_plain_token, is_one_statement, ends_once, written}
-use Rattle.mm_database.specs.StatementTexts.{written_statements, are_clean, keyword_token, has_proof, plain_tokens}
+use Rattle.mm_text.specs.Written.{written}
+use Rattle.mm_text.specs.TextLaws.{is_plain_token, is_one_statement, ends_once}
+use Rattle.mm_database.specs.StatementTexts.{written_statements, keyword_token, plain_tokens}
+use Rattle.mm_database.specs.FrameLaws.{are_clean, has_proof}
 
 -- the context inside a block that began at a byte, with these variables' tokens, hypotheses and `$d`s
 abbrev pub inside : Context → ℕ → List Token → List Hypothesis → List (List Token) → Context

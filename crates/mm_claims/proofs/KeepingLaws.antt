@@ -22,8 +22,10 @@ use Rattle.mm_claims.specs.Statements.{all_name_statements, axiom_statement, the
 use Rattle.mm_claims.specs.Variables.{Variable, object_variable, pattern_variable, AreNumbered}
 use Rattle.mm_claims.specs.OverNames.{open_over, AreOpenOver, over_names, AreOverNames}
 use Rattle.mm_claims.specs.Blocks.{Claim, IsClaim, variable_statements, separations, separation_statements, premise_statements, block, needs_block, axiom_statements, theorem_statements, open_assertion}
-use Rattle.mm_claims.specs.CitedAt.{claims_citing, HaveInstances, IsCitable, citable, ArePremises}
-use Rattle.mm_claims.specs.Claiming.{FitsClaims, HasJust, IsProvable}
+use Rattle.mm_claims.specs.CitedAt.{claims_citing, HaveInstances, IsCitable, ArePremises}
+use Rattle.mm_claims.specs.Citable.{citable}
+use Rattle.mm_claims.specs.Claiming.{FitsClaims, HasJust}
+use Rattle.mm_claims.specs.Provable.{IsProvable}
 use Rattle.mm_claims.specs.ClaimVariables.{claim_of, claim_variables}
 use Rattle.mm_claims.specs.Keeping.{FitsWhen, Gains, MayState, axiom_at, with_stated}
 use Rattle.mm_claims.specs.KeepingLaws.{EmptyFits, BegunFits, DeclaredFits}

@@ -26,12 +26,14 @@ use Rattle.mm_proof.specs.Derivations.{holds_text, derivation_tree}
 use Rattle.ml_pat.proofs.LeafLaws.{split_true, both_true}
 use Rattle.mm_proof.proofs.CitingDerivations.{cited_proves}
 use Rattle.mm_claims.specs.Fitting.{Holds}
-use Rattle.mm_claims.specs.CitedAt.{claims_citing, citable}
+use Rattle.mm_claims.specs.CitedAt.{claims_citing}
+use Rattle.mm_claims.specs.Citable.{citable}
 use Rattle.mm_claims.specs.Variables.{Variable, object_variable, pattern_variable, are_once, AreNumbered, variable_token, variable_label}
 use Rattle.mm_claims.specs.Blocks.{Claim, IsClaim, head_statements, block, axiom_block, theorem_block, axiom_statements, variable_float, premise_hypotheses, open_frame, open_assertion}
 use Rattle.mm_claims.specs.OverNames.{open_over, AreOpenOver}
 use Rattle.mm_claims.specs.Statements.{axiom_statement, theorem_statement}
-use Rattle.mm_claims.specs.Claiming.{FitsClaims, HoldsClaims, IsProvable, proved_statements, HasJust}
+use Rattle.mm_claims.specs.Claiming.{FitsClaims, HoldsClaims, proved_statements, HasJust}
+use Rattle.mm_claims.specs.Provable.{IsProvable}
 use Rattle.mm_claims.specs.StatementLaws.{ClaimsAreValid, HeaderFitsClaims, AxiomFits, TheoremFits, AxiomIsGained, TheoremIsGained}
 use Rattle.mm_claims.proofs.SpeltLaws.{header_spelt, hypothesis_spelt, types_spelt, postorder_spelt}
 use Rattle.mm_claims.proofs.FittingLaws.{header_holds, header_closed}

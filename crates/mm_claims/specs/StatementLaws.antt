@@ -10,7 +10,8 @@ use Rattle.mm_claims.specs.Statements.{all_name_statements}
 use Rattle.mm_claims.specs.Fitting.{AreNames}
 use Rattle.mm_claims.specs.Variables.{Variable}
 use Rattle.mm_claims.specs.Blocks.{Claim, IsClaim, open_assertion, axiom_statements}
-use Rattle.mm_claims.specs.Claiming.{FitsClaims, IsProvable, proved_statements, HasJust}
+use Rattle.mm_claims.specs.Claiming.{FitsClaims, proved_statements, HasJust}
+use Rattle.mm_claims.specs.Provable.{IsProvable}
 use Rattle.mm_database.specs.StatementTexts.{written_statements}
 
 -- such a text is valid

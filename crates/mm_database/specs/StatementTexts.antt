@@ -9,9 +9,6 @@ use Rattle.mm_text.specs.Written.{written}
 abbrev pub written_statements : List (List Token) → List ℕ
 written_statements statements = flat_map written statements
 
-abbrev pub are_clean : List Token → Bool
-are_clean tokens = list_all (λ t. not (has_dollar t)) tokens
-
 abbrev pub keyword_token : Keyword → Token
 keyword_token declares_constants = codes "$c"
 keyword_token declares_variables = codes "$v"
@@ -20,10 +17,6 @@ keyword_token assumes = codes "$e"
 keyword_token separates = codes "$d"
 keyword_token asserts = codes "$a"
 keyword_token proves = codes "$p"
-
-abbrev pub has_proof : Keyword → Bool
-has_proof proves = true
-has_proof keyword = false
 
 -- the tokens of a statement with these labels, keyword and symbols, and of one with a proof
 abbrev pub plain_tokens : List Token → Keyword → List Token → List Token

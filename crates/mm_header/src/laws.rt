@@ -5,7 +5,8 @@ ghost use Rattle.mm_database.specs.Database.{empty_context};
 ghost use Rattle.mm_database.specs.Validity.{AreFine, IsValid};
 ghost use Rattle.mm_header.specs.Header.{header_rows};
 ghost use Rattle.mm_header.specs.HeaderText.{header_bytes};
-ghost use Rattle.mm_header.specs.HeaderContext.{HasOnlyRows, HasRow, header_context, header_labels};
+ghost use Rattle.mm_header.specs.HeaderContext.{header_context, header_labels};
+ghost use Rattle.mm_header.specs.HeaderLaws.{HasOnlyRows, HasRow};
 ghost use Rattle.mm_text.specs.Bytes.{has_repeated};
 ghost use Rattle.mm_text.specs.Written.{ends_white};
 

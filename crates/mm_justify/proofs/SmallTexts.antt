@@ -27,7 +27,8 @@ use Rattle.mm_claims.specs.Fitting.{AreNames}
 use Rattle.mm_claims.specs.OverNames.{closed_over}
 use Rattle.mm_claims.specs.Blocks.{Claim, IsClaim, open_frame, open_assertion}
 use Rattle.mm_claims.specs.CitedAt.{ArePremises}
-use Rattle.mm_claims.specs.Claiming.{FitsClaims, IsProvable, proved_statements, HasJust}
+use Rattle.mm_claims.specs.Claiming.{FitsClaims, proved_statements, HasJust}
+use Rattle.mm_claims.specs.Provable.{IsProvable}
 use Rattle.mm_justify.specs.Justifying.{IsOwnAxiom, rule_image, value_fact, header_row, declaration, own_axiom, HasOnlyAxiomsOf, Justifies}
 use Rattle.mm_justify.specs.JustifyingCases.{small_text, alone, SmallJustifies, conclusion, ConclusionIsNoAxiom}
 use Rattle.mm_claims.proofs.OpenFits.{header_fits_claims, claims_are_valid, theorem_fits, theorem_is_gained}

@@ -15,3 +15,4 @@ pub mod Cases
 pub mod Places
 pub mod Letters
 pub mod Reader
+pub mod ReaderSteps

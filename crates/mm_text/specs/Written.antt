@@ -11,23 +11,6 @@ ends_white [] = true
 ends_white (b ∷ []) = is_white b
 ends_white (b ∷ (c ∷ bytes)) = ends_white (c ∷ bytes)
 
--- a token that opens or closes no comment
-abbrev pub is_plain_token : Token → Bool
-is_plain_token [] = false
-is_plain_token (b ∷ bytes) = list_all (λ c. is_printable_class (class_of c)) (b ∷ bytes) && (not (opens_comment (b ∷ bytes)) && not (closes_comment (b ∷ bytes)))
-
--- the only `$.` of some tokens is the last
-abbrev pub ends_once : List Token → Bool
-ends_once [] = false
-ends_once (token ∷ []) = ends_statement token
-ends_once (token ∷ (next ∷ tokens)) = not (ends_statement token) && ends_once (next ∷ tokens)
-
--- tokens that make one statement
-abbrev pub is_one_statement : List Token → Bool
-is_one_statement [] = false
-is_one_statement (token ∷ []) = is_whole token
-is_one_statement (token ∷ (next ∷ tokens)) = not (is_whole token) && ends_once (next ∷ tokens)
-
 -- The white space behind a token: a line ends with a statement, and all else is parted by spaces.
 abbrev pub white_behind : Token → ℕ
 white_behind token = if is_whole token then 10 else 32
