@@ -24,7 +24,7 @@ use Rattle.mm_claims.specs.Fitting.{AreNames, name_frame, Holds}
 use Rattle.mm_claims.proofs.NameLaws.{NameFacts, name_facts, name_label-is_label, name_label-plain, name_label-clean, name_label-differs, no_label_among}
 use Rattle.mm_claims.proofs.BoolLaws.{with_false, either_true, both_false, if_false, if_true}
 use Rattle.mm_text.specs.Written.{written}
-use Rattle.mm_text.specs.TextLaws.{is_plain_token, is_one_statement}
+use Rattle.mm_text.specs.PlainTokens.{is_plain_token, is_one_statement}
 use Rattle.mm_database.specs.StatementTexts.{plain_tokens}
 
 header_no_label : (t : Token) → IsName t → header_context.labels t ≡ false

@@ -23,7 +23,7 @@ use Rattle.mm_claims.proofs.VariableLaws.{VariableFacts, variable_facts, label_d
 use Rattle.mm_claims.proofs.InsideLaws.{Left, inside, AddsAnywhere, AreSymbols, list_any-append, map-append, behind_variable, behind_hypothesis, behind_separation, unlabelled_adds, labelled_adds}
 use Rattle.mm_claims.proofs.Separations.{new_variable, numbered_front, numbered_behind, absent_token, EachSeparated, separated_once, variables_are_symbols, all_among}
 use Rattle.mm_claims.proofs.BoolLaws.{both_false, either_true, second_true, not_false, split_false}
-use Rattle.mm_text.specs.TextLaws.{is_plain_token}
+use Rattle.mm_text.specs.PlainTokens.{is_plain_token}
 use Rattle.mm_database.specs.StatementTexts.{plain_tokens}
 
 -- what stands behind the text before a block

@@ -22,7 +22,7 @@ use Rattle.mm_claims.proofs.HeadLaws.{variable_label_own, premise_label_own, own
 use Rattle.mm_claims.proofs.OpenTexts.{open_symbols}
 use Rattle.mm_claims.proofs.BoolLaws.{not_false}
 use Rattle.mm_database.specs.StatementTexts.{plain_tokens}
-use Rattle.mm_database.specs.FrameLaws.{are_clean, has_proof}
+use Rattle.mm_database.specs.CleanTokens.{are_clean, has_proof}
 
 typing-append : (h : Option Hypothesis) (xs ys : List Hypothesis) → with_typing_first h (xs ++ ys) ≡ with_typing_first h xs ++ ys
 typing-append None xs ys = refl

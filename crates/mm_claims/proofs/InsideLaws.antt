@@ -20,9 +20,9 @@ use Rattle.mm_proof.proofs.LeafLaws.{list_all-append}
 use Rattle.mm_claims.proofs.StatedLaws.{ends_last}
 use Rattle.mm_claims.proofs.BoolLaws.{not_false, with_false}
 use Rattle.mm_text.specs.Written.{written}
-use Rattle.mm_text.specs.TextLaws.{is_plain_token, is_one_statement, ends_once}
+use Rattle.mm_text.specs.PlainTokens.{is_plain_token, is_one_statement, ends_once}
 use Rattle.mm_database.specs.StatementTexts.{written_statements, keyword_token, plain_tokens}
-use Rattle.mm_database.specs.FrameLaws.{are_clean, has_proof}
+use Rattle.mm_database.specs.CleanTokens.{are_clean, has_proof}
 
 -- the context inside a block that began at a byte, with these variables' tokens, hypotheses and `$d`s
 abbrev pub inside : Context → ℕ → List Token → List Hypothesis → List (List Token) → Context

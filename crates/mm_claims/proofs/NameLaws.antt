@@ -17,7 +17,7 @@ use Rattle.mm_proof.proofs.Decimals.{list_all-decimal, decimal-same}
 use Rattle.mm_claims.specs.Statements.{NameKind, sort_name, symbol_name, value_name, kind_front, is_name_byte, IsName, typecode_of}
 use Rattle.mm_claims.specs.Fitting.{name_frame, AreNames}
 use Rattle.mm_claims.specs.Variables.{is_variable_token}
-use Rattle.mm_text.specs.TextLaws.{is_plain_token}
+use Rattle.mm_text.specs.PlainTokens.{is_plain_token}
 
 -- what is known of a name's token
 pub record NameFacts (t : Token) : Type 0 where

@@ -27,7 +27,7 @@ use Rattle.mm_claims.proofs.InsideLaws.{Left, inside, AddsAnywhere, AreSymbols, 
 use Rattle.mm_claims.proofs.Separations.{present_token, each_separated}
 use Rattle.mm_claims.proofs.HeadLaws.{IsGround, IsOwnLabel, premise_label_own, new_inside, own_symbols, typed_tokens, premise_well, variables_add, separations_add}
 use Rattle.mm_claims.proofs.BoolLaws.{both_false, either_true, second_true, not_false}
-use Rattle.mm_text.specs.TextLaws.{is_plain_token}
+use Rattle.mm_text.specs.PlainTokens.{is_plain_token}
 
 -- each token passes a test that the header's constants, names and the variables pass
 pub open_passes : (test : Token → Bool) (declared : List Token) (vs : List Variable) (p : Pattern) → PassFixed test → test (codes "|-") ≡ true → ((i : ℕ) → i < length declared → test (name_of declared i) ≡ true)

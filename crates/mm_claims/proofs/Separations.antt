@@ -14,8 +14,8 @@ use Rattle.mm_claims.proofs.StatedLaws.{itself}
 use Rattle.mm_claims.proofs.VariableLaws.{VariableFacts, variable_facts, token_differs, same_is, itself_same, turned_variable, has_append, numbered_both, once_more}
 use Rattle.mm_claims.proofs.InsideLaws.{list_any-append, map-append, AreSymbols}
 use Rattle.mm_claims.proofs.BoolLaws.{both_false, second_true, not_false, or_false, and_true, split_false, and_false}
-use Rattle.mm_text.specs.TextLaws.{is_plain_token}
-use Rattle.mm_database.specs.FrameLaws.{are_clean}
+use Rattle.mm_text.specs.PlainTokens.{is_plain_token}
+use Rattle.mm_database.specs.CleanTokens.{are_clean}
 
 -- variables among others
 

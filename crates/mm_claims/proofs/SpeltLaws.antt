@@ -21,7 +21,7 @@ use Rattle.mm_proof.proofs.LeafLaws.{list_all-append}
 use Rattle.mm_proof.proofs.Decimals.{list_all-decimal, decimal-same}
 use Rattle.mm_claims.specs.Statements.{is_name_byte}
 use Rattle.mm_claims.proofs.NameLaws.{all_printing, no_dollars, digit_of_label}
-use Rattle.mm_text.specs.TextLaws.{is_plain_token}
+use Rattle.mm_text.specs.PlainTokens.{is_plain_token}
 
 -- what is known of a label's tokens
 pub record LabelFacts (t : Token) : Type 0 where

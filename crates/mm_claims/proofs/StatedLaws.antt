@@ -21,7 +21,7 @@ use Rattle.mm_claims.specs.Statements.{NameKind, sort_name, symbol_name, value_n
 use Rattle.mm_claims.specs.Fitting.{AreNames, Holds}
 use Rattle.mm_claims.specs.Variables.{is_variable_token}
 use Rattle.mm_claims.proofs.BoolLaws.{either_true, second_true, and_false}
-use Rattle.mm_text.specs.TextLaws.{is_plain_token, is_one_statement, ends_once}
+use Rattle.mm_text.specs.PlainTokens.{is_plain_token, is_one_statement, ends_once}
 use Rattle.mm_database.specs.StatementTexts.{plain_tokens, proof_tokens}
 
 -- what proofs find in the header

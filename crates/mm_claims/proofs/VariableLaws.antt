@@ -18,7 +18,7 @@ use Rattle.mm_claims.specs.Fitting.{AreNames}
 use Rattle.mm_claims.specs.Variables.{Variable, object_variable, pattern_variable, number_of, same_variable, variable_token, variable_label, variable_type, is_variable_token, has_variable, are_once, AreNumbered}
 use Rattle.mm_claims.proofs.BoolLaws.{not_false, split_false}
 use Rattle.mm_claims.proofs.NameLaws.{all_printing, no_dollars, digit_of_label, digit_prints}
-use Rattle.mm_text.specs.TextLaws.{is_plain_token}
+use Rattle.mm_text.specs.PlainTokens.{is_plain_token}
 
 -- what is known of a variable's token
 pub record VariableFacts (v : Variable) : Type 0 where

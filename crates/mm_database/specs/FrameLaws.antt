@@ -12,12 +12,10 @@ use Rattle.mm_database.specs.Steps.{Step, cites, AllBuild, Forms}
 use Rattle.mm_database.specs.Stack.{stack_after}
 use Rattle.mm_database.specs.Validity.{IsFine, AreFine, IsValid, IsFirstFault}
 use Rattle.mm_text.specs.Written.{ends_white, written}
-use Rattle.mm_text.specs.TextLaws.{is_plain_token, is_one_statement}
+use Rattle.mm_text.specs.PlainTokens.{is_plain_token, is_one_statement}
 use Rattle.mm_database.specs.ComputedFault.{statement_fault, first_fault}
-use Rattle.mm_database.specs.StatementTexts.{written_statements, are_clean, has_proof, plain_tokens, proof_tokens}
-use Rattle.std.specs.Prelude.{ℕ, Bool, true, false, not, List, [], ◌∷◌, ◌++◌, flat_map, codes}
-use Rattle.mm_database.specs.Forms.{Keyword, declares_constants, declares_variables, types_variable, assumes, separates, asserts, proves, has_dollar}
-use Rattle.mm_text.specs.Written.{written}
+use Rattle.mm_database.specs.StatementTexts.{written_statements, plain_tokens, proof_tokens}
+use Rattle.mm_database.specs.CleanTokens.{are_clean, has_proof}
 
 -- steps that only cite labels build just the forest of which these are the postorder
 abbrev pub LabelsArePostorder : Type 0
@@ -95,10 +93,3 @@ ProofTokensSay =
     (labels symbols proof : List Token) → are_clean labels ≡ true → are_clean symbols ≡ true →
     are_clean proof ≡ true →
     form_of (proof_tokens labels symbols proof) ≡ Some (plain labels proves symbols proof)
-
-abbrev pub are_clean : List Token → Bool
-are_clean tokens = list_all (λ t. not (has_dollar t)) tokens
-
-abbrev pub has_proof : Keyword → Bool
-has_proof proves = true
-has_proof keyword = false

@@ -9,6 +9,7 @@ pub mod Validity
 pub mod ComputedFault
 pub mod Cases
 pub mod FrameLaws
+pub mod CleanTokens
 pub mod StatementTexts
 pub mod Assertions
 pub mod Writing

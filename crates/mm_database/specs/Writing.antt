@@ -10,7 +10,7 @@ use Rattle.mm_database.specs.Proofs.{ProofTree, Proves, postorder}
 use Rattle.mm_database.specs.Validity.{is_typed, is_new_label, IsFine, IsValid}
 use Rattle.mm_database.specs.FrameLaws.{Adds}
 use Rattle.mm_database.specs.StatementTexts.{written_statements, plain_tokens, proof_tokens}
-use Rattle.mm_database.specs.FrameLaws.{are_clean}
+use Rattle.mm_database.specs.CleanTokens.{are_clean}
 use Rattle.mm_database.specs.Leaving.{Leaves}
 
 -- such a text is valid

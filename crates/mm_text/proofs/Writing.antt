@@ -8,7 +8,7 @@ use Rattle.mm_text.specs.Statements.{next_statement, between, within, statement,
 use Rattle.mm_text.specs.TextLaws.{WrittenStatement}
 use Rattle.mm_text.proofs.Truths.{both_true, not_true, printable_class}
 use Rattle.mm_text.specs.Written.{white_behind, written}
-use Rattle.mm_text.specs.TextLaws.{is_plain_token, ends_once}
+use Rattle.mm_text.specs.PlainTokens.{is_plain_token, ends_once}
 
 abbrev are_printable : List ℕ → Bool
 are_printable bytes = list_all (λ c. is_printable_class (class_of c)) bytes

@@ -10,6 +10,7 @@ pub mod Numbers
 pub mod DigitsRead
 pub mod NumberLaws
 pub mod TextLaws
+pub mod PlainTokens
 pub mod Written
 pub mod Cases
 pub mod Places

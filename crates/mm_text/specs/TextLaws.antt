@@ -3,11 +3,8 @@ use Rattle.std.specs.Prelude.{◌≡◌, ℕ, ◌+◌, Bool, true, false, List, 
 use Rattle.std.specs.List.{list_all}
 use Rattle.mm_text.specs.Bytes.{Token}
 use Rattle.mm_text.specs.Statements.{Statements, no_statement, unended, bad_statement, next_statement, statement, statements_from}
-use Rattle.mm_text.specs.Written.{ends_white, is_plain_token, is_one_statement, written}
-use Rattle.std.specs.Prelude.{ℕ, Bool, true, false, not, ◌&&◌, if◌then◌else◌, List, [], ◌∷◌, ◌++◌, flat_map}
-use Rattle.mm_text.specs.Bytes.{Token, is_white, class_of, is_printable_class}
-use Rattle.mm_text.specs.Tokens.{opens_comment, closes_comment}
-use Rattle.mm_text.specs.Statements.{ends_statement, is_whole}
+use Rattle.mm_text.specs.Written.{ends_white, written}
+use Rattle.mm_text.specs.PlainTokens.{is_plain_token, is_one_statement}
 
 -- a text ends between statements
 abbrev pub end_well : Statements → Bool
@@ -37,20 +34,3 @@ WrittenStatement =
     (at : ℕ) (tokens : List Token) (more : List ℕ) → list_all is_plain_token tokens ≡ true →
     is_one_statement tokens ≡ true →
     statements_from at (written tokens ++ more) ≡ next_statement (statement at tokens) (statements_from (at + length (written tokens)) more)
-
--- a token that opens or closes no comment
-abbrev pub is_plain_token : Token → Bool
-is_plain_token [] = false
-is_plain_token (b ∷ bytes) = list_all (λ c. is_printable_class (class_of c)) (b ∷ bytes) && (not (opens_comment (b ∷ bytes)) && not (closes_comment (b ∷ bytes)))
-
--- the only `$.` of some tokens is the last
-abbrev pub ends_once : List Token → Bool
-ends_once [] = false
-ends_once (token ∷ []) = ends_statement token
-ends_once (token ∷ (next ∷ tokens)) = not (ends_statement token) && ends_once (next ∷ tokens)
-
--- tokens that make one statement
-abbrev pub is_one_statement : List Token → Bool
-is_one_statement [] = false
-is_one_statement (token ∷ []) = is_whole token
-is_one_statement (token ∷ (next ∷ tokens)) = not (is_whole token) && ends_once (next ∷ tokens)
