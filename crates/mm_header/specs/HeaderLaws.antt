@@ -1,12 +1,10 @@
 -- What the header's assertions are, as laws.
-use Rattle.std.specs.Prelude.{◌≡◌, ℕ, Bool, false, ◌&&◌, ◌||◌, ◌==◌, if◌then◌else◌, List, [], ◌∷◌, ◌++◌, map, filter, fold, Some, None, bytes_eq}
-use Rattle.std.specs.List.{flat_map, list_any}
+use Rattle.std.specs.Prelude.{◌≡◌, false, List, map, Some, None}
 use Rattle.mm_text.specs.Bytes.{Token, has_token}
-use Rattle.mm_database.specs.Frames.{Hypothesis, floating, essential, label_of, Scope, Frame, frame_of}
-use Rattle.mm_database.specs.Database.{Context, with_tokens, with_token, with_apart, with_frame}
-use Rattle.mm_header.specs.Header.{Row, header_rows}
-use Rattle.mm_header.specs.HeaderText.{constants_text, variables_text, types_texts, expression_text, labelled}
-use Rattle.mm_header.specs.HeaderContext.{IsFrameOfRow, label}
+use Rattle.mm_database.specs.Frames.{Frame}
+use Rattle.mm_database.specs.Database.{Context}
+use Rattle.mm_header.specs.Header.{Row}
+use Rattle.mm_header.specs.HeaderContext.{IsFrameOfRow}
 
 -- the context has a frame of the row under its label
 pub record HasRow (c : Context) (r : Row) : Type 0 where
