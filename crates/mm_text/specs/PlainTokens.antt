@@ -1,10 +1,7 @@
 -- Tokens that are read as one statement.
-use Rattle.std.specs.Prelude.{◌≡◌, ℕ, ◌+◌, Bool, true, false, List, ◌++◌, length}
+use Rattle.std.specs.Prelude.{Bool, false, List, not, ◌&&◌, [], ◌∷◌}
 use Rattle.std.specs.List.{list_all}
-use Rattle.mm_text.specs.Bytes.{Token}
-use Rattle.mm_text.specs.Statements.{Statements, no_statement, unended, bad_statement, next_statement, statement, statements_from}
-use Rattle.std.specs.Prelude.{ℕ, Bool, true, false, not, ◌&&◌, if◌then◌else◌, List, [], ◌∷◌, ◌++◌, flat_map}
-use Rattle.mm_text.specs.Bytes.{Token, is_white, class_of, is_printable_class}
+use Rattle.mm_text.specs.Bytes.{Token, class_of, is_printable_class}
 use Rattle.mm_text.specs.Tokens.{opens_comment, closes_comment}
 use Rattle.mm_text.specs.Statements.{ends_statement, is_whole}
 
