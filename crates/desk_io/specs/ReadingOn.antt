@@ -1,10 +1,8 @@
 -- What the parts of a reading do to what is unread of the opened file.
-use Rattle.std.specs.Prelude.{◌≡◌, ℕ, ◌≤◌, List, [], ◌++◌, length, drop, Option, Some, None}
-use Rattle.desk_io.specs.Told.{Told, Passed}
-use Rattle.std.specs.Prelude.{◌≡◌, ◌≢◌, ℕ, ◌<◌, Bool, true, false, if◌then◌else◌, List, [], ◌∷◌, ◌++◌, length, drop, Option, Some, None, Result, Ok, Err, nat_eq}
+use Rattle.std.specs.Prelude.{◌≡◌, ℕ, ◌≤◌, List, [], ◌++◌, length, drop, Option, Some, None, ◌≢◌, ◌<◌, Bool, true, false, if◌then◌else◌, ◌∷◌, Result, Ok, Err, nat_eq}
+use Rattle.desk_io.specs.Told.{Told, Passed, file_of}
 use Rattle.std.specs.Cmp.Lexicographic.{pointwise}
 use Rattle.desk_io.specs.declared.desk.DeskFault.{DeskFault}
-use Rattle.desk_io.specs.Told.{Told, file_of, files, unread}
 
 -- these bytes were all that was unread, and nothing is now
 abbrev pub Drains : Option Told → Option Told → List ℕ → Type 0

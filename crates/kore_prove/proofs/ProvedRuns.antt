@@ -3,11 +3,10 @@ use Rattle.std.proofs.Common.{◌≡◌, ◌≢◌, ℕ, ◌⊎◌, inl, inr, Li
 use Rattle.desk_io.specs.Told.{Told, KeepsFiles, Same, TellsCreated, Creates, Writes, WritesFront, Closes, PutsFile, file_of}
 use Rattle.desk_io.specs.Sent.{Appends}
 use Rattle.term_core.specs.Terms.{Tree}
-use Rattle.term_core.specs.Patterns.{Pattern}
+use Rattle.term_core.specs.Patterns.{Pattern, ground_pattern}
 use Rattle.rule_core.specs.declared.rules.Outcome.{Outcome}
 use Rattle.rule_core.specs.declared.rules.Program.{Program}
 use Rattle.mm_justify.specs.Justifying.{Justifies}
-use Rattle.term_core.specs.Patterns.{ground_pattern}
 use Rattle.kore_prove.specs.Words.{IsRun, IsVerifyCommand}
 use Rattle.kore_prove.specs.Lines.{run_of}
 use Rattle.kore_prove.specs.Files.{HoldsProgram, HoldsStart}

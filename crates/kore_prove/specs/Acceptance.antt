@@ -3,9 +3,7 @@ use Rattle.std.specs.Prelude.{◌≡◌, ◌≤◌, ℕ, List, [], ◌∷◌, le
 use Rattle.std.specs.List.{filter_map}
 use Rattle.term_core.specs.declared.ids.SortId.{SortId}
 use Rattle.term_core.specs.Patterns.{Pattern, Patterns, application, no_pattern, more_patterns}
-use Rattle.kore_text.specs.Trees.{SortTree, sort_applied, no_sorts, sort_trees}
-use Rattle.kore_text.specs.Trees.{PatternTree, PatternTrees, element_variable, set_variable, string, symbol_applied, connected, binding, domain_value, folded, no_patterns, pattern_then, pattern_trees}
-use Rattle.kore_text.specs.Trees.{SortDeclaration, SymbolDeclaration, AxiomDeclaration, Declaration, import_declaration, sort_declaration, symbol_declaration, alias_declaration, axiom_declaration, claim_declaration, ModuleTree, DefinitionTree}
+use Rattle.kore_text.specs.Trees.{SortTree, sort_applied, no_sorts, sort_trees, PatternTree, PatternTrees, element_variable, set_variable, string, symbol_applied, connected, binding, domain_value, folded, no_patterns, pattern_then, pattern_trees, SortDeclaration, SymbolDeclaration, AxiomDeclaration, Declaration, import_declaration, sort_declaration, symbol_declaration, alias_declaration, axiom_declaration, claim_declaration, ModuleTree, DefinitionTree}
 use Rattle.kore_text.specs.declared.names.Op.TheVariants.{And, Top, Rewrites}
 use Rattle.rule_core.specs.Named.{number_of, names_of, AreDistinct}
 use Rattle.rule_core.specs.Rules.{RewriteRule}

@@ -1,7 +1,7 @@
 -- The pieces of a text from a place on, as a reader meets them.
 use Rattle.std.specs.Prelude.{◌≡◌, ℕ, ◌+◌, ◌-◌, ◌<◌, ◌≤◌, Bool, true, false, List, [], ◌∷◌, length, take, drop, slice_index}
 use Rattle.mm_text.specs.Bytes.{foreign, class_of, is_printable_class, is_white}
-use Rattle.mm_text.specs.Tokens.{Piece, run, stray, pieces_from, Tokens, outside, tokens_in}
+use Rattle.mm_text.specs.Tokens.{Piece, run, stray, pieces_from}
 
 abbrev pub pieces_at : List ℕ → ℕ → List Piece
 pieces_at bytes at = pieces_from at (drop at bytes)

@@ -1,9 +1,9 @@
 -- What reading the next statement of a text gives.
-use Rattle.std.specs.Prelude.{◌≡◌, ℕ, ◌<◌, Bool, true, false, List, [], ◌∷◌, map, Result, Ok, Err}
+use Rattle.std.specs.Prelude.{◌≡◌, ℕ, ◌<◌, List, [], ◌∷◌, map, Result, Ok, Err}
 use Rattle.std.specs.List.{slice_range}
 use Rattle.mm_text.specs.Bytes.{Token}
 use Rattle.mm_text.specs.Next.{left}
-use Rattle.mm_text.specs.Statements.{Statement, statement, Statements, no_statement, unended, bad_statement, next_statement, Reading, between, within, ends_statement, is_whole, statements_in}
+use Rattle.mm_text.specs.Statements.{Statement, statement, Statements, no_statement, unended, bad_statement, next_statement, between, statements_in}
 use Rattle.mm_text.specs.declared.tokens.MmToken.{MmToken}
 use Rattle.mm_text.specs.declared.tokens.MmTokens.{MmTokens}
 use Rattle.mm_text.specs.declared.statements.MmFound.{MmFound}

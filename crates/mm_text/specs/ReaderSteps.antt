@@ -1,15 +1,10 @@
 -- What the private calls of the reader leave.
-use Rattle.std.specs.Prelude.{◌≡◌, ℕ, ◌<◌, Bool, true, false, List, [], ◌∷◌, map, Result, Ok, Err}
-use Rattle.std.specs.List.{slice_range}
+use Rattle.std.specs.Prelude.{ℕ, Bool, true, false, List, [], ◌∷◌}
 use Rattle.mm_text.specs.Bytes.{Token}
-use Rattle.mm_text.specs.Next.{left}
-use Rattle.mm_text.specs.Statements.{Statement, statement, Statements, no_statement, unended, bad_statement, next_statement, Reading, between, within, ends_statement, is_whole, statements_in}
+use Rattle.mm_text.specs.Statements.{Reading, between, within, ends_statement, is_whole}
 use Rattle.mm_text.specs.declared.tokens.MmToken.{MmToken}
-use Rattle.mm_text.specs.declared.tokens.MmTokens.{MmTokens}
 use Rattle.mm_text.specs.declared.statements.MmFound.{MmFound}
-use Rattle.mm_text.specs.declared.statements.MmFound.TheVariants.{Statement as Found, End, Unended}
-use Rattle.mm_text.specs.declared.statements.MmReadEnd.{MmReadEnd}
-use Rattle.mm_text.specs.declared.statements.MmReadEnd.TheVariants.{Fault, Memory}
+use Rattle.mm_text.specs.declared.statements.MmFound.TheVariants.{End, Unended}
 use Rattle.mm_text.specs.Reader.{words_of}
 
 -- The rest is cited by the clauses of private functions and by proofs alone.

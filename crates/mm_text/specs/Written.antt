@@ -1,9 +1,7 @@
 -- Texts that are written token by token.
-use Rattle.std.specs.Prelude.{ℕ, Bool, true, false, not, ◌&&◌, if◌then◌else◌, List, [], ◌∷◌, ◌++◌, flat_map}
-use Rattle.std.specs.List.{list_all}
-use Rattle.mm_text.specs.Bytes.{Token, is_white, class_of, is_printable_class}
-use Rattle.mm_text.specs.Tokens.{opens_comment, closes_comment}
-use Rattle.mm_text.specs.Statements.{ends_statement, is_whole}
+use Rattle.std.specs.Prelude.{ℕ, Bool, true, if◌then◌else◌, List, [], ◌∷◌, ◌++◌, flat_map}
+use Rattle.mm_text.specs.Bytes.{Token, is_white}
+use Rattle.mm_text.specs.Statements.{is_whole}
 
 -- a text is empty or ends with white space
 abbrev pub ends_white : List ℕ → Bool
