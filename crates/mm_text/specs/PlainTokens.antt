@@ -1,8 +1,6 @@
 -- Tokens that are read as one statement.
-use Rattle.std.specs.Prelude.{Bool, false, List}
-use Rattle.std.specs.List.{list_all}
-use Rattle.mm_text.specs.Bytes.{Token}
 use Rattle.std.specs.Prelude.{Bool, false, not, ◌&&◌, List, [], ◌∷◌}
+use Rattle.std.specs.List.{list_all}
 use Rattle.mm_text.specs.Bytes.{Token, class_of, is_printable_class}
 use Rattle.mm_text.specs.Tokens.{opens_comment, closes_comment}
 use Rattle.mm_text.specs.Statements.{ends_statement, is_whole}
