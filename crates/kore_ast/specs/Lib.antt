@@ -1,8 +1,8 @@
 -- What a reader of the contracts has to believe, lowest first.
 pub mod Plain
 pub mod KoreText
--- What only private functions cite.
 pub mod Told
+-- What only private functions cite.
 pub mod Known
 pub mod Keywords
 pub mod Streams

@@ -2,8 +2,9 @@
 //
 // `read_definition` and `read_pattern` answer the tree that the bytes spell by the grammar of the
 // Kore language document, or the first fault. The tokens, the spelling of each tree and the first
-// fault are defined in `kore_text`; `Plain` gives the trees without memory, and `KoreText` says
-// which tree bytes spell.
+// fault are defined in `kore_text`; `Plain` gives the trees without memory, `KoreText` says which
+// tree bytes spell, and `Told` how a fault is told. The other modules of `specs/` have what only
+// private functions cite.
 #![tactic(auto)]
 
 mod declarations;

@@ -8,7 +8,8 @@ use Rattle.kore_text.specs.Trees.{PatternTrees, no_patterns, pattern_then, patte
 use Rattle.kore_text.specs.TokenStream.{Token, identifier, set_identifier, builtin, string_token, mark, Stream, end, fault, token, tokens_of}
 use Rattle.kore_text.specs.Grammar.{Want, placed, any, given, Takes, listed, more_listed, takes, binder_sorts, binds_sets, is_variable, spell_sort, spell_sorts, spell_pattern, spell_patterns}
 use Rattle.kore_text.specs.Faults.{opened, IsShallow}
-use Rattle.kore_print.specs.Reading.{unplaced_sort, unplaced_sorts, unplaced, unplaced_patterns, IsTextual, CanStand, IsReadable, ReadIsReadable}
+use Rattle.kore_print.specs.Reading.{unplaced_sort, unplaced_sorts, unplaced, unplaced_patterns}
+use Rattle.kore_print.specs.PrintLaws.{ReadIsReadable, IsReadable, CanStand, IsTextual}
 use Rattle.kore_print.proofs.TextualStreams.{AllTextual, tokens-textual}
 use Rattle.kore_print.proofs.Unplacing.{sorts-counted, patterns-counted, variable-kept, foldable-kept}
 

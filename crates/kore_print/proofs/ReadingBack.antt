@@ -4,7 +4,8 @@ use Rattle.kore_text.specs.TokenStream.{Stream, end, tokens_of}
 use Rattle.kore_text.specs.Grammar.{Want, Takes, spell_pattern}
 use Rattle.kore_text.specs.Faults.{IsShallow}
 use Rattle.kore_print.specs.CanonicalText.{canonical_text}
-use Rattle.kore_print.specs.Reading.{unplaced, ReadableReadsBack}
+use Rattle.kore_print.specs.Reading.{unplaced}
+use Rattle.kore_print.specs.PrintLaws.{ReadableReadsBack}
 use Rattle.kore_print.proofs.SpelledStreams.{stream_of, Parted, tokens-spelled, spelled-shallow}
 use Rattle.kore_print.proofs.PartedPatterns.{pattern-parts}
 use Rattle.kore_print.proofs.Settling.{Settled, settled-pattern, stand-holds}

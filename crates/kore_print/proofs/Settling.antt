@@ -10,7 +10,8 @@ use Rattle.kore_text.specs.Trees.{PatternTrees, no_patterns, pattern_then, patte
 use Rattle.kore_text.specs.TokenStream.{Token, identifier, set_identifier, builtin, string_token, mark, Stream}
 use Rattle.kore_text.specs.Grammar.{Want, placed, any, given, Takes, Spelling, listed, more_listed, takes, binder_sorts, binds_sets, is_variable, spell_sort, spell_sorts, spell_pattern, spell_patterns}
 use Rattle.kore_print.specs.TokenText.{token_text}
-use Rattle.kore_print.specs.Reading.{unplaced_sort, unplaced_sorts, unplaced, unplaced_patterns, CanStand}
+use Rattle.kore_print.specs.Reading.{unplaced_sort, unplaced_sorts, unplaced, unplaced_patterns}
+use Rattle.kore_print.specs.PrintLaws.{CanStand}
 use Rattle.kore_print.proofs.SpelledStreams.{stream_of}
 use Rattle.kore_print.proofs.Unplacing.{sort-counts, pattern-counts, variables, foldables}
 

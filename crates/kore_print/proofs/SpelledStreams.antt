@@ -10,7 +10,7 @@ use Rattle.kore_text.specs.Grammar.{Want, placed, any, given}
 use Rattle.kore_text.specs.Faults.{opened, IsShallow}
 use Rattle.kore_print.specs.TokenText.{token_text}
 use Rattle.kore_print.specs.CanonicalText.{text_of}
-use Rattle.kore_print.specs.Reading.{IsTextual, CanStand}
+use Rattle.kore_print.specs.PrintLaws.{CanStand, IsTextual}
 use Rattle.kore_lex.proofs.WholePieces.{begins_word, begins_equals}
 use Rattle.kore_print.proofs.TokenPieces.{IsApart, token-cut, behind-token}
 

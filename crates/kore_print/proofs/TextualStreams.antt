@@ -9,7 +9,7 @@ use Rattle.kore_lex.specs.Tokens.{IsToken}
 use Rattle.kore_lex.specs.Value.{IsString}
 use Rattle.kore_lex.proofs.AllTokens.{AllRead, all-read, string-utf8}
 use Rattle.kore_text.specs.TokenStream.{Stream, end, fault, token, token_of, named, tokens_of}
-use Rattle.kore_print.specs.Reading.{IsTextual}
+use Rattle.kore_print.specs.PrintLaws.{IsTextual}
 use Rattle.kore_print.proofs.TokenPieces.{named-token}
 
 -- each token can stand in a text

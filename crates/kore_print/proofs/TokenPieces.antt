@@ -15,7 +15,7 @@ use Rattle.kore_text.specs.declared.names.Built.{Built}
 use Rattle.kore_text.specs.declared.names.Built.TheVariants.{Connective, Binding, Value, Fold}
 use Rattle.kore_text.specs.TokenStream.{Token, identifier, set_identifier, builtin, string_token, mark, assign, token, token_of, built_of, named as named_stream}
 use Rattle.kore_print.specs.TokenText.{built_name, token_text}
-use Rattle.kore_print.specs.Reading.{IsTextual}
+use Rattle.kore_print.specs.PrintLaws.{IsTextual}
 use Rattle.kore_print.proofs.StringTexts.{text-piece, text-value}
 
 -- the bytes may follow the token

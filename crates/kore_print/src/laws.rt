@@ -1,6 +1,6 @@
 // What is proved of canonical texts.
 
-ghost use Rattle.kore_print.specs.Reading.{ReadableReadsBack, ReadIsReadable};
+ghost use Rattle.kore_print.specs.PrintLaws.{ReadIsReadable, ReadableReadsBack};
 
 /// The canonical text of each pattern that can be read spells that pattern, but for places. Only
 /// such patterns are spelled by any text.

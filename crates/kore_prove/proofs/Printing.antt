@@ -1,6 +1,6 @@
 -- From the parts of a call to what it printed.
 use Rattle.std.proofs.Common.{◌≡◌, ℕ, List, Option, Some, None, refl, sym, subst}
-use Rattle.kore_print.specs.Reading.{ReadableReadsBack}
+use Rattle.kore_print.specs.PrintLaws.{ReadableReadsBack}
 use Rattle.desk_io.specs.Told.{Told, KeepsFiles}
 use Rattle.desk_io.specs.Sent.{Appends}
 use Rattle.term_core.specs.Terms.{Tree}

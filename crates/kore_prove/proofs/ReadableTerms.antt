@@ -6,7 +6,7 @@ use Rattle.kore_lex.specs.Tokens.{IsName}
 use Rattle.kore_text.specs.TokenStream.{mark}
 use Rattle.kore_text.specs.Trees.{PatternTree, PatternTrees, no_patterns}
 use Rattle.kore_text.specs.Grammar.{Want, any, listed, more_listed, spell_pattern, spell_patterns}
-use Rattle.kore_print.specs.Reading.{CanStand, ReadableReadsBack}
+use Rattle.kore_print.specs.PrintLaws.{ReadableReadsBack, CanStand}
 use Rattle.term_core.specs.Terms.{Tree, leaf, node, inj, Forest, no_tree, more_trees, height, heights}
 use Rattle.rule_core.specs.Named.{names_of}
 use Rattle.rule_core.specs.declared.signature.SymInfo.{SymInfo}

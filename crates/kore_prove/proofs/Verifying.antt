@@ -6,7 +6,7 @@ use Rattle.mm_text.specs.Statements.{statements_of}
 use Rattle.mm_text.specs.declared.fault.MmFault.{MmFault}
 use Rattle.mm_database.specs.Database.{empty_context}
 use Rattle.mm_database.specs.Assertions.{axiom_count}
-use Rattle.mm_database.specs.Validity.{IsFirstFault, first_fault}
+use Rattle.mm_database.specs.Validity.{IsFirstFault}
 use Rattle.mm_database.proofs.Faults.{valid_faultless, computed-IsFirstFaultIn}
 use Rattle.kore_prove.specs.declared.verification.Verdict.{Verdict}
 use Rattle.kore_prove.specs.declared.verification.Verdict.TheVariants as verdict
@@ -16,6 +16,7 @@ use Rattle.kore_prove.specs.Reports.{Ending, Reports}
 use Rattle.kore_prove.specs.Verdicts.{IsInvalidBy, HoldsDatabase, SaysValid, SaysInvalid, PrintsVerdictOn, PrintsVerdict, verdict_line, verdict_code, valid_line}
 use Rattle.kore_prove.proofs.CommandWords.{one_file, not_both}
 use Rattle.kore_prove.proofs.Ending.{code_of_no_end}
+use Rattle.mm_database.specs.ComputedFault.{first_fault}
 
 -- bytes with a first fault are no valid database
 pub invalid_by : (bytes : List ℕ) (f : MmFault) → IsFirstFault bytes f → IsInvalidBy bytes f

@@ -3,9 +3,10 @@
 // `definition_fault` and `pattern_fault` say whether bytes spell a definition or a pattern by the
 // grammar of the Kore language document, and else which fault comes first, and where. The
 // definitions stand in `specs/`: `TokenStream` has the tokens of a text, `Trees` the trees without
-// memory, `Grammar` spells a tree, `Faults` says what the first fault of a text is, and `Table`
-// has the moves by which one token at a time is looked at. `TextLaws` and `Identifiers` have laws on
-// these, which are the contracts of `text_laws` and `name_laws`.
+// memory, `Grammar` spells a tree, `Faults` says what the first fault of a text is, and `Left` what
+// is left of a text while its tokens are taken. `TextLaws` and `Identifiers` have laws on these,
+// which are the contracts of `text_laws` and `name_laws`. The table by which one token at a time is
+// looked at, `Table`, and what goes with it are cited by private functions alone.
 #![tactic(auto)]
 
 mod expected;

@@ -5,7 +5,8 @@ use Rattle.std.proofs.lemmas.Bool.{false≢true}
 use Rattle.ml_pat.specs.Patterns.{Pattern, bot, top, imp, not, and, or, equal, member, fun, ex, all, app, at_sort, next, ev, var, meta, constant}
 use Rattle.ml_pat.specs.Judgements.{fresh, absent, substituted, predicate, both_parts, under_quantifier}
 use Rattle.ml_pat.proofs.LeafLaws.{both_true, split_true}
-use Rattle.ml_kernel.specs.Lemmas.{instance, IsMetaBelow, HasNoMeta, HasNoVariable, HaveNoVariables, HaveNoMetas}
+use Rattle.ml_kernel.specs.Lemmas.{instance, IsMetaBelow, HasNoMeta, HasNoVariable, HaveNoVariables}
+use Rattle.ml_kernel.specs.TheoryView.{HaveNoMetas}
 use Rattle.ml_kernel.specs.Renamings.{renamed}
 
 both : (a b c d : Bool) → a ≡ c → b ≡ d → (a && b) ≡ (c && d)

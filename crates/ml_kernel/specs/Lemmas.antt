@@ -57,10 +57,6 @@ AreMetasBelow n (p ∷ ps) = IsMetaBelow n p × AreMetasBelow n ps
 abbrev pub HasNoMeta : Pattern → Type 0
 HasNoMeta p = IsMetaBelow 0 p
 
-abbrev pub HaveNoMetas : List Pattern → Type 0
-HaveNoMetas [] = Unit {0}
-HaveNoMetas (p ∷ ps) = HasNoMeta p × HaveNoMetas ps
-
 -- no object variable stands in the pattern, bound or free
 abbrev pub HasNoVariable : Pattern → Type 0
 HasNoVariable bot = Unit {0}

@@ -12,5 +12,6 @@ pub mod Premises
 pub mod Spines
 pub mod DerivationView
 pub mod TheoremView
+pub mod TheoryView
 pub mod TheoremCode
 pub mod DerivationSize

@@ -2,9 +2,8 @@
 // theory, a hypothesis or a lemma.
 //
 // The contract: each theorem has a derivation in matching logic (specs/Derivability.antt) from its own hypotheses and the
-// axioms that its derivation keeps. The rules are schemes over plain patterns
-// (specs/Rules.antt), and src/rules.rt has one call for each. A rule call states
-// what the rule asks as its condition, and so compares nothing when it runs.
+// axioms that its derivation keeps. The rules are schemes over plain patterns (specs/Rules.antt), and src/rules.rt has one
+// call for each. A rule call states what the rule asks as its condition, and so compares nothing when it runs.
 #![tactic(auto)]
 
 mod derivations;

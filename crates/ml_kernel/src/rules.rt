@@ -105,7 +105,7 @@ macro_rules! infer {
 }
 
 impl Thm {
-    // Propositions (Lukasiewicz): implication, and the way back from a double negation.
+    // Implication: the axioms K and S, double negation, and modus ponens.
 
     /// `p -> q -> p`.
     pub fn p_1(alloc: Global, p: &MPat, q: &MPat) -> Result<Thm, AllocError>
@@ -137,7 +137,7 @@ impl Thm {
         infer!(alloc, Mp [Pat(p), Pat(q)], [a, b], q)
     }
 
-    // The connectives, each by what it lets one conclude and what lets one conclude it.
+    // The other connectives of propositions.
 
     /// `~p -> p -> bot`.
     pub fn not_1(alloc: Global, p: &MPat) -> Result<Thm, AllocError>
@@ -202,7 +202,7 @@ impl Thm {
         infer!(alloc, Top [], [], top)
     }
 
-    // Quantifiers and elements: for each element, for one, and for some.
+    // Quantifiers: an instance at one element, being one element, and what follows from some element.
 
     /// `(all x s p) -> fun q s -> r`, where r is p with q for x.
     pub fn inst<'a>(
@@ -243,7 +243,7 @@ impl Thm {
         infer!(alloc, ExEl [Pat(p), Pat(q), Var(x), Sort(s)], [a], (imp (ex x s p) q))
     }
 
-    // Equality.
+    // Equality: of a pattern and itself, of equals in a context, and of patterns that imply each other.
 
     /// `p = p`.
     pub fn eq_refl(alloc: Global, p: &MPat) -> Result<Thm, AllocError>
@@ -278,7 +278,7 @@ impl Thm {
         infer!(alloc, EqIn [Pat(p), Pat(q)], [a, b], (equal p q))
     }
 
-    // Membership, and elements that differ.
+    // Elements: an element of itself, no element where nothing is shared, and elements that differ.
 
     /// `fun p s -> p in p`.
     pub fn mem_in(alloc: Global, p: &MPat, s: MSort) -> Result<Thm, AllocError>
@@ -309,7 +309,7 @@ impl Thm {
         infer!(alloc, Apart [Pat(p), Pat(q), Sort(s), Sort(v)], [], (imp (fun p s) (imp (fun q v) (imp (not (equal p q)) (not (and p q))))))
     }
 
-    // Application: it carries implications and nothing, on either side.
+    // Application: framing, and the propagation of bottom (Chen and Rosu 2019).
 
     /// `r -> p t -> q t`, from `r -> p -> q`, where r is a predicate.
     pub fn app_l(
@@ -357,7 +357,7 @@ impl Thm {
         infer!(alloc, BotR [Pat(p)], [], (imp (app p bot) bot))
     }
 
-    // Reachability: one step, and many (a least fixed point, after Knaster and Tarski).
+    // Reachability: one step keeps an implication, and many steps are a least fixed point (Knaster and Tarski).
 
     /// `next p -> next q`, from `p -> q`.
     pub fn next_in(alloc: Global, a: &Thm, p: &MPat, q: &MPat) -> Result<Thm, AllocError>

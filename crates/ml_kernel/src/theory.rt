@@ -1,6 +1,6 @@
 // Theories: lists of axioms.
 ghost use Rattle.std.specs.Prelude.{◌≡◌, ◌<◌, [], ◌∷◌, ◌++◌, length, slice_get, IfOk, OnOk, OnErr, Some};
-ghost use Rattle.ml_kernel.specs.Lemmas.{HasNoMeta, HaveNoMetas};
+ghost use Rattle.ml_kernel.specs.Lemmas.{HasNoMeta};
 ghost use Rattle.ml_kernel.specs.Theorems.{own_axiom};
 
 use crate::derivations::AxiomNo;
@@ -20,7 +20,7 @@ impl Model for Theory {
     ghost use Rattle.std.specs.Coded.{coded_list};
     ghost use Rattle.ml_pat.specs.Patterns.{Pattern};
     ghost use Rattle.ml_pat.specs.PatternCode.{pattern_code};
-    ghost use Rattle.ml_kernel.specs.Lemmas.{HaveNoMetas};
+    ghost use Rattle.ml_kernel.specs.TheoryView.{HaveNoMetas};
 
     ghost Value = { List Pattern };
 

@@ -1,6 +1,7 @@
 pub mod Patterns
 pub mod FormsIn
 pub mod Leaves
+pub mod KnownLeaves
 pub mod PatternView
 pub mod WholePattern
 pub mod PatternCode

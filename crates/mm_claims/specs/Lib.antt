@@ -7,10 +7,13 @@ pub mod Places
 pub mod Variables
 pub mod Blocks
 pub mod CitedAt
+pub mod Citable
 pub mod Claiming
+pub mod Provable
 pub mod OpenCiting
 pub mod OpenVariables
 pub mod ClaimVariables
+pub mod AddedVariables
 pub mod OpenCases
 pub mod RenderedCases
 pub mod BlockCases

@@ -6,8 +6,12 @@ pub mod Steps
 pub mod ProofText
 pub mod Stack
 pub mod Validity
+pub mod ComputedFault
 pub mod Cases
 pub mod FrameLaws
+pub mod CleanTokens
+pub mod StatementTexts
 pub mod Assertions
 pub mod Writing
+pub mod Leaving
 pub mod Orderly

@@ -84,13 +84,3 @@ header_context = record {
   };
   blocks = [];
 }
-
--- the context has a frame of the row under its label
-pub record HasRow (c : Context) (r : Row) : Type 0 where
-  pub frame : Frame
-  pub kept : c.frames r.label ≡ Some frame
-  pub fits : IsFrameOfRow r frame
-
--- no label has a frame but those of the rows
-abbrev pub HasOnlyRows : Context → List Row → Type 0
-HasOnlyRows c rows = (label : Token) → has_token (map (λ r. r.label) rows) label ≡ false → c.frames label ≡ None

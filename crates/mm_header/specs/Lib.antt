@@ -1,4 +1,5 @@
 pub mod Header
 pub mod HeaderText
 pub mod HeaderContext
+pub mod HeaderLaws
 pub mod HeaderTable

@@ -3,7 +3,9 @@ pub mod Labels
 pub mod Trees
 pub mod RuleLabels
 pub mod Derivations
+pub mod SoundCiting
 pub mod Serving
+pub mod ClosedFrames
 pub mod Writing
 pub mod RenderLaws
 pub mod Cases

@@ -8,7 +8,7 @@ pub fn tried()
 {}
 
 /// What is written as a proof that a pattern is one, or of a judgement on it, proves that, in every database that has the
-/// header and the declarations that are cited; and so do a rule over proofs, and a derivation.
+/// header and the declarations that are cited; and so does a rule over proofs of what it concludes from.
 pub fn proof_laws()
     ensures parse { PatternsParse }
     ensures fresh { FreshnessIsProved }

@@ -7,9 +7,13 @@ pub mod Statements
 pub mod Labels
 pub mod Compressed
 pub mod Numbers
+pub mod DigitsRead
 pub mod NumberLaws
 pub mod TextLaws
+pub mod PlainTokens
+pub mod Written
 pub mod Cases
 pub mod Places
 pub mod Letters
 pub mod Reader
+pub mod ReaderSteps

@@ -6,10 +6,6 @@ use Rattle.mm_text.specs.Tokens.{Piece, run, stray, pieces_from, Tokens, outside
 abbrev pub pieces_at : List ℕ → ℕ → List Piece
 pieces_at bytes at = pieces_from at (drop at bytes)
 
--- the tokens from a place outside comments on
-abbrev pub tokens_at : List ℕ → ℕ → Tokens
-tokens_at bytes at = tokens_in outside (pieces_at bytes at)
-
 -- the bytes from one place to another
 abbrev pub bytes_between : List ℕ → ℕ → ℕ → List ℕ
 bytes_between bytes i j = take (j - i) (drop i bytes)

@@ -1,6 +1,6 @@
 use Rattle.std.proofs.Common.{List, subst, sym}
 use Rattle.ml_pat.specs.Patterns.{Pattern}
-use Rattle.ml_kernel.specs.Lemmas.{HaveNoMetas}
+use Rattle.ml_kernel.specs.TheoryView.{HaveNoMetas}
 use Rattle.ml_kernel.proofs.InstanceLaws.{HaveNoMetas-push}
 use Rattle.ml_kernel.proofs.theory.Theory.add.Goals as goal
 
