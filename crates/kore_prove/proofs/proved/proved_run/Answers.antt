@@ -30,7 +30,7 @@ loop-made-init c =
           let one_tree : first ≡ t = cc in
           subst (λ (u : Tree). Reaches (rewrite_rules c.args.program.now.rules.items) u 0 first) one_tree at_start;
       shown = subst (IsShown c.args.program.now.sig.symbols) one c.requires.showable.shown;
-      proved = subst (IsProofOf c.in_ok-proof.proof c.args.program.now start) ground (begun c.in_ok-proof.proof c.args.program.now c.args.start.now c.in_ok-proof.ensures.begins);
+      proved = subst (IsProofOf c.in_ok-proof.proof c.args.program.now start) ground (begun c.in_ok-proof.proof c.args.program.now c.args.start.now c.in_ok-proof.ensures);
     }
 
 pub prove_step-requires-clause-applies : goal.prove_step-requires-clause-applies
