@@ -14,7 +14,7 @@ use Rattle.prove_run.specs.declared.proof.Proof.{Proof}
 use Rattle.prove_run.specs.Scripts.{AreGroundAt}
 use Rattle.prove_run.specs.Proving.{IsProofOf, IsAtRule, StepsBy}
 use Rattle.kore_prove.specs.Provable.{IsBuiltOf, AreBuiltOf, IsProvableRule, IsProvable}
-use Rattle.kore_prove.specs.Runnable.{LeadsBy}
+use Rattle.kore_prove.specs.Steps.{LeadsBy}
 
 -- such a pattern has an image
 mutual

@@ -7,7 +7,7 @@ ghost use Rattle.rule_core.specs.declared.signature.SortRef.TheVariants.{Sort};
 ghost use Rattle.term_core.specs.Patterns.{Pattern, Patterns};
 ghost use Rattle.term_core.specs.RulePatterns.{plain_pattern as rule_pattern, plain_patterns as rule_patterns};
 ghost use Rattle.kore_prove.specs.Acceptance.{Denotes, AllDenote};
-ghost use Rattle.kore_prove.specs.Refusals.{OnRefused};
+ghost use Rattle.kore_prove.specs.RefusedAnswers.{OnRefused};
 
 use crate::accept::{NOT_BUILT, Refusal};
 use kore_ast::{Pat, PatForm};

@@ -48,10 +48,8 @@ returns-in-Err-made_lines-clause-cause g c =
     let course : Course = record { definition = c.args.command.now.definition.now; term = c.args.command.now.term.now; told = told; reads = g.D.Desk.read_faults c.args.desk.now; reads' = g.D.Desk.read_faults c.made_lines.new.desk; files = g.D.Desk.write_faults c.args.desk.now; files' = g.D.Desk.write_faults c.made_lines.new.desk; writes = g.O.Sink.faults c.args.out.now; writes' = g.O.Sink.faults c.args.out.now } in
     subst (RunCause course) (sym c.write_end.ensures)
     (write_cause course c.in-Err-made_lines.fault
-    (λ is. inr (
-      subst (λ (n : ℕ). Rose n (g.D.Desk.write_faults c.made_lines.new.desk)) (c.in-Ok-read_start.ensures.writes ∙ c.in-Ok.ensures.writes) (c.in-Err-made_lines.ensures.failed (ap (λ (f : DeskFault). Err f) is)),
-      (c.in-Ok.program, c.in-Ok.ensures.found, (start, start_kept told between _ c.in-Ok.program start c.in-Ok.ensures.files c.in-Ok-read_start.ensures.found)),
-    )))
+    (c.in-Ok.program, c.in-Ok.ensures.found, (start, start_kept told between _ c.in-Ok.program start c.in-Ok.ensures.files c.in-Ok-read_start.ensures.found))
+    (λ is. inr (subst (λ (n : ℕ). Rose n (g.D.Desk.write_faults c.made_lines.new.desk)) (c.in-Ok-read_start.ensures.writes ∙ c.in-Ok.ensures.writes) (c.in-Err-made_lines.ensures.failed (ap (λ (f : DeskFault). Err f) is)))))
 
 pub returns-in-Err-made_lines-clause-output : goal.returns-in-Err-made_lines-clause-output
 returns-in-Err-made_lines-clause-output g c =

@@ -6,7 +6,9 @@ use Rattle.kore_prove.specs.declared.files.FileEnd.{FileEnd}
 use Rattle.kore_prove.specs.declared.files.FileEnd.TheVariants as file
 use Rattle.kore_prove.specs.Files.{HoldsProgram}
 use Rattle.kore_prove.specs.Reports.{term_refused}
-use Rattle.kore_prove.specs.Causes.{Course, FileCause, RunCause, IsRefusedTerm, term_limit}
+use Rattle.kore_prove.specs.Causes.{Course, RunCause, IsRefusedTerm}
+use Rattle.kore_prove.specs.FileCauses.{FileCause}
+use Rattle.kore_prove.specs.Limits.{term_limit}
 use Rattle.kore_prove.proofs.call.term_end.Goals as goal
 
 refused_term : (c : Course) (program : Program) (end : FileEnd) (r : Refusal) (number byte : ℕ) → end ≡ file.Refused r → r ≡ refusal.Refused number byte → HoldsProgram c.told c.definition program → FileCause (IsRefusedTerm program) c.told c.term term_limit c.reads c.reads' end → RunCause c (term_refused number byte)
