@@ -108,6 +108,9 @@ pub record IsSymbolEntry (sorts : List (List ℕ × SortInfo)) (d : SymbolDeclar
   pub attributes : IsConstructorAlone d.attributes
   pub name : entry.0 ≡ d.name
   pub kind : entry.1.kind ≡ Ctor
+  pub sort_parameters : entry.1.params ≡ 0
+  pub hook : entry.1.hook ≡ None
+  pub ac : entry.1.ac ≡ false
   pub args : Each (NamesSortOf sorts) d.args entry.1.args.items
   pub result : NamesSortOf sorts d.result entry.1.result
 

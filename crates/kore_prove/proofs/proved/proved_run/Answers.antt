@@ -6,7 +6,8 @@ use Rattle.rule_core.specs.Runs.{Reaches, at_start, after_step}
 use Rattle.rule_core.specs.FirstRule.{Rewrites}
 use Rattle.rule_core.specs.ProgramView.{rewrite_rules}
 use Rattle.prove_run.specs.Proving.{StepsBy}
-use Rattle.kore_prove.specs.Runnable.{IsShown, LeadsBy}
+use Rattle.kore_prove.specs.Runnable.{IsShown}
+use Rattle.kore_prove.specs.Steps.{LeadsBy}
 use Rattle.kore_prove.proofs.Provable.{IsProofOf, begun, justified_by, built_image, built_ground, built_becomes, is_at_rule, goes_on}
 use Rattle.kore_prove.proofs.proved.proved_run.Goals as goal
 
