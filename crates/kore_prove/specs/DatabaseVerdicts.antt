@@ -1,8 +1,8 @@
 -- The verdict of the code on a database, and its line.
 use Rattle.std.specs.Prelude.{◌≡◌, ℕ, List, Option, Some, None}
 use Rattle.mm_text.specs.declared.fault.MmFault.{MmFault}
-use Rattle.mm_frame.specs.Validity.{IsValid, IsFirstFault}
-use Rattle.mm_frame.specs.Assertions.{axiom_count, theorem_count}
+use Rattle.mm_database.specs.Validity.{IsValid, IsFirstFault}
+use Rattle.mm_database.specs.Assertions.{axiom_count, theorem_count}
 use Rattle.desk_io.specs.Told.{Told}
 use Rattle.kore_prove.specs.declared.verification.Verdict.{Verdict}
 use Rattle.kore_prove.specs.declared.verification.Verdict.TheVariants as verdict
