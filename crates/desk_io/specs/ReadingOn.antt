@@ -1,8 +1,6 @@
 -- What the parts of a reading do to what is unread of the opened file.
-use Rattle.std.specs.Prelude.{◌≡◌, ℕ, ◌≤◌, List, [], ◌++◌, length, drop, Option, Some, None, ◌≢◌, ◌<◌, Bool, true, false, if◌then◌else◌, ◌∷◌, Result, Ok, Err, nat_eq}
-use Rattle.desk_io.specs.Told.{Told, Passed, file_of}
-use Rattle.std.specs.Cmp.Lexicographic.{pointwise}
-use Rattle.desk_io.specs.declared.desk.DeskFault.{DeskFault}
+use Rattle.std.specs.Prelude.{◌≡◌, ℕ, ◌≤◌, List, [], ◌++◌, length, drop, Option, Some, None}
+use Rattle.desk_io.specs.Told.{Told, Passed}
 
 -- these bytes were all that was unread, and nothing is now
 abbrev pub Drains : Option Told → Option Told → List ℕ → Type 0
@@ -17,8 +15,3 @@ PassedMany (Some old) new n = (n ≤ length old.unread) × (new ≡ Some (record
 -- a list grew by bytes that were the first unread ones, and are unread no longer
 abbrev pub PassedTo : Option Told → Option Told → List ℕ → List ℕ → Type 0
 PassedTo told told' list list' = (bytes : List ℕ) × (list' ≡ list ++ bytes) × Passed told told' bytes
-
--- the file of that name is open, and all but its first n bytes are unread
-abbrev pub Leaves : Option Told → Option Told → List ℕ → ℕ → Type 0
-Leaves None new name n = Unit {0}
-Leaves (Some old) new name n = (content : List ℕ) × (file_of old.files name ≡ Some content) × (new ≡ Some (record old { unread = drop n content }))

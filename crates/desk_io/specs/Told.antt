@@ -65,6 +65,11 @@ abbrev pub HoldsMore : Option Told → List ℕ → ℕ → Type 0
 HoldsMore None name limit = Unit {0}
 HoldsMore (Some told) name limit = (content : List ℕ) × (file_of told.files name ≡ Some content) × (limit < length content)
 
+-- the file of that name is open, and all but its first n bytes are unread
+abbrev pub Leaves : Option Told → Option Told → List ℕ → ℕ → Type 0
+Leaves None new name n = Unit {0}
+Leaves (Some old) new name n = (content : List ℕ) × (file_of old.files name ≡ Some content) × (new ≡ Some (record old { unread = drop n content }))
+
 -- it tells a created file, by the name of a file that is there, exactly where one is created
 abbrev pub TellsCreated : Bool → Option Told → Type 0
 TellsCreated created None = Unit {0}

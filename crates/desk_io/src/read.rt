@@ -1,7 +1,6 @@
 // Reading a file whole.
 ghost use Rattle.std.specs.Prelude.{◌≡◌, ◌<◌, ◌≤◌, ◌+◌, ◌⊎◌, length, IfOk, IsOk, IsErrOf, vec_len};
-ghost use Rattle.desk_io.specs.Told.{KeepsFiles, Holds, Lacks, HoldsMore, AtEnd};
-ghost use Rattle.desk_io.specs.ReadingOn.{Leaves};
+ghost use Rattle.desk_io.specs.Told.{KeepsFiles, Holds, Lacks, HoldsMore, Leaves, AtEnd};
 ghost use Rattle.desk_io.specs.ReadingOn.{Drains, PassedMany, PassedTo};
 ghost use Rattle.desk_io.specs.Counts.{Rose};
 ghost use Rattle.desk_io.specs.End.{end_by};

@@ -18,7 +18,6 @@ use Rattle.mm_claims.specs.Variables.{Variable, number_of, variable_token, varia
 use Rattle.mm_claims.specs.Blocks.{Claim, IsClaim, variable_float, open_frame, theorem_statements}
 use Rattle.mm_claims.specs.OverNames.{open_over}
 use Rattle.mm_claims.specs.CitedAt.{claims_citing, ArePremises}
-use Rattle.mm_claims.specs.Citable.{citable}
 use Rattle.mm_database.specs.Leaving.{Leaves}
 
 -- no label of a block with this number is taken
