@@ -1,10 +1,12 @@
+-- Believed: what public clauses say, and believed definitions of other crates.
 pub mod Counts
-pub mod End
-pub mod FirstFile
 pub mod MemDesk
 pub mod MemSink
 pub mod Memory
-pub mod MemoryChanges
-pub mod ReadingOn
 pub mod Sent
 pub mod Told
+-- Private: what clauses of private functions cite, and how private fields are seen.
+pub mod End
+pub mod FirstFile
+pub mod MemoryChanges
+pub mod ReadingOn

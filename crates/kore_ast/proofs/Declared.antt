@@ -2,17 +2,14 @@
 use Rattle.std.proofs.Common.{◌≡◌, ℕ, Bool, true, false, not, IsTrue, List, [], ◌∷◌, map, Some, refl, ap, sym, ◌∙◌, subst}
 use Rattle.std.specs.Prelude.{codes}
 use Rattle.kore_text.specs.TokenStream.{Token, identifier, mark, assign, Stream, end}
-use Rattle.kore_text.specs.Trees.{SortTree, PatternTree, ImportDeclaration, SortDeclaration, SymbolDeclaration, AliasDeclaration, AxiomDeclaration, ModuleTree, DefinitionTree}
-use Rattle.kore_text.specs.Trees.{element_variable, set_variable, string, symbol_applied, connected, binding, domain_value, folded}
-use Rattle.kore_text.specs.Trees.{Declaration, import_declaration, sort_declaration, symbol_declaration, alias_declaration, axiom_declaration, claim_declaration}
+use Rattle.kore_text.specs.Trees.{SortTree, PatternTree, ImportDeclaration, SortDeclaration, SymbolDeclaration, AliasDeclaration, AxiomDeclaration, ModuleTree, DefinitionTree, element_variable, set_variable, string, symbol_applied, connected, binding, domain_value, folded, Declaration, import_declaration, sort_declaration, symbol_declaration, alias_declaration, axiom_declaration, claim_declaration}
 use Rattle.kore_text.specs.Grammar.{Want, placed, any, listed, in_order, sort_word, symbol_word, spell_name, spell_names, spell_sort, spell_pattern, spell_attributes, spell_signature, spell_declaration, spell_body, spell_module, spell_definition, is_some_module}
 use Rattle.kore_text.specs.Apart.{Apart}
 use Rattle.kore_ast.specs.declared.reader.Keyword.{Keyword}
 use Rattle.kore_ast.specs.declared.reader.Keyword.TheVariants as key
 use Rattle.kore_ast.specs.Keywords.{keyword_at}
 use Rattle.kore_ast.specs.Streams.{after, place, seen, is_done, is_over, name_of, keyword_of, is_claimed, is_declared}
-use Rattle.kore_ast.specs.Reading.{Has, Reads, spell_list, spell_signature_pair, spell_stated}
-use Rattle.kore_ast.specs.Reading.{spell_body as spell_declared}
+use Rattle.kore_ast.specs.Reading.{Has, Reads, spell_list, spell_signature_pair, spell_stated, spell_body as spell_declared}
 use Rattle.kore_ast.proofs.Steps.{any-step, placed-step, given-step, end-step}
 use Rattle.kore_ast.proofs.Lists.{Begins}
 use Rattle.kore_ast.proofs.Sequences.{Follows, No, follows-end}

@@ -3,8 +3,7 @@ use Rattle.std.proofs.Common.{◌≡◌, ℕ, Bool, true, false, not, ◌||◌, 
 use Rattle.std.proofs.lemmas.List.{append-nil, map-append}
 use Rattle.kore_text.specs.TokenStream.{mark, Stream}
 use Rattle.kore_text.specs.Grammar.{Want, any, Spelling, listed, more_listed}
-use Rattle.kore_text.specs.Apart.{Apart}
-use Rattle.kore_text.specs.Apart.{is_mark}
+use Rattle.kore_text.specs.Apart.{Apart, is_mark}
 use Rattle.kore_ast.specs.Streams.{after, seen, is_over}
 use Rattle.kore_ast.specs.Reading.{Has, Reads, spell_list, behind_comma, is_closing}
 use Rattle.kore_ast.proofs.Steps.{any-step, not-true, not-false}

@@ -4,9 +4,7 @@ use Rattle.kore_text.specs.declared.names.Op.{Op}
 use Rattle.kore_text.specs.declared.names.Binder.{Binder}
 use Rattle.kore_text.specs.declared.names.Built.TheVariants as built
 use Rattle.kore_text.specs.TokenStream.{Token, identifier, set_identifier, builtin, string_token, mark, Stream}
-use Rattle.kore_text.specs.Trees.{SortTree, SortTrees, sort_trees, sort_count}
-use Rattle.kore_text.specs.Trees.{PatternTree, element_variable, set_variable, string, symbol_applied, connected, binding, domain_value, folded}
-use Rattle.kore_text.specs.Trees.{PatternTrees, no_patterns, pattern_then, pattern_trees, pattern_count, listed_patterns}
+use Rattle.kore_text.specs.Trees.{SortTree, SortTrees, sort_trees, sort_count, PatternTree, element_variable, set_variable, string, symbol_applied, connected, binding, domain_value, folded, PatternTrees, no_patterns, pattern_then, pattern_trees, pattern_count, listed_patterns}
 use Rattle.kore_text.specs.Grammar.{Want, placed, any, listed, Spelling, takes, binder_sorts, binds_sets, is_variable, is_foldable, spell_sort, spell_sorts, spell_pattern, spell_patterns, spell_applied}
 use Rattle.kore_text.specs.Apart.{Apart}
 use Rattle.kore_ast.specs.declared.reader.Head.{Head}

@@ -13,8 +13,7 @@ use Rattle.kore_ast.specs.declared.tree.PatForm.TheViews as pattern_view
 use Rattle.kore_ast.specs.declared.tree.PatForm.TheVariants as pattern_rolls
 use Rattle.kore_ast.specs.declared.tree.PatForm.TheOpen as pattern_layer
 use Rattle.kore_ast.specs.declared.tree.PatForm.TheFolds.{fold-PatForm, fold-roll-Pat, fold-roll-PatForm}
-use Rattle.kore_text.specs.Trees.{SortTree, sort_parameter, sort_applied, sort_trees}
-use Rattle.kore_text.specs.Trees.{PatternTree, element_variable, set_variable, string, symbol_applied, connected, binding, domain_value, folded, pattern_trees}
+use Rattle.kore_text.specs.Trees.{SortTree, sort_parameter, sort_applied, sort_trees, PatternTree, element_variable, set_variable, string, symbol_applied, connected, binding, domain_value, folded, pattern_trees}
 use Rattle.kore_ast.specs.Plain.{plain_sort, sort_form_step, sort_step, plain_pattern, pattern_form_step, pattern_step}
 
 pub plain-sort-Param : (at : ℕ) (n : List ℕ)

@@ -1,12 +1,11 @@
 -- One token that is taken.
 use Rattle.std.proofs.Common.{◌≡◌, ◌≤◌, ◌-◌, ℕ, Bool, true, false, List, [], ◌∷◌, Some, refl, ap, sym, ◌∙◌, subst, arith, IsTrue, Bor, not, if◌then◌else◌}
-use Rattle.kore_text.specs.TokenStream.{Token, Stream, end, fault, token}
+use Rattle.kore_text.specs.TokenStream.{Token, Stream, end, fault, token, token_of}
 use Rattle.kore_text.specs.Left.{size as count}
 use Rattle.kore_text.specs.Grammar.{Want, placed, any, given, Takes}
 use Rattle.kore_lex.specs.declared.lexer.TokenKind.{TokenKind}
 use Rattle.kore_text.specs.declared.tokens.Next.{Next}
 use Rattle.kore_text.specs.declared.tokens.Next.TheVariants as next
-use Rattle.kore_text.specs.TokenStream.{token_of}
 use Rattle.kore_ast.specs.Known.{first}
 use Rattle.kore_ast.specs.Streams.{after, place, seen, is_done, has_mark, is_over, head_of, keyword_of, is_declared}
 use Rattle.kore_ast.specs.Reading.{Has, behind_comma}

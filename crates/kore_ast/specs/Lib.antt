@@ -1,8 +1,8 @@
--- What a reader of the contracts has to believe, lowest first.
+-- Believed: what public clauses say, and believed definitions of other crates.
 pub mod Plain
 pub mod KoreText
+-- Private: what clauses of private functions cite, and how private fields are seen.
 pub mod Told
--- What only private functions cite.
 pub mod Known
 pub mod Keywords
 pub mod Streams

@@ -1,11 +1,6 @@
 -- The tree that a value of the program's types is, without memory.
 use Rattle.std.specs.Prelude.{ℕ, map}
-use Rattle.kore_text.specs.Trees.{SortTree, sort_parameter, sort_applied, sort_trees}
-use Rattle.kore_text.specs.Trees.{PatternTree, element_variable, set_variable, string, symbol_applied}
-use Rattle.kore_text.specs.Trees.{connected, binding, domain_value, folded, pattern_trees}
-use Rattle.kore_text.specs.Trees.{ImportDeclaration, SortDeclaration, SymbolDeclaration, AliasDeclaration, AxiomDeclaration}
-use Rattle.kore_text.specs.Trees.{Declaration, import_declaration, sort_declaration, symbol_declaration, alias_declaration, axiom_declaration, claim_declaration}
-use Rattle.kore_text.specs.Trees.{ModuleTree, DefinitionTree}
+use Rattle.kore_text.specs.Trees.{SortTree, sort_parameter, sort_applied, sort_trees, PatternTree, element_variable, set_variable, string, symbol_applied, connected, binding, domain_value, folded, pattern_trees, ImportDeclaration, SortDeclaration, SymbolDeclaration, AliasDeclaration, AxiomDeclaration, Declaration, import_declaration, sort_declaration, symbol_declaration, alias_declaration, axiom_declaration, claim_declaration, ModuleTree, DefinitionTree}
 use Rattle.kore_ast.specs.declared.tree.Sort.{Sort}
 use Rattle.kore_ast.specs.declared.tree.SortForm.TheOpen.{SortForm-F, Sort-F}
 use Rattle.kore_ast.specs.declared.tree.SortForm.TheOpen as sort_layer

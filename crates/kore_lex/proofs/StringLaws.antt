@@ -10,10 +10,9 @@ use Rattle.kore_lex.specs.declared.lexer.TokenKind.TheVariants.{Ident, SetIdent,
 use Rattle.kore_lex.specs.declared.lexer.Token.{Token}
 use Rattle.kore_lex.specs.declared.piece.Piece.{Piece}
 use Rattle.kore_lex.specs.declared.piece.Piece.TheVariants.{Gap, Whole, Bad}
-use Rattle.kore_lex.specs.Escapes.{further, bad_at}
+use Rattle.kore_lex.specs.Escapes.{further, bad_at, IsInner}
 use Rattle.kore_lex.specs.Pieces.{is_space, is_letter, is_mark, word_len, line_len, block_len, passed, quote_len, block, comment, by_escapes, body_piece, by_end, string, named, colon, piece}
 use Rattle.kore_lex.specs.Value.{IsString}
-use Rattle.kore_lex.specs.Escapes.{IsInner}
 use Rattle.kore_lex.proofs.Lexing.{quote-within}
 
 -- a whole string has quotes and an inner part

@@ -1,10 +1,10 @@
--- What a reader of the contracts has to believe, lowest first.
+-- Believed: what public clauses say, and believed definitions of other crates.
 pub mod Escapes
 pub mod Pieces
 pub mod Lexed
 pub mod Tokens
 pub mod Value
--- Laws.
+-- Laws: what follows from that. Each is a clause of a function that does nothing.
 pub mod TokenLaws
--- What only private functions cite.
+-- Private: what clauses of private functions cite, and how private fields are seen.
 pub mod Steps

@@ -5,8 +5,7 @@ use Rattle.kore_text.specs.declared.names.Op.{Op}
 use Rattle.kore_text.specs.declared.names.Binder.{Binder}
 use Rattle.kore_text.specs.declared.names.Built.TheVariants.{Connective, Binding, Fold}
 use Rattle.kore_text.specs.TokenStream.{Token, identifier, builtin, mark}
-use Rattle.kore_text.specs.Trees.{SortTree, sort_applied, sort_trees}
-use Rattle.kore_text.specs.Trees.{PatternTree, string, symbol_applied, connected, binding, folded, pattern_trees}
+use Rattle.kore_text.specs.Trees.{SortTree, sort_applied, sort_trees, PatternTree, string, symbol_applied, connected, binding, folded, pattern_trees}
 use Rattle.kore_text.specs.Grammar.{Want, any, Spelling, listed, spell_sort, spell_sorts, spell_pattern, spell_patterns}
 use Rattle.kore_ast.specs.declared.tree.Sort.{Sort}
 use Rattle.kore_ast.specs.declared.tree.SortForm.{SortForm}

@@ -3,8 +3,7 @@ use Rattle.std.proofs.Common.{◌≡◌, ◌≢◌, ◌-◌, ℕ, true, List, []
 use Rattle.kore_lex.specs.declared.lexer.TokenKind.{TokenKind}
 use Rattle.kore_lex.specs.declared.lexer.TokenKind.TheVariants as kind
 use Rattle.kore_lex.specs.Pieces.{is_mark}
-use Rattle.kore_lex.specs.Lexed.{lexed}
-use Rattle.kore_lex.specs.Lexed.{Stream as Cut, end as cut_end, fault as cut_fault, token as cut_token}
+use Rattle.kore_lex.specs.Lexed.{lexed, Stream as Cut, end as cut_end, fault as cut_fault, token as cut_token}
 use Rattle.kore_lex.specs.Tokens.{IsToken}
 use Rattle.kore_lex.specs.Value.{IsString}
 use Rattle.kore_lex.proofs.AllTokens.{AllRead, all-read, string-utf8}

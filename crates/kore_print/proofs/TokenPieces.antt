@@ -5,8 +5,7 @@ use Rattle.std.proofs.Math.Seq.{take-append_seam, drop-append_seam}
 use Rattle.kore_lex.specs.declared.lexer.TokenKind.{TokenKind}
 use Rattle.kore_lex.specs.declared.lexer.TokenKind.TheVariants as kind
 use Rattle.kore_lex.specs.Pieces.{is_letter, is_word, piece}
-use Rattle.kore_lex.specs.Lexed.{lexed}
-use Rattle.kore_lex.specs.Lexed.{Stream as Cut, token as cut_token}
+use Rattle.kore_lex.specs.Lexed.{lexed, Stream as Cut, token as cut_token}
 use Rattle.kore_lex.specs.Tokens.{IsName, AllWord}
 use Rattle.kore_lex.proofs.WholePieces.{whole, lexed-whole, begins_word, begins_equals, name-piece, set-piece, builtin-piece, mark-piece, assign-piece}
 use Rattle.kore_text.specs.declared.names.Op.TheVariants as op

@@ -1,8 +1,6 @@
 -- What a tree has without its places.
 use Rattle.std.proofs.Common.{◌≡◌, suc, Bool, true, false, ◌&&◌, refl, ap, sym, ◌∙◌}
-use Rattle.kore_text.specs.Trees.{SortTrees, no_sorts, sort_then, sort_count}
-use Rattle.kore_text.specs.Trees.{PatternTree, element_variable, set_variable, string, symbol_applied, connected, binding, domain_value, folded}
-use Rattle.kore_text.specs.Trees.{PatternTrees, no_patterns, pattern_then, pattern_count}
+use Rattle.kore_text.specs.Trees.{SortTrees, no_sorts, sort_then, sort_count, PatternTree, element_variable, set_variable, string, symbol_applied, connected, binding, domain_value, folded, PatternTrees, no_patterns, pattern_then, pattern_count}
 use Rattle.kore_text.specs.Grammar.{is_variable, is_foldable, is_associative, is_some}
 use Rattle.kore_print.specs.Reading.{unplaced_sorts, unplaced, unplaced_patterns}
 

@@ -1,9 +1,8 @@
--- What a reader of the contracts has to believe, lowest first.
+-- Believed: what public clauses say, and believed definitions of other crates.
 pub mod TokenText
 pub mod CanonicalText
--- What a definition of another crate cites.
 pub mod Reading
--- Laws.
+-- Laws: what follows from that. Each is a clause of a function that does nothing.
 pub mod PrintLaws
--- What only private functions cite.
+-- Private: what clauses of private functions cite, and how private fields are seen.
 pub mod Writing

@@ -1,8 +1,6 @@
 -- Which texts read as a pattern, but for places.
 use Rattle.std.specs.Prelude.{◌≡◌, ℕ, List}
-use Rattle.kore_text.specs.Trees.{SortTree, sort_parameter, sort_applied, SortTrees, no_sorts, sort_then}
-use Rattle.kore_text.specs.Trees.{PatternTree, element_variable, set_variable, string, symbol_applied, connected, binding, domain_value, folded}
-use Rattle.kore_text.specs.Trees.{PatternTrees, no_patterns, pattern_then}
+use Rattle.kore_text.specs.Trees.{SortTree, sort_parameter, sort_applied, SortTrees, no_sorts, sort_then, PatternTree, element_variable, set_variable, string, symbol_applied, connected, binding, domain_value, folded, PatternTrees, no_patterns, pattern_then}
 use Rattle.kore_ast.specs.KoreText.{ReadsPattern}
 
 -- the same tree with 0 for each place

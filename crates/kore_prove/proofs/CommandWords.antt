@@ -1,7 +1,8 @@
 -- Words of a command, one by one.
 use Rattle.std.proofs.Common.{◌≡◌, ℕ, ◌<◌, ◌≤◌, List, [], ◌∷◌, length, get_or, map, refl, sym, ◌∙◌, ap, subst, arith, IfNone, Option, Some, None}
 use Rattle.std.specs.Prelude.{codes, option_copied}
-use Rattle.kore_prove.specs.Words.{IsLimit, proof_words, IsRun, IsRunCommand, IsProofCommand, IsVerifyCommand, IsNoCommand, NamesCommand}
+use Rattle.kore_prove.specs.Words.{IsLimit, proof_words, IsRun, IsRunCommand, IsProofCommand, IsVerifyCommand, IsNoCommand}
+use Rattle.kore_prove.specs.Commands.{NamesCommand}
 use Rattle.kore_prove.specs.declared.words.Command.{Command}
 use Rattle.kore_prove.specs.declared.words.Command.TheVariants as command
 use Rattle.kore_prove.specs.declared.words.RunWords.{RunWords}

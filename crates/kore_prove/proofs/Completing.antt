@@ -1,5 +1,5 @@
 -- A call that can run, or verify, and that meets no fault prints a run or a verdict, unless memory is wanting.
-use Rattle.std.proofs.Common.{◌≡◌, ℕ, ◌<◌, ◌≤◌, ◌^◌, ◌⊎◌, inl, inr, List, [], ◌∷◌, length, codes, Option, None, Some, refl, sym, ◌∙◌, ap, subst, arith}
+use Rattle.std.proofs.Common.{◌≡◌, ℕ, ◌≤◌, ◌⊎◌, inl, inr, List, [], ◌∷◌, length, codes, Option, None, Some, refl, sym, ◌∙◌, ap, subst, arith}
 use Rattle.std.specs.List.{filter_map}
 use Rattle.desk_io.specs.Told.{Told, Holds, Lacks, HoldsMore, file_of}
 use Rattle.desk_io.specs.Counts.{Rose}
@@ -9,17 +9,16 @@ use Rattle.kore_ast.specs.KoreText.{ReadsDefinition, ReadsPattern}
 use Rattle.rule_core.specs.Rules.{RewriteRule}
 use Rattle.rule_core.specs.declared.rules.Program.{Program}
 use Rattle.rule_core.specs.declared.signature.Signature.{Signature}
-use Rattle.kore_prove.specs.Acceptance.{Each, IsRuleOf, IsAccepted, IsStartSort, IsAcceptedTerm, IsSymbolEntry, symbol_declared, axiom_declared, sort_number}
+use Rattle.kore_prove.specs.Acceptance.{Each, IsRuleOf, IsAccepted, IsStartSort, IsAcceptedTerm, axiom_declared, sort_number}
 use Rattle.kore_prove.specs.Runnable.{AcceptsTree}
 use Rattle.kore_prove.specs.Words.{proof_words, IsRunCommand, IsVerifyCommand, IsNoCommand}
 use Rattle.kore_prove.specs.Reports.{Ending, out_of_memory, bad_words, read_fault, write_fault, no_such_file, definition_refused, term_refused, too_large, end_code, Reports}
-use Rattle.kore_prove.specs.Causes.{Course, RunCause, Verification, VerifyCause, definition_limit, term_limit, database_limit}
+use Rattle.kore_prove.specs.Causes.{Course, RunCause, Verification, VerifyCause}
+use Rattle.kore_prove.specs.Limits.{definition_limit, term_limit, database_limit}
 use Rattle.kore_prove.specs.Readiness.{CanRun, CanVerify, IsReady, IsReadyToVerify}
 use Rattle.kore_prove.proofs.CommandWords.{one_file, not_both}
 use Rattle.kore_prove.proofs.Determined.{SameSignature, same_meaning, same_rule, one_rewriting, one_main}
-use Rattle.kore_prove.proofs.MainModule.{main-within}
-use Rattle.kore_prove.proofs.OneDefinition.{one_signature, few_entries}
-use Rattle.kore_prove.proofs.OpenBrackets.{modules-within}
+use Rattle.kore_prove.proofs.OneDefinition.{one_signature}
 
 -- two lists of rules that are stated alike have one sort, where there is a rule
 one_top : (sig other : Signature) (top top' : Option ℕ) → SameSignature sig other → (stated : List AxiomDeclaration) (rules rules' : List RewriteRule) → Each (IsRuleOf sig top) stated rules → Each (IsRuleOf other top') stated rules' → (rules' ≡ []) ⊎ (top ≡ top')
@@ -45,12 +44,6 @@ moved_term d sig top rules program tree start a b t =
         | inr one ↦ subst (λ (o : Option ℕ). IsStartSort o t.sort) one t.fits
       ];
     }
-
--- a program of a text within its limit has few symbols
-few_symbols : (bytes : List ℕ) (d : DefinitionTree) (program : Program) → length bytes ≤ definition_limit → ReadsDefinition bytes d → AcceptsTree d program → length program.sig.symbols < 2 ^ 32
-few_symbols bytes d program few reads b =
-    let within = main-within d b.accepted.declarations b.accepted.main (modules-within bytes d (omega arith) reads) in
-    few_entries symbol_declared (IsSymbolEntry program.sig.sorts) b.accepted.declarations program.sig.symbols b.accepted.symbols within.few
 
 -- a file has one content
 one_content : (told : Told) (name name' bytes bytes' : List ℕ) → name ≡ name' → Holds (Some told) name bytes → Holds (Some told) name' bytes' → bytes ≡ bytes'
@@ -81,37 +74,35 @@ no_cause : (words : List (List ℕ)) (told : Told) (r : CanRun words told) (c : 
 no_cause words told r c limit out_of_memory is command reads files writes h = refl
 no_cause words told r c limit bad_words is command reads files writes h = absurd h
 no_cause words told r c limit read_fault is command reads files writes h = absurd (reads h)
-no_cause words told r c limit write_fault is command reads files writes h = absurd (elim h [ inl out ↦ writes out | inr desk ↦ files desk.0 ])
+no_cause words told r c limit write_fault is command reads files writes h = absurd (elim h.0 [ inl out ↦ writes out | inr desk ↦ files desk ])
 no_cause words told r c limit (no_such_file name) is command reads files writes h =
     let names = one_command words r.definition r.term c.definition c.term r.limit limit r.command command in
-    let lacks : Lacks (Some told) name = subst (λ (o : Option Told). Lacks o name) is h.1 in
-    absurd (elim h.0 [
-      | inl one ↦ not_lacking told r.definition name r.definition_bytes (names.0 ∙ sym one) r.definition_held lacks
-      | inr one ↦ not_lacking told r.term name r.term_bytes (names.1 ∙ sym one) r.term_held lacks
+    absurd (elim h [
+      | inl one ↦ not_lacking told r.definition name r.definition_bytes (names.0 ∙ sym one.0) r.definition_held (subst (λ (o : Option Told). Lacks o name) is one.1)
+      | inr one ↦ not_lacking told r.term name r.term_bytes (names.1 ∙ sym one.0) r.term_held (subst (λ (o : Option Told). Lacks o name) is one.2)
     ])
 no_cause words told r c limit (definition_refused number byte) is command reads files writes h =
     let names = one_command words r.definition r.term c.definition c.term r.limit limit r.command command in
-    let held : Holds (Some told) c.definition h.0 = subst (λ (o : Option Told). Holds o c.definition h.0) is h.1 in
+    let held : Holds (Some told) c.definition h.0 = subst (λ (o : Option Told). Holds o c.definition h.0) is h.1.0 in
     let same = one_content told r.definition c.definition r.definition_bytes h.0 names.0 r.definition_held held in
     absurd (h.2.1 r.tree r.sig r.top r.rules (subst (λ (bytes : List ℕ). ReadsDefinition bytes r.tree) same r.reads) r.accepted)
 no_cause words told r c limit (term_refused number byte) is command reads files writes h =
     let names = one_command words r.definition r.term c.definition c.term r.limit limit r.command command in
     let program = h.0 in
     let found = h.1 in
-    let held : Holds (Some told) c.definition found.0 = subst (λ (o : Option Told). Holds o c.definition found.0) is found.1 in
+    let held : Holds (Some told) c.definition found.0 = subst (λ (o : Option Told). Holds o c.definition found.0) is found.1.0 in
     let same = one_content told r.definition c.definition r.definition_bytes found.0 names.0 r.definition_held held in
     let of = found.2 in
     let tree = of.3 r.tree (subst (λ (bytes : List ℕ). ReadsDefinition bytes r.tree) same r.reads) in
     let accepted = subst (λ (d : DefinitionTree). IsAccepted d r.sig r.top r.rules) tree r.accepted in
-    let term_held : Holds (Some told) c.term h.2 = subst (λ (o : Option Told). Holds o c.term h.2) is h.3 in
+    let term_held : Holds (Some told) c.term h.2 = subst (λ (o : Option Told). Holds o c.term h.2) is h.3.0 in
     let same_term = one_content told r.term c.term r.term_bytes h.2 names.1 r.term_held term_held in
-    let few = few_symbols found.0 of.0 program (subst (λ (bytes : List ℕ). length bytes ≤ definition_limit) same r.definition_within) of.1 of.2 in
-    absurd (h.4.1 few r.term_tree r.start (subst (λ (bytes : List ℕ). ReadsPattern bytes r.term_tree) same_term r.reads_term) (moved_term of.0 r.sig r.top r.rules program r.term_tree r.start accepted of.2 r.accepted_term))
+    absurd (h.4.1 r.term_tree r.start (subst (λ (bytes : List ℕ). ReadsPattern bytes r.term_tree) same_term r.reads_term) (moved_term of.0 r.sig r.top r.rules program r.term_tree r.start accepted of.2 r.accepted_term))
 no_cause words told r c limit (too_large name) is command reads files writes h =
     let names = one_command words r.definition r.term c.definition c.term r.limit limit r.command command in
     absurd (elim h [
       | inl big ↦ not_more told r.definition name r.definition_bytes definition_limit (names.0 ∙ sym big.0) r.definition_held r.definition_within (subst (λ (o : Option Told). HoldsMore o name definition_limit) is big.1)
-      | inr big ↦ not_more told r.term name r.term_bytes term_limit (names.1 ∙ sym big.0) r.term_held r.term_within (subst (λ (o : Option Told). HoldsMore o name term_limit) is big.1)
+      | inr big ↦ not_more told r.term name r.term_bytes term_limit (names.1 ∙ sym big.0) r.term_held r.term_within (subst (λ (o : Option Told). HoldsMore o name term_limit) is big.2)
     ])
 
 code_of : (e : Ending) (before after : Option (List ℕ)) (old new code : ℕ) → Reports e before after old new code → end_code e ≡ 1 → code ≡ 1
@@ -134,7 +125,7 @@ no_verify_cause : (words : List (List ℕ)) (told : Told) (r : CanVerify words t
 no_verify_cause words told r v out_of_memory is command reads writes h = refl
 no_verify_cause words told r v bad_words is command reads writes h = absurd h
 no_verify_cause words told r v read_fault is command reads writes h = absurd (reads h)
-no_verify_cause words told r v write_fault is command reads writes h = absurd (writes h)
+no_verify_cause words told r v write_fault is command reads writes h = absurd (writes h.0)
 no_verify_cause words told r v (no_such_file name) is command reads writes h =
     let same = one_file words r.file v.file r.command command ∙ sym h.0 in
     absurd (not_lacking told r.file name r.bytes same r.held (subst (λ (o : Option Told). Lacks o name) is h.1))

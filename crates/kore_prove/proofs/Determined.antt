@@ -2,9 +2,7 @@
 use Rattle.std.proofs.Common.{◌≡◌, ℕ, ◌+◌, ◌≤◌, List, [], ◌∷◌, length, Option, Some, None, cond, option_map, slice_get, refl, sym, ◌∙◌, ap, subst, arith, zero, suc}
 use Rattle.std.specs.List.{filter_map, position_from}
 use Rattle.std.specs.Str.{bytes_eq}
-use Rattle.kore_text.specs.Trees.{SortTree, sort_applied, no_sorts, sort_trees}
-use Rattle.kore_text.specs.Trees.{PatternTree, element_variable, set_variable, string, symbol_applied, connected, binding, domain_value, folded, PatternTrees, no_patterns, pattern_then, pattern_trees}
-use Rattle.kore_text.specs.Trees.{SortDeclaration, SymbolDeclaration, AxiomDeclaration, Declaration, ModuleTree, DefinitionTree}
+use Rattle.kore_text.specs.Trees.{SortTree, sort_applied, no_sorts, sort_trees, PatternTree, element_variable, set_variable, string, symbol_applied, connected, binding, domain_value, folded, PatternTrees, no_patterns, pattern_then, pattern_trees, SortDeclaration, SymbolDeclaration, AxiomDeclaration, Declaration, ModuleTree, DefinitionTree}
 use Rattle.kore_text.specs.declared.names.Op.TheVariants.{And, Rewrites}
 use Rattle.term_core.specs.declared.ids.SortId.{SortId}
 use Rattle.term_core.specs.Patterns.{Pattern, Patterns}

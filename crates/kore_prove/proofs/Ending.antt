@@ -4,14 +4,15 @@ use Rattle.desk_io.specs.Told.{Told, Holds, Lacks, HoldsMore, KeepsFiles}
 use Rattle.desk_io.specs.Sent.{SameBytes}
 use Rattle.desk_io.specs.declared.read.ReadEnd.TheVariants as read
 use Rattle.desk_io.proofs.Counts.{Rose-later}
-use Rattle.kore_prove.specs.Refusals.{AtNumber}
+use Rattle.kore_prove.specs.RefusedAnswers.{AtNumber}
 use Rattle.kore_prove.specs.declared.accept.Refusal.{Refusal}
 use Rattle.kore_prove.specs.declared.accept.Refusal.TheVariants as refusal
 use Rattle.kore_prove.specs.declared.files.FileEnd.{FileEnd}
 use Rattle.kore_prove.specs.declared.files.FileEnd.TheVariants as file
+use Rattle.kore_prove.specs.Limits.{HoldsWithin}
 use Rattle.kore_prove.specs.PrintedRun.{PrintsRun, IsCodeOfRun}
 use Rattle.kore_prove.specs.Reports.{Ending, out_of_memory, bad_words, read_fault, write_fault, no_such_file, definition_refused, term_refused, too_large, end_code, Reports}
-use Rattle.kore_prove.specs.Causes.{FileCause}
+use Rattle.kore_prove.specs.FileCauses.{FileCause}
 
 pub same_bytes : (told : Option (List ℕ)) → SameBytes told told
 same_bytes None = tt
@@ -43,8 +44,7 @@ code_of_run words code (inr zero) = inl zero.0
 -- a call that reports an end claims no printed run
 pub prints_no_run : (words : List (List ℕ)) (told : Option Told) (output output' : Option (List ℕ)) (e : Ending) (before after : Option (List ℕ)) (old new code : ℕ) → Reports e before after old new code → PrintsRun words told output output' code
 prints_no_run words None output output' e before after old new code r = tt
-prints_no_run words (Some told) None output' e before after old new code r = tt
-prints_no_run words (Some told) (Some bytes) output' e before after old new code r = λ h. absurd (code_of_no_end e before after old new code r (code_of_run words code h))
+prints_no_run words (Some told) output output' e before after old new code r = λ h. absurd (code_of_no_end e before after old new code r (code_of_run words code h))
 
 kept_holds : (told told' : Option Told) (name bytes : List ℕ) → KeepsFiles told told' → Holds told' name bytes → Holds told name bytes
 kept_holds None told' name bytes kept h = tt
@@ -66,10 +66,10 @@ FileCause-kept IsWhy told told' name limit a b c (file.Unread read.NoFile) kept 
 FileCause-kept IsWhy told told' name limit a b c (file.Unread read.Failed) kept le h = Rose-later a b c le h
 FileCause-kept IsWhy told told' name limit a b c (file.Unread read.TooLarge) kept le h = kept_more told told' name limit kept h
 FileCause-kept IsWhy told told' name limit a b c (file.Unread read.Memory) kept le h = tt
-FileCause-kept IsWhy told told' name limit a b c (file.Refused (refusal.Refused number byte)) kept le h = (h.0, kept_holds told told' name h.0 kept h.1, h.2)
+FileCause-kept IsWhy told told' name limit a b c (file.Refused (refusal.Refused number byte)) kept le h = (h.0, (kept_holds told told' name h.0 kept h.1.0, h.1.1), h.2)
 FileCause-kept IsWhy told told' name limit a b c (file.Refused refusal.Memory) kept le h = tt
 
 -- bytes that are refused are the cause of an end
-pub refused_cause : (IsWhy : List ℕ → ℕ → ℕ → Type 0) (told : Option Told) (name : List ℕ) (limit a b : ℕ) (r : Refusal) (bytes : List ℕ) → Holds told name bytes → AtNumber r (IsWhy bytes) → FileCause IsWhy told name limit a b (file.Refused r)
+pub refused_cause : (IsWhy : List ℕ → ℕ → ℕ → Type 0) (told : Option Told) (name : List ℕ) (limit a b : ℕ) (r : Refusal) (bytes : List ℕ) → HoldsWithin told name limit bytes → AtNumber r (IsWhy bytes) → FileCause IsWhy told name limit a b (file.Refused r)
 refused_cause IsWhy told name limit a b (refusal.Refused number byte) bytes held at = (bytes, held, at)
 refused_cause IsWhy told name limit a b refusal.Memory bytes held at = tt

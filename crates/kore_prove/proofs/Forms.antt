@@ -1,8 +1,7 @@
 -- The form of a pattern or a sort, by its tree.
 use Rattle.std.proofs.Common.{◌≡◌, ℕ, List, [], ◌∷◌, map, ◌∙◌, ap, sym, refl}
 use Rattle.std.specs.Global.{Vec}
-use Rattle.kore_text.specs.Trees.{SortTree, SortTrees, sort_parameter, sort_applied, no_sorts, sort_trees}
-use Rattle.kore_text.specs.Trees.{PatternTree, PatternTrees, element_variable, set_variable, string, symbol_applied, connected, binding, domain_value, folded, no_patterns, pattern_trees}
+use Rattle.kore_text.specs.Trees.{SortTree, SortTrees, sort_parameter, sort_applied, no_sorts, sort_trees, PatternTree, PatternTrees, element_variable, set_variable, string, symbol_applied, connected, binding, domain_value, folded, no_patterns, pattern_trees}
 use Rattle.kore_ast.specs.Plain.{plain_sort, sort_form_step, sort_step, plain_pattern, pattern_form_step, pattern_step}
 use Rattle.kore_text.specs.declared.names.Op.{Op}
 use Rattle.kore_ast.specs.declared.tree.Sort.{Sort}

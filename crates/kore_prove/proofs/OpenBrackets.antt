@@ -9,11 +9,8 @@ use Rattle.kore_text.specs.TokenStream.{Token, identifier, set_identifier, built
 use Rattle.kore_text.specs.Left.{size}
 use Rattle.kore_lex.proofs.EachToken.{tokens-few as each-few}
 use Rattle.kore_text.proofs.Named.{tokens-few}
-use Rattle.kore_text.specs.Trees.{SortTree, sort_parameter, sort_applied, SortTrees, no_sorts, sort_then, sort_count}
-use Rattle.kore_text.specs.Trees.{PatternTree, element_variable, set_variable, string, symbol_applied, connected, binding, domain_value, folded, PatternTrees, no_patterns, pattern_then, pattern_count}
-use Rattle.kore_text.specs.Trees.{AliasDeclaration, AxiomDeclaration, Declaration, import_declaration, sort_declaration, symbol_declaration, alias_declaration, axiom_declaration, claim_declaration, ModuleTree, DefinitionTree}
-use Rattle.kore_text.specs.Grammar.{Want, placed, any, given, Spelling, listed, more_listed, in_order, takes, binder_sorts, binds_sets, is_variable, is_foldable, Takes}
-use Rattle.kore_text.specs.Grammar.{spell_name, spell_names, spell_sort, spell_sorts, spell_variable, spell_applied, spell_pattern, spell_patterns, spell_attributes, spell_signature, sort_word, symbol_word, spell_statement, spell_declaration, spell_module, spell_definition}
+use Rattle.kore_text.specs.Trees.{SortTree, sort_parameter, sort_applied, SortTrees, no_sorts, sort_then, sort_count, PatternTree, element_variable, set_variable, string, symbol_applied, connected, binding, domain_value, folded, PatternTrees, no_patterns, pattern_then, pattern_count, AliasDeclaration, AxiomDeclaration, Declaration, import_declaration, sort_declaration, symbol_declaration, alias_declaration, axiom_declaration, claim_declaration, ModuleTree, DefinitionTree}
+use Rattle.kore_text.specs.Grammar.{Want, placed, any, given, Spelling, listed, more_listed, in_order, takes, binder_sorts, binds_sets, is_variable, is_foldable, Takes, spell_name, spell_names, spell_sort, spell_sorts, spell_variable, spell_applied, spell_pattern, spell_patterns, spell_attributes, spell_signature, sort_word, symbol_word, spell_statement, spell_declaration, spell_module, spell_definition}
 use Rattle.kore_text.specs.Faults.{opened, IsShallow as IsShallowText}
 use Rattle.kore_ast.specs.KoreText.{ReadsPattern, ReadsDefinition}
 use Rattle.kore_prove.specs.Nesting.{nesting, nestings, IsShallow, IsWithinLimits}

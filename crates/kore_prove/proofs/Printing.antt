@@ -11,12 +11,13 @@ use Rattle.rule_core.specs.declared.rules.Program.{Program}
 use Rattle.rule_core.specs.ProgramView.{rewrite_rules}
 use Rattle.rule_core.proofs.Reordered.{IsRunOf-reordered}
 use Rattle.kore_prove.specs.Words.{IsRunCommand}
-use Rattle.kore_prove.specs.Lines.{run_of, last_of, ReadsBack}
+use Rattle.kore_prove.specs.Outcomes.{run_of, HasLines, PrintsRunOf}
+use Rattle.kore_prove.specs.Lines.{last_of, ReadsBack}
 use Rattle.kore_prove.specs.Acceptance.{sort_number}
 use Rattle.kore_prove.specs.Files.{HoldsProgram, HoldsStart}
 use Rattle.kore_prove.specs.Names.{HasIdentifierNames}
 use Rattle.kore_prove.proofs.ReadableTerms.{shown-reads_back}
-use Rattle.kore_prove.specs.PrintedRun.{HasLines, IsPrintedRun, PrintsRunOf, PrintsRun, code_of}
+use Rattle.kore_prove.specs.PrintedRun.{IsPrintedRun, PrintsRun, code_of}
 
 -- the last configuration of a run that ended so
 pub last_is : (outcome : Outcome) (t : Tree) → last_of (run_of outcome t) ≡ t
@@ -28,7 +29,8 @@ printed_run : ReadableReadsBack → (told : Told) (definition_name term_name : L
     → HoldsStart (Some told) term_name program start → (h : HasLines program start limit outcome lines) → IsPrintedRun definition_name term_name limit told lines (run_of outcome h.last)
 printed_run read told definition_name term_name limit program start outcome lines p names s h = record {
   definition_bytes = p.0;
-  definition_file = p.1;
+  definition_file = p.1.0;
+  definition_within = p.1.1;
   definition = p.2.0;
   reads_definition = p.2.1;
   signature = program.sig;
@@ -36,7 +38,8 @@ printed_run read told definition_name term_name limit program start outcome line
   rules = p.2.2.rules;
   accepted = p.2.2.accepted;
   term_bytes = s.0;
-  term_file = s.1;
+  term_file = s.1.0;
+  term_within = s.1.1;
   term = s.2.0;
   reads_term = s.2.1;
   start_pattern = start;
@@ -58,12 +61,10 @@ pub prints_run_of : ReadableReadsBack → (told told' : Option Told) (definition
     → HoldsProgram told definition_name program → HasIdentifierNames program.sig → KeepsFiles told told' → HoldsStart told' term_name program start → HasLines program start limit outcome lines → Appends before after lines
     → PrintsRunOf definition_name term_name limit told before after outcome
 prints_run_of read None told' dn tn limit program start outcome lines before after p names kept s h appended = tt
-prints_run_of read (Some told) told' dn tn limit program start outcome lines None after p names kept s h appended = tt
-prints_run_of read (Some told) told' dn tn limit program start outcome lines (Some before) after p names kept s h appended =
+prints_run_of read (Some told) told' dn tn limit program start outcome lines before after p names kept s h appended =
     (lines, h.last, appended, printed_run read told dn tn limit program start outcome lines p names (kept_start told told' tn program start kept s) h)
 
 pub prints_run : (words : List (List ℕ)) (told : Option Told) (before after : Option (List ℕ)) (dn tn : List ℕ) (limit : ℕ) (outcome : Outcome) (code : ℕ) → IsRunCommand words dn tn limit
     → PrintsRunOf dn tn limit told before after outcome → ((t : Tree) → code ≡ code_of (run_of outcome t)) → PrintsRun words told before after code
 prints_run words None before after dn tn limit outcome code command p is = tt
-prints_run words (Some told) None after dn tn limit outcome code command p is = tt
-prints_run words (Some told) (Some before) after dn tn limit outcome code command p is = λ _. (dn, tn, limit, p.0, run_of outcome p.1, command, p.3, p.2, is p.1)
+prints_run words (Some told) before after dn tn limit outcome code command p is = λ _. (dn, tn, limit, p.0, run_of outcome p.1, command, p.3, p.2, is p.1)

@@ -15,7 +15,7 @@ use Rattle.mm_justify.specs.Justifying.{Justifies}
 use Rattle.prove_run.specs.RunProof.{RunProof}
 use Rattle.prove_run.specs.Proving.{AreGroundAt, Begins, IsAtRule, IsJustified, StepsBy}
 use Rattle.kore_prove.specs.Provable.{IsBuiltOf, AreBuiltOf, IsProvableRule, IsProvable}
-use Rattle.kore_prove.specs.Runnable.{LeadsBy}
+use Rattle.kore_prove.specs.Steps.{LeadsBy}
 
 -- such a pattern has an image
 mutual

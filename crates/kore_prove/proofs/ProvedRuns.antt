@@ -3,13 +3,12 @@ use Rattle.std.proofs.Common.{◌≡◌, ◌≢◌, ℕ, ◌⊎◌, inl, inr, Li
 use Rattle.desk_io.specs.Told.{Told, KeepsFiles, Same, TellsCreated, Creates, Writes, WritesFront, Closes, PutsFile, file_of}
 use Rattle.desk_io.specs.Sent.{Appends}
 use Rattle.term_core.specs.Terms.{Tree}
-use Rattle.term_core.specs.Patterns.{Pattern}
+use Rattle.term_core.specs.Patterns.{Pattern, ground_pattern}
 use Rattle.rule_core.specs.declared.rules.Outcome.{Outcome}
 use Rattle.rule_core.specs.declared.rules.Program.{Program}
 use Rattle.mm_justify.specs.Justifying.{Justifies}
-use Rattle.term_core.specs.Patterns.{ground_pattern}
 use Rattle.kore_prove.specs.Words.{IsRun, IsVerifyCommand}
-use Rattle.kore_prove.specs.Lines.{run_of}
+use Rattle.kore_prove.specs.Outcomes.{run_of}
 use Rattle.kore_prove.specs.Files.{HoldsProgram, HoldsStart}
 use Rattle.kore_prove.specs.PrintedRun.{code_of}
 use Rattle.kore_prove.specs.Reports.{Ending, out_of_memory, bad_words, read_fault, write_fault, no_such_file, definition_refused, term_refused, too_large, end_code, Reports}
@@ -17,11 +16,14 @@ use Rattle.std.proofs.lemmas.List.{append-nil}
 use Rattle.desk_io.specs.Counts.{Rose}
 use Rattle.desk_io.specs.declared.desk.DeskFault.{DeskFault}
 use Rattle.desk_io.specs.declared.desk.DeskFault.TheVariants as fault
-use Rattle.kore_prove.specs.Causes.{Course, HasRun, RunCause, Grows, KeepsOutput, KeepsFilesAt, IsUnwritten, fault_end}
-use Rattle.kore_prove.specs.ProvedRun.{Tells, TellsNow, HasProof, HasWantedProof, IsProvedRun, ProvesRunOf, ProvesRun, KeepsOthers, IsWanted}
+use Rattle.kore_prove.specs.Causes.{Course, HasRun, RunCause, Grows, KeepsOutput, IsUnwritten}
+use Rattle.kore_prove.specs.FileCauses.{KeepsFilesAt}
+use Rattle.kore_prove.specs.PlainEnds.{fault_end}
+use Rattle.kore_prove.specs.ProvedRun.{Tells, IsProvedRun, ProvesRun, KeepsOthers}
+use Rattle.kore_prove.specs.WantedProofs.{TellsNow, HasProof, HasWantedProof, ProvesRunOf, IsWanted}
 use Rattle.kore_prove.specs.ProofFiles.{PutsCreated, KeepsOthersNow}
 use Rattle.kore_prove.specs.declared.verification.Verdict.{Verdict}
-use Rattle.kore_prove.specs.Verdicts.{verdict_code}
+use Rattle.kore_prove.specs.DatabaseVerdicts.{verdict_code}
 use Rattle.kore_prove.proofs.CommandWords.{one_proof}
 use Rattle.kore_prove.proofs.Ending.{code_of_no_end, code_of_run}
 use Rattle.kore_prove.proofs.Verifying.{code_of_verdict}
@@ -130,9 +132,9 @@ kept_then (Some old) between new h k =
     (q.0, q.1)
 
 -- what could not be written has its cause
-pub write_cause : (c : Course) (f : DeskFault) → (f ≡ fault.Failed → Rose c.writes c.writes' ⊎ (Rose c.files c.files' × HasRun c)) → RunCause c (fault_end f)
-write_cause c fault.Failed h = h refl
-write_cause c fault.Memory h = tt
+pub write_cause : (c : Course) (f : DeskFault) → HasRun c → (f ≡ fault.Failed → Rose c.writes c.writes' ⊎ Rose c.files c.files') → RunCause c (fault_end f)
+write_cause c fault.Failed run h = (h refl, run)
+write_cause c fault.Memory run h = tt
 
 pub write_files : (f : DeskFault) (old new : Option Told) → KeepsFilesAt (fault_end f) old new
 write_files fault.Failed old new = tt
@@ -148,7 +150,7 @@ same_grows (Some bytes) = ([], ap (λ (bs : List ℕ). Some bs) (sym (append-nil
 
 -- the start that the second file holds, as the first desk tells it
 pub start_kept : (told read : Option Told) (name : List ℕ) (program : Program) (start : Pattern) → KeepsFiles told read → HoldsStart read name program start → HoldsStart told name program start
-start_kept None read name program start kept s = (s.0, tt, s.2)
+start_kept None read name program start kept s = (s.0, (tt, s.1.1), s.2)
 start_kept (Some told) read name program start kept s = kept_start told read name program start kept s
 
 -- The created file of a desk, from its creation to its end.

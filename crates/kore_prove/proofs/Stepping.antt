@@ -12,7 +12,8 @@ use Rattle.rule_core.specs.ProgramView.{rewrite_rule, rewrite_rules}
 use Rattle.rule_core.specs.declared.rules.Rule.{Rule}
 use Rattle.rule_core.specs.declared.signature.SymInfo.{SymInfo}
 use Rattle.rule_core.proofs.Trials.{rule_at, first_rule, mapped}
-use Rattle.kore_prove.specs.Runnable.{IsShowable, IsShown, IsRunnable, LeadsBy}
+use Rattle.kore_prove.specs.Runnable.{IsShowable, IsShown, IsRunnable}
+use Rattle.kore_prove.specs.Steps.{LeadsBy}
 
 -- what is known of the rule that was found: its place, what it is, and that its substitution is empty
 pub record Found (rules : List Rule) (t : Tree) (i : ℕ) (theta : List (Option Tree)) (symbols : List (List ℕ × SymInfo)) (r : Rule) : Type 0 where

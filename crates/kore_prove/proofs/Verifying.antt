@@ -6,16 +6,18 @@ use Rattle.mm_text.specs.Statements.{statements_of}
 use Rattle.mm_text.specs.declared.fault.MmFault.{MmFault}
 use Rattle.mm_database.specs.Database.{empty_context}
 use Rattle.mm_database.specs.Assertions.{axiom_count}
-use Rattle.mm_database.specs.Validity.{IsFirstFault, first_fault}
+use Rattle.mm_database.specs.Validity.{IsFirstFault}
 use Rattle.mm_database.proofs.Faults.{valid_faultless, computed-IsFirstFaultIn}
 use Rattle.kore_prove.specs.declared.verification.Verdict.{Verdict}
 use Rattle.kore_prove.specs.declared.verification.Verdict.TheVariants as verdict
 use Rattle.kore_prove.specs.Words.{IsRunCommand, IsVerifyCommand}
 use Rattle.kore_prove.specs.PrintedRun.{PrintsRun}
 use Rattle.kore_prove.specs.Reports.{Ending, Reports}
-use Rattle.kore_prove.specs.Verdicts.{IsInvalidBy, HoldsDatabase, SaysValid, SaysInvalid, PrintsVerdictOn, PrintsVerdict, verdict_line, verdict_code, valid_line}
+use Rattle.kore_prove.specs.DatabaseVerdicts.{IsInvalidBy, HoldsDatabase, PrintsVerdictOn, verdict_line, verdict_code}
+use Rattle.kore_prove.specs.Verdicts.{SaysValid, SaysInvalid, PrintsVerdict, valid_line}
 use Rattle.kore_prove.proofs.CommandWords.{one_file, not_both}
 use Rattle.kore_prove.proofs.Ending.{code_of_no_end}
+use Rattle.mm_database.specs.ComputedFault.{first_fault}
 
 -- bytes with a first fault are no valid database
 pub invalid_by : (bytes : List ℕ) (f : MmFault) → IsFirstFault bytes f → IsInvalidBy bytes f
@@ -32,12 +34,13 @@ pub prints_verdict_on : (told : Option Told) (file : List ℕ) (before after : O
 prints_verdict_on None file before after v h line = tt
 prints_verdict_on (Some told) file before after (verdict.Valid report) h line = record {
   bytes = h.0;
-  held = h.1;
+  held = h.1.0;
+  within = h.1.1;
   valid = h.2.0;
   line = subst (λ (n : ℕ). Appends before after (valid_line (axiom_count h.0) n)) h.2.2 (subst (λ (n : ℕ). Appends before after (valid_line n report.theorems)) h.2.1 line);
 }
 prints_verdict_on (Some told) file before after (verdict.Invalid fault) h line =
-    record { bytes = h.0; held = h.1; not_valid = h.2.not_valid; fault = fault; first = h.2.first; line = line }
+    record { bytes = h.0; held = h.1.0; within = h.1.1; not_valid = h.2.not_valid; fault = fault; first = h.2.first; line = line }
 
 -- the exit code of a verdict
 pub code_of_verdict : (v : Verdict) (code : ℕ) → code ≡ verdict_code v → (code ≡ 0) ⊎ (code ≡ 12)
@@ -71,8 +74,7 @@ prints_no_verdict words (Some told) output output' e before after old new code r
 -- a call that gives a verdict claims no printed run
 pub verdict_no_run : (words : List (List ℕ)) (told : Option Told) (before after : Option (List ℕ)) (file : List ℕ) (v : Verdict) (code : ℕ) → IsVerifyCommand words file → code ≡ verdict_code v → PrintsRun words told before after code
 verdict_no_run words None before after file v code command is = tt
-verdict_no_run words (Some told) None after file v code command is = tt
-verdict_no_run words (Some told) (Some bytes) after file v code command is = λ h. absurd (elim h [
+verdict_no_run words (Some told) before after file v code command is = λ h. absurd (elim h [
   | inl ten ↦ elim (code_of_verdict v code is) [ inl zero ↦ omega (arith, ten, zero) | inr twelve ↦ omega (arith, ten, twelve) ]
   | inr zero ↦ zero.1 file command
 ])

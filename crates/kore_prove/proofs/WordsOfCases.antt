@@ -4,7 +4,8 @@ use Rattle.std.specs.Bool.{OnTrue}
 use Rattle.std.specs.Prelude.{Result, Ok, Err}
 use Rattle.kore_prove.specs.declared.accept.Refusal.{Refusal}
 use Rattle.kore_prove.specs.declared.accept.Refusal.TheVariants.{Refused, Memory}
-use Rattle.kore_prove.specs.Refusals.{AtRefusal, OnRefused, AtNumber, OnNumber, IsRefusal, refused_by}
+use Rattle.kore_prove.specs.RefusedAnswers.{AtRefusal, OnRefused, AtNumber, OnNumber, refused_by}
+use Rattle.kore_prove.specs.Refusals.{IsRefusal}
 use Rattle.kore_prove.specs.Causes.{IsNoDefinition, IsNoTermOf}
 use Rattle.kore_ast.specs.declared.tree.ReadFault.{ReadFault}
 use Rattle.kore_ast.specs.declared.tree.ReadFault.TheVariants as read_fault
@@ -61,4 +62,4 @@ pub no_definition : DefinitionHasNoFault → (bytes : List ℕ) (f : TextFault) 
 no_definition law bytes f h d sig top stated reads is = law bytes f (spelled_definition bytes d reads) h
 
 pub no_term : PatternHasNoFault → (program : Program) (bytes : List ℕ) (f : TextFault) → IsFirstFault IsPattern 0 (tokens_of bytes) (Some f) → IsNoTermOf program bytes
-no_term law program bytes f h few tree start reads is = law bytes f (spelled_pattern bytes tree reads) h
+no_term law program bytes f h tree start reads is = law bytes f (spelled_pattern bytes tree reads) h

@@ -3,9 +3,7 @@ use Rattle.std.specs.Prelude.{◌≡◌, ◌≤◌, ℕ, List, [], ◌∷◌, le
 use Rattle.std.specs.List.{filter_map}
 use Rattle.term_core.specs.declared.ids.SortId.{SortId}
 use Rattle.term_core.specs.Patterns.{Pattern, Patterns, application, no_pattern, more_patterns}
-use Rattle.kore_text.specs.Trees.{SortTree, sort_applied, no_sorts, sort_trees}
-use Rattle.kore_text.specs.Trees.{PatternTree, PatternTrees, element_variable, set_variable, string, symbol_applied, connected, binding, domain_value, folded, no_patterns, pattern_then, pattern_trees}
-use Rattle.kore_text.specs.Trees.{SortDeclaration, SymbolDeclaration, AxiomDeclaration, Declaration, import_declaration, sort_declaration, symbol_declaration, alias_declaration, axiom_declaration, claim_declaration, ModuleTree, DefinitionTree}
+use Rattle.kore_text.specs.Trees.{SortTree, sort_applied, no_sorts, sort_trees, PatternTree, PatternTrees, element_variable, set_variable, string, symbol_applied, connected, binding, domain_value, folded, no_patterns, pattern_then, pattern_trees, SortDeclaration, SymbolDeclaration, AxiomDeclaration, Declaration, import_declaration, sort_declaration, symbol_declaration, alias_declaration, axiom_declaration, claim_declaration, ModuleTree, DefinitionTree}
 use Rattle.kore_text.specs.declared.names.Op.TheVariants.{And, Top, Rewrites}
 use Rattle.rule_core.specs.Named.{number_of, names_of, AreDistinct}
 use Rattle.rule_core.specs.Rules.{RewriteRule}
@@ -110,6 +108,9 @@ pub record IsSymbolEntry (sorts : List (List ℕ × SortInfo)) (d : SymbolDeclar
   pub attributes : IsConstructorAlone d.attributes
   pub name : entry.0 ≡ d.name
   pub kind : entry.1.kind ≡ Ctor
+  pub sort_parameters : entry.1.params ≡ 0
+  pub hook : entry.1.hook ≡ None
+  pub ac : entry.1.ac ≡ false
   pub args : Each (NamesSortOf sorts) d.args entry.1.args.items
   pub result : NamesSortOf sorts d.result entry.1.result
 

@@ -1,21 +1,15 @@
 -- The cause of each end of a call that prints no run. Of a desk that tells nothing only its counts speak.
-use Rattle.std.specs.Prelude.{◌≡◌, ◌≢◌, ℕ, ◌<◌, ◌^◌, length, ◌⊎◌, List, ◌++◌, Option, None, Some}
-use Rattle.desk_io.specs.Told.{Told, Holds, Lacks, HoldsMore, KeepsFiles}
+use Rattle.std.specs.Prelude.{◌≡◌, ◌≢◌, ℕ, ◌⊎◌, List, ◌++◌, Option, None, Some}
+use Rattle.desk_io.specs.Told.{Told, Lacks, HoldsMore}
 use Rattle.desk_io.specs.Sent.{SameBytes}
 use Rattle.desk_io.specs.Counts.{Rose}
-use Rattle.desk_io.specs.declared.desk.DeskFault.{DeskFault}
-use Rattle.desk_io.specs.declared.desk.DeskFault.TheVariants as fault
-use Rattle.desk_io.specs.declared.read.ReadEnd.{ReadEnd}
-use Rattle.desk_io.specs.declared.read.ReadEnd.TheVariants as read
 use Rattle.term_core.specs.Patterns.{Pattern}
 use Rattle.kore_text.specs.Trees.{PatternTree, DefinitionTree}
 use Rattle.kore_ast.specs.KoreText.{ReadsPattern, ReadsDefinition}
 use Rattle.rule_core.specs.Rules.{RewriteRule}
 use Rattle.rule_core.specs.declared.rules.Program.{Program}
 use Rattle.rule_core.specs.declared.signature.Signature.{Signature}
-use Rattle.kore_prove.specs.declared.accept.Refusal.TheVariants as refusal
-use Rattle.kore_prove.specs.declared.files.FileEnd.{FileEnd}
-use Rattle.kore_prove.specs.declared.files.FileEnd.TheVariants as file
+use Rattle.kore_prove.specs.Limits.{HoldsWithin, definition_limit, term_limit, database_limit}
 use Rattle.kore_prove.specs.Acceptance.{IsAccepted, IsAcceptedTerm, sort_number}
 use Rattle.kore_text.specs.Faults.{IsDefinition, IsPattern}
 use Rattle.kore_prove.specs.Refusals.{IsRefusal}
@@ -23,25 +17,15 @@ use Rattle.kore_prove.specs.Files.{HoldsProgram, HoldsStart}
 use Rattle.kore_prove.specs.Words.{IsRunCommand, IsVerifyCommand, IsNoCommand}
 use Rattle.kore_prove.specs.Reports.{Ending, out_of_memory, bad_words, read_fault, write_fault, no_such_file, definition_refused, term_refused, too_large, Reports}
 
--- the greatest numbers of bytes of a definition, of a term and of a database
-abbrev pub definition_limit : ℕ
-definition_limit = 33554432
-
-abbrev pub term_limit : ℕ
-term_limit = 1048576
-
-abbrev pub database_limit : ℕ
-database_limit = 268435456
-
 -- no definition that the bytes spell is accepted
 abbrev pub IsNoDefinition : List ℕ → Type 0
 IsNoDefinition bytes =
     (definition : DefinitionTree) (sig : Signature) (top : Option ℕ) (rules : List RewriteRule) → ReadsDefinition bytes definition → IsAccepted definition sig top rules → ⊥
 
--- no pattern that the bytes spell is accepted as a term of the program, which has fewer than 2^32 symbols
+-- no pattern that the bytes spell is accepted as a term of the program
 abbrev pub IsNoTermOf : Program → List ℕ → Type 0
 IsNoTermOf program bytes =
-    length program.sig.symbols < 2 ^ 32 → (tree : PatternTree) (start : Pattern) → ReadsPattern bytes tree → IsAcceptedTerm program.sig (sort_number program.top) tree start → ⊥
+    (tree : PatternTree) (start : Pattern) → ReadsPattern bytes tree → IsAcceptedTerm program.sig (sort_number program.top) tree start → ⊥
 
 -- the bytes are refused so as a definition, or as a term of the program
 abbrev pub IsRefusedDefinition : List ℕ → ℕ → ℕ → Type 0
@@ -49,17 +33,6 @@ IsRefusedDefinition bytes number byte = IsRefusal IsDefinition bytes number byte
 
 abbrev pub IsRefusedTerm : Program → List ℕ → ℕ → ℕ → Type 0
 IsRefusedTerm program bytes number byte = IsRefusal IsPattern bytes number byte × IsNoTermOf program bytes
-
--- The file of that name was not read whole or was refused: it is not there; a fault was counted; it has more bytes than
--- the limit; or it holds bytes that are refused so.
-abbrev pub FileCause : (List ℕ → ℕ → ℕ → Type 0) → Option Told → List ℕ → ℕ → ℕ → ℕ → FileEnd → Type 0
-FileCause IsWhy told name limit reads reads' (file.Unread read.NoFile) = Lacks told name
-FileCause IsWhy told name limit reads reads' (file.Unread read.Failed) = Rose reads reads'
-FileCause IsWhy told name limit reads reads' (file.Unread read.TooLarge) = HoldsMore told name limit
-FileCause IsWhy told name limit reads reads' (file.Unread read.Memory) = Unit {0}
-FileCause IsWhy told name limit reads reads' (file.Refused (refusal.Refused number byte)) =
-    (bytes : List ℕ) × Holds told name bytes × IsWhy bytes number byte
-FileCause IsWhy told name limit reads reads' (file.Refused refusal.Memory) = Unit {0}
 
 -- What is known of a run command whose files have these names: what the desk told at first, and the counts of its faults in
 -- reading and in writing, and of the output's, before and after.
@@ -74,30 +47,29 @@ pub record Course : Type 0 where
   pub writes : ℕ
   pub writes' : ℕ
 
+-- the definition was read and accepted
+abbrev pub HasProgram : Course → Type 0
+HasProgram c = (program : Program) × HoldsProgram c.told c.definition program
+
 -- both files were read and accepted
 abbrev pub HasRun : Course → Type 0
 HasRun c = (program : Program) × HoldsProgram c.told c.definition program × ((start : Pattern) × HoldsStart c.told c.term program start)
 
--- the end of such a command has its cause
+-- The end of such a command has its cause. The term is answered where the definition was accepted, and what could not be
+-- written where both were.
 abbrev pub RunCause : Course → Ending → Type 0
 RunCause c out_of_memory = Unit {0}
 RunCause c bad_words = ⊥
 RunCause c read_fault = Rose c.reads c.reads'
-RunCause c write_fault = Rose c.writes c.writes' ⊎ (Rose c.files c.files' × HasRun c)
-RunCause c (no_such_file name) = ((name ≡ c.definition) ⊎ (name ≡ c.term)) × Lacks c.told name
+RunCause c write_fault = (Rose c.writes c.writes' ⊎ Rose c.files c.files') × HasRun c
+RunCause c (no_such_file name) =
+    ((name ≡ c.definition) × Lacks c.told name) ⊎ ((name ≡ c.term) × HasProgram c × Lacks c.told name)
 RunCause c (definition_refused number byte) =
-    (bytes : List ℕ) × Holds c.told c.definition bytes × IsRefusedDefinition bytes number byte
+    (bytes : List ℕ) × HoldsWithin c.told c.definition definition_limit bytes × IsRefusedDefinition bytes number byte
 RunCause c (term_refused number byte) =
-    (program : Program) × HoldsProgram c.told c.definition program × (bytes : List ℕ) × Holds c.told c.term bytes × IsRefusedTerm program bytes number byte
+    (program : Program) × HoldsProgram c.told c.definition program × (bytes : List ℕ) × HoldsWithin c.told c.term term_limit bytes × IsRefusedTerm program bytes number byte
 RunCause c (too_large name) =
-    ((name ≡ c.definition) × HoldsMore c.told name definition_limit) ⊎ ((name ≡ c.term) × HoldsMore c.told name term_limit)
-
--- The file of that name was not read whole: it is not there; a fault was counted; or it has more bytes than the limit.
-abbrev pub UnreadCause : Option Told → List ℕ → ℕ → ℕ → ℕ → ReadEnd → Type 0
-UnreadCause told name limit reads reads' read.NoFile = Lacks told name
-UnreadCause told name limit reads reads' read.Failed = Rose reads reads'
-UnreadCause told name limit reads reads' read.TooLarge = HoldsMore told name limit
-UnreadCause told name limit reads reads' read.Memory = Unit {0}
+    ((name ≡ c.definition) × HoldsMore c.told name definition_limit) ⊎ ((name ≡ c.term) × HasProgram c × HoldsMore c.told name term_limit)
 
 -- What is known of a verify command whose file has this name: what the desk told at first, and the counts of its faults
 -- and of the output's before and after.
@@ -114,7 +86,7 @@ abbrev pub VerifyCause : Verification → Ending → Type 0
 VerifyCause v out_of_memory = Unit {0}
 VerifyCause v bad_words = ⊥
 VerifyCause v read_fault = Rose v.reads v.reads'
-VerifyCause v write_fault = Rose v.writes v.writes'
+VerifyCause v write_fault = Rose v.writes v.writes' × ((bytes : List ℕ) × HoldsWithin v.told v.file database_limit bytes)
 VerifyCause v (no_such_file name) = (name ≡ v.file) × Lacks v.told name
 VerifyCause v (definition_refused number byte) = ⊥
 VerifyCause v (term_refused number byte) = ⊥
@@ -136,32 +108,16 @@ KeepsOutput (definition_refused number byte) before after = SameBytes before aft
 KeepsOutput (term_refused number byte) before after = SameBytes before after
 KeepsOutput (too_large name) before after = SameBytes before after
 
--- The desk's files are as before, but where they could not be written or memory was wanting: then the file of a proof may have
--- been created.
-abbrev pub KeepsFilesAt : Ending → Option Told → Option Told → Type 0
-KeepsFilesAt out_of_memory old new = Unit {0}
-KeepsFilesAt bad_words old new = KeepsFiles old new
-KeepsFilesAt read_fault old new = KeepsFiles old new
-KeepsFilesAt write_fault old new = Unit {0}
-KeepsFilesAt (no_such_file name) old new = KeepsFiles old new
-KeepsFilesAt (definition_refused number byte) old new = KeepsFiles old new
-KeepsFilesAt (term_refused number byte) old new = KeepsFiles old new
-KeepsFilesAt (too_large name) old new = KeepsFiles old new
-
 -- the exit codes of calls that write no file
 abbrev pub IsUnwritten : ℕ → Type 0
 IsUnwritten code = (code ≢ 0) × (code ≢ 1) × (code ≢ 4) × (code ≢ 10)
 
--- the end of a call that could not write
-abbrev pub fault_end : DeskFault → Ending
-fault_end fault.Failed = write_fault
-fault_end fault.Memory = out_of_memory
-
--- What is known of a call: its words; what the desk told at first; the counts of faults of the desk in reading and in
+-- What is known of a call: its words; what the desk told before and after; the counts of faults of the desk in reading and in
 -- writing, of the output and of the error stream before and after; and what the two streams told before and after.
 pub record Call : Type 0 where
   pub words : List (List ℕ)
   pub told : Option Told
+  pub told' : Option Told
   pub reads : ℕ
   pub reads' : ℕ
   pub files : ℕ

@@ -5,14 +5,7 @@ use Rattle.kore_print.specs.CanonicalText.{canonical_text}
 use Rattle.kore_print.specs.Reading.{ReadsAs}
 use Rattle.term_core.specs.Terms.{Tree, leaf, node, inj, Forest, no_tree, more_trees}
 use Rattle.rule_core.specs.declared.signature.SymInfo.{SymInfo}
-use Rattle.rule_core.specs.declared.rules.Outcome.{Outcome}
-use Rattle.rule_core.specs.declared.rules.Outcome.TheVariants.{Stuck, Limit}
 use Rattle.rule_core.specs.Runs.{Run, stuck, limited}
-
--- a run that ended so with this configuration
-abbrev pub run_of : Outcome → Tree → Run
-run_of (Stuck n) t = stuck n t
-run_of (Limit n) t = limited n t
 
 -- the last configuration of a run
 abbrev pub last_of : Run → Tree

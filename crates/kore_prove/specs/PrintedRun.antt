@@ -1,26 +1,25 @@
 -- What a call printed: the lines of the run that the definition, the term and the limit give.
-use Rattle.std.specs.Prelude.{◌≡◌, ℕ, List, [], ◌++◌, Option, Some, None, ◌⊎◌}
+use Rattle.std.specs.Prelude.{◌≡◌, ℕ, ◌≤◌, List, [], length, Option, Some, None, ◌⊎◌}
 use Rattle.term_core.specs.Terms.{Tree}
 use Rattle.term_core.specs.Patterns.{Pattern, instance_of}
 use Rattle.kore_text.specs.Trees.{PatternTree, DefinitionTree}
 use Rattle.kore_ast.specs.KoreText.{ReadsPattern, ReadsDefinition}
 use Rattle.desk_io.specs.Told.{Told, file_of}
+use Rattle.desk_io.specs.Sent.{Appends}
 use Rattle.rule_core.specs.declared.signature.Signature.{Signature}
 use Rattle.rule_core.specs.Rules.{RewriteRule}
-use Rattle.rule_core.specs.ProgramView.{rewrite_rules}
-use Rattle.rule_core.specs.declared.rules.Program.{Program}
-use Rattle.rule_core.specs.declared.rules.Outcome.{Outcome}
 use Rattle.rule_core.specs.Runs.{Run, stuck, limited, IsRunOf}
 use Rattle.kore_prove.specs.Words.{IsRunCommand, IsNoVerification}
+use Rattle.kore_prove.specs.Limits.{definition_limit, term_limit}
 use Rattle.kore_prove.specs.Acceptance.{IsAccepted, IsAcceptedTerm}
-use Rattle.kore_prove.specs.Runnable.{IsShown}
-use Rattle.kore_prove.specs.Lines.{lines_of, run_of, last_of, ReadsBack}
+use Rattle.kore_prove.specs.Lines.{lines_of, last_of, ReadsBack}
 
--- The one file is accepted as a definition, the other as a term of it; the run is that of the term up to the limit, and
+-- The one file is accepted as a definition, the other as a term of it, each within its limit; the run is that of the term up to the limit, and
 -- what was printed are its two lines, of which the second reads back.
 pub record IsPrintedRun (definition_name term_name : List ℕ) (limit : ℕ) (told : Told) (printed : List ℕ) (run : Run) : Type 0 where
   pub definition_bytes : List ℕ
   pub definition_file : file_of told.files definition_name ≡ Some definition_bytes
+  pub definition_within : length definition_bytes ≤ definition_limit
   pub definition : DefinitionTree
   pub reads_definition : ReadsDefinition definition_bytes definition
   pub signature : Signature
@@ -29,6 +28,7 @@ pub record IsPrintedRun (definition_name term_name : List ℕ) (limit : ℕ) (to
   pub accepted : IsAccepted definition signature top rules
   pub term_bytes : List ℕ
   pub term_file : file_of told.files term_name ≡ Some term_bytes
+  pub term_within : length term_bytes ≤ term_limit
   pub term : PatternTree
   pub reads_term : ReadsPattern term_bytes term
   pub start_pattern : Pattern
@@ -38,23 +38,6 @@ pub record IsPrintedRun (definition_name term_name : List ℕ) (limit : ℕ) (to
   pub is_run : IsRunOf rules limit start run
   pub lines : lines_of signature.symbols run ≡ Some printed
   pub reads_back : ReadsBack signature.symbols (last_of run)
-
--- these are the lines of the program's run from this start up to the limit, which has this end, and whose last
--- configuration can be shown
-pub record HasLines (program : Program) (start_pattern : Pattern) (limit : ℕ) (outcome : Outcome) (lines : List ℕ) : Type 0 where
-  pub start : Tree
-  pub start_value : instance_of [] start_pattern ≡ Some start
-  pub last : Tree
-  pub is_run : IsRunOf (rewrite_rules program.rules.items) limit start (run_of outcome last)
-  pub lines_are : lines_of program.sig.symbols (run_of outcome last) ≡ Some lines
-  pub shown : IsShown program.sig.symbols last
-
--- the output grew by the lines of the run of these files, which has this end
-abbrev pub PrintsRunOf : List ℕ → List ℕ → ℕ → Option Told → Option (List ℕ) → Option (List ℕ) → Outcome → Type 0
-PrintsRunOf definition_name term_name limit None before after outcome = Unit {0}
-PrintsRunOf definition_name term_name limit (Some told) None after outcome = Unit {0}
-PrintsRunOf definition_name term_name limit (Some told) (Some before) after outcome =
-    (printed : List ℕ) × (last : Tree) × (after ≡ Some (before ++ printed)) × IsPrintedRun definition_name term_name limit told printed (run_of outcome last)
 
 -- the exit code of a run
 abbrev pub code_of : Run → ℕ
@@ -66,11 +49,11 @@ abbrev pub IsCodeOfRun : List (List ℕ) → ℕ → Type 0
 IsCodeOfRun words code = (code ≡ 10) ⊎ ((code ≡ 0) × IsNoVerification words)
 
 -- With the exit codes of a run, the words name two files and a limit, the output grew by the two lines of the run that
--- they give, and the code is that of its end. Of a desk or an output that tells nothing nothing is said.
+-- they give, and the code is that of its end. Of an output that tells nothing the lines are not said, and of a desk that
+-- tells nothing nothing is.
 abbrev pub PrintsRun : List (List ℕ) → Option Told → Option (List ℕ) → Option (List ℕ) → ℕ → Type 0
 PrintsRun words None before after code = Unit {0}
-PrintsRun words (Some told) None after code = Unit {0}
-PrintsRun words (Some told) (Some before) after code =
+PrintsRun words (Some told) before after code =
     IsCodeOfRun words code
     → (definition_name : List ℕ) × (term_name : List ℕ) × (limit : ℕ) × (printed : List ℕ) × (run : Run) × IsRunCommand words definition_name term_name limit
-    × IsPrintedRun definition_name term_name limit told printed run × (after ≡ Some (before ++ printed)) × (code ≡ code_of run)
+    × IsPrintedRun definition_name term_name limit told printed run × Appends before after printed × (code ≡ code_of run)

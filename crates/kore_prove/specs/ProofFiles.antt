@@ -5,7 +5,7 @@ use Rattle.term_core.specs.Patterns.{Pattern, ground_pattern}
 use Rattle.rule_core.specs.declared.rules.Outcome.{Outcome}
 use Rattle.rule_core.specs.declared.rules.Program.{Program}
 use Rattle.mm_justify.specs.Justifying.{Justifies}
-use Rattle.kore_prove.specs.PrintedRun.{HasLines}
+use Rattle.kore_prove.specs.Outcomes.{HasLines}
 
 -- the lines are those of the program's run from this start, and the text justifies it
 pub record HasText (program : Program) (start : Pattern) (limit : ℕ) (outcome : Outcome) (lines text : List ℕ) : Type 0 where

@@ -6,35 +6,17 @@ use Rattle.term_core.specs.Terms.{Tree}
 use Rattle.term_core.specs.Patterns.{Pattern, instance_of, ground_pattern}
 use Rattle.rule_core.specs.Runs.{Run, IsRunOf}
 use Rattle.rule_core.specs.ProgramView.{rewrite_rules}
-use Rattle.rule_core.specs.declared.rules.Outcome.{Outcome}
 use Rattle.rule_core.specs.declared.rules.Program.{Program}
 use Rattle.mm_justify.specs.Justifying.{Justifies}
 use Rattle.kore_prove.specs.Words.{IsRunCommand, IsProofCommand}
 use Rattle.kore_prove.specs.Files.{HoldsProgram, HoldsStart}
-use Rattle.kore_prove.specs.Lines.{run_of, last_of, lines_of}
-use Rattle.kore_prove.specs.PrintedRun.{HasLines, IsCodeOfRun, code_of}
+use Rattle.kore_prove.specs.Lines.{last_of, lines_of}
+use Rattle.kore_prove.specs.PrintedRun.{IsCodeOfRun, code_of}
 
 -- the desk tells a file of that name, with this content
 abbrev pub Tells : Option Told → List ℕ → List ℕ → Type 0
 Tells None file bytes = ⊥
 Tells (Some told) file bytes = file_of told.files file ≡ Some bytes
-
--- a desk that told its files tells that file now
-abbrev pub TellsNow : Option Told → Option Told → List ℕ → List ℕ → Type 0
-TellsNow None told' file bytes = Unit {0}
-TellsNow (Some told) told' file bytes = Tells told' file bytes
-
--- the lines are those of the program's run from this start, and the file holds a database that justifies this run
-pub record HasProof (program : Program) (start : Pattern) (limit : ℕ) (outcome : Outcome) (lines : List ℕ) (told told' : Option Told) (file : List ℕ) : Type 0 where
-  pub run : HasLines program start limit outcome lines
-  pub bytes : List ℕ
-  pub held : TellsNow told told' file bytes
-  pub justifies : Justifies bytes program start (ground_pattern run.last)
-
--- where a proof is wanted, its file holds one
-abbrev pub HasWantedProof : Option (List ℕ) → Program → Pattern → ℕ → Outcome → List ℕ → Option Told → Option Told → Type 0
-HasWantedProof None program start limit outcome lines told told' = Unit {0}
-HasWantedProof (Some file) program start limit outcome lines told told' = HasProof program start limit outcome lines told told' file
 
 -- The one file is accepted as a definition, the other as a term of its program; the run is that of the program from the term
 -- up to the limit; what was printed are its two lines; and the third file holds a database that justifies the run, from the
@@ -52,13 +34,6 @@ pub record IsProvedRun (definition_name term_name : List ℕ) (limit : ℕ) (fil
   pub held : Tells told' file bytes
   pub justifies : Justifies bytes program start (ground_pattern (last_of run))
 
--- the output grew by the lines of such a run, which has this end, where a proof is wanted
-abbrev pub ProvesRunOf : Option (List ℕ) → List ℕ → List ℕ → ℕ → Option Told → Option Told → Option (List ℕ) → Option (List ℕ) → Outcome → Type 0
-ProvesRunOf None definition_name term_name limit told told' before after outcome = Unit {0}
-ProvesRunOf (Some file) definition_name term_name limit None told' before after outcome = Unit {0}
-ProvesRunOf (Some file) definition_name term_name limit (Some told) told' before after outcome =
-    (printed : List ℕ) × (last : Tree) × Appends before after printed × IsProvedRun definition_name term_name limit file told told' printed (run_of outcome last)
-
 -- With the exit codes of a run, where the words name a file for the proof: the output grew by the two lines of the run that the
 -- other files and the limit give, the code is that of its end, and the file of that name holds a database that justifies it. Of
 -- a desk that tells nothing nothing is said.
@@ -74,7 +49,3 @@ abbrev pub KeepsOthers : (List ℕ → Type 0) → Option Told → Option Told �
 KeepsOthers IsWritten None new = Unit {0}
 KeepsOthers IsWritten (Some old) new =
     (now : Told) × (new ≡ Some now) × ((name : List ℕ) → (IsWritten name → ⊥) → file_of now.files name ≡ file_of old.files name)
-
--- the file is the one for the proof, where one is wanted
-abbrev pub IsWanted : Option (List ℕ) → List ℕ → Type 0
-IsWanted proof file = proof ≡ Some file

@@ -7,7 +7,7 @@ use Rattle.kore_ast.specs.KoreText.{ReadsPattern, ReadsDefinition}
 use Rattle.rule_core.specs.Rules.{RewriteRule}
 use Rattle.rule_core.specs.declared.signature.Signature.{Signature}
 use Rattle.kore_prove.specs.Acceptance.{IsAccepted, IsAcceptedTerm}
-use Rattle.kore_prove.specs.Causes.{definition_limit, term_limit, database_limit}
+use Rattle.kore_prove.specs.Limits.{definition_limit, term_limit, database_limit}
 use Rattle.kore_prove.specs.Words.{IsRunCommand, IsVerifyCommand}
 
 -- The words are a run command; both files that they name are there, within their limits; the definition is accepted, and the

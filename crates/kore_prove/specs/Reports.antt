@@ -2,8 +2,6 @@
 use Rattle.std.specs.Prelude.{◌≡◌, ℕ, ◌⊎◌, List, [], ◌∷◌, ◌++◌, Option, codes, decimal}
 use Rattle.desk_io.specs.Sent.{Appends, AppendsFront}
 use Rattle.desk_io.specs.Counts.{Rose}
-use Rattle.kore_prove.specs.declared.report.End.{End}
-use Rattle.kore_prove.specs.declared.report.End.TheVariants as end
 
 -- why a call ended; the names are those of files, the numbers those of a refusal and of the byte that it is at
 pub data Ending : Type 0 where
@@ -45,17 +43,6 @@ reason (too_large name) = codes "too large " ++ name
 -- the line, ended by a newline
 abbrev pub report_line : Ending → List ℕ
 report_line e = codes "kore_prove: " ++ (reason e ++ 10 ∷ [])
-
--- what an end of the code means
-abbrev pub plain_end : End → Ending
-plain_end end.OutOfMemory = out_of_memory
-plain_end end.BadWords = bad_words
-plain_end end.ReadFault = read_fault
-plain_end end.WriteFault = write_fault
-plain_end (end.NoSuchFile name) = no_such_file name.now
-plain_end (end.DefinitionRefused number byte) = definition_refused number byte
-plain_end (end.TermRefused number byte) = term_refused number byte
-plain_end (end.TooLarge name) = too_large name.now
 
 -- the stream got the line, whole, or a part from its front where its count of faults rose
 abbrev pub SaysLine : Ending → Option (List ℕ) → Option (List ℕ) → ℕ → ℕ → Type 0

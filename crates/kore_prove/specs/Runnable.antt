@@ -1,5 +1,5 @@
 -- Rules and terms that can be run and printed as they stand.
-use Rattle.std.specs.Prelude.{◌≡◌, ℕ, ◌≤◌, List, [], slice_get, Option, Some, None, IsSome, All}
+use Rattle.std.specs.Prelude.{◌≡◌, ℕ, ◌≤◌, List, [], Some, None, IsSome, All}
 use Rattle.std.specs.List.Sorted.{IsPermutation}
 use Rattle.term_core.specs.Terms.{Tree, height}
 use Rattle.term_core.specs.Patterns.{Pattern, instance_of}
@@ -7,7 +7,6 @@ use Rattle.term_core.specs.RulePatterns.{plain_pattern}
 use Rattle.kore_text.specs.Trees.{PatternTree, DefinitionTree}
 use Rattle.kore_ast.specs.KoreText.{ReadsPattern, ReadsDefinition}
 use Rattle.rule_core.specs.Rules.{RewriteRule}
-use Rattle.rule_core.specs.FirstRule.{NoRuleApplies, Rewrites}
 use Rattle.rule_core.specs.Trial.{IsInTrialOrder}
 use Rattle.rule_core.specs.ProgramView.{rewrite_rules, HasNoVariables}
 use Rattle.rule_core.specs.declared.rules.Rule.{Rule}
@@ -63,15 +62,3 @@ pub record AcceptsPattern (tree : PatternTree) (program : Program) (start : Patt
 -- the bytes spell a pattern that is accepted as a term of the program, and it means this start
 abbrev pub IsStartOf : List ℕ → Program → Pattern → Type 0
 IsStartOf bytes program start = (tree : PatternTree) × ReadsPattern bytes tree × AcceptsPattern tree program start
-
--- the rule at this place has the one term as its left side and the other as its right side
-pub record LeadsBy (rules : List Rule) (i : ℕ) (t u : Tree) : Type 0 where
-  pub rule : Rule
-  pub there : slice_get rules i ≡ Some rule
-  pub left : instance_of [] (plain_pattern rule.left) ≡ Some t
-  pub right : instance_of [] (plain_pattern rule.right) ≡ Some u
-
--- no rule applies, or one step by the rule at this place leads to this term, which can be shown
-abbrev pub NextBy : List Rule → List (List ℕ × SymInfo) → Tree → Option (ℕ × Tree) → Type 0
-NextBy rules symbols t None = NoRuleApplies (rewrite_rules rules) t
-NextBy rules symbols t (Some step) = Rewrites (rewrite_rules rules) t step.1 × IsShown symbols step.1 × LeadsBy rules step.0 t step.1

@@ -1,7 +1,5 @@
 -- The words of the command line.
-use Rattle.std.specs.Prelude.{◌≡◌, ℕ, ◌+◌, ◌-◌, ◌*◌, ◌≤◌, List, [], ◌∷◌, length, All, fold, codes, Option, Some, None, option_copied}
-use Rattle.kore_prove.specs.declared.words.Command.{Command}
-use Rattle.kore_prove.specs.declared.words.Command.TheVariants as command
+use Rattle.std.specs.Prelude.{◌≡◌, ℕ, ◌+◌, ◌-◌, ◌*◌, ◌≤◌, List, [], ◌∷◌, length, All, fold, codes, Option, Some, None}
 
 -- one digit, `0` to `9`
 abbrev pub IsDigit : ℕ → Type 0
@@ -50,8 +48,3 @@ IsNoVerification words = (file : List ℕ) → IsVerifyCommand words file → �
 pub record IsNoCommand (words : List (List ℕ)) : Type 0 where
   pub no_run : (definition term : List ℕ) (limit : ℕ) → IsRunCommand words definition term limit → ⊥
   pub no_verification : IsNoVerification words
-
--- the words name this command
-abbrev pub NamesCommand : List (List ℕ) → Command → Type 0
-NamesCommand words (command.Run run) = IsRun words run.definition.now run.term.now run.limit (option_copied run.proof)
-NamesCommand words (command.Verify file) = IsVerifyCommand words file.now

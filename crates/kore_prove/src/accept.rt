@@ -9,7 +9,7 @@ ghost use Rattle.term_core.specs.RulePatterns.{plain_pattern as rule_pattern};
 ghost use Rattle.kore_text.specs.Trees.{Declaration, ModuleTree};
 ghost use Rattle.rule_core.specs.Rules.{RewriteRule};
 ghost use Rattle.term_core.specs.Patterns.{Pattern};
-ghost use Rattle.kore_prove.specs.Refusals.{OnRefused, OnNumber, refused_by};
+ghost use Rattle.kore_prove.specs.RefusedAnswers.{OnRefused, OnNumber, refused_by};
 ghost use Rattle.kore_prove.specs.Causes.{IsRefusedDefinition, IsRefusedTerm};
 ghost use Rattle.kore_prove.specs.Acceptance.{IsAccepted, IsAcceptedTerm, HasDeclarations, IsOnlyModule, IsStartSort, IsBuilt, sort_number};
 ghost use Rattle.kore_prove.specs.Names.{HasIdentifierNames};
@@ -77,9 +77,10 @@ pub fn accept(alloc: Global, bytes: &[u8]) -> Result<Program, Refusal>
 
 /// The pattern of a term of the program's sort, or of any sort where there is no rule. A text with a
 /// fault is refused by the first, as that of a definition is. `Refused(90, 0)` comes where the text has
-/// no fault and is no such term, for a program that `accept` gave; `Memory` where memory was wanting.
+/// no fault and is no such term; `Memory` where memory was wanting.
 pub fn accept_term(alloc: Global, program: &Program, bytes: &[u8]) -> Result<RulePat, Refusal>
-    requires { length bytes.now < 2 ^ 32 }
+    requires short { length bytes.now < 2 ^ 32 }
+    requires few { HasFewNames program.now.sig }
     ensures start { IfOk result (λ start. IsStartOf bytes.now program.now (rule_pattern start)) }
     ensures refused { OnNumber result (IsRefusedTerm program.now bytes.now) }
 {

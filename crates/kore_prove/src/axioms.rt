@@ -9,7 +9,7 @@ ghost use Rattle.term_core.specs.Patterns.{Pattern};
 ghost use Rattle.term_core.specs.RulePatterns.{plain_pattern as rule_pattern};
 ghost use Rattle.kore_prove.specs.Acceptance.{Each, NamesSort, axiom_declared, sort_number, IsTopOf, IsSide, IsSideOf, IsRewriting, IsRuleOf};
 ghost use Rattle.kore_prove.specs.Nesting.{nesting, IsShallow, HasFewNames};
-ghost use Rattle.kore_prove.specs.Refusals.{OnRefused};
+ghost use Rattle.kore_prove.specs.RefusedAnswers.{OnRefused};
 ghost use Rattle.kore_prove.specs.Runnable.{IsRunnable};
 
 use crate::accept::{NOT_BUILT, Refusal};

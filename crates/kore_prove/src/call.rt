@@ -4,18 +4,22 @@ ghost use Rattle.term_core.specs.Patterns.{instance_of, FitsWithin};
 ghost use Rattle.term_core.specs.RulePatterns.{plain_pattern};
 ghost use Rattle.desk_io.specs.Counts.{Rose};
 ghost use Rattle.desk_io.specs.Told.{KeepsFiles};
-ghost use Rattle.kore_prove.specs.Causes.{Course, definition_limit, term_limit, FileCause, IsRefusedDefinition, IsRefusedTerm, Ends, RunCause, KeepsOutput, KeepsFilesAt, IsUnwritten, fault_end};
+ghost use Rattle.kore_prove.specs.Causes.{Course, IsRefusedDefinition, IsRefusedTerm, Ends, RunCause, KeepsOutput, IsUnwritten};
+ghost use Rattle.kore_prove.specs.Limits.{definition_limit, term_limit};
+ghost use Rattle.kore_prove.specs.FileCauses.{FileCause, KeepsFilesAt};
+ghost use Rattle.kore_prove.specs.PlainEnds.{fault_end, plain_end};
 ghost use Rattle.kore_prove.specs.Files.{HoldsProgram};
 ghost use Rattle.rule_core.specs.declared.rules.Program.{Program};
 ghost use Rattle.kore_prove.specs.Readiness.{IsReady, IsReadyToVerify};
-ghost use Rattle.kore_prove.specs.Reports.{plain_end, Reports};
+ghost use Rattle.kore_prove.specs.Reports.{Reports};
 ghost use Rattle.kore_prove.specs.Runnable.{IsShowable, IsRunnable};
 ghost use Rattle.rule_core.specs.Trial.{IsInTrialOrder};
 ghost use Rattle.rule_core.specs.ProgramView.{rewrite_rules};
-ghost use Rattle.kore_prove.specs.PrintedRun.{PrintsRun, PrintsRunOf, HasLines, code_of};
-ghost use Rattle.kore_prove.specs.Lines.{run_of};
+ghost use Rattle.kore_prove.specs.PrintedRun.{PrintsRun, code_of};
+ghost use Rattle.kore_prove.specs.Outcomes.{PrintsRunOf, HasLines, run_of};
 ghost use Rattle.kore_prove.specs.Verdicts.{PrintsVerdict};
-ghost use Rattle.kore_prove.specs.ProvedRun.{ProvesRun, ProvesRunOf, KeepsOthers, IsWanted};
+ghost use Rattle.kore_prove.specs.ProvedRun.{ProvesRun, KeepsOthers};
+ghost use Rattle.kore_prove.specs.WantedProofs.{ProvesRunOf, IsWanted};
 ghost use Rattle.kore_prove.specs.Words.{IsNoCommand, IsProofCommand};
 ghost use Rattle.term_core.specs.Terms.{Tree};
 
@@ -57,6 +61,7 @@ pub fn kore_main<D: Desk, O: Sink, E: Sink>(
     ensures ends { Ends (record {
       words = map string_bytes words.now;
       told = D.told desk.old;
+      told' = D.told desk.new;
       reads = D.read_faults desk.old;
       reads' = D.read_faults desk.new;
       files = D.write_faults desk.old;

@@ -1,7 +1,7 @@
 // The sorts and the symbols that a module declares.
-ghost use Rattle.std.specs.Prelude.{◌≡◌, ◌<◌, ◌≤◌, ◌^◌, ◌↔◌, length, ℕ, List, ◌++◌, ◌∷◌, [], IfOk, OnOk, IfSome, IfNone, IsTrue, is_none, false, map, codes};
+ghost use Rattle.std.specs.Prelude.{◌≡◌, ◌<◌, ◌≤◌, ◌^◌, ◌↔◌, length, ℕ, List, ◌++◌, ◌∷◌, [], None, IfOk, OnOk, IfSome, IfNone, IsTrue, is_none, false, map, codes};
 ghost use Rattle.rule_core.specs.Named.{number_of, names_of, AreDistinct};
-ghost use Rattle.kore_prove.specs.Refusals.{OnRefused};
+ghost use Rattle.kore_prove.specs.RefusedAnswers.{OnRefused};
 ghost use Rattle.std.specs.List.{filter_map};
 ghost use Rattle.kore_ast.specs.Plain.{plain_declaration, plain_sort, plain_sort_decl, plain_symbol_decl, plain_pattern};
 ghost use Rattle.kore_text.specs.Trees.{symbol_applied, no_sorts, no_patterns};
@@ -141,6 +141,9 @@ fn constructor(args: Vec<SortRef>, sort: SortId) -> SymInfo
     ensures args { result.args.items ≡ args.items }
     ensures sort { result.result ≡ of_sort sort }
     ensures kind { result.kind ≡ Ctor }
+    ensures params { result.params ≡ 0 }
+    ensures hook { result.hook ≡ None }
+    ensures ac { result.ac ≡ false }
 {
     SymInfo {
         kind: SymKind::Ctor,

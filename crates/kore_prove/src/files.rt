@@ -2,9 +2,11 @@
 ghost use Rattle.std.specs.Prelude.{◌≡◌, ◌<◌, ◌≤◌, ◌^◌, length, IfOk, IfErr};
 ghost use Rattle.desk_io.specs.Told.{KeepsFiles};
 ghost use Rattle.term_core.specs.RulePatterns.{plain_pattern};
-ghost use Rattle.kore_prove.specs.Causes.{FileCause, IsRefusedDefinition, IsRefusedTerm};
+ghost use Rattle.kore_prove.specs.FileCauses.{FileCause};
+ghost use Rattle.kore_prove.specs.Causes.{IsRefusedDefinition, IsRefusedTerm};
 ghost use Rattle.kore_prove.specs.Files.{HoldsProgram, HoldsStart};
 ghost use Rattle.kore_prove.specs.Names.{HasIdentifierNames};
+ghost use Rattle.kore_prove.specs.Nesting.{HasFewNames};
 
 use crate::accept::{Refusal, accept, accept_term};
 use desk_io::{Desk, ReadEnd, read_file};
@@ -27,10 +29,12 @@ pub enum FileEnd {
     Refused(Refusal),
 }
 
-/// The program that the file of that name holds. Its names of sorts and symbols are identifiers (clause `names`).
+/// The program that the file of that name holds. Its names of sorts and symbols are identifiers (clause `names`), and
+/// 32 bits are enough to number them and its rules (clauses `few` and `few_rules`).
 pub fn read_program<D: Desk>(alloc: Global, desk: &mut D, name: &str) -> Result<Program, FileEnd>
     ensures found { IfOk result (HoldsProgram (D.told desk.old) name.now) }
     ensures names { IfOk result (λ program. HasIdentifierNames program.sig) }
+    ensures few { IfOk result (λ program. HasFewNames program.sig) }
     ensures few_rules { IfOk result (λ program. length program.rules.items < 2 ^ 32) }
     ensures cause { IfErr result (FileCause IsRefusedDefinition
         (D.told desk.old) name.now DEFINITION_LIMIT (D.read_faults desk.old) (D.read_faults desk.new)) }
@@ -55,6 +59,7 @@ pub fn read_start<D: Desk>(
     name: &str,
     program: &Program,
 ) -> Result<RulePat, FileEnd>
+    requires { HasFewNames program.now.sig }
     ensures found { IfOk result (λ start. HoldsStart (D.told desk.old) name.now program.now (plain_pattern start)) }
     ensures cause { IfErr result (FileCause (IsRefusedTerm program.now)
         (D.told desk.old) name.now TERM_LIMIT (D.read_faults desk.old) (D.read_faults desk.new)) }

@@ -1,6 +1,7 @@
 // The two lines of a run.
 ghost use Rattle.std.specs.Prelude.{◌≡◌, IsSome, IfOk, Some};
-ghost use Rattle.kore_prove.specs.Lines.{kore_pattern, lines_of, run_of};
+ghost use Rattle.kore_prove.specs.Lines.{kore_pattern, lines_of};
+ghost use Rattle.kore_prove.specs.Outcomes.{run_of};
 
 use crate::pattern::kore_pattern;
 use itoa::Buffer;

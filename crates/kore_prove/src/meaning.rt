@@ -8,7 +8,7 @@ ghost use Rattle.term_core.specs.Patterns.{Pattern, Patterns};
 ghost use Rattle.term_core.specs.RulePatterns.{plain_pattern as rule_pattern};
 ghost use Rattle.term_core.specs.PatternLists.{plain_patterns as rule_patterns};
 ghost use Rattle.kore_prove.specs.Acceptance.{Denotes, AllDenote};
-ghost use Rattle.kore_prove.specs.Refusals.{OnRefused};
+ghost use Rattle.kore_prove.specs.RefusedAnswers.{OnRefused};
 
 use crate::accept::{NOT_BUILT, Refusal};
 use kore_ast::{Pat, PatForm};

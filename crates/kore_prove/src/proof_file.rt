@@ -5,10 +5,11 @@ ghost use Rattle.desk_io.specs.Told.{Holds, Writes};
 ghost use Rattle.term_core.specs.RulePatterns.{plain_pattern};
 ghost use Rattle.rule_core.specs.ProgramView.{rewrite_rules};
 ghost use Rattle.rule_core.specs.Trial.{IsInTrialOrder};
-ghost use Rattle.kore_prove.specs.PrintedRun.{HasLines};
+ghost use Rattle.kore_prove.specs.Outcomes.{HasLines};
 ghost use Rattle.kore_prove.specs.ProofFiles.{HasText, KeepsOthersNow, PutsCreated};
 ghost use Rattle.kore_prove.specs.Provable.{IsBuiltOf, IsProvable};
-ghost use Rattle.kore_prove.specs.ProvedRun.{HasProof, HasWantedProof, IsWanted, KeepsOthers};
+ghost use Rattle.kore_prove.specs.WantedProofs.{HasProof, HasWantedProof, IsWanted};
+ghost use Rattle.kore_prove.specs.ProvedRun.{KeepsOthers};
 ghost use Rattle.kore_prove.specs.Runnable.{IsRunnable, IsShowable};
 
 use crate::lines::run_lines;

@@ -4,7 +4,8 @@ ghost use Rattle.std.specs.List.{flat_map};
 ghost use Rattle.std.specs.Borrow.{Bor};
 ghost use Rattle.desk_io.specs.Sent.{Appends, AppendsFront};
 ghost use Rattle.desk_io.specs.Counts.{Rose};
-ghost use Rattle.kore_prove.specs.Reports.{end_code, plain_end, refusal, report_line};
+ghost use Rattle.kore_prove.specs.Reports.{end_code, refusal, report_line};
+ghost use Rattle.kore_prove.specs.PlainEnds.{plain_end};
 
 use desk_io::{DeskFault, Sink, send_whole};
 use itoa::Buffer;

@@ -5,8 +5,9 @@ ghost use Rattle.term_core.specs.RulePatterns.{plain_pattern};
 ghost use Rattle.rule_core.specs.Runs.{IsRunOf};
 ghost use Rattle.rule_core.specs.Trial.{IsInTrialOrder};
 ghost use Rattle.rule_core.specs.ProgramView.{rewrite_rules};
-ghost use Rattle.kore_prove.specs.Lines.{run_of};
-ghost use Rattle.kore_prove.specs.Runnable.{IsShown, IsRunnable, NextBy};
+ghost use Rattle.kore_prove.specs.Outcomes.{run_of};
+ghost use Rattle.kore_prove.specs.Runnable.{IsShown, IsRunnable};
+ghost use Rattle.kore_prove.specs.Steps.{NextBy};
 
 use rule_core::{Outcome, Program, first_match};
 use std::alloc::{AllocError, Global};

@@ -3,9 +3,12 @@ ghost use Rattle.std.specs.Prelude.{◌≡◌, ◌≤◌, List, ℕ, Option, IfO
 ghost use Rattle.desk_io.specs.Told.{KeepsFiles};
 ghost use Rattle.desk_io.specs.Sent.{Appends, AppendsFront};
 ghost use Rattle.desk_io.specs.Counts.{Rose};
-ghost use Rattle.kore_prove.specs.Causes.{UnreadCause, Verification, VerifyCause, KeepsOutput, database_limit};
-ghost use Rattle.kore_prove.specs.Reports.{plain_end};
-ghost use Rattle.kore_prove.specs.Verdicts.{IsVerdictOn, HoldsDatabase, PrintsVerdictOn, verdict_code, verdict_line, valid_line, invalid_line};
+ghost use Rattle.kore_prove.specs.FileCauses.{UnreadCause};
+ghost use Rattle.kore_prove.specs.Causes.{Verification, VerifyCause, KeepsOutput};
+ghost use Rattle.kore_prove.specs.Limits.{database_limit};
+ghost use Rattle.kore_prove.specs.PlainEnds.{plain_end};
+ghost use Rattle.kore_prove.specs.DatabaseVerdicts.{IsVerdictOn, HoldsDatabase, PrintsVerdictOn, verdict_code, verdict_line};
+ghost use Rattle.kore_prove.specs.Verdicts.{valid_line, invalid_line};
 
 use crate::report::{End, send_pieces};
 use desk_io::{Desk, DeskFault, ReadEnd, Sink, read_file};

@@ -1,6 +1,7 @@
 // The words of the command line.
 ghost use Rattle.std.specs.Prelude.{◌≡◌, ℕ, List, map, All, IfSome, IfNone, IsTrue, ◌↔◌, codes, option_copied, string_bytes};
-ghost use Rattle.kore_prove.specs.Words.{IsRun, IsRunCommand, IsVerifyCommand, IsNoVerification, IsNoCommand, NamesCommand, IsLimit, IsDigit};
+ghost use Rattle.kore_prove.specs.Words.{IsRun, IsRunCommand, IsVerifyCommand, IsNoVerification, IsNoCommand, IsLimit, IsDigit};
+ghost use Rattle.kore_prove.specs.Commands.{NamesCommand};
 
 /// What the words ask for.
 #[derive(Clone, Copy)]

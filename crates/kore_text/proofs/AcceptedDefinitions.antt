@@ -5,18 +5,12 @@ use Rattle.kore_text.specs.declared.symbols.Item.TheVariants as item
 use Rattle.kore_text.specs.declared.symbols.Symbol.{Symbol}
 use Rattle.kore_text.specs.declared.symbols.Symbol.TheVariants as symbol
 use Rattle.kore_text.specs.TokenStream.{identifier, mark, assign, Stream, end}
-use Rattle.kore_text.specs.Trees.{SortTree}
-use Rattle.kore_text.specs.Trees.{PatternTree}
-use Rattle.kore_text.specs.Grammar.{Want, any, listed, in_order, Takes, spell_name, spell_names, spell_sort, spell_pattern}
-use Rattle.kore_text.specs.Table.{turn, step, passes, run}
-use Rattle.kore_text.proofs.Reaching.{Reaches, done, after, by-token, any-placed, mark-then, first-goes}
+use Rattle.kore_text.specs.Trees.{SortTree, PatternTree, AliasDeclaration, AxiomDeclaration, ModuleTree, DefinitionTree, Declaration, import_declaration, sort_declaration, symbol_declaration, alias_declaration, axiom_declaration, claim_declaration}
+use Rattle.kore_text.specs.Grammar.{Want, any, listed, in_order, Takes, spell_name, spell_names, spell_sort, spell_pattern, keyword, sort_word, symbol_word, spell_attributes, spell_signature, spell_alias, spell_statement, spell_declaration, spell_body, spell_module, spell_definition, is_some_module}
+use Rattle.kore_text.specs.Table.{turn, step, passes, run, definition_symbols, pattern_symbols}
+use Rattle.kore_text.proofs.Reaching.{Reaches, done, after, by-token, any-placed, mark-then, first-goes, is_nil}
 use Rattle.kore_text.specs.Apart.{Apart}
-use Rattle.kore_text.specs.Trees.{AliasDeclaration, AxiomDeclaration, ModuleTree, DefinitionTree}
-use Rattle.kore_text.specs.Trees.{Declaration, import_declaration, sort_declaration, symbol_declaration, alias_declaration, axiom_declaration, claim_declaration}
-use Rattle.kore_text.specs.Grammar.{keyword, sort_word, symbol_word, spell_attributes, spell_signature, spell_alias, spell_statement, spell_declaration, spell_body, spell_module, spell_definition, is_some_module}
 use Rattle.kore_text.specs.Faults.{IsPattern, IsDefinition}
-use Rattle.kore_text.specs.Table.{definition_symbols, pattern_symbols}
-use Rattle.kore_text.proofs.Reaching.{is_nil}
 use Rattle.kore_text.proofs.Accepting.{name-goes, names-go, sort-goes, listed-go}
 use Rattle.kore_text.proofs.AcceptedPatterns.{pattern-goes, listed-patterns-go}
 

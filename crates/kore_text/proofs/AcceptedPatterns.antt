@@ -7,15 +7,12 @@ use Rattle.kore_text.specs.declared.symbols.Item.TheVariants as item
 use Rattle.kore_text.specs.declared.symbols.Symbol.{Symbol}
 use Rattle.kore_text.specs.declared.symbols.Symbol.TheVariants as symbol
 use Rattle.kore_text.specs.TokenStream.{Token, identifier, set_identifier, builtin, string_token, mark, Stream, end, fault, token}
-use Rattle.kore_text.specs.Trees.{SortTree, SortTrees, sort_count}
-use Rattle.kore_text.specs.Trees.{PatternTree, element_variable, set_variable, string, symbol_applied, connected, binding, domain_value, folded}
-use Rattle.kore_text.specs.Trees.{PatternTrees, no_patterns, pattern_then, pattern_count}
+use Rattle.kore_text.specs.Trees.{SortTree, SortTrees, sort_count, PatternTree, element_variable, set_variable, string, symbol_applied, connected, binding, domain_value, folded, PatternTrees, no_patterns, pattern_then, pattern_count}
 use Rattle.kore_text.specs.Grammar.{Want, placed, any, Spelling, listed, more_listed, Takes, sorts_of, arguments_of, takes, is_count, binder_sorts, binds_sets, is_variable, is_associative, is_foldable, spell_sort, spell_sorts, spell_pattern, spell_patterns}
 use Rattle.kore_text.specs.Table.{turn, step, passes, run, empty_fold, folded_arguments, exactly, argument_symbols, built_symbols}
-use Rattle.kore_text.proofs.Reaching.{Reaches, done, after, by-token, any-placed, mark-goes, mark-then, IsPlain, AllGo, first-goes, pass-step}
+use Rattle.kore_text.proofs.Reaching.{Reaches, done, after, by-token, any-placed, mark-goes, mark-then, IsPlain, AllGo, first-goes, pass-step, unmarked}
 use Rattle.kore_text.specs.Apart.{Apart}
 use Rattle.kore_text.specs.declared.names.Binder.{Binder}
-use Rattle.kore_text.proofs.Reaching.{unmarked}
 use Rattle.kore_text.proofs.Accepting.{both, number-is, sort-goes, sorts-go, plain-pattern, pattern-step, set-step, string-step, built-step, colon-step, brace-step, text-step, folded-step, folded-built-step, empty-step, empty-built-step, colon-goes, variable-goes, single, sorts-exactly, arguments-go, arguments-folded}
 
 pub applied-goes : (b : Bool) (at : ℕ) (n : List ℕ) (ss : SortTrees) (gs : List Spelling) (w : List Want) (s e : Stream) → AllGo (symbol.Pattern b) gs e

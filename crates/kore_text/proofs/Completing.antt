@@ -8,19 +8,13 @@ use Rattle.kore_text.specs.declared.symbols.Item.TheVariants as item
 use Rattle.kore_text.specs.declared.symbols.Symbol.{Symbol}
 use Rattle.kore_text.specs.declared.symbols.Symbol.TheVariants as symbol
 use Rattle.kore_text.specs.TokenStream.{Token, identifier, set_identifier, builtin, string_token, mark, assign, Stream, end, fault, token}
-use Rattle.kore_text.specs.Trees.{sort_parameter, no_sorts, sort_count}
-use Rattle.kore_text.specs.Trees.{element_variable, symbol_applied}
-use Rattle.kore_text.specs.Trees.{no_patterns, pattern_then}
+use Rattle.kore_text.specs.Trees.{sort_parameter, no_sorts, sort_count, element_variable, symbol_applied, no_patterns, pattern_then}
 use Rattle.kore_text.specs.Grammar.{Want, any, listed, Takes, spell_sorts}
-use Rattle.kore_text.specs.Table.{byte_of, is_fold, turn, step, passes, empty_fold}
+use Rattle.kore_text.specs.Table.{byte_of, is_fold, turn, step, passes, empty_fold, item_move, rest_of, is_empty, onto, can_end, passes_on}
 use Rattle.kore_text.specs.Apart.{is_mark}
-use Rattle.kore_text.specs.Faults.{FoldHead, of_symbol, of_connective, spell_unfilled}
-use Rattle.kore_text.specs.Table.{item_move, rest_of, is_empty, onto}
-use Rattle.kore_text.proofs.Accepting.{number-is}
-use Rattle.kore_text.specs.Faults.{IsEmptyFold}
-use Rattle.kore_text.specs.Table.{can_end, passes_on}
+use Rattle.kore_text.specs.Faults.{FoldHead, of_symbol, of_connective, spell_unfilled, IsEmptyFold}
+use Rattle.kore_text.proofs.Accepting.{number-is, both, sorts-go, sorts-exactly, empty-step, empty-built-step}
 use Rattle.kore_text.proofs.Reaching.{Reaches, after, mark-goes, mark-then, pass-step, first-goes}
-use Rattle.kore_text.proofs.Accepting.{both, sorts-go, sorts-exactly, empty-step, empty-built-step}
 use Rattle.kore_text.proofs.Saying.{variable_token, Says, Pieces, along}
 use Rattle.kore_text.proofs.Returning.{Moved, first-back, move-back}
 

@@ -1,18 +1,14 @@
 -- The verdict of the table is the first fault.
-use Rattle.std.proofs.Common.{◌≡◌, ℕ, suc, Bool, true, false, ◌&&◌, List, [], ◌∷◌, map, Option, Some, None, refl, ap, sym, ◌∙◌, subst, arith, inl, inr, if◌then◌else◌}
+use Rattle.std.proofs.Common.{◌≡◌, ℕ, suc, Bool, true, false, ◌&&◌, List, [], ◌∷◌, map, Option, Some, None, refl, ap, sym, ◌∙◌, subst, arith, inl, inr, if◌then◌else◌, ◌≤◌, ◌<◌, nat_lt}
 use Rattle.std.proofs.lemmas.Bool.Decides.{nat_tests}
 use Rattle.kore_text.specs.declared.symbols.Symbol.{Symbol}
 use Rattle.kore_text.specs.declared.symbols.Symbol.TheVariants as symbol
 use Rattle.kore_text.specs.TokenStream.{Token, Stream, end, fault, token}
-use Rattle.kore_text.specs.Grammar.{in_order}
-use Rattle.kore_text.specs.Table.{is_fold, step, passes, run, empty_fold}
-use Rattle.kore_text.specs.Grammar.{spell_module}
-use Rattle.kore_text.specs.Faults.{IsPattern, IsDefinition}
-use Rattle.std.proofs.Common.{◌≤◌, ◌<◌, nat_lt}
+use Rattle.kore_text.specs.Grammar.{in_order, spell_module}
+use Rattle.kore_text.specs.Table.{is_fold, step, passes, run, empty_fold, can_end, onward, pattern_symbols, definition_symbols}
+use Rattle.kore_text.specs.Faults.{IsPattern, IsDefinition, opened, IsShallow, IsEmptyFold, Same, Begins, behind, IsGood, Stops, GoesDeep, IsFirstFault}
 use Rattle.kore_text.specs.declared.faults.TextFault.{TextFault}
 use Rattle.kore_text.specs.declared.faults.TextFault.TheVariants.{Lex, Syntax, Deep}
-use Rattle.kore_text.specs.Faults.{opened, IsShallow, IsEmptyFold, Same, Begins, behind, IsGood, Stops, GoesDeep, IsFirstFault}
-use Rattle.kore_text.specs.Table.{can_end, onward, pattern_symbols, definition_symbols}
 use Rattle.kore_text.proofs.AcceptedDefinitions.{accepts-pattern, accepts-definition}
 use Rattle.kore_text.proofs.Saying.{Pieces}
 use Rattle.kore_text.proofs.Completing.{completes, ends-back, step-back, is-empty-fold, fold-found}

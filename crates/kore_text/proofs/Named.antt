@@ -8,13 +8,8 @@ use Rattle.kore_lex.specs.Tokens.{IsName, IsToken}
 use Rattle.kore_lex.specs.TokenLaws.{AreTokens, token_count, EachIsToken, TokensAreFew}
 use Rattle.kore_text.specs.declared.names.Built.TheVariants.{Connective}
 use Rattle.kore_text.specs.TokenStream.{Token, identifier, set_identifier, builtin, string_token, mark, assign, Stream, end, fault, token, joined, named, tokens_of}
-use Rattle.kore_text.specs.Trees.{SortTree, sort_parameter, sort_applied, SortTrees, no_sorts, sort_then}
-use Rattle.kore_text.specs.Trees.{PatternTree, element_variable, set_variable, string, symbol_applied, connected, binding, domain_value, folded}
-use Rattle.kore_text.specs.Trees.{PatternTrees, no_patterns, pattern_then}
-use Rattle.kore_text.specs.Trees.{AliasDeclaration, AxiomDeclaration, ModuleTree}
-use Rattle.kore_text.specs.Trees.{Declaration, import_declaration, sort_declaration, symbol_declaration, alias_declaration, axiom_declaration, claim_declaration}
-use Rattle.kore_text.specs.Grammar.{Want, placed, any, given, Spelling, listed, more_listed, in_order, Takes}
-use Rattle.kore_text.specs.Grammar.{spell_name, spell_names, spell_sort, spell_sorts, spell_applied, spell_pattern, spell_patterns, spell_attributes, spell_signature, spell_statement, spell_declaration, spell_module, spell_definition}
+use Rattle.kore_text.specs.Trees.{SortTree, sort_parameter, sort_applied, SortTrees, no_sorts, sort_then, PatternTree, element_variable, set_variable, string, symbol_applied, connected, binding, domain_value, folded, PatternTrees, no_patterns, pattern_then, AliasDeclaration, AxiomDeclaration, ModuleTree, Declaration, import_declaration, sort_declaration, symbol_declaration, alias_declaration, axiom_declaration, claim_declaration}
+use Rattle.kore_text.specs.Grammar.{Want, placed, any, given, Spelling, listed, more_listed, in_order, Takes, spell_name, spell_names, spell_sort, spell_sorts, spell_applied, spell_pattern, spell_patterns, spell_attributes, spell_signature, spell_statement, spell_declaration, spell_module, spell_definition}
 use Rattle.kore_text.specs.Left.{size}
 use Rattle.kore_text.specs.TextLaws.{NoMoreTokensThanBytes}
 use Rattle.kore_text.specs.Identifiers.{IsNamedSort, AreNamedSorts, IsNamedPattern, AreNamedPatterns, IsNamedAlias, IsNamedAxiom, IsNamedDeclaration, IsNamedModule, NamesAreIdentifiers, PatternNamesAreIdentifiers}

@@ -9,9 +9,8 @@ use Rattle.kore_text.specs.declared.symbols.Symbol.{Symbol}
 use Rattle.kore_text.specs.declared.symbols.Symbol.TheVariants as symbol
 use Rattle.kore_text.specs.TokenStream.{Token, identifier, set_identifier, builtin, string_token, mark, assign, Stream, end, fault, token}
 use Rattle.kore_text.specs.Grammar.{Want, placed, any, given, Spelling, listed, more_listed, Takes}
-use Rattle.kore_text.specs.Apart.{Apart}
+use Rattle.kore_text.specs.Apart.{Apart, is_mark}
 use Rattle.kore_text.specs.Table.{byte_of, symbol_of, is_fold, turn, step, passes, run, more_exactly, exactly}
-use Rattle.kore_text.specs.Apart.{is_mark}
 
 abbrev pub is_nil : List Symbol → Bool
 is_nil [] = true

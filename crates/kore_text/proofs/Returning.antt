@@ -12,23 +12,14 @@ use Rattle.kore_text.specs.declared.symbols.Item.TheVariants as item
 use Rattle.kore_text.specs.declared.symbols.Symbol.{Symbol}
 use Rattle.kore_text.specs.declared.symbols.Symbol.TheVariants as symbol
 use Rattle.kore_text.specs.TokenStream.{Token, identifier, set_identifier, builtin, string_token, mark, assign, Stream, token}
-use Rattle.kore_text.specs.Trees.{SortTree, sort_parameter, sort_applied, no_sorts, sort_then, sort_count}
-use Rattle.kore_text.specs.Trees.{PatternTree, element_variable, set_variable, string, symbol_applied, connected, binding, domain_value, folded}
-use Rattle.kore_text.specs.Trees.{pattern_then, pattern_count}
-use Rattle.kore_text.specs.Grammar.{Want, placed, any, listed, more_listed, in_order, Takes, sorts_of, arguments_of, takes, is_count, binder_sorts, binds_sets, is_variable, is_associative, spell_names, spell_sort, spell_sorts, spell_pattern, spell_patterns}
-use Rattle.kore_text.specs.Table.{byte_of, symbol_of, turn, no_arguments, folded_arguments, exactly, argument_symbols, built_symbols}
+use Rattle.kore_text.specs.Trees.{SortTree, sort_parameter, sort_applied, no_sorts, sort_then, sort_count, PatternTree, element_variable, set_variable, string, symbol_applied, connected, binding, domain_value, folded, pattern_then, pattern_count, sort_trees, pattern_trees, ModuleTree, import_declaration, sort_declaration, symbol_declaration, alias_declaration, axiom_declaration, claim_declaration}
+use Rattle.kore_text.specs.Grammar.{Want, placed, any, listed, more_listed, in_order, Takes, sorts_of, arguments_of, takes, is_count, binder_sorts, binds_sets, is_variable, is_associative, spell_names, spell_sort, spell_sorts, spell_pattern, spell_patterns, spell_variable, sort_word, symbol_word, spell_attributes, spell_signature, spell_body, spell_module}
+use Rattle.kore_text.specs.Table.{byte_of, symbol_of, turn, no_arguments, folded_arguments, exactly, argument_symbols, built_symbols, when, name_move, item_move, sort_move, pattern_move, built_move, folded_move, folded_built_move, word_move, keyword_move, rest_of, assign_move, text_move, pattern_tail_move, variable_move, declarations_move}
 use Rattle.kore_text.specs.Apart.{is_mark}
 use Rattle.std.proofs.lemmas.Slice.Eq.{bytes_eq-Decides}
 use Rattle.kore_text.specs.declared.names.Binder.{Binder}
-use Rattle.kore_text.specs.Trees.{sort_trees, pattern_trees}
-use Rattle.kore_text.specs.Trees.{ModuleTree}
-use Rattle.kore_text.specs.Trees.{import_declaration, sort_declaration, symbol_declaration, alias_declaration, axiom_declaration, claim_declaration}
-use Rattle.kore_text.specs.Grammar.{spell_variable, sort_word, symbol_word, spell_attributes, spell_signature, spell_body, spell_module}
 use Rattle.kore_text.specs.Faults.{of_symbol, of_connective}
-use Rattle.kore_text.specs.Table.{when, name_move, item_move, sort_move, pattern_move, built_move, folded_move, folded_built_move, word_move, keyword_move, rest_of}
-use Rattle.kore_text.proofs.Accepting.{number-is}
-use Rattle.kore_text.specs.Table.{assign_move, text_move, pattern_tail_move, variable_move, declarations_move}
-use Rattle.kore_text.proofs.Accepting.{single}
+use Rattle.kore_text.proofs.Accepting.{number-is, single}
 use Rattle.kore_text.proofs.Saying.{To, ItemTree, spell_item, variable_token, Says, Pieces, along, spell_sorts-trees, spell_patterns-trees, sort_count-trees, pattern_count-trees, same-count, said, exactly-back}
 
 -- these symbols' parts stand there

@@ -7,15 +7,9 @@ use Rattle.kore_text.specs.declared.symbols.Item.TheVariants as item
 use Rattle.kore_text.specs.declared.symbols.Symbol.{Symbol}
 use Rattle.kore_text.specs.declared.symbols.Symbol.TheVariants as symbol
 use Rattle.kore_text.specs.TokenStream.{Token, identifier, set_identifier, string_token, mark, assign, Stream}
-use Rattle.kore_text.specs.Trees.{SortTree, SortTrees, sort_count}
-use Rattle.kore_text.specs.Trees.{PatternTree}
-use Rattle.kore_text.specs.Trees.{PatternTrees, pattern_count}
-use Rattle.kore_text.specs.Grammar.{Want, placed, any, Spelling, listed, more_listed, in_order, Takes, is_foldable, spell_name, spell_names, spell_sort, spell_sorts, spell_pattern, spell_patterns}
+use Rattle.kore_text.specs.Trees.{SortTree, SortTrees, sort_count, PatternTree, PatternTrees, pattern_count, sort_trees, pattern_trees, ModuleTree, Declaration}
+use Rattle.kore_text.specs.Grammar.{Want, placed, any, Spelling, listed, more_listed, in_order, Takes, is_foldable, spell_name, spell_names, spell_sort, spell_sorts, spell_pattern, spell_patterns, spell_variable, spell_attributes, spell_signature, spell_body, spell_module}
 use Rattle.kore_text.specs.Table.{byte_of, symbol_of, more_exactly, exactly}
-use Rattle.kore_text.specs.Trees.{sort_trees, pattern_trees}
-use Rattle.kore_text.specs.Trees.{ModuleTree}
-use Rattle.kore_text.specs.Trees.{Declaration}
-use Rattle.kore_text.specs.Grammar.{spell_variable, spell_attributes, spell_signature, spell_body, spell_module}
 use Rattle.kore_text.specs.Faults.{FoldHead, spell_unfilled}
 
 -- what completes the rest completes the whole

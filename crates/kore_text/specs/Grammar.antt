@@ -7,11 +7,7 @@ use Rattle.kore_text.specs.declared.names.Binder.{Binder}
 use Rattle.kore_text.specs.declared.names.Binder.TheVariants as binder
 use Rattle.kore_text.specs.declared.names.Built.TheVariants.{Connective, Binding, Value, Fold}
 use Rattle.kore_text.specs.TokenStream.{Token, identifier, set_identifier, builtin, string_token, mark, assign, Stream, end, fault, token}
-use Rattle.kore_text.specs.Trees.{SortTree, sort_parameter, sort_applied, SortTrees, no_sorts, sort_then, sort_count}
-use Rattle.kore_text.specs.Trees.{PatternTree, element_variable, set_variable, string, symbol_applied, connected, binding, domain_value, folded}
-use Rattle.kore_text.specs.Trees.{PatternTrees, no_patterns, pattern_then, pattern_count}
-use Rattle.kore_text.specs.Trees.{ImportDeclaration, SortDeclaration, SymbolDeclaration, AliasDeclaration, AxiomDeclaration, ModuleTree, DefinitionTree}
-use Rattle.kore_text.specs.Trees.{Declaration, import_declaration, sort_declaration, symbol_declaration, alias_declaration, axiom_declaration, claim_declaration}
+use Rattle.kore_text.specs.Trees.{SortTree, sort_parameter, sort_applied, SortTrees, no_sorts, sort_then, sort_count, PatternTree, element_variable, set_variable, string, symbol_applied, connected, binding, domain_value, folded, PatternTrees, no_patterns, pattern_then, pattern_count, ImportDeclaration, SortDeclaration, SymbolDeclaration, AliasDeclaration, AxiomDeclaration, ModuleTree, DefinitionTree, Declaration, import_declaration, sort_declaration, symbol_declaration, alias_declaration, axiom_declaration, claim_declaration}
 
 -- a token at this place, a token at any place, or, without a token, that a condition holds
 pub data Want : Type 0 where

@@ -2,11 +2,7 @@
 use Rattle.std.specs.Prelude.{ℕ, false, List, [], All}
 use Rattle.kore_lex.specs.Tokens.{IsName}
 use Rattle.kore_text.specs.TokenStream.{tokens_of, end}
-use Rattle.kore_text.specs.Trees.{SortTree, sort_parameter, sort_applied, SortTrees, no_sorts, sort_then}
-use Rattle.kore_text.specs.Trees.{PatternTree, element_variable, set_variable, string, symbol_applied, connected, binding, domain_value, folded}
-use Rattle.kore_text.specs.Trees.{PatternTrees, no_patterns, pattern_then}
-use Rattle.kore_text.specs.Trees.{ImportDeclaration, SortDeclaration, SymbolDeclaration, AliasDeclaration, AxiomDeclaration, ModuleTree, DefinitionTree}
-use Rattle.kore_text.specs.Trees.{Declaration, import_declaration, sort_declaration, symbol_declaration, alias_declaration, axiom_declaration, claim_declaration}
+use Rattle.kore_text.specs.Trees.{SortTree, sort_parameter, sort_applied, SortTrees, no_sorts, sort_then, PatternTree, element_variable, set_variable, string, symbol_applied, connected, binding, domain_value, folded, PatternTrees, no_patterns, pattern_then, ImportDeclaration, SortDeclaration, SymbolDeclaration, AliasDeclaration, AxiomDeclaration, ModuleTree, DefinitionTree, Declaration, import_declaration, sort_declaration, symbol_declaration, alias_declaration, axiom_declaration, claim_declaration}
 use Rattle.kore_text.specs.Grammar.{Takes, spell_pattern, spell_definition}
 
 abbrev mutual

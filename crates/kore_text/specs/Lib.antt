@@ -1,15 +1,13 @@
--- What a reader of the contracts has to believe, lowest first.
+-- Believed: what public clauses say, and believed definitions of other crates.
 pub mod TokenStream
 pub mod Trees
 pub mod Grammar
 pub mod Faults
 pub mod Left
--- What a definition of another crate cites.
-pub mod Apart
--- Laws.
 pub mod TextLaws
 pub mod Identifiers
--- What only private functions cite.
+-- Private: what clauses of private functions cite, and how private fields are seen.
+pub mod Apart
 pub mod Table
 pub mod Stacks
 pub mod Finding

@@ -12,7 +12,8 @@ use Rattle.ml_pat.specs.Named.{number_of, IsNumbered}
 use Rattle.term_core.specs.Patterns.{Pattern as RulePattern, Patterns as RulePatterns, variable, domain_value, application, injection, call, no_pattern, more_patterns}
 use Rattle.rule_core.specs.declared.signature.Signature.{Signature}
 use Rattle.ml_image.specs.Tokens.{token_of_sort, token_of_symbol, token_of_value, numbered}
-use Rattle.ml_image.specs.Images.{both, symbol_image, at_sorts, image_of, applied, rule_image_of, some_symbol_image, injection_symbol, injection_image, is_injection, IsInjectionAt}
+use Rattle.ml_image.specs.Images.{both, symbol_image, at_sorts, image_of, applied, rule_image_of, some_symbol_image, injection_symbol, injection_image, is_injection}
+use Rattle.ml_image.specs.Injecting.{IsInjectionAt}
 use Rattle.ml_image.specs.Gained.{IsOwnToken, AreOwnTokens, HasGained}
 
 -- what is there stays the same

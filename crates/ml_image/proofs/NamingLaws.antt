@@ -1,13 +1,8 @@
 -- Images stay the same when names gain tokens.
-use Rattle.std.proofs.Common.{◌≡◌, ℕ, ◌≤◌, Bool, true, false, List, [], ◌∷◌, ◌++◌, map, Some, slice_get, length, take, drop, zero, suc, refl, ap, ◌∙◌, sym, subst, arith, length-append, ◌+◌, ◌<◌, cond, Option, None, option_map}
-use Rattle.std.proofs.lemmas.Bool.{false≢true}
-use Rattle.ml_pat.specs.Patterns.{Pattern, top, imp, and, all, next}
+use Rattle.std.proofs.Common.{◌≡◌, ℕ, List, [], ◌∷◌, ◌++◌, Some, length, drop, refl, ap, ◌∙◌, sym, subst, Option, None, option_map}
+use Rattle.ml_pat.specs.Patterns.{Pattern, top, imp, and, next}
 use Rattle.ml_image.specs.Images.{image_of, both, rule_image_of}
 use Rattle.ml_image.specs.Gained.{AreOwnTokens}
-use Rattle.std.specs.Prelude.{codes, bytes_eq}
-use Rattle.std.specs.List.{position_from}
-use Rattle.std.proofs.lemmas.Option.{slice_get_within, get_or_from_slice_get}
-use Rattle.std.proofs.lemmas.Slice.Eq.{bytes_eq-Decides}
 use Rattle.ml_image.proofs.ImageLaws.{none_some, image-keeps, rule_image-sides}
 use Rattle.ml_image.specs.NamingLaws.{GainedAreOwn, ImageStays, RuleImageStays}
 

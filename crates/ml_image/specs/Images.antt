@@ -28,10 +28,6 @@ is_injection (kind.Hooked n) = false
 is_injection kind.Closed = false
 is_injection kind.NoKind = false
 
--- whether the symbol with this number injects
-abbrev pub IsInjectionAt : Signature → ℕ → Bool → Type 0
-IsInjectionAt sig i injects = (e : List ℕ × SymInfo) → slice_get sig.symbols i ≡ Some e → injects ≡ is_injection e.1.kind
-
 -- the injection symbol: the first of that kind
 abbrev pub injection_symbol : Signature → Option ℕ
 injection_symbol sig = position_from (λ (e : List ℕ × SymInfo). is_injection e.1.kind) 0 sig.symbols

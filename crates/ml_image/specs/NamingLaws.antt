@@ -1,5 +1,5 @@
 -- What stays true of images when names gain tokens.
-use Rattle.std.specs.Prelude.{◌≡◌, ℕ, ◌<◌, ◌≤◌, ◌^◌, true, false, List, [], ◌∷◌, ◌++◌, length, take, drop, Some}
+use Rattle.std.specs.Prelude.{◌≡◌, ℕ, List, ◌++◌, length, drop, Some}
 use Rattle.ml_pat.specs.Patterns.{Pattern}
 use Rattle.term_core.specs.Patterns.{Pattern as RulePattern}
 use Rattle.rule_core.specs.declared.signature.Signature.{Signature}

@@ -1,3 +1,4 @@
+-- Believed: what public clauses say, and believed definitions of other crates.
 pub mod Rules
 pub mod Renamings
 pub mod Derivability
@@ -7,6 +8,7 @@ pub mod Concluding
 pub mod StepView
 pub mod UsedLeaves
 pub mod MayCite
+-- Private: what clauses of private functions cite, and how private fields are seen.
 pub mod StepsIn
 pub mod Premises
 pub mod Spines

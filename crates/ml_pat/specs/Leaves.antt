@@ -9,21 +9,6 @@ pub record LeafFacts : Type 1 where
   pub object : ℕ → Type 0
   pub meta : ℕ → Type 0
 
--- which leaves are known
-pub record Known : Type 0 where
-  pub sort : ℕ → Bool
-  pub constant : ℕ → Bool
-  pub object : ℕ → Bool
-  pub meta : ℕ → Bool
-
-abbrev pub are_known : Known → LeafFacts
-are_known k = record {
-  sort = λ i. IsTrue (k.sort i);
-  constant = λ i. IsTrue (k.constant i);
-  object = λ i. IsTrue (k.object i);
-  meta = λ i. IsTrue (k.meta i);
-}
-
 -- each leaf of the pattern has its fact
 abbrev pub EachLeaf : LeafFacts → Pattern → Type 0
 EachLeaf f bot = Unit {0}

@@ -1,11 +1,15 @@
+-- Believed: what public clauses say, and believed definitions of other crates.
 pub mod Patterns
-pub mod FormsIn
 pub mod Leaves
 pub mod PatternView
+pub mod Judgements
+pub mod Named
+-- Laws: what follows from that. Each is a clause of a function that does nothing.
+pub mod KnownLeaves
+-- Private: what clauses of private functions cite, and how private fields are seen.
+pub mod FormsIn
 pub mod WholePattern
 pub mod PatternCode
 pub mod PatternSize
-pub mod Judgements
-pub mod Named
 pub mod NamesView
 pub mod Comparing

@@ -5,11 +5,12 @@ use Rattle.mm_database.specs.Database.{Context}
 use Rattle.ml_pat.specs.Patterns.{Pattern}
 use Rattle.mm_proof.specs.Tokens.{own_naming}
 use Rattle.mm_proof.specs.Labels.{statement_label}
-use Rattle.mm_proof.specs.Derivations.{CitesSoundly}
+use Rattle.mm_proof.specs.SoundCiting.{CitesSoundly}
 use Rattle.mm_claims.specs.Variables.{Variable, AreNumbered}
 use Rattle.mm_claims.specs.Blocks.{Claim, open_frame}
 use Rattle.mm_claims.specs.OverNames.{open_over}
-use Rattle.mm_claims.specs.CitedAt.{claims_citing, citable, ArePremises}
+use Rattle.mm_claims.specs.CitedAt.{claims_citing, ArePremises}
+use Rattle.mm_claims.specs.Citable.{citable}
 use Rattle.mm_claims.specs.Claiming.{HoldsClaims}
 use Rattle.mm_claims.proofs.BlockLaws.{inside_block}
 use Rattle.mm_claims.proofs.OpenServes.{assertion_inside, premise_inside, serves_inside}

@@ -6,12 +6,11 @@ use Rattle.std.proofs.lemmas.Bool.{false≢true}
 use Rattle.std.proofs.lemmas.Slice.Eq.{bytes_eq-Decides}
 use Rattle.mm_text.specs.Bytes.{Token, has_token}
 use Rattle.mm_text.specs.Statements.{statement, ends_statement}
-use Rattle.mm_text.specs.TextLaws.{is_plain_token, is_one_statement, written}
 use Rattle.mm_database.specs.Forms.{Form, declares_constants, asserts, plain, form_of, has_dollar}
 use Rattle.mm_database.specs.Frames.{Frame, frame_of}
 use Rattle.mm_database.specs.Database.{Context, context_after, after_form, with_declared}
 use Rattle.mm_database.specs.Validity.{IsProved, task, form_fault, is_new_label, IsFine}
-use Rattle.mm_database.specs.FrameLaws.{Adds, plain_tokens}
+use Rattle.mm_database.specs.FrameLaws.{Adds}
 use Rattle.mm_database.specs.Writing.{MayBeStated}
 use Rattle.mm_database.proofs.WrittenForms.{plain_tokens_say}
 use Rattle.mm_database.proofs.Continued.{axiom_is_fine}
@@ -24,6 +23,9 @@ use Rattle.mm_claims.specs.Statements.{IsName, sort_name, symbol_name, value_nam
 use Rattle.mm_claims.specs.Fitting.{AreNames, name_frame, Holds}
 use Rattle.mm_claims.proofs.NameLaws.{NameFacts, name_facts, name_label-is_label, name_label-plain, name_label-clean, name_label-differs, no_label_among}
 use Rattle.mm_claims.proofs.BoolLaws.{with_false, either_true, both_false, if_false, if_true}
+use Rattle.mm_text.specs.Written.{written}
+use Rattle.mm_text.specs.PlainTokens.{is_plain_token, is_one_statement}
+use Rattle.mm_database.specs.StatementTexts.{plain_tokens}
 
 header_no_label : (t : Token) → IsName t → header_context.labels t ≡ false
 unfolding header_context header_rows header_labels

@@ -5,11 +5,9 @@ use Rattle.std.specs.List.{list_any, list_all}
 use Rattle.std.proofs.lemmas.Bool.{false≢true}
 use Rattle.mm_text.specs.Bytes.{Token, has_token, has_repeated}
 use Rattle.mm_text.specs.Labels.{is_label}
-use Rattle.mm_text.specs.TextLaws.{is_plain_token}
 use Rattle.mm_database.specs.Forms.{declares_variables, types_variable, assumes, separates, plain, has_dollar}
 use Rattle.mm_database.specs.Frames.{Hypothesis, label_of, types, Scope}
 use Rattle.mm_database.specs.Database.{Context}
-use Rattle.mm_database.specs.FrameLaws.{plain_tokens}
 use Rattle.mm_database.specs.Validity.{declaration_fault, has_two, has_type, is_new_label, is_typed}
 use Rattle.mm_header.specs.HeaderContext.{header_context}
 use Rattle.mm_proof.specs.Labels.{statement_label, premise_label}
@@ -25,6 +23,8 @@ use Rattle.mm_claims.proofs.VariableLaws.{VariableFacts, variable_facts, label_d
 use Rattle.mm_claims.proofs.InsideLaws.{Left, inside, AddsAnywhere, AreSymbols, list_any-append, map-append, behind_variable, behind_hypothesis, behind_separation, unlabelled_adds, labelled_adds}
 use Rattle.mm_claims.proofs.Separations.{new_variable, numbered_front, numbered_behind, absent_token, EachSeparated, separated_once, variables_are_symbols, all_among}
 use Rattle.mm_claims.proofs.BoolLaws.{both_false, either_true, second_true, not_false, split_false}
+use Rattle.mm_text.specs.PlainTokens.{is_plain_token}
+use Rattle.mm_database.specs.StatementTexts.{plain_tokens}
 
 -- what stands behind the text before a block
 pub record IsGround (declared : List Token) (k : ℕ) (c : Context) : Type 0 where

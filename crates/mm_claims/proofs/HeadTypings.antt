@@ -6,7 +6,6 @@ use Rattle.mm_text.specs.Bytes.{Token}
 use Rattle.mm_database.specs.Forms.{Keyword, declares_variables, types_variable, separates, assumes, form_of, has_dollar}
 use Rattle.mm_database.specs.Frames.{Hypothesis}
 use Rattle.mm_database.specs.Assertions.{form_typing, with_typing_first, keyword_typing}
-use Rattle.mm_database.specs.FrameLaws.{are_clean, has_proof, plain_tokens}
 use Rattle.mm_database.proofs.WrittenForms.{plain_tokens_say}
 use Rattle.ml_pat.specs.Patterns.{Pattern}
 use Rattle.mm_proof.specs.Tokens.{letters_of, text_by, own_naming}
@@ -22,6 +21,8 @@ use Rattle.mm_claims.proofs.Separations.{EachSeparated, each_separated, variable
 use Rattle.mm_claims.proofs.HeadLaws.{variable_label_own, premise_label_own, own_symbols}
 use Rattle.mm_claims.proofs.OpenTexts.{open_symbols}
 use Rattle.mm_claims.proofs.BoolLaws.{not_false}
+use Rattle.mm_database.specs.StatementTexts.{plain_tokens}
+use Rattle.mm_database.specs.CleanTokens.{are_clean, has_proof}
 
 typing-append : (h : Option Hypothesis) (xs ys : List Hypothesis) → with_typing_first h (xs ++ ys) ≡ with_typing_first h xs ++ ys
 typing-append None xs ys = refl

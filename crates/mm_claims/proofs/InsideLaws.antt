@@ -8,18 +8,21 @@ use Rattle.std.proofs.lemmas.Slice.Eq.{bytes_eq-Decides}
 use Rattle.mm_text.specs.Bytes.{Token, has_token}
 use Rattle.mm_text.proofs.Writing.{written_statement}
 use Rattle.mm_text.specs.Statements.{statement, statements_from, ends_statement, is_whole}
-use Rattle.mm_text.specs.TextLaws.{is_plain_token, is_one_statement, ends_once, written}
 use Rattle.mm_database.specs.Forms.{Form, Keyword, declares_constants, declares_variables, types_variable, assumes, separates, asserts, proves, plain, form_of, has_dollar}
 use Rattle.mm_database.specs.Frames.{Hypothesis, label_of, Frame, frame_of}
 use Rattle.mm_database.specs.Database.{Block, Context, context_after, after_form, with_declared, with_block_opened, with_block_closed, with_tokens, with_token, with_hypothesis, with_assertion, are_different_tokens}
 use Rattle.mm_database.specs.Assertions.{Assertion, assertion, keyword_assertion, assertions_in, form_assertion, with_assertion_first, keyword_typing, form_typing, with_typing_first, typings_in}
 use Rattle.mm_database.specs.Validity.{IsProved, task, form_fault, declaration_fault, or_else, IsFine}
-use Rattle.mm_database.specs.FrameLaws.{Adds, written_statements, are_clean, keyword_token, has_proof, plain_tokens}
+use Rattle.mm_database.specs.FrameLaws.{Adds}
 use Rattle.mm_database.proofs.WrittenForms.{plain_tokens_say}
 use Rattle.ml_pat.proofs.LeafLaws.{both_true, split_true}
 use Rattle.mm_proof.proofs.LeafLaws.{list_all-append}
 use Rattle.mm_claims.proofs.StatedLaws.{ends_last}
 use Rattle.mm_claims.proofs.BoolLaws.{not_false, with_false}
+use Rattle.mm_text.specs.Written.{written}
+use Rattle.mm_text.specs.PlainTokens.{is_plain_token, is_one_statement, ends_once}
+use Rattle.mm_database.specs.StatementTexts.{written_statements, keyword_token, plain_tokens}
+use Rattle.mm_database.specs.CleanTokens.{are_clean, has_proof}
 
 -- the context inside a block that began at a byte, with these variables' tokens, hypotheses and `$d`s
 abbrev pub inside : Context → ℕ → List Token → List Hypothesis → List (List Token) → Context

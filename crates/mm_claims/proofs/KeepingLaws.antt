@@ -3,7 +3,6 @@ use Rattle.std.proofs.Common.{◌≡◌, ℕ, ◌+◌, ◌<◌, ◌^◌, Bool, t
 use Rattle.std.specs.Prelude.{IsTrue, if◌then◌else◌, slice_index_or, codes}
 use Rattle.std.proofs.lemmas.Bool.{false≢true}
 use Rattle.mm_text.specs.Bytes.{Token}
-use Rattle.mm_database.specs.FrameLaws.{written_statements, plain_tokens, proof_tokens}
 use Rattle.mm_database.specs.Forms.{asserts, assumes}
 use Rattle.mm_database.specs.Assertions.{Assertion}
 use Rattle.mm_database.specs.Proofs.{ProofTree, postorder}
@@ -23,8 +22,10 @@ use Rattle.mm_claims.specs.Statements.{all_name_statements, axiom_statement, the
 use Rattle.mm_claims.specs.Variables.{Variable, object_variable, pattern_variable, AreNumbered}
 use Rattle.mm_claims.specs.OverNames.{open_over, AreOpenOver, over_names, AreOverNames}
 use Rattle.mm_claims.specs.Blocks.{Claim, IsClaim, variable_statements, separations, separation_statements, premise_statements, block, needs_block, axiom_statements, theorem_statements, open_assertion}
-use Rattle.mm_claims.specs.CitedAt.{claims_citing, HaveInstances, IsCitable, citable, ArePremises}
-use Rattle.mm_claims.specs.Claiming.{FitsClaims, HasJust, IsProvable}
+use Rattle.mm_claims.specs.CitedAt.{claims_citing, HaveInstances, IsCitable, ArePremises}
+use Rattle.mm_claims.specs.Citable.{citable}
+use Rattle.mm_claims.specs.Claiming.{FitsClaims, HasJust}
+use Rattle.mm_claims.specs.Provable.{IsProvable}
 use Rattle.mm_claims.specs.ClaimVariables.{claim_of, claim_variables}
 use Rattle.mm_claims.specs.Keeping.{FitsWhen, Gains, MayState, axiom_at, with_stated}
 use Rattle.mm_claims.specs.KeepingLaws.{EmptyFits, BegunFits, DeclaredFits}
@@ -35,6 +36,7 @@ use Rattle.mm_claims.proofs.NamedClaims.{declared_fits_claims}
 use Rattle.mm_claims.proofs.OpenFits.{header_fits_claims, axiom_fits, axiom_is_gained, theorem_fits, theorem_is_gained}
 use Rattle.mm_claims.proofs.OpenVariableLaws.{needed_are_enough}
 use Rattle.mm_claims.proofs.ClaimLaws.{over_names_is_claim}
+use Rattle.mm_database.specs.StatementTexts.{written_statements, plain_tokens, proof_tokens}
 
 pub empty_fits : EmptyFits
 empty_fits names = refl

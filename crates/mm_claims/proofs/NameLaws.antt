@@ -6,7 +6,6 @@ use Rattle.std.proofs.lemmas.Bool.{false≢true}
 use Rattle.std.proofs.lemmas.Slice.Eq.{bytes_eq-Decides}
 use Rattle.mm_text.specs.Bytes.{Token, is_printable, class_of, is_printable_class, has_token}
 use Rattle.mm_text.specs.Labels.{is_label_byte, is_label}
-use Rattle.mm_text.specs.TextLaws.{is_plain_token}
 use Rattle.mm_text.specs.Statements.{ends_statement}
 use Rattle.mm_database.specs.Forms.{has_dollar}
 use Rattle.mm_database.specs.Frames.{frame_of}
@@ -18,6 +17,7 @@ use Rattle.mm_proof.proofs.Decimals.{list_all-decimal, decimal-same}
 use Rattle.mm_claims.specs.Statements.{NameKind, sort_name, symbol_name, value_name, kind_front, is_name_byte, IsName, typecode_of}
 use Rattle.mm_claims.specs.Fitting.{name_frame, AreNames}
 use Rattle.mm_claims.specs.Variables.{is_variable_token}
+use Rattle.mm_text.specs.PlainTokens.{is_plain_token}
 
 -- what is known of a name's token
 pub record NameFacts (t : Token) : Type 0 where

@@ -7,7 +7,6 @@ use Rattle.mm_text.specs.Labels.{is_label}
 use Rattle.mm_database.specs.Frames.{Hypothesis, essential, Scope, Frame, frame_of}
 use Rattle.mm_database.specs.Database.{Context}
 use Rattle.mm_database.specs.Proofs.{hypothesis_of}
-use Rattle.mm_database.specs.FrameLaws.{written_statements}
 use Rattle.mm_database.proofs.Continued.{continued_leaves}
 use Rattle.mm_header.specs.HeaderContext.{header_context}
 use Rattle.ml_pat.specs.Patterns.{Pattern}
@@ -29,6 +28,7 @@ use Rattle.mm_claims.proofs.NameLaws.{name_label-is_label}
 use Rattle.mm_claims.proofs.FittingLaws.{with_name, IsNew, name_holds, behind_names, closed_names, adds_names, none_has, AreNames-front, AreNames-next, name_of-front, take-drop, length-front}
 use Rattle.mm_claims.proofs.StatedLaws.{name_no_active}
 use Rattle.mm_claims.proofs.BoolLaws.{both_false, either_true, second_true}
+use Rattle.mm_database.specs.StatementTexts.{written_statements}
 
 -- names, one more
 names_last : (done : List Token) (t : Token) → AreNames done → IsName t → AreNames (done ++ t ∷ [])

@@ -15,7 +15,8 @@ use Rattle.mm_proof.specs.Tokens.{Naming, own_naming, object_token, meta_token}
 use Rattle.mm_proof.specs.Labels.{statement_label, premise_label, own_labels}
 use Rattle.ml_pat.specs.Leaves.{LeafFacts}
 use Rattle.mm_proof.specs.Trees.{trees_of, cite}
-use Rattle.mm_proof.specs.Derivations.{holds_text, CitesSoundly}
+use Rattle.mm_proof.specs.Derivations.{holds_text}
+use Rattle.mm_proof.specs.SoundCiting.{CitesSoundly}
 use Rattle.mm_proof.specs.Serving.{IsAssertion, Serves}
 use Rattle.mm_proof.proofs.Schemes.{leads-by}
 use Rattle.mm_proof.proofs.RowProofs.{all_proofs}
@@ -25,7 +26,8 @@ use Rattle.mm_proof.proofs.ApartLaws.{text_apart, apart_text}
 use Rattle.mm_claims.specs.Fitting.{AreNames}
 use Rattle.mm_claims.specs.Variables.{Variable, object_variable, pattern_variable, has_variable, variable_token, variable_tokens, object_tokens}
 use Rattle.mm_claims.specs.Blocks.{Claim, IsClaim, variable_float, premise_hypotheses, are_apart, open_frame}
-use Rattle.mm_claims.specs.CitedAt.{variable_tree, claim_at, claim_tree, claims_citing, HasInstance, HaveInstances, IsCitable, citable, ArePremises}
+use Rattle.mm_claims.specs.CitedAt.{variable_tree, claim_at, claim_tree, claims_citing, HasInstance, HaveInstances, IsCitable, ArePremises}
+use Rattle.mm_claims.specs.Citable.{citable}
 use Rattle.mm_claims.specs.OpenCiting.{ServesClaims}
 use Rattle.mm_claims.proofs.OpenCitingTexts.{case_variable, first_there, later_there, value, entry, given_by, given_variable, given_other, GivesInstances, holds-instance, floats-instance, premises-instance, no_variables_at, other_than, instance-none}
 use Rattle.mm_claims.proofs.BoolLaws.{second_true}

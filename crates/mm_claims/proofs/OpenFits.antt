@@ -11,8 +11,7 @@ use Rattle.mm_database.specs.Frames.{Hypothesis, label_of, Scope, Frame}
 use Rattle.mm_database.specs.Proofs.{hypothesis_of, ProofTree, Proves}
 use Rattle.mm_database.specs.Database.{Context, with_assertion}
 use Rattle.mm_database.specs.Assertions.{Assertion, assertions_of, typings_of}
-use Rattle.mm_database.specs.Writing.{Leaves}
-use Rattle.mm_database.specs.FrameLaws.{Adds, written_statements}
+use Rattle.mm_database.specs.FrameLaws.{Adds}
 use Rattle.mm_database.proofs.Continued.{continued_leaves, leaves_is_valid}
 use Rattle.mm_database.proofs.Stated.{appended_states}
 use Rattle.mm_header.specs.Header.{Row, header_rows}
@@ -27,12 +26,14 @@ use Rattle.mm_proof.specs.Derivations.{holds_text, derivation_tree}
 use Rattle.ml_pat.proofs.LeafLaws.{split_true, both_true}
 use Rattle.mm_proof.proofs.CitingDerivations.{cited_proves}
 use Rattle.mm_claims.specs.Fitting.{Holds}
-use Rattle.mm_claims.specs.CitedAt.{claims_citing, citable}
+use Rattle.mm_claims.specs.CitedAt.{claims_citing}
+use Rattle.mm_claims.specs.Citable.{citable}
 use Rattle.mm_claims.specs.Variables.{Variable, object_variable, pattern_variable, are_once, AreNumbered, variable_token, variable_label}
 use Rattle.mm_claims.specs.Blocks.{Claim, IsClaim, head_statements, block, axiom_block, theorem_block, axiom_statements, variable_float, premise_hypotheses, open_frame, open_assertion}
 use Rattle.mm_claims.specs.OverNames.{open_over, AreOpenOver}
 use Rattle.mm_claims.specs.Statements.{axiom_statement, theorem_statement}
-use Rattle.mm_claims.specs.Claiming.{FitsClaims, HoldsClaims, IsProvable, proved_statements, HasJust}
+use Rattle.mm_claims.specs.Claiming.{FitsClaims, HoldsClaims, proved_statements, HasJust}
+use Rattle.mm_claims.specs.Provable.{IsProvable}
 use Rattle.mm_claims.specs.StatementLaws.{ClaimsAreValid, HeaderFitsClaims, AxiomFits, TheoremFits, AxiomIsGained, TheoremIsGained}
 use Rattle.mm_claims.proofs.SpeltLaws.{header_spelt, hypothesis_spelt, types_spelt, postorder_spelt}
 use Rattle.mm_claims.proofs.FittingLaws.{header_holds, header_closed}
@@ -46,6 +47,8 @@ use Rattle.mm_claims.proofs.OpenServes.{serves_inside}
 use Rattle.mm_claims.proofs.CitedLaws.{claims_sound}
 use Rattle.mm_claims.proofs.BlockLaws.{inside_block, behind_block, block_left, claims_hold, ground, all_more_variables, claim_may_be_stated, block_adds}
 use Rattle.mm_claims.proofs.PlainStatements.{axiom_asserts, theorem_asserts, plain_axiom_adds, plain_theorem_adds}
+use Rattle.mm_database.specs.Leaving.{Leaves}
+use Rattle.mm_database.specs.StatementTexts.{written_statements}
 
 pub claims_are_valid : ClaimsAreValid
 claims_are_valid declared claims bytes (c, leaves, w) = leaves_is_valid bytes c leaves

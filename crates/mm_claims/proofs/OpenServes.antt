@@ -12,7 +12,8 @@ use Rattle.mm_header.specs.HeaderContext.{header_context}
 use Rattle.ml_pat.specs.Patterns.{Pattern}
 use Rattle.mm_proof.specs.Tokens.{name_of, own_naming, object_token, meta_token}
 use Rattle.mm_proof.specs.Labels.{name_label, premise_label, own_labels}
-use Rattle.mm_proof.specs.Serving.{IsAssertion, closed_frame, Declares, Serves, punctuation}
+use Rattle.mm_proof.specs.Serving.{IsAssertion, Declares, Serves, punctuation}
+use Rattle.mm_proof.specs.ClosedFrames.{closed_frame}
 use Rattle.mm_proof.specs.Derivations.{holds_text}
 use Rattle.ml_pat.proofs.LeafLaws.{both_true, split_true}
 use Rattle.mm_claims.specs.Statements.{typecode_of}

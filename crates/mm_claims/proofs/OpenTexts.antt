@@ -3,7 +3,6 @@ use Rattle.std.proofs.Common.{◌≡◌, ℕ, ◌+◌, ◌<◌, ◌≤◌, ◌^�
 use Rattle.std.specs.Prelude.{◌&&◌, ◌||◌, not, codes, bytes_eq}
 use Rattle.std.specs.List.{list_any, list_all}
 use Rattle.mm_text.specs.Bytes.{Token, has_token}
-use Rattle.mm_text.specs.TextLaws.{is_plain_token}
 use Rattle.mm_database.specs.Forms.{assumes, has_dollar}
 use Rattle.mm_database.specs.Frames.{Hypothesis, essential, label_of, types}
 use Rattle.mm_database.specs.Database.{Context}
@@ -28,6 +27,7 @@ use Rattle.mm_claims.proofs.InsideLaws.{Left, inside, AddsAnywhere, AreSymbols, 
 use Rattle.mm_claims.proofs.Separations.{present_token, each_separated}
 use Rattle.mm_claims.proofs.HeadLaws.{IsGround, IsOwnLabel, premise_label_own, new_inside, own_symbols, typed_tokens, premise_well, variables_add, separations_add}
 use Rattle.mm_claims.proofs.BoolLaws.{both_false, either_true, second_true, not_false}
+use Rattle.mm_text.specs.PlainTokens.{is_plain_token}
 
 -- each token passes a test that the header's constants, names and the variables pass
 pub open_passes : (test : Token → Bool) (declared : List Token) (vs : List Variable) (p : Pattern) → PassFixed test → test (codes "|-") ≡ true → ((i : ℕ) → i < length declared → test (name_of declared i) ≡ true)

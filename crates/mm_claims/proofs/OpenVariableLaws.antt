@@ -13,7 +13,8 @@ use Rattle.ml_kernel.specs.MayCite.{EachCited, AllCited}
 use Rattle.mm_claims.specs.Variables.{Variable, object_variable, pattern_variable, has_variable, are_once, AreNumbered}
 use Rattle.mm_claims.specs.Blocks.{Claim}
 use Rattle.mm_claims.specs.OverNames.{open_over, over_names}
-use Rattle.mm_claims.specs.CitedAt.{claim_at, HaveInstances, IsCitable, citable}
+use Rattle.mm_claims.specs.CitedAt.{claim_at, HaveInstances, IsCitable}
+use Rattle.mm_claims.specs.Citable.{citable}
 use Rattle.mm_claims.specs.OpenVariables.{variables_in, variables_for, variables_at, variables_of, all_variables_of, other_variables}
 use Rattle.mm_claims.specs.ClaimLaws.{NeededAreEnough}
 use Rattle.mm_claims.proofs.OpenCitingTexts.{case_variable, first_there, later_there}

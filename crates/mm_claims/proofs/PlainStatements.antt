@@ -18,15 +18,18 @@ use Rattle.ml_pat.specs.Patterns.{Pattern}
 use Rattle.ml_kernel.specs.Theorems.{Derivation}
 use Rattle.mm_proof.specs.Tokens.{letters_of, text_by, name_of, own_naming}
 use Rattle.mm_proof.specs.Labels.{name_label, statement_label, own_labels}
-use Rattle.mm_proof.specs.Serving.{IsAssertion, closed_frame, punctuation, Declares, Serves}
+use Rattle.mm_proof.specs.Serving.{IsAssertion, punctuation, Declares, Serves}
+use Rattle.mm_proof.specs.ClosedFrames.{closed_frame}
 use Rattle.mm_proof.specs.Derivations.{holds_text, derivation_tree}
 use Rattle.mm_proof.proofs.CitingDerivations.{cited_proves}
 use Rattle.mm_claims.specs.Statements.{typecode_of, axiom_statement, theorem_statement}
 use Rattle.mm_claims.specs.Fitting.{AreNames, Holds}
 use Rattle.mm_claims.specs.Blocks.{Claim, IsClaim, open_frame, open_assertion}
 use Rattle.mm_claims.specs.OverNames.{open_over}
-use Rattle.mm_claims.specs.CitedAt.{claims_citing, citable}
-use Rattle.mm_claims.specs.Claiming.{HoldsClaims, IsProvable}
+use Rattle.mm_claims.specs.CitedAt.{claims_citing}
+use Rattle.mm_claims.specs.Citable.{citable}
+use Rattle.mm_claims.specs.Claiming.{HoldsClaims}
+use Rattle.mm_claims.specs.Provable.{IsProvable}
 use Rattle.mm_claims.proofs.NameLaws.{name_facts}
 use Rattle.mm_claims.proofs.SpeltLaws.{label_facts, statement_label-is_label, header_active_spelt, postorder_spelt, labels_clean, labels_plain, labels_go_on, labels_uncompressed}
 use Rattle.mm_claims.proofs.StatedLaws.{name_at, fixed_variables, fixed_constants, axiom_plain, axiom_one, theorem_plain, theorem_one}

@@ -5,10 +5,8 @@ use Rattle.std.specs.List.{list_any, list_all}
 use Rattle.std.proofs.lemmas.Bool.{false≢true}
 use Rattle.std.proofs.lemmas.Slice.Eq.{bytes_eq-Decides}
 use Rattle.mm_text.specs.Bytes.{Token, has_token, has_repeated}
-use Rattle.mm_text.specs.TextLaws.{is_plain_token}
 use Rattle.mm_database.specs.Forms.{has_dollar}
 use Rattle.mm_database.specs.Database.{are_different_tokens}
-use Rattle.mm_database.specs.FrameLaws.{are_clean}
 use Rattle.ml_pat.proofs.LeafLaws.{both_true, split_true, not_true}
 use Rattle.mm_claims.specs.Variables.{Variable, object_variable, pattern_variable, is_object, number_of, same_variable, has_variable, are_once, AreNumbered, variable_token, variable_tokens, object_tokens, are_several}
 use Rattle.mm_claims.specs.Blocks.{separated, separations, are_apart}
@@ -16,6 +14,8 @@ use Rattle.mm_claims.proofs.StatedLaws.{itself}
 use Rattle.mm_claims.proofs.VariableLaws.{VariableFacts, variable_facts, token_differs, same_is, itself_same, turned_variable, has_append, numbered_both, once_more}
 use Rattle.mm_claims.proofs.InsideLaws.{list_any-append, map-append, AreSymbols}
 use Rattle.mm_claims.proofs.BoolLaws.{both_false, second_true, not_false, or_false, and_true, split_false, and_false}
+use Rattle.mm_text.specs.PlainTokens.{is_plain_token}
+use Rattle.mm_database.specs.CleanTokens.{are_clean}
 
 -- variables among others
 

@@ -6,7 +6,6 @@ use Rattle.std.proofs.lemmas.Bool.{false≢true}
 use Rattle.std.proofs.lemmas.Slice.Eq.{bytes_eq-Decides}
 use Rattle.mm_text.specs.Bytes.{Token, has_token, class_of, is_printable_class}
 use Rattle.mm_text.specs.Labels.{is_label_byte, is_label}
-use Rattle.mm_text.specs.TextLaws.{is_plain_token}
 use Rattle.mm_text.specs.Statements.{ends_statement}
 use Rattle.mm_database.specs.Forms.{has_dollar}
 use Rattle.mm_database.specs.Frames.{Hypothesis, label_of, Frame}
@@ -22,6 +21,7 @@ use Rattle.mm_proof.proofs.LeafLaws.{list_all-append}
 use Rattle.mm_proof.proofs.Decimals.{list_all-decimal, decimal-same}
 use Rattle.mm_claims.specs.Statements.{is_name_byte}
 use Rattle.mm_claims.proofs.NameLaws.{all_printing, no_dollars, digit_of_label}
+use Rattle.mm_text.specs.PlainTokens.{is_plain_token}
 
 -- what is known of a label's tokens
 pub record LabelFacts (t : Token) : Type 0 where

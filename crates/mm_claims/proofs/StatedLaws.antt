@@ -6,12 +6,10 @@ use Rattle.std.proofs.lemmas.Bool.{false≢true}
 use Rattle.std.proofs.lemmas.Slice.Eq.{bytes_eq-Decides}
 use Rattle.mm_text.specs.Bytes.{Token, has_token}
 use Rattle.mm_text.specs.Statements.{ends_statement}
-use Rattle.mm_text.specs.TextLaws.{is_plain_token, is_one_statement, ends_once}
 use Rattle.mm_database.specs.Forms.{asserts}
 use Rattle.mm_database.specs.Frames.{Hypothesis, label_of, Frame}
 use Rattle.mm_database.specs.Database.{Context}
 use Rattle.mm_database.specs.Proofs.{hypothesis_of}
-use Rattle.mm_database.specs.FrameLaws.{plain_tokens, proof_tokens}
 use Rattle.mm_header.specs.Header.{header_rows}
 use Rattle.mm_header.specs.HeaderContext.{header_context}
 use Rattle.mm_proof.specs.Labels.{name_label, statement_label}
@@ -23,6 +21,8 @@ use Rattle.mm_claims.specs.Statements.{NameKind, sort_name, symbol_name, value_n
 use Rattle.mm_claims.specs.Fitting.{AreNames, Holds}
 use Rattle.mm_claims.specs.Variables.{is_variable_token}
 use Rattle.mm_claims.proofs.BoolLaws.{either_true, second_true, and_false}
+use Rattle.mm_text.specs.PlainTokens.{is_plain_token, is_one_statement, ends_once}
+use Rattle.mm_database.specs.StatementTexts.{plain_tokens, proof_tokens}
 
 -- what proofs find in the header
 

@@ -6,7 +6,6 @@ use Rattle.std.proofs.lemmas.Bool.{false≢true}
 use Rattle.std.proofs.lemmas.Slice.Eq.{bytes_eq-Decides}
 use Rattle.mm_text.specs.Bytes.{Token, class_of, is_printable_class, has_token}
 use Rattle.mm_text.specs.Labels.{is_label_byte, is_label}
-use Rattle.mm_text.specs.TextLaws.{is_plain_token}
 use Rattle.mm_database.specs.Forms.{has_dollar}
 use Rattle.mm_database.specs.Frames.{types}
 use Rattle.mm_header.specs.Header.{header_rows}
@@ -19,6 +18,7 @@ use Rattle.mm_claims.specs.Fitting.{AreNames}
 use Rattle.mm_claims.specs.Variables.{Variable, object_variable, pattern_variable, number_of, same_variable, variable_token, variable_label, variable_type, is_variable_token, has_variable, are_once, AreNumbered}
 use Rattle.mm_claims.proofs.BoolLaws.{not_false, split_false}
 use Rattle.mm_claims.proofs.NameLaws.{all_printing, no_dollars, digit_of_label, digit_prints}
+use Rattle.mm_text.specs.PlainTokens.{is_plain_token}
 
 -- what is known of a variable's token
 pub record VariableFacts (v : Variable) : Type 0 where

@@ -7,7 +7,6 @@ use Rattle.mm_database.specs.Forms.{declares_variables, types_variable, separate
 use Rattle.mm_database.specs.Frames.{Hypothesis, floating, essential, Frame}
 use Rattle.mm_database.specs.Proofs.{ProofTree}
 use Rattle.mm_database.specs.Assertions.{Assertion}
-use Rattle.mm_database.specs.FrameLaws.{plain_tokens}
 use Rattle.ml_pat.specs.Patterns.{Pattern}
 use Rattle.mm_proof.specs.Tokens.{own_naming}
 use Rattle.mm_proof.specs.Labels.{statement_label, premise_label}
@@ -15,6 +14,7 @@ use Rattle.mm_proof.specs.Derivations.{holds_text}
 use Rattle.mm_claims.specs.Statements.{axiom_statement, theorem_statement}
 use Rattle.mm_claims.specs.OverNames.{AreOpenOver}
 use Rattle.mm_claims.specs.Variables.{Variable, is_object, are_once, AreNumbered, stands_in, variable_token, variable_label, variable_type, variable_tokens, object_tokens, are_several}
+use Rattle.mm_database.specs.StatementTexts.{plain_tokens}
 
 -- what an axiom or a lemma claims: its conclusion under its hypotheses, and its variables in the order in which they are typed
 pub record Claim : Type 0 where

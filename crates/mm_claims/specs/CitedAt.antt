@@ -49,12 +49,6 @@ pub record IsCitable (known : LeafFacts) (claims : List Claim) (place : List Pat
   pub conclusion : claim.conclusion ≡ q
   pub instances : HaveInstances known ms claim.variables
 
-abbrev pub citable : LeafFacts → List Claim → (List Pattern → Pattern → ℕ) → MayCite
-citable known claims place = record {
-  fact = λ p. IsCitable known claims place [] p [];
-  lemma = λ own q ms. IsCitable known claims place own q ms;
-}
-
 -- each hypothesis of the block stands at its place
 abbrev pub ArePremises : List Pattern → (Pattern → ℕ) → Type 0
 ArePremises hypotheses place = (p : Pattern) → Contains hypotheses p → slice_get hypotheses (place p) ≡ Some p

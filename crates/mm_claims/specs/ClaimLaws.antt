@@ -11,8 +11,9 @@ use Rattle.mm_claims.specs.OverNames.{AreOverNames, over_names}
 use Rattle.mm_claims.specs.Blocks.{Claim, IsClaim}
 use Rattle.mm_claims.specs.OpenVariables.{other_variables, variables_of}
 use Rattle.mm_claims.specs.ClaimVariables.{claim_variables, claim_of}
-use Rattle.mm_claims.specs.CitedAt.{citable, ArePremises}
-use Rattle.mm_claims.specs.Claiming.{IsProvable}
+use Rattle.mm_claims.specs.CitedAt.{ArePremises}
+use Rattle.mm_claims.specs.Citable.{citable}
+use Rattle.mm_claims.specs.Provable.{IsProvable}
 
 -- over declared names it is a claim, where its variables have numbers of 64 bits
 abbrev pub OverNamesIsClaim : Type 0

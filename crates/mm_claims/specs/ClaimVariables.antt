@@ -12,7 +12,3 @@ claim_variables hypotheses conclusion = other_variables [] (flat_map variables_i
 -- a conclusion under hypotheses, as a claim
 abbrev pub claim_of : List Pattern → Pattern → Claim
 claim_of hypotheses conclusion = record { variables = claim_variables hypotheses conclusion; hypotheses = hypotheses; conclusion = conclusion }
-
--- some variables, and behind them those of others that are not among them, each once
-abbrev pub added : List Variable → List Variable → List Variable
-added vs us = vs ++ other_variables vs us

@@ -6,7 +6,6 @@ use Rattle.mm_database.specs.Frames.{Frame}
 use Rattle.mm_database.specs.Database.{Context}
 use Rattle.mm_database.specs.Proofs.{active_hypothesis}
 use Rattle.mm_database.specs.Assertions.{Assertion, assertions_of, typings_of}
-use Rattle.mm_database.specs.Writing.{Leaves}
 use Rattle.ml_pat.specs.Patterns.{Pattern}
 use Rattle.ml_kernel.specs.Theorems.{Derivation}
 use Rattle.ml_kernel.specs.Concluding.{Concludes}
@@ -18,7 +17,8 @@ use Rattle.mm_claims.specs.Fitting.{AreNames, Holds}
 use Rattle.mm_claims.specs.Variables.{Variable, number_of, variable_token, variable_label, are_once, AreNumbered}
 use Rattle.mm_claims.specs.Blocks.{Claim, IsClaim, variable_float, open_frame, theorem_statements}
 use Rattle.mm_claims.specs.OverNames.{open_over}
-use Rattle.mm_claims.specs.CitedAt.{claims_citing, citable, ArePremises}
+use Rattle.mm_claims.specs.CitedAt.{claims_citing, ArePremises}
+use Rattle.mm_database.specs.Leaving.{Leaves}
 
 -- no label of a block with this number is taken
 pub record IsFree (c : Context) (k : ℕ) : Type 0 where
@@ -46,16 +46,6 @@ pub record HoldsClaims (declared : List Token) (claims : List Claim) (c : Contex
 -- a text that fits these names and claims
 abbrev pub FitsClaims : List Token → List Claim → List ℕ → Type 0
 FitsClaims declared claims bytes = (c : Context) × Leaves bytes c × HoldsClaims declared claims c
-
--- A theorem that may be claimed: a derivation from its hypotheses that uses what is declared and the block's variables, and
--- cites only what was claimed before.
-pub record IsProvable (declared : List Token) (claims : List Claim) (s : Claim) (more : List Variable) (d : Derivation) (place : List Pattern → Pattern → ℕ) (premise_place : Pattern → ℕ) : Type 0 where
-  pub once : are_once (s.variables ++ more) ≡ true
-  pub numbered : AreNumbered (s.variables ++ more)
-  pub concludes : Concludes s.hypotheses d s.conclusion
-  pub used : EachUsed (open_over declared (s.variables ++ more)) d
-  pub cites : EachCited (citable (open_over declared (s.variables ++ more)) claims place) d
-  pub premises : ArePremises s.hypotheses premise_place
 
 -- what is written of a theorem by a derivation, where what it cites stands at these places
 abbrev pub proved_statements : List Token → ℕ → List Claim → (List Pattern → Pattern → ℕ) → (Pattern → ℕ) → Claim → List Variable → Derivation → List (List Token)

@@ -5,7 +5,7 @@ use Rattle.mm_database.specs.Frames.{Frame}
 use Rattle.mm_database.specs.Database.{Context}
 use Rattle.mm_header.specs.HeaderContext.{header_context}
 use Rattle.mm_proof.specs.Labels.{name_label}
-use Rattle.mm_proof.specs.Serving.{closed_frame}
+use Rattle.mm_proof.specs.ClosedFrames.{closed_frame}
 use Rattle.mm_proof.specs.Tokens.{name_of}
 use Rattle.mm_claims.specs.Statements.{IsName, typecode_of}
 use Rattle.mm_claims.specs.Variables.{is_variable_token}

@@ -1,13 +1,13 @@
 -- What fits with the header and with names behind it.
 use Rattle.std.specs.Prelude.{◌≡◌, ℕ, ◌<◌, ◌≤◌, ◌^◌, true, List, [], ◌++◌, length, drop}
 use Rattle.mm_text.specs.Bytes.{Token}
-use Rattle.mm_database.specs.FrameLaws.{written_statements}
 use Rattle.mm_header.specs.HeaderText.{header_bytes}
 use Rattle.ml_pat.specs.Named.{AreDistinct}
 use Rattle.mm_claims.specs.Kept.{Kept, nothing_kept, header_kept}
 use Rattle.mm_claims.specs.Statements.{all_name_statements}
 use Rattle.mm_claims.specs.Fitting.{AreNames}
 use Rattle.mm_claims.specs.Keeping.{Fits}
+use Rattle.mm_database.specs.StatementTexts.{written_statements}
 
 -- the empty text fits a new renderer
 abbrev pub EmptyFits : Type 0

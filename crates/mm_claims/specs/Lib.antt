@@ -1,3 +1,4 @@
+-- Believed: what public clauses say, and believed definitions of other crates.
 pub mod Kept
 pub mod Statements
 pub mod OverNames
@@ -8,9 +9,12 @@ pub mod Variables
 pub mod Blocks
 pub mod CitedAt
 pub mod Claiming
-pub mod OpenCiting
 pub mod OpenVariables
 pub mod ClaimVariables
+-- Laws: what follows from that. Each is a clause of a function that does nothing.
+pub mod Citable
+pub mod Provable
+pub mod OpenCiting
 pub mod OpenCases
 pub mod RenderedCases
 pub mod BlockCases
@@ -19,3 +23,5 @@ pub mod ClosedLaws
 pub mod KeepingLaws
 pub mod LaterLaws
 pub mod StatementLaws
+-- Private: what clauses of private functions cite, and how private fields are seen.
+pub mod AddedVariables

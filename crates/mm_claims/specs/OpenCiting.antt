@@ -11,16 +11,18 @@ use Rattle.ml_kernel.specs.Theorems.{Derivation}
 use Rattle.ml_kernel.specs.Concluding.{Concludes}
 use Rattle.mm_proof.specs.Tokens.{Naming, own_naming, holds}
 use Rattle.mm_proof.specs.Labels.{statement_label, premise_label, own_labels}
-use Rattle.ml_pat.specs.Leaves.{Known, are_known}
+use Rattle.ml_pat.specs.KnownLeaves.{Known, are_known}
 use Rattle.mm_proof.specs.Trees.{trees_of, cite}
-use Rattle.mm_proof.specs.Derivations.{holds_text, derivation_tree, CitesSoundly}
+use Rattle.mm_proof.specs.Derivations.{holds_text, derivation_tree}
+use Rattle.mm_proof.specs.SoundCiting.{CitesSoundly}
 use Rattle.ml_kernel.specs.UsedLeaves.{EachUsed}
 use Rattle.mm_proof.specs.Serving.{IsAssertion, Serves}
 use Rattle.mm_proof.specs.RenderLaws.{IsWritten}
 use Rattle.ml_kernel.specs.MayCite.{EachCited}
 use Rattle.mm_claims.specs.Fitting.{AreNames}
 use Rattle.mm_claims.specs.Blocks.{Claim, IsClaim, open_frame}
-use Rattle.mm_claims.specs.CitedAt.{variable_tree, claims_citing, HaveInstances, citable, ArePremises}
+use Rattle.mm_claims.specs.CitedAt.{variable_tree, claims_citing, HaveInstances, ArePremises}
+use Rattle.mm_claims.specs.Citable.{citable}
 
 -- Where a proof stands in the block with a number, the claims can be cited, each under the label of its place, and the hypotheses
 -- of the block are active, each under the label of its own.

@@ -1,7 +1,6 @@
 -- Where a statement stands among those that were stated, and what may be proved by these.
 use Rattle.std.specs.Prelude.{◌≡◌, ℕ, true, IsTrue, List, [], ◌∷◌, ◌++◌, length, take, slice_get, Some}
 use Rattle.mm_text.specs.Bytes.{Token}
-use Rattle.mm_database.specs.FrameLaws.{written_statements}
 use Rattle.ml_pat.specs.Patterns.{Pattern}
 use Rattle.ml_kernel.specs.Theorems.{Theorem}
 use Rattle.ml_kernel.specs.UsedLeaves.{EachUsed}
@@ -15,6 +14,7 @@ use Rattle.mm_claims.specs.Claiming.{proved_statements}
 use Rattle.mm_claims.specs.OpenVariables.{variables_of, other_variables}
 use Rattle.mm_claims.specs.ClaimVariables.{claim_of, claim_variables}
 use Rattle.mm_claims.specs.Keeping.{Gains}
+use Rattle.mm_database.specs.StatementTexts.{written_statements}
 
 -- a claim of this conclusion under these hypotheses stands at a place
 pub record StandsAt (claims : List Claim) (hypotheses : List Pattern) (conclusion : Pattern) (k : ℕ) : Type 0 where

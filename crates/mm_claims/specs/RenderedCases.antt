@@ -1,8 +1,8 @@
 -- Small databases that a renderer writes, judged by the definition of the first fault.
 use Rattle.std.specs.Prelude.{◌≡◌, ℕ, List, ◌++◌, Some, None, codes}
 use Rattle.mm_text.specs.FaultKinds.{fault}
-use Rattle.mm_database.specs.Validity.{first_fault}
 use Rattle.mm_header.specs.HeaderText.{header_bytes}
+use Rattle.mm_database.specs.ComputedFault.{first_fault}
 
 -- the declarations of a sort and of two symbols
 abbrev pub names_text : List ℕ

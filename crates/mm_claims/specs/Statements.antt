@@ -4,11 +4,11 @@ use Rattle.std.specs.List.{list_all}
 use Rattle.mm_text.specs.Bytes.{Token, is_printable}
 use Rattle.mm_database.specs.Forms.{declares_constants, asserts}
 use Rattle.mm_database.specs.Proofs.{ProofTree, postorder}
-use Rattle.mm_database.specs.FrameLaws.{plain_tokens, proof_tokens}
 use Rattle.ml_pat.specs.Patterns.{Pattern}
 use Rattle.mm_proof.specs.Tokens.{own_naming}
 use Rattle.mm_proof.specs.Labels.{name_label, statement_label}
 use Rattle.mm_proof.specs.Derivations.{holds_text}
+use Rattle.mm_database.specs.StatementTexts.{plain_tokens, proof_tokens}
 
 -- What a name's token is that of: `s:S` of a sort, `f:f` of a symbol, `d:S:..` of a value.
 pub data NameKind : Type 0 where

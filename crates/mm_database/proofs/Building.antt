@@ -1,10 +1,8 @@
 -- Steps that build forests, cut in two and joined; and steps that only cite labels.
 use Rattle.std.proofs.Common.{◌≡◌, ℕ, zero, suc, Bool, true, false, List, [], ◌∷◌, ◌++◌, map, refl, ap, ◌∙◌, sym, subst, append_assoc, append-nil}
 use Rattle.std.proofs.lemmas.List.{map-append}
-use Rattle.std.specs.Prelude.{◌&&◌}
 use Rattle.std.specs.List.{list_all}
 use Rattle.mm_text.specs.Bytes.{Token}
-use Rattle.mm_text.proofs.Truths.{both_true}
 use Rattle.mm_database.specs.Proofs.{ProofTree, proof_node, ProofForest, no_proof, more_proofs, postorder, all_postorder}
 use Rattle.mm_database.specs.Steps.{Step, cites, saves, repeats, Builds, by_label, by_saving, by_repeating, AllBuild, no_steps, more_steps}
 use Rattle.mm_database.specs.FrameLaws.{LabelsArePostorder}

@@ -4,19 +4,19 @@ use Rattle.std.specs.Prelude.{◌&&◌, ◌||◌, if◌then◌else◌, Option, S
 use Rattle.std.specs.List.{list_all}
 use Rattle.mm_text.specs.Bytes.{Token, is_white}
 use Rattle.mm_text.specs.Statements.{is_whole}
-use Rattle.mm_text.specs.TextLaws.{ends_white, white_behind, written}
 use Rattle.mm_database.specs.Forms.{Form, asserts, proves, plain, form_of}
 use Rattle.mm_database.specs.Frames.{Frame, frame_of}
 use Rattle.mm_database.specs.Database.{Context}
 use Rattle.mm_database.specs.Proofs.{Expression, Leads, by_hypothesis, by_assertion, ProofTree, proof_node, ProofForest, no_proof, more_proofs, Proves, AllProve, postorder, all_postorder}
-use Rattle.mm_database.specs.Steps.{Step, cites, Forms}
+use Rattle.mm_database.specs.Steps.{Step, Forms}
 use Rattle.mm_database.specs.ProofText.{is_citable, proof_steps}
 use Rattle.mm_database.specs.Validity.{IsProved, Task, task, theorem_task, form_fault, is_typed}
-use Rattle.mm_database.specs.FrameLaws.{written_statements, plain_tokens, proof_tokens}
 use Rattle.mm_database.specs.Writing.{LeavesIsValid, ContinuedLeaves, AxiomIsFine, begins_compressed, TheoremIsFine}
 use Rattle.mm_database.proofs.Building.{citing, postorder-builds, built-one}
 use Rattle.mm_database.proofs.Texts.{appended_is_fine, written_is_fine}
 use Rattle.mm_database.proofs.WrittenForms.{plain_tokens_say, proof_tokens_say}
+use Rattle.mm_text.specs.Written.{ends_white, white_behind, written}
+use Rattle.mm_database.specs.StatementTexts.{written_statements, plain_tokens, proof_tokens}
 
 -- white space at the end
 

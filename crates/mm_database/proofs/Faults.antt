@@ -10,10 +10,11 @@ use Rattle.mm_database.specs.Database.{Block, Context, empty_context, context_af
 use Rattle.mm_database.specs.Proofs.{Expression}
 use Rattle.mm_database.specs.Steps.{Forms}
 use Rattle.mm_database.specs.Stack.{same_expressions, stack_after}
-use Rattle.mm_database.specs.Validity.{IsProved, Task, task, form_fault, HasBadStep, HasBadConclusion, IsFaulty, by_form, by_step, by_conclusion, IsFine, AreFine, IsValid, first_open, IsFirstFaultIn, stack_fault, task_fault, or_else, statement_fault, fault_or, first_fault_in, first_fault}
+use Rattle.mm_database.specs.Validity.{IsProved, Task, task, form_fault, HasBadStep, HasBadConclusion, IsFaulty, by_form, by_step, by_conclusion, IsFine, AreFine, IsValid, first_open, IsFirstFaultIn, or_else}
 use Rattle.mm_database.specs.FrameLaws.{in_front, FineWhereActive}
 use Rattle.mm_database.proofs.Tests.{same_expressions-Decides}
 use Rattle.mm_database.proofs.Stacks.{stack_after-complete, stack_after-sound}
+use Rattle.mm_database.specs.ComputedFault.{stack_fault, task_fault, statement_fault, fault_or, first_fault_in, first_fault}
 
 -- what a stack says of a proof
 

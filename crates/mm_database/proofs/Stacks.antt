@@ -1,5 +1,5 @@
 -- A stack accepts just the steps that build a forest, and leaves what it proves.
-use Rattle.std.proofs.Common.{◌≡◌, ℕ, zero, suc, ◌-◌, ◌≤◌, ◌<◌, Bool, true, false, List, [], ◌∷◌, ◌++◌, length, take, drop, refl, ap, ◌∙◌, sym, subst, arith, append_assoc, append-nil, length-append, rules}
+use Rattle.std.proofs.Common.{◌≡◌, ℕ, zero, suc, ◌-◌, ◌≤◌, Bool, true, false, List, [], ◌∷◌, ◌++◌, length, take, drop, refl, ap, ◌∙◌, sym, subst, arith, append_assoc, append-nil, length-append, rules}
 use Rattle.std.proofs.lemmas.List.{length-map}
 use Rattle.std.proofs.Math.Seq.{take-append_seam}
 use Rattle.std.specs.Prelude.{Option, Some, None, if◌then◌else◌, nat_le, option_map, option_and_then, slice_get}
@@ -117,9 +117,9 @@ mutual
         left = below.left;
         are_saved = below.are_saved;
         puts = λ more stack.
-          ap (λ (ss : List (Step Token)). saving_after (stack_after_label c) ss (saving stack entries)) (append_assoc first (cites label ∷ []) more)
-          ∙ below.puts (cites label ∷ more) stack
-          ∙ ap (λ o. option_and_then (saving_after (stack_after_label c) more) (option_map (λ s. saving s below.left) o)) (label-complete c label stack given result leads);
+            ap (λ (ss : List (Step Token)). saving_after (stack_after_label c) ss (saving stack entries)) (append_assoc first (cites label ∷ []) more)
+            ∙ below.puts (cites label ∷ more) stack
+            ∙ ap (λ o. option_and_then (saving_after (stack_after_label c) more) (option_map (λ s. saving s below.left) o)) (label-complete c label stack given result leads);
       }
   built-puts c before steps tree behind result entries (by_saving _ first _ saved b) proves are =
       let below : Puts c first (result ∷ []) entries saved = built-puts c before first tree saved result entries b proves are in
@@ -127,9 +127,9 @@ mutual
         left = below.left ++ result ∷ [];
         are_saved = AreSaved-more c saved below.left tree result below.are_saved proves;
         puts = λ more stack.
-          ap (λ (ss : List (Step Token)). saving_after (stack_after_label c) ss (saving stack entries)) (append_assoc first (saves ∷ []) more)
-          ∙ below.puts (saves ∷ more) stack
-          ∙ ap (λ o. option_and_then (saving_after (stack_after_label c) more) (option_map (λ e. saving (stack ++ result ∷ []) (below.left ++ e ∷ [])) o)) (slice_get-last stack result);
+            ap (λ (ss : List (Step Token)). saving_after (stack_after_label c) ss (saving stack entries)) (append_assoc first (saves ∷ []) more)
+            ∙ below.puts (saves ∷ more) stack
+            ∙ ap (λ o. option_and_then (saving_after (stack_after_label c) more) (option_map (λ e. saving (stack ++ result ∷ []) (below.left ++ e ∷ [])) o)) (slice_get-last stack result);
       }
   built-puts c before steps tree behind result entries (by_repeating _ n _ is) proves are =
       let found : (e : Expression) × (slice_get entries n ≡ Some e) × Proves c tree e = AreSaved-entry c before entries n tree are is in
@@ -138,7 +138,7 @@ mutual
         left = entries;
         are_saved = are;
         puts = λ more stack.
-          ap (λ o. option_and_then (saving_after (stack_after_label c) more) (option_map (λ e. saving (stack ++ e ∷ []) entries) o)) (found.1 ∙ ap (λ (e : Expression). Some e) same);
+            ap (λ o. option_and_then (saving_after (stack_after_label c) more) (option_map (λ e. saving (stack ++ e ∷ []) entries) o)) (found.1 ∙ ap (λ (e : Expression). Some e) same);
       }
 
   all_built-puts : (c : Context) (before : List ProofTree) (steps : List (Step Token)) (trees : ProofForest) (behind : List ProofTree) (results entries : List Expression) → AllBuild before steps trees behind → AllProve c trees results → AreSaved c before entries → Puts c steps results entries behind
@@ -155,10 +155,10 @@ mutual
         left = next.left;
         are_saved = next.are_saved;
         puts = λ more stack.
-          ap (λ (ss : List (Step Token)). saving_after (stack_after_label c) ss (saving stack entries)) (append_assoc first rest more)
-          ∙ one.puts (rest ++ more) stack
-          ∙ next.puts more (stack ++ e ∷ [])
-          ∙ ap (λ (es : List Expression). saving_after (stack_after_label c) more (saving es next.left)) (append_assoc stack (e ∷ []) others ∙ ap (λ (es : List Expression). stack ++ es) (sym is));
+            ap (λ (ss : List (Step Token)). saving_after (stack_after_label c) ss (saving stack entries)) (append_assoc first rest more)
+            ∙ one.puts (rest ++ more) stack
+            ∙ next.puts more (stack ++ e ∷ [])
+            ∙ ap (λ (es : List Expression). saving_after (stack_after_label c) more (saving es next.left)) (append_assoc stack (e ∷ []) others ∙ ap (λ (es : List Expression). stack ++ es) (sym is));
       }
 
 pub stack_after-complete : (c : Context) (steps : List (Step Token)) (results : List Expression) → Forms c steps results → stack_after c steps ≡ Some results

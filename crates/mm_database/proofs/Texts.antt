@@ -1,12 +1,14 @@
 -- Texts that are appended and written, and what they declare.
 use Rattle.std.proofs.Common.{◌≡◌, ℕ, ◌+◌, true, [], ◌∷◌, ◌++◌, length, refl, sym, subst, arith}
 use Rattle.mm_text.specs.Statements.{Statements, no_statement, unended, bad_statement, next_statement, statement, statements_from, statements_of}
-use Rattle.mm_text.specs.TextLaws.{end_well, followed_by, written}
+use Rattle.mm_text.specs.TextLaws.{end_well, followed_by}
 use Rattle.mm_text.proofs.Appending.{appended_text}
 use Rattle.mm_text.proofs.Writing.{written_statement}
 use Rattle.mm_database.specs.Database.{Context, empty_context, context_after}
 use Rattle.mm_database.specs.Validity.{AreFine}
-use Rattle.mm_database.specs.FrameLaws.{AppendedIsFine, WrittenIsFine, written_statements}
+use Rattle.mm_database.specs.FrameLaws.{AppendedIsFine, WrittenIsFine}
+use Rattle.mm_text.specs.Written.{written}
+use Rattle.mm_database.specs.StatementTexts.{written_statements}
 
 pub end_well-AreFine : (c left : Context) (statements : Statements) → AreFine c statements left → end_well statements ≡ true
 end_well-AreFine c left no_statement h = refl

@@ -4,7 +4,9 @@ use Rattle.std.specs.Prelude.{not, Some, option_and_then, codes}
 use Rattle.mm_text.specs.Bytes.{Token}
 use Rattle.mm_text.proofs.Truths.{both_true, not_true}
 use Rattle.mm_database.specs.Forms.{Keyword, declares_constants, declares_variables, types_variable, assumes, separates, asserts, proves, plain, has_dollar, before_dollar, from_dollar, keyword_of, proof_form, keyword_form, labelled_form, form_of}
-use Rattle.mm_database.specs.FrameLaws.{are_clean, keyword_token, has_proof, PlainTokensSay, ProofTokensSay}
+use Rattle.mm_database.specs.FrameLaws.{PlainTokensSay, ProofTokensSay}
+use Rattle.mm_database.specs.StatementTexts.{keyword_token}
+use Rattle.mm_database.specs.CleanTokens.{are_clean, has_proof}
 
 before_dollar-clean : (tokens rest : List Token) (token : Token) → are_clean tokens ≡ true → has_dollar token ≡ true → before_dollar (tokens ++ token ∷ rest) ≡ tokens
 before_dollar-clean [] rest token clean marked = rw marked refl

@@ -2,7 +2,7 @@
 -- of the first one.
 use Rattle.std.specs.Prelude.{◌≡◌, ℕ, List, [], ◌∷◌, ◌++◌, Some, None, codes}
 use Rattle.mm_text.specs.FaultKinds.{fault}
-use Rattle.mm_database.specs.Validity.{first_fault}
+use Rattle.mm_database.specs.ComputedFault.{first_fault}
 
 -- one constant and two variables, of 44 bytes, and an axiom behind them, of 15
 abbrev pub declared : List ℕ
@@ -20,6 +20,7 @@ pub record TriedCases : Type 0 where
   pub normal : first_fault (with_axiom ++ codes "th $p t x x $= fx fx ax $.") ≡ None
   pub compressed : first_fault (with_axiom ++ codes "th $p t x x $= ( ax ) AAB $.") ≡ None
   pub saved_step : first_fault (with_axiom ++ codes "th $p t x x $= ( ax ) AZCB $.") ≡ None
+  pub saved_subtree : first_fault (with_axiom ++ codes "th $p t x x x x $= ( ax ) AABZCB $.") ≡ None
   pub letters_apart : first_fault (with_axiom ++ codes "th $p t x x $= ( ax ) A Z $( a comment $) C B $.") ≡ None
   pub apart : first_fault (declared ++ codes "${ $d x y $. ax $a t x y $. $} ${ $d x y $. th $p t x y $= fx fy ax $. $}") ≡ None
   pub book : first_fault (book_axioms ++ codes "th1 $p |- t = t $= tt tze tpl tt weq tt tt weq tt a2 tt tze tpl tt weq tt tze tpl tt weq tt tt weq wim tt a2 tt tze tpl tt tt a1 mp mp $.") ≡ None

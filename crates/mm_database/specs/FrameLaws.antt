@@ -1,17 +1,21 @@
 -- Laws on databases and proofs.
-use Rattle.std.specs.Prelude.{◌≡◌, ◌↔◌, ℕ, ◌+◌, Bool, true, false, not, List, [], ◌∷◌, ◌++◌, length, map, flat_map, Some, None, codes}
+use Rattle.std.specs.Prelude.{◌≡◌, ◌↔◌, ℕ, ◌+◌, true, false, List, [], ◌∷◌, ◌++◌, length, map, Some, None}
 use Rattle.std.specs.List.{list_all}
 use Rattle.mm_text.specs.Bytes.{Token}
 use Rattle.mm_text.specs.Statements.{Statement, Statements, next_statement, statement, statements_from, statements_of}
-use Rattle.mm_text.specs.TextLaws.{ends_white, is_plain_token, is_one_statement, written}
 use Rattle.mm_text.specs.declared.fault.MmFault.{MmFault}
-use Rattle.mm_database.specs.Forms.{Keyword, declares_constants, declares_variables, types_variable, assumes, separates, asserts, proves, plain, form_of, has_dollar}
+use Rattle.mm_database.specs.Forms.{Keyword, proves, plain, form_of}
 use Rattle.mm_database.specs.Database.{Context, empty_context, context_after, active_at}
 use Rattle.mm_database.specs.Assertions.{assertions_in, assertions_of, typings_in, typings_of}
 use Rattle.mm_database.specs.Proofs.{Expression, ProofTree, ProofForest, all_postorder}
 use Rattle.mm_database.specs.Steps.{Step, cites, AllBuild, Forms}
 use Rattle.mm_database.specs.Stack.{stack_after}
-use Rattle.mm_database.specs.Validity.{statement_fault, IsFine, AreFine, IsValid, IsFirstFault, first_fault}
+use Rattle.mm_database.specs.Validity.{IsFine, AreFine, IsValid, IsFirstFault}
+use Rattle.mm_text.specs.Written.{ends_white, written}
+use Rattle.mm_text.specs.PlainTokens.{is_plain_token, is_one_statement}
+use Rattle.mm_database.specs.ComputedFault.{statement_fault, first_fault}
+use Rattle.mm_database.specs.StatementTexts.{written_statements, plain_tokens, proof_tokens}
+use Rattle.mm_database.specs.CleanTokens.{are_clean, has_proof}
 
 -- steps that only cite labels build just the forest of which these are the postorder
 abbrev pub LabelsArePostorder : Type 0
@@ -57,10 +61,6 @@ AppendedIsFine =
     AreFine left (statements_from (length text) more) last →
     AreFine empty_context (statements_of (text ++ more)) last
 
--- the text of some statements
-abbrev pub written_statements : List (List Token) → List ℕ
-written_statements statements = flat_map written statements
-
 -- written statements without fault, from a context and a place on, and the context that they leave
 abbrev pub Adds : Context → ℕ → List (List Token) → Context → Type 0
 Adds c at [] left = left ≡ c
@@ -80,29 +80,6 @@ AppendedStates =
     (text more : List ℕ) (left : Context) → ends_white text ≡ true →
     AreFine empty_context (statements_of text) left →
     (assertions_of (text ++ more) ≡ assertions_of text ++ assertions_in left (statements_from (length text) more)) × (typings_of (text ++ more) ≡ typings_of text ++ typings_in (statements_from (length text) more))
-
-abbrev pub are_clean : List Token → Bool
-are_clean tokens = list_all (λ t. not (has_dollar t)) tokens
-
-abbrev pub keyword_token : Keyword → Token
-keyword_token declares_constants = codes "$c"
-keyword_token declares_variables = codes "$v"
-keyword_token types_variable = codes "$f"
-keyword_token assumes = codes "$e"
-keyword_token separates = codes "$d"
-keyword_token asserts = codes "$a"
-keyword_token proves = codes "$p"
-
-abbrev pub has_proof : Keyword → Bool
-has_proof proves = true
-has_proof keyword = false
-
--- the tokens of a statement with these labels, keyword and symbols, and of one with a proof
-abbrev pub plain_tokens : List Token → Keyword → List Token → List Token
-plain_tokens labels keyword symbols = labels ++ (keyword_token keyword ∷ (symbols ++ codes "$." ∷ []))
-
-abbrev pub proof_tokens : List Token → List Token → List Token → List Token
-proof_tokens labels symbols proof = labels ++ (codes "$p" ∷ (symbols ++ (codes "$=" ∷ (proof ++ codes "$." ∷ []))))
 
 -- such tokens say what was written
 abbrev pub PlainTokensSay : Type 0

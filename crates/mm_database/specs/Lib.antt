@@ -1,13 +1,19 @@
+-- Believed: what public clauses say, and believed definitions of other crates.
 pub mod Forms
 pub mod Frames
 pub mod Database
 pub mod Proofs
 pub mod Steps
 pub mod ProofText
-pub mod Stack
 pub mod Validity
+pub mod StatementTexts
+pub mod Assertions
+pub mod Leaving
+-- Laws: what follows from that. Each is a clause of a function that does nothing.
+pub mod Stack
+pub mod ComputedFault
 pub mod Cases
 pub mod FrameLaws
-pub mod Assertions
+pub mod CleanTokens
 pub mod Writing
 pub mod Orderly

@@ -14,7 +14,6 @@ use Rattle.mm_database.specs.Database.{Block, Context, empty_context, context_af
 use Rattle.mm_database.specs.Proofs.{Expression}
 use Rattle.mm_database.specs.Steps.{Step, Forms}
 use Rattle.mm_database.specs.ProofText.{proof_steps}
-use Rattle.mm_database.specs.Stack.{same_expressions, stack_after}
 
 -- an active `$f` types the symbol
 abbrev pub has_type : Context → Token → Bool
@@ -221,32 +220,3 @@ IsFirstFaultIn c (next_statement s statements) f =
 
 abbrev pub IsFirstFault : List ℕ → MmFault → Type 0
 IsFirstFault bytes f = IsFirstFaultIn empty_context (statements_of bytes) f
-
--- The same computed, with a stack.
-
-abbrev pub stack_fault : Expression → Option (List Expression) → Option ℕ
-stack_fault conclusion None = Some bad_step
-stack_fault conclusion (Some stack) =
-    if same_expressions stack (conclusion ∷ []) then None else Some bad_conclusion
-
-abbrev pub task_fault : Context → Option Task → Option ℕ
-task_fault c None = None
-task_fault c (Some t) = stack_fault t.conclusion (stack_after c t.steps)
-
-abbrev pub statement_fault : Context → List Token → Option ℕ
-statement_fault c tokens =
-    or_else (form_fault c (form_of tokens)) (task_fault c (task c (form_of tokens)))
-
-abbrev pub fault_or : Option ℕ → ℕ → Option MmFault → Option MmFault
-fault_or None at other = other
-fault_or (Some kind) at other = Some (fault kind at)
-
-abbrev pub first_fault_in : Context → Statements → Option MmFault
-first_fault_in c no_statement = option_map (fault bad_scope) (first_open c.blocks)
-first_fault_in c (unended at) = Some (fault bad_keyword at)
-first_fault_in c (bad_statement f) = Some f
-first_fault_in c (next_statement s statements) =
-    fault_or (statement_fault c s.tokens) s.at (first_fault_in (context_after c s) statements)
-
-abbrev pub first_fault : List ℕ → Option MmFault
-first_fault bytes = first_fault_in empty_context (statements_of bytes)

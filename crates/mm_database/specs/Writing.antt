@@ -3,20 +3,15 @@
 use Rattle.std.specs.Prelude.{◌≡◌, ℕ, Bool, true, false, List, [], ◌∷◌, ◌++◌, length, codes, bytes_eq}
 use Rattle.std.specs.List.{list_all}
 use Rattle.mm_text.specs.Bytes.{Token, has_token}
-use Rattle.mm_text.specs.Statements.{statements_of}
-use Rattle.mm_text.specs.TextLaws.{ends_white}
 use Rattle.mm_database.specs.Forms.{asserts}
 use Rattle.mm_database.specs.Frames.{Hypothesis, floating, essential, Scope, frame_of}
-use Rattle.mm_database.specs.Database.{Context, empty_context}
+use Rattle.mm_database.specs.Database.{Context}
 use Rattle.mm_database.specs.Proofs.{ProofTree, Proves, postorder}
-use Rattle.mm_database.specs.Validity.{is_typed, is_new_label, IsFine, AreFine, IsValid}
-use Rattle.mm_database.specs.FrameLaws.{written_statements, Adds, are_clean, plain_tokens, proof_tokens}
-
--- A text without fault that ends with white space and has no open block, and what it declares.
-pub record Leaves (bytes : List ℕ) (c : Context) : Type 0 where
-  pub white : ends_white bytes ≡ true
-  pub fine : AreFine empty_context (statements_of bytes) c
-  pub closed : c.blocks ≡ []
+use Rattle.mm_database.specs.Validity.{is_typed, is_new_label, IsFine, IsValid}
+use Rattle.mm_database.specs.FrameLaws.{Adds}
+use Rattle.mm_database.specs.StatementTexts.{written_statements, plain_tokens, proof_tokens}
+use Rattle.mm_database.specs.CleanTokens.{are_clean}
+use Rattle.mm_database.specs.Leaving.{Leaves}
 
 -- such a text is valid
 abbrev pub LeavesIsValid : Type 0

@@ -7,13 +7,15 @@ use Rattle.std.proofs.lemmas.Bool.{eqb-true, eq-eqb}
 use Rattle.std.proofs.lemmas.List.Folds.{list_any-append}
 use Rattle.std.proofs.lemmas.List.Sorted.{list_any-IsPermutation}
 use Rattle.mm_frame.specs.Numbered.{NumberedHypothesis}
-use Rattle.mm_frame.specs.FramesHeld.{has_number, is_essential}
+use Rattle.mm_frame.specs.FramesHeld.{has_number}
 use Rattle.mm_frame.specs.Held.{Held}
 use Rattle.mm_frame.specs.HeldTests.{types_in, is_held_typed}
-use Rattle.mm_frame.specs.HeldFrames.{number_stands_in, is_needed_number, is_mandatory_number, premise_at, ArePlaced, typed_places}
+use Rattle.mm_frame.specs.HeldFrames.{number_stands_in, is_needed_number, is_mandatory_number}
 use Rattle.mm_frame.specs.Places.{places_from, places_of, passes, found_at}
 use Rattle.mm_frame.proofs.Placing.{places-has, places-filter, dedup-has}
 use Rattle.mm_database.specs.Frames.{floating, essential}
+use Rattle.mm_frame.specs.Listed.{is_essential}
+use Rattle.mm_frame.specs.HeldPlaces.{premise_at, ArePlaced, typed_places}
 
 -- sorted, and each once: the same numbers
 pub sorted-has : (xs ys zs : List ℕ) → IsPermutation xs ys → zs ≡ dedup nat_eq ys → (n : ℕ) → has_number zs n ≡ has_number xs n

@@ -2,8 +2,8 @@
 use Rattle.std.proofs.Common.{◌≡◌, ℕ, Bool, List, length, take, sym, ap, ◌∙◌, subst}
 use Rattle.mm_text.specs.Bytes.{Token}
 use Rattle.mm_frame.specs.Numbered.{NumberedHypothesis}
-use Rattle.mm_frame.specs.Held.{Held}
-use Rattle.mm_frame.specs.HeldSteps.{symbol_name, AppendsSymbol, Names, AddsSymbol}
+use Rattle.mm_frame.specs.Held.{Held, symbol_name}
+use Rattle.mm_frame.specs.HeldSteps.{AppendsSymbol, Names, AddsSymbol}
 use Rattle.mm_frame.specs.declared.scopes.OpenBlock.{OpenBlock}
 
 pub adds-symbol : (old mid new : Held) (token : Token) (b : Bool) (n : ℕ) → n ≡ length old.symbols → AppendsSymbol old token b mid → Names mid token (symbol_name b n) new → AddsSymbol old token b n new

@@ -2,10 +2,11 @@
 use Rattle.std.proofs.Common.{◌≡◌, ℕ, ◌+◌, ◌-◌, length, take, Bool, true, false, List, [], ◌∷◌, ◌++◌, ap, sym, ◌∙◌, arith}
 use Rattle.std.specs.Prelude.{if◌then◌else◌}
 use Rattle.std.proofs.lemmas.List.{map-append, length-map, length-append, take_at, append-nil}
-use Rattle.mm_frame.specs.FramesHeld.{is_essential, hypothesis_held, hypotheses_held}
+use Rattle.mm_frame.specs.FramesHeld.{hypothesis_held, hypotheses_held}
 use Rattle.mm_frame.specs.Places.{places_of}
 use Rattle.mm_frame.specs.declared.frames.Hyp.{Hyp}
 use Rattle.mm_frame.proofs.Placing.{places-push}
+use Rattle.mm_frame.specs.Listed.{is_essential}
 
 abbrev essentials : List Hyp → List ℕ
 essentials hs = places_of is_essential (hypotheses_held hs)

@@ -128,7 +128,7 @@ same_expression-named name naming (x ∷ xs) (y ∷ ys) =
     ap (λ b. b && same_expression (named name xs) (named name ys)) (naming x y)
     ∙ ap (λ b. nat_eq x y && b) (same_expression-named name naming xs ys)
 
-same_expressions-named : (name : ℕ → Token) → IsNaming name → (xs ys : List (List ℕ)) → same_expressions (map (named name) xs) (map (named name) ys) ≡ pointwise same_numbers xs ys
+pub same_expressions-named : (name : ℕ → Token) → IsNaming name → (xs ys : List (List ℕ)) → same_expressions (map (named name) xs) (map (named name) ys) ≡ pointwise same_numbers xs ys
 same_expressions-named name naming [] [] = refl
 same_expressions-named name naming [] (y ∷ ys) = refl
 same_expressions-named name naming (x ∷ xs) [] = refl

@@ -22,7 +22,7 @@ drop-map name (suc n) [] = refl
 drop-map name (suc n) (x ∷ xs) = drop-map name n xs
 
 -- one more entry
-pushed-named : (name : ℕ → Token) (stack : List (List ℕ)) (e : List ℕ) → map (named name) (stack ++ e ∷ []) ≡ map (named name) stack ++ named name e ∷ []
+pub pushed-named : (name : ℕ → Token) (stack : List (List ℕ)) (e : List ℕ) → map (named name) (stack ++ e ∷ []) ≡ map (named name) stack ++ named name e ∷ []
 pushed-named name stack e = map-append (named name) stack (e ∷ [])
 
 -- a hypothesis

@@ -16,11 +16,12 @@ use Rattle.mm_frame.specs.Numbered.{NumberedFrame, IsNaming, IsNamedFrame}
 use Rattle.mm_frame.specs.FramesHeld.{frame_held}
 use Rattle.mm_frame.specs.FormsRead.{form_read, keyword_read}
 use Rattle.mm_frame.specs.Held.{Held}
-use Rattle.mm_frame.specs.HeldFaults.{Statement, Judges, stated_held, stated_in}
-use Rattle.mm_frame.specs.HeldFrames.{IsHeldFrame}
+use Rattle.mm_frame.specs.HeldFaults.{Judges, stated_held, stated_in}
+use Rattle.mm_frame.specs.HeldFrames.{IsHeldFrame, Statement}
 use Rattle.mm_frame.specs.Judging.{judged_plain, saying_states, error_of}
+use Rattle.mm_frame.specs.Ending.{end_at}
 use Rattle.mm_frame.specs.Standing.{NamesSymbols, Stands}
-use Rattle.mm_frame.specs.Takes.{KeepsFrames, end_at}
+use Rattle.mm_frame.specs.Takes.{KeepsFrames}
 use Rattle.mm_frame.specs.Proposing.{IsProposed, Proposes}
 use Rattle.mm_frame.specs.declared.scopes.Need.TheVariants as need
 use Rattle.mm_frame.specs.declared.forms.Plain.{Plain}

@@ -7,8 +7,8 @@ use Rattle.mm_text.specs.Bytes.{Token}
 use Rattle.mm_database.specs.Frames.{Scope, Frame, label_of}
 use Rattle.mm_database.specs.Database.{Block, Context}
 use Rattle.mm_frame.specs.Numbered.{NumberedHypothesis, NumberedFrame}
-use Rattle.mm_frame.specs.Held.{HeldSymbol, Held}
-use Rattle.mm_frame.specs.HeldSteps.{symbol, symbol_name, Renames, AddsSymbol}
+use Rattle.mm_frame.specs.Held.{HeldSymbol, Held, symbol, symbol_name}
+use Rattle.mm_frame.specs.HeldSteps.{Renames, AddsSymbol}
 use Rattle.mm_frame.specs.Standing.{names_constant, names_variable, names_label, SymbolStands, ScopeStands, BlocksStand, FrameStands, StandsUnder, Stands}
 use Rattle.mm_frame.specs.declared.scopes.Name.{Name}
 use Rattle.mm_frame.specs.declared.scopes.Name.TheVariants.{Constant, Variable, Hypothesis as HypothesisName, Assertion}

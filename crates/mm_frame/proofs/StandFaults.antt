@@ -11,10 +11,9 @@ use Rattle.mm_database.specs.Database.{Block, Context}
 use Rattle.mm_frame.specs.Numbered.{NumberedHypothesis}
 use Rattle.mm_database.specs.Validity.{is_active, is_typed, is_open, begins_with_constant, has_two, has_one_label, is_typing, second_has_type, declaration_fault}
 use Rattle.mm_frame.specs.FormsRead.{keyword_read, form_read}
-use Rattle.mm_frame.specs.Held.{Held}
-use Rattle.mm_frame.specs.HeldSteps.{symbol}
+use Rattle.mm_frame.specs.Held.{Held, symbol}
 use Rattle.mm_frame.specs.HeldTests.{is_held_active, is_held_typed, constant_if, variable_if, name_number, number_in, is_in, is_active_in, with_number, numbers_in, constant_in, constant_named, label_in, redeclares_variable, redeclares_constant}
-use Rattle.mm_frame.specs.HeldFaults.{Statement, statement_under, floating_under, floating_of_numbers, floating_of_symbols, floating_in, begins_constant, stated_numbers, stated_in, separated_numbers, disjoint_in, is_open_in, constants_fault, variables_fault}
+use Rattle.mm_frame.specs.HeldFaults.{statement_under, floating_under, floating_of_numbers, floating_of_symbols, floating_in, begins_constant, stated_numbers, stated_in, separated_numbers, disjoint_in, is_open_in, constants_fault, variables_fault}
 use Rattle.mm_frame.specs.Judging.{Saying, or_saying, saying_floating, saying_essential, saying_disjoint, saying_states, judged_plain, judged_end, judged_form, error_of}
 use Rattle.mm_frame.specs.Standing.{SymbolStands, NamesSymbols, BlocksStand, Stands}
 use Rattle.mm_frame.specs.declared.forms.Keyword.{Keyword}
@@ -28,6 +27,7 @@ use Rattle.mm_frame.specs.declared.scopes.Need.TheVariants as need
 use Rattle.mm_frame.specs.declared.scopes.OpenBlock.{OpenBlock}
 use Rattle.mm_frame.proofs.Namings.{naming_of}
 use Rattle.mm_frame.proofs.StandTests.{by-naming, variable-typed, test-variable, test-active, test-typed, test-constant, test-named, test-taken, test-labels, list_all-same, list_any-same, all-numbers}
+use Rattle.mm_frame.specs.HeldFrames.{Statement}
 
 abbrev a_fault : ℕ → Option ℕ
 a_fault kind = Some kind

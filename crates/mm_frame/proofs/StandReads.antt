@@ -10,15 +10,15 @@ use Rattle.mm_database.specs.Database.{Block, Context}
 use Rattle.mm_frame.specs.Numbered.{NumberedHypothesis, NumberedFrame, IsNaming, named_hypothesis}
 use Rattle.mm_database.specs.Proofs.{hypothesis_of}
 use Rattle.mm_database.specs.Validity.{first_open}
-use Rattle.mm_frame.specs.Held.{HeldSymbol, Held}
-use Rattle.mm_frame.specs.HeldReads.{symbol_is_variable, first_block, hypothesis_named, hypothesis_at, hypothesis_by_name, frame_by_name, frame_named}
-use Rattle.mm_frame.specs.HeldSteps.{symbol_name}
+use Rattle.mm_frame.specs.Held.{HeldSymbol, Held, symbol_name}
+use Rattle.mm_frame.specs.HeldReads.{symbol_is_variable, hypothesis_named, hypothesis_at, hypothesis_by_name, frame_by_name, frame_named}
 use Rattle.mm_frame.specs.Standing.{names_variable, SymbolStands, NamesSymbols, BlocksStand, FrameStands, FrameFound, Stands}
 use Rattle.mm_frame.specs.declared.scopes.Name.{Name}
 use Rattle.mm_frame.specs.declared.scopes.Name.TheVariants.{Constant, Variable, Hypothesis as HypothesisName, Assertion}
 use Rattle.mm_frame.specs.declared.scopes.OpenBlock.{OpenBlock}
 use Rattle.mm_frame.proofs.Namings.{naming_of}
 use Rattle.mm_frame.proofs.StandTests.{by-naming}
+use Rattle.mm_frame.specs.HeldTests.{first_block}
 
 -- the number of a symbol
 

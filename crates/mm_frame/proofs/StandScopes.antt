@@ -12,8 +12,8 @@ use Rattle.mm_database.specs.Frames.{Hypothesis, floating, essential, label_of}
 use Rattle.mm_database.specs.Database.{Block, Context, with_hypothesis, with_apart, are_different_tokens, with_block_opened}
 use Rattle.mm_frame.specs.Numbered.{NumberedHypothesis, IsNaming, named_hypothesis}
 use Rattle.mm_frame.specs.FramesHeld.{has_number, in_group, in_groups, types_number}
-use Rattle.mm_frame.specs.Held.{Held}
-use Rattle.mm_frame.specs.HeldSteps.{symbol, symbol_name, Activates, types_with, AddsHypothesis, AddsDisjoint, block_at, OpensBlock, ClosesBlock}
+use Rattle.mm_frame.specs.Held.{Held, symbol, symbol_name}
+use Rattle.mm_frame.specs.HeldSteps.{Activates, types_with, AddsHypothesis, AddsDisjoint, block_at, OpensBlock, ClosesBlock}
 use Rattle.mm_frame.specs.Standing.{names_constant, names_variable, names_label, SymbolStands, NamesSymbols, ScopeStands, BlocksStand, StandsUnder, Stands}
 use Rattle.mm_frame.specs.declared.scopes.Name.{Name}
 use Rattle.mm_frame.specs.declared.scopes.Name.TheVariants.{Hypothesis as HypothesisName}

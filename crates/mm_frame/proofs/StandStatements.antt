@@ -16,10 +16,10 @@ use Rattle.mm_frame.specs.Numbered.{NumberedHypothesis, NumberedFrame}
 use Rattle.mm_frame.specs.FormsRead.{keyword_read, form_read}
 use Rattle.mm_database.specs.Validity.{has_two, is_open}
 use Rattle.mm_frame.specs.FramesHeld.{has_number}
-use Rattle.mm_frame.specs.Held.{Held}
-use Rattle.mm_frame.specs.HeldFaults.{Statement, statement_under, floating_under, floating_of_numbers, floating_of_symbols, floating_in, begins_constant, stated_numbers, stated_in, unlabelled, separated_numbers, disjoint_in, is_open_in}
-use Rattle.mm_frame.specs.HeldFrames.{ArePlaced, IsHeldFrame}
-use Rattle.mm_frame.specs.HeldSteps.{symbol, AddsSymbol, AddsConstants, VariableStep, AddsVariables, AddsHypothesis, AddsAssertion, ClosesBlock}
+use Rattle.mm_frame.specs.Held.{Held, symbol}
+use Rattle.mm_frame.specs.HeldFaults.{statement_under, floating_under, floating_of_numbers, floating_of_symbols, floating_in, begins_constant, stated_numbers, stated_in, unlabelled, separated_numbers, disjoint_in, is_open_in}
+use Rattle.mm_frame.specs.HeldFrames.{IsHeldFrame, Statement}
+use Rattle.mm_frame.specs.HeldSteps.{AddsSymbol, AddsConstants, VariableStep, AddsVariables, AddsHypothesis, AddsAssertion, ClosesBlock}
 use Rattle.mm_frame.specs.HeldTests.{is_held_typed, number_in, is_active_in, numbers_in, constant_in, label_in, redeclares_constant, redeclares_variable}
 use Rattle.mm_frame.specs.Judging.{Saying, opens, closes, names_constants, names_variables, supposes, parts, states, or_saying, saying_floating, saying_essential, saying_disjoint, saying_states, judged_plain, judged_end, judged_form, Follows}
 use Rattle.mm_frame.specs.Standing.{names_constant, names_variable, names_label, SymbolStands, Stands}
@@ -37,6 +37,7 @@ use Rattle.mm_frame.proofs.StandScopes.{activated, hypothesis-added, disjoint-ad
 use Rattle.mm_frame.proofs.StandFrames.{assertion-added}
 use Rattle.mm_frame.proofs.StandFaults.{variable-token, constant-token, numbers-named, test-open}
 use Rattle.mm_frame.proofs.StandTests.{held-active, held-typed, variable-active, test-named, test-taken, list_any-same}
+use Rattle.mm_frame.specs.HeldPlaces.{ArePlaced}
 
 -- lists of tokens that are new
 

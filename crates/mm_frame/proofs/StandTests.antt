@@ -10,8 +10,7 @@ use Rattle.mm_database.specs.Database.{Context}
 use Rattle.mm_frame.specs.Numbered.{NumberedHypothesis, IsNaming, named_hypothesis}
 use Rattle.mm_database.specs.Validity.{has_type, is_active, is_typed, is_new_label, has_one_label}
 use Rattle.mm_frame.specs.FramesHeld.{has_number, types_number}
-use Rattle.mm_frame.specs.Held.{Held}
-use Rattle.mm_frame.specs.HeldSteps.{symbol_name}
+use Rattle.mm_frame.specs.Held.{Held, symbol_name}
 use Rattle.mm_frame.specs.HeldTests.{is_number, types_in, is_held_active, is_held_typed, name_number, number_in, is_in, is_active_in, with_number, numbers_in, constant_in, constant_named, label_in, names_active, redeclares_variable, redeclares_constant}
 use Rattle.mm_frame.specs.Standing.{names_constant, names_variable, names_label, SymbolStands, NamesSymbols, StandsUnder, Stands}
 use Rattle.mm_frame.specs.declared.scopes.Name.{Name}

@@ -12,8 +12,9 @@ use Rattle.mm_frame.specs.FormsRead.{form_read}
 use Rattle.mm_frame.specs.Held.{Held}
 use Rattle.mm_frame.specs.HeldFaults.{Judges}
 use Rattle.mm_frame.specs.Judging.{said_by, judged_form, error_of, Follows}
+use Rattle.mm_frame.specs.Ending.{end_at}
 use Rattle.mm_frame.specs.Standing.{Stands}
-use Rattle.mm_frame.specs.Takes.{Takes, end_at}
+use Rattle.mm_frame.specs.Takes.{Takes}
 use Rattle.mm_frame.specs.declared.forms.Form.{Form}
 use Rattle.mm_frame.specs.declared.judge.Refusal.{Refusal}
 use Rattle.mm_frame.specs.declared.judge.Refusal.TheVariants.{Fault, Memory}

@@ -1,9 +1,8 @@
 -- Hypotheses and frames as they are held: symbols by their numbers, and the pairs that have to stay
 -- apart as one list of variables for each `$d`.
-use Rattle.std.specs.Prelude.{ℕ, Bool, true, false, not, ◌&&◌, nat_eq, List, map}
+use Rattle.std.specs.Prelude.{ℕ, Bool, false, not, ◌&&◌, nat_eq, List, map}
 use Rattle.std.specs.Global.{Vec}
 use Rattle.std.specs.List.{list_any}
-use Rattle.mm_text.specs.Bytes.{Token}
 use Rattle.mm_frame.specs.Numbered.{NumberedHypothesis, NumberedFrame}
 use Rattle.mm_frame.specs.declared.frames.Hyp.{Hyp}
 use Rattle.mm_frame.specs.declared.frames.Hyp.TheVariants.{Floating, Essential}
@@ -43,10 +42,6 @@ frame_held f = record {
 
 abbrev pub frames_held : List Frame → List NumberedFrame
 frames_held frames = map frame_held frames
-
-abbrev pub is_essential : NumberedHypothesis → Bool
-is_essential (floating label typecode variable) = false
-is_essential (essential label statement) = true
 
 -- it is a `$f` of the variable
 abbrev pub types_number : ℕ → NumberedHypothesis → Bool

@@ -1,5 +1,5 @@
 -- What scopes hold: names with what they name, symbols by their numbers, and what is active in lists.
-use Rattle.std.specs.Prelude.{ℕ, Bool, List, map, Option}
+use Rattle.std.specs.Prelude.{ℕ, Bool, List, map, Option, if◌then◌else◌}
 use Rattle.mm_text.specs.Bytes.{Token}
 use Rattle.mm_frame.specs.Numbered.{NumberedHypothesis, NumberedFrame}
 use Rattle.mm_frame.specs.FramesHeld.{frame_held}
@@ -10,6 +10,7 @@ use Rattle.mm_frame.specs.declared.scopes.Name.{Name}
 use Rattle.mm_frame.specs.declared.scopes.Symbol.{Symbol}
 use Rattle.mm_frame.specs.declared.scopes.OpenBlock.{OpenBlock}
 use Rattle.mm_frame.specs.declared.scopes.Scopes.{Scopes}
+use Rattle.mm_frame.specs.declared.scopes.Name.TheVariants.{Constant, Variable}
 
 pub record HeldSymbol : Type 0 where
   pub token : Token
@@ -44,3 +45,9 @@ held s = record {
   blocks = s.blocks.items;
   frames = map frame_held s.frames.items;
 }
+
+abbrev pub symbol_name : Bool → ℕ → Name
+symbol_name is_variable n = if is_variable then Variable n else Constant n
+
+abbrev pub symbol : Token → Bool → HeldSymbol
+symbol token is_variable = record { token = token; is_variable = is_variable }

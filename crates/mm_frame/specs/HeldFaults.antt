@@ -15,17 +15,13 @@ use Rattle.mm_frame.specs.declared.judge.Refusal.{Refusal}
 use Rattle.mm_frame.specs.declared.judge.Refusal.TheVariants.{Fault, Memory}
 use Rattle.mm_frame.specs.declared.judge.Stated.{Stated}
 use Rattle.mm_database.specs.Frames.{floating}
+use Rattle.mm_frame.specs.HeldFrames.{Statement}
 
 -- what was judged is this, as far as there was memory
 abbrev pub Judges : {X Y : Type 0} → (X → Y) → Result X Refusal → Result Y ℕ → Type 0
 Judges view (Ok x) expected = expected ≡ Ok (view x)
 Judges view (Err (Fault kind)) expected = expected ≡ Err kind
 Judges view (Err Memory) expected = Unit {0}
-
--- a new label and symbols by their numbers
-pub record Statement : Type 0 where
-  pub label : Token
-  pub symbols : List ℕ
 
 abbrev pub stated_held : Stated → Statement
 stated_held s = record { label = s.label.now; symbols = s.statement.items }

@@ -1,13 +1,16 @@
 -- The frame of an assertion by what scopes hold.
-use Rattle.std.specs.Prelude.{◌≡◌, ℕ, Bool, true, false, ◌&&◌, ◌||◌, if◌then◌else◌, List, [], ◌∷◌, filter, slice_get, slice_index, Option, Some, None}
+use Rattle.std.specs.Prelude.{◌≡◌, ℕ, Bool, true, false, ◌&&◌, ◌||◌, List, filter}
 use Rattle.std.specs.List.{list_any}
 use Rattle.mm_text.specs.Bytes.{Token}
 use Rattle.mm_frame.specs.Numbered.{NumberedHypothesis, NumberedFrame}
 use Rattle.mm_frame.specs.FramesHeld.{has_number, in_groups}
 use Rattle.mm_frame.specs.Held.{Held}
-use Rattle.mm_frame.specs.HeldFaults.{Statement}
-use Rattle.mm_frame.specs.HeldTests.{is_held_typed}
 use Rattle.mm_database.specs.Frames.{floating, essential}
+
+-- a new label and symbols by their numbers
+pub record Statement : Type 0 where
+  pub label : Token
+  pub symbols : List ℕ
 
 abbrev pub number_stands_in : ℕ → NumberedHypothesis → Bool
 number_stands_in n (floating label typecode variable) = false
@@ -21,21 +24,6 @@ is_needed_number hypotheses statement n = has_number statement n || list_any (nu
 abbrev pub is_mandatory_number : (ℕ → Bool) → NumberedHypothesis → Bool
 is_mandatory_number needed (floating label typecode variable) = needed variable
 is_mandatory_number needed (essential label statement) = true
-
--- the symbols of the `$e` at a place
-abbrev pub premise_at : Option NumberedHypothesis → List ℕ
-premise_at None = []
-premise_at (Some (floating label typecode variable)) = []
-premise_at (Some (essential label statement)) = statement
-
--- each active `$f` stands at the place that is kept for its variable
-abbrev pub ArePlaced : Held → Type 0
-ArePlaced h = (i : ℕ) (l : Token) (k v : ℕ) → slice_get h.hypotheses i ≡ Some (floating l k v) → slice_index h.types v ≡ i
-
--- the places of the active `$f` of these variables
-abbrev pub typed_places : Held → List ℕ → List ℕ
-typed_places h [] = []
-typed_places h (n ∷ numbers) = if is_held_typed h n then slice_index h.types n ∷ typed_places h numbers else typed_places h numbers
 
 pub record IsHeldFrame (h : Held) (s : Statement) (f : NumberedFrame) : Type 0 where
   pub label : f.label ≡ s.label

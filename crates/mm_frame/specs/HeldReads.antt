@@ -1,20 +1,15 @@
--- What scopes answer, by what they hold: cited by clauses of private functions and by proofs alone.
-use Rattle.std.specs.Prelude.{ℕ, Bool, false, if◌then◌else◌, List, [], ◌∷◌, slice_get, Option, Some, None, bytes_eq}
+-- What scopes answer, by what they hold.
+use Rattle.std.specs.Prelude.{Bool, false, if◌then◌else◌, slice_get, Option, Some, None, bytes_eq}
 use Rattle.mm_text.specs.Bytes.{Token}
 use Rattle.mm_frame.specs.Numbered.{NumberedHypothesis, NumberedFrame}
 use Rattle.mm_frame.specs.Held.{HeldSymbol, Held}
 use Rattle.mm_frame.specs.declared.scopes.Name.{Name}
 use Rattle.mm_frame.specs.declared.scopes.Name.TheVariants.{Constant, Variable, Hypothesis, Assertion}
-use Rattle.mm_frame.specs.declared.scopes.OpenBlock.{OpenBlock}
 use Rattle.mm_database.specs.Frames.{label_of}
 
 abbrev pub symbol_is_variable : Option HeldSymbol → Bool
 symbol_is_variable None = false
 symbol_is_variable (Some s) = s.is_variable
-
-abbrev pub first_block : List OpenBlock → Option ℕ
-first_block [] = None
-first_block (block ∷ blocks) = Some block.at
 
 -- the hypothesis at a place, where it has the label
 abbrev pub hypothesis_at : Token → Option NumberedHypothesis → Option NumberedHypothesis

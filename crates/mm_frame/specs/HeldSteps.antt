@@ -2,7 +2,7 @@
 use Rattle.std.specs.Prelude.{◌≡◌, ℕ, Bool, true, false, if◌then◌else◌, List, [], ◌∷◌, ◌++◌, length, take, slice_set, Option, Some, None, bytes_eq}
 use Rattle.mm_text.specs.Bytes.{Token}
 use Rattle.mm_frame.specs.Numbered.{NumberedHypothesis, NumberedFrame}
-use Rattle.mm_frame.specs.Held.{HeldSymbol, Held}
+use Rattle.mm_frame.specs.Held.{Held, symbol, symbol_name}
 use Rattle.mm_frame.specs.declared.scopes.Name.{Name}
 use Rattle.mm_frame.specs.declared.scopes.Name.TheVariants.{Constant, Variable, Hypothesis, Assertion}
 use Rattle.mm_frame.specs.declared.scopes.OpenBlock.{OpenBlock}
@@ -11,12 +11,6 @@ use Rattle.mm_database.specs.Frames.{floating, essential, label_of}
 -- the token gets a name, and the others keep theirs
 abbrev pub Renames : (Token → Option Name) → Token → Name → (Token → Option Name) → Type 0
 Renames old token name new = (t : Token) → new t ≡ (if bytes_eq token t then Some name else old t)
-
-abbrev pub symbol_name : Bool → ℕ → Name
-symbol_name is_variable n = if is_variable then Variable n else Constant n
-
-abbrev pub symbol : Token → Bool → HeldSymbol
-symbol token is_variable = record { token = token; is_variable = is_variable }
 
 abbrev pub AppendsSymbol : Held → Token → Bool → Held → Type 0
 AppendsSymbol old token is_variable new = new ≡ record old {

@@ -9,6 +9,7 @@ use Rattle.mm_frame.specs.declared.scopes.Name.{Name}
 use Rattle.mm_frame.specs.declared.scopes.Name.TheVariants.{Constant, Variable, Hypothesis, Assertion}
 use Rattle.mm_frame.specs.declared.scopes.Need.{Need}
 use Rattle.mm_frame.specs.declared.scopes.Need.TheVariants as need
+use Rattle.mm_frame.specs.declared.scopes.OpenBlock.{OpenBlock}
 
 abbrev pub is_number : ℕ → Option ℕ → Bool
 is_number n None = false
@@ -102,3 +103,7 @@ redeclares_variable h token = names_active h (h.names token)
 abbrev pub ahead : List ℕ → Option (List ℕ) → Option (List ℕ)
 ahead front None = None
 ahead front (Some numbers) = Some (front ++ numbers)
+
+abbrev pub first_block : List OpenBlock → Option ℕ
+first_block [] = None
+first_block (block ∷ blocks) = Some block.at

@@ -7,8 +7,8 @@ use Rattle.mm_text.specs.Reader.{words_of}
 use Rattle.mm_frame.specs.Numbered.{NumberedHypothesis, NumberedFrame}
 use Rattle.mm_frame.specs.FramesHeld.{hypothesis_held}
 use Rattle.mm_frame.specs.Held.{Held}
-use Rattle.mm_frame.specs.HeldFaults.{Statement, stated_held, floating_in, stated_in, disjoint_in, constants_fault, variables_fault}
-use Rattle.mm_frame.specs.HeldFrames.{ArePlaced, IsHeldFrame}
+use Rattle.mm_frame.specs.HeldFaults.{stated_held, floating_in, stated_in, disjoint_in, constants_fault, variables_fault}
+use Rattle.mm_frame.specs.HeldFrames.{IsHeldFrame, Statement}
 use Rattle.mm_frame.specs.HeldSteps.{AddsConstants, AddsVariables, AddsHypothesis, AddsDisjoint, AddsAssertion, OpensBlock, ClosesBlock}
 use Rattle.mm_frame.specs.declared.forms.Keyword.{Keyword}
 use Rattle.mm_frame.specs.declared.forms.Keyword.TheVariants.{Constants, Variables, Floating, Essential, Disjoint, Axiom, Theorem}
@@ -20,6 +20,7 @@ use Rattle.mm_frame.specs.declared.judge.Refusal.TheVariants.{Fault}
 use Rattle.mm_frame.specs.declared.declare.Said.{Said}
 use Rattle.mm_database.specs.Frames.{essential}
 use Rattle.mm_frame.specs.declared.declare.Said.TheVariants as code
+use Rattle.mm_frame.specs.HeldPlaces.{ArePlaced}
 
 pub data Saying : Type 0 where
   opens : Saying

@@ -1,22 +1,29 @@
+-- Believed: what public clauses say, and believed definitions of other crates.
 pub mod Numbered
-pub mod NumberedSteps
 pub mod FormsRead
 pub mod FramesHeld
-pub mod Places
 pub mod HypothesesView
-pub mod Listed
 pub mod DisjointView
 pub mod KnownNames
 pub mod Held
-pub mod HeldTests
-pub mod HeldFaults
-pub mod HeldSteps
 pub mod HeldFrames
-pub mod Judging
 pub mod Standing
 pub mod Takes
 pub mod HeldReads
-pub mod StandingLaws
 pub mod Proposing
 pub mod AddedView
 pub mod CitedView
+-- Laws: what follows from that. Each is a clause of a function that does nothing.
+pub mod NumberedSteps
+pub mod StandingLaws
+-- Private: what clauses of private functions cite, and how private fields are seen.
+pub mod FormParts
+pub mod Places
+pub mod Listed
+pub mod EntriesView
+pub mod HeldTests
+pub mod HeldFaults
+pub mod HeldSteps
+pub mod HeldPlaces
+pub mod Judging
+pub mod Ending

@@ -1,8 +1,10 @@
 -- The groups that each number is in, by their places.
-use Rattle.std.specs.Prelude.{◌≡◌, ℕ, zero, suc, ◌-◌, Bool, false, ◌&&◌, nat_eq, if◌then◌else◌, List, [], ◌∷◌, ◌++◌, length, take, slice_get, Option, Some, None}
+use Rattle.std.specs.Prelude.{◌≡◌, ℕ, zero, suc, ◌-◌, Bool, false, ◌&&◌, nat_eq, if◌then◌else◌, List, [], ◌∷◌, ◌++◌, length, take, slice_get, Option, Some, None, true}
 use Rattle.std.specs.Global.{Vec}
 use Rattle.mm_frame.specs.FramesHeld.{has_number, in_group}
 use Rattle.mm_frame.specs.Places.{places_of, passes}
+use Rattle.mm_frame.specs.Numbered.{NumberedHypothesis}
+use Rattle.mm_database.specs.Frames.{floating, essential}
 
 -- the list of a number, empty where there is none
 abbrev pub list_of : List (Vec ℕ) → ℕ → List ℕ
@@ -37,3 +39,7 @@ without_place place places = if ends_with place places then take (length places 
 -- the group at a place has two different numbers, which are among others
 abbrev pub shares : List (List ℕ) → List ℕ → ℕ → ℕ → ℕ → Bool
 shares groups numbers a b place = passes (in_group a b) (slice_get groups place) && (has_number numbers a && has_number numbers b)
+
+abbrev pub is_essential : NumberedHypothesis → Bool
+is_essential (floating label typecode variable) = false
+is_essential (essential label statement) = true

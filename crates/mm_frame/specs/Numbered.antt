@@ -1,6 +1,6 @@
 -- Frames whose symbols are numbers. A naming gives each number a token of its own; under it these are
 -- frames of tokens.
-use Rattle.std.specs.Prelude.{◌≡◌, ℕ, Bool, nat_eq, List, map, bytes_eq}
+use Rattle.std.specs.Prelude.{◌≡◌, ℕ, nat_eq, List, map, bytes_eq}
 use Rattle.mm_text.specs.Bytes.{Token}
 use Rattle.mm_database.specs.Frames.{HypothesisOver, Hypothesis, floating, essential, FrameOver, Frame}
 

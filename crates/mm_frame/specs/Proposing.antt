@@ -10,8 +10,7 @@ use Rattle.mm_database.specs.Validity.{declaration_fault}
 use Rattle.mm_frame.specs.Numbered.{IsNaming, IsNamedFrame}
 use Rattle.mm_frame.specs.FramesHeld.{frame_held}
 use Rattle.mm_frame.specs.Held.{Held}
-use Rattle.mm_frame.specs.HeldFaults.{Statement as Stated}
-use Rattle.mm_frame.specs.HeldFrames.{IsHeldFrame}
+use Rattle.mm_frame.specs.HeldFrames.{IsHeldFrame, Statement as Stated}
 use Rattle.mm_frame.specs.Standing.{NamesSymbols}
 use Rattle.mm_frame.specs.declared.declare.FrameEnd.{FrameEnd}
 use Rattle.mm_frame.specs.declared.declare.FrameEnd.TheVariants.{Fault, Memory}

@@ -6,8 +6,7 @@ use Rattle.mm_database.specs.Frames.{Scope, Frame, floating, label_of}
 use Rattle.mm_database.specs.Database.{Block, Context}
 use Rattle.mm_frame.specs.Numbered.{NumberedHypothesis, NumberedFrame, IsNaming, named_hypothesis, IsNamedFrame}
 use Rattle.mm_frame.specs.FramesHeld.{has_number, in_groups}
-use Rattle.mm_frame.specs.Held.{HeldSymbol, Held}
-use Rattle.mm_frame.specs.HeldSteps.{symbol, symbol_name}
+use Rattle.mm_frame.specs.Held.{HeldSymbol, Held, symbol, symbol_name}
 use Rattle.mm_frame.specs.declared.scopes.Name.{Name}
 use Rattle.mm_frame.specs.declared.scopes.Name.TheVariants.{Constant, Variable, Hypothesis, Assertion}
 use Rattle.mm_frame.specs.declared.scopes.OpenBlock.{OpenBlock}

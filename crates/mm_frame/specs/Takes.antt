@@ -1,6 +1,5 @@
 -- What scopes do with one statement.
-use Rattle.std.specs.Prelude.{◌≡◌, ℕ, length, take, Some, None, Result, Ok, Err}
-use Rattle.mm_text.specs.FaultKinds.{fault}
+use Rattle.std.specs.Prelude.{◌≡◌, length, take, Some, None, Result, Ok, Err}
 use Rattle.mm_text.specs.Statements.{Statement}
 use Rattle.mm_database.specs.Forms.{form_of}
 use Rattle.mm_database.specs.Database.{Context, context_after}
@@ -10,8 +9,6 @@ use Rattle.mm_frame.specs.Standing.{Stands}
 use Rattle.mm_frame.specs.declared.declare.Added.{Added}
 use Rattle.mm_frame.specs.declared.declare.FrameEnd.{FrameEnd}
 use Rattle.mm_frame.specs.declared.declare.FrameEnd.TheVariants.{Fault, Memory}
-use Rattle.mm_frame.specs.declared.judge.Refusal.{Refusal}
-use Rattle.mm_frame.specs.declared.judge.Refusal.TheVariants as refusal
 
 -- A statement without fault of kinds 3 to 11 is added, so that the scopes stand for the context behind
 -- it; of another one its fault is answered, and nothing is changed.
@@ -23,8 +20,3 @@ Takes c s old new (Err Memory) = Unit {0}
 -- no frame is lost or changed
 abbrev pub KeepsFrames : Held → Held → Type 0
 KeepsFrames old new = take (length old.frames) new.frames ≡ old.frames
-
--- cited by a private function alone
-abbrev pub end_at : Refusal → ℕ → FrameEnd
-end_at (refusal.Fault kind) at = Fault (fault kind at)
-end_at refusal.Memory at = Memory

@@ -2,9 +2,9 @@
 
 ghost use Rattle.std.specs.Prelude.{◌≡◌, ◌++◌, ◌∷◌, [], ℕ, cond, Some, IfOk, length, bytes_eq};
 ghost use Rattle.mm_text.specs.Bytes.{Token};
-ghost use Rattle.mm_frame.specs.Held.{held, Held};
+ghost use Rattle.mm_frame.specs.Held.{held, Held, symbol_name};
 ghost use Rattle.mm_frame.specs.FramesHeld.{hypothesis_held, frame_held};
-ghost use Rattle.mm_frame.specs.HeldSteps.{symbol_name, AppendsSymbol, Names, AddsSymbol, Activates, AddsHypothesis, AddsDisjoint, AddsAssertion, OpensBlock, ClosesBlock};
+ghost use Rattle.mm_frame.specs.HeldSteps.{AppendsSymbol, Names, AddsSymbol, Activates, AddsHypothesis, AddsDisjoint, AddsAssertion, OpensBlock, ClosesBlock};
 
 use crate::frames::{Frame, Hyp};
 use crate::scopes::{Name, OpenBlock, Scopes, Symbol};

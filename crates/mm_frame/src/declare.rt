@@ -7,11 +7,12 @@ ghost use Rattle.mm_frame.specs.HeldFaults.{Judges};
 ghost use Rattle.mm_frame.specs.HeldSteps.{AddsConstants, VariableStep, AddsVariable, AddsVariables};
 ghost use Rattle.mm_database.specs.Database.{Context};
 ghost use Rattle.mm_frame.specs.Standing.{Stands};
-ghost use Rattle.mm_frame.specs.Takes.{Takes, KeepsFrames, end_at};
+ghost use Rattle.mm_frame.specs.Takes.{Takes, KeepsFrames};
 ghost use Rattle.mm_database.specs.Forms.{form_of};
 ghost use Rattle.mm_frame.specs.FormsRead.{form_read};
 ghost use Rattle.mm_frame.specs.AddedView.{form_added};
 ghost use Rattle.mm_frame.specs.Judging.{said_by, judged_plain, judged_form, Follows, OrFault};
+ghost use Rattle.mm_frame.specs.Ending.{end_at};
 
 use crate::forms::{Form, Keyword, Plain, read_form};
 use crate::frames::Hyp;

@@ -3,7 +3,8 @@
 ghost use Rattle.std.specs.Prelude.{◌≡◌, [], option_map};
 ghost use Rattle.mm_text.specs.Reader.{words_of};
 ghost use Rattle.mm_database.specs.Forms.{form_of, keyword_of, has_dollar, before_dollar, from_dollar, is_end, block_form, labelled_form};
-ghost use Rattle.mm_frame.specs.FormsRead.{form_read, keyword_read, proof_read, proof_for, names_symbols};
+ghost use Rattle.mm_frame.specs.FormsRead.{form_read, keyword_read};
+ghost use Rattle.mm_frame.specs.FormParts.{proof_read, proof_for, names_symbols};
 
 use mm_text::MmToken;
 

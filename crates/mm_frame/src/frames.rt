@@ -1,8 +1,9 @@
 // Hypotheses and frames.
 
 ghost use Rattle.std.specs.Prelude.{◌≡◌};
-ghost use Rattle.mm_frame.specs.FramesHeld.{is_essential, types_number, hypothesis_held};
+ghost use Rattle.mm_frame.specs.FramesHeld.{types_number, hypothesis_held};
 ghost use Rattle.mm_database.specs.Frames.{label_of};
+ghost use Rattle.mm_frame.specs.Listed.{is_essential};
 
 /// A hypothesis, whose symbols are numbers.
 #[derive(Drop)]

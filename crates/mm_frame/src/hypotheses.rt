@@ -1,8 +1,9 @@
 // The active hypotheses.
 
 ghost use Rattle.std.specs.Prelude.{◌≡◌};
-ghost use Rattle.mm_frame.specs.FramesHeld.{hypotheses_held, is_essential};
+ghost use Rattle.mm_frame.specs.FramesHeld.{hypotheses_held};
 ghost use Rattle.mm_frame.specs.Places.{places_of};
+ghost use Rattle.mm_frame.specs.Listed.{is_essential};
 
 use crate::frames::Hyp;
 use std::alloc::{AllocError, Global};

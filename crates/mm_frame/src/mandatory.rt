@@ -3,10 +3,12 @@
 ghost use Rattle.std.specs.Prelude.{◌≡◌, ℕ, ◌||◌, ◌&&◌, IfOk, filter, flat_map, slice_get, if◌then◌else◌, ◌++◌, ◌∷◌, []};
 ghost use Rattle.std.specs.List.Sorted.{IsStrictlyIncreasing};
 ghost use Rattle.mm_frame.specs.Held.{held};
-ghost use Rattle.mm_frame.specs.FramesHeld.{has_number, in_group, in_groups, items_of, groups_of, is_essential, hypothesis_held, hypotheses_held, frame_held};
+ghost use Rattle.mm_frame.specs.FramesHeld.{has_number, in_group, in_groups, items_of, groups_of, hypothesis_held, hypotheses_held, frame_held};
 ghost use Rattle.mm_frame.specs.HeldFaults.{stated_held};
-ghost use Rattle.mm_frame.specs.HeldFrames.{is_needed_number, is_mandatory_number, premise_at, ArePlaced, typed_places, IsHeldFrame};
+ghost use Rattle.mm_frame.specs.HeldFrames.{is_needed_number, is_mandatory_number, IsHeldFrame};
 ghost use Rattle.mm_frame.specs.Places.{places_of, found_at};
+ghost use Rattle.mm_frame.specs.Listed.{is_essential};
+ghost use Rattle.mm_frame.specs.HeldPlaces.{premise_at, ArePlaced, typed_places};
 
 use crate::frames::{Frame, Hyp};
 use crate::judge::Stated;

@@ -1,6 +1,6 @@
 // What tokens name.
 
-ghost use Rattle.mm_frame.specs.KnownNames.{AreKnown};
+ghost use Rattle.mm_frame.specs.EntriesView.{AreKnown};
 
 use crate::scopes::Name;
 use std::alloc::{AllocError, Global};

@@ -9,8 +9,8 @@ ghost use Rattle.mm_frame.specs.Standing.{Stands, Tells, FrameFound};
 ghost use Rattle.mm_database.specs.Validity.{first_open};
 ghost use Rattle.mm_database.specs.Proofs.{active_hypothesis};
 ghost use Rattle.mm_frame.specs.Numbered.{named_hypothesis};
-ghost use Rattle.mm_frame.specs.HeldReads.{frame_named, symbol_is_variable, first_block, hypothesis_at, hypothesis_named};
-ghost use Rattle.mm_frame.specs.HeldTests.{is_held_active, is_held_typed, number_in};
+ghost use Rattle.mm_frame.specs.HeldReads.{frame_named, symbol_is_variable, hypothesis_at, hypothesis_named};
+ghost use Rattle.mm_frame.specs.HeldTests.{is_held_active, is_held_typed, number_in, first_block};
 
 use crate::disjoint::Disjoint;
 use crate::frames::{Cited, Frame, Hyp};

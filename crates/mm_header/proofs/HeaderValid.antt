@@ -2,14 +2,15 @@
 use Rattle.std.proofs.Common.{◌≡◌, ℕ, refl, subst, false, true}
 use Rattle.std.specs.Prelude.{Option, Some, None}
 use Rattle.mm_text.specs.Statements.{Statements, no_statement, unended, bad_statement, next_statement, statements_of}
-use Rattle.mm_text.specs.TextLaws.{ends_white}
 use Rattle.mm_database.specs.Database.{Context, empty_context, context_after}
-use Rattle.mm_database.specs.Validity.{AreFine, IsValid, statement_fault, fault_or, first_fault, first_fault_in}
+use Rattle.mm_database.specs.Validity.{AreFine, IsValid}
 use Rattle.mm_database.proofs.Faults.{faultless_valid, IsFine-statement}
 use Rattle.mm_header.specs.Header.{header_rows}
 use Rattle.mm_header.specs.HeaderText.{header_bytes}
 use Rattle.mm_header.specs.HeaderContext.{header_context, header_labels}
 use Rattle.mm_text.specs.Bytes.{has_repeated}
+use Rattle.mm_text.specs.Written.{ends_white}
+use Rattle.mm_database.specs.ComputedFault.{statement_fault, fault_or, first_fault, first_fault_in}
 
 header_faultless : first_fault header_bytes ≡ None
 unfolding header_bytes header_rows

@@ -1,13 +1,14 @@
 // What is proved of the header.
 ghost use Rattle.std.specs.Prelude.{◌≡◌, true, false, All};
 ghost use Rattle.mm_text.specs.Statements.{statements_of};
-ghost use Rattle.mm_text.specs.TextLaws.{ends_white};
 ghost use Rattle.mm_database.specs.Database.{empty_context};
 ghost use Rattle.mm_database.specs.Validity.{AreFine, IsValid};
 ghost use Rattle.mm_header.specs.Header.{header_rows};
 ghost use Rattle.mm_header.specs.HeaderText.{header_bytes};
-ghost use Rattle.mm_header.specs.HeaderContext.{HasOnlyRows, HasRow, header_context, header_labels};
+ghost use Rattle.mm_header.specs.HeaderContext.{header_context, header_labels};
+ghost use Rattle.mm_header.specs.HeaderLaws.{HasOnlyRows, HasRow};
 ghost use Rattle.mm_text.specs.Bytes.{has_repeated};
+ghost use Rattle.mm_text.specs.Written.{ends_white};
 
 /// The header is a valid Metamath database, so that each symbol in it is declared before. It leaves
 /// the context that its rows declare: a frame for each row, with its hypotheses, its pairs and its

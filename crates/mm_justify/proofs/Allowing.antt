@@ -1,13 +1,12 @@
 -- Texts that gain allowed assertions, and what stays true when names and statements are added.
-use Rattle.std.proofs.Common.{◌≡◌, ℕ, ◌≤◌, Bool, true, false, List, [], ◌∷◌, ◌++◌, map, Some, slice_get, length, take, drop, zero, suc, refl, ap, ◌∙◌, sym, subst, arith, length-append}
+use Rattle.std.proofs.Common.{◌≡◌, ℕ, Bool, true, false, List, [], ◌∷◌, ◌++◌, map, Some, length, take, refl, ap, sym, subst}
 use Rattle.std.proofs.lemmas.Bool.{false≢true}
 use Rattle.mm_text.specs.Bytes.{Token}
 use Rattle.mm_database.specs.Assertions.{Assertion, assertions_of, typings_of}
 use Rattle.mm_database.specs.Frames.{Hypothesis, floating, essential}
-use Rattle.mm_database.specs.FrameLaws.{written_statements}
 use Rattle.mm_database.specs.Validity.{IsValid}
 use Rattle.mm_database.proofs.Faults.{faultless_valid}
-use Rattle.ml_pat.specs.Patterns.{Pattern, imp, and, ev}
+use Rattle.ml_pat.specs.Patterns.{Pattern, imp, ev}
 use Rattle.term_core.specs.Patterns.{Pattern as RulePattern}
 use Rattle.rule_core.specs.declared.rules.Program.{Program}
 use Rattle.ml_image.specs.Images.{image_of}
@@ -26,6 +25,7 @@ use Rattle.mm_justify.specs.Justifying.{own_axiom, AreAllowed, AreTypings, HasOn
 use Rattle.mm_justify.specs.JustifyingLaws.{AxiomHasOnly, TheoremHasOnly, TheoremJustifies}
 use Rattle.mm_claims.proofs.OpenFits.{claims_are_valid}
 use Rattle.mm_claims.proofs.ClosedPatterns.{closed_frame_has_none}
+use Rattle.mm_database.specs.StatementTexts.{written_statements}
 
 -- Texts that gain allowed assertions.
 

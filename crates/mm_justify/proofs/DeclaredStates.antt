@@ -3,13 +3,12 @@ use Rattle.std.proofs.Common.{◌≡◌, ℕ, ◌+◌, ◌<◌, ◌^◌, Bool, t
 use Rattle.std.proofs.lemmas.Bool.{false≢true}
 use Rattle.mm_text.specs.Bytes.{Token}
 use Rattle.mm_text.specs.Statements.{Statements, next_statement, statement, statements_from}
-use Rattle.mm_text.specs.TextLaws.{written}
 use Rattle.mm_text.proofs.Writing.{written_statement}
 use Rattle.mm_database.specs.Forms.{Form, declares_constants, asserts, plain, form_of, has_dollar}
 use Rattle.mm_database.specs.Frames.{Hypothesis, Frame, Scope, frame_of}
 use Rattle.mm_database.specs.Database.{Context, after_form}
 use Rattle.mm_database.specs.Assertions.{Assertion, assertions_in, assertions_of, form_assertion, with_assertion_first, form_typing, typings_in, typings_of, with_typing_first}
-use Rattle.mm_database.specs.FrameLaws.{Adds, plain_tokens, written_statements}
+use Rattle.mm_database.specs.FrameLaws.{Adds}
 use Rattle.mm_database.proofs.WrittenForms.{plain_tokens_say}
 use Rattle.mm_database.proofs.Stated.{appended_states}
 use Rattle.ml_pat.specs.Named.{AreDistinct, IsNoneOf}
@@ -26,6 +25,8 @@ use Rattle.mm_justify.specs.JustifyingLaws.{DeclaredHasOnly}
 use Rattle.mm_claims.proofs.NameLaws.{NameFacts, name_facts, name_label-clean}
 use Rattle.mm_claims.proofs.FittingLaws.{with_constant, with_name, IsNew, name_holds, behind_names, adds_names, none_has, AreNames-front, AreNames-next, take-drop, length-front, clean_one, clean_two}
 use Rattle.mm_justify.proofs.Allowing.{has_only_more}
+use Rattle.mm_text.specs.Written.{written}
+use Rattle.mm_database.specs.StatementTexts.{plain_tokens, written_statements}
 
 -- the `$a` of a name, and of names with the numbers from one on
 abbrev name_assertion : ℕ → Token → Assertion

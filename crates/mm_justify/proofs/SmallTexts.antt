@@ -7,7 +7,6 @@ use Rattle.std.proofs.lemmas.Slice.Eq.{bytes_eq-Decides}
 use Rattle.mm_text.specs.Bytes.{Token, has_token}
 use Rattle.mm_database.specs.Forms.{declares_constants, asserts}
 use Rattle.mm_database.specs.Assertions.{assertions_of}
-use Rattle.mm_database.specs.FrameLaws.{written_statements, plain_tokens, proof_tokens}
 use Rattle.mm_header.specs.Header.{Row, header_rows}
 use Rattle.mm_header.specs.HeaderText.{header_bytes}
 use Rattle.mm_header.specs.HeaderContext.{expression_of}
@@ -28,7 +27,8 @@ use Rattle.mm_claims.specs.Fitting.{AreNames}
 use Rattle.mm_claims.specs.OverNames.{closed_over}
 use Rattle.mm_claims.specs.Blocks.{Claim, IsClaim, open_frame, open_assertion}
 use Rattle.mm_claims.specs.CitedAt.{ArePremises}
-use Rattle.mm_claims.specs.Claiming.{FitsClaims, IsProvable, proved_statements, HasJust}
+use Rattle.mm_claims.specs.Claiming.{FitsClaims, proved_statements, HasJust}
+use Rattle.mm_claims.specs.Provable.{IsProvable}
 use Rattle.mm_justify.specs.Justifying.{IsOwnAxiom, rule_image, value_fact, header_row, declaration, own_axiom, HasOnlyAxiomsOf, Justifies}
 use Rattle.mm_justify.specs.JustifyingCases.{small_text, alone, SmallJustifies, conclusion, ConclusionIsNoAxiom}
 use Rattle.mm_claims.proofs.OpenFits.{header_fits_claims, claims_are_valid, theorem_fits, theorem_is_gained}
@@ -37,6 +37,7 @@ use Rattle.mm_justify.proofs.Allowing.{has_only_just}
 use Rattle.mm_justify.proofs.DeclaredStates.{declared_behind}
 use Rattle.mm_justify.proofs.HeaderStates.{header_has_only}
 use Rattle.mm_justify.proofs.ImageLeaves.{none_some}
+use Rattle.mm_database.specs.StatementTexts.{written_statements, plain_tokens, proof_tokens}
 
 -- a small text
 

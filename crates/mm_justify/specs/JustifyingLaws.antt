@@ -1,7 +1,6 @@
 -- How a text that is written statement by statement comes to justify a run.
-use Rattle.std.specs.Prelude.{◌≡◌, ℕ, ◌<◌, ◌≤◌, ◌^◌, true, false, List, [], ◌∷◌, ◌++◌, length, take, drop, Some}
+use Rattle.std.specs.Prelude.{◌≡◌, ℕ, ◌<◌, ◌≤◌, ◌^◌, true, false, List, [], ◌++◌, length, take, drop, Some}
 use Rattle.mm_text.specs.Bytes.{Token}
-use Rattle.mm_database.specs.FrameLaws.{written_statements}
 use Rattle.mm_header.specs.HeaderText.{header_bytes}
 use Rattle.ml_pat.specs.Patterns.{Pattern, imp, ev}
 use Rattle.ml_pat.specs.Named.{AreDistinct}
@@ -20,6 +19,7 @@ use Rattle.mm_claims.specs.ClaimVariables.{claim_of, claim_variables}
 use Rattle.mm_claims.specs.Keeping.{Fits, Gains}
 use Rattle.mm_claims.specs.Places.{MayProve, StatesLemma}
 use Rattle.mm_justify.specs.Justifying.{IsOwnAxiom, HasOnlyAxiomsOf, Justifies}
+use Rattle.mm_database.specs.StatementTexts.{written_statements}
 
 -- the header has only axioms of each program
 abbrev pub HeaderHasOnly : Type 0

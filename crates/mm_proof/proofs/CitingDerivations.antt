@@ -10,7 +10,8 @@ use Rattle.mm_proof.specs.Tokens.{Naming}
 use Rattle.mm_proof.specs.Trees.{trees_of}
 use Rattle.ml_pat.specs.Leaves.{LeafFacts}
 use Rattle.mm_proof.specs.Serving.{Serves}
-use Rattle.mm_proof.specs.Derivations.{holds_text, Citing, derivation_tree, derivation_trees, CitesSoundly}
+use Rattle.mm_proof.specs.Derivations.{holds_text, Citing, derivation_tree, derivation_trees}
+use Rattle.mm_proof.specs.SoundCiting.{CitesSoundly}
 use Rattle.ml_kernel.specs.UsedLeaves.{EachUsed, AllUsed}
 use Rattle.ml_kernel.specs.MayCite.{MayCite, EachCited, AllCited}
 use Rattle.mm_proof.proofs.RuleLaws.{rule_proves}

@@ -8,7 +8,7 @@ use Rattle.mm_proof.specs.Tokens.{Naming, letters_of, text_by, is_fresh, is_subs
 use Rattle.ml_pat.specs.Leaves.{LeafFacts}
 use Rattle.mm_proof.specs.Serving.{Serves}
 use Rattle.mm_proof.specs.Trees.{fresh_tree, instance_tree, rule_tree, trees_before, trees_behind, trees_of}
-use Rattle.mm_proof.proofs.RowProofs.{row_proves}
+use Rattle.mm_proof.proofs.RowProofs.{row_proves, all_proofs}
 use Rattle.mm_proof.proofs.SyntaxLaws.{pattern_text, sort_text, object_text, sort_proves, object_proves, syntax_proves}
 use Rattle.ml_kernel.specs.Rules.{Instance, pattern, variable, sort, Infers}
 use Rattle.ml_kernel.specs.Rules as rules
@@ -16,7 +16,6 @@ use Rattle.ml_kernel.specs.UsedLeaves.{EachInstance}
 use Rattle.ml_kernel.specs.declared.rules.Rule.{Rule}
 use Rattle.ml_kernel.specs.declared.rules.Rule.TheVariants as rule
 use Rattle.mm_proof.specs.Derivations.{holds_text}
-use Rattle.mm_proof.proofs.RowProofs.{all_proofs}
 use Rattle.ml_pat.proofs.LeafLaws.{EachLeaf-absent}
 use Rattle.mm_proof.proofs.ApartLaws.{text_apart, apart_text}
 use Rattle.mm_proof.proofs.FreshLaws.{fresh_text, fresh_proves, two_apart}

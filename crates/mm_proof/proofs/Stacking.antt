@@ -1,12 +1,12 @@
 -- Works on a stack.
 use Rattle.std.proofs.Common.{◌≡◌, ℕ, ◌+◌, ◌*◌, ◌<◌, ◌≤◌, List, [], ◌∷◌, ◌++◌, length, refl, ap, ◌∙◌, sym, append_assoc, length-append, arith, suc, drop, get_or, drop-cons, Result, Ok, Err}
 use Rattle.std.specs.Prelude.{OnOk, ◌-◌}
-use Rattle.mm_text.specs.TextLaws.{written}
 use Rattle.mm_text.specs.Bytes.{Token}
 use Rattle.mm_proof.specs.Writing.{word_token, work_tokens}
 use Rattle.mm_proof.specs.WorkStacks.{stack_tokens, IsTaken, weight, stack_weight, PutsOn, PutsMore}
 use Rattle.mm_proof.specs.declared.words.Word.{Word}
 use Rattle.mm_proof.specs.declared.works.Work.{Work}
+use Rattle.mm_text.specs.Written.{written}
 use Rattle.mm_proof.specs.declared.works.Work.TheVariants as work
 
 pub stack_tokens-push : (names : List Token) (k : ℕ) (ws : List Work) (w : Work) → stack_tokens names k (ws ++ w ∷ []) ≡ work_tokens names k w ++ stack_tokens names k ws

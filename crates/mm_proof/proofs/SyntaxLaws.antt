@@ -8,7 +8,8 @@ use Rattle.mm_database.specs.Proofs.{Expression, by_hypothesis, Proves}
 use Rattle.ml_pat.specs.Patterns.{Pattern, bot, top, imp, not, and, or, equal, member, fun, ex, all, app, at_sort, next, ev, var, meta, constant}
 use Rattle.mm_proof.specs.Tokens.{Naming, letters_of, is_pattern, judgement_by}
 use Rattle.mm_proof.specs.Trees.{cite, syntax_tree}
-use Rattle.mm_proof.specs.Serving.{closed_frame, HasHeader, Declares, Types, Serves}
+use Rattle.mm_proof.specs.Serving.{HasHeader, Declares, Types, Serves}
+use Rattle.mm_proof.specs.ClosedFrames.{closed_frame}
 use Rattle.ml_pat.specs.Leaves.{LeafFacts, EachLeaf}
 use Rattle.mm_proof.proofs.Schemes.{leads-by, under}
 use Rattle.mm_proof.proofs.Rows.{header_naming, no_pair, IsRow, P, Q, fp, fq, fx, fs, w_var, w_bot, w_top, w_imp, w_and, w_or, w_eq, w_mem, w_app, w_not, w_next, w_ev, w_at, w_fun, w_ex, w_all}

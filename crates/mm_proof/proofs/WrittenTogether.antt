@@ -2,8 +2,8 @@
 use Rattle.std.proofs.Common.{◌≡◌, ℕ, List, [], ◌∷◌, ◌++◌, zero, suc, refl, ap, ◌∙◌, sym, append_assoc, append-nil, slice_get}
 use Rattle.std.specs.Prelude.{unwrap_or, slice_index_or}
 use Rattle.mm_text.specs.Bytes.{Token}
-use Rattle.mm_text.specs.TextLaws.{white_behind, written}
-use Rattle.mm_database.specs.FrameLaws.{written_statements}
+use Rattle.mm_text.specs.Written.{white_behind, written}
+use Rattle.mm_database.specs.StatementTexts.{written_statements}
 
 pub written-append : (xs ys : List Token) → written (xs ++ ys) ≡ written xs ++ written ys
 written-append [] ys = refl

@@ -31,10 +31,3 @@ abbrev mutual
   pub derivation_trees : Naming → Citing → Derivations → List ProofTree
   derivation_trees l s no_derivation = []
   derivation_trees l s (more_derivations d ds) = derivation_tree l s d ∷ derivation_trees l s ds
-
--- what may be cited proves what it stands for
-pub record CitesSoundly (c : Context) (n : Naming) (hypotheses : List Pattern) (k : MayCite) (s : Citing) : Type 0 where
-  pub premise : (p : Pattern) → Contains hypotheses p → Proves c (s.premise p) (holds_text n p)
-  pub fact : (p : Pattern) → k.fact p → Proves c (s.fact p) (holds_text n p)
-  pub lemma : (own : List Pattern) (q : Pattern) (ms : List Pattern) (trees : List ProofTree) → k.lemma own q ms → HaveNoVariables ms → AllProve c (trees_of trees) (map (holds_text n) (instances ms own))
-      → Proves c (s.lemma own q ms trees) (holds_text n (instance ms q))

@@ -1,11 +1,16 @@
+-- Believed: what public clauses say, and believed definitions of other crates.
 pub mod Tokens
 pub mod Labels
 pub mod Trees
 pub mod RuleLabels
 pub mod Derivations
-pub mod Serving
+pub mod ClosedFrames
 pub mod Writing
+-- Laws: what follows from that. Each is a clause of a function that does nothing.
+pub mod SoundCiting
+pub mod Serving
 pub mod RenderLaws
 pub mod Cases
+-- Private: what clauses of private functions cite, and how private fields are seen.
 pub mod WorkStacks
 pub mod Searching

@@ -4,7 +4,8 @@ use Rattle.std.specs.Prelude.{◌≡◌, ℕ, true, IsTrue, List, map, Some}
 use Rattle.mm_database.specs.Database.{Context}
 use Rattle.mm_database.specs.Proofs.{ProofTree, AllProve, IsProof, postorder}
 use Rattle.ml_pat.specs.Patterns.{Pattern}
-use Rattle.ml_pat.specs.Leaves.{Known, are_known, EachLeaf}
+use Rattle.ml_pat.specs.Leaves.{EachLeaf}
+use Rattle.ml_pat.specs.KnownLeaves.{Known, are_known}
 use Rattle.ml_pat.specs.Judgements.{fresh, substituted, predicate}
 use Rattle.ml_kernel.specs.Rules.{Instance, Infers}
 use Rattle.ml_kernel.specs.UsedLeaves.{EachInstance}

@@ -13,10 +13,6 @@ pub record IsAssertion (c : Context) (label : Token) (f : Frame) : Type 0 where
   pub kept : c.frames label ≡ Some f
   pub no_hypothesis : active_hypothesis c label ≡ None
 
--- an assertion without hypotheses
-abbrev pub closed_frame : Token → List Token → Frame
-closed_frame name tokens = record { label = name; hypotheses = []; apart = λ a b. false; statement = tokens }
-
 -- each row of the header is there
 abbrev pub HasHeader : Context → Type 0
 HasHeader c = (label : Token) (f : Frame) → header_context.frames label ≡ Some f → IsAssertion c label f

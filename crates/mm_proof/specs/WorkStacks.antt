@@ -1,7 +1,6 @@
 -- Stacks of works, and what is put on one for each form of a pattern.
 use Rattle.std.specs.Prelude.{◌≡◌, ℕ, ◌+◌, ◌*◌, ◌<◌, ◌≤◌, ◌==◌, if◌then◌else◌, codes, List, [], ◌∷◌, ◌++◌, length}
 use Rattle.mm_text.specs.Bytes.{Token}
-use Rattle.mm_text.specs.TextLaws.{written}
 use Rattle.mm_database.specs.Proofs.{ProofTree, postorder}
 use Rattle.ml_pat.specs.Patterns.{Pattern}
 use Rattle.ml_pat.specs.Judgements.{fresh}
@@ -10,6 +9,7 @@ use Rattle.mm_proof.specs.Labels.{object_label, own_labels}
 use Rattle.mm_proof.specs.Trees.{cite, first_part, second_part, syntax_tree, fresh_tree, unchanged_tree, substitution_tree, predicate_tree}
 use Rattle.mm_proof.specs.Writing.{work_tokens}
 use Rattle.mm_proof.specs.declared.works.Work.{Work}
+use Rattle.mm_text.specs.Written.{written}
 use Rattle.mm_proof.specs.declared.works.Work.TheVariants as work
 
 -- a stack of works, the top last

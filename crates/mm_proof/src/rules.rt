@@ -1,11 +1,11 @@
 // Rules: what stands for their variables, and their judgements.
 ghost use Rattle.std.specs.Prelude.{◌≡◌, [], ◌∷◌, ◌++◌, OnOk};
-ghost use Rattle.mm_text.specs.TextLaws.{written};
 ghost use Rattle.ml_pat.specs.Patterns.{bot};
 ghost use Rattle.ml_kernel.specs.StepView.{instances_of};
 ghost use Rattle.mm_proof.specs.Labels.{own_labels};
 ghost use Rattle.mm_proof.specs.RuleLabels.{all_labels, instance_labels};
 ghost use Rattle.mm_proof.specs.Trees.{pattern_at, trees_before, variable_at};
+ghost use Rattle.mm_text.specs.Written.{written};
 
 use crate::words::{Word, push_word};
 use crate::works::{Work, write_works};

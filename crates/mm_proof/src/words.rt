@@ -1,9 +1,9 @@
 // Tokens as they are written, each with white space behind it.
 ghost use Rattle.std.specs.Prelude.{◌≡◌, ◌∷◌, [], ◌++◌, OnOk, decimal, map};
-ghost use Rattle.mm_text.specs.TextLaws.{white_behind, written};
 ghost use Rattle.mm_proof.specs.Labels.{two_numbers};
 ghost use Rattle.mm_proof.specs.Tokens.{name_of};
 ghost use Rattle.mm_proof.specs.Writing.{word_token};
+ghost use Rattle.mm_text.specs.Written.{white_behind, written};
 
 use itoa::Buffer;
 use ml_pat::Names;

@@ -1,9 +1,9 @@
 // What is still to be written, as works that come apart into smaller ones: a stack of them takes the place of recursion, so
 // that a deep pattern costs no stack of calls.
 ghost use Rattle.std.specs.Prelude.{◌≡◌, ◌++◌, OnOk};
-ghost use Rattle.mm_text.specs.TextLaws.{written};
 ghost use Rattle.mm_proof.specs.WorkStacks.{IsTaken};
 ghost use Rattle.mm_proof.specs.Writing.{all_tokens};
+ghost use Rattle.mm_text.specs.Written.{written};
 
 use crate::freshness::{expand_fresh, expand_predicate, expand_unchanged};
 use crate::patterns::{expand_syntax, expand_text};

@@ -3,14 +3,14 @@ use Rattle.std.proofs.Common.{◌≡◌, ℕ, ◌+◌, List, [], ◌∷◌, ◌+
 use Rattle.std.specs.Prelude.{map, filter, flat_map, not}
 use Rattle.std.proofs.lemmas.Grind.{flat_map-append}
 use Rattle.mm_text.specs.Bytes.{Token}
-use Rattle.mm_text.specs.TextLaws.{written}
-use Rattle.mm_database.specs.FrameLaws.{written_statements}
 use Rattle.ml_pat.specs.Patterns.{Pattern}
 use Rattle.mm_render.specs.declared.variables.Variable as code
 use Rattle.mm_claims.specs.Variables.{Variable, object_variable, pattern_variable, is_object, variable_token, variable_tokens, object_tokens, are_several}
 use Rattle.mm_claims.specs.Blocks.{variable_statements, separations, separation_statements, premise_statements}
 use Rattle.mm_render.specs.VariablesView.{plain_variables, variable_of}
 use Rattle.mm_render.specs.HeadText.{separation, pattern_separations}
+use Rattle.mm_text.specs.Written.{written}
+use Rattle.mm_database.specs.StatementTexts.{written_statements}
 
 pub more_written : (start text text' : List ℕ) (old new all : List (List Token)) → text ≡ start ++ written_statements old → text' ≡ text ++ written_statements new → all ≡ old ++ new → text' ≡ start ++ written_statements all
 more_written start text text' old new all before added is =

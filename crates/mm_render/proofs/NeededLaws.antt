@@ -8,7 +8,7 @@ use Rattle.ml_kernel.specs.Theorems.{Derivation, Derivations, more_derivations}
 use Rattle.mm_claims.specs.Variables.{Variable, has_variable, AreNumbered}
 use Rattle.mm_render.specs.VariablesView.{HaveNumbers}
 use Rattle.mm_claims.specs.Blocks.{Claim}
-use Rattle.mm_claims.specs.ClaimVariables.{added}
+use Rattle.mm_claims.specs.AddedVariables.{added}
 use Rattle.mm_claims.specs.OpenVariables.{variables_of, all_variables_of}
 use Rattle.mm_render.specs.NeededView.{stack_needs, stack_steps, PutsDerivations, StepIsTaken}
 use Rattle.mm_claims.proofs.AddedVariables.{added-append, among_added}

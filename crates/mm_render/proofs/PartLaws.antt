@@ -2,7 +2,6 @@
 use Rattle.std.proofs.Common.{◌≡◌, ℕ, ◌+◌, ◌*◌, ◌<◌, ◌≤◌, List, [], ◌∷◌, ◌++◌, map, refl, ap, ◌∙◌, sym, append_assoc, append-nil, arith}
 use Rattle.std.specs.Borrow.{Bor}
 use Rattle.mm_text.specs.Bytes.{Token}
-use Rattle.mm_text.specs.TextLaws.{written}
 use Rattle.mm_database.specs.Proofs.{postorder}
 use Rattle.ml_pat.specs.Patterns.{Pattern}
 use Rattle.ml_kernel.specs.Rules.{Instance}
@@ -25,6 +24,7 @@ use Rattle.mm_claims.specs.Variables.{Variable}
 use Rattle.mm_claims.specs.Blocks.{Claim}
 use Rattle.mm_claims.specs.CitedAt.{variable_tree, claim_at, claims_citing}
 use Rattle.mm_render.specs.Parts.{part_tokens, parts_tokens, part_weight, parts_weight, proof_of, proofs_of, PutsParts, PartIsTaken, rest_of_citation, rest_of_rule, value_labels}
+use Rattle.mm_text.specs.Written.{written}
 
 pub parts_tokens-push : (names : List Token) (k : ℕ) (s : Citing) (ps : List Part) (p : Part) → parts_tokens names k s (ps ++ p ∷ []) ≡ part_tokens names k s p ++ parts_tokens names k s ps
 parts_tokens-push names k s [] p = sym (append-nil (part_tokens names k s p))

@@ -9,7 +9,7 @@ use Rattle.mm_proof.specs.Searching.{all_forms, patterns_of}
 use Rattle.mm_proof.proofs.Looking.{all_forms-push}
 use Rattle.mm_claims.specs.Variables.{Variable, AreNumbered}
 use Rattle.mm_claims.specs.OpenVariables.{variables_in}
-use Rattle.mm_claims.specs.ClaimVariables.{added}
+use Rattle.mm_claims.specs.AddedVariables.{added}
 use Rattle.mm_render.specs.VariablesView.{HaveNumbers, stack_variables, VariablesAreTaken, PutsVariables}
 use Rattle.mm_claims.proofs.OpenCitingTexts.{first_there, later_there}
 use Rattle.mm_claims.proofs.AddedVariables.{added-append}

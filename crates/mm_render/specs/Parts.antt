@@ -1,7 +1,6 @@
 -- What of a derivation is still to be written: cited by the clauses of private functions alone.
 use Rattle.std.specs.Prelude.{◌≡◌, ℕ, ◌+◌, ◌*◌, ◌<◌, ◌≤◌, List, [], ◌∷◌, ◌++◌, map}
 use Rattle.mm_text.specs.Bytes.{Token}
-use Rattle.mm_text.specs.TextLaws.{written}
 use Rattle.mm_database.specs.Proofs.{postorder}
 use Rattle.ml_pat.specs.Patterns.{Pattern}
 use Rattle.ml_kernel.specs.Rules.{Instance, label}
@@ -19,6 +18,7 @@ use Rattle.mm_render.specs.declared.derivations.Part.TheVariants as part
 use Rattle.mm_claims.specs.Variables.{Variable}
 use Rattle.mm_claims.specs.CitedAt.{variable_tree, claims_citing}
 use Rattle.mm_render.specs.PlaceTable.{claims_at, places_at, premises_at}
+use Rattle.mm_text.specs.Written.{written}
 
 -- the proof by a derivation in the block of a statement, and those by some
 abbrev pub proof_of : ℕ → Citing → Derivation → List Token

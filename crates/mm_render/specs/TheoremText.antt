@@ -1,14 +1,14 @@
 -- What is written of a theorem in front of its proof: cited by the clauses of private functions alone.
 use Rattle.std.specs.Prelude.{ℕ, List, [], ◌∷◌, ◌++◌, codes}
 use Rattle.mm_text.specs.Bytes.{Token}
-use Rattle.mm_text.specs.TextLaws.{written}
-use Rattle.mm_database.specs.FrameLaws.{written_statements}
 use Rattle.ml_pat.specs.Patterns.{Pattern}
 use Rattle.mm_proof.specs.Labels.{statement_label}
 use Rattle.mm_proof.specs.Tokens.{own_naming}
 use Rattle.mm_proof.specs.Derivations.{holds_text}
 use Rattle.mm_claims.specs.Variables.{Variable}
 use Rattle.mm_claims.specs.Blocks.{head_statements}
+use Rattle.mm_text.specs.Written.{written}
+use Rattle.mm_database.specs.StatementTexts.{written_statements}
 
 -- the theorem's label and statement, up to its proof
 abbrev pub statement_front : List Token → ℕ → Pattern → List ℕ

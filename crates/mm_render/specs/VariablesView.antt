@@ -10,7 +10,7 @@ use Rattle.mm_render.specs.declared.variables.Variable.{Variable}
 use Rattle.mm_render.specs.declared.variables.Variable.TheVariants as variable
 use Rattle.mm_claims.specs.Variables.{object_variable, pattern_variable, number_of, has_variable}
 use Rattle.mm_claims.specs.OpenVariables.{variables_in}
-use Rattle.mm_claims.specs.ClaimVariables.{added}
+use Rattle.mm_claims.specs.AddedVariables.{added}
 
 abbrev pub variable_of : Variable → plain.Variable
 variable_of (variable.Object x) = object_variable x.0

@@ -1,7 +1,6 @@
 // The proof by a derivation. What of it is still to be written lies on a stack, so that a deep derivation costs no stack of
 // calls.
 ghost use Rattle.std.specs.Prelude.{◌≡◌, ◌+◌, ◌*◌, [], ◌∷◌, ◌++◌, OnOk};
-ghost use Rattle.mm_text.specs.TextLaws.{written};
 ghost use Rattle.ml_pat.specs.Patterns.{bot};
 ghost use Rattle.ml_kernel.specs.StepView.{instances_of};
 ghost use Rattle.ml_kernel.specs.StepsIn.{all_steps};
@@ -13,6 +12,7 @@ ghost use Rattle.mm_claims.specs.CitedAt.{claim_at};
 ghost use Rattle.mm_render.specs.Parts.{PartIsTaken, PutsParts, citing_at, proof_of, proofs_of, rest_of_citation, rest_of_rule, value_labels};
 ghost use Rattle.mm_render.specs.PlaceTable.{claims_at, places_at, premises_at};
 ghost use Rattle.mm_render.specs.VariablesView.{variable_of};
+ghost use Rattle.mm_text.specs.Written.{written};
 
 use crate::places::{Standing, place_of, premise_of};
 use crate::variables::Variable;

@@ -3,7 +3,7 @@
 ghost use Rattle.std.specs.Prelude.{◌≡◌, IfOk, OnOk, flat_map};
 ghost use Rattle.ml_kernel.specs.StepView.{instance_of, instances_of};
 ghost use Rattle.ml_kernel.specs.Theorems.{derivations};
-ghost use Rattle.mm_claims.specs.ClaimVariables.{added};
+ghost use Rattle.mm_claims.specs.AddedVariables.{added};
 ghost use Rattle.mm_claims.specs.CitedAt.{claim_at};
 ghost use Rattle.mm_render.specs.ListedVariables.{listed};
 ghost use Rattle.mm_render.specs.NeededView.{PutsDerivations, StepIsTaken};

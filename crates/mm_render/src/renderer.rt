@@ -1,6 +1,5 @@
 // What is written: whole statements, behind a text that fits.
 ghost use Rattle.std.specs.Prelude.{◌≡◌, ◌<◌, ◌≤◌, [], ◌∷◌, ◌++◌, false, IsTrue, OnErr, OnOk, drop, length, option_copied, take, unwrap_or};
-ghost use Rattle.mm_database.specs.FrameLaws.{written_statements};
 ghost use Rattle.mm_header.specs.HeaderText.{header_bytes};
 ghost use Rattle.mm_claims.specs.Blocks.{axiom_statements, open_assertion};
 ghost use Rattle.mm_claims.specs.ClaimVariables.{claim_of, claim_variables};
@@ -11,6 +10,7 @@ ghost use Rattle.mm_claims.specs.Kept.{header_kept, nothing_kept};
 ghost use Rattle.mm_claims.specs.Places.{StatesLemma};
 ghost use Rattle.mm_proof.specs.Tokens.{name_of};
 ghost use Rattle.mm_claims.specs.Statements.{all_name_statements, name_statements, typecode_of};
+ghost use Rattle.mm_database.specs.StatementTexts.{written_statements};
 
 use crate::claims::{Claim, claim_of};
 use crate::places::{Standing, premise_places, statement_key};

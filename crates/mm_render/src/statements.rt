@@ -1,6 +1,5 @@
 // Whole statements, each in a block of its own where it has variables or hypotheses.
 ghost use Rattle.std.specs.Prelude.{◌≡◌, [], ◌∷◌, ◌++◌, OnOk};
-ghost use Rattle.mm_database.specs.FrameLaws.{written_statements};
 ghost use Rattle.mm_claims.specs.Blocks.{axiom_statements};
 ghost use Rattle.mm_claims.specs.Claiming.{proved_statements};
 ghost use Rattle.mm_render.specs.ClaimView.{plain_claim};
@@ -10,6 +9,7 @@ ghost use Rattle.mm_claims.specs.Statements.{axiom_statement};
 ghost use Rattle.mm_render.specs.TheoremText.{statement_front, theorem_front};
 ghost use Rattle.mm_claims.specs.Variables.{AreNumbered};
 ghost use Rattle.mm_render.specs.VariablesView.{plain_variables};
+ghost use Rattle.mm_database.specs.StatementTexts.{written_statements};
 
 use crate::claims::{Claim, needs_block};
 use crate::derivations::write_derivation;

@@ -4,8 +4,9 @@ use Rattle.std.specs.Prelude.{Option, Some, None}
 use Rattle.mm_text.specs.Bytes.{Class, printable, white, foreign, class_of, is_printable_class}
 use Rattle.mm_text.specs.Tokens.{Piece, run, stray, begins_printable, grown, with_byte, pieces_from, Place, outside, in_comment, place_after, Given, nothing, a_token, a_fault, given, Tokens, no_token, bad_text, next_token, with_given, tokens_in, tokens_from}
 use Rattle.mm_text.specs.Statements.{Statement, Statements, Reading, between, within, reading_after, ended_by, with_ended, statements_in}
-use Rattle.mm_text.specs.TextLaws.{ends_white, end_well, followed_by, AppendedText}
+use Rattle.mm_text.specs.TextLaws.{end_well, followed_by, AppendedText}
 use Rattle.mm_text.proofs.Truths.{white_class}
+use Rattle.mm_text.specs.Written.{ends_white}
 
 grown-append : (at b : ℕ) (p : Piece) (ps qs : List Piece) → grown at b ((p ∷ ps) ++ qs) ≡ grown at b (p ∷ ps) ++ qs
 grown-append at b (run later token) ps qs = refl

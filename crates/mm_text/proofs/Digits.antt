@@ -3,7 +3,8 @@ use Rattle.std.proofs.Common.{◌≡◌, ℕ, ◌+◌, ◌*◌, ◌^◌, ◌<◌
 use Rattle.std.specs.Prelude.{Option, Some, None, Result, Ok, Err, is_ok, IfOk, option_map}
 use Rattle.std.proofs.lemmas.Bool.Decides.{nat_tests}
 use Rattle.mm_text.specs.Compressed.{Letter, last_digit, digit, saves, no_letter, letter_of, Before, beginning, digits, a_number, a_save, value_before, before_next, CompressedStep, numbered, save, save_after, steps_of_letter, joined_steps, steps_from, number_of_steps, number_of, within_limit}
-use Rattle.mm_text.specs.Numbers.{leading_value, last_value, head_letter, number_left, Spells}
+use Rattle.mm_text.specs.Numbers.{Spells}
+use Rattle.mm_text.specs.DigitsRead.{leading_value, last_value, head_letter, number_left}
 
 -- no letters so far are as good as digits of no value
 begin_letter : (l : Letter) (bs : List ℕ) → joined_steps (steps_of_letter beginning l) (steps_from (before_next beginning l) bs) ≡ joined_steps (steps_of_letter (digits 0) l) (steps_from (before_next (digits 0) l) bs)

@@ -5,8 +5,10 @@ use Rattle.std.specs.List.{list_all}
 use Rattle.mm_text.specs.Bytes.{Token, printable, white, class_of, is_printable_class}
 use Rattle.mm_text.specs.Tokens.{Piece, run, with_byte, pieces_from, outside, opens_comment, closes_comment, Tokens, next_token, tokens_in, tokens_from}
 use Rattle.mm_text.specs.Statements.{next_statement, between, within, statement, ends_statement, is_whole, statements_in, statements_from}
-use Rattle.mm_text.specs.TextLaws.{is_plain_token, ends_once, white_behind, written, WrittenStatement}
+use Rattle.mm_text.specs.TextLaws.{WrittenStatement}
 use Rattle.mm_text.proofs.Truths.{both_true, not_true, printable_class}
+use Rattle.mm_text.specs.Written.{white_behind, written}
+use Rattle.mm_text.specs.PlainTokens.{is_plain_token, ends_once}
 
 abbrev are_printable : List ℕ → Bool
 are_printable bytes = list_all (λ c. is_printable_class (class_of c)) bytes

@@ -1,14 +1,10 @@
 -- The pieces of a text from a place on, as a reader meets them.
 use Rattle.std.specs.Prelude.{◌≡◌, ℕ, ◌+◌, ◌-◌, ◌<◌, ◌≤◌, Bool, true, false, List, [], ◌∷◌, length, take, drop, slice_index}
 use Rattle.mm_text.specs.Bytes.{foreign, class_of, is_printable_class, is_white}
-use Rattle.mm_text.specs.Tokens.{Piece, run, stray, pieces_from, Tokens, outside, tokens_in}
+use Rattle.mm_text.specs.Tokens.{Piece, run, stray, pieces_from}
 
 abbrev pub pieces_at : List ℕ → ℕ → List Piece
 pieces_at bytes at = pieces_from at (drop at bytes)
-
--- the tokens from a place outside comments on
-abbrev pub tokens_at : List ℕ → ℕ → Tokens
-tokens_at bytes at = tokens_in outside (pieces_at bytes at)
 
 -- the bytes from one place to another
 abbrev pub bytes_between : List ℕ → ℕ → ℕ → List ℕ

@@ -1,10 +1,9 @@
 -- What reading the next statement of a text gives.
-use Rattle.std.specs.Prelude.{◌≡◌, ℕ, ◌<◌, Bool, true, false, List, [], ◌∷◌, map, Result, Ok, Err}
+use Rattle.std.specs.Prelude.{◌≡◌, ℕ, ◌<◌, List, [], ◌∷◌, map, Result, Ok, Err}
 use Rattle.std.specs.List.{slice_range}
 use Rattle.mm_text.specs.Bytes.{Token}
-use Rattle.mm_text.specs.Tokens.{Tokens}
 use Rattle.mm_text.specs.Next.{left}
-use Rattle.mm_text.specs.Statements.{Statement, statement, Statements, no_statement, unended, bad_statement, next_statement, Reading, between, within, ends_statement, is_whole, statements_in}
+use Rattle.mm_text.specs.Statements.{Statement, statement, Statements, no_statement, unended, bad_statement, next_statement, between, statements_in}
 use Rattle.mm_text.specs.declared.tokens.MmToken.{MmToken}
 use Rattle.mm_text.specs.declared.tokens.MmTokens.{MmTokens}
 use Rattle.mm_text.specs.declared.statements.MmFound.{MmFound}
@@ -43,19 +42,3 @@ Passes old new (Ok Found) = old < new
 Passes old new (Ok End) = Unit {0}
 Passes old new (Ok (Unended at)) = Unit {0}
 Passes old new (Err end) = Unit {0}
-
--- The rest is cited by the clauses of private functions and by proofs alone.
-
--- a statement ends with this token, which is its first or another one
-abbrev pub ends_after : Bool → Token → Bool
-ends_after true word = is_whole word
-ends_after false word = ends_statement word
-
--- a statement that has begun with these tokens
-abbrev pub begun : List ℕ → List MmToken → Reading
-begun bytes [] = between
-begun bytes (t ∷ tokens) = within t.from (words_of bytes (t ∷ tokens))
-
-abbrev pub found_at_end : List MmToken → MmFound
-found_at_end [] = End
-found_at_end (t ∷ tokens) = Unended t.from

@@ -1,15 +1,10 @@
 -- Laws on Metamath texts: what is appended, and what is written.
-use Rattle.std.specs.Prelude.{◌≡◌, ℕ, ◌+◌, Bool, true, false, not, ◌&&◌, if◌then◌else◌, List, [], ◌∷◌, ◌++◌, length, flat_map}
+use Rattle.std.specs.Prelude.{◌≡◌, ℕ, ◌+◌, Bool, true, false, List, ◌++◌, length}
 use Rattle.std.specs.List.{list_all}
-use Rattle.mm_text.specs.Bytes.{Token, is_white, class_of, is_printable_class}
-use Rattle.mm_text.specs.Tokens.{opens_comment, closes_comment}
-use Rattle.mm_text.specs.Statements.{Statements, no_statement, unended, bad_statement, next_statement, statement, ends_statement, is_whole, statements_from}
-
--- a text is empty or ends with white space
-abbrev pub ends_white : List ℕ → Bool
-ends_white [] = true
-ends_white (b ∷ []) = is_white b
-ends_white (b ∷ (c ∷ bytes)) = ends_white (c ∷ bytes)
+use Rattle.mm_text.specs.Bytes.{Token}
+use Rattle.mm_text.specs.Statements.{Statements, no_statement, unended, bad_statement, next_statement, statement, statements_from}
+use Rattle.mm_text.specs.Written.{ends_white, written}
+use Rattle.mm_text.specs.PlainTokens.{is_plain_token, is_one_statement}
 
 -- a text ends between statements
 abbrev pub end_well : Statements → Bool
@@ -32,31 +27,6 @@ AppendedText =
     (at : ℕ) (text more : List ℕ) → ends_white text ≡ true →
     end_well (statements_from at text) ≡ true →
     statements_from at (text ++ more) ≡ followed_by (statements_from at text) (statements_from (at + length text) more)
-
--- a token that opens or closes no comment
-abbrev pub is_plain_token : Token → Bool
-is_plain_token [] = false
-is_plain_token (b ∷ bytes) = list_all (λ c. is_printable_class (class_of c)) (b ∷ bytes) && (not (opens_comment (b ∷ bytes)) && not (closes_comment (b ∷ bytes)))
-
--- the only `$.` of some tokens is the last
-abbrev pub ends_once : List Token → Bool
-ends_once [] = false
-ends_once (token ∷ []) = ends_statement token
-ends_once (token ∷ (next ∷ tokens)) = not (ends_statement token) && ends_once (next ∷ tokens)
-
--- tokens that make one statement
-abbrev pub is_one_statement : List Token → Bool
-is_one_statement [] = false
-is_one_statement (token ∷ []) = is_whole token
-is_one_statement (token ∷ (next ∷ tokens)) = not (is_whole token) && ends_once (next ∷ tokens)
-
--- The white space behind a token: a line ends with a statement, and all else is parted by spaces.
-abbrev pub white_behind : Token → ℕ
-white_behind token = if is_whole token then 10 else 32
-
--- the text of tokens, with white space behind each
-abbrev pub written : List Token → List ℕ
-written tokens = flat_map (λ token. token ++ white_behind token ∷ []) tokens
 
 -- a written statement is read back, and then what follows it
 abbrev pub WrittenStatement : Type 0

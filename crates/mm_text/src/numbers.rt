@@ -2,7 +2,8 @@
 
 ghost use Rattle.std.specs.Prelude.{◌≡◌, ◌≤◌, ◌*◌, ◌^◌, None, IfOk, IsErr};
 ghost use Rattle.mm_text.specs.Compressed.{letter_of, digits, number_of, within_limit};
-ghost use Rattle.mm_text.specs.Numbers.{leading_value, last_value, number_left, Spells, head_letter};
+ghost use Rattle.mm_text.specs.Numbers.{Spells};
+ghost use Rattle.mm_text.specs.DigitsRead.{leading_value, last_value, number_left, head_letter};
 
 use crate::pieces::behind;
 use std::alloc::AllocError;

@@ -1,7 +1,7 @@
 // The statements of a text, one after another.
 
 ghost use Rattle.std.specs.Prelude.{◌≡◌};
-ghost use Rattle.mm_text.specs.Reader.{ends_after, found_at_end};
+ghost use Rattle.mm_text.specs.ReaderSteps.{ends_after, found_at_end};
 ghost use Rattle.mm_text.specs.Statements.{ends_statement, is_whole};
 
 use crate::fault::MmFault;

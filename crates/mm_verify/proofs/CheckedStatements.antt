@@ -7,7 +7,7 @@ use Rattle.mm_text.specs.Reader.{words_of}
 use Rattle.mm_database.specs.Forms.{declares_constants, declares_variables, types_variable, assumes, separates, asserts, proves, Form, block_start, block_end, plain, form_of}
 use Rattle.mm_database.specs.Frames.{frame_of}
 use Rattle.mm_database.specs.Database.{Context, first_label}
-use Rattle.mm_database.specs.Validity.{or_else, task, task_fault, declaration_fault, proof_text_fault, statement_fault}
+use Rattle.mm_database.specs.Validity.{or_else, task, declaration_fault, proof_text_fault}
 use Rattle.mm_database.specs.FrameLaws.{FaultlessIsFine}
 use Rattle.mm_database.specs.Orderly.{IsOrderly, OrderlyAfter}
 use Rattle.mm_frame.specs.FramesHeld.{frame_held}
@@ -32,6 +32,7 @@ use Rattle.mm_verify.specs.Judging.{proof_kind}
 use Rattle.mm_verify.specs.Stating.{stated_for, end_for}
 use Rattle.mm_verify.specs.Checking.{form_stated, IsBehind, Checks, Declares, Adds}
 use Rattle.mm_verify.proofs.KindsNamed.{Laws, kind-named}
+use Rattle.mm_database.specs.ComputedFault.{task_fault, statement_fault}
 
 declared-fault : (c : Context) (tokens : List Token) (kind : ℕ) → declaration_fault c (form_of tokens) ≡ Some kind → statement_fault c tokens ≡ Some kind
 declared-fault c tokens kind e = ap (λ (o : Option ℕ). or_else (or_else o (proof_text_fault c (form_of tokens))) (task_fault c (task c (form_of tokens)))) e

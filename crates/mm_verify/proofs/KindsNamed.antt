@@ -13,7 +13,7 @@ use Rattle.mm_database.specs.Steps.{Step, cites}
 use Rattle.mm_database.specs.ProofText.{is_citable, with_step, meanings, before_close, behind_close, are_listed, mandatory_labels, lettered_steps, compressed_steps, proof_steps}
 use Rattle.mm_database.specs.Stack.{stack_after, saving}
 use Rattle.mm_database.specs.Orderly.{IsOrderly}
-use Rattle.mm_database.specs.Validity.{or_else, Task, task_of, task_fault, stack_fault}
+use Rattle.mm_database.specs.Validity.{or_else, Task, task_of}
 use Rattle.mm_frame.specs.Numbered.{NumberedHypothesis, NumberedFrame, IsNaming, named, named_hypothesis, IsNamedFrame}
 use Rattle.mm_frame.specs.NumberedSteps.{Citation, IsNamedCitation, CitationIsNamed}
 use Rattle.mm_frame.specs.Held.{Held}
@@ -25,6 +25,7 @@ use Rattle.mm_verify.specs.Citing.{cited, cited_at, all_cited}
 use Rattle.mm_verify.specs.ProofSteps.{given_by, labels_in, clashes, listed_citations, lettered, compressed_proof, citing, steps_named}
 use Rattle.mm_verify.specs.Judging.{proof_kind}
 use Rattle.mm_verify.proofs.StepsNamed.{AreCited, cited-append, AreNamed, citing-named, named_saving, run-named, MeanNamed, meanings-named, left-named, clashes-are}
+use Rattle.mm_database.specs.ComputedFault.{task_fault, stack_fault}
 
 -- the laws of the definitions that the steps of a proof need
 pub record Laws : Type 0 where

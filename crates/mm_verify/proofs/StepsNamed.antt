@@ -1,8 +1,8 @@
 -- Steps over numbers that are steps over tokens.
-use Rattle.std.proofs.Common.{◌≡◌, ℕ, zero, suc, ◌+◌, ◌-◌, Bool, true, false, List, [], ◌∷◌, ◌++◌, length, map, nat_eq, Option, Some, None, refl, ap, sym, ◌∙◌, subst}
-use Rattle.std.proofs.lemmas.List.{length-map, map-append}
+use Rattle.std.proofs.Common.{◌≡◌, ℕ, zero, suc, ◌-◌, Bool, true, false, List, [], ◌∷◌, ◌++◌, length, map, Option, Some, None, refl, ap, sym, ◌∙◌, subst}
+use Rattle.std.proofs.lemmas.List.{length-map}
 use Rattle.std.proofs.lemmas.Option.{slice_get-map}
-use Rattle.std.specs.Prelude.{nat_lt, ◌&&◌, ◌||◌, if◌then◌else◌, option_map, option_and_then, slice_get, MatchOption}
+use Rattle.std.specs.Prelude.{nat_lt, ◌||◌, if◌then◌else◌, option_map, option_and_then, slice_get, MatchOption}
 use Rattle.std.specs.List.{list_any}
 use Rattle.std.specs.Cmp.Lexicographic.{pointwise}
 use Rattle.mm_text.specs.Bytes.{Token, has_token, has_repeated}
@@ -12,14 +12,16 @@ use Rattle.mm_database.specs.Database.{Context}
 use Rattle.mm_database.specs.Proofs.{Expression}
 use Rattle.mm_database.specs.Steps.{Step, cites, saves, repeats}
 use Rattle.mm_database.specs.ProofText.{meaning, meaning_of, saved_after, meanings, with_step}
-use Rattle.mm_database.specs.Stack.{same_expression, same_expressions, stack_after_label, Saving, saving, saving_after_step, saving_after}
+use Rattle.mm_database.specs.Stack.{stack_after_label, Saving, saving, saving_after_step, saving_after}
 use Rattle.mm_frame.specs.Numbered.{IsNaming, named}
-use Rattle.mm_frame.specs.NumberedSteps.{NumberedPlace, IsNamedPlace, same_numbers, Citation, gives, applies, stack_after_citation, IsNamedCitation, CitationIsNamed}
-use Rattle.mm_database.specs.Validity.{stack_fault}
+use Rattle.mm_frame.specs.NumberedSteps.{NumberedPlace, IsNamedPlace, same_numbers, Citation, stack_after_citation, IsNamedCitation, CitationIsNamed}
+use Rattle.mm_frame.proofs.Named.{same_expressions-named}
+use Rattle.mm_frame.proofs.NamedSteps.{pushed-named}
 use Rattle.mm_verify.specs.declared.machine.ProofFault.TheVariants as fault
 use Rattle.mm_verify.specs.Running.{numbered_step, numbered_steps, left_fault}
 use Rattle.mm_verify.specs.Judging.{kind_of}
 use Rattle.mm_verify.specs.ProofSteps.{clashes, citing}
+use Rattle.mm_database.specs.ComputedFault.{stack_fault}
 
 -- labels and what they cite, one by one
 abbrev pub AreCited : (ℕ → Token) → Context → List Token → List Citation → Type 0
@@ -62,9 +64,6 @@ abbrev pub named_saving : (ℕ → Token) → Saving (List ℕ) → Saving Expre
 named_saving name w = saving (map (named name) w.stack) (map (named name) w.saved)
 
 -- a step does to numbers what the step does to their tokens
-
-pushed-named : (name : ℕ → Token) (stack : List (List ℕ)) (e : List ℕ) → map (named name) (stack ++ e ∷ []) ≡ map (named name) stack ++ named name e ∷ []
-pushed-named name stack e = map-append (named name) stack (e ∷ [])
 
 stack-named : (name : ℕ → Token) (saved : List (List ℕ)) (o : Option (List (List ℕ))) → option_map (λ s. saving s (map (named name) saved)) (option_map (map (named name)) o) ≡ option_map (named_saving name) (option_map (λ s. saving s saved) o)
 stack-named name saved None = refl
@@ -151,26 +150,10 @@ meanings-named name c table cited saved (k ∷ ks) h =
 
 -- what is left is the statement alone
 
-same-named : (name : ℕ → Token) → IsNaming name → (xs ys : List ℕ) → same_expression (named name xs) (named name ys) ≡ same_numbers xs ys
-same-named name naming [] [] = refl
-same-named name naming [] (y ∷ ys) = refl
-same-named name naming (x ∷ xs) [] = refl
-same-named name naming (x ∷ xs) (y ∷ ys) =
-    ap (λ (b : Bool). b && same_expression (named name xs) (named name ys)) (naming x y)
-    ∙ ap (λ (b : Bool). nat_eq x y && b) (same-named name naming xs ys)
-
-all-same-named : (name : ℕ → Token) → IsNaming name → (xs ys : List (List ℕ)) → same_expressions (map (named name) xs) (map (named name) ys) ≡ pointwise same_numbers xs ys
-all-same-named name naming [] [] = refl
-all-same-named name naming [] (y ∷ ys) = refl
-all-same-named name naming (x ∷ xs) [] = refl
-all-same-named name naming (x ∷ xs) (y ∷ ys) =
-    ap (λ (b : Bool). b && same_expressions (map (named name) xs) (map (named name) ys)) (same-named name naming x y)
-    ∙ ap (λ (b : Bool). same_numbers x y && b) (all-same-named name naming xs ys)
-
 pub left-named : (name : ℕ → Token) → IsNaming name → (conclusion : List ℕ) (o : Option (Saving (List ℕ))) → stack_fault (named name conclusion) (option_map (λ w. w.stack) (option_map (named_saving name) o)) ≡ kind_of (left_fault conclusion o)
 left-named name naming conclusion None = refl
 left-named name naming conclusion (Some w) =
-    ap (λ (b : Bool). if b then None else Some bad_conclusion) (all-same-named name naming w.stack (conclusion ∷ []))
+    ap (λ (b : Bool). if b then None else Some bad_conclusion) (same_expressions-named name naming w.stack (conclusion ∷ []))
     ∙ go (pointwise same_numbers w.stack (conclusion ∷ [])) refl
   where
     go : (b : Bool) → pointwise same_numbers w.stack (conclusion ∷ []) ≡ b → (if b then None else Some bad_conclusion) ≡ kind_of (left_fault conclusion (Some w))

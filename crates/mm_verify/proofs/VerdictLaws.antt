@@ -11,7 +11,7 @@ use Rattle.mm_text.specs.declared.fault.MmFault.{MmFault}
 use Rattle.mm_database.specs.Forms.{declares_constants, declares_variables, types_variable, assumes, separates, asserts, proves, Form, block_start, block_end, plain, form_of}
 use Rattle.mm_database.specs.Database.{Context, empty_context, context_after}
 use Rattle.mm_database.specs.Assertions.{Assertion, form_assertion, with_assertion_first, assertions_in, axiom_count, theorem_count}
-use Rattle.mm_database.specs.Validity.{first_open, fault_or, first_fault_in, first_fault}
+use Rattle.mm_database.specs.Validity.{first_open}
 use Rattle.mm_verify.specs.declared.checker.Checker.{Checker}
 use Rattle.mm_verify.specs.declared.ends.Report.{Report}
 use Rattle.mm_verify.specs.declared.ends.Stated.{Stated}
@@ -21,6 +21,7 @@ use Rattle.mm_verify.specs.declared.ends.VerifyEnd.TheVariants.{Invalid, Memory}
 use Rattle.mm_verify.specs.Checking.{IsBehind, form_stated, Checks}
 use Rattle.mm_verify.specs.Counting.{axioms_with, theorems_with, unended_at, end_at_open, end_of_open}
 use Rattle.mm_verify.specs.Verifying.{Finds}
+use Rattle.mm_database.specs.ComputedFault.{fault_or, first_fault_in, first_fault}
 
 abbrev axioms_among : List Assertion → ℕ
 axioms_among xs = count_by (λ a. not a.is_proved) xs

@@ -3,7 +3,7 @@ use Rattle.std.specs.Prelude.{◌≡◌, ℕ, List, map, option_map, Option, Som
 use Rattle.mm_text.specs.Statements.{Statement}
 use Rattle.mm_database.specs.Forms.{Keyword, asserts, proves, Form, block_start, block_end, plain, form_of}
 use Rattle.mm_database.specs.Database.{Context, context_after}
-use Rattle.mm_database.specs.Validity.{declaration_fault, statement_fault}
+use Rattle.mm_database.specs.Validity.{declaration_fault}
 use Rattle.mm_database.specs.Orderly.{IsOrderly}
 use Rattle.mm_frame.specs.Proposing.{IsProposed}
 use Rattle.mm_frame.specs.declared.theorem.Theorem.{Theorem}
@@ -17,6 +17,7 @@ use Rattle.mm_verify.specs.declared.ends.Stated.TheVariants as stated
 use Rattle.mm_verify.specs.declared.ends.VerifyEnd.{VerifyEnd}
 use Rattle.mm_verify.specs.declared.ends.VerifyEnd.TheVariants.{Invalid, Memory}
 use Rattle.mm_verify.specs.AssertionView.{assertion_frame}
+use Rattle.mm_database.specs.ComputedFault.{statement_fault}
 
 abbrev pub HasFrames : Checker → Type 0
 HasFrames k = map assertion_frame k.assertions.items ≡ (held k.scopes).frames

@@ -1,3 +1,4 @@
+-- Private: what clauses of private functions cite, and how private fields are seen.
 pub mod Cut
 pub mod StackView
 pub mod Places

@@ -4,7 +4,7 @@
 //! proof is read into steps (`proof_text`, `letters`) and run on a stack (`machine`, `applying`, `checking`).
 //! Symbols are numbers. An `Assertion` knows for each of its variables which entry of the stack gives its
 //! text (`parts`), so that a step fills texts in without a look-up. The contract of `verify` is the
-//! definition of validity of the crate `mm_frame`, in both directions.
+//! definition of validity of the crate `mm_database`, in both directions.
 #![tactic(auto)]
 
 mod answers;

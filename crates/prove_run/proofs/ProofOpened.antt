@@ -1,7 +1,7 @@
 -- What is known of the parts of a proof whose present configuration is the left side of a rule.
-use Rattle.std.proofs.Common.{◌≡◌, ℕ, Some, sym, subst}
+use Rattle.std.proofs.Common.{◌≡◌, ℕ, List, Some, get_or, ◌∙◌, sym, subst}
+use Rattle.std.proofs.lemmas.Option.{get_or_from_slice_get}
 use Rattle.std.specs.Prelude.{slice_get}
-use Rattle.term_core.specs.Patterns.{Pattern as RulePattern}
 use Rattle.term_core.specs.RulePatterns.{plain_pattern}
 use Rattle.rule_core.specs.declared.rules.Rule.{Rule}
 use Rattle.prove_run.specs.RunProof.{RunProof}
@@ -20,3 +20,7 @@ stands_at_rule p v i is proof (r, (there, at)) = record {
   there = subst (λ (w : RunProof). slice_get w.program.rules.items i ≡ Some r) (sym is) there;
   reached = subst (HasReached p.script p.last (plain_pattern p.start.now)) (subst (λ (w : RunProof). plain_pattern w.reached ≡ plain_pattern r.left) (sym is) at) proof.has_reached;
 }
+
+-- a rule that was looked up is the one that stands there
+pub rule_found : (rules : List Rule) (i : ℕ) (r found : Rule) → slice_get rules i ≡ Some r → get_or rules i found ≡ found → r ≡ found
+rule_found rules i r found there is = sym (get_or_from_slice_get rules i r found there) ∙ is

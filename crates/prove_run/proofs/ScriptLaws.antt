@@ -1,6 +1,6 @@
 -- What stays known of a proof's text while names, axioms and theorems are added.
 use Rattle.std.proofs.Common.{◌≡◌, ℕ, Bool, true, false, map, ◌+◌, ◌<◌, ◌≤◌, List, [], ◌∷◌, ◌++◌, Some, None, Option, length, take, zero, suc, refl, ap, ◌∙◌, sym, subst, arith, length-append}
-use Rattle.std.specs.Prelude.{IsTrue, Result, Ok, Err, OnOk, IfSome, slice_get, slice_set, replicate, option_map}
+use Rattle.std.specs.Prelude.{Result, Ok, Err, OnOk, IfSome, slice_get, slice_set, replicate, option_map}
 use Rattle.std.proofs.lemmas.List.{append-nil, append_assoc}
 use Rattle.std.proofs.lemmas.Option.{get_or_from_slice_get}
 use Rattle.std.proofs.Math.Seq.{take-length}
@@ -91,7 +91,7 @@ kept_set s i j (suc k) (Some other ∷ kept) new is stated h = (h.0, kept_set s 
 
 -- which rules were used
 
-pub none_used : (n : ℕ) → map is_some (replicate n (None {X = AxiomNo})) ≡ replicate n false
+pub none_used : (n : ℕ) → map (λ (o : Option AxiomNo). is_some o) (replicate n None) ≡ replicate n false
 none_used zero = refl
 none_used (suc n) = ap (λ (bs : List Bool). false ∷ bs) (none_used n)
 

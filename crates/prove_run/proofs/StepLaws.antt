@@ -19,7 +19,7 @@ use Rattle.mm_claims.specs.Keeping.{axiom_at}
 use Rattle.mm_claims.specs.OverNames.{over_names}
 use Rattle.ml_pat.specs.Leaves.{EachLeaf}
 use Rattle.ml_kernel.specs.UsedLeaves.{EachUsed}
-use Rattle.ml_kernel.specs.MayCite.{MayCite, EachCited}
+use Rattle.ml_kernel.specs.MayCite.{EachCited}
 use Rattle.mm_claims.specs.Places.{IsStated, MayProve, stated_cites}
 use Rattle.mm_claims.specs.Blocks.{Claim}
 use Rattle.mm_justify.specs.NoVariables.{HasNoVariable}

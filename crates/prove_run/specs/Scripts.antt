@@ -1,11 +1,8 @@
 -- What is known of the names, the axioms and the text of a proof while it is written: cited by the clauses of private functions
 -- alone.
-use Rattle.std.specs.Prelude.{◌≡◌, ℕ, suc, ◌<◌, ◌≤◌, true, List, [], ◌∷◌, ◌++◌, length, vec_len, slice_get, Option, Some, None, Bool, map}
+use Rattle.std.specs.Prelude.{◌≡◌, ℕ, suc, ◌<◌, ◌≤◌, true, List, [], ◌∷◌, ◌++◌, length, vec_len, Option, Some, None, Bool, map}
 use Rattle.std.specs.Option.{is_some}
 use Rattle.term_core.specs.Patterns.{Pattern as RulePattern}
-use Rattle.term_core.specs.RulePatterns.{plain_pattern}
-use Rattle.rule_core.specs.declared.rules.Rule.{Rule}
-use Rattle.rule_core.specs.declared.rules.Program.{Program}
 use Rattle.ml_pat.specs.Patterns.{Pattern, imp, ev}
 use Rattle.ml_kernel.specs.declared.derivations.AxiomNo.{AxiomNo}
 use Rattle.ml_kernel.specs.Theorems.{Theorem}
@@ -16,7 +13,6 @@ use Rattle.mm_claims.specs.OverNames.{closed_over}
 use Rattle.mm_claims.specs.Keeping.{Fits, axiom_at}
 use Rattle.mm_claims.specs.Places.{IsStated}
 use Rattle.mm_justify.specs.Justifying.{HasOnlyAxiomsOf, Justifies}
-use Rattle.mm_justify.specs.NoVariables.{HasNoVariable}
 use Rattle.prove_run.specs.declared.script.Script.{Script}
 
 -- the axiom with this number is the image of the rule at a place, and it was stated

@@ -27,9 +27,13 @@ pub struct Proof<'p> {
 }
 
 impl<'p> Model for Proof<'p> {
+    ghost use Rattle.std.specs.Coded.{codes};
+    ghost use Rattle.term_core.specs.contracts.rule_patterns.RulePat as rule_pattern;
     ghost use Rattle.prove_run.specs.RunProof.{RunProof};
 
     ghost Value = { RunProof };
+
+    ghost coded = { Prim.hlevel (codes, rule_pattern.the_row.coded) };
 
     ghost use Rattle.prove_run.specs.ProofView.{run_proof, IsProof};
 
@@ -48,8 +52,7 @@ impl<'p> Proof<'p> {
         requires names { HasPlainNames program.now.sig }
         requires image { HasImage program.now.sig (plain_pattern start.now) }
         requires ground { HasNoVariable (plain_pattern start.now) }
-        ensures begins { IfOk result (Begins program.now start.now) }
-        ensures justified { IfOk result IsJustified }
+        ensures { IfOk result (Begins program.now start.now) }
     {
         image_laws();
         let mut script = Script::begin(alloc, program)?;
@@ -72,7 +75,6 @@ impl<'p> Proof<'p> {
         requires ground { AreGroundAt self.program rule }
         requires applies { IsAtRule self rule }
         ensures steps { IfOk result (λ further. StepsBy self.entry further rule) }
-        ensures justified { IfOk result IsJustified }
         ensures once { IfOk result (λ further. IsUsed self.entry rule → GainsTheorem self.entry.text further.text) }
     {
         let mut script = self.script;

@@ -1,12 +1,15 @@
+-- Believed: what public clauses say, and believed definitions of other crates.
 pub mod Terms
-pub mod TermCode
-pub mod TreeTest
 pub mod Values
 pub mod HookValues
-pub mod TermView
-pub mod TermSize
 pub mod Heads
 pub mod Patterns
 pub mod RulePatterns
-pub mod PatternLists
+-- Laws: what follows from that. Each is a clause of a function that does nothing.
 pub mod GroundPatterns
+-- Private: what clauses of private functions cite, and how private fields are seen.
+pub mod TermCode
+pub mod TreeTest
+pub mod TermView
+pub mod TermSize
+pub mod PatternLists

@@ -4,7 +4,7 @@ use Rattle.kore_text.specs.Faults.{IsDefinition}
 use Rattle.kore_prove.specs.declared.accept.Refusal.{Refusal}
 use Rattle.kore_prove.specs.Acceptance.{IsAccepted}
 use Rattle.kore_prove.specs.Causes.{IsRefusedDefinition}
-use Rattle.kore_prove.specs.Refusals.{AtNumber}
+use Rattle.kore_prove.specs.RefusedAnswers.{AtNumber}
 use Rattle.kore_prove.proofs.Names.{accepted-names}
 use Rattle.kore_prove.proofs.OpenBrackets.{modules-within}
 use Rattle.kore_prove.proofs.WordsOfCases.{refused_form, refused_fault, spelled_definition, no_definition}

@@ -1,8 +1,9 @@
 use Rattle.std.proofs.Common.{inl, inr}
 use Rattle.std.specs.Prelude.{option_copied}
-use Rattle.kore_prove.specs.ProvedRun.{IsWanted}
+use Rattle.kore_prove.specs.WantedProofs.{IsWanted}
 use Rattle.kore_prove.proofs.ProvedRuns.{proves_run, proves_no_run, verdict_no_proof, kept_others, fewer_others, unwritten, ran_written}
-use Rattle.kore_prove.specs.Reports.{bad_words, plain_end}
+use Rattle.kore_prove.specs.Reports.{bad_words}
+use Rattle.kore_prove.specs.PlainEnds.{plain_end}
 use Rattle.kore_prove.proofs.CommandWords.{named_proof, named_run, named_file, wanted_command}
 use Rattle.kore_prove.proofs.Ending.{same_bytes, same_files, prints_no_run}
 use Rattle.kore_prove.proofs.Completing.{ends_without_memory, ready_command}

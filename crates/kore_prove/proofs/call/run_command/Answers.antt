@@ -1,4 +1,4 @@
-use Rattle.std.proofs.Common.{ℕ, refl, inr, ap, ◌∙◌, sym, subst}
+use Rattle.std.proofs.Common.{ℕ, refl, inl, inr, ap, ◌∙◌, sym, subst}
 use Rattle.desk_io.specs.declared.desk.DeskFault.{DeskFault}
 use Rattle.desk_io.specs.Counts.{Rose}
 use Rattle.std.specs.Prelude.{option_copied, Err}
@@ -48,12 +48,21 @@ returns-in-Err-made_lines-clause-cause g c =
     let course : Course = record { definition = c.args.command.now.definition.now; term = c.args.command.now.term.now; told = told; reads = g.D.Desk.read_faults c.args.desk.now; reads' = g.D.Desk.read_faults c.made_lines.new.desk; files = g.D.Desk.write_faults c.args.desk.now; files' = g.D.Desk.write_faults c.made_lines.new.desk; writes = g.O.Sink.faults c.args.out.now; writes' = g.O.Sink.faults c.args.out.now } in
     subst (RunCause course) (sym c.write_end.ensures)
     (write_cause course c.in-Err-made_lines.fault
-    (λ is. inr (
-      subst (λ (n : ℕ). Rose n (g.D.Desk.write_faults c.made_lines.new.desk)) (c.in-Ok-read_start.ensures.writes ∙ c.in-Ok.ensures.writes) (c.in-Err-made_lines.ensures.failed (ap (λ (f : DeskFault). Err f) is)),
-      (c.in-Ok.program, c.in-Ok.ensures.found, (start, start_kept told between _ c.in-Ok.program start c.in-Ok.ensures.files c.in-Ok-read_start.ensures.found)),
-    )))
+    (c.in-Ok.program, c.in-Ok.ensures.found, (start, start_kept told between _ c.in-Ok.program start c.in-Ok.ensures.files c.in-Ok-read_start.ensures.found))
+    (λ is. inr (subst (λ (n : ℕ). Rose n (g.D.Desk.write_faults c.made_lines.new.desk)) (c.in-Ok-read_start.ensures.writes ∙ c.in-Ok.ensures.writes) (c.in-Err-made_lines.ensures.failed (ap (λ (f : DeskFault). Err f) is)))))
 
 pub returns-in-Err-made_lines-clause-output : goal.returns-in-Err-made_lines-clause-output
 returns-in-Err-made_lines-clause-output g c =
     let bytes = g.O.Sink.bytes c.args.out.now in
     subst (λ (e : Ending). KeepsOutput e bytes bytes) (sym c.write_end.ensures) (write_output c.in-Err-made_lines.fault bytes bytes (same_grows bytes))
+
+pub returns-clause-cause : goal.returns-clause-cause
+returns-clause-cause g c =
+    let told = g.D.Desk.told c.args.desk.now in
+    let between = g.D.Desk.told c.read_program.new.desk in
+    let start = plain_pattern c.in-Ok-read_start.start in
+    let course : Course = record { definition = c.args.command.now.definition.now; term = c.args.command.now.term.now; told = told; reads = g.D.Desk.read_faults c.args.desk.now; reads' = g.D.Desk.read_faults c.made_lines.new.desk; files = g.D.Desk.write_faults c.args.desk.now; files' = g.D.Desk.write_faults c.made_lines.new.desk; writes = g.O.Sink.faults c.args.out.now; writes' = g.O.Sink.faults c.send_whole.new.sink } in
+    subst (RunCause course) (sym c.write_end-in-Err-send_whole.ensures)
+    (write_cause course c.in-Err-send_whole.fault
+    (c.in-Ok.program, c.in-Ok.ensures.found, (start, start_kept told between _ c.in-Ok.program start c.in-Ok.ensures.files c.in-Ok-read_start.ensures.found))
+    (λ is. inl (c.in-Err-send_whole.ensures.failed (ap (λ (f : DeskFault). Err f) is))))

@@ -23,6 +23,9 @@ returns-then-branch-clause-added c =
         attributes = attributes;
         name = search rules;
         kind = search rules;
+        sort_parameters = c.constructor.ensures.params;
+        hook = c.constructor.ensures.hook;
+        ac = c.constructor.ensures.ac;
         args = args;
         result = (c.in-Some.sort.0, names, c.constructor.ensures.sort);
       },

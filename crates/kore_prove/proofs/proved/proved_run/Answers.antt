@@ -6,7 +6,8 @@ use Rattle.rule_core.specs.Runs.{Reaches, at_start, after_step}
 use Rattle.rule_core.specs.FirstRule.{Rewrites}
 use Rattle.rule_core.specs.ProgramView.{rewrite_rules}
 use Rattle.prove_run.specs.Proving.{StepsBy}
-use Rattle.kore_prove.specs.Runnable.{IsShown, LeadsBy}
+use Rattle.kore_prove.specs.Runnable.{IsShown}
+use Rattle.kore_prove.specs.Steps.{LeadsBy}
 use Rattle.kore_prove.proofs.Provable.{IsProofOf, begun, justified_by, built_image, built_ground, built_becomes, is_at_rule, goes_on}
 use Rattle.kore_prove.proofs.proved.proved_run.Goals as goal
 
@@ -30,7 +31,7 @@ loop-made-init c =
           let one_tree : first ≡ t = cc in
           subst (λ (u : Tree). Reaches (rewrite_rules c.args.program.now.rules.items) u 0 first) one_tree at_start;
       shown = subst (IsShown c.args.program.now.sig.symbols) one c.requires.showable.shown;
-      proved = subst (IsProofOf c.in_ok-proof.proof c.args.program.now start) ground (begun c.in_ok-proof.proof c.args.program.now c.args.start.now c.in_ok-proof.ensures.begins);
+      proved = subst (IsProofOf c.in_ok-proof.proof c.args.program.now start) ground (begun c.in_ok-proof.proof c.args.program.now c.args.start.now c.in_ok-proof.ensures);
     }
 
 pub prove_step-requires-clause-applies : goal.prove_step-requires-clause-applies

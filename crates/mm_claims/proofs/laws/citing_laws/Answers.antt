@@ -1,9 +1,10 @@
 use Rattle.std.proofs.Common.{refl}
 use Rattle.mm_proof.specs.Tokens.{own_naming}
 use Rattle.mm_proof.specs.Labels.{own_labels}
-use Rattle.ml_pat.specs.Leaves.{are_known}
+use Rattle.ml_pat.specs.KnownLeaves.{are_known}
 use Rattle.mm_proof.specs.Derivations.{derivation_tree}
-use Rattle.mm_claims.specs.CitedAt.{claims_citing, citable}
+use Rattle.mm_claims.specs.CitedAt.{claims_citing}
+use Rattle.mm_claims.specs.Citable.{citable}
 use Rattle.mm_claims.proofs.OpenCiting.{claim_proves, citing_is_sound}
 use Rattle.mm_proof.proofs.CitingDerivations.{cited_proves}
 use Rattle.mm_claims.proofs.laws.citing_laws.Goals as goal

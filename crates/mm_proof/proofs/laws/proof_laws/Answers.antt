@@ -3,7 +3,7 @@ use Rattle.mm_database.specs.Database.{Context}
 use Rattle.mm_database.specs.Proofs.{Expression, ProofTree, Proves, IsProof, postorder}
 use Rattle.mm_proof.specs.Tokens.{letters_of, judgement_by, is_pattern, is_fresh, is_substituted, is_predicate, holds}
 use Rattle.mm_proof.specs.Trees.{syntax_tree, fresh_tree, substitution_tree, predicate_tree, rule_tree}
-use Rattle.ml_pat.specs.Leaves.{are_known}
+use Rattle.ml_pat.specs.KnownLeaves.{are_known}
 use Rattle.mm_proof.proofs.SyntaxLaws.{syntax_proves}
 use Rattle.mm_proof.proofs.FreshLaws.{fresh_proves}
 use Rattle.mm_proof.proofs.SubstitutionLaws.{substitution_proves}

@@ -1,7 +1,7 @@
 use Rattle.std.proofs.Common.{◌≡◌, ◌++◌, take}
-use Rattle.mm_text.specs.TextLaws.{written}
 use Rattle.ml_kernel.specs.StepView.{instances_of}
 use Rattle.mm_proof.specs.RuleLabels.{instance_labels}
+use Rattle.mm_text.specs.Written.{written}
 use Rattle.mm_proof.proofs.rules.write_instances.Given as goal
 
 abbrev pub invariant-loop-instance : goal.invariant-loop-instance

@@ -1,6 +1,6 @@
 use Rattle.std.proofs.Common.{◌≡◌, ◌++◌, map, take}
-use Rattle.mm_text.specs.TextLaws.{written}
 use Rattle.mm_proof.specs.Writing.{word_token}
+use Rattle.mm_text.specs.Written.{written}
 use Rattle.mm_proof.proofs.words.push_words.Given as goal
 
 abbrev pub invariant-loop-word : goal.invariant-loop-word

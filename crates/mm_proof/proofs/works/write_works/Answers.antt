@@ -1,8 +1,8 @@
 use Rattle.std.proofs.Common.{◌++◌, ap, ◌∙◌, append-nil}
-use Rattle.mm_text.specs.TextLaws.{written}
 use Rattle.mm_proof.specs.Writing.{all_tokens}
 use Rattle.mm_proof.specs.WorkStacks.{stack_tokens}
 use Rattle.mm_proof.proofs.Stacking.{written_next, written_smaller}
+use Rattle.mm_text.specs.Written.{written}
 use Rattle.mm_proof.proofs.works.write_works.Goals as goal
 
 pub loop-next-smaller : goal.loop-next-smaller

@@ -1,7 +1,7 @@
 use Rattle.std.proofs.Common.{◌≡◌, ◌++◌}
-use Rattle.mm_text.specs.TextLaws.{written}
 use Rattle.mm_proof.specs.WorkStacks.{stack_tokens, stack_weight}
 use Rattle.mm_proof.specs.Writing.{all_tokens}
+use Rattle.mm_text.specs.Written.{written}
 use Rattle.mm_proof.proofs.works.write_works.Given as goal
 
 abbrev pub invariant-loop-next : goal.invariant-loop-next

@@ -1,7 +1,7 @@
 use Rattle.std.proofs.Common.{◌≡◌, ◌++◌, take}
-use Rattle.mm_text.specs.TextLaws.{written}
 use Rattle.mm_render.specs.Parts.{value_labels}
 use Rattle.mm_render.specs.VariablesView.{plain_variables}
+use Rattle.mm_text.specs.Written.{written}
 use Rattle.mm_render.proofs.derivations.write_citation.Given as goal
 
 abbrev pub invariant-loop-variable : goal.invariant-loop-variable

@@ -1,6 +1,6 @@
 use Rattle.std.proofs.Common.{◌≡◌, ◌++◌}
-use Rattle.mm_text.specs.TextLaws.{written}
 use Rattle.mm_render.specs.Parts.{citing_at, parts_tokens, parts_weight, proof_of}
+use Rattle.mm_text.specs.Written.{written}
 use Rattle.mm_render.proofs.derivations.write_derivation.Given as goal
 
 abbrev pub invariant-loop-next : goal.invariant-loop-next

@@ -1,5 +1,4 @@
 use Rattle.std.proofs.Common.{List, ◌≡◌, ◌+◌, ◌*◌, ◌++◌, ap, ◌∙◌, sym, subst}
-use Rattle.mm_text.specs.TextLaws.{written}
 use Rattle.ml_kernel.specs.declared.derivations.Inst.{Inst}
 use Rattle.ml_kernel.specs.StepView.{instances_of, derivation_of}
 use Rattle.ml_kernel.specs.StepsIn.{all_steps}
@@ -11,6 +10,7 @@ use Rattle.mm_render.specs.Parts.{PutsParts, citing_at, rest_of_rule}
 use Rattle.mm_render.specs.PlaceTable.{claims_at, places_at, premises_at}
 use Rattle.mm_proof.proofs.Stacking.{on_ok, both_ok}
 use Rattle.mm_render.proofs.PartLaws.{rule_taken, fact_taken, lemma_taken}
+use Rattle.mm_text.specs.Written.{written}
 use Rattle.mm_render.proofs.derivations.write_part.Goals as goal
 
 pub returns-in_ok-write_before-in-ByRule : goal.returns-in_ok-write_before-in-ByRule

@@ -1,8 +1,8 @@
 use Rattle.std.proofs.Common.{◌≡◌, ◌++◌, map, take}
-use Rattle.mm_database.specs.FrameLaws.{written_statements}
 use Rattle.mm_render.specs.HeadText.{pattern_separations}
 use Rattle.mm_render.specs.VariablesView.{plain_variables}
 use Rattle.mm_proof.specs.Writing.{word_token}
+use Rattle.mm_database.specs.StatementTexts.{written_statements}
 use Rattle.mm_render.proofs.heads.push_pattern_separations.Given as goal
 
 abbrev pub invariant-loop-variable : goal.invariant-loop-variable

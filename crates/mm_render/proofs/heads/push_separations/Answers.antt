@@ -1,12 +1,12 @@
 use Rattle.std.proofs.Common.{List, ◌≡◌, ◌++◌, map, subst}
 use Rattle.mm_text.specs.Bytes.{Token}
-use Rattle.mm_database.specs.FrameLaws.{written_statements}
 use Rattle.mm_render.specs.HeadText.{separation}
 use Rattle.mm_render.specs.VariablesView.{plain_variables}
 use Rattle.mm_proof.specs.Writing.{word_token}
 use Rattle.mm_proof.specs.declared.words.Word.{Word}
 use Rattle.mm_proof.proofs.Stacking.{on_ok}
 use Rattle.mm_render.proofs.HeadTexts.{separations_written}
+use Rattle.mm_database.specs.StatementTexts.{written_statements}
 use Rattle.mm_render.proofs.heads.push_separations.Goals as goal
 
 pub returns : goal.returns

@@ -1,7 +1,7 @@
 use Rattle.std.proofs.Common.{◌≡◌, ◌++◌, take}
-use Rattle.mm_database.specs.FrameLaws.{written_statements}
 use Rattle.mm_claims.specs.Blocks.{variable_statements}
 use Rattle.mm_render.specs.VariablesView.{plain_variables}
+use Rattle.mm_database.specs.StatementTexts.{written_statements}
 use Rattle.mm_render.proofs.heads.push_variables.Given as goal
 
 abbrev pub invariant-loop-variable : goal.invariant-loop-variable

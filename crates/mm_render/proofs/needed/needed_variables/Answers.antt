@@ -1,7 +1,7 @@
 use Rattle.std.proofs.Common.{List, ◌≡◌, [], ap, ◌∙◌, sym, rules, append-nil}
 use Rattle.std.specs.Borrow.{Bor}
 use Rattle.ml_kernel.specs.Theorems.{Derivation}
-use Rattle.mm_claims.specs.ClaimVariables.{added}
+use Rattle.mm_claims.specs.AddedVariables.{added}
 use Rattle.mm_render.specs.ListedVariables.{listed}
 use Rattle.mm_render.specs.NeededView.{stack_needs}
 use Rattle.mm_claims.specs.OpenVariables.{variables_of}

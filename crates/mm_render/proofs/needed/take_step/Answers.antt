@@ -7,7 +7,7 @@ use Rattle.ml_kernel.specs.StepsIn.{steps_in, all_steps}
 use Rattle.ml_kernel.specs.Theorems.{Derivation, derivations, own_axiom, by_rule, cited}
 use Rattle.mm_claims.specs.Blocks.{Claim}
 use Rattle.mm_claims.specs.CitedAt.{claim_at}
-use Rattle.mm_claims.specs.ClaimVariables.{added}
+use Rattle.mm_claims.specs.AddedVariables.{added}
 use Rattle.mm_render.specs.ListedVariables.{listed}
 use Rattle.mm_render.specs.NeededView.{PutsDerivations}
 use Rattle.mm_claims.specs.OpenVariables.{variables_at, variables_for, variables_of}

@@ -1,14 +1,14 @@
 use Rattle.std.proofs.Common.{◌≡◌, List, ℕ, [], ◌∷◌, ◌++◌, ap, ◌∙◌}
 use Rattle.std.specs.Prelude.{unwrap_or, Option}
 use Rattle.mm_text.specs.Bytes.{Token}
-use Rattle.mm_text.specs.TextLaws.{written}
 use Rattle.mm_database.specs.Forms.{declares_constants, asserts}
-use Rattle.mm_database.specs.FrameLaws.{plain_tokens}
 use Rattle.mm_proof.specs.Tokens.{name_of}
 use Rattle.mm_proof.specs.Labels.{name_label}
 use Rattle.mm_claims.specs.Statements.{typecode_of}
 use Rattle.mm_proof.proofs.Stacking.{on_ok}
 use Rattle.mm_proof.proofs.WrittenTogether.{two_statements, unwrap-get}
+use Rattle.mm_text.specs.Written.{written}
+use Rattle.mm_database.specs.StatementTexts.{plain_tokens}
 use Rattle.mm_render.proofs.renderer.push_declaration.Goals as goal
 
 pub returns : goal.returns

@@ -1,7 +1,8 @@
 use Rattle.std.proofs.Common.{arith, ◌≡◌, ◌+◌, [], ◌∷◌, ◌++◌, List, take, sym, subst, ap, ◌∙◌, flat_map}
 use Rattle.std.proofs.lemmas.List.{take_all, take_more}
 use Rattle.ml_pat.specs.Patterns.{Pattern}
-use Rattle.mm_claims.specs.ClaimVariables.{added, claim_variables}
+use Rattle.mm_claims.specs.ClaimVariables.{claim_variables}
+use Rattle.mm_claims.specs.AddedVariables.{added}
 use Rattle.mm_render.specs.ListedVariables.{listed}
 use Rattle.mm_claims.specs.OpenVariables.{variables_in}
 use Rattle.mm_render.specs.VariablesView.{HaveNumbers}

@@ -1,6 +1,6 @@
 use Rattle.std.proofs.Common.{◌≡◌, ◌≤◌, ◌-◌, ◌*◌, ◌^◌, length, drop}
 use Rattle.mm_text.specs.Compressed.{number_of, within_limit}
-use Rattle.mm_text.specs.Numbers.{number_left}
+use Rattle.mm_text.specs.DigitsRead.{number_left}
 use Rattle.mm_text.proofs.numbers.read_number.Given as goal
 
 abbrev pub invariant-loop-at : goal.invariant-loop-at

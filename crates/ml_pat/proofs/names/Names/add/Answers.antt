@@ -1,10 +1,9 @@
-use Rattle.std.proofs.Common.{◌≡◌, ap, ◌∙◌, string_bytes, rules, cond, Some, ◌++◌, ◌∷◌, []}
+use Rattle.std.proofs.Common.{◌≡◌, ap, ◌∙◌, string_bytes, rules, cond, Some, ◌++◌, ◌∷◌, [], arith}
 use Rattle.std.specs.BTreeMap.{get_by_text}
 use Rattle.std.specs.Str.{bytes_eq}
 use Rattle.std.proofs.lemmas.List.{map-append}
 use Rattle.std.proofs.lemmas.Map.Text.{btree_map_updates_text}
 use Rattle.std.proofs.lemmas.Grind.{common_steps}
-use Rattle.std.proofs.Common.{arith}
 use Rattle.ml_pat.specs.NamesView.{tokens_of}
 use Rattle.ml_pat.proofs.NamedLaws.{indexed-push, AreDistinct-push}
 use Rattle.ml_pat.proofs.names.Names.add.Goals as goal

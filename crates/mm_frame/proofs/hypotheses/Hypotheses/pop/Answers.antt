@@ -1,6 +1,7 @@
 use Rattle.std.proofs.Common.{rules, ◌≡◌, true, false}
-use Rattle.mm_frame.specs.FramesHeld.{is_essential, hypothesis_held}
+use Rattle.mm_frame.specs.FramesHeld.{hypothesis_held}
 use Rattle.mm_frame.proofs.HypothesesKept.{essential-popped, floating-popped}
+use Rattle.mm_frame.specs.Listed.{is_essential}
 use Rattle.mm_frame.proofs.hypotheses.Hypotheses.pop.Goals as goal
 
 pub invariant_of-self : goal.invariant_of-self

@@ -1,7 +1,8 @@
 use Rattle.std.proofs.Common.{rules, ◌≡◌, ◌++◌, ◌∷◌, [], length, true, false, ap, sym, ◌∙◌}
-use Rattle.mm_frame.specs.FramesHeld.{is_essential, hypothesis_held, hypotheses_held}
+use Rattle.mm_frame.specs.FramesHeld.{hypothesis_held, hypotheses_held}
 use Rattle.mm_frame.specs.Places.{places_of}
 use Rattle.mm_frame.proofs.HypothesesKept.{essential-pushed, floating-pushed}
+use Rattle.mm_frame.specs.Listed.{is_essential}
 use Rattle.mm_frame.proofs.hypotheses.Hypotheses.push.Goals as goal
 
 pub invariant_of-self-then-is_essential : goal.invariant_of-self-then-is_essential

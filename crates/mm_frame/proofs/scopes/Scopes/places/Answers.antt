@@ -2,13 +2,14 @@ use Rattle.std.proofs.Common.{◌≡◌, [], ◌++◌, drop, ap, sym, ◌∙◌}
 use Rattle.std.specs.Prelude.{nat_eq}
 use Rattle.std.proofs.lemmas.List.{append-nil, drop_all}
 use Rattle.std.proofs.lemmas.List.Folds.{list_any-append}
-use Rattle.mm_frame.specs.FramesHeld.{has_number, is_essential}
+use Rattle.mm_frame.specs.FramesHeld.{has_number}
 use Rattle.mm_frame.specs.Held.{held}
-use Rattle.mm_frame.specs.HeldFrames.{typed_places}
 use Rattle.mm_frame.specs.Places.{places_of}
 use Rattle.std.proofs.lemmas.List.Filters.{dedup_is}
 use Rattle.std.proofs.lemmas.Map.Keys.{IsStrictlyIncreasing-dedup}
 use Rattle.mm_frame.proofs.FramePlaces.{sorted-has}
+use Rattle.mm_frame.specs.Listed.{is_essential}
+use Rattle.mm_frame.specs.HeldPlaces.{typed_places}
 use Rattle.mm_frame.proofs.scopes.Scopes.places.Goals as goal
 
 pub returns-clause-ascending : goal.returns-clause-ascending

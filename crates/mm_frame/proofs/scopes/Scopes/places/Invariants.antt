@@ -1,9 +1,9 @@
 use Rattle.std.proofs.Common.{◌≡◌, ◌++◌, drop}
 use Rattle.mm_frame.specs.Held.{held}
-use Rattle.mm_frame.specs.HeldFrames.{typed_places}
 use Rattle.mm_frame.specs.HypothesesView.{hypotheses_in}
-use Rattle.mm_frame.specs.FramesHeld.{is_essential}
 use Rattle.mm_frame.specs.Places.{places_of}
+use Rattle.mm_frame.specs.HeldPlaces.{typed_places}
+use Rattle.mm_frame.specs.Listed.{is_essential}
 use Rattle.mm_frame.proofs.scopes.Scopes.places.Given as goal
 
 abbrev pub invariant-loop-n : goal.invariant-loop-n

@@ -1,9 +1,9 @@
 use Rattle.std.proofs.Common.{◌≡◌, ◌++◌, drop}
 use Rattle.std.specs.Prelude.{flat_map, slice_get}
-use Rattle.mm_frame.specs.HeldFrames.{premise_at}
 use Rattle.mm_frame.specs.HypothesesView.{hypotheses_in}
-use Rattle.mm_frame.specs.FramesHeld.{is_essential}
 use Rattle.mm_frame.specs.Places.{places_of}
+use Rattle.mm_frame.specs.HeldPlaces.{premise_at}
+use Rattle.mm_frame.specs.Listed.{is_essential}
 use Rattle.mm_frame.proofs.scopes.Scopes.stated_symbols.Given as goal
 
 abbrev pub invariant-loop-place : goal.invariant-loop-place

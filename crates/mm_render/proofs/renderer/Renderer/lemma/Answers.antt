@@ -2,7 +2,6 @@ use Rattle.std.proofs.Common.{List, ℕ, ◌≡◌, ◌++◌, ◌<◌, ◌^◌, 
 use Rattle.std.proofs.lemmas.List.{length-map}
 use Rattle.ml_pat.specs.Patterns.{Pattern}
 use Rattle.ml_kernel.specs.Theorems.{Theorem, Derivation}
-use Rattle.mm_database.specs.FrameLaws.{written_statements}
 use Rattle.mm_claims.specs.Blocks.{Claim, open_assertion}
 use Rattle.mm_claims.specs.CitedAt.{ArePremises}
 use Rattle.mm_claims.specs.Claiming.{proved_statements}
@@ -17,6 +16,7 @@ use Rattle.mm_render.specs.PlaceTable.{found_in}
 use Rattle.mm_claims.specs.Variables.{AreNumbered}
 use Rattle.mm_proof.proofs.Stacking.{both_ok}
 use Rattle.mm_claims.proofs.KeepingLaws.{lemma_gains}
+use Rattle.mm_database.specs.StatementTexts.{written_statements}
 use Rattle.mm_render.proofs.renderer.Renderer.lemma.Goals as goal
 
 -- where what was stated stands, and the hypotheses

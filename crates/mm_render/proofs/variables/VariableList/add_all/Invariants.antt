@@ -1,5 +1,5 @@
 use Rattle.std.proofs.Common.{◌≡◌}
-use Rattle.mm_claims.specs.ClaimVariables.{added}
+use Rattle.mm_claims.specs.AddedVariables.{added}
 use Rattle.mm_render.specs.ListedVariables.{listed}
 use Rattle.mm_claims.specs.OpenVariables.{variables_in}
 use Rattle.mm_proof.specs.Searching.{all_forms, patterns_of}

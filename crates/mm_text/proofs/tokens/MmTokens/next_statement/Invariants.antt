@@ -1,7 +1,8 @@
-use Rattle.std.proofs.Common.{◌≡◌, ◌-◌, ◌≤◌, ◌<◌, length}
+use Rattle.std.proofs.Common.{◌≡◌, ◌-◌, ◌≤◌, length}
 use Rattle.mm_text.specs.Next.{left}
 use Rattle.mm_text.specs.Statements.{statements_in}
-use Rattle.mm_text.specs.Reader.{begun, statements_left}
+use Rattle.mm_text.specs.Reader.{statements_left}
+use Rattle.mm_text.specs.ReaderSteps.{begun}
 use Rattle.mm_text.proofs.tokens.MmTokens.next_statement.Given as goal
 
 abbrev pub invariant-loop-fault : goal.invariant-loop-fault

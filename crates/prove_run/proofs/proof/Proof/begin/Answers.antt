@@ -53,8 +53,8 @@ invariant_of-result c =
       justifies = c.in_ok-last.ensures.justified start start here here image_now image_now none c.in_ok-reach_here.ensures.conclusion (closed, closed);
     }
 
-pub returns-clause-begins : goal.returns-clause-begins
-returns-clause-begins c =
+pub returns : goal.returns
+returns c =
     let axioms = c.in_ok-last.ensures.kept ∙ c.in_ok-here.ensures.kept in
     record {
       same_program = c.in_ok-last.ensures.continues.program ∙ c.in_ok-here.ensures.continues.program ∙ c.in_ok-script.ensures.program;

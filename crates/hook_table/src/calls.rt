@@ -1,0 +1,145 @@
+// A call of a hook.
+ghost use Rattle.std.specs.Prelude.{◌≡◌, ◌↔◌, [], ◌∷◌, IsTrue, Some, map};
+ghost use Rattle.term_core.specs.Terms.{integer as whole_number, truth};
+ghost use Rattle.term_core.specs.Values.{scalar_value};
+ghost use Rattle.term_core.specs.HookValues.{integers as whole, truths as logical, hook_arguments, hook_value, outcome};
+ghost use Rattle.hook_table.specs.Rows.{plain_kind};
+ghost use Rattle.hook_table.specs.Scalars.{kind_of, plain_outcome};
+
+use crate::rows::table_rows;
+use crate::table::{ScalarKind, hook_rows};
+use crate::{integers, truths};
+use term_core::{HookNo, NoValue, Scalar};
+
+// Calls the function of the row that has the number of a hook.
+macro_rules! call_numbered {
+    (($hook:expr, $args:expr) $($number:literal => $name:literal [$($kind:ident),*] -> $result:ident = $compute:path;)*) => {
+        $(
+            if $hook.0 == $number {
+                return call_row!($args, $compute, [$($kind),*] -> $result);
+            }
+        )*
+    };
+}
+
+// The call of one row's function, by the kinds of its arguments and of its value.
+macro_rules! call_row {
+    ($args:expr, $compute:path, [Int] -> Int) => {
+        integer($compute(one_integer($args)))
+    };
+    ($args:expr, $compute:path, [Int, Int] -> Int) => {{
+        let (x, y) = two_integers($args);
+        integer($compute(x, y))
+    }};
+    ($args:expr, $compute:path, [Int, Int] -> Bool) => {{
+        let (x, y) = two_integers($args);
+        Ok(Scalar::Bool($compute(x, y)))
+    }};
+    ($args:expr, $compute:path, [Bool] -> Bool) => {
+        Ok(Scalar::Bool($compute(one_truth($args))))
+    };
+    ($args:expr, $compute:path, [Bool, Bool] -> Bool) => {{
+        let (a, b) = two_truths($args);
+        Ok(Scalar::Bool($compute(a, b)))
+    }};
+}
+
+/// The value of a hook at its arguments, or the one reason why it has none. `fits` is the test of what it requires. It
+/// takes no memory.
+pub fn apply<const N: usize>(hook: HookNo, args: &[Scalar; N]) -> Result<Scalar, NoValue>
+    requires { hook_arguments hook.0 ≡ Some (map kind_of args.now) }
+    ensures { hook_value hook.0 (map scalar_value args.now) ≡ Some (plain_outcome result) }
+{
+    table_rows!(call_numbered!(hook, args));
+    unreachable!()
+}
+
+/// Whether a hook has arguments of the kinds of these, which is what `apply` requires.
+pub fn fits(hook: HookNo, args: &[Scalar]) -> bool
+    ensures { IsTrue result ↔ (hook_arguments hook.0 ≡ Some (map kind_of args.now)) }
+{
+    match hook_rows().get(hook.0 as usize) {
+        Some(row) => are_of_kinds(args, row.args),
+        None => false,
+    }
+}
+
+// Whether scalars have these kinds, one by one.
+fn are_of_kinds(args: &[Scalar], kinds: &[ScalarKind]) -> bool
+    ensures { IsTrue result ↔ (map kind_of args.now ≡ map plain_kind kinds.now) }
+{
+    if args.len() != kinds.len() {
+        return false;
+    }
+    for i in 0..args.len() {
+        if !is_of_kind(args[i], kinds[i]) {
+            return false;
+        }
+    }
+    true
+}
+
+// Whether a scalar has this kind.
+fn is_of_kind(arg: Scalar, kind: ScalarKind) -> bool
+    ensures { IsTrue result ↔ (kind_of arg ≡ plain_kind kind) }
+{
+    match (arg, kind) {
+        (Scalar::Int(_), ScalarKind::Int) => true,
+        (Scalar::Bool(_), ScalarKind::Bool) => true,
+        _ => false,
+    }
+}
+
+// The whole number that the only argument is.
+fn one_integer(args: &[Scalar]) -> i128
+    requires { map kind_of args.now ≡ whole ∷ [] }
+    ensures { map scalar_value args.now ≡ whole_number result ∷ [] }
+{
+    match args {
+        [Scalar::Int(x)] => *x,
+        _ => unreachable!(),
+    }
+}
+
+// The whole numbers that the two arguments are.
+fn two_integers(args: &[Scalar]) -> (i128, i128)
+    requires { map kind_of args.now ≡ whole ∷ (whole ∷ []) }
+    ensures { map scalar_value args.now ≡ whole_number result.0 ∷ (whole_number result.1 ∷ []) }
+{
+    match args {
+        [Scalar::Int(x), Scalar::Int(y)] => (*x, *y),
+        _ => unreachable!(),
+    }
+}
+
+// The truth value that the only argument is.
+fn one_truth(args: &[Scalar]) -> bool
+    requires { map kind_of args.now ≡ logical ∷ [] }
+    ensures { map scalar_value args.now ≡ truth result ∷ [] }
+{
+    match args {
+        [Scalar::Bool(a)] => *a,
+        _ => unreachable!(),
+    }
+}
+
+// The truth values that the two arguments are.
+fn two_truths(args: &[Scalar]) -> (bool, bool)
+    requires { map kind_of args.now ≡ logical ∷ (logical ∷ []) }
+    ensures { map scalar_value args.now ≡ truth result.0 ∷ (truth result.1 ∷ []) }
+{
+    match args {
+        [Scalar::Bool(a), Scalar::Bool(b)] => (*a, *b),
+        _ => unreachable!(),
+    }
+}
+
+// A whole number as the value.
+fn integer(value: Result<i128, NoValue>) -> Result<Scalar, NoValue>
+    ensures { plain_outcome result ≡ outcome whole_number value }
+{
+    match value {
+        Ok(value) => Ok(Scalar::Int(value)),
+        Err(reason) => Err(reason),
+    }
+}

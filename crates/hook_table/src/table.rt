@@ -1,0 +1,64 @@
+// The table of hooks.
+ghost use Rattle.std.specs.Prelude.{◌≡◌, map, option_map, position};
+ghost use Rattle.std.specs.Str.{bytes_eq};
+ghost use Rattle.hook_table.specs.declared.table.HookRow.{HookRow};
+ghost use Rattle.term_core.specs.HookValues.{hooks, signature};
+ghost use Rattle.hook_table.specs.Names.{hook_number, NamesDiffer};
+ghost use Rattle.hook_table.specs.Rows.{plain_row};
+
+use crate::rows::table_rows;
+use term_core::HookNo;
+
+/// The kind of a scalar.
+#[derive(Clone, Copy, PartialEq, Eq, Debug)]
+pub enum ScalarKind {
+    /// A whole number.
+    Int,
+    /// A truth value.
+    Bool,
+}
+
+/// A row of the table.
+#[derive(Clone, Copy)]
+pub struct HookRow {
+    /// The name of the hook, as a definition writes it.
+    pub name: &'static str,
+    /// The kinds of its arguments.
+    pub args: &'static [ScalarKind],
+    /// The kind of its value.
+    pub result: ScalarKind,
+}
+
+macro_rules! row_table {
+    (() $($number:literal => $name:literal [$($arg:ident),*] -> $result:ident = $compute:path;)*) => {
+        [$(HookRow { name: $name, args: &[$(ScalarKind::$arg),*], result: ScalarKind::$result }),*]
+    };
+}
+
+/// The hooks, in order. The number of a hook is its place here.
+pub const HOOKS: [HookRow; 31] = table_rows!(row_table!());
+
+/// The rows of `HOOKS`: those of the definition, in its order.
+pub fn hook_rows() -> &'static [HookRow]
+    ensures rows { map plain_row result.now ≡ map signature hooks }
+    ensures names { NamesDiffer }
+{
+    &HOOKS
+}
+
+/// The number of the hook with this name: none exactly where no row has the name. It takes no memory.
+pub fn find(name: &[u8]) -> Option<HookNo>
+    ensures { option_map (λ h. h.0) result ≡ hook_number name.now }
+{
+    match named_place(hook_rows(), name) {
+        Some(place) => Some(HookNo(place as u8)),
+        None => None,
+    }
+}
+
+// The place of the first row with this name.
+fn named_place(rows: &[HookRow], name: &[u8]) -> Option<usize>
+    ensures { result ≡ position (λ (row : HookRow). bytes_eq row.name.now name.now) rows.now }
+{
+    rows.iter().position(|row| row.name.as_bytes() == name)
+}

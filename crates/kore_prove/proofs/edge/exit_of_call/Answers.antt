@@ -1,0 +1,16 @@
+use Rattle.kore_prove.proofs.edge.exit_of_call.Goals as goal
+
+pub returns-clause-answered : goal.returns-clause-answered
+returns-clause-answered g c =
+    let main = c.kore_main-status.ensures in
+    rw c.from.ensures (record {
+      printed_run = main.printed_run;
+      proved_run = main.proved_run;
+      verdict = main.verdict;
+      ends = main.ends;
+      complete = main.complete;
+      complete_verdict = main.complete_verdict;
+      bad_words = main.bad_words;
+      others = main.others;
+      files = main.files;
+    })

@@ -1,0 +1,41 @@
+-- The cause of each end of a reading of a file, and what became of the desk's files.
+use Rattle.std.specs.Prelude.{ℕ, List, Option}
+use Rattle.desk_io.specs.Told.{Told, Lacks, HoldsMore, KeepsFiles}
+use Rattle.desk_io.specs.Counts.{Rose}
+use Rattle.desk_io.specs.declared.read.ReadEnd.{ReadEnd}
+use Rattle.desk_io.specs.declared.read.ReadEnd.TheVariants as read
+use Rattle.kore_prove.specs.declared.accept.Refusal.TheVariants as refusal
+use Rattle.kore_prove.specs.declared.files.FileEnd.{FileEnd}
+use Rattle.kore_prove.specs.declared.files.FileEnd.TheVariants as file
+use Rattle.kore_prove.specs.Limits.{HoldsWithin}
+use Rattle.kore_prove.specs.Reports.{Ending, out_of_memory, bad_words, read_fault, write_fault, no_such_file, definition_refused, term_refused, too_large}
+
+-- The file of that name was not read whole or was refused: it is not there; a fault was counted; it has more bytes than
+-- the limit; or it holds bytes within the limit that are refused so.
+abbrev pub FileCause : (List ℕ → ℕ → ℕ → Type 0) → Option Told → List ℕ → ℕ → ℕ → ℕ → FileEnd → Type 0
+FileCause IsWhy told name limit reads reads' (file.Unread read.NoFile) = Lacks told name
+FileCause IsWhy told name limit reads reads' (file.Unread read.Failed) = Rose reads reads'
+FileCause IsWhy told name limit reads reads' (file.Unread read.TooLarge) = HoldsMore told name limit
+FileCause IsWhy told name limit reads reads' (file.Unread read.Memory) = Unit {0}
+FileCause IsWhy told name limit reads reads' (file.Refused (refusal.Refused number byte)) =
+    (bytes : List ℕ) × HoldsWithin told name limit bytes × IsWhy bytes number byte
+FileCause IsWhy told name limit reads reads' (file.Refused refusal.Memory) = Unit {0}
+
+-- The file of that name was not read whole: it is not there; a fault was counted; or it has more bytes than the limit.
+abbrev pub UnreadCause : Option Told → List ℕ → ℕ → ℕ → ℕ → ReadEnd → Type 0
+UnreadCause told name limit reads reads' read.NoFile = Lacks told name
+UnreadCause told name limit reads reads' read.Failed = Rose reads reads'
+UnreadCause told name limit reads reads' read.TooLarge = HoldsMore told name limit
+UnreadCause told name limit reads reads' read.Memory = Unit {0}
+
+-- The desk's files are as before, but where they could not be written or memory was wanting: then the file of a proof may have
+-- been created.
+abbrev pub KeepsFilesAt : Ending → Option Told → Option Told → Type 0
+KeepsFilesAt out_of_memory old new = Unit {0}
+KeepsFilesAt bad_words old new = KeepsFiles old new
+KeepsFilesAt read_fault old new = KeepsFiles old new
+KeepsFilesAt write_fault old new = Unit {0}
+KeepsFilesAt (no_such_file name) old new = KeepsFiles old new
+KeepsFilesAt (definition_refused number byte) old new = KeepsFiles old new
+KeepsFilesAt (term_refused number byte) old new = KeepsFiles old new
+KeepsFilesAt (too_large name) old new = KeepsFiles old new

@@ -1,0 +1,19 @@
+-- Leaves that are known by tests.
+use Rattle.std.specs.Prelude.{ℕ, Bool, IsTrue}
+use Rattle.ml_pat.specs.Patterns.{Pattern, bot, top, imp, not, and, or, equal, member, fun, ex, all, app, at_sort, next, ev, var, meta, constant}
+use Rattle.ml_pat.specs.Leaves.{LeafFacts}
+
+-- which leaves are known
+pub record Known : Type 0 where
+  pub sort : ℕ → Bool
+  pub constant : ℕ → Bool
+  pub object : ℕ → Bool
+  pub meta : ℕ → Bool
+
+abbrev pub are_known : Known → LeafFacts
+are_known k = record {
+  sort = λ i. IsTrue (k.sort i);
+  constant = λ i. IsTrue (k.constant i);
+  object = λ i. IsTrue (k.object i);
+  meta = λ i. IsTrue (k.meta i);
+}

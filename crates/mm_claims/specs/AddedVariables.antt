@@ -1,0 +1,10 @@
+-- Variables added one by one, each once.
+use Rattle.std.specs.Prelude.{List, [], ◌∷◌, ◌++◌, flat_map}
+use Rattle.ml_pat.specs.Patterns.{Pattern}
+use Rattle.mm_claims.specs.Variables.{Variable}
+use Rattle.mm_claims.specs.Blocks.{Claim}
+use Rattle.mm_claims.specs.OpenVariables.{variables_in, other_variables}
+
+-- some variables, and behind them those of others that are not among them, each once
+abbrev pub added : List Variable → List Variable → List Variable
+added vs us = vs ++ other_variables vs us

@@ -1,0 +1,11 @@
+-- How a statement ends that is judged: cited by the clauses of private functions alone.
+use Rattle.std.specs.Prelude.{ℕ}
+use Rattle.mm_text.specs.FaultKinds.{fault}
+use Rattle.mm_frame.specs.declared.declare.FrameEnd.{FrameEnd}
+use Rattle.mm_frame.specs.declared.declare.FrameEnd.TheVariants.{Fault, Memory}
+use Rattle.mm_frame.specs.declared.judge.Refusal.{Refusal}
+use Rattle.mm_frame.specs.declared.judge.Refusal.TheVariants as refusal
+
+abbrev pub end_at : Refusal → ℕ → FrameEnd
+end_at (refusal.Fault kind) at = Fault (fault kind at)
+end_at refusal.Memory at = Memory
