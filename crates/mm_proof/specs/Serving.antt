@@ -6,6 +6,7 @@ use Rattle.mm_database.specs.Database.{Context}
 use Rattle.mm_database.specs.Proofs.{active_hypothesis, symbols_apart}
 use Rattle.mm_header.specs.HeaderContext.{header_context}
 use Rattle.mm_proof.specs.Tokens.{Naming}
+use Rattle.mm_proof.specs.ClosedFrames.{closed_frame}
 use Rattle.ml_pat.specs.Leaves.{LeafFacts}
 
 -- an assertion has the label, and no active hypothesis has it
