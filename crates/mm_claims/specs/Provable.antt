@@ -20,7 +20,6 @@ use Rattle.mm_claims.specs.OverNames.{open_over}
 use Rattle.mm_claims.specs.CitedAt.{claims_citing, ArePremises}
 use Rattle.mm_claims.specs.Citable.{citable}
 use Rattle.mm_database.specs.Leaving.{Leaves}
-use Rattle.mm_claims.specs.Claiming.{claimed}
 
 -- A theorem that may be claimed: a derivation from its hypotheses that uses what is declared and the block's variables, and
 -- cites only what was claimed before.
