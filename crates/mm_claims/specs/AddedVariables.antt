@@ -1,9 +1,7 @@
 -- Variables added one by one, each once.
-use Rattle.std.specs.Prelude.{List, [], ◌∷◌, ◌++◌, flat_map}
-use Rattle.ml_pat.specs.Patterns.{Pattern}
+use Rattle.std.specs.Prelude.{List, ◌++◌}
 use Rattle.mm_claims.specs.Variables.{Variable}
-use Rattle.mm_claims.specs.Blocks.{Claim}
-use Rattle.mm_claims.specs.OpenVariables.{variables_in, other_variables}
+use Rattle.mm_claims.specs.OpenVariables.{other_variables}
 
 -- some variables, and behind them those of others that are not among them, each once
 abbrev pub added : List Variable → List Variable → List Variable

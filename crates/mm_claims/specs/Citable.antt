@@ -1,15 +1,8 @@
 -- What a derivation may cite of what was claimed before, as the laws say it.
-use Rattle.std.specs.Prelude.{◌≡◌, ℕ, List, [], ◌∷◌, ◌++◌, map, slice_get, slice_index_or, Some, Contains}
-use Rattle.mm_database.specs.Proofs.{ProofTree}
-use Rattle.ml_pat.specs.Patterns.{Pattern, bot, meta}
-use Rattle.ml_kernel.specs.Lemmas.{instance}
-use Rattle.mm_proof.specs.Tokens.{Naming}
-use Rattle.mm_proof.specs.Labels.{statement_label, premise_label, own_labels}
-use Rattle.ml_pat.specs.Leaves.{LeafFacts, EachLeaf}
-use Rattle.mm_proof.specs.Trees.{cite, syntax_tree}
-use Rattle.mm_proof.specs.Derivations.{Citing}
+use Rattle.std.specs.Prelude.{ℕ, List, []}
+use Rattle.ml_pat.specs.Patterns.{Pattern}
+use Rattle.ml_pat.specs.Leaves.{LeafFacts}
 use Rattle.ml_kernel.specs.MayCite.{MayCite}
-use Rattle.mm_claims.specs.Variables.{Variable, object_variable, pattern_variable}
 use Rattle.mm_claims.specs.Blocks.{Claim}
 use Rattle.mm_claims.specs.CitedAt.{IsCitable}
 

@@ -8,7 +8,6 @@ use Rattle.mm_proof.specs.Labels.{statement_label, premise_label, own_labels}
 use Rattle.ml_pat.specs.Leaves.{LeafFacts, EachLeaf}
 use Rattle.mm_proof.specs.Trees.{cite, syntax_tree}
 use Rattle.mm_proof.specs.Derivations.{Citing}
-use Rattle.ml_kernel.specs.MayCite.{MayCite}
 use Rattle.mm_claims.specs.Variables.{Variable, object_variable, pattern_variable}
 use Rattle.mm_claims.specs.Blocks.{Claim}
 

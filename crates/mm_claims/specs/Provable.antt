@@ -1,25 +1,16 @@
 -- Theorems that may be claimed.
-use Rattle.std.specs.Prelude.{◌≡◌, ℕ, ◌<◌, ◌≤◌, ◌^◌, true, false, List, [], ◌∷◌, ◌++◌, map, length, slice_get, Some, None}
+use Rattle.std.specs.Prelude.{◌≡◌, ℕ, true, List, ◌++◌}
 use Rattle.mm_text.specs.Bytes.{Token}
-use Rattle.mm_text.specs.Labels.{is_label}
-use Rattle.mm_database.specs.Frames.{Frame}
-use Rattle.mm_database.specs.Database.{Context}
-use Rattle.mm_database.specs.Proofs.{active_hypothesis}
-use Rattle.mm_database.specs.Assertions.{Assertion, assertions_of, typings_of}
 use Rattle.ml_pat.specs.Patterns.{Pattern}
 use Rattle.ml_kernel.specs.Theorems.{Derivation}
 use Rattle.ml_kernel.specs.Concluding.{Concludes}
-use Rattle.mm_proof.specs.Labels.{statement_label, premise_label, own_labels}
-use Rattle.mm_proof.specs.Derivations.{derivation_tree}
 use Rattle.ml_kernel.specs.UsedLeaves.{EachUsed}
 use Rattle.ml_kernel.specs.MayCite.{EachCited}
-use Rattle.mm_claims.specs.Fitting.{AreNames, Holds}
-use Rattle.mm_claims.specs.Variables.{Variable, number_of, variable_token, variable_label, are_once, AreNumbered}
-use Rattle.mm_claims.specs.Blocks.{Claim, IsClaim, variable_float, open_frame, theorem_statements}
+use Rattle.mm_claims.specs.Variables.{Variable, are_once, AreNumbered}
+use Rattle.mm_claims.specs.Blocks.{Claim}
 use Rattle.mm_claims.specs.OverNames.{open_over}
-use Rattle.mm_claims.specs.CitedAt.{claims_citing, ArePremises}
+use Rattle.mm_claims.specs.CitedAt.{ArePremises}
 use Rattle.mm_claims.specs.Citable.{citable}
-use Rattle.mm_database.specs.Leaving.{Leaves}
 
 -- A theorem that may be claimed: a derivation from its hypotheses that uses what is declared and the block's variables, and
 -- cites only what was claimed before.
