@@ -6,3 +6,11 @@ pub mod FirstRule
 pub mod Runs
 pub mod ProgramView
 pub mod Trial
+pub mod Subsorts
+pub mod SubsortFields
+pub mod Sorting
+pub mod Theories
+pub mod HookCalls
+pub mod Evaluation
+pub mod WellSorted
+pub mod Records

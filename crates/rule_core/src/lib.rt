@@ -11,6 +11,7 @@
 
 mod rules;
 mod signature;
+mod subsorts;
 mod table;
 #[cfg(test)]
 mod tests;
@@ -18,5 +19,6 @@ mod trial;
 
 pub use rules::{Outcome, Program, Rule, VarInfo};
 pub use signature::{Signature, SortInfo, SortKind, SortRef, SymInfo, SymKind};
+pub use subsorts::Subsorts;
 pub use table::Table;
 pub use trial::first_match;

@@ -9,3 +9,4 @@ pub mod Patterns
 pub mod RulePatterns
 pub mod PatternLists
 pub mod GroundPatterns
+pub mod HookValues
