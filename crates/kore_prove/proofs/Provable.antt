@@ -9,7 +9,7 @@ use Rattle.rule_core.specs.declared.signature.Signature.{Signature}
 use Rattle.rule_core.specs.declared.rules.Rule.{Rule}
 use Rattle.rule_core.specs.declared.rules.Program.{Program}
 use Rattle.ml_image.specs.Images.{HasImage, HaveImages, HasImageAt}
-use Rattle.mm_render.specs.JustifyingLaws.{HasNoVariable, HaveNoVariable}
+use Rattle.mm_justify.specs.NoVariables.{HasNoVariable, HaveNoVariable}
 use Rattle.prove_run.specs.declared.proof.Proof.{Proof}
 use Rattle.prove_run.specs.Scripts.{AreGroundAt}
 use Rattle.prove_run.specs.Proving.{IsProofOf, IsAtRule, StepsBy}

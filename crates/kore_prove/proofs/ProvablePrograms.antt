@@ -7,7 +7,7 @@ use Rattle.std.specs.List.{filter_map, list_all}
 use Rattle.std.proofs.lemmas.Bool.Decides.{nat_tests}
 use Rattle.kore_lex.specs.Pieces.{is_letter, is_word}
 use Rattle.kore_lex.specs.Tokens.{AllWord, IsName}
-use Rattle.mm_render.specs.Statements.{is_name_byte}
+use Rattle.mm_claims.specs.Statements.{is_name_byte}
 use Rattle.kore_text.specs.Trees.{PatternTree, PatternTrees, element_variable, set_variable, string, symbol_applied, connected, binding, domain_value, folded, no_patterns, pattern_then}
 use Rattle.kore_text.specs.Trees.{AxiomDeclaration}
 use Rattle.term_core.specs.Patterns.{Pattern, Patterns}

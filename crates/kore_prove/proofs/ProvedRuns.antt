@@ -6,7 +6,7 @@ use Rattle.term_core.specs.Terms.{Tree}
 use Rattle.term_core.specs.Patterns.{Pattern}
 use Rattle.rule_core.specs.declared.rules.Outcome.{Outcome}
 use Rattle.rule_core.specs.declared.rules.Program.{Program}
-use Rattle.mm_render.specs.Justifying.{Justifies}
+use Rattle.mm_justify.specs.Justifying.{Justifies}
 use Rattle.term_core.specs.Patterns.{ground_pattern}
 use Rattle.kore_prove.specs.Words.{IsRun, IsVerifyCommand}
 use Rattle.kore_prove.specs.Lines.{run_of}

@@ -8,7 +8,7 @@ use Rattle.rule_core.specs.Runs.{Run, IsRunOf}
 use Rattle.rule_core.specs.ProgramView.{rewrite_rules}
 use Rattle.rule_core.specs.declared.rules.Outcome.{Outcome}
 use Rattle.rule_core.specs.declared.rules.Program.{Program}
-use Rattle.mm_render.specs.Justifying.{Justifies}
+use Rattle.mm_justify.specs.Justifying.{Justifies}
 use Rattle.kore_prove.specs.Words.{IsRunCommand, IsProofCommand}
 use Rattle.kore_prove.specs.Files.{HoldsProgram, HoldsStart}
 use Rattle.kore_prove.specs.Lines.{run_of, last_of, lines_of}

@@ -19,7 +19,7 @@ use Rattle.ml_image.specs.Gained.{IsOwnToken, AreOwnTokens, HasGained}
 abbrev pub Keeps : {A : Type 0} → Option A → Option A → Type 0
 Keeps {A} old new = (a : A) → old ≡ Some a → new ≡ Some a
 
-none_some : {A : Type 0} (a : A) → None ≡ Some a → ⊥
+pub none_some : {A : Type 0} (a : A) → None ≡ Some a → ⊥
 none_some a h = cc
 
 some_same : {A : Type 0} (a b : A) → Some a ≡ Some b → a ≡ b

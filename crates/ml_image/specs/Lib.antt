@@ -1,3 +1,4 @@
 pub mod Tokens
 pub mod Images
 pub mod Gained
+pub mod NamingLaws

@@ -6,9 +6,11 @@
 #![tactic(auto)]
 
 mod images;
+mod laws;
 mod tokens;
 
 pub use images::{rule_image, term_image};
+pub use laws::naming_laws;
 
 #[cfg(test)]
 mod tests;

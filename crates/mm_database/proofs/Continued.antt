@@ -8,11 +8,13 @@ use Rattle.mm_text.specs.TextLaws.{ends_white, white_behind, written}
 use Rattle.mm_database.specs.Forms.{Form, asserts, proves, plain, form_of}
 use Rattle.mm_database.specs.Frames.{Frame, frame_of}
 use Rattle.mm_database.specs.Database.{Context}
-use Rattle.mm_database.specs.Proofs.{Expression, Leads, by_hypothesis, by_assertion, ProofTree, proof_node, ProofForest, no_proof, more_proofs, Proves, AllProve, postorder, all_postorder, IsProof}
-use Rattle.mm_database.specs.Expansion.{is_citable, labels_of}
+use Rattle.mm_database.specs.Proofs.{Expression, Leads, by_hypothesis, by_assertion, ProofTree, proof_node, ProofForest, no_proof, more_proofs, Proves, AllProve, postorder, all_postorder}
+use Rattle.mm_database.specs.Steps.{Step, cites, Forms}
+use Rattle.mm_database.specs.ProofText.{is_citable, proof_steps}
 use Rattle.mm_database.specs.Validity.{Task, task, theorem_task, form_fault, is_typed}
 use Rattle.mm_database.specs.FrameLaws.{written_statements, plain_tokens, proof_tokens}
 use Rattle.mm_database.specs.Writing.{LeavesIsValid, ContinuedLeaves, AxiomIsFine, begins_compressed, TheoremIsFine}
+use Rattle.mm_database.proofs.Building.{citing, postorder-builds, built-one}
 use Rattle.mm_database.proofs.Texts.{appended_is_fine, written_is_fine}
 use Rattle.mm_database.proofs.WrittenForms.{plain_tokens_say, proof_tokens_say}
 
@@ -63,7 +65,7 @@ axiom_is_fine c label typecode symbols w =
     let well : form_fault c (Some (plain (label ∷ []) asserts (typecode ∷ symbols) [])) ≡ None = rw (w.typed, w.constant, w.new) refl in
     record {
       form = ap (form_fault c) said ∙ well;
-      proof = subst (λ (o : Option Form). IfSome (task c o) (λ t. IsProof c t.steps t.conclusion)) (sym said) tt;
+      proof = subst (λ (o : Option Form). IfSome (task c o) (λ t. Forms c t.steps (t.conclusion ∷ []))) (sym said) tt;
     }
 
 -- a `$p`
@@ -95,29 +97,29 @@ mutual
       list_all-append (is_citable c) (postorder tree) (all_postorder trees) (postorder-citable c tree first proof) (all_postorder-citable c trees rest all)
 
 -- labels that may all be cited are a proof's labels as they stand
-labels_of-plain : (c : Context) (f : Frame) (token : Token) (tokens : List Token) → list_all (is_citable c) (token ∷ tokens) ≡ true → begins_compressed (token ∷ tokens) ≡ false → labels_of c f (token ∷ tokens) ≡ Some (token ∷ tokens)
-labels_of-plain c f token tokens citable plain_proof = rw (plain_proof, citable) refl
+proof_steps-plain : (c : Context) (f : Frame) (token : Token) (tokens : List Token) → list_all (is_citable c) (token ∷ tokens) ≡ true → begins_compressed (token ∷ tokens) ≡ false → proof_steps c f (token ∷ tokens) ≡ Some (citing (token ∷ tokens))
+proof_steps-plain c f token tokens citable plain_proof = rw (plain_proof, citable) refl
 
 has_last : (xs : List Token) (label : Token) → xs ++ label ∷ [] ≡ [] → ⊥
 has_last [] label h = cc
 has_last (x ∷ xs) label h = cc
 
-labels_of-tree : (c : Context) (f : Frame) (tree : ProofTree) (result : Expression) → Proves c tree result → begins_compressed (postorder tree) ≡ false → labels_of c f (postorder tree) ≡ Some (postorder tree)
-labels_of-tree c f (proof_node label trees) result proof plain_proof =
+proof_steps-tree : (c : Context) (f : Frame) (tree : ProofTree) (result : Expression) → Proves c tree result → begins_compressed (postorder tree) ≡ false → proof_steps c f (postorder tree) ≡ Some (citing (postorder tree))
+proof_steps-tree c f (proof_node label trees) result proof plain_proof =
     go (all_postorder trees ++ label ∷ []) (has_last (all_postorder trees) label) (postorder-citable c (proof_node label trees) result proof) plain_proof
   where
-    go : (ls : List Token) → (ls ≡ [] → ⊥) → list_all (is_citable c) ls ≡ true → begins_compressed ls ≡ false → labels_of c f ls ≡ Some ls
+    go : (ls : List Token) → (ls ≡ [] → ⊥) → list_all (is_citable c) ls ≡ true → begins_compressed ls ≡ false → proof_steps c f ls ≡ Some (citing ls)
     go [] some citable p = absurd (some refl)
-    go (token ∷ tokens) some citable p = labels_of-plain c f token tokens citable p
+    go (token ∷ tokens) some citable p = proof_steps-plain c f token tokens citable p
 
 pub theorem_is_fine : TheoremIsFine
 theorem_is_fine c label typecode symbols tree w proves_it clean plain_proof =
     let said : form_of (proof_tokens (label ∷ []) (typecode ∷ symbols) (postorder tree)) ≡ Some (plain (label ∷ []) proves (typecode ∷ symbols) (postorder tree)) = proof_tokens_say (label ∷ []) (typecode ∷ symbols) (postorder tree) w.clean_label w.clean clean in
-    let done : theorem_task c (label ∷ []) (typecode ∷ symbols) (postorder tree) ≡ Some (record { conclusion = typecode ∷ symbols; steps = postorder tree }) =
-    ap (λ (o : Option (List Token)). option_map (λ (ls : List Token). let t : Task = record { conclusion = typecode ∷ symbols; steps = ls } in t) o) (labels_of-tree c (frame_of c.scope label (typecode ∷ symbols)) tree (typecode ∷ symbols) proves_it plain_proof) in
+    let done : theorem_task c (label ∷ []) (typecode ∷ symbols) (postorder tree) ≡ Some (record { conclusion = typecode ∷ symbols; steps = citing (postorder tree) }) =
+    ap (λ (o : Option (List (Step Token))). option_map (λ (ss : List (Step Token)). let t : Task = record { conclusion = typecode ∷ symbols; steps = ss } in t) o) (proof_steps-tree c (frame_of c.scope label (typecode ∷ symbols)) tree (typecode ∷ symbols) proves_it plain_proof) in
     let well : form_fault c (Some (plain (label ∷ []) proves (typecode ∷ symbols) (postorder tree))) ≡ None = rw (w.typed, w.constant, w.new, done) refl in
-    let proof : IsProof c (postorder tree) (typecode ∷ symbols) = record { tree = tree; order = refl; proves = proves_it } in
+    let proof : Forms c (citing (postorder tree)) ((typecode ∷ symbols) ∷ []) = record { forest = more_proofs tree no_proof; saved = []; builds = built-one [] (citing (postorder tree)) tree [] (postorder-builds tree []); proves = (typecode ∷ symbols, [], refl, proves_it, refl) } in
     record {
       form = ap (form_fault c) said ∙ well;
-      proof = subst (λ (o : Option Form). IfSome (task c o) (λ t. IsProof c t.steps t.conclusion)) (sym said) (subst (λ (o : Option Task). IfSome o (λ t. IsProof c t.steps t.conclusion)) (sym done) proof);
+      proof = subst (λ (o : Option Form). IfSome (task c o) (λ t. Forms c t.steps (t.conclusion ∷ []))) (sym said) (subst (λ (o : Option Task). IfSome o (λ t. Forms c t.steps (t.conclusion ∷ []))) (sym done) proof);
     }

@@ -7,24 +7,25 @@ use Rattle.mm_text.specs.Statements.{Statement, Statements, no_statement, unende
 use Rattle.mm_text.specs.declared.fault.MmFault.{MmFault}
 use Rattle.mm_database.specs.Forms.{form_of}
 use Rattle.mm_database.specs.Database.{Block, Context, empty_context, context_after, context_behind}
-use Rattle.mm_database.specs.Proofs.{Expression, Forms, IsProof}
+use Rattle.mm_database.specs.Proofs.{Expression}
+use Rattle.mm_database.specs.Steps.{Forms}
 use Rattle.mm_database.specs.Stack.{same_expressions, stack_after}
 use Rattle.mm_database.specs.Validity.{Task, task, form_fault, HasBadStep, HasBadConclusion, IsFaulty, by_form, by_step, by_conclusion, IsFine, AreFine, IsValid, first_open, IsFirstFaultIn, stack_fault, task_fault, or_else, statement_fault, fault_or, first_fault_in, first_fault}
 use Rattle.mm_database.specs.FrameLaws.{in_front, FineWhereActive}
 use Rattle.mm_database.proofs.Tests.{same_expressions-Decides}
-use Rattle.mm_database.proofs.Stacks.{stack_after-complete, stack_after-sound, IsProof-Forms, Forms-IsProof}
+use Rattle.mm_database.proofs.Stacks.{stack_after-complete, stack_after-sound}
 
 -- what a stack says of a proof
 
-HasBadStep-stack : (c : Context) (t : Task) → stack_after c t.steps [] ≡ None → HasBadStep c t
+HasBadStep-stack : (c : Context) (t : Task) → stack_after c t.steps ≡ None → HasBadStep c t
 HasBadStep-stack c t none results w =
-    let some : stack_after c t.steps [] ≡ Some results = stack_after-complete c t.steps results w in
+    let some : stack_after c t.steps ≡ Some results = stack_after-complete c t.steps results w in
     cc
 
-stack-HasBadStep : (c : Context) (t : Task) → HasBadStep c t → stack_after c t.steps [] ≡ None
-stack-HasBadStep c t bad = go (stack_after c t.steps []) refl
+stack-HasBadStep : (c : Context) (t : Task) → HasBadStep c t → stack_after c t.steps ≡ None
+stack-HasBadStep c t bad = go (stack_after c t.steps) refl
   where
-    go : (o : Option (List Expression)) → stack_after c t.steps [] ≡ o → o ≡ None
+    go : (o : Option (List Expression)) → stack_after c t.steps ≡ o → o ≡ None
     go None is = refl
     go (Some results) is = absurd (bad results (stack_after-sound c t.steps results is))
 
@@ -39,9 +40,9 @@ same_false xs ys differ = go (same_expressions xs ys) refl
     go false is = refl
 
 -- the stack's fault of a proof is none, where the proof is one
-stack_fault-proof : (c : Context) (t : Task) → IsProof c t.steps t.conclusion → task_fault c (Some t) ≡ None
+stack_fault-proof : (c : Context) (t : Task) → Forms c t.steps (t.conclusion ∷ []) → task_fault c (Some t) ≡ None
 stack_fault-proof c t w =
-    ap (stack_fault t.conclusion) (stack_after-complete c t.steps (t.conclusion ∷ []) (Forms-IsProof c t.steps t.conclusion w))
+    ap (stack_fault t.conclusion) (stack_after-complete c t.steps (t.conclusion ∷ []) w)
     ∙ rw (same_true (t.conclusion ∷ []) (t.conclusion ∷ []) refl) refl
 
 stack_fault-step : (c : Context) (t : Task) → HasBadStep c t → task_fault c (Some t) ≡ Some bad_step
@@ -54,21 +55,21 @@ stack_fault-conclusion c t bad =
 
 -- and what each answer of the stack says
 data StackSays (c : Context) (t : Task) : Option ℕ → Type 0 where
-  says_proof : IsProof c t.steps t.conclusion → StackSays c t None
+  says_proof : Forms c t.steps (t.conclusion ∷ []) → StackSays c t None
   says_step : HasBadStep c t → StackSays c t (Some bad_step)
   says_conclusion : HasBadConclusion c t → StackSays c t (Some bad_conclusion)
 
 stack_says : (c : Context) (t : Task) → StackSays c t (task_fault c (Some t))
-stack_says c t = go (stack_after c t.steps []) refl
+stack_says c t = go (stack_after c t.steps) refl
   where
-    compared : (stack : List Expression) → stack_after c t.steps [] ≡ Some stack → (b : Bool) → same_expressions stack (t.conclusion ∷ []) ≡ b → StackSays c t (if b then None else Some bad_conclusion)
+    compared : (stack : List Expression) → stack_after c t.steps ≡ Some stack → (b : Bool) → same_expressions stack (t.conclusion ∷ []) ≡ b → StackSays c t (if b then None else Some bad_conclusion)
     compared stack is true same =
         let forms : Forms c t.steps stack = stack_after-sound c t.steps stack is in
-        says_proof (IsProof-Forms c t.steps t.conclusion (subst (λ (es : List Expression). Forms c t.steps es) ((same_expressions-Decides stack (t.conclusion ∷ [])).0 same) forms))
+        says_proof (subst (λ (es : List Expression). Forms c t.steps es) ((same_expressions-Decides stack (t.conclusion ∷ [])).0 same) forms)
     compared stack is false same =
         says_conclusion (record { results = stack; forms = stack_after-sound c t.steps stack is; differs = λ e. (let yes : same_expressions stack (t.conclusion ∷ []) ≡ true = same_true stack (t.conclusion ∷ []) e in cc) })
 
-    go : (o : Option (List Expression)) → stack_after c t.steps [] ≡ o → StackSays c t (stack_fault t.conclusion o)
+    go : (o : Option (List Expression)) → stack_after c t.steps ≡ o → StackSays c t (stack_fault t.conclusion o)
     go None is = says_step (HasBadStep-stack c t is)
     go (Some stack) is = compared stack is (same_expressions stack (t.conclusion ∷ [])) refl
 
@@ -77,7 +78,7 @@ stack_says c t = go (stack_after c t.steps []) refl
 pub IsFine-statement : (c : Context) (tokens : List Token) → statement_fault c tokens ≡ None → IsFine c tokens
 IsFine-statement c tokens none = go (form_fault c (form_of tokens)) (task c (form_of tokens)) refl refl none
   where
-    said : (t : Task) (kind : Option ℕ) → StackSays c t kind → kind ≡ None → IsProof c t.steps t.conclusion
+    said : (t : Task) (kind : Option ℕ) → StackSays c t kind → kind ≡ None → Forms c t.steps (t.conclusion ∷ [])
     said t kind (says_proof w) h = w
     said t kind (says_step w) h = absurd (cc)
     said t kind (says_conclusion w) h = absurd (cc)
@@ -90,7 +91,7 @@ IsFine-statement c tokens none = go (form_fault c (form_of tokens)) (task c (for
 pub statement-IsFine : (c : Context) (tokens : List Token) → IsFine c tokens → statement_fault c tokens ≡ None
 statement-IsFine c tokens w = ap (λ k. or_else k (task_fault c (task c (form_of tokens)))) w.form ∙ go (task c (form_of tokens)) w.proof
   where
-    go : (o : Option Task) → IfSome o (λ t. IsProof c t.steps t.conclusion) → task_fault c o ≡ None
+    go : (o : Option Task) → IfSome o (λ t. Forms c t.steps (t.conclusion ∷ [])) → task_fault c o ≡ None
     go None h = refl
     go (Some t) h = stack_fault-proof c t h
 

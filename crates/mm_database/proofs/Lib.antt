@@ -1,13 +1,12 @@
 pub mod Tests
 pub mod Applying
 pub mod Forests
+pub mod Building
 pub mod Stacks
 pub mod Faults
 pub mod Texts
-pub mod Saved
 pub mod Stated
 pub mod WrittenForms
 pub mod Continued
 pub mod TypedOnce
-pub mod Shared
 pub mod ClosedFrames

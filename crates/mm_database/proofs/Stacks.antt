@@ -1,15 +1,16 @@
--- A stack accepts just the postorders of forests, and leaves what they prove.
-use Rattle.std.proofs.Common.{◌≡◌, ℕ, ◌-◌, ◌≤◌, Bool, true, false, List, [], ◌∷◌, ◌++◌, length, take, drop, refl, ap, ◌∙◌, sym, subst, arith, append_assoc, append-nil, length-append, rules}
+-- A stack accepts just the steps that build a forest, and leaves what it proves.
+use Rattle.std.proofs.Common.{◌≡◌, ℕ, zero, suc, ◌-◌, ◌≤◌, ◌<◌, Bool, true, false, List, [], ◌∷◌, ◌++◌, length, take, drop, refl, ap, ◌∙◌, sym, subst, arith, append_assoc, append-nil, length-append, rules}
 use Rattle.std.proofs.lemmas.List.{length-map}
 use Rattle.std.proofs.Math.Seq.{take-append_seam}
-use Rattle.std.specs.Prelude.{Option, Some, None, if◌then◌else◌, nat_le, option_map, option_and_then}
+use Rattle.std.specs.Prelude.{Option, Some, None, if◌then◌else◌, nat_le, option_map, option_and_then, slice_get}
 use Rattle.mm_text.specs.Bytes.{Token}
 use Rattle.mm_database.specs.Database.{Context}
-use Rattle.mm_database.specs.Proofs.{Expression, instance_of, Leads, by_hypothesis, by_assertion, ProofTree, proof_node, ProofForest, no_proof, more_proofs, Proves, AllProve, postorder, all_postorder, Forms, IsProof}
-use Rattle.mm_database.specs.Expansion.{label_arity, frame_arity, arity}
-use Rattle.mm_database.specs.Stack.{step_result, stack_after_step, stack_after}
+use Rattle.mm_database.specs.Proofs.{Expression, instance_of, Leads, by_hypothesis, by_assertion, ProofTree, proof_node, ProofForest, no_proof, more_proofs, Proves, AllProve}
+use Rattle.mm_database.specs.Steps.{Step, cites, saves, repeats, Builds, by_label, by_saving, by_repeating, AllBuild, no_steps, more_steps, Forms}
+use Rattle.mm_database.specs.Stack.{step_result, frame_arity, label_arity, arity, stack_with, stack_after_label, Saving, saving, saving_after_step, saving_after, stack_after}
 use Rattle.mm_database.proofs.Applying.{step_result-complete, step_result-sound}
-use Rattle.mm_database.proofs.Forests.{first_trees, last_trees, with_trees, postorder-cut, postorder-joined, AllProve-first, AllProve-last, AllProve-joined}
+use Rattle.mm_database.proofs.Building.{built-joined, Cut, built-cut, built-one, one-built}
+use Rattle.mm_database.proofs.Forests.{first_trees, last_trees, with_trees, AllProve-first, AllProve-last, AllProve-joined}
 
 -- a label leads from as many expressions as its arity is
 pub arity-Leads : {c : Context} {label : Token} {given : List Expression} {result : Expression} → Leads c label given result → length given ≡ arity c label
@@ -24,94 +25,274 @@ drop-append_seam : (xs ys : List Expression) → drop (length xs) (xs ++ ys) ≡
 drop-append_seam [] ys = refl
 drop-append_seam (x ∷ xs) ys = drop-append_seam xs ys
 
-stack_after_step-complete : (c : Context) (label : Token) (n : ℕ) (stack given : List Expression) (result : Expression) → length given ≡ n → step_result c label given ≡ Some result → stack_after_step c label n (stack ++ given) ≡ Some (stack ++ result ∷ [])
-stack_after_step-complete c label n stack given result count gives =
-    let below : nat_le n (length (stack ++ given)) ≡ true = le_true n (length (stack ++ given)) (omega (arith, length-append stack given)) in
-    let left : length (stack ++ given) - n ≡ length stack = omega (arith, length-append stack given) in
-    let front : take (length stack) (stack ++ given) ≡ stack = take-append_seam stack given in
-    let back : drop (length stack) (stack ++ given) ≡ given = drop-append_seam stack given in
-    rw (below, left, front, back, gives) refl
+label-complete : (c : Context) (label : Token) (stack given : List Expression) (result : Expression) → Leads c label given result → stack_after_label c label (stack ++ given) ≡ Some (stack ++ result ∷ [])
+label-complete c label stack given result leads = go (arity c label) (arity-Leads leads)
+  where
+    go : (n : ℕ) → length given ≡ n → stack_with (step_result c label) n (stack ++ given) ≡ Some (stack ++ result ∷ [])
+    go n count =
+        let below : nat_le n (length (stack ++ given)) ≡ true = le_true n (length (stack ++ given)) (omega (arith, length-append stack given)) in
+        let left : length (stack ++ given) - n ≡ length stack = omega (arith, length-append stack given) in
+        let front : take (length stack) (stack ++ given) ≡ stack = take-append_seam stack given in
+        let back : drop (length stack) (stack ++ given) ≡ given = drop-append_seam stack given in
+        rw (below, left, front, back, step_result-complete leads) refl
+
+-- a label leads to one expression alone from given ones, and so a tree proves one alone
+
+Leads-one : {c : Context} {label : Token} {given : List Expression} {first second : Expression} → Leads c label given first → Leads c label given second → first ≡ second
+Leads-one {c = c} {label = label} {given = given} a b =
+    let one : step_result c label given ≡ Some _ = step_result-complete a in
+    let two : step_result c label given ≡ Some _ = step_result-complete b in
+    cc
 
 mutual
-  pub stack_after-tree : (c : Context) (tree : ProofTree) (result : Expression) (stack : List Expression) (labels : List Token) → Proves c tree result → stack_after c (postorder tree ++ labels) stack ≡ stack_after c labels (stack ++ result ∷ [])
-  stack_after-tree c (proof_node label trees) result stack labels (given, leads, all) =
-      ap (λ ls. stack_after c ls stack) (append_assoc (all_postorder trees) (label ∷ []) labels)
-      ∙ stack_after-forest c trees given stack (label ∷ labels) all
-      ∙ ap (option_and_then (stack_after c labels)) (stack_after_step-complete c label (arity c label) stack given result (arity-Leads leads) (step_result-complete leads))
+  Proves-one : (c : Context) (tree : ProofTree) (first second : Expression) → Proves c tree first → Proves c tree second → first ≡ second
+  Proves-one c (proof_node label trees) first second (given, leads, all) (given', leads', all') =
+      Leads-one leads (subst (λ (es : List Expression). Leads c label es second) (sym (AllProve-one c trees given given' all all')) leads')
 
-  pub stack_after-forest : (c : Context) (trees : ProofForest) (results stack : List Expression) (labels : List Token) → AllProve c trees results → stack_after c (all_postorder trees ++ labels) stack ≡ stack_after c labels (stack ++ results)
-  stack_after-forest c no_proof results stack labels h =
-      rw h (ap (stack_after c labels) (sym (append-nil stack)))
-  stack_after-forest c (more_proofs tree trees) results stack labels (first, rest, is, proves, all) =
-      ap (λ ls. stack_after c ls stack) (append_assoc (postorder tree) (all_postorder trees) labels)
-      ∙ stack_after-tree c tree first stack (all_postorder trees ++ labels) proves
-      ∙ stack_after-forest c trees rest (stack ++ first ∷ []) labels all
-      ∙ ap (stack_after c labels) (append_assoc stack (first ∷ []) rest ∙ ap (λ es. stack ++ es) (sym is))
+  AllProve-one : (c : Context) (trees : ProofForest) (first second : List Expression) → AllProve c trees first → AllProve c trees second → first ≡ second
+  AllProve-one c no_proof first second h k = h ∙ sym k
+  AllProve-one c (more_proofs tree trees) first second (e, rest, is, proves, all) (e', rest', is', proves', all') =
+      is
+      ∙ ap (λ (x : Expression). x ∷ rest) (Proves-one c tree e e' proves proves')
+      ∙ ap (λ (xs : List Expression). e' ∷ xs) (AllProve-one c trees rest rest' all all')
+      ∙ sym is'
 
-pub stack_after-complete : (c : Context) (labels : List Token) (results : List Expression) → Forms c labels results → stack_after c labels [] ≡ Some results
-stack_after-complete c labels results w =
-    ap (λ ls. stack_after c ls []) (sym w.order ∙ sym (append-nil (all_postorder w.forest)))
-    ∙ stack_after-forest c w.forest results [] [] w.proves
+-- the saved trees prove the saved entries, one by one
 
--- a step takes the last trees of a forest under a new node
-Forms-step : (c : Context) (done : List Token) (label : Token) (k : ℕ) (stack : List Expression) (result : Expression) → Forms c done stack → step_result c label (drop k stack) ≡ Some result → Forms c (done ++ label ∷ []) (take k stack ++ result ∷ [])
-Forms-step c done label k stack result w gives = record {
-  forest = with_trees (first_trees k w.forest) (more_proofs (proof_node label (last_trees k w.forest)) no_proof);
-  order =
-      postorder-joined (first_trees k w.forest) (more_proofs (proof_node label (last_trees k w.forest)) no_proof)
-      ∙ ap (λ ls. all_postorder (first_trees k w.forest) ++ ls) (append-nil (all_postorder (last_trees k w.forest) ++ label ∷ []))
-      ∙ sym (append_assoc (all_postorder (first_trees k w.forest)) (all_postorder (last_trees k w.forest)) (label ∷ []))
-      ∙ ap (λ ls. ls ++ label ∷ []) (postorder-cut k w.forest ∙ w.order);
-  proves = AllProve-joined c (first_trees k w.forest) (more_proofs (proof_node label (last_trees k w.forest)) no_proof) (take k stack) (result ∷ []) (AllProve-first c k w.forest stack w.proves) (result, [], refl, (drop k stack, step_result-sound c label (drop k stack) result gives, AllProve-last c k w.forest stack w.proves), refl);
-}
+abbrev AreSaved : Context → List ProofTree → List Expression → Type 0
+AreSaved c [] [] = Unit {0}
+AreSaved c [] (e ∷ entries) = ⊥
+AreSaved c (tree ∷ trees) [] = ⊥
+AreSaved c (tree ∷ trees) (e ∷ entries) = Proves c tree e × AreSaved c trees entries
 
-Forms-stack_step : (c : Context) (done : List Token) (label : Token) (n : ℕ) (stack next : List Expression) → Forms c done stack → stack_after_step c label n stack ≡ Some next → Forms c (done ++ label ∷ []) next
-Forms-stack_step c done label n stack next w steps = fits (nat_le n (length stack)) steps
+AreSaved-more : (c : Context) (trees : List ProofTree) (entries : List Expression) (tree : ProofTree) (e : Expression) → AreSaved c trees entries → Proves c tree e → AreSaved c (trees ++ tree ∷ []) (entries ++ e ∷ [])
+AreSaved-more c [] [] tree e all p = (p, tt)
+AreSaved-more c [] (d ∷ entries) tree e all p = absurd all
+AreSaved-more c (t ∷ trees) [] tree e all p = absurd all
+AreSaved-more c (t ∷ trees) (d ∷ entries) tree e all p = (all.0, AreSaved-more c trees entries tree e all.1 p)
+
+-- the entry of a saved tree
+AreSaved-entry : (c : Context) (trees : List ProofTree) (entries : List Expression) (n : ℕ) (tree : ProofTree) → AreSaved c trees entries → slice_get trees n ≡ Some tree → (e : Expression) × (slice_get entries n ≡ Some e) × Proves c tree e
+AreSaved-entry c [] [] n tree all is = absurd (cc)
+AreSaved-entry c [] (e ∷ entries) n tree all is = absurd all
+AreSaved-entry c (t ∷ trees) [] n tree all is = absurd all
+AreSaved-entry c (t ∷ trees) (e ∷ entries) zero tree all is =
+    let same : t ≡ tree = cc in
+    (e, refl, subst (λ (u : ProofTree). Proves c u e) same all.0)
+AreSaved-entry c (t ∷ trees) (e ∷ entries) (suc n) tree all is = AreSaved-entry c trees entries n tree all.1 is
+
+-- the tree of a saved entry
+AreSaved-tree : (c : Context) (trees : List ProofTree) (entries : List Expression) (n : ℕ) (e : Expression) → AreSaved c trees entries → slice_get entries n ≡ Some e → (tree : ProofTree) × (slice_get trees n ≡ Some tree) × Proves c tree e
+AreSaved-tree c [] [] n e all is = absurd (cc)
+AreSaved-tree c [] (d ∷ entries) n e all is = absurd all
+AreSaved-tree c (t ∷ trees) [] n e all is = absurd all
+AreSaved-tree c (t ∷ trees) (d ∷ entries) zero e all is =
+    let same : d ≡ e = cc in
+    (t, refl, subst (λ (x : Expression). Proves c t x) same all.0)
+AreSaved-tree c (t ∷ trees) (d ∷ entries) (suc n) e all is = AreSaved-tree c trees entries n e all.1 is
+
+-- what is built is put on any stack
+
+slice_get-last : (stack : List Expression) (e : Expression) → slice_get (stack ++ e ∷ []) (length (stack ++ e ∷ []) - 1) ≡ Some e
+slice_get-last stack e = ap (slice_get (stack ++ e ∷ [])) place ∙ at stack
   where
-    made : (e : Option Expression) → step_result c label (drop (length stack - n) stack) ≡ e → option_map (λ r. take (length stack - n) stack ++ r ∷ []) e ≡ Some next → Forms c (done ++ label ∷ []) next
+    place : length (stack ++ e ∷ []) - 1 ≡ length stack
+    place = omega (arith, length-append stack (e ∷ []))
+
+    at : (xs : List Expression) → slice_get (xs ++ e ∷ []) (length xs) ≡ Some e
+    at [] = refl
+    at (x ∷ xs) = at xs
+
+-- steps put results on a stack, and leave these trees saved
+record Puts (c : Context) (steps : List (Step Token)) (results entries : List Expression) (saved : List ProofTree) : Type 0 where
+  left : List Expression
+  are_saved : AreSaved c saved left
+  puts : (more : List (Step Token)) (stack : List Expression) → saving_after (stack_after_label c) (steps ++ more) (saving stack entries) ≡ saving_after (stack_after_label c) more (saving (stack ++ results) left)
+
+mutual
+  built-puts : (c : Context) (before : List ProofTree) (steps : List (Step Token)) (tree : ProofTree) (behind : List ProofTree) (result : Expression) (entries : List Expression) → Builds before steps tree behind → Proves c tree result → AreSaved c before entries → Puts c steps (result ∷ []) entries behind
+  built-puts c before steps tree behind result entries (by_label _ first label trees _ all) (given, leads, proves) are =
+      let below : Puts c first given entries behind = all_built-puts c before first trees behind given entries all proves are in
+      record {
+        left = below.left;
+        are_saved = below.are_saved;
+        puts = λ more stack.
+          ap (λ (ss : List (Step Token)). saving_after (stack_after_label c) ss (saving stack entries)) (append_assoc first (cites label ∷ []) more)
+          ∙ below.puts (cites label ∷ more) stack
+          ∙ ap (λ o. option_and_then (saving_after (stack_after_label c) more) (option_map (λ s. saving s below.left) o)) (label-complete c label stack given result leads);
+      }
+  built-puts c before steps tree behind result entries (by_saving _ first _ saved b) proves are =
+      let below : Puts c first (result ∷ []) entries saved = built-puts c before first tree saved result entries b proves are in
+      record {
+        left = below.left ++ result ∷ [];
+        are_saved = AreSaved-more c saved below.left tree result below.are_saved proves;
+        puts = λ more stack.
+          ap (λ (ss : List (Step Token)). saving_after (stack_after_label c) ss (saving stack entries)) (append_assoc first (saves ∷ []) more)
+          ∙ below.puts (saves ∷ more) stack
+          ∙ ap (λ o. option_and_then (saving_after (stack_after_label c) more) (option_map (λ e. saving (stack ++ result ∷ []) (below.left ++ e ∷ [])) o)) (slice_get-last stack result);
+      }
+  built-puts c before steps tree behind result entries (by_repeating _ n _ is) proves are =
+      let found : (e : Expression) × (slice_get entries n ≡ Some e) × Proves c tree e = AreSaved-entry c before entries n tree are is in
+      let same : found.0 ≡ result = Proves-one c tree found.0 result found.2 proves in
+      record {
+        left = entries;
+        are_saved = are;
+        puts = λ more stack.
+          ap (λ o. option_and_then (saving_after (stack_after_label c) more) (option_map (λ e. saving (stack ++ e ∷ []) entries) o)) (found.1 ∙ ap (λ (e : Expression). Some e) same);
+      }
+
+  all_built-puts : (c : Context) (before : List ProofTree) (steps : List (Step Token)) (trees : ProofForest) (behind : List ProofTree) (results entries : List Expression) → AllBuild before steps trees behind → AllProve c trees results → AreSaved c before entries → Puts c steps results entries behind
+  all_built-puts c before steps trees behind results entries (no_steps _) is are =
+      record {
+        left = entries;
+        are_saved = are;
+        puts = λ more stack. ap (λ (es : List Expression). saving_after (stack_after_label c) more (saving es entries)) (sym (ap (λ (es : List Expression). stack ++ es) is ∙ append-nil stack));
+      }
+  all_built-puts c before steps trees behind results entries (more_steps _ first tree middle rest last _ b all) (e, others, is, proves, all_prove) are =
+      let one : Puts c first (e ∷ []) entries middle = built-puts c before first tree middle e entries b proves are in
+      let next : Puts c rest others one.left behind = all_built-puts c middle rest last behind others one.left all all_prove one.are_saved in
+      record {
+        left = next.left;
+        are_saved = next.are_saved;
+        puts = λ more stack.
+          ap (λ (ss : List (Step Token)). saving_after (stack_after_label c) ss (saving stack entries)) (append_assoc first rest more)
+          ∙ one.puts (rest ++ more) stack
+          ∙ next.puts more (stack ++ e ∷ [])
+          ∙ ap (λ (es : List Expression). saving_after (stack_after_label c) more (saving es next.left)) (append_assoc stack (e ∷ []) others ∙ ap (λ (es : List Expression). stack ++ es) (sym is));
+      }
+
+pub stack_after-complete : (c : Context) (steps : List (Step Token)) (results : List Expression) → Forms c steps results → stack_after c steps ≡ Some results
+stack_after-complete c steps results w =
+    let puts : Puts c steps results [] w.saved = all_built-puts c [] steps w.forest w.saved results [] w.builds w.proves tt in
+    ap (option_map (λ s. s.stack)) (ap (λ (ss : List (Step Token)). saving_after (stack_after_label c) ss (saving [] [])) (sym (append-nil steps)) ∙ puts.puts [] [])
+
+-- what is on a stack is proved by a forest that the steps so far build
+
+record Built (c : Context) (done : List (Step Token)) (w : Saving Expression) : Type 0 where
+  forest : ProofForest
+  saved : List ProofTree
+  builds : AllBuild [] done forest saved
+  proves : AllProve c forest w.stack
+  are_saved : AreSaved c saved w.saved
+
+-- a label takes the last trees under a new node
+Built-label : (c : Context) (done : List (Step Token)) (label : Token) (k : ℕ) (w : Saving Expression) (result : Expression) → Built c done w → step_result c label (drop k w.stack) ≡ Some result → Built c (done ++ cites label ∷ []) (saving (take k w.stack ++ result ∷ []) w.saved)
+Built-label c done label k w result b gives =
+    let cut : Cut [] done (first_trees k b.forest) (last_trees k b.forest) b.saved = built-cut k [] done b.forest b.saved b.builds in
+    let node : ProofTree = proof_node label (last_trees k b.forest) in
+    record {
+      forest = with_trees (first_trees k b.forest) (more_proofs node no_proof);
+      saved = b.saved;
+      builds =
+          subst (λ (ss : List (Step Token)). AllBuild [] ss (with_trees (first_trees k b.forest) (more_proofs node no_proof)) b.saved)
+          (sym (append_assoc cut.first cut.rest (cites label ∷ [])) ∙ ap (λ (ss : List (Step Token)). ss ++ cites label ∷ []) cut.same)
+          (built-joined [] cut.first (first_trees k b.forest) cut.between (cut.rest ++ cites label ∷ []) (more_proofs node no_proof) b.saved cut.builds_front (built-one cut.between (cut.rest ++ cites label ∷ []) node b.saved (by_label cut.between cut.rest label (last_trees k b.forest) b.saved cut.builds_back)));
+      proves = AllProve-joined c (first_trees k b.forest) (more_proofs node no_proof) (take k w.stack) (result ∷ []) (AllProve-first c k b.forest w.stack b.proves) (result, [], refl, (drop k w.stack, step_result-sound c label (drop k w.stack) result gives, AllProve-last c k b.forest w.stack b.proves), refl);
+      are_saved = b.are_saved;
+    }
+
+-- `Z` saves the last tree
+
+drop-last : (xs : List Expression) (e : Expression) → slice_get xs (length xs - 1) ≡ Some e → drop (length xs - 1) xs ≡ e ∷ []
+drop-last [] e is = absurd (cc)
+drop-last (x ∷ []) e is =
+    let same : x ≡ e = cc in
+    ap (λ (y : Expression). y ∷ []) same
+drop-last (x ∷ (y ∷ ys)) e is =
+    let place : length (x ∷ (y ∷ ys)) - 1 ≡ suc (length (y ∷ ys) - 1) = omega arith in
+    ap (λ (n : ℕ). drop n (x ∷ (y ∷ ys))) place ∙ drop-last (y ∷ ys) e (sym (ap (slice_get (x ∷ (y ∷ ys))) place) ∙ is)
+
+take-drop : (n : ℕ) (xs : List Expression) → take n xs ++ drop n xs ≡ xs
+take-drop zero xs = refl
+take-drop (suc n) [] = refl
+take-drop (suc n) (x ∷ xs) = ap (λ (es : List Expression). x ∷ es) (take-drop n xs)
+
+saved-last : (c : Context) (done first rest : List (Step Token)) (front back : ProofForest) (between saved : List ProofTree) (stack entries given : List Expression) (e : Expression) → first ++ rest ≡ done → AllBuild [] first front between → AllBuild between rest back saved → AllProve c front given → AllProve c back (e ∷ []) → given ++ e ∷ [] ≡ stack → AreSaved c saved entries → Built c (done ++ saves ∷ []) (saving stack (entries ++ e ∷ []))
+saved-last c done first rest front no_proof between saved stack entries given e same begins ends proves none is are = absurd (cc)
+saved-last c done first rest front (more_proofs tree (more_proofs other trees)) between saved stack entries given e same begins ends proves (x, xs, one, p, (y, ys, two, q, all)) is are = absurd (cc)
+saved-last c done first rest front (more_proofs tree no_proof) between saved stack entries given e same begins ends proves (x, xs, one, p, none) is are =
+    let this : x ≡ e = cc in
+    let tree_proves : Proves c tree e = subst (λ (d : Expression). Proves c tree d) this p in
+    record {
+      forest = with_trees front (more_proofs tree no_proof);
+      saved = saved ++ tree ∷ [];
+      builds =
+          subst (λ (ss : List (Step Token)). AllBuild [] ss (with_trees front (more_proofs tree no_proof)) (saved ++ tree ∷ []))
+          (sym (append_assoc first rest (saves ∷ [])) ∙ ap (λ (ss : List (Step Token)). ss ++ saves ∷ []) same)
+          (built-joined [] first front between (rest ++ saves ∷ []) (more_proofs tree no_proof) (saved ++ tree ∷ []) begins (built-one between (rest ++ saves ∷ []) tree (saved ++ tree ∷ []) (by_saving between rest tree saved (one-built between rest tree saved ends))));
+      proves = subst (λ (es : List Expression). AllProve c (with_trees front (more_proofs tree no_proof)) es) is (AllProve-joined c front (more_proofs tree no_proof) given (e ∷ []) proves (e, [], refl, tree_proves, refl));
+      are_saved = AreSaved-more c saved entries tree e are tree_proves;
+    }
+
+Built-save : (c : Context) (done : List (Step Token)) (w : Saving Expression) (e : Expression) → Built c done w → slice_get w.stack (length w.stack - 1) ≡ Some e → Built c (done ++ saves ∷ []) (saving w.stack (w.saved ++ e ∷ []))
+Built-save c done w e b is =
+    let k : ℕ = length w.stack - 1 in
+    let cut : Cut [] done (first_trees k b.forest) (last_trees k b.forest) b.saved = built-cut k [] done b.forest b.saved b.builds in
+    let alone : drop k w.stack ≡ e ∷ [] = drop-last w.stack e is in
+    let last : AllProve c (last_trees k b.forest) (e ∷ []) = subst (λ (es : List Expression). AllProve c (last_trees k b.forest) es) alone (AllProve-last c k b.forest w.stack b.proves) in
+    let whole : take k w.stack ++ e ∷ [] ≡ w.stack = ap (λ (es : List Expression). take k w.stack ++ es) (sym alone) ∙ take-drop k w.stack in
+    saved-last c done cut.first cut.rest (first_trees k b.forest) (last_trees k b.forest) cut.between b.saved w.stack w.saved (take k w.stack) e cut.same cut.builds_front cut.builds_back (AllProve-first c k b.forest w.stack b.proves) last whole b.are_saved
+
+-- a saved tree is built again
+Built-repeat : (c : Context) (done : List (Step Token)) (n : ℕ) (w : Saving Expression) (e : Expression) → Built c done w → slice_get w.saved n ≡ Some e → Built c (done ++ repeats n ∷ []) (saving (w.stack ++ e ∷ []) w.saved)
+Built-repeat c done n w e b is =
+    let found : (tree : ProofTree) × (slice_get b.saved n ≡ Some tree) × Proves c tree e = AreSaved-tree c b.saved w.saved n e b.are_saved is in
+    record {
+      forest = with_trees b.forest (more_proofs found.0 no_proof);
+      saved = b.saved;
+      builds = built-joined [] done b.forest b.saved (repeats n ∷ []) (more_proofs found.0 no_proof) b.saved b.builds (built-one b.saved (repeats n ∷ []) found.0 b.saved (by_repeating b.saved n found.0 found.1));
+      proves = AllProve-joined c b.forest (more_proofs found.0 no_proof) w.stack (e ∷ []) b.proves (e, [], refl, found.2, refl);
+      are_saved = b.are_saved;
+    }
+
+Built-step : (c : Context) (done : List (Step Token)) (step : Step Token) (w next : Saving Expression) → Built c done w → saving_after_step (stack_after_label c) step w ≡ Some next → Built c (done ++ step ∷ []) next
+Built-step c done (cites label) w next b steps = fits (nat_le (arity c label) (length w.stack)) steps
+  where
+    k : ℕ
+    k = length w.stack - arity c label
+
+    made : (e : Option Expression) → step_result c label (drop k w.stack) ≡ e → option_map (λ s. saving s w.saved) (option_map (λ r. take k w.stack ++ r ∷ []) e) ≡ Some next → Built c (done ++ cites label ∷ []) next
     made None is h = absurd (cc)
     made (Some result) is h =
-        let same : take (length stack - n) stack ++ result ∷ [] ≡ next = cc in
-        subst (λ (es : List Expression). Forms c (done ++ label ∷ []) es) same (Forms-step c done label (length stack - n) stack result w is)
+        let same : saving (take k w.stack ++ result ∷ []) w.saved ≡ next = cc in
+        subst (λ (v : Saving Expression). Built c (done ++ cites label ∷ []) v) same (Built-label c done label k w result b is)
 
-    fits : (test : Bool) → (if test then option_map (λ r. take (length stack - n) stack ++ r ∷ []) (step_result c label (drop (length stack - n) stack)) else None) ≡ Some next → Forms c (done ++ label ∷ []) next
-    fits true h = made (step_result c label (drop (length stack - n) stack)) refl h
+    fits : (test : Bool) → option_map (λ s. saving s w.saved) (if test then option_map (λ r. take k w.stack ++ r ∷ []) (step_result c label (drop k w.stack)) else None) ≡ Some next → Built c (done ++ cites label ∷ []) next
+    fits true h = made (step_result c label (drop k w.stack)) refl h
     fits false h = absurd (cc)
-
-Forms-stack : (c : Context) (done labels : List Token) (stack results : List Expression) → Forms c done stack → stack_after c labels stack ≡ Some results → Forms c (done ++ labels) results
-Forms-stack c done [] stack results w steps =
-    let same : stack ≡ results = cc in
-    rw append-nil (subst (λ (es : List Expression). Forms c done es) same w)
-Forms-stack c done (label ∷ labels) stack results w steps = go (stack_after_step c label (arity c label) stack) refl steps (λ next made h. Forms-stack c (done ++ label ∷ []) labels next results made h)
+Built-step c done saves w next b steps = go (slice_get w.stack (length w.stack - 1)) refl steps
   where
-    go : (next : Option (List Expression)) → stack_after_step c label (arity c label) stack ≡ next → option_and_then (stack_after c labels) next ≡ Some results → ((stack' : List Expression) → Forms c (done ++ label ∷ []) stack' → stack_after c labels stack' ≡ Some results → Forms c ((done ++ label ∷ []) ++ labels) results) → Forms c (done ++ label ∷ labels) results
+    go : (o : Option Expression) → slice_get w.stack (length w.stack - 1) ≡ o → option_map (λ e. saving w.stack (w.saved ++ e ∷ [])) o ≡ Some next → Built c (done ++ saves ∷ []) next
+    go None is h = absurd (cc)
+    go (Some e) is h =
+        let same : saving w.stack (w.saved ++ e ∷ []) ≡ next = cc in
+        subst (λ (v : Saving Expression). Built c (done ++ saves ∷ []) v) same (Built-save c done w e b is)
+Built-step c done (repeats n) w next b steps = go (slice_get w.saved n) refl steps
+  where
+    go : (o : Option Expression) → slice_get w.saved n ≡ o → option_map (λ e. saving (w.stack ++ e ∷ []) w.saved) o ≡ Some next → Built c (done ++ repeats n ∷ []) next
+    go None is h = absurd (cc)
+    go (Some e) is h =
+        let same : saving (w.stack ++ e ∷ []) w.saved ≡ next = cc in
+        subst (λ (v : Saving Expression). Built c (done ++ repeats n ∷ []) v) same (Built-repeat c done n w e b is)
+
+Built-steps : (c : Context) (done steps : List (Step Token)) (w last : Saving Expression) → Built c done w → saving_after (stack_after_label c) steps w ≡ Some last → Built c (done ++ steps) last
+Built-steps c done [] w last b runs =
+    let same : w ≡ last = cc in
+    subst (λ (ss : List (Step Token)). Built c ss last) (sym (append-nil done)) (subst (λ (v : Saving Expression). Built c done v) same b)
+Built-steps c done (step ∷ steps) w last b runs =
+    go (saving_after_step (stack_after_label c) step w) refl runs (λ next made h. Built-steps c (done ++ step ∷ []) steps next last made h)
+  where
+    go : (o : Option (Saving Expression)) → saving_after_step (stack_after_label c) step w ≡ o → option_and_then (saving_after (stack_after_label c) steps) o ≡ Some last → ((next : Saving Expression) → Built c (done ++ step ∷ []) next → saving_after (stack_after_label c) steps next ≡ Some last → Built c ((done ++ step ∷ []) ++ steps) last) → Built c (done ++ step ∷ steps) last
     go None is h behind = absurd (cc)
     go (Some next) is h behind =
-        subst (λ (ls : List Token). Forms c ls results) (append_assoc done (label ∷ []) labels) (behind next (Forms-stack_step c done label (arity c label) stack next w is) h)
+        subst (λ (ss : List (Step Token)). Built c ss last) (append_assoc done (step ∷ []) steps) (behind next (Built-step c done step w next b is) h)
 
-pub stack_after-sound : (c : Context) (labels : List Token) (results : List Expression) → stack_after c labels [] ≡ Some results → Forms c labels results
-stack_after-sound c labels results steps =
-    Forms-stack c [] labels [] results (record { forest = no_proof; order = refl; proves = refl }) steps
-
-no_trees : (c : Context) (trees : ProofForest) → AllProve c trees [] → all_postorder trees ≡ []
-no_trees c no_proof h = refl
-no_trees c (more_proofs tree trees) (first, rest, is, proves, all) = absurd (cc)
-
--- a forest of one expression is a tree of it
-pub IsProof-Forms : (c : Context) (labels : List Token) (result : Expression) → Forms c labels (result ∷ []) → IsProof c labels result
-IsProof-Forms c labels result w = go w.forest w.order w.proves
+pub stack_after-sound : (c : Context) (steps : List (Step Token)) (results : List Expression) → stack_after c steps ≡ Some results → Forms c steps results
+stack_after-sound c steps results runs = go (saving_after (stack_after_label c) steps (saving [] [])) refl runs
   where
-    go : (trees : ProofForest) → all_postorder trees ≡ labels → AllProve c trees (result ∷ []) → IsProof c labels result
-    go no_proof order h = absurd (cc)
-    go (more_proofs tree trees) order (first, rest, is, proves, all) =
-        let none : [] ≡ rest = cc in
-        let same : first ≡ result = cc in
-        let last : all_postorder trees ≡ [] = no_trees c trees (rw none all) in
-        record { tree = tree; order = sym (append-nil (postorder tree)) ∙ ap (λ ls. postorder tree ++ ls) (sym last) ∙ order; proves = subst (λ (e : Expression). Proves c tree e) same proves }
-
-pub Forms-IsProof : (c : Context) (labels : List Token) (result : Expression) → IsProof c labels result → Forms c labels (result ∷ [])
-Forms-IsProof c labels result w = record {
-  forest = more_proofs w.tree no_proof;
-  order = append-nil (postorder w.tree) ∙ w.order;
-  proves = (result, [], refl, w.proves, refl);
-}
+    go : (o : Option (Saving Expression)) → saving_after (stack_after_label c) steps (saving [] []) ≡ o → option_map (λ w. w.stack) o ≡ Some results → Forms c steps results
+    go None is h = absurd (cc)
+    go (Some w) is h =
+        let b : Built c steps w = Built-steps c [] steps (saving [] []) w (record { forest = no_proof; saved = []; builds = no_steps []; proves = refl; are_saved = tt }) is in
+        let same : w.stack ≡ results = cc in
+        record { forest = b.forest; saved = b.saved; builds = b.builds; proves = subst (λ (es : List Expression). AllProve c b.forest es) same b.proves }

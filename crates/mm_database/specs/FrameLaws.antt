@@ -1,24 +1,29 @@
 -- Laws on databases and proofs.
-use Rattle.std.specs.Prelude.{◌≡◌, ◌↔◌, ℕ, ◌+◌, Bool, true, false, not, List, [], ◌∷◌, ◌++◌, length, flat_map, Some, None, codes}
+use Rattle.std.specs.Prelude.{◌≡◌, ◌↔◌, ℕ, ◌+◌, Bool, true, false, not, List, [], ◌∷◌, ◌++◌, length, map, flat_map, Some, None, codes}
 use Rattle.std.specs.List.{list_all}
 use Rattle.mm_text.specs.Bytes.{Token}
 use Rattle.mm_text.specs.Statements.{Statement, Statements, next_statement, statement, statements_from, statements_of}
 use Rattle.mm_text.specs.TextLaws.{ends_white, is_plain_token, is_one_statement, written}
 use Rattle.mm_text.specs.declared.fault.MmFault.{MmFault}
 use Rattle.mm_database.specs.Forms.{Keyword, declares_constants, declares_variables, types_variable, assumes, separates, asserts, proves, plain, form_of, has_dollar}
-use Rattle.mm_database.specs.Frames.{Frame}
 use Rattle.mm_database.specs.Database.{Context, empty_context, context_after, active_at}
 use Rattle.mm_database.specs.Assertions.{assertions_in, assertions_of, typings_in, typings_of}
-use Rattle.mm_database.specs.Proofs.{Expression, Forms}
-use Rattle.mm_database.specs.Expansion.{Step, arity, compressed_steps, expansion}
-use Rattle.mm_database.specs.Stack.{stack_after, compressed_stack}
+use Rattle.mm_database.specs.Proofs.{Expression, ProofTree, ProofForest, all_postorder}
+use Rattle.mm_database.specs.Steps.{Step, cites, AllBuild, Forms}
+use Rattle.mm_database.specs.Stack.{stack_after}
 use Rattle.mm_database.specs.Validity.{statement_fault, IsFine, AreFine, IsValid, IsFirstFault, first_fault}
 
--- a stack accepts just the labels that are the postorder of a forest, and is left with what it proves
+-- steps that only cite labels build just the forest of which these are the postorder
+abbrev pub LabelsArePostorder : Type 0
+LabelsArePostorder =
+    (labels : List Token) (forest : ProofForest) (saved : List ProofTree) →
+    AllBuild [] (map (λ label. cites label) labels) forest saved ↔ ((all_postorder forest ≡ labels) × (saved ≡ []))
+
+-- a stack accepts just the steps that build a forest, and is left with what it proves
 abbrev pub StacksAreForests : Type 0
 StacksAreForests =
-    (c : Context) (labels : List Token) (results : List Expression) →
-    (stack_after c labels [] ≡ Some results) ↔ Forms c labels results
+    (c : Context) (steps : List (Step Token)) (results : List Expression) →
+    (stack_after c steps ≡ Some results) ↔ Forms c steps results
 
 -- a text is valid just where no fault is computed
 abbrev pub ValidIsFaultless : Type 0
@@ -43,13 +48,6 @@ FineWhereActive =
     (bytes : List ℕ) (before : List Statement) (s : Statement) (rest : Statements) → IsValid bytes →
     statements_of bytes ≡ in_front before (next_statement s rest) →
     IsFine (active_at before) s.tokens
-
--- a compressed proof with entries saved does what its expansion does
-abbrev pub SavingIsExpanding : Type 0
-SavingIsExpanding =
-    (c : Context) (f : Frame) (listed : List Token) (letters : List ℕ) (steps : List Step) →
-    compressed_steps f listed letters ≡ Some steps →
-    compressed_stack c steps ≡ stack_after c (expansion (arity c) steps) []
 
 -- what is appended to a text without fault is judged from the context that the text leaves
 abbrev pub AppendedIsFine : Type 0

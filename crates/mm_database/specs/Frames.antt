@@ -4,16 +4,20 @@ use Rattle.std.specs.Prelude.{Bool, true, false, ◌&&◌, ◌||◌, List, [], �
 use Rattle.std.specs.List.{list_any}
 use Rattle.mm_text.specs.Bytes.{Token, has_token}
 
--- a `$f` with its label, typecode and variable, or a `$e` with its label and statement
-pub data Hypothesis : Type 0 where
-  floating : Token → Token → Token → Hypothesis
-  essential : Token → List Token → Hypothesis
+-- A `$f` with its label, typecode and variable, or a `$e` with its label and statement. Symbols are
+-- tokens, or the numbers that a verifier gives to them.
+pub data HypothesisOver (A : Type 0) : Type 0 where
+  floating : Token → A → A → HypothesisOver A
+  essential : Token → List A → HypothesisOver A
 
-abbrev pub label_of : Hypothesis → Token
+abbrev pub Hypothesis : Type 0
+Hypothesis = HypothesisOver Token
+
+abbrev pub label_of : {A : Type 0} → HypothesisOver A → Token
 label_of (floating label typecode variable) = label
 label_of (essential label statement) = label
 
-abbrev pub statement_of : Hypothesis → List Token
+abbrev pub statement_of : {A : Type 0} → HypothesisOver A → List A
 statement_of (floating label typecode variable) = typecode ∷ (variable ∷ [])
 statement_of (essential label statement) = statement
 
@@ -24,11 +28,14 @@ pub record Scope : Type 0 where
   pub hypotheses : List Hypothesis
   pub apart : Token → Token → Bool
 
-pub record Frame : Type 0 where
+pub record FrameOver (A : Type 0) : Type 0 where
   pub label : Token
-  pub hypotheses : List Hypothesis
-  pub apart : Token → Token → Bool
-  pub statement : List Token
+  pub hypotheses : List (HypothesisOver A)
+  pub apart : A → A → Bool
+  pub statement : List A
+
+abbrev pub Frame : Type 0
+Frame = FrameOver Token
 
 -- the hypothesis types this variable
 abbrev pub types : Token → Hypothesis → Bool

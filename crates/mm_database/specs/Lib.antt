@@ -2,7 +2,8 @@ pub mod Forms
 pub mod Frames
 pub mod Database
 pub mod Proofs
-pub mod Expansion
+pub mod Steps
+pub mod ProofText
 pub mod Stack
 pub mod Validity
 pub mod Cases
@@ -10,4 +11,3 @@ pub mod FrameLaws
 pub mod Assertions
 pub mod Writing
 pub mod Orderly
-pub mod Sharing

@@ -5,7 +5,7 @@
 use Rattle.std.specs.Prelude.{◌≡◌, Bool, true, false, not, ◌&&◌, ◌||◌, if◌then◌else◌, List, [], ◌∷◌, ◌++◌, map, flat_map, Option, Some, None, bytes_eq}
 use Rattle.std.specs.List.{list_any, list_all}
 use Rattle.mm_text.specs.Bytes.{Token}
-use Rattle.mm_database.specs.Frames.{Hypothesis, floating, essential, label_of, statement_of, Frame, types}
+use Rattle.mm_database.specs.Frames.{HypothesisOver, Hypothesis, floating, essential, label_of, statement_of, FrameOver, Frame, types}
 use Rattle.mm_database.specs.Database.{Context}
 
 -- a list of symbols that a step of a proof gives
@@ -13,34 +13,44 @@ abbrev pub Expression : Type 0
 Expression = List Token
 
 -- symbols with the texts that a substitution gives them
-abbrev pub substituted : (Token → Expression) → Expression → Expression
+abbrev pub substituted : {A : Type 0} → (A → List A) → List A → List A
 substituted sigma symbols = flat_map sigma symbols
 
 -- what a hypothesis asks for under a substitution
-abbrev pub instance_of : (Token → Expression) → Hypothesis → Expression
+abbrev pub instance_of : {A : Type 0} → (A → List A) → HypothesisOver A → List A
 instance_of sigma (floating label typecode variable) = typecode ∷ sigma variable
 instance_of sigma (essential label statement) = substituted sigma statement
 
 -- the variables that hypotheses type
-abbrev pub typed_variables : List Hypothesis → List Token
+abbrev pub typed_variables : {A : Type 0} → List (HypothesisOver A) → List A
 typed_variables [] = []
 typed_variables (floating label typecode variable ∷ hypotheses) = variable ∷ typed_variables hypotheses
 typed_variables (essential label statement ∷ hypotheses) = typed_variables hypotheses
 
--- no two variables, one from each text, are one or lack an active `$d`
+-- each two symbols, one from each text, are kept apart
+abbrev pub are_apart : {A : Type 0} → (A → A → Bool) → List A → List A → Bool
+are_apart apart xs ys = list_all (λ x. list_all (apart x) ys) xs
+
+-- the texts of a pair that has to stay apart do so
+abbrev pub is_pair_apart : {A : Type 0} → (A → A → Bool) → FrameOver A → (A → List A) → A → A → Bool
+is_pair_apart apart f sigma a b = not (f.apart a b) || are_apart apart (sigma a) (sigma b)
+
+abbrev pub are_pairs_apart : {A : Type 0} → (A → A → Bool) → FrameOver A → (A → List A) → Bool
+are_pairs_apart apart f sigma =
+    list_all (λ a. list_all (is_pair_apart apart f sigma a) (typed_variables f.hypotheses)) (typed_variables f.hypotheses)
+
+-- two variables are not one, and have an active `$d`
 abbrev pub symbols_apart : Context → Token → Token → Bool
 symbols_apart c x y = not (c.variables x && c.variables y) || (not (bytes_eq x y) && c.scope.apart x y)
 
 abbrev pub texts_apart : Context → Expression → Expression → Bool
-texts_apart c xs ys = list_all (λ x. list_all (symbols_apart c x) ys) xs
+texts_apart c xs ys = are_apart (symbols_apart c) xs ys
 
--- the texts of a pair that has to stay apart do so
 abbrev pub pair_apart : Context → Frame → (Token → Expression) → Token → Token → Bool
-pair_apart c f sigma a b = not (f.apart a b) || texts_apart c (sigma a) (sigma b)
+pair_apart c f sigma a b = is_pair_apart (symbols_apart c) f sigma a b
 
 abbrev pub keeps_apart : Context → Frame → (Token → Expression) → Bool
-keeps_apart c f sigma =
-    list_all (λ a. list_all (pair_apart c f sigma a) (typed_variables f.hypotheses)) (typed_variables f.hypotheses)
+keeps_apart c f sigma = are_pairs_apart (symbols_apart c) f sigma
 
 -- An assertion leads from expressions to one under a substitution, which changes only the variables
 -- that the assertion's mandatory hypotheses type.
@@ -91,12 +101,6 @@ abbrev mutual
   pub all_postorder : ProofForest → List Token
   all_postorder no_proof = []
   all_postorder (more_proofs tree trees) = postorder tree ++ all_postorder trees
-
--- the labels are the postorder of a forest that proves these expressions
-pub record Forms (c : Context) (labels : List Token) (results : List Expression) : Type 0 where
-  pub forest : ProofForest
-  pub order : all_postorder forest ≡ labels
-  pub proves : AllProve c forest results
 
 -- the labels are the postorder of a tree that proves the expression
 pub record IsProof (c : Context) (labels : List Token) (result : Expression) : Type 0 where

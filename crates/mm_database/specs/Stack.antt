@@ -5,7 +5,7 @@ use Rattle.mm_text.specs.Bytes.{Token}
 use Rattle.mm_database.specs.Frames.{Hypothesis, floating, essential, statement_of, Frame}
 use Rattle.mm_database.specs.Database.{Context}
 use Rattle.mm_database.specs.Proofs.{Expression, substituted, instance_of, keeps_apart, active_hypothesis}
-use Rattle.mm_database.specs.Expansion.{arity, Step, cites, saves, repeats}
+use Rattle.mm_database.specs.Steps.{Step, cites, saves, repeats}
 
 abbrev pub same_expression : Expression → Expression → Bool
 same_expression = pointwise bytes_eq
@@ -62,40 +62,54 @@ label_result c None frame entries = assertion_result c frame entries
 abbrev pub step_result : Context → Token → List Expression → Option Expression
 step_result c label entries = label_result c (active_hypothesis c label) (c.frames label) entries
 
--- the n last entries give way to what the label gives from them
-abbrev pub stack_after_step : Context → Token → ℕ → List Expression → Option (List Expression)
-stack_after_step c label n stack =
+-- how many entries a label takes: as many as its assertion has mandatory hypotheses
+abbrev pub frame_arity : Option Frame → ℕ
+frame_arity None = 0
+frame_arity (Some f) = length f.hypotheses
+
+abbrev pub label_arity : Option Hypothesis → Option Frame → ℕ
+label_arity None frame = frame_arity frame
+label_arity (Some h) frame = 0
+
+abbrev pub arity : Context → Token → ℕ
+arity c label = label_arity (active_hypothesis c label) (c.frames label)
+
+-- the n last entries give way to what is made of them, where there are so many
+abbrev pub stack_with : {E : Type 0} → (List E → Option E) → ℕ → List E → Option (List E)
+stack_with result n stack =
     if nat_le n (length stack)
-    then option_map (λ e. take (length stack - n) stack ++ e ∷ []) (step_result c label (drop (length stack - n) stack))
+    then option_map (λ e. take (length stack - n) stack ++ e ∷ []) (result (drop (length stack - n) stack))
     else None
 
--- the stack behind some labels, where each step fits
-abbrev pub stack_after : Context → List Token → List Expression → Option (List Expression)
-stack_after c [] stack = Some stack
-stack_after c (label ∷ labels) stack =
-    option_and_then (stack_after c labels) (stack_after_step c label (arity c label) stack)
+-- the stack behind a label
+abbrev pub stack_after_label : Context → Token → List Expression → Option (List Expression)
+stack_after_label c label stack = stack_with (step_result c label) (arity c label) stack
 
--- A compressed proof computed without its expansion: the stack, and the entries that are saved.
-pub record Saving : Type 0 where
-  pub stack : List Expression
-  pub saved : List Expression
+-- a stack, and the entries that are saved
+pub record Saving (E : Type 0) : Type 0 where
+  pub stack : List E
+  pub saved : List E
 
-abbrev pub saving : List Expression → List Expression → Saving
+abbrev pub saving : {E : Type 0} → List E → List E → Saving E
 saving stack saved = record { stack = stack; saved = saved }
 
--- a step saves the last entry, or puts a saved one on the stack again
-abbrev pub saving_after_step : Context → Step → Saving → Option Saving
-saving_after_step c (cites label) w =
-    option_map (λ s. saving s w.saved) (stack_after_step c label (arity c label) w.stack)
-saving_after_step c saves w =
+-- A step changes the stack by what it cites, saves the last entry, or puts a saved one on the stack
+-- again.
+abbrev pub saving_after_step : {A E : Type 0} → (A → List E → Option (List E)) → Step A → Saving E → Option (Saving E)
+saving_after_step cited (cites x) w = option_map (λ s. saving s w.saved) (cited x w.stack)
+saving_after_step cited saves w =
     option_map (λ e. saving w.stack (w.saved ++ e ∷ [])) (slice_get w.stack (length w.stack - 1))
-saving_after_step c (repeats n) w =
+saving_after_step cited (repeats n) w =
     option_map (λ e. saving (w.stack ++ e ∷ []) w.saved) (slice_get w.saved n)
 
-abbrev pub saving_after : Context → List Step → Saving → Option Saving
-saving_after c [] w = Some w
-saving_after c (step ∷ steps) w = option_and_then (saving_after c steps) (saving_after_step c step w)
+abbrev pub saving_after : {A E : Type 0} → (A → List E → Option (List E)) → List (Step A) → Saving E → Option (Saving E)
+saving_after cited [] w = Some w
+saving_after cited (step ∷ steps) w = option_and_then (saving_after cited steps) (saving_after_step cited step w)
 
--- the stack behind the steps of a compressed proof
-abbrev pub compressed_stack : Context → List Step → Option (List Expression)
-compressed_stack c steps = option_map (λ w. w.stack) (saving_after c steps (saving [] []))
+-- the stack that steps leave, where each fits
+abbrev pub stack_left : {A E : Type 0} → (A → List E → Option (List E)) → List (Step A) → Option (List E)
+stack_left cited steps = option_map (λ w. w.stack) (saving_after cited steps (saving [] []))
+
+-- the stack behind the steps of a proof
+abbrev pub stack_after : Context → List (Step Token) → Option (List Expression)
+stack_after c steps = stack_left (stack_after_label c) steps

@@ -3,7 +3,7 @@
 -- kind. A block that is not closed is looked at behind all other faults.
 use Rattle.std.specs.Prelude.{◌≡◌, ℕ, Bool, true, false, not, ◌&&◌, ◌||◌, ◌⊎◌, if◌then◌else◌, List, [], ◌∷◌, Option, Some, None, IfSome, is_none, option_map}
 use Rattle.std.specs.List.{list_any, list_all}
-use Rattle.mm_text.specs.Bytes.{Token}
+use Rattle.mm_text.specs.Bytes.{Token, has_repeated}
 use Rattle.mm_text.specs.Labels.{is_label}
 use Rattle.mm_text.specs.FaultKinds.{bad_keyword, inner_constant, redeclared, not_active, bad_typecode, second_float, bad_disjoint, bad_scope, bad_label, bad_proof_text, bad_step, bad_conclusion, fault}
 use Rattle.mm_text.specs.Statements.{Statements, no_statement, unended, bad_statement, next_statement, statements_of}
@@ -11,8 +11,9 @@ use Rattle.mm_text.specs.declared.fault.MmFault.{MmFault}
 use Rattle.mm_database.specs.Forms.{Keyword, declares_constants, declares_variables, types_variable, separates, proves, Form, block_start, block_end, plain, form_of, is_nil}
 use Rattle.mm_database.specs.Frames.{types, Frame, frame_of}
 use Rattle.mm_database.specs.Database.{Block, Context, empty_context, context_after, first_label}
-use Rattle.mm_database.specs.Proofs.{Expression, Forms, IsProof}
-use Rattle.mm_database.specs.Expansion.{has_repeated, labels_of}
+use Rattle.mm_database.specs.Proofs.{Expression}
+use Rattle.mm_database.specs.Steps.{Step, Forms}
+use Rattle.mm_database.specs.ProofText.{proof_steps}
 use Rattle.mm_database.specs.Stack.{same_expressions, stack_after}
 
 -- an active `$f` types the symbol
@@ -104,14 +105,14 @@ is_mislabelled c declares_variables labels = not (is_nil labels)
 is_mislabelled c separates labels = not (is_nil labels)
 is_mislabelled c keyword labels = not (has_one_label c labels)
 
--- what a `$p` has to prove, and the labels of its proof, if its text names some
+-- what a `$p` has to prove, and the steps of its proof, if its text says some
 pub record Task : Type 0 where
   pub conclusion : Expression
-  pub steps : List Token
+  pub steps : List (Step Token)
 
 abbrev pub task_of : Context → Frame → List Token → Option Task
 task_of c f proof =
-    option_map (λ labels. record { conclusion = f.statement; steps = labels }) (labels_of c f proof)
+    option_map (λ ss. record { conclusion = f.statement; steps = ss }) (proof_steps c f proof)
 
 abbrev pub theorem_task : Context → List Token → List Token → List Token → Option Task
 theorem_task c labels symbols proof = task_of c (frame_of c.scope (first_label labels) symbols) proof
@@ -165,11 +166,11 @@ or_else (Some kind) other = Some kind
 abbrev pub form_fault : Context → Option Form → Option ℕ
 form_fault c form = or_else (declaration_fault c form) (proof_text_fault c form)
 
--- the labels are the postorder of no forest
+-- the steps build no forest that proves something
 abbrev pub HasBadStep : Context → Task → Type 0
 HasBadStep c t = (results : List Expression) → Forms c t.steps results → ⊥
 
--- the labels are the postorder of a forest, which is not one tree of the statement
+-- the steps build a forest that proves something, and not the statement alone
 pub record HasBadConclusion (c : Context) (t : Task) : Type 0 where
   pub results : List Expression
   pub forms : Forms c t.steps results
@@ -181,10 +182,10 @@ pub data IsFaulty (c : Context) (tokens : List Token) : ℕ → Type 0 where
   by_step : (t : Task) → form_fault c (form_of tokens) ≡ None → task c (form_of tokens) ≡ Some t → HasBadStep c t → IsFaulty c tokens bad_step
   by_conclusion : (t : Task) → form_fault c (form_of tokens) ≡ None → task c (form_of tokens) ≡ Some t → HasBadConclusion c t → IsFaulty c tokens bad_conclusion
 
--- the statement has no fault
+-- the statement has no fault: its proof, if it has one, builds one tree, of what it states
 pub record IsFine (c : Context) (tokens : List Token) : Type 0 where
   pub form : form_fault c (form_of tokens) ≡ None
-  pub proof : IfSome (task c (form_of tokens)) (λ t. IsProof c t.steps t.conclusion)
+  pub proof : IfSome (task c (form_of tokens)) (λ t. Forms c t.steps (t.conclusion ∷ []))
 
 -- the statements have no fault from one context on, and leave another
 abbrev pub AreFine : Context → Statements → Context → Type 0
@@ -226,7 +227,7 @@ stack_fault conclusion (Some stack) =
 
 abbrev pub task_fault : Context → Option Task → Option ℕ
 task_fault c None = None
-task_fault c (Some t) = stack_fault t.conclusion (stack_after c t.steps [])
+task_fault c (Some t) = stack_fault t.conclusion (stack_after c t.steps)
 
 abbrev pub statement_fault : Context → List Token → Option ℕ
 statement_fault c tokens =

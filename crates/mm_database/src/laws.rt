@@ -1,8 +1,7 @@
 // Laws on the definitions, and the definitions tried on small texts.
 ghost use Rattle.mm_database.specs.Cases.{TriedCases};
-ghost use Rattle.mm_database.specs.FrameLaws.{AppendedIsFine, AppendedStates, FaultlessIsFine, FineWhereActive, FirstFaultIsComputed, PlainTokensSay, ProofTokensSay, SavingIsExpanding, StacksAreForests, ValidIsFaultless, WrittenIsFine};
+ghost use Rattle.mm_database.specs.FrameLaws.{AppendedIsFine, AppendedStates, FaultlessIsFine, FineWhereActive, FirstFaultIsComputed, LabelsArePostorder, PlainTokensSay, ProofTokensSay, StacksAreForests, ValidIsFaultless, WrittenIsFine};
 ghost use Rattle.mm_database.specs.Orderly.{EmptyIsOrderly, OrderlyAfter};
-ghost use Rattle.mm_database.specs.Sharing.{SharingIsExact};
 ghost use Rattle.mm_database.specs.Writing.{AxiomIsFine, ClosedHasNone, ContinuedLeaves, LeavesIsValid, TheoremIsFine};
 
 /// The definitions say of some small texts what the Metamath book says of them: which are valid, and
@@ -11,13 +10,12 @@ pub fn tried()
     ensures cases { TriedCases }
 {}
 
-/// A stack accepts just the proofs that the definitions call proofs, also with saved entries in the
-/// place of an expansion, and the first fault can be computed with it. In a database without fault each
+/// The steps of a normal proof build just the trees of which they are the postorder. A stack accepts just
+/// the steps that build trees, and the first fault can be computed with it. In a database without fault each
 /// variable has one type.
 pub fn proof_laws()
+    ensures labels { LabelsArePostorder }
     ensures stacks { StacksAreForests }
-    ensures saving { SavingIsExpanding }
-    ensures sharing { SharingIsExact }
     ensures valid { ValidIsFaultless }
     ensures fine { FaultlessIsFine }
     ensures active { FineWhereActive }

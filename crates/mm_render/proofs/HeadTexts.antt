@@ -6,9 +6,9 @@ use Rattle.mm_text.specs.Bytes.{Token}
 use Rattle.mm_text.specs.TextLaws.{written}
 use Rattle.mm_database.specs.FrameLaws.{written_statements}
 use Rattle.ml_pat.specs.Patterns.{Pattern}
-use Rattle.mm_render.specs.Variables.{Variable, object_variable, pattern_variable, is_object, variable_token, variable_tokens, object_tokens, are_several}
-use Rattle.mm_render.specs.Blocks.{variable_statements, separations, separation_statements, premise_statements}
 use Rattle.mm_render.specs.declared.variables.Variable as code
+use Rattle.mm_claims.specs.Variables.{Variable, object_variable, pattern_variable, is_object, variable_token, variable_tokens, object_tokens, are_several}
+use Rattle.mm_claims.specs.Blocks.{variable_statements, separations, separation_statements, premise_statements}
 use Rattle.mm_render.specs.VariablesView.{plain_variables, variable_of}
 use Rattle.mm_render.specs.HeadText.{separation, pattern_separations}
 

@@ -5,10 +5,10 @@ use Rattle.std.proofs.lemmas.Bool.{false≢true}
 use Rattle.std.proofs.lemmas.Grind.{flat_map-append}
 use Rattle.std.specs.Borrow.{Bor}
 use Rattle.ml_pat.specs.Patterns.{Pattern, bot, top, imp, not, and, or, equal, member, fun, ex, all, app, at_sort, next, ev, var, meta, constant, forms_in}
-use Rattle.mm_render.specs.Keys.{numbers, bytes_within, number_bytes, all_bytes, pattern_key, statement_key}
-use Rattle.mm_render.specs.PlaceTable.{all_numbers, FormIsAdded}
 use Rattle.mm_proof.specs.Searching.{all_forms, patterns_of}
 use Rattle.mm_proof.proofs.Looking.{all_forms-push}
+use Rattle.mm_render.specs.Keys.{numbers, bytes_within, number_bytes, all_bytes, pattern_key, statement_key}
+use Rattle.mm_render.specs.PlaceTable.{all_numbers, FormIsAdded}
 
 -- reading numbers from behind
 

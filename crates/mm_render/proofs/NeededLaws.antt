@@ -5,13 +5,14 @@ use Rattle.std.specs.Borrow.{Bor}
 use Rattle.ml_pat.specs.Patterns.{Pattern}
 use Rattle.ml_kernel.specs.StepsIn.{steps_in, all_steps}
 use Rattle.ml_kernel.specs.Theorems.{Derivation, Derivations, more_derivations}
-use Rattle.mm_render.specs.Variables.{Variable, has_variable, AreNumbered}
+use Rattle.mm_claims.specs.Variables.{Variable, has_variable, AreNumbered}
 use Rattle.mm_render.specs.VariablesView.{HaveNumbers}
-use Rattle.mm_render.specs.Blocks.{Claim}
-use Rattle.mm_render.specs.ClaimVariables.{added}
-use Rattle.mm_render.specs.OpenVariables.{variables_of, all_variables_of}
+use Rattle.mm_claims.specs.Blocks.{Claim}
+use Rattle.mm_claims.specs.ClaimVariables.{added}
+use Rattle.mm_claims.specs.OpenVariables.{variables_of, all_variables_of}
 use Rattle.mm_render.specs.NeededView.{stack_needs, stack_steps, PutsDerivations, StepIsTaken}
-use Rattle.mm_render.proofs.AddedVariables.{added-append, among_added, are_numbered}
+use Rattle.mm_claims.proofs.AddedVariables.{added-append, among_added}
+use Rattle.mm_render.proofs.StackedVariables.{are_numbered}
 
 -- derivations on a stack
 

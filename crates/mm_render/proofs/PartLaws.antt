@@ -11,10 +11,6 @@ use Rattle.ml_kernel.specs.StepsIn.{steps_in, all_steps}
 use Rattle.mm_proof.specs.Trees.{cite, fresh_tree, pattern_at, variable_at}
 use Rattle.mm_proof.specs.Labels.{own_labels, statement_label}
 use Rattle.mm_proof.specs.RowLabels.{all_labels, instance_labels, trees_before, trees_behind}
-use Rattle.mm_render.specs.Variables.{Variable}
-use Rattle.mm_render.specs.Blocks.{Claim}
-use Rattle.mm_render.specs.CitedAt.{variable_tree, claim_at, claims_citing}
-use Rattle.mm_render.specs.Parts.{part_tokens, parts_tokens, part_weight, parts_weight, proof_of, proofs_of, PutsParts, PartIsTaken, rest_of_citation, rest_of_row, value_labels}
 use Rattle.mm_proof.specs.Derivations.{Citing, derivation_trees}
 use Rattle.mm_proof.proofs.RowLabelLaws.{cite_labels, row_labels}
 use Rattle.mm_proof.proofs.WrittenTogether.{written-append}
@@ -23,6 +19,10 @@ use Rattle.mm_proof.specs.declared.words.Word.TheVariants as word
 use Rattle.mm_proof.specs.declared.works.Work.TheVariants as work
 use Rattle.mm_render.specs.declared.derivations.Part.{Part}
 use Rattle.mm_render.specs.declared.derivations.Part.TheVariants as part
+use Rattle.mm_claims.specs.Variables.{Variable}
+use Rattle.mm_claims.specs.Blocks.{Claim}
+use Rattle.mm_claims.specs.CitedAt.{variable_tree, claim_at, claims_citing}
+use Rattle.mm_render.specs.Parts.{part_tokens, parts_tokens, part_weight, parts_weight, proof_of, proofs_of, PutsParts, PartIsTaken, rest_of_citation, rest_of_row, value_labels}
 
 pub parts_tokens-push : (names : List Token) (k : ℕ) (s : Citing) (ps : List Part) (p : Part) → parts_tokens names k s (ps ++ p ∷ []) ≡ part_tokens names k s p ++ parts_tokens names k s ps
 parts_tokens-push names k s [] p = sym (append-nil (part_tokens names k s p))

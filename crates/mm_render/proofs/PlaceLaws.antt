@@ -12,9 +12,10 @@ use Rattle.std.proofs.lemmas.List.Elements.{Contains-push_cases}
 use Rattle.std.proofs.lemmas.Map.Text.{is_eq-slice_cmp}
 use Rattle.std.proofs.lemmas.Slice.Eq.{bytes_eq-Decides}
 use Rattle.ml_pat.specs.Patterns.{Pattern}
-use Rattle.mm_render.specs.Blocks.{Claim}
-use Rattle.mm_render.specs.CitedAt.{ArePremises}
-use Rattle.mm_render.specs.Places.{place_by, premise_place_by, Places, StandsAt}
+use Rattle.mm_claims.specs.Blocks.{Claim}
+use Rattle.mm_claims.specs.CitedAt.{ArePremises}
+use Rattle.mm_render.specs.KeyPlaces.{place_by, premise_place_by}
+use Rattle.mm_claims.specs.Places.{Places, StandsAt}
 use Rattle.mm_render.specs.Keys.{pattern_key, statement_key}
 use Rattle.mm_render.specs.PlaceTable.{found_in}
 use Rattle.mm_render.proofs.KeyLaws.{key_same, hypotheses_same, conclusion_same}

@@ -3,9 +3,9 @@ use Rattle.std.specs.Prelude.{◌≡◌, ℕ, not, List, [], ◌∷◌, ◌++◌
 use Rattle.mm_text.specs.Bytes.{Token}
 use Rattle.mm_database.specs.Forms.{separates}
 use Rattle.mm_database.specs.FrameLaws.{plain_tokens}
-use Rattle.mm_render.specs.Variables.{Variable, is_object, variable_token}
 use Rattle.mm_proof.specs.Writing.{word_token}
 use Rattle.mm_proof.specs.declared.words.Word.{Word}
+use Rattle.mm_claims.specs.Variables.{Variable, is_object, variable_token}
 
 -- a word has this token, with all names and in each block
 abbrev pub IsWordOf : (ℕ → Token) → Word → Type 0

@@ -4,10 +4,10 @@ use Rattle.std.specs.Borrow.{Bor}
 use Rattle.ml_pat.specs.Patterns.{Pattern}
 use Rattle.ml_kernel.specs.StepsIn.{steps_in, all_steps}
 use Rattle.ml_kernel.specs.Theorems.{Derivation, Derivations}
-use Rattle.mm_render.specs.Variables.{Variable}
-use Rattle.mm_render.specs.Blocks.{Claim}
-use Rattle.mm_render.specs.OpenVariables.{variables_of, all_variables_of}
-use Rattle.mm_render.specs.ClaimVariables.{added}
+use Rattle.mm_claims.specs.Variables.{Variable}
+use Rattle.mm_claims.specs.Blocks.{Claim}
+use Rattle.mm_claims.specs.OpenVariables.{variables_of, all_variables_of}
+use Rattle.mm_claims.specs.ClaimVariables.{added}
 
 -- the variables of the derivations on a stack, the top last, and their steps
 abbrev pub stack_needs : List Claim → (List Pattern → Pattern → ℕ) → List (Bor Derivation) → List Variable

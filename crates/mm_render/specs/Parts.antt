@@ -12,12 +12,12 @@ use Rattle.mm_proof.specs.Trees.{rule_label}
 use Rattle.mm_proof.specs.Derivations.{Citing, derivation_tree, derivation_trees}
 use Rattle.mm_proof.specs.RowLabels.{all_labels, trees_behind}
 use Rattle.mm_proof.specs.Writing.{work_tokens}
-use Rattle.mm_render.specs.Variables.{Variable}
-use Rattle.mm_render.specs.CitedAt.{variable_tree, claims_citing}
-use Rattle.mm_render.specs.PlaceTable.{claims_at, places_at, premises_at}
 use Rattle.mm_render.specs.declared.places.Standing.{Standing}
 use Rattle.mm_render.specs.declared.derivations.Part.{Part}
 use Rattle.mm_render.specs.declared.derivations.Part.TheVariants as part
+use Rattle.mm_claims.specs.Variables.{Variable}
+use Rattle.mm_claims.specs.CitedAt.{variable_tree, claims_citing}
+use Rattle.mm_render.specs.PlaceTable.{claims_at, places_at, premises_at}
 
 -- the proof by a derivation in the block of a statement, and those by some
 abbrev pub proof_of : ℕ → Citing → Derivation → List Token

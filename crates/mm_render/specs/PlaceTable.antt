@@ -7,11 +7,11 @@ use Rattle.std.specs.Global.{Vec}
 use Rattle.std.specs.Ordering.{nat_cmp}
 use Rattle.ml_pat.specs.Patterns.{Pattern}
 use Rattle.mm_proof.specs.Searching.{all_forms, patterns_of}
-use Rattle.mm_render.specs.Blocks.{Claim}
-use Rattle.mm_render.specs.Keys.{numbers, all_bytes}
-use Rattle.mm_render.specs.Places.{place_by, premise_place_by}
-use Rattle.mm_render.specs.ClaimView.{plain_claims}
 use Rattle.mm_render.specs.declared.places.Standing.{Standing}
+use Rattle.mm_claims.specs.Blocks.{Claim}
+use Rattle.mm_render.specs.Keys.{numbers, all_bytes}
+use Rattle.mm_render.specs.KeyPlaces.{place_by, premise_place_by}
+use Rattle.mm_render.specs.ClaimView.{plain_claims}
 
 -- what a table has under some bytes
 abbrev pub found_in : BTreeMap (Vec ℕ) ℕ → List ℕ → Option ℕ

@@ -7,8 +7,8 @@ use Rattle.ml_pat.specs.Patterns.{Pattern}
 use Rattle.mm_proof.specs.Labels.{statement_label}
 use Rattle.mm_proof.specs.Tokens.{own_naming}
 use Rattle.mm_proof.specs.Derivations.{holds_text}
-use Rattle.mm_render.specs.Variables.{Variable}
-use Rattle.mm_render.specs.Blocks.{head_statements}
+use Rattle.mm_claims.specs.Variables.{Variable}
+use Rattle.mm_claims.specs.Blocks.{head_statements}
 
 -- the theorem's label and statement, up to its proof
 abbrev pub statement_front : List Token → ℕ → Pattern → List ℕ

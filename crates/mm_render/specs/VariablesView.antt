@@ -4,13 +4,13 @@ use Rattle.std.specs.Borrow.{Bor}
 use Rattle.std.specs.BTreeSet.{BTreeSet, contains}
 use Rattle.std.specs.Ordering.{nat_cmp}
 use Rattle.ml_pat.specs.Patterns.{Pattern}
-use Rattle.mm_render.specs.Variables.{object_variable, pattern_variable, number_of, has_variable}
-use Rattle.mm_render.specs.Variables as plain
-use Rattle.mm_render.specs.OpenVariables.{variables_in}
-use Rattle.mm_render.specs.ClaimVariables.{added}
+use Rattle.mm_claims.specs.Variables as plain
 use Rattle.mm_proof.specs.Searching.{all_forms, patterns_of}
 use Rattle.mm_render.specs.declared.variables.Variable.{Variable}
 use Rattle.mm_render.specs.declared.variables.Variable.TheVariants as variable
+use Rattle.mm_claims.specs.Variables.{object_variable, pattern_variable, number_of, has_variable}
+use Rattle.mm_claims.specs.OpenVariables.{variables_in}
+use Rattle.mm_claims.specs.ClaimVariables.{added}
 
 abbrev pub variable_of : Variable → plain.Variable
 variable_of (variable.Object x) = object_variable x.0

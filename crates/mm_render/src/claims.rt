@@ -1,9 +1,9 @@
 // What is stated, with the variables that stand in it.
 ghost use Rattle.std.specs.Prelude.{◌≡◌, IfOk, OnOk};
-ghost use Rattle.mm_render.specs.Blocks.{needs_block};
-ghost use Rattle.mm_render.specs.ClaimVariables.{claim_of, claim_variables};
+ghost use Rattle.mm_claims.specs.Blocks.{needs_block};
+ghost use Rattle.mm_claims.specs.ClaimVariables.{claim_of, claim_variables};
 ghost use Rattle.mm_render.specs.ClaimView.{plain_claim};
-ghost use Rattle.mm_render.specs.Variables.{AreNumbered};
+ghost use Rattle.mm_claims.specs.Variables.{AreNumbered};
 ghost use Rattle.mm_render.specs.VariablesView.{plain_variables};
 
 use crate::variables::{Variable, variables_of_claim};

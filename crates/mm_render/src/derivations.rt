@@ -8,7 +8,7 @@ ghost use Rattle.ml_kernel.specs.StepsIn.{all_steps};
 ghost use Rattle.ml_kernel.specs.Theorems.{derivations};
 ghost use Rattle.mm_proof.specs.Labels.{own_labels, premise_label};
 ghost use Rattle.mm_proof.specs.RowLabels.{all_labels, trees_behind};
-ghost use Rattle.mm_render.specs.CitedAt.{claim_at};
+ghost use Rattle.mm_claims.specs.CitedAt.{claim_at};
 ghost use Rattle.mm_render.specs.Parts.{PartIsTaken, PutsParts, citing_at, proof_of, proofs_of, rest_of_citation, rest_of_row, value_labels};
 ghost use Rattle.mm_render.specs.PlaceTable.{claims_at, places_at, premises_at};
 ghost use Rattle.mm_render.specs.VariablesView.{variable_of};

@@ -1,9 +1,9 @@
 // The head of a block: its variables, which of them stay apart, and its hypotheses.
 ghost use Rattle.std.specs.Prelude.{◌≡◌, [], ◌∷◌, ◌++◌, IfOk, OnOk, map};
 ghost use Rattle.mm_database.specs.FrameLaws.{written_statements};
-ghost use Rattle.mm_render.specs.Blocks.{head_statements, premise_statements, separation_statements, separations, variable_statements};
+ghost use Rattle.mm_claims.specs.Blocks.{head_statements, premise_statements, separation_statements, separations, variable_statements};
 ghost use Rattle.mm_render.specs.HeadText.{AddsWordsOf, AreWordsOf, IsWordOf, pattern_separations, separation};
-ghost use Rattle.mm_render.specs.Variables.{object_tokens, variable_label, variable_token};
+ghost use Rattle.mm_claims.specs.Variables.{object_tokens, variable_label, variable_token};
 ghost use Rattle.mm_render.specs.VariablesView.{plain_variables, variable_of};
 ghost use Rattle.mm_proof.specs.Writing.{word_token};
 

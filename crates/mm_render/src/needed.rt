@@ -3,13 +3,13 @@
 ghost use Rattle.std.specs.Prelude.{◌≡◌, IfOk, OnOk, flat_map};
 ghost use Rattle.ml_kernel.specs.StepView.{instance_of, instances_of};
 ghost use Rattle.ml_kernel.specs.Theorems.{derivations};
-ghost use Rattle.mm_render.specs.ClaimVariables.{added};
-ghost use Rattle.mm_render.specs.CitedAt.{claim_at};
+ghost use Rattle.mm_claims.specs.ClaimVariables.{added};
+ghost use Rattle.mm_claims.specs.CitedAt.{claim_at};
 ghost use Rattle.mm_render.specs.ListedVariables.{listed};
 ghost use Rattle.mm_render.specs.NeededView.{PutsDerivations, StepIsTaken};
-ghost use Rattle.mm_render.specs.OpenVariables.{variables_at, variables_for, variables_of};
+ghost use Rattle.mm_claims.specs.OpenVariables.{variables_at, variables_for, variables_of};
 ghost use Rattle.mm_render.specs.PlaceTable.{claims_at, places_at};
-ghost use Rattle.mm_render.specs.Variables.{AreNumbered};
+ghost use Rattle.mm_claims.specs.Variables.{AreNumbered};
 ghost use Rattle.mm_render.specs.VariablesView.{plain_variables, variable_of};
 
 use crate::places::{Standing, place_of};

@@ -2,9 +2,9 @@
 // what a citation costs is linear in the size of what is cited, times the logarithm of how many were stated.
 ghost use Rattle.std.specs.Prelude.{◌≡◌, ◌+◌, [], ◌∷◌, ◌++◌, IfOk, OnOk};
 ghost use Rattle.ml_pat.specs.Patterns.{forms_in};
-ghost use Rattle.mm_render.specs.CitedAt.{ArePremises, claim_at};
+ghost use Rattle.mm_claims.specs.CitedAt.{ArePremises, claim_at};
 ghost use Rattle.mm_render.specs.Keys.{all_bytes, number_bytes, numbers, pattern_key, statement_key};
-ghost use Rattle.mm_render.specs.Places.{premise_place_by};
+ghost use Rattle.mm_render.specs.KeyPlaces.{premise_place_by};
 ghost use Rattle.mm_render.specs.PlaceTable.{FormIsAdded, claims_at, found_in, places_at, premises_at};
 ghost use Rattle.mm_render.specs.VariablesView.{plain_variables};
 

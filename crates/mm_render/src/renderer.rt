@@ -2,15 +2,15 @@
 ghost use Rattle.std.specs.Prelude.{◌≡◌, ◌<◌, ◌≤◌, [], ◌∷◌, ◌++◌, false, IsTrue, OnErr, OnOk, drop, length, option_copied, take, unwrap_or};
 ghost use Rattle.mm_database.specs.FrameLaws.{written_statements};
 ghost use Rattle.mm_header.specs.HeaderText.{header_bytes};
-ghost use Rattle.mm_render.specs.Blocks.{axiom_statements, open_assertion};
-ghost use Rattle.mm_render.specs.ClaimVariables.{claim_of, claim_variables};
+ghost use Rattle.mm_claims.specs.Blocks.{axiom_statements, open_assertion};
+ghost use Rattle.mm_claims.specs.ClaimVariables.{claim_of, claim_variables};
 ghost use Rattle.mm_render.specs.ClaimView.{plain_claim};
-ghost use Rattle.mm_render.specs.Fitting.{AreNames};
-ghost use Rattle.mm_render.specs.Keeping.{AppendsFitting, AppendsFittingNames, Gains, MayState, axiom_at, with_stated};
-ghost use Rattle.mm_render.specs.Kept.{header_kept, nothing_kept};
-ghost use Rattle.mm_render.specs.Places.{StatesLemma};
+ghost use Rattle.mm_claims.specs.Fitting.{AreNames};
+ghost use Rattle.mm_claims.specs.Keeping.{AppendsFitting, AppendsFittingNames, Gains, MayState, axiom_at, with_stated};
+ghost use Rattle.mm_claims.specs.Kept.{header_kept, nothing_kept};
+ghost use Rattle.mm_claims.specs.Places.{StatesLemma};
 ghost use Rattle.mm_proof.specs.Tokens.{name_of};
-ghost use Rattle.mm_render.specs.Statements.{all_name_statements, name_statements, typecode_of};
+ghost use Rattle.mm_claims.specs.Statements.{all_name_statements, name_statements, typecode_of};
 
 use crate::claims::{Claim, claim_of};
 use crate::places::{Standing, premise_places, statement_key};
@@ -34,7 +34,8 @@ pub struct Renderer {
 }
 
 impl Model for Renderer {
-    ghost use Rattle.mm_render.specs.Kept.{Kept, kept_code};
+    ghost use Rattle.mm_claims.specs.Kept.{Kept};
+    ghost use Rattle.mm_render.specs.KeptCode.{kept_code};
 
     ghost Value = { Kept };
 

@@ -1,14 +1,14 @@
 // Whole statements, each in a block of its own where it has variables or hypotheses.
 ghost use Rattle.std.specs.Prelude.{◌≡◌, [], ◌∷◌, ◌++◌, OnOk};
 ghost use Rattle.mm_database.specs.FrameLaws.{written_statements};
-ghost use Rattle.mm_render.specs.Blocks.{axiom_statements};
-ghost use Rattle.mm_render.specs.Claiming.{proved_statements};
+ghost use Rattle.mm_claims.specs.Blocks.{axiom_statements};
+ghost use Rattle.mm_claims.specs.Claiming.{proved_statements};
 ghost use Rattle.mm_render.specs.ClaimView.{plain_claim};
-ghost use Rattle.mm_render.specs.OpenVariables.{other_variables, variables_of};
+ghost use Rattle.mm_claims.specs.OpenVariables.{other_variables, variables_of};
 ghost use Rattle.mm_render.specs.PlaceTable.{claims_at, places_at, premises_at};
-ghost use Rattle.mm_render.specs.Statements.{axiom_statement};
+ghost use Rattle.mm_claims.specs.Statements.{axiom_statement};
 ghost use Rattle.mm_render.specs.TheoremText.{statement_front, theorem_front};
-ghost use Rattle.mm_render.specs.Variables.{AreNumbered};
+ghost use Rattle.mm_claims.specs.Variables.{AreNumbered};
 ghost use Rattle.mm_render.specs.VariablesView.{plain_variables};
 
 use crate::claims::{Claim, needs_block};

@@ -1,9 +1,9 @@
 // The variables that stand in patterns, each once, in the order in which they first stand.
 ghost use Rattle.std.specs.Prelude.{◌≡◌, ◌+◌, [], ◌∷◌, ◌++◌, IfOk, OnOk, flat_map};
 ghost use Rattle.ml_pat.specs.Patterns.{forms_in};
-ghost use Rattle.mm_render.specs.ClaimVariables.{added, claim_variables};
-ghost use Rattle.mm_render.specs.OpenVariables.{variables_in};
-ghost use Rattle.mm_render.specs.Variables.{AreNumbered, has_variable, object_variable};
+ghost use Rattle.mm_claims.specs.ClaimVariables.{added, claim_variables};
+ghost use Rattle.mm_claims.specs.OpenVariables.{variables_in};
+ghost use Rattle.mm_claims.specs.Variables.{AreNumbered, has_variable, object_variable};
 ghost use Rattle.mm_render.specs.VariablesView.{AreNumbersOf, HaveNumbers, PutsVariables, VariablesAreTaken, plain_variables, variable_of};
 
 use ml_pat::{MForm, MPat, VarNo};

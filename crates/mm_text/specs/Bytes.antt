@@ -1,6 +1,6 @@
 -- The bytes of a Metamath text (Metamath book, "The Complete Language Specification"): printable
 -- ASCII but for the space makes tokens, white space parts them, and no other byte may stand.
-use Rattle.std.specs.Prelude.{ℕ, Bool, true, false, ◌&&◌, ◌||◌, ◌==◌, nat_le, if◌then◌else◌, List, bytes_eq}
+use Rattle.std.specs.Prelude.{ℕ, Bool, true, false, ◌&&◌, ◌||◌, ◌==◌, nat_le, if◌then◌else◌, List, [], ◌∷◌, bytes_eq}
 use Rattle.std.specs.List.{list_any}
 
 -- a token of a text, by its bytes
@@ -32,3 +32,8 @@ is_printable_class foreign = false
 -- one of the tokens is this one
 abbrev pub has_token : List Token → Token → Bool
 has_token tokens token = list_any (λ t. bytes_eq t token) tokens
+
+-- a token stands twice
+abbrev pub has_repeated : List Token → Bool
+has_repeated [] = false
+has_repeated (token ∷ tokens) = has_token tokens token || has_repeated tokens

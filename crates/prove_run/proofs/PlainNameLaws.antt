@@ -8,8 +8,8 @@ use Rattle.rule_core.specs.declared.signature.Signature.{Signature}
 use Rattle.term_core.specs.Terms.{DomainValue}
 use Rattle.ml_image.specs.Tokens.{name_at, sort_token, symbol_token, value_token, hexadecimal, value_text, is_byte, is_value_at}
 use Rattle.ml_image.specs.Gained.{IsOwnToken, AreOwnTokens}
-use Rattle.mm_render.specs.Statements.{sort_name, symbol_name, value_name, is_name_byte, IsName}
-use Rattle.mm_render.specs.Fitting.{AreNames}
+use Rattle.mm_claims.specs.Statements.{sort_name, symbol_name, value_name, is_name_byte, IsName}
+use Rattle.mm_claims.specs.Fitting.{AreNames}
 use Rattle.mm_proof.proofs.LeafLaws.{both_true, split_true}
 use Rattle.prove_run.specs.PlainNames.{HasPlainNames}
 

@@ -7,12 +7,12 @@ use Rattle.ml_pat.specs.Patterns.{Pattern, top, imp, and, next, ev}
 use Rattle.ml_kernel.specs.ProofRows.{pattern}
 use Rattle.ml_kernel.specs.Theorems.{Derivation, derivations, row, Theorem}
 use Rattle.ml_derived.specs.Derived.{detaching, lifting, distributing, detaching_under, chaining, closing, moving, reaching_by, kept_reaching, reaching, adding_top, freeing}
-use Rattle.mm_render.specs.Kept.{Kept}
+use Rattle.mm_claims.specs.Kept.{Kept}
 use Rattle.mm_proof.specs.Leaves.{LeafFacts, EachLeaf}
 use Rattle.mm_proof.specs.Derivations.{EachUsed}
 use Rattle.mm_proof.specs.MayCite.{MayCite, EachCited}
-use Rattle.mm_render.specs.OverNames.{over_names, AreOverNames}
-use Rattle.mm_render.specs.Places.{MayProve, stated_cites}
+use Rattle.mm_claims.specs.OverNames.{over_names, AreOverNames}
+use Rattle.mm_claims.specs.Places.{MayProve, stated_cites}
 use Rattle.prove_run.proofs.ScriptLaws.{take_all}
 
 -- what rests on nothing has no hypotheses

@@ -15,17 +15,19 @@ use Rattle.ml_image.specs.Gained.{HasGained}
 use Rattle.term_core.specs.Patterns.{Pattern as RulePattern}
 use Rattle.term_core.specs.RulePatterns.{plain_pattern}
 use Rattle.ml_image.specs.Images.{both, image_of, rule_image_of, HasImageAt, IsImageAt}
-use Rattle.mm_render.specs.Keeping.{Fits, axiom_at, with_stated}
+use Rattle.mm_claims.specs.Keeping.{Fits, axiom_at, with_stated}
 use Rattle.ml_kernel.specs.Theorems.{Theorem}
 use Rattle.std.specs.Global.{Vec}
-use Rattle.mm_render.specs.Kept.{Kept}
-use Rattle.mm_render.specs.Places.{IsStated, MayProve, StatesLemma}
-use Rattle.mm_render.proofs.Allowing.{fits_later, stated_stays, theorem_has_only}
+use Rattle.mm_claims.specs.Kept.{Kept}
+use Rattle.mm_claims.specs.Places.{IsStated, MayProve, StatesLemma}
+use Rattle.mm_claims.proofs.LaterLaws.{fits_later, stated_stays}
+use Rattle.mm_justify.proofs.Allowing.{theorem_has_only}
 use Rattle.mm_proof.specs.Leaves.{EachLeaf}
-use Rattle.mm_render.specs.OverNames.{closed_over}
-use Rattle.mm_render.specs.ClaimVariables.{claim_of}
-use Rattle.mm_render.specs.JustifyingLaws.{HasNoVariable}
-use Rattle.mm_render.proofs.ImageLeaves.{image_stays, rule_image_stays, rule_image_is_closed}
+use Rattle.mm_claims.specs.OverNames.{closed_over}
+use Rattle.mm_claims.specs.ClaimVariables.{claim_of}
+use Rattle.mm_justify.specs.NoVariables.{HasNoVariable}
+use Rattle.ml_image.proofs.NamingLaws.{image_stays, rule_image_stays}
+use Rattle.mm_justify.proofs.ImageLeaves.{rule_image_is_closed}
 use Rattle.prove_run.specs.declared.script.Script.{Script}
 use Rattle.prove_run.specs.Scripts.{HasStated, AreStated, IsSound, IsDeclared, Extends, Continues, AreGroundAt}
 use Rattle.prove_run.proofs.PlainNameLaws.{own_append}

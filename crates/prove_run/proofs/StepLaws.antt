@@ -15,16 +15,17 @@ use Rattle.rule_core.specs.declared.rules.Rule.{Rule}
 use Rattle.rule_core.specs.declared.rules.Program.{Program}
 use Rattle.rule_core.specs.ProgramView.{rewrite_rule}
 use Rattle.ml_image.specs.Images.{image_of}
-use Rattle.mm_render.specs.Keeping.{axiom_at}
-use Rattle.mm_render.specs.OverNames.{over_names}
+use Rattle.mm_claims.specs.Keeping.{axiom_at}
+use Rattle.mm_claims.specs.OverNames.{over_names}
 use Rattle.mm_proof.specs.Leaves.{EachLeaf}
 use Rattle.mm_proof.specs.Derivations.{EachUsed}
 use Rattle.mm_proof.specs.MayCite.{MayCite, EachCited}
-use Rattle.mm_render.specs.Places.{IsStated, MayProve, stated_cites}
-use Rattle.mm_render.specs.Blocks.{Claim}
-use Rattle.mm_render.specs.JustifyingLaws.{HasNoVariable}
-use Rattle.mm_render.proofs.Allowing.{closed_has_no_meta, closed_is_over, stated_stays}
-use Rattle.mm_render.proofs.ImageLeaves.{image_is_closed}
+use Rattle.mm_claims.specs.Places.{IsStated, MayProve, stated_cites}
+use Rattle.mm_claims.specs.Blocks.{Claim}
+use Rattle.mm_justify.specs.NoVariables.{HasNoVariable}
+use Rattle.mm_claims.proofs.ClosedPatterns.{closed_has_no_meta, closed_is_over}
+use Rattle.mm_claims.proofs.LaterLaws.{stated_stays}
+use Rattle.mm_justify.proofs.ImageLeaves.{image_is_closed}
 use Rattle.prove_run.specs.declared.script.Script.{Script}
 use Rattle.prove_run.specs.declared.proof.Proof.{Proof}
 use Rattle.prove_run.specs.Scripts.{HasStated, IsSound, IsDeclared, Continues}

@@ -3,7 +3,7 @@ use Rattle.std.specs.Prelude.{◌≡◌, ℕ, true, List, Some}
 use Rattle.std.specs.List.{list_all}
 use Rattle.rule_core.specs.declared.signature.Signature.{Signature}
 use Rattle.ml_image.specs.Tokens.{name_at}
-use Rattle.mm_render.specs.Statements.{is_name_byte}
+use Rattle.mm_claims.specs.Statements.{is_name_byte}
 
 -- each byte of the names of the signature's sorts and symbols is printable, and no `$`
 pub record HasPlainNames (sig : Signature) : Type 0 where

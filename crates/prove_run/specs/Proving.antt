@@ -6,9 +6,9 @@ use Rattle.rule_core.specs.declared.rules.Rule.{Rule}
 use Rattle.rule_core.specs.declared.rules.Program.{Program}
 use Rattle.ml_pat.specs.Patterns.{Pattern, imp, ev}
 use Rattle.ml_image.specs.Images.{image_of}
-use Rattle.mm_render.specs.Places.{IsStated}
-use Rattle.mm_render.specs.Justifying.{Justifies}
-use Rattle.mm_render.specs.JustifyingLaws.{HasNoVariable}
+use Rattle.mm_claims.specs.Places.{IsStated}
+use Rattle.mm_justify.specs.Justifying.{Justifies}
+use Rattle.mm_justify.specs.NoVariables.{HasNoVariable}
 use Rattle.prove_run.specs.declared.proof.Proof.{Proof}
 use Rattle.prove_run.specs.Scripts.{IsSound, IsDeclared}
 

@@ -10,11 +10,11 @@ use Rattle.ml_kernel.specs.Theorems.{Theorem}
 use Rattle.ml_image.specs.Images.{image_of, IsImageAt}
 use Rattle.ml_image.specs.Gained.{AreOwnTokens}
 use Rattle.mm_proof.specs.Leaves.{EachLeaf}
-use Rattle.mm_render.specs.OverNames.{closed_over}
-use Rattle.mm_render.specs.Keeping.{Fits, axiom_at}
-use Rattle.mm_render.specs.Places.{IsStated}
-use Rattle.mm_render.specs.Justifying.{HasOnlyAxiomsOf, Justifies}
-use Rattle.mm_render.specs.JustifyingLaws.{HasNoVariable}
+use Rattle.mm_claims.specs.OverNames.{closed_over}
+use Rattle.mm_claims.specs.Keeping.{Fits, axiom_at}
+use Rattle.mm_claims.specs.Places.{IsStated}
+use Rattle.mm_justify.specs.Justifying.{HasOnlyAxiomsOf, Justifies}
+use Rattle.mm_justify.specs.NoVariables.{HasNoVariable}
 use Rattle.prove_run.specs.declared.script.Script.{Script}
 
 -- the axiom with this number is the image of the rule at a place, and it was stated

@@ -2,7 +2,7 @@
 ghost use Rattle.std.specs.Prelude.{◌≡◌, IfOk, OnOk};
 ghost use Rattle.term_core.specs.RulePatterns.{plain_pattern};
 ghost use Rattle.ml_image.specs.Images.{HasImage, HasImageAt};
-ghost use Rattle.mm_render.specs.JustifyingLaws.{HasNoVariable};
+ghost use Rattle.mm_justify.specs.NoVariables.{HasNoVariable};
 ghost use Rattle.prove_run.specs.PlainNames.{HasPlainNames};
 ghost use Rattle.prove_run.specs.Scripts.{AreGroundAt};
 ghost use Rattle.prove_run.specs.Proving.{IsAtRule, IsProofOf, StepsBy};
@@ -10,7 +10,7 @@ ghost use Rattle.prove_run.specs.Proving.{IsAtRule, IsProofOf, StepsBy};
 use crate::script::Script;
 use ml_derived::{free_of_top, reach_here, reach_step};
 use ml_kernel::{Lemma, Thm};
-use mm_render::{image_laws, later_laws};
+use mm_justify::image_laws;
 use rule_core::Program;
 use std::alloc::{AllocError, Global};
 use term_core::RulePat;

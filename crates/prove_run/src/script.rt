@@ -2,14 +2,16 @@
 ghost use Rattle.std.specs.Prelude.{◌≡◌, IfOk, OnOk, Some};
 ghost use Rattle.term_core.specs.RulePatterns.{plain_pattern};
 ghost use Rattle.ml_image.specs.Images.{HasImage, HasImageAt, IsImageAt, image_of};
-ghost use Rattle.mm_render.specs.Places.{IsStated, MayProve};
+ghost use Rattle.mm_claims.specs.Places.{IsStated, MayProve};
 ghost use Rattle.prove_run.specs.PlainNames.{HasPlainNames};
 ghost use Rattle.prove_run.specs.Scripts.{AreGroundAt, Continues, HasStated, IsSound, IsDeclared, Justified};
 
-use ml_image::{rule_image, term_image};
+use ml_image::{naming_laws, rule_image, term_image};
 use ml_kernel::{AxiomNo, Lemma, Theory, Thm};
 use ml_pat::{MPat, Names};
-use mm_render::{Renderer, image_laws, justifying_laws, later_laws};
+use mm_claims::{closed_laws, later_laws};
+use mm_justify::{image_laws, justifying_laws};
+use mm_render::Renderer;
 use rule_core::Program;
 use std::alloc::{AllocError, Global};
 use term_core::RulePat;
@@ -92,8 +94,10 @@ impl<'p> Script<'p> {
         ensures declared { OnOk result (IsDeclared self.new) }
         ensures continues { OnOk result (Continues self.old self.new) }
     {
+        closed_laws();
         image_laws();
         later_laws();
+        naming_laws();
         let image = rule_image(alloc, self.program, &mut self.names, rule)?;
         self.declare()?;
         self.assume(rule, image)
@@ -112,8 +116,10 @@ impl<'p> Script<'p> {
         ensures continues { OnOk result (Continues self.old self.new) }
     {
         justifying_laws();
+        closed_laws();
         image_laws();
         later_laws();
+        naming_laws();
         let no = self.theory.add(image)?;
         self.renderer
             .axiom(&self.names, &self.theory, no, &mut self.text)?;

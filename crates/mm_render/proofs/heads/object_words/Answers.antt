@@ -1,6 +1,6 @@
 use Rattle.std.proofs.Common.{List, take, ap, ◌∙◌, arith}
 use Rattle.std.proofs.lemmas.List.{take_all, take_more}
-use Rattle.mm_render.specs.Variables.{object_tokens}
+use Rattle.mm_claims.specs.Variables.{object_tokens}
 use Rattle.mm_render.specs.VariablesView.{plain_variables}
 use Rattle.mm_render.specs.declared.variables.Variable.{Variable}
 use Rattle.mm_render.proofs.HeadTexts.{more_tokens, plain_variables-push, object_tokens-push}

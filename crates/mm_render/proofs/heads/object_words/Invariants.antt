@@ -1,6 +1,6 @@
 use Rattle.std.proofs.Common.{take}
 use Rattle.mm_render.specs.HeadText.{AreWordsOf}
-use Rattle.mm_render.specs.Variables.{object_tokens}
+use Rattle.mm_claims.specs.Variables.{object_tokens}
 use Rattle.mm_render.specs.VariablesView.{plain_variables}
 use Rattle.mm_render.proofs.heads.object_words.Given as goal
 

@@ -1,4 +1,4 @@
-use Rattle.mm_render.specs.Blocks.{variable_statements, separations, separation_statements, premise_statements}
+use Rattle.mm_claims.specs.Blocks.{variable_statements, separations, separation_statements, premise_statements}
 use Rattle.mm_render.specs.VariablesView.{plain_variables}
 use Rattle.mm_proof.proofs.Stacking.{on_ok}
 use Rattle.mm_render.proofs.HeadTexts.{three_written}

@@ -1,7 +1,7 @@
 use Rattle.std.proofs.Common.{List, ℕ, ◌≡◌, ◌+◌, ◌++◌, ◌∷◌, [], take, length, ap, sym, ◌∙◌, arith}
 use Rattle.std.proofs.lemmas.List.{take_more, length-take-le}
 use Rattle.ml_pat.specs.Patterns.{Pattern}
-use Rattle.mm_render.specs.Blocks.{premise_statements}
+use Rattle.mm_claims.specs.Blocks.{premise_statements}
 use Rattle.mm_render.proofs.HeadTexts.{more_written, premise_statements-push}
 use Rattle.mm_render.proofs.heads.push_premises.Goals as goal
 

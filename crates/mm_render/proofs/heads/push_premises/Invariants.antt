@@ -1,6 +1,6 @@
 use Rattle.std.proofs.Common.{◌≡◌, ◌++◌, take}
 use Rattle.mm_database.specs.FrameLaws.{written_statements}
-use Rattle.mm_render.specs.Blocks.{premise_statements}
+use Rattle.mm_claims.specs.Blocks.{premise_statements}
 use Rattle.mm_render.proofs.heads.push_premises.Given as goal
 
 abbrev pub invariant-loop-no : goal.invariant-loop-no

@@ -1,6 +1,6 @@
 use Rattle.std.proofs.Common.{List, take, ap, ◌∙◌}
 use Rattle.std.proofs.lemmas.List.{take_more}
-use Rattle.mm_render.specs.Blocks.{variable_statements}
+use Rattle.mm_claims.specs.Blocks.{variable_statements}
 use Rattle.mm_render.specs.VariablesView.{plain_variables}
 use Rattle.mm_render.specs.declared.variables.Variable.{Variable}
 use Rattle.mm_render.proofs.HeadTexts.{more_written, plain_variables-push, variable_statements-push}

@@ -1,6 +1,6 @@
 use Rattle.std.proofs.Common.{◌≡◌, ◌++◌, take}
 use Rattle.mm_database.specs.FrameLaws.{written_statements}
-use Rattle.mm_render.specs.Blocks.{variable_statements}
+use Rattle.mm_claims.specs.Blocks.{variable_statements}
 use Rattle.mm_render.specs.VariablesView.{plain_variables}
 use Rattle.mm_render.proofs.heads.push_variables.Given as goal
 

@@ -3,8 +3,8 @@ use Rattle.std.proofs.lemmas.List.{take_more, map-append}
 use Rattle.ml_kernel.specs.StepView.{instance_of, instances_of}
 use Rattle.ml_kernel.specs.declared.derivations.Inst.{Inst}
 use Rattle.mm_render.specs.ListedVariables.{listed}
-use Rattle.mm_render.specs.OpenVariables.{variables_for}
-use Rattle.mm_render.proofs.AddedVariables.{item_added}
+use Rattle.mm_claims.specs.OpenVariables.{variables_for}
+use Rattle.mm_render.proofs.StackedVariables.{item_added}
 use Rattle.mm_render.proofs.needed.add_instances.Goals as goal
 
 pub loop-instance-preserved : goal.loop-instance-preserved

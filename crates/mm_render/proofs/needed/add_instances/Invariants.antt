@@ -1,8 +1,8 @@
 use Rattle.std.proofs.Common.{◌≡◌, flat_map, take}
 use Rattle.ml_kernel.specs.StepView.{instances_of}
-use Rattle.mm_render.specs.ClaimVariables.{added}
+use Rattle.mm_claims.specs.ClaimVariables.{added}
 use Rattle.mm_render.specs.ListedVariables.{listed}
-use Rattle.mm_render.specs.OpenVariables.{variables_for}
+use Rattle.mm_claims.specs.OpenVariables.{variables_for}
 use Rattle.mm_render.proofs.needed.add_instances.Given as goal
 
 abbrev pub invariant-loop-instance : goal.invariant-loop-instance

@@ -1,10 +1,10 @@
 use Rattle.std.proofs.Common.{List, ◌+◌, take, ap, ◌∙◌}
 use Rattle.std.proofs.lemmas.List.{take_more, map-append}
 use Rattle.mm_render.specs.ListedVariables.{listed}
-use Rattle.mm_render.specs.OpenVariables.{variables_at}
+use Rattle.mm_claims.specs.OpenVariables.{variables_at}
 use Rattle.mm_render.specs.VariablesView.{plain_variables, variable_of}
 use Rattle.mm_render.specs.declared.variables.Variable.{Variable}
-use Rattle.mm_render.proofs.AddedVariables.{item_added}
+use Rattle.mm_render.proofs.StackedVariables.{item_added}
 use Rattle.mm_render.proofs.needed.add_values.Goals as goal
 
 pub loop-variable-preserved : goal.loop-variable-preserved

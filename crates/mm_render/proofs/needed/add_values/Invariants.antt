@@ -1,7 +1,7 @@
 use Rattle.std.proofs.Common.{◌≡◌, flat_map, take}
-use Rattle.mm_render.specs.ClaimVariables.{added}
+use Rattle.mm_claims.specs.ClaimVariables.{added}
 use Rattle.mm_render.specs.ListedVariables.{listed}
-use Rattle.mm_render.specs.OpenVariables.{variables_at}
+use Rattle.mm_claims.specs.OpenVariables.{variables_at}
 use Rattle.mm_render.specs.VariablesView.{plain_variables}
 use Rattle.mm_render.proofs.needed.add_values.Given as goal
 

@@ -1,10 +1,10 @@
 use Rattle.std.proofs.Common.{List, ◌≡◌, [], ap, ◌∙◌, sym, rules, append-nil}
 use Rattle.std.specs.Borrow.{Bor}
 use Rattle.ml_kernel.specs.Theorems.{Derivation}
-use Rattle.mm_render.specs.ClaimVariables.{added}
+use Rattle.mm_claims.specs.ClaimVariables.{added}
 use Rattle.mm_render.specs.ListedVariables.{listed}
 use Rattle.mm_render.specs.NeededView.{stack_needs}
-use Rattle.mm_render.specs.OpenVariables.{variables_of}
+use Rattle.mm_claims.specs.OpenVariables.{variables_of}
 use Rattle.mm_render.specs.PlaceTable.{claims_at, places_at}
 use Rattle.mm_render.specs.VariablesView.{plain_variables}
 use Rattle.mm_render.proofs.NeededLaws.{step_added, step_smaller, added_numbered}

@@ -1,8 +1,8 @@
 use Rattle.std.proofs.Common.{◌≡◌}
-use Rattle.mm_render.specs.ClaimVariables.{added}
+use Rattle.mm_claims.specs.ClaimVariables.{added}
 use Rattle.mm_render.specs.ListedVariables.{listed}
 use Rattle.mm_render.specs.NeededView.{stack_needs, stack_steps}
-use Rattle.mm_render.specs.OpenVariables.{variables_of}
+use Rattle.mm_claims.specs.OpenVariables.{variables_of}
 use Rattle.mm_render.specs.PlaceTable.{claims_at, places_at}
 use Rattle.mm_render.specs.VariablesView.{plain_variables}
 use Rattle.mm_render.proofs.needed.needed_variables.Given as goal

@@ -5,18 +5,18 @@ use Rattle.ml_kernel.specs.declared.derivations.Inst.{Inst}
 use Rattle.ml_kernel.specs.StepView.{derivation_of, instances_of}
 use Rattle.ml_kernel.specs.StepsIn.{steps_in, all_steps}
 use Rattle.ml_kernel.specs.Theorems.{Derivation, derivations, own_axiom, row, cited}
-use Rattle.mm_render.specs.Blocks.{Claim}
-use Rattle.mm_render.specs.CitedAt.{claim_at}
-use Rattle.mm_render.specs.ClaimVariables.{added}
+use Rattle.mm_claims.specs.Blocks.{Claim}
+use Rattle.mm_claims.specs.CitedAt.{claim_at}
+use Rattle.mm_claims.specs.ClaimVariables.{added}
 use Rattle.mm_render.specs.ListedVariables.{listed}
 use Rattle.mm_render.specs.NeededView.{PutsDerivations}
-use Rattle.mm_render.specs.OpenVariables.{variables_at, variables_for, variables_of}
+use Rattle.mm_claims.specs.OpenVariables.{variables_at, variables_for, variables_of}
 use Rattle.mm_render.specs.PlaceTable.{claims_at, places_at}
-use Rattle.mm_render.specs.Variables.{Variable}
+use Rattle.mm_claims.specs.Variables.{Variable}
 use Rattle.mm_proof.proofs.Stacking.{on_ok}
 use Rattle.mm_render.proofs.NeededLaws.{leaf_needed, step_needed}
 use Rattle.mm_render.proofs.needed.take_step.Goals as goal
-use Rattle.mm_render.proofs.OpenVariableLaws.{own_variables}
+use Rattle.mm_claims.proofs.OpenVariableLaws.{own_variables}
 
 pub returns-in_ok-place-in-Axiom : goal.returns-in_ok-place-in-Axiom
 returns-in_ok-place-in-Axiom c =

@@ -2,9 +2,9 @@ use Rattle.std.proofs.Common.{ℕ, List, ◌≡◌, ◌+◌, ◌++◌, ◌∷◌
 use Rattle.std.specs.Prelude.{bytes_eq}
 use Rattle.std.proofs.lemmas.List.{take_more, length-take-le}
 use Rattle.ml_pat.specs.Patterns.{Pattern}
-use Rattle.mm_render.specs.CitedAt.{ArePremises}
+use Rattle.mm_claims.specs.CitedAt.{ArePremises}
 use Rattle.mm_render.specs.Keys.{pattern_key}
-use Rattle.mm_render.specs.Places.{premise_place_by}
+use Rattle.mm_render.specs.KeyPlaces.{premise_place_by}
 use Rattle.mm_render.specs.PlaceTable.{found_in}
 use Rattle.mm_render.proofs.PlaceLaws.{premise_more, found-insert}
 use Rattle.mm_render.proofs.places.premise_places.Goals as goal

@@ -1,6 +1,6 @@
 use Rattle.std.proofs.Common.{take}
-use Rattle.mm_render.specs.CitedAt.{ArePremises}
-use Rattle.mm_render.specs.Places.{premise_place_by}
+use Rattle.mm_claims.specs.CitedAt.{ArePremises}
+use Rattle.mm_render.specs.KeyPlaces.{premise_place_by}
 use Rattle.mm_render.specs.PlaceTable.{found_in}
 use Rattle.mm_render.proofs.places.premise_places.Given as goal
 

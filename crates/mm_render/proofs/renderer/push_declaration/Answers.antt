@@ -6,7 +6,7 @@ use Rattle.mm_database.specs.Forms.{declares_constants, asserts}
 use Rattle.mm_database.specs.FrameLaws.{plain_tokens}
 use Rattle.mm_proof.specs.Tokens.{name_of}
 use Rattle.mm_proof.specs.Labels.{name_label}
-use Rattle.mm_render.specs.Statements.{typecode_of}
+use Rattle.mm_claims.specs.Statements.{typecode_of}
 use Rattle.mm_proof.proofs.Stacking.{on_ok}
 use Rattle.mm_proof.proofs.WrittenTogether.{two_statements, unwrap-get}
 use Rattle.mm_render.proofs.renderer.push_declaration.Goals as goal

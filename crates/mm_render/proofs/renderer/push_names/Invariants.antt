@@ -1,6 +1,6 @@
 use Rattle.std.proofs.Common.{◌≡◌, ◌++◌, drop}
 use Rattle.mm_database.specs.FrameLaws.{written_statements}
-use Rattle.mm_render.specs.Statements.{all_name_statements}
+use Rattle.mm_claims.specs.Statements.{all_name_statements}
 use Rattle.mm_render.proofs.renderer.push_names.Given as goal
 
 abbrev pub invariant-loop-no : goal.invariant-loop-no

@@ -1,4 +1,4 @@
-use Rattle.mm_render.proofs.AddedVariables.{one_put}
+use Rattle.mm_render.proofs.StackedVariables.{one_put}
 use Rattle.mm_render.proofs.variables.put_one.Goals as goal
 
 pub returns : goal.returns

@@ -1,4 +1,4 @@
-use Rattle.mm_render.proofs.AddedVariables.{two_put}
+use Rattle.mm_render.proofs.StackedVariables.{two_put}
 use Rattle.mm_render.proofs.variables.put_two.Goals as goal
 
 pub returns : goal.returns

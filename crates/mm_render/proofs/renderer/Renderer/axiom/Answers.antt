@@ -2,14 +2,14 @@ use Rattle.std.proofs.Common.{List, ℕ, ◌≡◌, [], ◌<◌, ◌^◌, length
 use Rattle.std.proofs.lemmas.List.{length-map}
 use Rattle.ml_pat.specs.Patterns.{Pattern}
 use Rattle.mm_database.specs.FrameLaws.{written_statements}
-use Rattle.mm_render.specs.Blocks.{axiom_statements, open_assertion}
-use Rattle.mm_render.specs.ClaimVariables.{claim_of, claim_variables}
+use Rattle.mm_claims.specs.Blocks.{axiom_statements, open_assertion}
+use Rattle.mm_claims.specs.ClaimVariables.{claim_of, claim_variables}
 use Rattle.mm_render.specs.ClaimView.{plain_claim}
-use Rattle.mm_render.specs.Keeping.{Gains, axiom_at, with_stated}
-use Rattle.mm_render.specs.Kept.{Kept}
-use Rattle.mm_render.specs.Variables.{AreNumbered}
+use Rattle.mm_claims.specs.Keeping.{Gains, axiom_at, with_stated}
+use Rattle.mm_claims.specs.Kept.{Kept}
+use Rattle.mm_claims.specs.Variables.{AreNumbered}
 use Rattle.mm_proof.proofs.Stacking.{on_ok}
-use Rattle.mm_render.proofs.KeepingLaws.{axiom_is, axiom_gains}
+use Rattle.mm_claims.proofs.KeepingLaws.{axiom_is, axiom_gains}
 use Rattle.mm_render.proofs.renderer.Renderer.axiom.Goals as goal
 
 count : (c : goal.After-drop-text-2) → length c.args.self.now.stated ≡ length c.self.inside.stated.items

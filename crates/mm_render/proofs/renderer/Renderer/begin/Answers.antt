@@ -1,8 +1,8 @@
 use Rattle.std.proofs.Common.{◌++◌, true, ap, ◌∙◌, sym, subst}
 use Rattle.mm_header.specs.HeaderText.{header_bytes}
-use Rattle.mm_render.specs.Keeping.{Fits}
-use Rattle.mm_render.specs.Kept.{Kept}
-use Rattle.mm_render.proofs.KeepingLaws.{begun_fits}
+use Rattle.mm_claims.specs.Keeping.{Fits}
+use Rattle.mm_claims.specs.Kept.{Kept}
+use Rattle.mm_claims.proofs.KeepingLaws.{begun_fits}
 use Rattle.mm_render.proofs.renderer.Renderer.begin.Goals as goal
 
 pub returns-clause-fits : goal.returns-clause-fits

@@ -1,9 +1,9 @@
 use Rattle.std.proofs.Common.{◌++◌, ◌<◌, ◌^◌, ℕ, drop, length, ap, ◌∙◌, sym, subst, rules}
 use Rattle.mm_database.specs.FrameLaws.{written_statements}
-use Rattle.mm_render.specs.Keeping.{Fits}
-use Rattle.mm_render.specs.Kept.{Kept}
-use Rattle.mm_render.specs.Statements.{all_name_statements}
-use Rattle.mm_render.proofs.KeepingLaws.{declared_fits}
+use Rattle.mm_claims.specs.Keeping.{Fits}
+use Rattle.mm_claims.specs.Kept.{Kept}
+use Rattle.mm_claims.specs.Statements.{all_name_statements}
+use Rattle.mm_claims.proofs.KeepingLaws.{declared_fits}
 use Rattle.mm_render.proofs.renderer.Renderer.declare.Goals as goal
 
 pub returns-clause-fits : goal.returns-clause-fits

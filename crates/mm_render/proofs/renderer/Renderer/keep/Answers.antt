@@ -2,10 +2,11 @@ use Rattle.std.proofs.Common.{ℕ, List, ◌≡◌, ◌++◌, ◌∷◌, [], len
 use Rattle.std.specs.Prelude.{bytes_eq}
 use Rattle.std.proofs.lemmas.List.{map-append, length-map}
 use Rattle.ml_pat.specs.Patterns.{Pattern}
-use Rattle.mm_render.specs.Blocks.{Claim}
+use Rattle.mm_claims.specs.Blocks.{Claim}
 use Rattle.mm_render.specs.ClaimView.{plain_claim, plain_claims}
 use Rattle.mm_render.specs.Keys.{statement_key}
-use Rattle.mm_render.specs.Places.{Places, place_by}
+use Rattle.mm_claims.specs.Places.{Places}
+use Rattle.mm_render.specs.KeyPlaces.{place_by}
 use Rattle.mm_render.specs.PlaceTable.{found_in}
 use Rattle.mm_render.proofs.PlaceLaws.{claim_more, found-insert}
 use Rattle.mm_render.proofs.renderer.Renderer.keep.Goals as goal

@@ -3,19 +3,20 @@ use Rattle.std.proofs.lemmas.List.{length-map}
 use Rattle.ml_pat.specs.Patterns.{Pattern}
 use Rattle.ml_kernel.specs.Theorems.{Theorem, Derivation}
 use Rattle.mm_database.specs.FrameLaws.{written_statements}
-use Rattle.mm_render.specs.Blocks.{Claim, open_assertion}
-use Rattle.mm_render.specs.CitedAt.{ArePremises}
-use Rattle.mm_render.specs.Claiming.{proved_statements}
-use Rattle.mm_render.specs.ClaimVariables.{claim_of, claim_variables}
+use Rattle.mm_claims.specs.Blocks.{Claim, open_assertion}
+use Rattle.mm_claims.specs.CitedAt.{ArePremises}
+use Rattle.mm_claims.specs.Claiming.{proved_statements}
+use Rattle.mm_claims.specs.ClaimVariables.{claim_of, claim_variables}
 use Rattle.mm_render.specs.ClaimView.{plain_claim, plain_claims}
-use Rattle.mm_render.specs.Keeping.{Gains, with_stated}
-use Rattle.mm_render.specs.Kept.{Kept}
-use Rattle.mm_render.specs.OpenVariables.{variables_of, other_variables}
-use Rattle.mm_render.specs.Places.{Places, place_by, premise_place_by, lemma_statements, more_variables}
+use Rattle.mm_claims.specs.Keeping.{Gains, with_stated}
+use Rattle.mm_claims.specs.Kept.{Kept}
+use Rattle.mm_claims.specs.OpenVariables.{variables_of, other_variables}
+use Rattle.mm_claims.specs.Places.{Places, lemma_statements, more_variables}
+use Rattle.mm_render.specs.KeyPlaces.{place_by, premise_place_by}
 use Rattle.mm_render.specs.PlaceTable.{found_in}
-use Rattle.mm_render.specs.Variables.{AreNumbered}
+use Rattle.mm_claims.specs.Variables.{AreNumbered}
 use Rattle.mm_proof.proofs.Stacking.{both_ok}
-use Rattle.mm_render.proofs.KeepingLaws.{lemma_gains}
+use Rattle.mm_claims.proofs.KeepingLaws.{lemma_gains}
 use Rattle.mm_render.proofs.renderer.Renderer.lemma.Goals as goal
 
 -- where what was stated stands, and the hypotheses

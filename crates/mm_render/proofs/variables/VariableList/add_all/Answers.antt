@@ -1,5 +1,5 @@
 use Rattle.mm_render.specs.ListedVariables.{listed}
-use Rattle.mm_render.proofs.AddedVariables.{form_taken, taken_smaller}
+use Rattle.mm_render.proofs.StackedVariables.{form_taken, taken_smaller}
 use Rattle.mm_render.proofs.variables.VariableList.add_all.Goals as goal
 
 pub loop-next-smaller : goal.loop-next-smaller

@@ -4,11 +4,11 @@ use Rattle.term_core.specs.RulePatterns.{plain_pattern}
 use Rattle.ml_kernel.specs.Theorems.{Theorem}
 use Rattle.ml_image.specs.Images.{image_of}
 use Rattle.mm_proof.specs.Leaves.{EachLeaf}
-use Rattle.mm_render.specs.OverNames.{closed_over}
-use Rattle.mm_render.specs.Places.{IsStated}
-use Rattle.mm_render.specs.Justifying.{Justifies}
-use Rattle.mm_render.proofs.Allowing.{closed_is_over}
-use Rattle.mm_render.proofs.ImageLeaves.{image_is_closed}
+use Rattle.mm_claims.specs.OverNames.{closed_over}
+use Rattle.mm_claims.specs.Places.{IsStated}
+use Rattle.mm_justify.specs.Justifying.{Justifies}
+use Rattle.mm_claims.proofs.ClosedPatterns.{closed_is_over}
+use Rattle.mm_justify.proofs.ImageLeaves.{image_is_closed}
 use Rattle.prove_run.proofs.ScriptLaws.{image_later}
 use Rattle.prove_run.proofs.ProofLaws.{none_left, may_begin}
 use Rattle.prove_run.proofs.proof.Proof.begin.Goals as goal

@@ -4,9 +4,9 @@ use Rattle.rule_core.specs.declared.rules.Program.{Program}
 use Rattle.term_core.specs.RulePatterns.{plain_pattern}
 use Rattle.ml_pat.specs.Patterns.{next}
 use Rattle.ml_kernel.specs.Theorems.{Theorem}
-use Rattle.mm_render.specs.Places.{IsStated}
-use Rattle.mm_render.specs.Justifying.{Justifies}
-use Rattle.mm_render.proofs.ImageLeaves.{image_is_closed}
+use Rattle.mm_claims.specs.Places.{IsStated}
+use Rattle.mm_justify.specs.Justifying.{Justifies}
+use Rattle.mm_justify.proofs.ImageLeaves.{image_is_closed}
 use Rattle.prove_run.proofs.ScriptLaws.{image_later}
 use Rattle.prove_run.proofs.StepLaws.{reached_no_meta, image_says, linked, may_step, step_of}
 use Rattle.prove_run.proofs.proof.Proof.step.Goals as goal

@@ -4,15 +4,17 @@ use Rattle.mm_text.specs.Bytes.{Token}
 use Rattle.ml_pat.specs.Patterns.{Pattern}
 use Rattle.rule_core.specs.ProgramView.{rewrite_rule}
 use Rattle.ml_image.specs.Images.{rule_image_of}
-use Rattle.mm_render.specs.Kept.{Kept}
+use Rattle.mm_claims.specs.Kept.{Kept}
 use Rattle.mm_proof.specs.Leaves.{EachLeaf}
-use Rattle.mm_render.specs.OverNames.{closed_over}
-use Rattle.mm_render.specs.Keeping.{Fits, MayState, axiom_at, with_stated}
-use Rattle.mm_render.specs.Places.{IsStated}
-use Rattle.mm_render.specs.ClaimVariables.{claim_of}
-use Rattle.mm_render.specs.Justifying.{HasOnlyAxiomsOf, IsOwnAxiom}
-use Rattle.mm_render.proofs.Allowing.{axiom_has_only, closed_has_no_meta, closed_is_over, last_is_stated, stated_stays}
-use Rattle.mm_render.proofs.ImageLeaves.{rule_image_is_own}
+use Rattle.mm_claims.specs.OverNames.{closed_over}
+use Rattle.mm_claims.specs.Keeping.{Fits, MayState, axiom_at, with_stated}
+use Rattle.mm_claims.specs.Places.{IsStated}
+use Rattle.mm_claims.specs.ClaimVariables.{claim_of}
+use Rattle.mm_justify.specs.Justifying.{HasOnlyAxiomsOf, IsOwnAxiom}
+use Rattle.mm_justify.proofs.Allowing.{axiom_has_only}
+use Rattle.mm_claims.proofs.ClosedPatterns.{closed_has_no_meta, closed_is_over}
+use Rattle.mm_claims.proofs.LaterLaws.{last_is_stated, stated_stays}
+use Rattle.mm_justify.proofs.ImageLeaves.{rule_image_is_own}
 use Rattle.prove_run.proofs.ScriptLaws.{take_all, kept_stay, kept_set, axiom_last, axiom_before, image_closed}
 use Rattle.prove_run.proofs.script.Script.assume.Goals as goal
 

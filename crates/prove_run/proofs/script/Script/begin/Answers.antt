@@ -1,10 +1,10 @@
 use Rattle.std.proofs.Common.{◌≡◌, ℕ, ◌≤◌, List, [], ◌++◌, length, refl, ap, ◌∙◌, sym, subst, arith, rules}
 use Rattle.mm_header.specs.HeaderText.{header_bytes}
-use Rattle.mm_render.specs.Kept.{Kept}
-use Rattle.mm_render.specs.Keeping.{Fits}
-use Rattle.mm_render.specs.Justifying.{HasOnlyAxiomsOf}
+use Rattle.mm_claims.specs.Kept.{Kept}
+use Rattle.mm_claims.specs.Keeping.{Fits}
+use Rattle.mm_justify.specs.Justifying.{HasOnlyAxiomsOf}
 use Rattle.ml_image.specs.Gained.{AreOwnTokens}
-use Rattle.mm_render.proofs.HeaderStates.{header_has_only}
+use Rattle.mm_justify.proofs.HeaderStates.{header_has_only}
 use Rattle.prove_run.specs.Scripts.{AreStated}
 use Rattle.prove_run.proofs.ScriptLaws.{none_kept}
 use Rattle.prove_run.proofs.script.Script.begin.Goals as goal

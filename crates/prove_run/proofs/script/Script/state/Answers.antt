@@ -3,10 +3,10 @@ use Rattle.mm_text.specs.Bytes.{Token}
 use Rattle.ml_pat.specs.Patterns.{imp, ev}
 use Rattle.ml_kernel.specs.Theorems.{Theorem}
 use Rattle.mm_proof.specs.Leaves.{EachLeaf}
-use Rattle.mm_render.specs.OverNames.{closed_over}
+use Rattle.mm_claims.specs.OverNames.{closed_over}
 use Rattle.ml_image.specs.Images.{image_of}
-use Rattle.mm_render.specs.Places.{MayProve, StatesLemma}
-use Rattle.mm_render.proofs.Allowing.{theorem_justifies}
+use Rattle.mm_claims.specs.Places.{MayProve, StatesLemma}
+use Rattle.mm_justify.proofs.Allowing.{theorem_justifies}
 use Rattle.prove_run.proofs.ScriptLaws.{take_all, sound_stated}
 use Rattle.prove_run.proofs.script.Script.state.Goals as goal
 

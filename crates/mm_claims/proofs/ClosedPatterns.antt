@@ -1,0 +1,73 @@
+-- No variable stands in a closed pattern.
+use Rattle.std.proofs.Common.{◌≡◌, ℕ, ◌≤◌, Bool, true, false, List, [], ◌∷◌, ◌++◌, map, Some, slice_get, length, take, drop, zero, suc, refl, ap, ◌∙◌, sym, subst, arith, length-append}
+use Rattle.std.proofs.lemmas.Bool.{false≢true}
+use Rattle.mm_text.specs.Bytes.{Token}
+use Rattle.ml_pat.specs.Patterns.{Pattern, bot, top, imp, not, and, or, equal, member, fun, ex, all, app, at_sort, next, ev, var, meta, constant}
+use Rattle.mm_proof.specs.Leaves.{EachLeaf}
+use Rattle.mm_proof.proofs.LeafLaws.{EachLeaf-implied}
+use Rattle.mm_claims.specs.OverNames.{closed_over, over_names}
+use Rattle.mm_claims.specs.Variables.{Variable}
+use Rattle.mm_claims.specs.Blocks.{variable_float, open_frame}
+use Rattle.mm_claims.specs.ClaimVariables.{claim_of}
+use Rattle.mm_claims.specs.OpenVariables.{variables_in, other_variables}
+use Rattle.mm_claims.specs.ClosedLaws.{ClosedHasNoMeta, ClosedIsOver, ClosedClaims}
+
+-- No variable stands in a closed pattern.
+
+none_in_both : (us vs : List Variable) → us ≡ [] → vs ≡ [] → us ++ vs ≡ []
+none_in_both us vs h k = rw (h, k) refl
+
+closed_variables : (names : List Token) (p : Pattern) → EachLeaf (closed_over names) p → variables_in p ≡ []
+closed_variables names bot h = refl
+closed_variables names top h = refl
+closed_variables names (var x) h = absurd h
+closed_variables names (meta i) h = absurd h
+closed_variables names (constant c) h = refl
+closed_variables names (not p) h = closed_variables names p h
+closed_variables names (next p) h = closed_variables names p h
+closed_variables names (ev p) h = closed_variables names p h
+closed_variables names (fun p s) h = closed_variables names p h.0
+closed_variables names (at_sort p s) h = closed_variables names p h.0
+closed_variables names (ex x s p) h = absurd h.1.0
+closed_variables names (all x s p) h = absurd h.1.0
+closed_variables names (imp p q) h = none_in_both (variables_in p) (variables_in q) (closed_variables names p h.0) (closed_variables names q h.1)
+closed_variables names (and p q) h = none_in_both (variables_in p) (variables_in q) (closed_variables names p h.0) (closed_variables names q h.1)
+closed_variables names (or p q) h = none_in_both (variables_in p) (variables_in q) (closed_variables names p h.0) (closed_variables names q h.1)
+closed_variables names (equal p q) h = none_in_both (variables_in p) (variables_in q) (closed_variables names p h.0) (closed_variables names q h.1)
+closed_variables names (member p q) h = none_in_both (variables_in p) (variables_in q) (closed_variables names p h.0) (closed_variables names q h.1)
+closed_variables names (app p q) h = none_in_both (variables_in p) (variables_in q) (closed_variables names p h.0) (closed_variables names q h.1)
+
+pub closed_claims : ClosedClaims
+closed_claims names p h = ap (λ (vs : List Variable). other_variables [] (vs ++ [])) (closed_variables names p h)
+
+pub closed_is_over : ClosedIsOver
+closed_is_over names p h = EachLeaf-implied (closed_over names) (over_names names) p (record {
+  sort = λ i k. k;
+  constant = λ i k. k;
+  object = λ x k. absurd k;
+  meta = λ i k. absurd k;
+}) h
+
+pub closed_has_no_meta : ClosedHasNoMeta
+closed_has_no_meta names bot h = tt
+closed_has_no_meta names top h = tt
+closed_has_no_meta names (var x) h = tt
+closed_has_no_meta names (meta i) h = absurd h
+closed_has_no_meta names (constant c) h = tt
+closed_has_no_meta names (not p) h = closed_has_no_meta names p h
+closed_has_no_meta names (next p) h = closed_has_no_meta names p h
+closed_has_no_meta names (ev p) h = closed_has_no_meta names p h
+closed_has_no_meta names (fun p s) h = closed_has_no_meta names p h.0
+closed_has_no_meta names (at_sort p s) h = closed_has_no_meta names p h.0
+closed_has_no_meta names (ex x s p) h = closed_has_no_meta names p h.0
+closed_has_no_meta names (all x s p) h = closed_has_no_meta names p h.0
+closed_has_no_meta names (imp p q) h = (closed_has_no_meta names p h.0, closed_has_no_meta names q h.1)
+closed_has_no_meta names (and p q) h = (closed_has_no_meta names p h.0, closed_has_no_meta names q h.1)
+closed_has_no_meta names (or p q) h = (closed_has_no_meta names p h.0, closed_has_no_meta names q h.1)
+closed_has_no_meta names (equal p q) h = (closed_has_no_meta names p h.0, closed_has_no_meta names q h.1)
+closed_has_no_meta names (member p q) h = (closed_has_no_meta names p h.0, closed_has_no_meta names q h.1)
+closed_has_no_meta names (app p q) h = (closed_has_no_meta names p h.0, closed_has_no_meta names q h.1)
+
+-- so the frame of its claim has no hypotheses
+pub closed_frame_has_none : (names : List Token) (k : ℕ) (p : Pattern) → EachLeaf (closed_over names) p → (open_frame names k (claim_of [] p)).hypotheses ≡ []
+closed_frame_has_none names k p h = ap (λ (vs : List Variable). map (variable_float k) vs ++ []) (closed_claims names p h)

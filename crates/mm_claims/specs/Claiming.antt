@@ -1,0 +1,67 @@
+-- Statements behind a text that fits: what it has declared, and what may follow.
+use Rattle.std.specs.Prelude.{◌≡◌, ℕ, ◌<◌, ◌≤◌, ◌^◌, true, false, List, [], ◌∷◌, ◌++◌, map, length, slice_get, Some, None}
+use Rattle.mm_text.specs.Bytes.{Token}
+use Rattle.mm_text.specs.Labels.{is_label}
+use Rattle.mm_database.specs.Frames.{Frame}
+use Rattle.mm_database.specs.Database.{Context}
+use Rattle.mm_database.specs.Proofs.{active_hypothesis}
+use Rattle.mm_database.specs.Assertions.{Assertion, assertions_of, typings_of}
+use Rattle.mm_database.specs.Writing.{Leaves}
+use Rattle.ml_pat.specs.Patterns.{Pattern}
+use Rattle.ml_kernel.specs.Theorems.{Derivation}
+use Rattle.ml_kernel.specs.Concluding.{Concludes}
+use Rattle.mm_proof.specs.Labels.{statement_label, premise_label, own_labels}
+use Rattle.mm_proof.specs.Derivations.{derivation_tree, EachUsed}
+use Rattle.mm_proof.specs.MayCite.{EachCited}
+use Rattle.mm_claims.specs.Fitting.{AreNames, Holds}
+use Rattle.mm_claims.specs.Variables.{Variable, number_of, variable_token, variable_label, are_once, AreNumbered}
+use Rattle.mm_claims.specs.Blocks.{Claim, IsClaim, variable_float, open_frame, theorem_statements}
+use Rattle.mm_claims.specs.OverNames.{open_over}
+use Rattle.mm_claims.specs.CitedAt.{claims_citing, citable, ArePremises}
+
+-- no label of a block with this number is taken
+pub record IsFree (c : Context) (k : ℕ) : Type 0 where
+  pub statement : c.labels (statement_label k) ≡ false
+  pub variable : (v : Variable) → number_of v < 2 ^ 64 → c.labels (variable_label k v) ≡ false
+  pub premise : (j : ℕ) → j < 2 ^ 64 → c.labels (premise_label k j) ≡ false
+
+abbrev pub AreClaims : List Token → List Claim → Type 0
+AreClaims declared [] = Unit {0}
+AreClaims declared (s ∷ ss) = IsClaim declared s × AreClaims declared ss
+
+-- The header, these names and these claims are declared, each claim under the label of its place. The labels of later blocks
+-- are free; no variable's token is a label. The label of each assertion is well spelt, taken, and that of no active hypothesis.
+pub record HoldsClaims (declared : List Token) (claims : List Claim) (c : Context) : Type 0 where
+  pub base : Holds declared c
+  pub names : AreNames declared
+  pub claimed : AreClaims declared claims
+  pub frames : (k : ℕ) (s : Claim) → slice_get claims k ≡ Some s → c.frames (statement_label k) ≡ Some (open_frame declared k s)
+  pub free : (k : ℕ) → length claims ≤ k → k < 2 ^ 64 → IsFree c k
+  pub no_label : (v : Variable) → c.labels (variable_token v) ≡ false
+  pub spelt : (label : Token) (f : Frame) → c.frames label ≡ Some f → is_label label ≡ true
+  pub labelled : (label : Token) (f : Frame) → c.frames label ≡ Some f → c.labels label ≡ true
+  pub no_hypothesis : (label : Token) (f : Frame) → c.frames label ≡ Some f → active_hypothesis c label ≡ None
+
+-- a text that fits these names and claims
+abbrev pub FitsClaims : List Token → List Claim → List ℕ → Type 0
+FitsClaims declared claims bytes = (c : Context) × Leaves bytes c × HoldsClaims declared claims c
+
+-- A theorem that may be claimed: a derivation from its hypotheses that uses what is declared and the block's variables, and
+-- cites only what was claimed before.
+pub record IsProvable (declared : List Token) (claims : List Claim) (s : Claim) (more : List Variable) (d : Derivation) (place : List Pattern → Pattern → ℕ) (premise_place : Pattern → ℕ) : Type 0 where
+  pub once : are_once (s.variables ++ more) ≡ true
+  pub numbered : AreNumbered (s.variables ++ more)
+  pub concludes : Concludes s.hypotheses d s.conclusion
+  pub used : EachUsed (open_over declared (s.variables ++ more)) d
+  pub cites : EachCited (citable (open_over declared (s.variables ++ more)) claims place) d
+  pub premises : ArePremises s.hypotheses premise_place
+
+-- what is written of a theorem by a derivation, where what it cites stands at these places
+abbrev pub proved_statements : List Token → ℕ → List Claim → (List Pattern → Pattern → ℕ) → (Pattern → ℕ) → Claim → List Variable → Derivation → List (List Token)
+proved_statements declared k claims place premise_place s more d =
+    theorem_statements declared k s more (derivation_tree (own_labels k) (claims_citing k claims place premise_place) d)
+
+-- What a text has gained with a statement behind it: just this assertion, and the typings of these variables in its block.
+pub record HasJust (bytes appended : List ℕ) (k : ℕ) (vs : List Variable) (a : Assertion) : Type 0 where
+  pub assertions : assertions_of (bytes ++ appended) ≡ assertions_of bytes ++ a ∷ []
+  pub typings : typings_of (bytes ++ appended) ≡ typings_of bytes ++ map (variable_float k) vs

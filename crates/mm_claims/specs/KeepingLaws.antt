@@ -1,0 +1,24 @@
+-- What fits with the header and with names behind it.
+use Rattle.std.specs.Prelude.{◌≡◌, ℕ, ◌<◌, ◌≤◌, ◌^◌, Bool, true, false, IsTrue, List, [], ◌∷◌, ◌++◌, length, take, drop, slice_index_or}
+use Rattle.mm_text.specs.Bytes.{Token}
+use Rattle.mm_database.specs.FrameLaws.{written_statements}
+use Rattle.mm_header.specs.HeaderText.{header_bytes}
+use Rattle.ml_pat.specs.Named.{AreDistinct}
+use Rattle.mm_claims.specs.Kept.{Kept, nothing_kept, header_kept}
+use Rattle.mm_claims.specs.Statements.{all_name_statements}
+use Rattle.mm_claims.specs.Fitting.{AreNames}
+use Rattle.mm_claims.specs.Keeping.{Fits}
+
+-- the empty text fits a new renderer
+abbrev pub EmptyFits : Type 0
+EmptyFits = (names : List Token) → Fits names nothing_kept []
+
+-- the header behind a text that fits one, fits
+abbrev pub BegunFits : Type 0
+BegunFits = (names : List Token) (bytes : List ℕ) → Fits names nothing_kept bytes → Fits names header_kept (bytes ++ header_bytes)
+
+-- A text that fits still does so with the declarations of more names behind it. The names differ, and are fewer than 2 ^ 64.
+abbrev pub DeclaredFits : Type 0
+DeclaredFits =
+    (names : List Token) (k : Kept) (bytes : List ℕ) → AreNames names → AreDistinct names → length names < 2 ^ 64 → k.begun ≡ true → k.named ≤ length names → Fits names k bytes →
+    Fits names (record k { named = length names }) (bytes ++ written_statements (all_name_statements k.named (drop k.named names)))

@@ -1,0 +1,30 @@
+-- What stays true when names and statements are added.
+use Rattle.std.specs.Prelude.{◌≡◌, ℕ, ◌<◌, ◌≤◌, ◌^◌, true, false, List, [], ◌∷◌, ◌++◌, length, take, drop, Some}
+use Rattle.mm_text.specs.Bytes.{Token}
+use Rattle.ml_pat.specs.Patterns.{Pattern}
+use Rattle.mm_proof.specs.Leaves.{EachLeaf}
+use Rattle.mm_claims.specs.Kept.{Kept}
+use Rattle.mm_claims.specs.OverNames.{closed_over}
+use Rattle.mm_claims.specs.Blocks.{Claim}
+use Rattle.mm_claims.specs.Keeping.{Fits}
+use Rattle.mm_claims.specs.Places.{IsStated}
+
+-- a text that fits what is kept of some names still does so when the names gain tokens
+abbrev pub FitsLater : Type 0
+FitsLater = (names more : List Token) (k : Kept) (bytes : List ℕ) → k.named ≤ length names → Fits names k bytes → Fits (names ++ more) k bytes
+
+-- where all names are declared, those that are declared are all
+abbrev pub AllDeclared : Type 0
+AllDeclared = (names : List Token) (k : Kept) → k.named ≡ length names → take k.named names ≡ names
+
+-- what is closed over names stays so when they gain tokens
+abbrev pub ClosedStays : Type 0
+ClosedStays = (names more : List Token) (p : Pattern) → EachLeaf (closed_over names) p → EachLeaf (closed_over (names ++ more)) p
+
+-- what was stated last was stated, and what was stated before still is
+abbrev pub LastIsStated : Type 0
+LastIsStated = (stated : List Claim) (s : Claim) → IsStated (stated ++ s ∷ []) s.hypotheses s.conclusion
+
+abbrev pub StatedStays : Type 0
+StatedStays =
+    (stated more : List Claim) (hypotheses : List Pattern) (conclusion : Pattern) → IsStated stated hypotheses conclusion → IsStated (stated ++ more) hypotheses conclusion

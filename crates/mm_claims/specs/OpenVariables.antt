@@ -1,0 +1,58 @@
+-- The variables that a derivation needs in its block: those that stand in what is written of it. With these it can be written
+-- behind a text that fits, where it has declared names alone besides.
+use Rattle.std.specs.Prelude.{ℕ, if◌then◌else◌, List, [], ◌∷◌, ◌++◌, flat_map}
+use Rattle.ml_pat.specs.Patterns.{Pattern, bot, top, imp, not, and, or, equal, member, fun, ex, all, app, at_sort, next, ev, var, meta, constant}
+use Rattle.ml_kernel.specs.Lemmas.{instance}
+use Rattle.ml_kernel.specs.ProofRows.{Instance, pattern, variable, sort}
+use Rattle.ml_kernel.specs.Theorems.{Derivation, Derivations, hypothesis, own_axiom, row, cited, no_derivation, more_derivations}
+use Rattle.mm_claims.specs.Variables.{Variable, object_variable, pattern_variable, has_variable}
+use Rattle.mm_claims.specs.Blocks.{Claim}
+use Rattle.mm_claims.specs.CitedAt.{claim_at}
+
+-- the variables that stand in a pattern, bound or free, one behind the other
+abbrev pub variables_in : Pattern → List Variable
+variables_in bot = []
+variables_in top = []
+variables_in (imp p q) = variables_in p ++ variables_in q
+variables_in (not p) = variables_in p
+variables_in (and p q) = variables_in p ++ variables_in q
+variables_in (or p q) = variables_in p ++ variables_in q
+variables_in (equal p q) = variables_in p ++ variables_in q
+variables_in (member p q) = variables_in p ++ variables_in q
+variables_in (fun p s) = variables_in p
+variables_in (ex x s p) = object_variable x ∷ variables_in p
+variables_in (all x s p) = object_variable x ∷ variables_in p
+variables_in (app p q) = variables_in p ++ variables_in q
+variables_in (at_sort p s) = variables_in p
+variables_in (next p) = variables_in p
+variables_in (ev p) = variables_in p
+variables_in (var x) = object_variable x ∷ []
+variables_in (meta i) = pattern_variable i ∷ []
+variables_in (constant c) = []
+
+-- in what stands for a variable of a rule, and for one of a claim
+abbrev pub variables_for : Instance → List Variable
+variables_for (pattern p) = variables_in p
+variables_for (variable x) = object_variable x ∷ []
+variables_for (sort s) = []
+
+abbrev pub variables_at : List Pattern → Variable → List Variable
+variables_at ms (object_variable i) = object_variable i ∷ []
+variables_at ms (pattern_variable i) = variables_in (instance ms (meta i))
+
+-- in what is written of a derivation, where the claims that it cites have their places: one behind the other
+abbrev mutual
+  pub variables_of : List Claim → (List Pattern → Pattern → ℕ) → Derivation → List Variable
+  variables_of claims place (hypothesis p) = []
+  variables_of claims place (own_axiom n p) = (claim_at claims (place [] p)).variables
+  variables_of claims place (row n is ds) = flat_map variables_for is ++ all_variables_of claims place ds
+  variables_of claims place (cited own q d ms ds) = flat_map (variables_at ms) (claim_at claims (place own q)).variables ++ all_variables_of claims place ds
+
+  pub all_variables_of : List Claim → (List Pattern → Pattern → ℕ) → Derivations → List Variable
+  all_variables_of claims place no_derivation = []
+  all_variables_of claims place (more_derivations d ds) = variables_of claims place d ++ all_variables_of claims place ds
+
+-- those of some variables that are none of others, each once, in the order in which they first stand
+abbrev pub other_variables : List Variable → List Variable → List Variable
+other_variables vs [] = []
+other_variables vs (u ∷ us) = if has_variable vs u then other_variables vs us else (u ∷ other_variables (vs ++ u ∷ []) us)

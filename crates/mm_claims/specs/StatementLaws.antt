@@ -1,0 +1,55 @@
+-- What follows of statements behind a text that fits.
+use Rattle.std.specs.Prelude.{◌≡◌, ℕ, ◌<◌, ◌≤◌, ◌^◌, true, false, List, [], ◌∷◌, ◌++◌, map, length, slice_get, Some, None}
+use Rattle.mm_text.specs.Bytes.{Token}
+use Rattle.mm_database.specs.Validity.{IsValid}
+use Rattle.mm_database.specs.FrameLaws.{written_statements}
+use Rattle.mm_header.specs.HeaderText.{header_bytes}
+use Rattle.ml_pat.specs.Patterns.{Pattern}
+use Rattle.ml_pat.specs.Named.{AreDistinct}
+use Rattle.ml_kernel.specs.Theorems.{Derivation}
+use Rattle.mm_claims.specs.Statements.{all_name_statements}
+use Rattle.mm_claims.specs.Fitting.{AreNames}
+use Rattle.mm_claims.specs.Variables.{Variable}
+use Rattle.mm_claims.specs.Blocks.{Claim, IsClaim, open_assertion, axiom_statements}
+use Rattle.mm_claims.specs.Claiming.{FitsClaims, IsProvable, proved_statements, HasJust}
+
+-- such a text is valid
+abbrev pub ClaimsAreValid : Type 0
+ClaimsAreValid = (declared : List Token) (claims : List Claim) (bytes : List ℕ) → FitsClaims declared claims bytes → IsValid bytes
+
+-- the header fits no names and no claims
+abbrev pub HeaderFitsClaims : Type 0
+HeaderFitsClaims = FitsClaims [] [] header_bytes
+
+-- a text that fits, with the declarations of more names, fits these
+abbrev pub NamesFitClaims : Type 0
+NamesFitClaims =
+    (declared more : List Token) (claims : List Claim) (bytes : List ℕ) → FitsClaims declared claims bytes →
+    AreNames (declared ++ more) → AreDistinct (declared ++ more) → length (declared ++ more) < 2 ^ 64 →
+    FitsClaims (declared ++ more) claims (bytes ++ written_statements (all_name_statements (length declared) more))
+
+-- a text that fits, with an axiom behind it, fits with one claim more
+abbrev pub AxiomFits : Type 0
+AxiomFits =
+    (declared : List Token) (claims : List Claim) (bytes : List ℕ) (s : Claim) → FitsClaims declared claims bytes →
+    length claims < 2 ^ 64 → IsClaim declared s →
+    FitsClaims declared (claims ++ s ∷ []) (bytes ++ written_statements (axiom_statements declared (length claims) s))
+
+-- and so it does with a theorem
+abbrev pub TheoremFits : Type 0
+TheoremFits =
+    (declared : List Token) (claims : List Claim) (bytes : List ℕ) (s : Claim) (more : List Variable) (d : Derivation) (place : List Pattern → Pattern → ℕ) (premise_place : Pattern → ℕ) →
+    FitsClaims declared claims bytes → length claims < 2 ^ 64 → IsClaim declared s → IsProvable declared claims s more d place premise_place →
+    FitsClaims declared (claims ++ s ∷ []) (bytes ++ written_statements (proved_statements declared (length claims) claims place premise_place s more d))
+
+abbrev pub AxiomIsGained : Type 0
+AxiomIsGained =
+    (declared : List Token) (claims : List Claim) (bytes : List ℕ) (s : Claim) → FitsClaims declared claims bytes →
+    length claims < 2 ^ 64 → IsClaim declared s →
+    HasJust bytes (written_statements (axiom_statements declared (length claims) s)) (length claims) s.variables (open_assertion false declared (length claims) s)
+
+abbrev pub TheoremIsGained : Type 0
+TheoremIsGained =
+    (declared : List Token) (claims : List Claim) (bytes : List ℕ) (s : Claim) (more : List Variable) (d : Derivation) (place : List Pattern → Pattern → ℕ) (premise_place : Pattern → ℕ) →
+    FitsClaims declared claims bytes → length claims < 2 ^ 64 → IsClaim declared s → IsProvable declared claims s more d place premise_place →
+    HasJust bytes (written_statements (proved_statements declared (length claims) claims place premise_place s more d)) (length claims) (s.variables ++ more) (open_assertion true declared (length claims) s)

@@ -1,0 +1,5 @@
+pub mod Justifying
+pub mod JustifyingLaws
+pub mod JustifyingCases
+pub mod ImageLaws
+pub mod NoVariables
