@@ -1,3 +1,2 @@
 pub mod Tables
-pub mod Trials
-pub mod Reordered
+pub mod Belows

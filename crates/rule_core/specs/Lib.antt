@@ -2,10 +2,10 @@ pub mod Named
 pub mod TableFields
 pub mod Rules
 pub mod Matching
+pub mod MatchLaws
+pub mod MatchSteps
 pub mod FirstRule
 pub mod Runs
-pub mod ProgramView
-pub mod Trial
 pub mod Subsorts
 pub mod SubsortFields
 pub mod Sorting

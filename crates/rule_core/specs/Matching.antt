@@ -1,6 +1,6 @@
 -- Matching by substitution (Kore language document, "Patterns"). A substitution matches a pattern with a term where the
 -- pattern becomes the term under it. The definition guesses the substitution; the code takes the term apart.
-use Rattle.std.specs.Prelude.{◌≡◌, ◌↔◌, ℕ, List, length, slice_get, Option, Some, IsSome, ◌⊎◌}
+use Rattle.std.specs.Prelude.{◌≡◌, ◌↔◌, ◌<◌, ℕ, List, length, slice_get, Option, Some, IsSome, ◌⊎◌}
 use Rattle.term_core.specs.Terms.{Tree, Forest, IsNormal}
 use Rattle.term_core.specs.Patterns.{Pattern, Patterns, variable, domain_value, application, injection, call, no_pattern, more_patterns, binding, instance_of, instances_of}
 use Rattle.rule_core.specs.Sorting.{IsTermOf}
@@ -19,13 +19,26 @@ abbrev mutual
   StandsInSome x no_pattern = ⊥
   StandsInSome x (more_patterns p ps) = StandsIn x p ⊎ StandsInSome x ps
 
+-- the first variables, so many, are all that stand in the patterns
+abbrev pub UseFirst : ℕ → Patterns → Type 0
+UseFirst n ps = (x : ℕ) → StandsInSome x ps → x < n
+
+-- the substitution gives variables normal terms of their sorts
+abbrev pub RespectsSorts : Signature → List ℕ → List (Option Tree) → Type 0
+RespectsSorts sig variables theta =
+    (x : ℕ) (t : Tree) → binding theta x ≡ Some t → IsNormal t × ((sort : ℕ) × (slice_get variables x ≡ Some sort) × IsTermOf sig t sort)
+
 -- the substitution gives just the variables that stand in the patterns each a normal term of its sort
 pub record Binds (sig : Signature) (variables : List ℕ) (ps : Patterns) (theta : List (Option Tree)) : Type 0 where
   pub room : length theta ≡ length variables
   pub just : (x : ℕ) → IsSome (binding theta x) ↔ StandsInSome x ps
-  pub sorted : (x : ℕ) (t : Tree) → binding theta x ≡ Some t → IsNormal t × ((sort : ℕ) × (slice_get variables x ≡ Some sort) × IsTermOf sig t sort)
+  pub sorted : RespectsSorts sig variables theta
 
 -- such a substitution makes the patterns the terms, in order
 pub record MatchAll (sig : Signature) (variables : List ℕ) (ps : Patterns) (ts : Forest) (theta : List (Option Tree)) : Type 0 where
   pub binds : Binds sig variables ps theta
   pub makes : instances_of theta ps ≡ Some ts
+
+-- no substitution does
+abbrev pub NoneMatches : Signature → List ℕ → Patterns → Forest → Type 0
+NoneMatches sig variables ps ts = (theta : List (Option Tree)) → MatchAll sig variables ps ts theta → ⊥

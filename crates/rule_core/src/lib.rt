@@ -13,12 +13,12 @@ mod rules;
 mod signature;
 mod subsorts;
 mod table;
-#[cfg(test)]
-mod tests;
-mod trial;
+
+
+
 
 pub use rules::{Outcome, Program, Rule, VarInfo};
 pub use signature::{Signature, SortInfo, SortKind, SortRef, SymInfo, SymKind};
 pub use subsorts::Subsorts;
 pub use table::Table;
-pub use trial::first_match;
+
