@@ -14,3 +14,4 @@ pub mod HookCalls
 pub mod Evaluation
 pub mod WellSorted
 pub mod Records
+pub mod EvaluationLaws
