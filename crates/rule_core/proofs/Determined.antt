@@ -9,13 +9,14 @@ use Rattle.rule_core.specs.Sorting.{IsSymbol}
 use Rattle.rule_core.specs.Evaluation.{Evaluated, value, Evaluates}
 use Rattle.rule_core.specs.Records.{Record, result_of, Records}
 use Rattle.rule_core.specs.WellSorted.{IsWellSorted, IsEquationOf}
-use Rattle.rule_core.specs.EvaluationLaws.{EvaluationIsUnique, MoreLeftKeepsValue, ValueHasRecord, RecordTells, RecordDetermines, RecordsAgree}
+use Rattle.rule_core.specs.EvaluationLaws.{EvaluationIsUnique, EvaluationHasAnswer, ValuesAreSorted, MoreLeftKeepsValue, ValueHasRecord, RecordTells, RecordDetermines, RecordsAgree}
 use Rattle.rule_core.specs.declared.signature.SymInfo.{SymInfo}
 use Rattle.rule_core.proofs.EvaluationUnique.{MatchesOnce, AllMatchOnce, evaluation_unique}
 use Rattle.rule_core.proofs.MoreLeft.{evaluates_more}
 use Rattle.rule_core.proofs.RecordsTell.{record_tells}
 use Rattle.rule_core.proofs.RecordsKept.{has_record}
-use Rattle.rule_core.proofs.MatchAssumed.{match_is_unique}
+use Rattle.rule_core.proofs.EvaluationAnswers.{IsGood, answers}
+use Rattle.rule_core.proofs.MatchExact.{match_is_unique}
 
 pub all_match_once : (theory : RewriteTheory) → IsWellSorted theory → AllMatchOnce theory
 all_match_once theory good f info i =
@@ -24,6 +25,16 @@ all_match_once theory good f info i =
 
 pub evaluation_is_unique : EvaluationIsUnique
 evaluation_is_unique theory n c theta p r s good a b = evaluation_unique theory (all_match_once theory good) a s b
+
+pub evaluation_has_answer : EvaluationHasAnswer
+evaluation_has_answer theory n c variables theta p sort good h serves =
+    let r = (answers theory good n).0 variables theta p sort c h serves in (r.0, r.1)
+
+pub values_are_sorted : ValuesAreSorted
+values_are_sorted theory n c d variables theta p sort t good h serves e =
+    let r = (answers theory good n).0 variables theta p sort c h serves in
+    let same : r.0 ≡ value t d = evaluation_unique theory (all_match_once theory good) r.1 (value t d) e in
+    subst (IsGood theory.sig sort) same r.2
 
 pub more_left_keeps_value : MoreLeftKeepsValue
 more_left_keeps_value theory n m c d k theta p t le e = evaluates_more theory k e m le

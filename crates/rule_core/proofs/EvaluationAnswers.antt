@@ -24,7 +24,8 @@ use Rattle.rule_core.specs.declared.signature.SymKind.{SymKind}
 use Rattle.rule_core.specs.declared.signature.SymKind.TheVariants.{Injection, Ctor, Equations, Hooked, Closed, NoKind}
 use Rattle.rule_core.proofs.EvaluationUnique.{all_first, all_rest, same_symbol}
 use Rattle.rule_core.proofs.HookRanges.{hook_answer}
-use Rattle.rule_core.proofs.MatchAssumed.{match_is_decidable, mapped, both_there, IsTermOf-injected}
+use Rattle.rule_core.proofs.SortedInstances.{mapped, both_there, IsTermOf-injected}
+use Rattle.rule_core.proofs.MatchExact.{match_is_decidable}
 
 -- ---- a binding is no higher than the instance
 

@@ -5,3 +5,10 @@ pub mod SortedInstances
 pub mod MatchFound
 pub mod MatchComplete
 pub mod MatchExact
+pub mod EvaluationUnique
+pub mod MoreLeft
+pub mod RecordsTell
+pub mod RecordsKept
+pub mod HookRanges
+pub mod EvaluationAnswers
+pub mod Determined

@@ -9,6 +9,7 @@
 // (specs/FirstRule.antt), and runs (specs/Runs.antt).
 #![tactic(auto)]
 
+mod evaluation;
 mod rules;
 mod signature;
 mod subsorts;
@@ -17,6 +18,7 @@ mod table;
 
 
 
+pub use evaluation::{evaluation_laws, record_laws};
 pub use rules::{Outcome, Program, Rule, VarInfo};
 pub use signature::{Signature, SortInfo, SortKind, SortRef, SymInfo, SymKind};
 pub use subsorts::Subsorts;

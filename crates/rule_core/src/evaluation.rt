@@ -1,0 +1,20 @@
+// Laws on evaluation and on its records.
+ghost use Rattle.rule_core.specs.EvaluationLaws.{EvaluationHasAnswer, EvaluationIsUnique, MoreLeftKeepsValue, RecordDetermines, RecordTells, RecordsAgree, ValueHasRecord, ValuesAreSorted};
+
+/// Evaluation in a well-sorted theory is a function: a pattern that has a sort has one answer under a substitution that
+/// gives its variables terms of their sorts, and a value is a normal term of the pattern's sort, of height at most 500.
+/// More nesting and more calls left keep a value.
+pub fn evaluation_laws()
+    ensures one { EvaluationIsUnique }
+    ensures some { EvaluationHasAnswer }
+    ensures sorted { ValuesAreSorted }
+    ensures more { MoreLeftKeepsValue }
+{}
+
+/// A value has a record; a record tells an evaluation, and its result is the only value.
+pub fn record_laws()
+    ensures kept { ValueHasRecord }
+    ensures tells { RecordTells }
+    ensures determines { RecordDetermines }
+    ensures agree { RecordsAgree }
+{}
