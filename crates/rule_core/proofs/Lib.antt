@@ -12,3 +12,5 @@ pub mod RecordsKept
 pub mod HookRanges
 pub mod EvaluationAnswers
 pub mod Determined
+pub mod TriedIntegers
+pub mod TriedBounds

@@ -15,3 +15,4 @@ pub mod Evaluation
 pub mod WellSorted
 pub mod Records
 pub mod EvaluationLaws
+pub mod EvaluationCases
