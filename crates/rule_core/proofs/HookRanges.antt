@@ -157,7 +157,7 @@ range_short : (z : ℤ) → IsInRange z → IsShort 127 z
 range_short (pos n) r = let le : n ≤ 2 ^ 127 - 1 = leb→le n (2 ^ 127 - 1) r.1.le in omega arith
 range_short (negsuc n) r = let le : n ≤ 2 ^ 127 - 1 = leb→le n (2 ^ 127 - 1) r.0.le in omega arith
 
-short_range : (z : ℤ) → IsShort 127 z → IsInRange z
+pub short_range : (z : ℤ) → IsShort 127 z → IsInRange z
 short_range (pos n) s = (record { le = tt; }, record { le = le→leb n (2 ^ 127 - 1) (omega arith); })
 short_range (negsuc n) s = (record { le = le→leb n (2 ^ 127 - 1) (omega arith); }, record { le = tt; })
 

@@ -14,3 +14,5 @@ pub mod EvaluationAnswers
 pub mod Determined
 pub mod TriedIntegers
 pub mod TriedBounds
+pub mod TriedSteps
+pub mod TriedLists

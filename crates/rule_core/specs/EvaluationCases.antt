@@ -196,17 +196,30 @@ pub record DeclaresLists (sig : Signature) : Type 0 where
   pub more : Declares sig 2 Ctor (0 ∷ (1 ∷ [])) 1
   pub item : Declares sig 3 Ctor [] 0
 
+-- nothing in front of a list is the list
+abbrev pub append_empty : Equation
+append_empty = record {
+  arguments = two (application 1 no_pattern) (variable 0);
+  condition = None;
+  right = variable 0;
+  variables = 1 ∷ [];
+  priority = 50;
+  place = 0;
+}
+
+-- an item and a list in front of another one are the item in front of both lists
+abbrev pub append_more : Equation
+append_more = record {
+  arguments = two (application 2 (two (variable 0) (variable 1))) (variable 2);
+  condition = None;
+  right = application 2 (two (variable 0) (call 0 [] (two (variable 1) (variable 2))));
+  variables = 0 ∷ (1 ∷ (1 ∷ []));
+  priority = 50;
+  place = 1;
+}
+
 abbrev pub appending : Signature → RewriteTheory
-appending sig = defined_by sig
-    (record { arguments = two (application 1 no_pattern) (variable 0); condition = None; right = variable 0; variables = 1 ∷ []; priority = 50; place = 0; }
-    ∷ (record {
-      arguments = two (application 2 (two (variable 0) (variable 1))) (variable 2);
-      condition = None;
-      right = application 2 (two (variable 0) (call 0 [] (two (variable 1) (variable 2))));
-      variables = 0 ∷ (1 ∷ (1 ∷ []));
-      priority = 50;
-      place = 1;
-    } ∷ []))
+appending sig = defined_by sig (append_empty ∷ (append_more ∷ []))
 
 abbrev pub empty_list : Pattern
 empty_list = application 1 no_pattern

@@ -1,4 +1,5 @@
-// Laws on evaluation and on its records.
+// Laws on evaluation and on its records, and the definitions tried on small theories.
+ghost use Rattle.rule_core.specs.EvaluationCases.{TriedEvaluations};
 ghost use Rattle.rule_core.specs.EvaluationLaws.{EvaluationHasAnswer, EvaluationIsUnique, MoreLeftKeepsValue, RecordDetermines, RecordTells, RecordsAgree, ValueHasRecord, ValuesAreSorted};
 
 /// Evaluation in a well-sorted theory is a function: a pattern that has a sort has one answer under a substitution that
@@ -17,4 +18,10 @@ pub fn record_laws()
     ensures tells { RecordTells }
     ensures determines { RecordDetermines }
     ensures agree { RecordsAgree }
+{}
+
+/// The definitions say of small theories what is expected: on whole numbers near the ends of their range, near each bound
+/// of an evaluation, by rules with conditions, through injections, and by a function with two equations.
+pub fn tried()
+    ensures cases { TriedEvaluations }
 {}

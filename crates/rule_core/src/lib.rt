@@ -18,7 +18,7 @@ mod table;
 
 
 
-pub use evaluation::{evaluation_laws, record_laws};
+pub use evaluation::{evaluation_laws, record_laws, tried};
 pub use rules::{Outcome, Program, Rule, VarInfo};
 pub use signature::{Signature, SortInfo, SortKind, SortRef, SymInfo, SymKind};
 pub use subsorts::Subsorts;
