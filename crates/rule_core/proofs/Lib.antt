@@ -5,3 +5,5 @@ pub mod SortedInstances
 pub mod MatchFound
 pub mod MatchComplete
 pub mod MatchExact
+pub mod MatchAnswers
+pub mod Searches

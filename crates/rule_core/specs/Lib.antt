@@ -2,6 +2,7 @@ pub mod Named
 pub mod TableFields
 pub mod Rules
 pub mod Matching
+pub mod MatchSearch
 pub mod MatchLaws
 pub mod MatchSteps
 pub mod FirstRule

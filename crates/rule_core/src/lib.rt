@@ -9,6 +9,8 @@
 // (specs/FirstRule.antt), and runs (specs/Runs.antt).
 #![tactic(auto)]
 
+mod laws;
+mod matching;
 mod rules;
 mod signature;
 mod subsorts;
@@ -17,6 +19,8 @@ mod table;
 
 
 
+pub use laws::match_laws;
+pub use matching::{find_match, find_match_all};
 pub use rules::{Outcome, Program, Rule, VarInfo};
 pub use signature::{Signature, SortInfo, SortKind, SortRef, SymInfo, SymKind};
 pub use subsorts::Subsorts;
