@@ -7,3 +7,4 @@ pub mod MatchComplete
 pub mod MatchExact
 pub mod MatchAnswers
 pub mod Searches
+pub mod Trials

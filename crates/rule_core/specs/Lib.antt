@@ -15,3 +15,5 @@ pub mod HookCalls
 pub mod Evaluation
 pub mod WellSorted
 pub mod Records
+pub mod ProgramView
+pub mod Trial

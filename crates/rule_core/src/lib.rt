@@ -15,6 +15,7 @@ mod rules;
 mod signature;
 mod subsorts;
 mod table;
+mod trial;
 
 
 
@@ -25,4 +26,5 @@ pub use rules::{Outcome, Program, Rule, VarInfo};
 pub use signature::{Signature, SortInfo, SortKind, SortRef, SymInfo, SymKind};
 pub use subsorts::Subsorts;
 pub use table::Table;
+pub use trial::first_match;
 
