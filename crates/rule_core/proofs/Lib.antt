@@ -16,3 +16,6 @@ pub mod TriedIntegers
 pub mod TriedBounds
 pub mod TriedSteps
 pub mod TriedLists
+pub mod MatchAnswers
+pub mod Searches
+pub mod Trials

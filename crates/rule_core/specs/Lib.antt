@@ -2,6 +2,7 @@ pub mod Named
 pub mod TableFields
 pub mod Rules
 pub mod Matching
+pub mod MatchSearch
 pub mod MatchLaws
 pub mod MatchSteps
 pub mod FirstRule
@@ -16,3 +17,5 @@ pub mod WellSorted
 pub mod Records
 pub mod EvaluationLaws
 pub mod EvaluationCases
+pub mod ProgramView
+pub mod Trial

@@ -1,7 +1,7 @@
 -- Matching by substitution (Kore language document, "Patterns"). A substitution matches a pattern with a term where the
 -- pattern becomes the term under it. The definition guesses the substitution; the code takes the term apart.
 use Rattle.std.specs.Prelude.{◌≡◌, ◌↔◌, ◌<◌, ℕ, List, length, slice_get, Option, Some, IsSome, ◌⊎◌}
-use Rattle.term_core.specs.Terms.{Tree, Forest, IsNormal}
+use Rattle.term_core.specs.Terms.{Tree, Forest, no_tree, more_trees, IsNormal}
 use Rattle.term_core.specs.Patterns.{Pattern, Patterns, variable, domain_value, application, injection, call, no_pattern, more_patterns, binding, instance_of, instances_of}
 use Rattle.rule_core.specs.Sorting.{IsTermOf}
 use Rattle.rule_core.specs.declared.signature.Signature.{Signature}
@@ -39,6 +39,10 @@ pub record MatchAll (sig : Signature) (variables : List ℕ) (ps : Patterns) (ts
   pub binds : Binds sig variables ps theta
   pub makes : instances_of theta ps ≡ Some ts
 
--- no substitution does
+-- such a substitution makes the pattern the term
+abbrev pub MatchesTerm : Signature → List ℕ → Pattern → Tree → List (Option Tree) → Type 0
+MatchesTerm sig variables p t theta = MatchAll sig variables (more_patterns p no_pattern) (more_trees t no_tree) theta
+
+-- no substitution makes the patterns the terms
 abbrev pub NoneMatches : Signature → List ℕ → Patterns → Forest → Type 0
 NoneMatches sig variables ps ts = (theta : List (Option Tree)) → MatchAll sig variables ps ts theta → ⊥

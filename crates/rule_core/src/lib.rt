@@ -10,17 +10,20 @@
 #![tactic(auto)]
 
 mod evaluation;
+mod laws;
+mod matching;
 mod rules;
 mod signature;
 mod subsorts;
 mod table;
-
-
-
+mod trial;
 
 pub use evaluation::{evaluation_laws, record_laws, tried};
+pub use laws::match_laws;
+pub use matching::{find_match, find_match_all};
 pub use rules::{Outcome, Program, Rule, VarInfo};
 pub use signature::{Signature, SortInfo, SortKind, SortRef, SymInfo, SymKind};
 pub use subsorts::Subsorts;
 pub use table::Table;
+pub use trial::first_match;
 

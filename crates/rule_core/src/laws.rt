@@ -1,0 +1,12 @@
+// Laws of matching.
+ghost use Rattle.rule_core.specs.MatchLaws.{SortedUseFirst, InstancesAreSorted, MatchIsUnique, MatchIsDecidable};
+
+/// Does nothing when it runs: a caller learns by it what matching does with well-sorted patterns. They use no variables but
+/// those that have a sort; their instances are normal terms of their sorts; at most one substitution matches them with
+/// terms; and whether one does can be decided.
+pub fn match_laws()
+    ensures variables { SortedUseFirst }
+    ensures instances { InstancesAreSorted }
+    ensures unique { MatchIsUnique }
+    ensures decidable { MatchIsDecidable }
+{}
