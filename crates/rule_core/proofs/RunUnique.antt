@@ -116,3 +116,139 @@ step_is_unique theory t c r s good a b =
     let second = after_trial b in
     let same : second.0 ≡ first.0 = trial_is_unique theory t c second.0 first.0 good second.1 first.1 in
     after_only theory (all_match_once theory good) first.2 (subst (λ x. After theory x s) same second.2)
+
+-- ---- runs
+
+same_start : (theory : RewriteTheory) → AllMatchOnce theory → {start : Pattern} {calls c d : ℕ} {t u : Tree} → Evaluates theory most_nesting [] start calls (value t c) → Evaluates theory most_nesting [] start calls (value u d) → (t ≡ u) × (c ≡ d)
+same_start theory once {c = c} {d = d} {t = t} {u = u} a b = let same : value t c ≡ value u d = evaluation_unique theory once a (value u d) b in (cc, cc)
+
+from_start : {theory : RewriteTheory} {start : Pattern} {calls c : ℕ} {t : Tree} → Reaches theory start calls 0 t c → Evaluates theory most_nesting [] start calls (value t c)
+from_start (at_start e) = e
+
+-- the configuration before a step
+record Before (theory : RewriteTheory) (start : Pattern) (calls n : ℕ) (u : Tree) (d : ℕ) : Type 0 where
+  term : Tree
+  left : ℕ
+  reached : Reaches theory start calls n term left
+  step : Steps theory term left (next u d)
+
+before : {theory : RewriteTheory} {start : Pattern} {calls n d : ℕ} {u : Tree} → Reaches theory start calls (suc n) u d → Before theory start calls n u d
+before (after_step r s) = record { term = _; left = _; reached = r; step = s; }
+
+same_place : (theory : RewriteTheory) → IsWellSorted theory → {start : Pattern} {calls : ℕ} (n : ℕ) {c d : ℕ} {t u : Tree} → Reaches theory start calls n t c → Reaches theory start calls n u d → (t ≡ u) × (c ≡ d)
+same_place theory good zero a b = same_start theory (all_match_once theory good) (from_start a) (from_start b)
+same_place theory good (suc n) {c} {d} {t} {u} a b =
+    let x = before a in
+    let y = before b in
+    let places = same_place theory good n y.reached x.reached in
+    let step : Steps theory x.term x.left (next u d) = subst (λ k. Steps theory x.term k (next u d)) places.1 (subst (λ v. Steps theory v y.left (next u d)) places.0 y.step) in
+    let same : next t c ≡ next u d = step_is_unique theory x.term x.left (next t c) (next u d) good x.step step in
+    (cc, cc)
+
+starts : {theory : RewriteTheory} {start : Pattern} {calls n c : ℕ} {t : Tree} → Reaches theory start calls n t c → (u : Tree) × (d : ℕ) × Evaluates theory most_nesting [] start calls (value u d)
+starts (at_start {t = t} {c = c} e) = (t, c, e)
+starts (after_step r s) = starts r
+
+-- a run that goes on passes each place, by a step
+passes : {theory : RewriteTheory} {start : Pattern} {calls : ℕ} (m n : ℕ) {d : ℕ} {u : Tree} → Reaches theory start calls m u d → n < m → (w : Tree) × (e : ℕ) × Before theory start calls n w e
+passes zero n r lt = absurd (omega arith)
+passes (suc m) n {d} {u} r lt =
+    ⊎_elim (λ (same : n ≡ m). rw same (u, d, before r)) (λ (less : n < m). passes m n (before r).reached less) (eq-or-lt_of_le (omega arith))
+
+-- a configuration is the last one: the limit is reached, or no step leads on
+record Last (theory : RewriteTheory) (limit : ℕ) (start : Pattern) (calls n : ℕ) (t : Tree) (c : ℕ) : Type 0 where
+  reached : Reaches theory start calls n t c
+  within : n ≤ limit
+  ends : n < limit → (w : Tree) (e : ℕ) → Steps theory t c (next w e) → ⊥
+
+not_before : (theory : RewriteTheory) → IsWellSorted theory → {start : Pattern} {calls : ℕ} (limit n m : ℕ) {c d : ℕ} {t u : Tree} → Last theory limit start calls n t c → Last theory limit start calls m u d → n < m → ⊥
+not_before theory good limit n m {c} {d} {t} {u} a b lt =
+    let on = passes m n b.reached lt in
+    let le : m ≤ limit = b.within in
+    let places = same_place theory good n on.2.reached a.reached in
+    let step : Steps theory t c (next on.0 on.1) = subst (λ k. Steps theory t k (next on.0 on.1)) places.1 (subst (λ v. Steps theory v on.2.left (next on.0 on.1)) places.0 on.2.step) in
+    a.ends (omega arith) on.0 on.1 step
+
+same_count : (theory : RewriteTheory) → IsWellSorted theory → {start : Pattern} {calls : ℕ} (limit n m : ℕ) {c d : ℕ} {t u : Tree} → Last theory limit start calls n t c → Last theory limit start calls m u d → n ≡ m
+same_count theory good limit n m a b =
+    let less : n < m → ⊥ = not_before theory good limit n m a b in let more : m < n → ⊥ = not_before theory good limit m n b a in omega arith
+
+same_last : (theory : RewriteTheory) → IsWellSorted theory → {start : Pattern} {calls : ℕ} (limit n m : ℕ) {c d : ℕ} {t u : Tree} → Last theory limit start calls n t c → Last theory limit start calls m u d → (n ≡ m) × (t ≡ u) × (c ≡ d)
+same_last theory good {start} {calls} limit n m {c} {d} {t} {u} a b =
+    let counts = same_count theory good limit n m a b in
+    let places = same_place theory good n a.reached (subst (λ k. Reaches theory start calls k u d) (sym counts) b.reached) in
+    (counts, places.0, places.1)
+
+stuck_last : (theory : RewriteTheory) → IsWellSorted theory → {start : Pattern} {calls : ℕ} (limit n : ℕ) (t : Tree) → (h : IsRunOf theory limit calls start (stuck n t)) → Last theory limit start calls n t h.0
+stuck_last theory good limit n t (c, r, lt, s) = record {
+  reached = r;
+  within = omega arith;
+  ends = λ le w e step. let same : stays ≡ next w e = step_is_unique theory t c stays (next w e) good s step in let no : ⊥ = cc in no;
+}
+
+stopped_last : (theory : RewriteTheory) → IsWellSorted theory → {start : Pattern} {calls : ℕ} (limit n : ℕ) (cause : Cause) (t : Tree) → (h : IsRunOf theory limit calls start (stopped n cause t)) → Last theory limit start calls n t h.0
+stopped_last theory good limit n cause t (c, r, lt, s) = record {
+  reached = r;
+  within = omega arith;
+  ends = λ le w e step. let same : stops cause ≡ next w e = step_is_unique theory t c (stops cause) (next w e) good s step in let no : ⊥ = cc in no;
+}
+
+limited_last : (theory : RewriteTheory) {start : Pattern} {calls : ℕ} (limit n : ℕ) (t : Tree) → (h : IsRunOf theory limit calls start (limited n t)) → Last theory limit start calls n t h.0
+limited_last theory limit n t (c, r, e) = record { reached = r; within = omega arith; ends = λ lt w k step. absurd (omega arith); }
+
+-- an initial term whose evaluation is blocked reaches no configuration
+unstarted_reaches : (theory : RewriteTheory) → IsWellSorted theory → {start : Pattern} {calls n c : ℕ} {t : Tree} (cause : Cause) → Evaluates theory most_nesting [] start calls (blocked cause) → Reaches theory start calls n t c → ⊥
+unstarted_reaches theory good cause e r =
+    let s = starts r in
+    let same : blocked cause ≡ value s.0 s.1 = evaluation_unique theory (all_match_once theory good) e (value s.0 s.1) s.2 in
+    cc
+
+-- a step from the same configuration
+moved : (theory : RewriteTheory) {t u : Tree} {c d : ℕ} {s : Stepped} → t ≡ u → c ≡ d → Steps theory u d s → Steps theory t c s
+moved theory {t} {u} {c} {d} {s} e k step = subst (λ v. Steps theory v c s) (sym e) (subst (λ j. Steps theory u j s) (sym k) step)
+
+pub run_is_unique : RunIsUnique
+run_is_unique theory limit calls start (stuck n t) (stuck m u) good a b =
+    let same = same_last theory good limit n m (stuck_last theory good limit n t a) (stuck_last theory good limit m u b) in
+    let counts : n ≡ m = same.0 in
+    let terms : t ≡ u = same.1 in
+    cc
+run_is_unique theory limit calls start (stuck n t) (limited m u) good a b =
+    let counts = same_count theory good limit n m (stuck_last theory good limit n t a) (limited_last theory limit m u b) in
+    let lt : n < limit = a.2 in let e : m ≡ limit = b.2 in absurd (omega (arith, counts))
+run_is_unique theory limit calls start (stuck n t) (stopped m cause u) good a b =
+    let same = same_last theory good limit n m (stuck_last theory good limit n t a) (stopped_last theory good limit m cause u b) in
+    let steps : stays ≡ stops cause = step_is_unique theory t a.0 stays (stops cause) good a.3 (moved theory same.1 same.2 b.3) in
+    let no : ⊥ = cc in absurd no
+run_is_unique theory limit calls start (stuck n t) (unstarted cause) good a b = absurd (unstarted_reaches theory good cause b a.1)
+run_is_unique theory limit calls start (limited n t) (stuck m u) good a b =
+    let counts = same_count theory good limit n m (limited_last theory limit n t a) (stuck_last theory good limit m u b) in
+    let lt : m < limit = b.2 in let e : n ≡ limit = a.2 in absurd (omega (arith, counts))
+run_is_unique theory limit calls start (limited n t) (limited m u) good a b =
+    let same = same_last theory good limit n m (limited_last theory limit n t a) (limited_last theory limit m u b) in
+    let counts : n ≡ m = same.0 in
+    let terms : t ≡ u = same.1 in
+    cc
+run_is_unique theory limit calls start (limited n t) (stopped m cause u) good a b =
+    let counts = same_count theory good limit n m (limited_last theory limit n t a) (stopped_last theory good limit m cause u b) in
+    let lt : m < limit = b.2 in let e : n ≡ limit = a.2 in absurd (omega (arith, counts))
+run_is_unique theory limit calls start (limited n t) (unstarted cause) good a b = absurd (unstarted_reaches theory good cause b a.1)
+run_is_unique theory limit calls start (stopped n why t) (stuck m u) good a b =
+    let same = same_last theory good limit n m (stopped_last theory good limit n why t a) (stuck_last theory good limit m u b) in
+    let steps : stops why ≡ stays = step_is_unique theory t a.0 (stops why) stays good a.3 (moved theory same.1 same.2 b.3) in
+    let no : ⊥ = cc in absurd no
+run_is_unique theory limit calls start (stopped n why t) (limited m u) good a b =
+    let counts = same_count theory good limit n m (stopped_last theory good limit n why t a) (limited_last theory limit m u b) in
+    let lt : n < limit = a.2 in let e : m ≡ limit = b.2 in absurd (omega (arith, counts))
+run_is_unique theory limit calls start (stopped n why t) (stopped m cause u) good a b =
+    let same = same_last theory good limit n m (stopped_last theory good limit n why t a) (stopped_last theory good limit m cause u b) in
+    let steps : stops why ≡ stops cause = step_is_unique theory t a.0 (stops why) (stops cause) good a.3 (moved theory same.1 same.2 b.3) in
+    let counts : n ≡ m = same.0 in
+    let terms : t ≡ u = same.1 in
+    cc
+run_is_unique theory limit calls start (stopped n why t) (unstarted cause) good a b = absurd (unstarted_reaches theory good cause b a.1)
+run_is_unique theory limit calls start (unstarted why) (stuck m u) good a b = absurd (unstarted_reaches theory good why a b.1)
+run_is_unique theory limit calls start (unstarted why) (limited m u) good a b = absurd (unstarted_reaches theory good why a b.1)
+run_is_unique theory limit calls start (unstarted why) (stopped m cause u) good a b = absurd (unstarted_reaches theory good why a b.1)
+run_is_unique theory limit calls start (unstarted why) (unstarted cause) good a b =
+    let same : blocked why ≡ blocked cause = evaluation_unique theory (all_match_once theory good) a (blocked cause) b in cc
