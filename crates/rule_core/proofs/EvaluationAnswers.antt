@@ -177,7 +177,7 @@ injection_symbol sig has =
 -- ---- equations
 
 -- what matching gives the condition and the right side
-serves_match : (sig : Signature) (variables : List ℕ) (ps : Patterns) (ts : Forest) (theta : List (Option Tree)) (p : Pattern) → MatchAll sig variables ps ts theta → heights ts ≤ most_height → UsesOnly ps p → Serves sig variables theta p
+pub serves_match : (sig : Signature) (variables : List ℕ) (ps : Patterns) (ts : Forest) (theta : List (Option Tree)) (p : Pattern) → MatchAll sig variables ps ts theta → heights ts ≤ most_height → UsesOnly ps p → Serves sig variables theta p
 serves_match sig variables ps ts theta p m lows uses = record {
   bound = λ x stands. (m.binds.just x).1 (uses x stands);
   sorted = m.binds.sorted;
@@ -194,7 +194,7 @@ true_or_not (leaf s (text bytes)) = inr (λ h. let k : leaf s (text bytes) ≡ l
 true_or_not (node f ts) = inr (λ h. let k : node f ts ≡ leaf h.0 (truth true) = h.1 in cc)
 true_or_not (inj a b t) = inr (λ h. let k : inj a b t ≡ leaf h.0 (truth true) = h.1 in cc)
 
-says_something : (e : Evaluated) → (x : Tested) × Says e x
+pub says_something : (e : Evaluated) → (x : Tested) × Says e x
 says_something (blocked cause) = (untested cause, says_nothing)
 says_something (value t c) = ⊎_elim (λ (is : IsTrueValue t). (holds c, says_true is)) (λ (other : IsTrueValue t → ⊥). (fails c, says_other other)) (true_or_not t)
 

@@ -20,3 +20,4 @@ pub mod MatchAnswers
 pub mod Searches
 pub mod Trials
 pub mod RunUnique
+pub mod RunAnswers
