@@ -13,10 +13,9 @@ use Rattle.rule_core.specs.Matching.{StandsIn, StandsInSome, RespectsSorts, Bind
 use Rattle.rule_core.specs.MatchLaws.{AreTermsOf}
 use Rattle.rule_core.specs.Sorting.{HasSort, HaveSorts, IsTermOf, IsSymbol, IsFunction, HasInjection, HasValue, sort_at}
 use Rattle.rule_core.specs.Evaluation.{Cause, Evaluated, value, blocked, AllEvaluated, values, stopped, Tested, holds, fails, untested, no_value, closed, no_equation, no_call_left, too_high, too_nested, IsTrueValue, most_height, IsInjectionSymbol, HasHead, of_constructor, of_injection, of_call, built, Says, says_true, says_other, says_nothing, Evaluates, bound, itself, nested_out, argument_blocked, made, made_too_high, called, EvaluateAll, none_left, first_blocked, later_blocked, one_more, Applies, by_nothing, without_call, by_hook, hook_fails, by_equations, Equates, no_equation_left, unmatched, condition_fails, condition_blocked, used, Tests, no_condition, condition, EvaluatesIn, no_nesting, inside}
-use Rattle.rule_core.specs.EvaluationLaws.{Serves}
 use Rattle.rule_core.specs.HookCalls.{HookAnswers, HookFails}
 use Rattle.term_core.specs.declared.values.NoValue.{NoValue}
-use Rattle.rule_core.specs.WellSorted.{IsWellSorted, IsEquationOf, IsCondition, UsesOnly, FitsHook}
+use Rattle.rule_core.specs.WellSorted.{IsWellSorted, Serves, IsEquationOf, IsCondition, UsesOnly, FitsHook}
 use Rattle.rule_core.specs.declared.signature.Signature.{Signature}
 use Rattle.rule_core.specs.declared.signature.SortRef.{SortRef}
 use Rattle.rule_core.specs.declared.signature.SymInfo.{SymInfo}

@@ -9,12 +9,11 @@ use Rattle.rule_core.specs.Theories.{RewriteTheory}
 use Rattle.rule_core.specs.Matching.{MatchAll, NoneMatches}
 use Rattle.rule_core.specs.Sorting.{HasSort, IsTermOf}
 use Rattle.rule_core.specs.Evaluation.{Cause, Evaluated, value, blocked, Tested, holds, fails, untested, Says, says_true, says_other, IsTrueValue, Evaluates, most_height}
-use Rattle.rule_core.specs.EvaluationLaws.{Serves}
 use Rattle.rule_core.specs.FirstRule.{most_nesting, Matches, IsUnmatched, Meets, no_condition, condition, Trial, applies, none_applies, trial_blocked, Tries, no_rule_left, unmatched, condition_fails, condition_blocked, condition_holds}
 use Rattle.rule_core.specs.Runs.{Stepped, next, stays, stops, Steps, by_rule, by_none, in_condition, in_right_side, Reaches, at_start, after_step, Run, stuck, limited, stopped, unstarted, IsRunOf}
 use Rattle.rule_core.specs.RunLaws.{HasRun, ConfigurationsAreSorted, StepRecordDetermines}
 use Rattle.rule_core.specs.Records.{StepRecord, RecordsStep, RecordsCondition, OptionalRecord, unconditional, conditional, IsUnusedRule, result_of}
-use Rattle.rule_core.specs.WellSorted.{IsWellSorted, IsRuleOf, IsCondition}
+use Rattle.rule_core.specs.WellSorted.{IsWellSorted, Serves, IsRuleOf, IsCondition}
 use Rattle.rule_core.specs.declared.signature.SortRef.TheVariants.{Sort}
 use Rattle.rule_core.proofs.EvaluationUnique.{all_first, all_rest}
 use Rattle.rule_core.proofs.EvaluationAnswers.{IsGood, IsGoodTree, answers, serves_match, says_something}
