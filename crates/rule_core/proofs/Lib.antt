@@ -5,6 +5,17 @@ pub mod SortedInstances
 pub mod MatchFound
 pub mod MatchComplete
 pub mod MatchExact
+pub mod EvaluationUnique
+pub mod MoreLeft
+pub mod RecordsTell
+pub mod RecordsKept
+pub mod HookRanges
+pub mod EvaluationAnswers
+pub mod Determined
+pub mod TriedIntegers
+pub mod TriedBounds
+pub mod TriedSteps
+pub mod TriedLists
 pub mod MatchAnswers
 pub mod Searches
 pub mod Trials

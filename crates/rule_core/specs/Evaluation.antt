@@ -9,6 +9,7 @@ use Rattle.rule_core.specs.Theories.{RewriteTheory, equations_of}
 use Rattle.rule_core.specs.Matching.{MatchAll}
 use Rattle.rule_core.specs.Sorting.{IsSymbol, sort_at}
 use Rattle.rule_core.specs.HookCalls.{HookAnswers, HookFails}
+use Rattle.rule_core.specs.declared.signature.Signature.{Signature}
 use Rattle.rule_core.specs.declared.signature.SymInfo.{SymInfo}
 use Rattle.rule_core.specs.declared.signature.SymKind.TheVariants.{Injection, Equations, Hooked, Closed}
 use Rattle.term_core.specs.declared.values.NoValue.{NoValue}
@@ -46,10 +47,17 @@ IsTrueValue t = (sort : ℕ) × (t ≡ leaf sort (truth true))
 abbrev pub most_height : ℕ
 most_height = 500
 
+-- the injection symbol: the first symbol of this kind
+pub record IsInjectionSymbol (sig : Signature) (f : ℕ) : Type 0 where
+  pub info : SymInfo
+  pub there : IsSymbol sig f info
+  pub injects : info.kind ≡ Injection
+  pub first : (g : ℕ) (other : SymInfo) → g < f → IsSymbol sig g other → other.kind ≢ Injection
+
 -- The symbol and the arguments of a node that is no variable and no value. An injection's symbol is the injection symbol.
 pub data HasHead (theory : RewriteTheory) : Pattern → ℕ → Patterns → Type 0 where
   of_constructor : {f : ℕ} {ps : Patterns} → HasHead theory (application f ps) f ps
-  of_injection : {a b f : ℕ} {p : Pattern} {info : SymInfo} → IsSymbol theory.sig f info → info.kind ≡ Injection → HasHead theory (injection a b p) f (more_patterns p no_pattern)
+  of_injection : {a b f : ℕ} {p : Pattern} → IsInjectionSymbol theory.sig f → HasHead theory (injection a b p) f (more_patterns p no_pattern)
   of_call : {f : ℕ} {sorts : List ℕ} {ps : Patterns} → HasHead theory (call f sorts ps) f ps
 
 -- the normal term that a constructor or an injection makes of its arguments' values

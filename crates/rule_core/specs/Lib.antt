@@ -15,5 +15,7 @@ pub mod HookCalls
 pub mod Evaluation
 pub mod WellSorted
 pub mod Records
+pub mod EvaluationLaws
+pub mod EvaluationCases
 pub mod ProgramView
 pub mod Trial

@@ -1,5 +1,5 @@
 -- Records of evaluations: what was used at each node of a pattern to give its value, so that a proof can be made of it.
-use Rattle.std.specs.Prelude.{◌≡◌, ◌<◌, ◌-◌, ◌^◌, ℕ, List, [], ◌∷◌, slice_get, Option, Some, None}
+use Rattle.std.specs.Prelude.{◌≡◌, ◌<◌, ◌≤◌, ◌-◌, ◌^◌, ◌⊎◌, ℕ, List, [], slice_get, Option, Some, None}
 use Rattle.term_core.specs.Terms.{Tree, leaf, Forest, no_tree, more_trees, height, DomainValue}
 use Rattle.term_core.specs.Patterns.{Pattern, Patterns, variable, domain_value, application, injection, call, no_pattern, more_patterns, binding}
 use Rattle.rule_core.specs.Rules.{RewriteRule, Equation}
@@ -7,8 +7,8 @@ use Rattle.rule_core.specs.Theories.{RewriteTheory, equations_of}
 use Rattle.rule_core.specs.Matching.{MatchAll}
 use Rattle.rule_core.specs.Sorting.{IsSymbol, sort_at}
 use Rattle.rule_core.specs.HookCalls.{HookAnswers}
-use Rattle.rule_core.specs.Evaluation.{HasHead, built, IsTrueValue, Tests, fails}
-use Rattle.rule_core.specs.FirstRule.{Matches, Meets, most_nesting}
+use Rattle.rule_core.specs.Evaluation.{HasHead, built, most_height, IsTrueValue, IsUnmatchedBy, Tests, fails}
+use Rattle.rule_core.specs.FirstRule.{Matches, IsUnmatched, Meets, most_nesting}
 use Rattle.rule_core.specs.declared.signature.SymInfo.{SymInfo}
 use Rattle.rule_core.specs.declared.signature.SymKind.TheVariants.{Equations}
 
@@ -49,14 +49,14 @@ most_calls = 2 ^ 32 - 1
 -- an equation of the function that is not used at these terms: it does not match, or its condition fails
 abbrev pub IsUnused : RewriteTheory → ℕ → Equation → Forest → Type 0
 IsUnused theory f e ts =
-    (theta : List (Option Tree)) → MatchAll theory.sig e.variables e.arguments ts theta → (left : ℕ) × Tests theory most_nesting f theta e.condition most_calls (fails left)
+    IsUnmatchedBy theory e ts ⊎ ((theta : List (Option Tree)) × (left : ℕ) × MatchAll theory.sig e.variables e.arguments ts theta × Tests theory most_nesting f theta e.condition most_calls (fails left))
 
 -- The record follows the evaluation of the pattern under the substitution.
 abbrev mutual
   pub Records : RewriteTheory → List (Option Tree) → Pattern → Record → Type 0
   Records theory theta p (bound x t) = (p ≡ variable x) × (binding theta x ≡ Some t)
   Records theory theta p (itself t) = (s : ℕ) × (v : DomainValue) × (p ≡ domain_value s v) × (t ≡ leaf s v)
-  Records theory theta p (made rs t) = (f : ℕ) × (ps : Patterns) × HasHead theory p f ps × (built p (results_of rs) ≡ Some t) × RecordAll theory theta ps rs
+  Records theory theta p (made rs t) = (f : ℕ) × (ps : Patterns) × HasHead theory p f ps × (built p (results_of rs) ≡ Some t) × (height t ≤ most_height) × RecordAll theory theta ps rs
   Records theory theta p (by_hook rs t) =
       (f : ℕ) × (sorts : List ℕ) × (ps : Patterns) × (info : SymInfo) × (row : ℕ) × (v : DomainValue) × (sort : ℕ) × (p ≡ call f sorts ps) × IsSymbol theory.sig f info × HookAnswers info row (results_of rs) v
       × (sort_at [] info.result ≡ Some sort) × (t ≡ leaf sort v) × RecordAll theory theta ps rs
@@ -85,7 +85,7 @@ pub record StepRecord : Type 0 where
 -- a rule that is not used at a term: it does not match, or its condition fails
 abbrev pub IsUnusedRule : RewriteTheory → RewriteRule → Tree → Type 0
 IsUnusedRule theory rule t =
-    (theta : List (Option Tree)) → Matches theory rule t theta → (left : ℕ) × Meets theory theta rule.condition most_calls (fails left)
+    IsUnmatched theory rule t ⊎ ((theta : List (Option Tree)) × (left : ℕ) × Matches theory rule t theta × Meets theory theta rule.condition most_calls (fails left))
 
 -- It follows a step from this term: the rule applies, and those before it do not.
 pub record RecordsStep (theory : RewriteTheory) (t : Tree) (step : StepRecord) : Type 0 where

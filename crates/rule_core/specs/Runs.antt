@@ -1,6 +1,6 @@
 -- Runs: a term is rewritten by the first rule that applies until none does, or the limit of steps is reached, or an evaluation is
 -- blocked. Calls of functions are counted over the whole run.
-use Rattle.std.specs.Prelude.{◌≡◌, ℕ, ◌+◌, ◌<◌, List, [], Option}
+use Rattle.std.specs.Prelude.{◌≡◌, ℕ, suc, ◌<◌, List, [], Option}
 use Rattle.term_core.specs.Terms.{Tree}
 use Rattle.term_core.specs.Patterns.{Pattern, ground_pattern}
 use Rattle.rule_core.specs.Rules.{RewriteRule}
@@ -25,7 +25,7 @@ pub data Steps (theory : RewriteTheory) (t : Tree) (c : ℕ) : Stepped → Type 
 -- so many steps lead from the value of the initial term to this configuration, and leave so many calls
 pub data Reaches (theory : RewriteTheory) (start : Pattern) (calls : ℕ) : ℕ → Tree → ℕ → Type 0 where
   at_start : {t : Tree} {c : ℕ} → Evaluates theory most_nesting [] start calls (value t c) → Reaches theory start calls 0 t c
-  after_step : {n c d : ℕ} {t u : Tree} → Reaches theory start calls n t c → Steps theory t c (next u d) → Reaches theory start calls (n + 1) u d
+  after_step : {n c d : ℕ} {t u : Tree} → Reaches theory start calls n t c → Steps theory t c (next u d) → Reaches theory start calls (suc n) u d
 
 -- how a run ends, after how many steps, and the last whole configuration; where the initial term has no value there is none
 pub data Run : Type 0 where

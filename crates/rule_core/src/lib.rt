@@ -9,6 +9,7 @@
 // (specs/FirstRule.antt), and runs (specs/Runs.antt).
 #![tactic(auto)]
 
+mod evaluation;
 mod laws;
 mod matching;
 mod rules;
@@ -17,9 +18,7 @@ mod subsorts;
 mod table;
 mod trial;
 
-
-
-
+pub use evaluation::{evaluation_laws, record_laws, tried};
 pub use laws::match_laws;
 pub use matching::{find_match, find_match_all};
 pub use rules::{Outcome, Program, Rule, VarInfo};

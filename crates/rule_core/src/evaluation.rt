@@ -1,0 +1,27 @@
+// Laws on evaluation and on its records, and the definitions tried on small theories.
+ghost use Rattle.rule_core.specs.EvaluationCases.{TriedEvaluations};
+ghost use Rattle.rule_core.specs.EvaluationLaws.{EvaluationHasAnswer, EvaluationIsUnique, MoreLeftKeepsValue, RecordDetermines, RecordTells, RecordsAgree, ValueHasRecord, ValuesAreSorted};
+
+/// Evaluation in a well-sorted theory is a function: a pattern that has a sort has one answer under a substitution that
+/// gives its variables terms of their sorts, and a value is a normal term of the pattern's sort, of height at most 500.
+/// More nesting and more calls left keep a value.
+pub fn evaluation_laws()
+    ensures one { EvaluationIsUnique }
+    ensures some { EvaluationHasAnswer }
+    ensures sorted { ValuesAreSorted }
+    ensures more { MoreLeftKeepsValue }
+{}
+
+/// A value has a record; a record tells an evaluation, and its result is the only value.
+pub fn record_laws()
+    ensures kept { ValueHasRecord }
+    ensures tells { RecordTells }
+    ensures determines { RecordDetermines }
+    ensures agree { RecordsAgree }
+{}
+
+/// The definitions say of small theories what is expected: on whole numbers near the ends of their range, near each bound
+/// of an evaluation, by rules with conditions, through injections, and by a function with two equations.
+pub fn tried()
+    ensures cases { TriedEvaluations }
+{}
