@@ -13,6 +13,7 @@ use Rattle.term_core.specs.PatternLists.{plain_patterns}
 use Rattle.term_core.specs.declared.rule_patterns.RulePat.{RulePat}
 use Rattle.term_core.proofs.TreeTests.{Decides-tree_eq}
 use Rattle.rule_core.specs.Matching.{StandsIn, StandsInSome}
+use Rattle.rule_core.specs.MatchSearch.{nodes, all_nodes}
 use Rattle.rule_core.specs.MatchSteps.{is_below, lowered, bound_to, matched, all_matched, Answers}
 
 -- a test that fails answers false
@@ -100,3 +101,9 @@ none_either_way false o e = refl
 pub other_arguments : (pairs : List (ℕ × ℕ)) (p : Pattern) (f g : ℕ) (ps : List RulePat) (t : Tree) (ts : List Tree) (theta : List (Option Tree)) → p ≡ application f (plain_patterns ps) → t ≡ node g (forest ts) → length ps ≢ length ts → matched pairs p t theta ≡ None
 other_arguments pairs p f g ps t ts theta is root other =
     rw (is, root) (none_either_way (f == g) (all_matched pairs (plain_patterns ps) (forest ts) theta) (other_count pairs ps ts theta other))
+
+-- the nodes of the patterns from i on, those of the one at i apart
+pub all_nodes-drop : (ps : List RulePat) (i : ℕ) (p : RulePat) → p ≡ get_or ps i p → i < length ps → all_nodes (plain_patterns (drop i ps)) ≡ nodes (plain_pattern p) + all_nodes (plain_patterns (drop (i + 1) ps))
+all_nodes-drop ps i p e lt =
+    let front : drop i ps ≡ p ∷ drop (i + 1) ps = drop_more ps i p lt ∙ ap (λ (q : RulePat). q ∷ drop (i + 1) ps) (sym e) in
+    rw front refl

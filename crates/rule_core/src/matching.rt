@@ -1,11 +1,11 @@
 // Matching of patterns with terms: the substitution that makes the one the other.
-ghost use Rattle.std.specs.Prelude.{ℕ, ◌≡◌, ◌<◌, ◌==◌, ◌||◌, if◌then◌else◌, length, IfOk, None};
+ghost use Rattle.std.specs.Prelude.{ℕ, ◌≡◌, ◌+◌, ◌<◌, ◌≤◌, ◌==◌, ◌||◌, if◌then◌else◌, length, IfOk, None};
 ghost use Rattle.term_core.specs.Terms.{inj, no_tree, more_trees, forest, children, height, IsNoInjection};
 ghost use Rattle.term_core.specs.Patterns.{binding, no_pattern, more_patterns};
 ghost use Rattle.term_core.specs.RulePatterns.{plain_pattern};
 ghost use Rattle.term_core.specs.PatternLists.{plain_patterns};
 ghost use Rattle.rule_core.specs.Matching.{StandsIn, UseFirst};
-ghost use Rattle.rule_core.specs.MatchSearch.{FindsMatch};
+ghost use Rattle.rule_core.specs.MatchSearch.{FindsMatch, nodes, all_nodes};
 ghost use Rattle.rule_core.specs.MatchSteps.{is_below, lowered, bound_to, matched, all_matched, Answers};
 
 use crate::Subsorts;
@@ -26,7 +26,8 @@ pub fn find_match<L: Ledger>(
     steps: &mut Steps<L>,
 ) -> Result<Option<Subst>, AllocError>
     requires { UseFirst vars (more_patterns (plain_pattern pat.now) no_pattern) }
-    ensures { IfOk result (FindsMatch subsorts.now vars (more_patterns (plain_pattern pat.now) no_pattern) (more_trees term.now no_tree)) }
+    ensures found { IfOk result (FindsMatch subsorts.now vars (more_patterns (plain_pattern pat.now) no_pattern) (more_trees term.now no_tree)) }
+    ensures looks { steps.new ≤ steps.old + nodes (plain_pattern pat.now) }
 {
     // A term is normal.
     let _high = term.height();
@@ -49,7 +50,8 @@ pub fn find_match_all<L: Ledger>(
 ) -> Result<Option<Subst>, AllocError>
     requires scoped { UseFirst vars (plain_patterns pats.now) }
     requires count { length pats.now ≡ length terms.now }
-    ensures { IfOk result (FindsMatch subsorts.now vars (plain_patterns pats.now) (forest terms.now)) }
+    ensures found { IfOk result (FindsMatch subsorts.now vars (plain_patterns pats.now) (forest terms.now)) }
+    ensures looks { steps.new ≤ steps.old + all_nodes (plain_patterns pats.now) }
 {
     // Terms are normal.
     let _high = Term::highest(terms);
@@ -75,6 +77,7 @@ fn match_term<L: Ledger>(
     requires { (x : ℕ) → StandsIn x (plain_pattern pat.now) → x < length subst.old }
     ensures room { length subst.new ≡ length subst.old }
     ensures found { IfOk result (λ yes. Answers (matched subsorts.now (plain_pattern pat.now) term.now subst.old) yes subst.new) }
+    ensures looks { steps.new ≤ steps.old + nodes (plain_pattern pat.now) }
 {
     match pat {
         RulePat::Var(var) => bind_term(*var, term, subst),
@@ -115,6 +118,7 @@ fn match_children<L: Ledger>(
     requires count { length pats.now ≡ length (children term.now) }
     ensures room { length subst.new ≡ length subst.old }
     ensures found { IfOk result (λ yes. Answers (all_matched subsorts.now (plain_patterns pats.now) (forest (children term.now)) subst.old) yes subst.new) }
+    ensures looks { steps.new ≤ steps.old + all_nodes (plain_patterns pats.now) }
 {
     for i in 0..pats.len() {
         if !match_term(alloc, subsorts, &pats[i], term.child(i), subst, steps)? {
@@ -146,6 +150,7 @@ fn match_lowered<L: Ledger>(
             then matched subsorts.now (plain_pattern pat.now) (lowered from.0 to.0 child.now) subst.old
             else None)
         yes subst.new) }
+    ensures looks { steps.new ≤ steps.old + nodes (plain_pattern pat.now) }
 {
     if from == to {
         match_term(alloc, subsorts, pat, child, subst, steps)
@@ -173,6 +178,7 @@ fn match_injected<L: Ledger>(
     requires other { IsNoInjection child.now }
     ensures room { length subst.new ≡ length subst.old }
     ensures found { IfOk result (λ yes. Answers (matched subsorts.now (plain_pattern pat.now) (inj from.0 to.0 child.now) subst.old) yes subst.new) }
+    ensures looks { steps.new ≤ steps.old + nodes (plain_pattern pat.now) }
 {
     match pat {
         RulePat::Var(var) => bind_injected(alloc, *var, from, to, child, subst),

@@ -1,5 +1,8 @@
 // The order of a definition's sorts.
-ghost use Rattle.std.specs.Prelude.{◌≡◌, []};
+ghost use Rattle.std.specs.Prelude.{◌≡◌, ◌↔◌, IsTrue, []};
+ghost use Rattle.rule_core.specs.Subsorts.{IsBelow};
+ghost use Rattle.rule_core.specs.SubsortFields.{sort_pairs};
+ghost use Rattle.rule_core.specs.MatchSteps.{is_below};
 
 use std::alloc::Global;
 use std::marker::Model;
@@ -29,5 +32,23 @@ impl Subsorts {
         Subsorts {
             pairs: Vec::new(alloc),
         }
+    }
+
+    /// Whether a chain of one or more pairs leads from a sort to another.
+    pub fn below(&self, a: SortId, b: SortId) -> bool
+        ensures { IsTrue result ↔ IsBelow self.now a.0 b.0 }
+    {
+        leads(&self.pairs, a, b)
+    }
+}
+
+// Whether a chain of the pairs leads there: one that does not need the first pair, or one that needs it once.
+fn leads(pairs: &[(SortId, SortId)], a: SortId, b: SortId) -> bool
+    ensures { result ≡ is_below (sort_pairs pairs.now) a.0 b.0 }
+{
+    match pairs.split_first() {
+        None => false,
+        Some((first, rest)) => leads(rest, a, b)
+            || ((a == first.0 || leads(rest, a, first.0)) && (first.1 == b || leads(rest, first.1, b))),
     }
 }

@@ -9,7 +9,7 @@ use Rattle.term_core.proofs.PlainPatterns.{plain-Var, plain-Ctor, plain-Inj}
 use Rattle.rule_core.specs.Matching.{StandsIn}
 use Rattle.rule_core.specs.MatchSteps.{is_below, matched}
 use Rattle.rule_core.proofs.Belows.{below_answer}
-use Rattle.rule_core.proofs.MatchAnswers.{stands_of-item, answer_none, answer_some, rest_goes_on, rest_fails, other_arguments, child_is, child_is_low, child_is_other, lowered_found, lowered_none}
+use Rattle.rule_core.proofs.MatchAnswers.{stands_of-item, answer_none, answer_some, rest_goes_on, rest_fails, other_arguments, all_nodes-drop, child_is, child_is_low, child_is_other, lowered_found, lowered_none}
 use Rattle.rule_core.proofs.matching.+matching.Goals as goal
 
 pub match_children-match_term-requires : goal.match_children-match_term-requires
@@ -29,7 +29,12 @@ pub match_children-loop-i-preserved : goal.match_children-loop-i-preserved
 match_children-loop-i-preserved g t c = record {
   room = c.in_ok-match_term.ensures.room ∙ c.loop-i.invariant.room;
   rest = rest_goes_on _ _ _ _ _ _ _ c.child.result.now _ c.index-pats-i.is c.loop-i-test.true c.child.ensures (answer_some _ _ _ c.in_ok-match_term.ensures.found c.if-not-branch.false) c.loop-i.invariant.rest;
+  looks = omega (arith, all_nodes-drop _ _ _ c.index-pats-i.is c.loop-i-test.true, c.match_term.ensures.looks);
 }
+
+pub match_children-returns-then-not-branch-clause-looks : goal.match_children-returns-then-not-branch-clause-looks
+match_children-returns-then-not-branch-clause-looks g t c =
+    omega (arith, all_nodes-drop _ _ _ c.index-pats-i.is c.loop-i-test.true, c.match_term.ensures.looks)
 
 pub match_injected-bind_injected-requires-clause-room : goal.match_injected-bind_injected-requires-clause-room
 match_injected-bind_injected-requires-clause-room g t c =

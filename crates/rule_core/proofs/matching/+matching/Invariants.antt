@@ -1,8 +1,9 @@
-use Rattle.std.proofs.Common.{◌≡◌, ◌+◌, ◌*◌, length, drop}
+use Rattle.std.proofs.Common.{◌≡◌, ◌≤◌, ◌+◌, ◌*◌, length, drop}
 use Rattle.term_core.specs.Terms.{forest, children}
 use Rattle.term_core.specs.RulePatterns.{plain_pattern}
 use Rattle.term_core.specs.PatternLists.{plain_patterns}
 use Rattle.term_core.proofs.PatternLaws.{depth, depths}
+use Rattle.rule_core.specs.MatchSearch.{all_nodes}
 use Rattle.rule_core.specs.MatchSteps.{all_matched}
 use Rattle.rule_core.proofs.matching.+matching.Given as goal
 
@@ -22,4 +23,5 @@ abbrev pub invariant-match_children-loop-i : goal.invariant-match_children-loop-
 invariant-match_children-loop-i g l = record {
   room : length l.subst ≡ length l.initial.subst;
   rest : all_matched l.subsorts (plain_patterns (drop l.i l.pats)) (forest (drop l.i (children l.term))) l.subst ≡ all_matched l.subsorts (plain_patterns l.pats) (forest (children l.term)) l.initial.subst;
+  looks : l.steps + all_nodes (plain_patterns (drop l.i l.pats)) ≤ l.initial.steps + all_nodes (plain_patterns l.pats);
 }
