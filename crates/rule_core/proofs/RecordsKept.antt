@@ -1,11 +1,11 @@
 -- An evaluation that has a value leaves no more calls than there were, and has a record.
-use Rattle.std.proofs.Common.{◌≡◌, ℕ, suc, zero, ◌+◌, ◌-◌, ◌<◌, ◌≤◌, ◌⊎◌, inl, inr, List, [], ◌∷◌, Option, Some, None, refl, sym, ◌∙◌, ap, subst, slice_get, le_trans, arith}
-use Rattle.term_core.specs.Terms.{Tree, leaf, Forest, no_tree, more_trees}
-use Rattle.term_core.specs.Patterns.{Pattern, Patterns, call, no_pattern, more_patterns}
+use Rattle.std.proofs.Common.{◌≡◌, ℕ, suc, zero, ◌+◌, ◌-◌, ◌<◌, ◌≤◌, inl, inr, List, ◌∷◌, Option, Some, refl, sym, ◌∙◌, ap, subst, slice_get, le_trans, arith}
+use Rattle.term_core.specs.Terms.{Tree, leaf, Forest, more_trees}
+use Rattle.term_core.specs.Patterns.{Pattern, Patterns, call}
 use Rattle.rule_core.specs.Rules.{Equation}
 use Rattle.rule_core.specs.Theories.{RewriteTheory, equations_of}
 use Rattle.rule_core.specs.Matching.{MatchAll}
-use Rattle.rule_core.specs.Evaluation.{Evaluated, value, blocked, AllEvaluated, values, Tested, holds, fails, untested, built, says_true, says_other, says_nothing, Evaluates, bound, itself, made, called, EvaluateAll, none_left, one_more, Applies, by_hook, by_equations, Equates, unmatched, condition_fails, used, Tests, no_condition, condition, EvaluatesIn, inside, IsTrueValue, Says}
+use Rattle.rule_core.specs.Evaluation.{value, blocked, values, Tested, holds, fails, untested, built, says_true, says_other, says_nothing, Evaluates, bound, itself, made, called, EvaluateAll, none_left, one_more, Applies, by_hook, by_equations, Equates, unmatched, condition_fails, used, Tests, no_condition, condition, EvaluatesIn, inside, IsTrueValue, Says}
 use Rattle.rule_core.specs.FirstRule.{most_nesting}
 use Rattle.rule_core.specs.HookCalls.{HookAnswers}
 use Rattle.rule_core.specs.Records.{Record, RecordList, no_record, more_records, OptionalRecord, unconditional, conditional, result_of, results_of, most_calls, IsUnused, Records, RecordAll, RecordsCondition}
@@ -13,7 +13,7 @@ use Rattle.rule_core.specs.Records as kept
 use Rattle.rule_core.specs.Sorting.{IsSymbol}
 use Rattle.rule_core.specs.declared.signature.SymInfo.{SymInfo}
 use Rattle.rule_core.specs.declared.signature.SymKind.TheVariants.{Equations}
-use Rattle.rule_core.proofs.MoreLeft.{tests_more, IsTold}
+use Rattle.rule_core.proofs.MoreLeft.{tests_more}
 
 -- the calls that a told condition leaves
 abbrev LeavesAtMost : ℕ → Tested → Type 0
@@ -121,7 +121,6 @@ failed_before {theory} {f} e theta n c d m k match test le few =
 unused_before : {theory : RewriteTheory} {f : ℕ} {ts : Forest} (e : Equation) (theta : List (Option Tree)) (n c d : ℕ) → MatchAll theory.sig e.variables e.arguments ts theta → Tests theory n f theta e.condition c (fails d) → n ≤ most_nesting → c ≤ most_calls → IsUnused theory f e ts
 unused_before e theta n c d match test le few =
     let failed = failed_before e theta n c d most_nesting most_calls match test le few in inr (theta, failed.0, match, failed.1)
-
 
 by_equation_record : (theory : RewriteTheory) (f : ℕ) (info : SymInfo) {theta : List (Option Tree)} {ts : Forest} {t : Tree} → IsSymbol theory.sig f info → info.kind ≡ Equations → (sorts : List ℕ) (ps : Patterns) → RecordsOf theory theta ps ts → EquationRecord theory f (equations_of theory f) ts t → RecordOf theory theta (call f sorts ps) t
 by_equation_record theory f info {ts = ts} is defined sorts ps args r =

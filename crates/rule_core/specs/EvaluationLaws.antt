@@ -1,15 +1,13 @@
 -- Laws on evaluation and on its records.
-use Rattle.std.specs.Prelude.{◌≡◌, ◌≤◌, ◌+◌, ℕ, List, Option, Some, IsSome}
+use Rattle.std.specs.Prelude.{◌≡◌, ◌≤◌, ◌+◌, ℕ, List, Option}
 use Rattle.term_core.specs.Terms.{Tree, height, IsNormal}
-use Rattle.term_core.specs.Patterns.{Pattern, binding}
+use Rattle.term_core.specs.Patterns.{Pattern}
 use Rattle.rule_core.specs.Theories.{RewriteTheory}
-use Rattle.rule_core.specs.Matching.{StandsIn, RespectsSorts}
 use Rattle.rule_core.specs.Sorting.{HasSort, IsTermOf}
 use Rattle.rule_core.specs.Evaluation.{Evaluated, value, Evaluates, most_height}
 use Rattle.rule_core.specs.FirstRule.{most_nesting}
 use Rattle.rule_core.specs.Records.{Record, result_of, most_calls, Records}
 use Rattle.rule_core.specs.WellSorted.{IsWellSorted, Serves}
-use Rattle.rule_core.specs.declared.signature.Signature.{Signature}
 
 -- Evaluation is a function: it has at most one answer.
 abbrev pub EvaluationIsUnique : Type 0

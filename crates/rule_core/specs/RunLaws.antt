@@ -1,5 +1,5 @@
 -- Laws on steps and runs.
-use Rattle.std.specs.Prelude.{◌≡◌, ◌≤◌, ℕ, List, [], All}
+use Rattle.std.specs.Prelude.{◌≡◌, ◌≤◌, ℕ, [], All}
 use Rattle.term_core.specs.Terms.{Tree, height, IsNormal}
 use Rattle.term_core.specs.Patterns.{Pattern}
 use Rattle.rule_core.specs.Theories.{RewriteTheory}
