@@ -18,4 +18,5 @@ pub mod Records
 pub mod EvaluationLaws
 pub mod EvaluationCases
 pub mod ProgramView
+pub mod RuleVariables
 pub mod Trial
