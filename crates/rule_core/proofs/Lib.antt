@@ -19,3 +19,5 @@ pub mod TriedLists
 pub mod MatchAnswers
 pub mod Searches
 pub mod Trials
+pub mod RunUnique
+pub mod RunAnswers

@@ -17,6 +17,7 @@ pub mod WellSorted
 pub mod Records
 pub mod EvaluationLaws
 pub mod EvaluationCases
+pub mod RunLaws
 pub mod ProgramView
 pub mod RuleVariables
 pub mod Trial

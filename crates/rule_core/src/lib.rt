@@ -20,7 +20,7 @@ mod table;
 mod tests;
 mod trial;
 
-pub use evaluation::{evaluation_laws, record_laws, tried};
+pub use evaluation::{evaluation_laws, record_laws, run_laws, tried};
 pub use laws::match_laws;
 pub use matching::{find_match, find_match_all};
 pub use rules::{Outcome, Program, Rule, VarInfo};
