@@ -19,4 +19,5 @@ pub mod EvaluationLaws
 pub mod EvaluationCases
 pub mod RunLaws
 pub mod ProgramView
+pub mod RuleVariables
 pub mod Trial

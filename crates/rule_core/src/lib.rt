@@ -16,6 +16,8 @@ mod rules;
 mod signature;
 mod subsorts;
 mod table;
+#[cfg(test)]
+mod tests;
 mod trial;
 
 pub use evaluation::{evaluation_laws, record_laws, run_laws, tried};
@@ -26,4 +28,3 @@ pub use signature::{Signature, SortInfo, SortKind, SortRef, SymInfo, SymKind};
 pub use subsorts::Subsorts;
 pub use table::Table;
 pub use trial::first_match;
-
