@@ -22,7 +22,7 @@ mod tests;
 mod trial;
 
 pub use evaluation::{evaluation_laws, record_laws, run_laws, tried};
-pub use laws::match_laws;
+pub use laws::{match_laws, trial_laws};
 pub use matching::{find_match, find_match_all};
 pub use rules::{Outcome, Program, Rule, VarInfo};
 pub use signature::{Signature, SortInfo, SortKind, SortRef, SymInfo, SymKind};
