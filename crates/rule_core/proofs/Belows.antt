@@ -1,7 +1,6 @@
 -- The test of what is below what answers true exactly where a chain leads there.
-use Rattle.std.proofs.Common.{◌≡◌, ◌≢◌, ℕ, zero, suc, ◌<◌, ◌⊎◌, ◌↔◌, inl, inr, eq-eqb, Bool, true, false, List, [], ◌∷◌, length, Contains, refl, sym, ◌∙◌, ap, subst, ⊎_elim, arith}
+use Rattle.std.proofs.Common.{◌≡◌, ℕ, zero, suc, ◌⊎◌, ◌↔◌, inl, inr, eq-eqb, Bool, true, false, List, [], ◌∷◌, Contains, refl, sym, ap, subst, arith}
 use Rattle.std.specs.Prelude.{◌&&◌, ◌||◌, ◌==◌, IsTrue}
-use Rattle.std.specs.Bool.{Decides}
 use Rattle.std.proofs.lemmas.Bool.{eqb-true, false≢true}
 use Rattle.rule_core.specs.Subsorts.{IsBelow, by_pair, by_chain, HasNoCycle}
 use Rattle.rule_core.specs.MatchSteps.{is_below}
@@ -57,6 +56,7 @@ chain_cases pairs first a b (by_chain {b = m} known rest) = joined (contains_cas
   to_first : Contains pairs (a, m) → Reaches pairs m first.0 → Reaches pairs a first.0
   to_first there (inl same) = let P : ℕ → Type 0 = λ x. Contains pairs (a, x) in inr (by_pair (subst P same there))
   to_first there (inr below) = inr (by_chain there below)
+
   joined : (first ≡ (a, m)) ⊎ Contains pairs (a, m) → IsBelow pairs m b ⊎ (Reaches pairs m first.0 × Reaches pairs first.1 b) → IsBelow pairs a b ⊎ (Reaches pairs a first.0 × Reaches pairs first.1 b)
   joined (inl is) (inl below) =
       let P : ℕ → Type 0 = λ x. IsBelow pairs x b in
@@ -78,6 +78,7 @@ over_first pairs pair a b front back = after (before front) back where
   before (inl same) = by_pair (0, omega arith, ap (λ (x : ℕ). (x, pair.1)) (sym same))
   before (inr below) =
       IsBelow-trans (pair ∷ pairs) a pair.0 pair.1 (more_pairs pairs pair a pair.0 below) (by_pair (0, omega arith, refl))
+
   after : IsBelow (pair ∷ pairs) a pair.1 → (pair.1 ≡ b) ⊎ IsBelow pairs pair.1 b → IsBelow (pair ∷ pairs) a b
   after so_far (inl same) = let P : ℕ → Type 0 = λ x. IsBelow (pair ∷ pairs) a x in subst P same so_far
   after so_far (inr below) = IsBelow-trans (pair ∷ pairs) a pair.1 b so_far (more_pairs pairs pair pair.1 b below)

@@ -21,3 +21,4 @@ pub mod Searches
 pub mod Trials
 pub mod RunUnique
 pub mod RunAnswers
+pub mod Skips

@@ -1,18 +1,14 @@
 -- Where a substitution makes the pattern the term, matching binds no more than it gives.
-use Rattle.std.proofs.Common.{◌≡◌, ◌≢◌, ◌<◌, ◌⊎◌, inl, inr, ℕ, Bool, true, false, List, [], ◌∷◌, length, set, slice_get, Option, option_map, Some, None, refl, sym, ◌∙◌, ap, subst, eq-eqb}
-use Rattle.std.specs.Prelude.{◌==◌, ◌&&◌, ◌||◌, if◌then◌else◌}
-use Rattle.std.specs.Option.{option_and_then}
-use Rattle.std.proofs.lemmas.Bool.{eqb-true, false≢true}
+use Rattle.std.proofs.Common.{◌≡◌, ◌≢◌, ◌<◌, ◌⊎◌, inl, inr, ℕ, List, [], ◌∷◌, length, set, slice_get, Option, Some, None, refl, sym, ◌∙◌, ap, subst, eq-eqb}
 use Rattle.std.proofs.lemmas.List.{length-set}
 use Rattle.std.proofs.lemmas.Option.{slice_get_within}
 use Rattle.term_core.specs.Terms.{Tree, leaf, node, inj, Forest, no_tree, more_trees, injected}
-use Rattle.term_core.specs.TreeTest.{tree_eq}
 use Rattle.term_core.specs.Patterns.{Pattern, Patterns, variable, domain_value, application, injection, call, no_pattern, more_patterns, binding, instance_of, instances_of}
 use Rattle.term_core.proofs.TreeTests.{Decides-tree_eq}
 use Rattle.rule_core.specs.Subsorts.{IsBelow, HasNoCycle}
-use Rattle.rule_core.specs.Sorting.{HasSort, HaveSorts, IsTermOf, HasInjection}
+use Rattle.rule_core.specs.Sorting.{HasSort, HaveSorts, IsTermOf}
 use Rattle.rule_core.specs.Matching.{RespectsSorts}
-use Rattle.rule_core.specs.MatchSteps.{is_below, lowered, bound_to, matched, all_matched}
+use Rattle.rule_core.specs.MatchSteps.{bound_to, matched, all_matched}
 use Rattle.rule_core.specs.declared.signature.Signature.{Signature}
 use Rattle.rule_core.specs.declared.signature.SortRef.{SortRef}
 use Rattle.rule_core.proofs.Belows.{true-is_below, no_loop}
@@ -69,8 +65,7 @@ mutual
       (theta, rw ((Decides-tree_eq t (leaf s v)).1 same) refl, extends, room)
   matched_complete sig variables (application f ps) sort t sigma theta none (info, at, ctor, result, args) respects room extends e =
       let from = mapped (node f) (instances_of sigma ps) t e in
-      let inside = all_complete sig variables [] ps info.args.items from.0 sigma theta none args respects room extends from.1.0 in
-      (
+      let inside = all_complete sig variables [] ps info.args.items from.0 sigma theta none args respects room extends from.1.0 in (
         inside.0,
         node_complete sig.subsorts f ps from.0 t theta inside.0 from.1.1 inside.1,
         inside.2,
@@ -79,8 +74,7 @@ mutual
   matched_complete sig variables (injection b c p) sort t sigma theta none (has, to, below, within) respects room extends e =
       let from = mapped (injected b c) (instance_of sigma p) t e in
       let inside = matched_complete sig variables p b from.0 sigma theta none within respects room extends from.1.0 in
-      let sorted = instance_is_sorted sig variables p b sigma from.0 within respects from.1.0 in
-      (
+      let sorted = instance_is_sorted sig variables p b sigma from.0 within respects from.1.0 in (
         inside.0,
         injection_complete sig.subsorts sig b c p from.0 t theta inside.0 refl none sorted.0 from.1.1 inside.1,
         inside.2,
@@ -96,8 +90,7 @@ mutual
   all_complete sig variables sorts (more_patterns p ps) (of ∷ refs) ts sigma theta none (sort, at, first, others) respects room extends e =
       let parts = both_there (instance_of sigma p) (instances_of sigma ps) ts e in
       let one = matched_complete sig variables p sort parts.0 sigma theta none first respects room extends parts.1.1.1.0 in
-      let rest = all_complete sig variables sorts ps refs parts.1.0 sigma one.0 none others respects one.3 one.2 parts.1.1.1.1 in
-      (
+      let rest = all_complete sig variables sorts ps refs parts.1.0 sigma one.0 none others respects one.3 one.2 parts.1.1.1.1 in (
         rest.0,
         list_complete sig.subsorts p ps parts.0 parts.1.0 ts theta one.0 rest.0 parts.1.1.0 one.1 rest.1,
         rest.2,

@@ -1,18 +1,17 @@
 -- One turn of a trial.
-use Rattle.std.proofs.Common.{◌≡◌, ℕ, zero, suc, ◌+◌, ◌<◌, ◌≤◌, List, [], ◌∷◌, map, length, get_or, slice_get, Option, option_map, Some, None, All, vec_len, refl, sym, ◌∙◌, ap, subst, arith, inl, inr, ◌⊎◌}
+use Rattle.std.proofs.Common.{◌≡◌, ℕ, zero, suc, ◌+◌, ◌<◌, ◌≤◌, List, [], ◌∷◌, length, get_or, slice_get, Option, option_map, Some, None, All, refl, sym, ◌∙◌, ap, subst, arith, inl, inr, ◌⊎◌}
 use Rattle.std.specs.Prelude.{MatchOption}
-use Rattle.std.proofs.lemmas.List.{length-map}
 use Rattle.std.proofs.lemmas.Option.{slice_get-map, slice_get_read, slice_get_within}
 use Rattle.term_core.specs.Terms.{Tree, no_tree, more_trees}
-use Rattle.term_core.specs.Patterns.{Pattern, no_pattern, more_patterns, ground_pattern}
+use Rattle.term_core.specs.Patterns.{no_pattern, more_patterns}
 use Rattle.rule_core.specs.Rules.{RewriteRule}
 use Rattle.rule_core.specs.Subsorts.{HasNoCycle}
-use Rattle.rule_core.specs.Sorting.{IsTermOf, HaveSorts}
+use Rattle.rule_core.specs.Sorting.{IsTermOf}
 use Rattle.rule_core.specs.WellSorted.{IsRuleOf}
 use Rattle.rule_core.specs.Matching.{NoneMatches, MatchAll}
 use Rattle.rule_core.specs.MatchSearch.{FindsMatch}
-use Rattle.rule_core.specs.Trial.{NoRuleMatches, IsFirstMatch, FindsFirstMatch}
-use Rattle.rule_core.specs.ProgramView.{sorts_of, rewrite_rule, rewrite_rules}
+use Rattle.rule_core.specs.Trial.{NoRuleMatches, FindsFirstMatch}
+use Rattle.rule_core.specs.ProgramView.{rewrite_rule, rewrite_rules}
 use Rattle.rule_core.specs.declared.rules.Rule.{Rule}
 use Rattle.rule_core.specs.declared.signature.Signature.{Signature}
 use Rattle.rule_core.specs.declared.signature.SortRef.TheVariants.{Sort}
@@ -54,8 +53,8 @@ one_more sig rules from i t r j rule before there last low at (inr same) =
 pub NoneSoFar-more : (pairs : List (ℕ × ℕ)) (rules : List RewriteRule) (from i count : ℕ) (t : Tree) (r : RewriteRule) → NoneSoFar pairs rules from i t → slice_get rules i ≡ Some r → length r.variables ≡ count → FindsMatch pairs count (more_patterns r.left no_pattern) (more_trees t no_tree) None → NoneSoFar pairs rules from (i + 1) t
 NoneSoFar-more pairs rules from i count t r before there len finds =
     λ sig sort is none all sorted j rule low high at.
-        let rule_sorted : IsRuleOf sig sort r = all_at (IsRuleOf sig sort) rules i r all there in
-        one_more sig rules from i t r j rule (before sig sort is none all sorted) there (searched sig pairs sort count r t None finds len is none rule_sorted sorted) low at (below_or_at j i high)
+    let rule_sorted : IsRuleOf sig sort r = all_at (IsRuleOf sig sort) rules i r all there in
+    one_more sig rules from i t r j rule (before sig sort is none all sorted) there (searched sig pairs sort count r t None finds len is none rule_sorted sorted) low at (below_or_at j i high)
 
 -- .. and ends at one that does
 pub found_first : (pairs : List (ℕ × ℕ)) (rules : List RewriteRule) (from i count : ℕ) (t : Tree) (r : RewriteRule) (theta : List (Option Tree)) → from ≤ i → NoneSoFar pairs rules from i t → slice_get rules i ≡ Some r → length r.variables ≡ count → FindsMatch pairs count (more_patterns r.left no_pattern) (more_trees t no_tree) (Some theta) → FindsFirstMatch pairs rules from t (Some (i, theta))

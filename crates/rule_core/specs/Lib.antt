@@ -21,3 +21,4 @@ pub mod RunLaws
 pub mod ProgramView
 pub mod RuleVariables
 pub mod Trial
+pub mod TrialLaws

@@ -49,6 +49,7 @@ fn leads(pairs: &[(SortId, SortId)], a: SortId, b: SortId) -> bool
     match pairs.split_first() {
         None => false,
         Some((first, rest)) => leads(rest, a, b)
-            || ((a == first.0 || leads(rest, a, first.0)) && (first.1 == b || leads(rest, first.1, b))),
+            || ((a == first.0 || leads(rest, a, first.0))
+                && (first.1 == b || leads(rest, first.1, b))),
     }
 }
