@@ -20,5 +20,6 @@ pub mod MatchAnswers
 pub mod Searches
 pub mod Trials
 pub mod RunUnique
+pub mod FirstApplies
 pub mod RunAnswers
 pub mod Skips

@@ -1,5 +1,5 @@
 -- Steps and runs have an outcome, their configurations are well-sorted, and a record of a step tells where it leads.
-use Rattle.std.proofs.Common.{◌≡◌, ℕ, suc, zero, ◌+◌, ◌<◌, ◌≤◌, ◌⊎◌, inl, inr, ⊎_elim, List, [], ◌∷◌, Option, Some, None, refl, sym, ◌∙◌, ap, subst, slice_get, arith}
+use Rattle.std.proofs.Common.{◌≡◌, ℕ, suc, zero, ◌+◌, ◌<◌, ◌≤◌, inl, ⊎_elim, List, [], ◌∷◌, Option, Some, None, refl, sym, ◌∙◌, ap, subst, slice_get, arith}
 use Rattle.std.specs.Prelude.{All, IfSome}
 use Rattle.term_core.specs.Terms.{Tree, Forest, no_tree, more_trees, height, heights}
 use Rattle.term_core.specs.Patterns.{Pattern, Patterns, no_pattern, more_patterns}
@@ -16,6 +16,7 @@ use Rattle.rule_core.specs.WellSorted.{IsWellSorted, Serves, IsRuleOf, IsConditi
 use Rattle.rule_core.specs.declared.signature.SortRef.TheVariants.{Sort}
 use Rattle.rule_core.proofs.EvaluationUnique.{all_first, all_rest}
 use Rattle.rule_core.proofs.EvaluationAnswers.{IsGood, IsGoodTree, answers, serves_match, says_something}
+use Rattle.rule_core.proofs.FirstApplies.{Applied, applied, all_at}
 use Rattle.rule_core.proofs.MatchExact.{match_is_decidable}
 use Rattle.rule_core.proofs.SortedInstances.{sorted_use_first}
 use Rattle.rule_core.proofs.RecordsTell.{record_tells}
@@ -132,39 +133,6 @@ configurations_are_sorted theory good calls sort start each h (after_step {c = c
 
 -- ---- records of steps
 
--- a rule that a trial passed over, with some calls left
-abbrev PassedOver : RewriteTheory → Tree → RewriteRule → Type 0
-PassedOver theory t rule = IsUnmatched theory rule t ⊎ ((theta : List (Option Tree)) × (c : ℕ) × (d : ℕ) × Matches theory rule t theta × Meets theory theta rule.condition c (fails d))
-
--- where the rule that applies stands among the rules
-record Applied (theory : RewriteTheory) (t : Tree) (rules : List RewriteRule) (rule : RewriteRule) (theta : List (Option Tree)) : Type 0 where
-  place : ℕ
-  there : slice_get rules place ≡ Some rule
-  matches : Matches theory rule t theta
-  before : ℕ
-  after : ℕ
-  holding : Meets theory theta rule.condition before (holds after)
-  earlier : (j : ℕ) (other : RewriteRule) → j < place → slice_get rules j ≡ Some other → PassedOver theory t other
-
-one_later : {theory : RewriteTheory} {t : Tree} {rules : List RewriteRule} {rule : RewriteRule} {theta : List (Option Tree)} (first : RewriteRule) → PassedOver theory t first → Applied theory t rules rule theta → Applied theory t (first ∷ rules) rule theta
-one_later {theory} {t} {rules} first over a = record {
-  place = suc a.place;
-  there = a.there;
-  matches = a.matches;
-  before = a.before;
-  after = a.after;
-  holding = a.holding;
-  earlier = passed;
-} where
-  passed : (j : ℕ) (other : RewriteRule) → j < suc a.place → slice_get (first ∷ rules) j ≡ Some other → PassedOver theory t other
-  passed zero other lt s = let k : Some first ≡ Some other = s in let same : first ≡ other = cc in subst (PassedOver theory t) same over
-  passed (suc j) other lt s = a.earlier j other (omega arith) s
-
-applied : {theory : RewriteTheory} {t : Tree} {i c j d : ℕ} {rules : List RewriteRule} {rule : RewriteRule} {theta : List (Option Tree)} → Tries theory t i rules c (applies j rule theta d) → Applied theory t rules rule theta
-applied (unmatched {rule = first} never others) = one_later first (inl never) (applied others)
-applied (condition_fails {c = c} {d = d} {rule = first} {theta = theta} m test others) = one_later first (inr (theta, c, d, m, test)) (applied others)
-applied (condition_holds {c = c} {d = d} m test) = record { place = 0; there = refl; matches = m; before = c; after = d; holding = test; earlier = λ j other lt s. absurd (omega arith) }
-
 -- a condition does not both hold and fail, whatever is left
 not_both : (theory : RewriteTheory) → IsWellSorted theory → (theta : List (Option Tree)) (p : Option Pattern) (c d k e : ℕ) → Meets theory theta p c (holds d) → Meets theory theta p k (fails e) → ⊥
 not_both theory good theta None c d k e holding failing = elim failing [ ]
@@ -185,19 +153,14 @@ not_recorded theory good theta p k e (conditional r) w test = failed (subst (λ 
       other (subst IsTrueValue (values_agree theory good theta w.0 (result_of r) u told.0 told.1 told.2 most_nesting k n told.3 b) w.3)
   failed (condition {e = blocked cause} b says) = elim says [ ]
 
-all_at : {X : Type 0} (P : X → Type 0) (xs : List X) (i : ℕ) (x : X) → All P xs → slice_get xs i ≡ Some x → P x
-all_at P [] i x each e = let k : None ≡ Some x = e in let no : ⊥ = cc in absurd no
-all_at P (y ∷ xs) zero x each e = let k : Some y ≡ Some x = e in let same : y ≡ x = cc in subst P same (all_first P y xs each)
-all_at P (y ∷ xs) (suc i) x each e = all_at P xs i x (all_rest P y xs each) e
-
 -- the rule that is used is the one that the record names
-same_rule : (theory : RewriteTheory) → IsWellSorted theory → (t : Tree) (rule : RewriteRule) (theta : List (Option Tree)) (step : StepRecord) → (w : RecordsStep theory t step) → (a : Applied theory t theory.rules rule theta) → a.place ≡ step.rule
-same_rule theory good t rule theta step w a =
+same_rule : (theory : RewriteTheory) → IsWellSorted theory → (t : Tree) (rule : RewriteRule) (theta : List (Option Tree)) (step : StepRecord) → (w : RecordsStep theory t step) → {i d : ℕ} → (a : Applied theory t 0 i d theory.rules rule theta) → a.place ≡ step.rule
+same_rule theory good t rule theta step w {i} {d} a =
     let once = rules_match_once theory good in
     let not_less : a.place < step.rule → ⊥ = λ lt. ⊎_elim
     (λ (never : IsUnmatched theory rule t). never theta a.matches)
     (λ failed. let same : failed.0 ≡ theta = all_at (RuleMatchesOnce theory) theory.rules a.place rule once a.there t failed.0 theta failed.2 a.matches in
-    not_both theory good theta rule.condition a.before a.after _ failed.1 a.holding (subst (λ s. Meets theory s rule.condition _ (fails failed.1)) same failed.3))
+    not_both theory good theta rule.condition a.before d _ failed.1 a.holding (subst (λ s. Meets theory s rule.condition _ (fails failed.1)) same failed.3))
     (w.earlier a.place rule lt a.there) in
     let not_more : step.rule < a.place → ⊥ = λ lt. ⊎_elim
     (λ (never : IsUnmatched theory w.rule t). never step.theta w.matches)

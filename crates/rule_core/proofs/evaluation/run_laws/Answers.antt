@@ -1,5 +1,6 @@
 use Rattle.rule_core.proofs.RunUnique.{trial_is_unique, step_is_unique, run_is_unique}
 use Rattle.rule_core.proofs.RunAnswers.{has_run, configurations_are_sorted, step_record_determines}
+use Rattle.rule_core.proofs.FirstApplies.{first_applies, none_applies_over}
 use Rattle.rule_core.proofs.evaluation.run_laws.Goals as goal
 
 pub returns-clause-trial : goal.returns-clause-trial
@@ -19,3 +20,9 @@ returns-clause-sorted a = λ theory calls sort n c start t good each h r. config
 
 pub returns-clause-kept : goal.returns-clause-kept
 returns-clause-kept a = step_record_determines
+
+pub returns-clause-first : goal.returns-clause-first
+returns-clause-first a = first_applies
+
+pub returns-clause-none : goal.returns-clause-none
+returns-clause-none a = none_applies_over
