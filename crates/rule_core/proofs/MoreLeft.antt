@@ -18,7 +18,7 @@ IsTold (holds c) = Unit {0}
 IsTold (fails c) = Unit {0}
 IsTold (untested cause) = ⊥
 
-more_says : {c : ℕ} (k : ℕ) {t : Tree} {r : Tested} → Says (value t c) r → Says (value t (c + k)) (with_calls k r)
+pub more_says : {c : ℕ} (k : ℕ) {t : Tree} {r : Tested} → Says (value t c) r → Says (value t (c + k)) (with_calls k r)
 more_says k (says_true is) = says_true is
 more_says k (says_other other) = says_other other
 

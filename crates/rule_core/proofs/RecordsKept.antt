@@ -16,12 +16,12 @@ use Rattle.rule_core.specs.declared.signature.SymKind.TheVariants.{Equations}
 use Rattle.rule_core.proofs.MoreLeft.{tests_more}
 
 -- the calls that a told condition leaves
-abbrev LeavesAtMost : ℕ → Tested → Type 0
+abbrev pub LeavesAtMost : ℕ → Tested → Type 0
 LeavesAtMost c (holds d) = d ≤ c
 LeavesAtMost c (fails d) = d ≤ c
 LeavesAtMost c (untested cause) = Unit {0}
 
-says_at_most : {c d : ℕ} {t : Tree} {r : Tested} → Says (value t d) r → d ≤ c → LeavesAtMost c r
+pub says_at_most : {c d : ℕ} {t : Tree} {r : Tested} → Says (value t d) r → d ≤ c → LeavesAtMost c r
 says_at_most (says_true is) le = le
 says_at_most (says_other other) le = le
 
@@ -54,13 +54,13 @@ mutual
   within_calls_fall (inside e) = calls_fall e
 
 -- a record of the pattern whose result is this term
-abbrev RecordOf : RewriteTheory → List (Option Tree) → Pattern → Tree → Type 0
+abbrev pub RecordOf : RewriteTheory → List (Option Tree) → Pattern → Tree → Type 0
 RecordOf theory theta p t = (r : Record) × Records theory theta p r × (result_of r ≡ t)
 
 abbrev RecordsOf : RewriteTheory → List (Option Tree) → Patterns → Forest → Type 0
 RecordsOf theory theta ps ts = (rs : RecordList) × RecordAll theory theta ps rs × (results_of rs ≡ ts)
 
-abbrev ConditionRecord : RewriteTheory → List (Option Tree) → Option Pattern → Tested → Type 0
+abbrev pub ConditionRecord : RewriteTheory → List (Option Tree) → Option Pattern → Tested → Type 0
 ConditionRecord theory theta p (holds c) = (o : OptionalRecord) × RecordsCondition theory theta p o
 ConditionRecord theory theta p (fails c) = Unit {0}
 ConditionRecord theory theta p (untested cause) = Unit {0}
@@ -129,7 +129,7 @@ by_equation_record theory f info {ts = ts} is defined sorts ps args r =
     let before = subst (λ us. (j : ℕ) (other : Equation) → j < r.place → slice_get (equations_of theory f) j ≡ Some other → IsUnused theory f other us) back r.earlier in
     (kept.by_equation args.0 r.place r.sigma r.test r.body, (f, sorts, ps, info, r.equation, refl, is, defined, r.there, there, before, args.1, r.condition, r.right), r.result)
 
-condition_record : (theory : RewriteTheory) {theta : List (Option Tree)} (p : Pattern) {d : ℕ} {t : Tree} {r : Tested} → Says (value t d) r → RecordOf theory theta p t → ConditionRecord theory theta (Some p) r
+pub condition_record : (theory : RewriteTheory) {theta : List (Option Tree)} (p : Pattern) {d : ℕ} {t : Tree} {r : Tested} → Says (value t d) r → RecordOf theory theta p t → ConditionRecord theory theta (Some p) r
 condition_record theory p (says_true is) kept_value = (conditional kept_value.0, (p, refl, kept_value.1, subst IsTrueValue (sym kept_value.2) is))
 condition_record theory p (says_other other) kept_value = tt
 

@@ -31,6 +31,10 @@ abbrev pub MoreLeftKeepsValue : Type 0
 MoreLeftKeepsValue =
     (theory : RewriteTheory) (n m c d k : ℕ) (theta : List (Option Tree)) (p : Pattern) (t : Tree) → n ≤ m → Evaluates theory n theta p c (value t d) → Evaluates theory m theta p (c + k) (value t (d + k))
 
+-- No evaluation leaves more calls than there were.
+abbrev pub CallsFall : Type 0
+CallsFall = (theory : RewriteTheory) (n c d : ℕ) (theta : List (Option Tree)) (p : Pattern) (t : Tree) → Evaluates theory n theta p c (value t d) → d ≤ c
+
 -- A value has a record, where no more is left than records are judged with.
 abbrev pub ValueHasRecord : Type 0
 ValueHasRecord =

@@ -8,7 +8,7 @@ use Rattle.rule_core.specs.Sorting.{HasSort, IsTermOf}
 use Rattle.rule_core.specs.Evaluation.{holds, fails, most_height}
 use Rattle.rule_core.specs.FirstRule.{Matches, IsUnmatched, Meets, Trial, applies, none_applies, Tries}
 use Rattle.rule_core.specs.Runs.{Stepped, next, Steps, Reaches, Run, IsRunOf}
-use Rattle.rule_core.specs.Records.{StepRecord, RecordsStep, result_of}
+use Rattle.rule_core.specs.Records.{StepRecord, RecordsStep, most_calls, result_of}
 use Rattle.rule_core.specs.WellSorted.{IsWellSorted, IsRuleOf}
 
 -- At most one thing comes of trying the rules, of a step and of a run.
@@ -50,6 +50,11 @@ abbrev pub ConfigurationsAreSorted : Type 0
 ConfigurationsAreSorted =
     (theory : RewriteTheory) (calls sort n c : ℕ) (start : Pattern) (t : Tree) → IsWellSorted theory → All (IsRuleOf theory.sig sort) theory.rules → HasSort theory.sig [] start sort →
     Reaches theory start calls n t c → IsTermOf theory.sig t sort × IsNormal t × (height t ≤ most_height)
+
+-- A step has a record, where no more calls are left than records are judged with.
+abbrev pub StepHasRecord : Type 0
+StepHasRecord =
+    (theory : RewriteTheory) (t u : Tree) (c d : ℕ) → c ≤ most_calls → Steps theory t c (next u d) → (step : StepRecord) × RecordsStep theory t step × (result_of step.right ≡ u)
 
 -- Where there is a record of a step from a term, its result is the only term that a step leads to.
 abbrev pub StepRecordDetermines : Type 0
