@@ -1,21 +1,43 @@
--- The first rule that applies, and a step by it.
-use Rattle.std.specs.Prelude.{◌≡◌, List, Contains, Option, Some}
-use Rattle.term_core.specs.Terms.{Tree}
-use Rattle.term_core.specs.Patterns.{instance_of}
-use Rattle.rule_core.specs.Rules.{RewriteRule, ComesBefore}
-use Rattle.rule_core.specs.Matching.{Matches, IsUnmatched}
+-- The first rule that applies to a term (K framework, "Rules"): rules are tried in their order, and the calls that are left go
+-- from one condition to the next.
+use Rattle.std.specs.Prelude.{ℕ, ◌+◌, List, [], ◌∷◌, Option, Some, None}
+use Rattle.term_core.specs.Terms.{Tree, no_tree, more_trees}
+use Rattle.term_core.specs.Patterns.{Pattern, no_pattern, more_patterns}
+use Rattle.rule_core.specs.Rules.{RewriteRule}
+use Rattle.rule_core.specs.Theories.{RewriteTheory}
+use Rattle.rule_core.specs.Matching.{MatchAll, NoneMatches}
+use Rattle.rule_core.specs.Evaluation.{Cause, Evaluated, Tested, holds, fails, untested, Says, Evaluates}
 
--- the rule is one of the program's, it matches the term with this substitution, and no rule that comes before it matches
-pub record IsFirstRule (rules : List RewriteRule) (t : Tree) (rule : RewriteRule) (theta : List (Option Tree)) : Type 0 where
-  pub known : Contains rules rule
-  pub matches : Matches rule.variables rule.left t theta
-  pub none_before : (other : RewriteRule) → Contains rules other → ComesBefore other rule → IsUnmatched other.variables other.left t
+-- the nesting at which a condition or a right side of a rule is evaluated
+abbrev pub most_nesting : ℕ
+most_nesting = 2000
 
--- no rule of the program matches the term
-abbrev pub NoRuleApplies : List RewriteRule → Tree → Type 0
-NoRuleApplies rules t = (rule : RewriteRule) → Contains rules rule → IsUnmatched rule.variables rule.left t
+-- a substitution matches the left side with the term
+abbrev pub Matches : RewriteTheory → RewriteRule → Tree → List (Option Tree) → Type 0
+Matches theory rule t theta = MatchAll theory.sig rule.variables (more_patterns rule.left no_pattern) (more_trees t no_tree) theta
 
--- one step: the first rule that matches turns the term into this instance of its right side
-abbrev pub Rewrites : List RewriteRule → Tree → Tree → Type 0
-Rewrites rules t u =
-    (rule : RewriteRule) × ((theta : List (Option Tree)) × (IsFirstRule rules t rule theta × (instance_of theta rule.right ≡ Some u)))
+abbrev pub IsUnmatched : RewriteTheory → RewriteRule → Tree → Type 0
+IsUnmatched theory rule t = NoneMatches theory.sig rule.variables (more_patterns rule.left no_pattern) (more_trees t no_tree)
+
+-- the condition of a rule, where it has one
+pub data Meets (theory : RewriteTheory) (theta : List (Option Tree)) : Option Pattern → ℕ → Tested → Type 0 where
+  no_condition : {c : ℕ} → Meets theory theta None c (holds c)
+  condition : {c : ℕ} {p : Pattern} {e : Evaluated} {r : Tested} → Evaluates theory most_nesting theta p c e → Says e r → Meets theory theta (Some p) c r
+
+-- what comes of trying rules: the rule at a place applies with this substitution, and so many calls are left; none applies; or a
+-- condition that is reached is blocked
+pub data Trial : Type 0 where
+  applies : ℕ → RewriteRule → List (Option Tree) → ℕ → Trial
+  none_applies : Trial
+  trial_blocked : Cause → Trial
+
+-- the rules, of which the first stands at this place, are tried so on a term
+pub data Tries (theory : RewriteTheory) (t : Tree) : ℕ → List RewriteRule → ℕ → Trial → Type 0 where
+  no_rule_left : {i c : ℕ} → Tries theory t i [] c none_applies
+  unmatched : {i c : ℕ} {rule : RewriteRule} {rules : List RewriteRule} {r : Trial} → IsUnmatched theory rule t → Tries theory t (i + 1) rules c r → Tries theory t i (rule ∷ rules) c r
+  condition_fails : {i c d : ℕ} {rule : RewriteRule} {rules : List RewriteRule} {r : Trial} {theta : List (Option Tree)} → Matches theory rule t theta → Meets theory theta rule.condition c (fails d) →
+      Tries theory t (i + 1) rules d r → Tries theory t i (rule ∷ rules) c r
+  condition_blocked : {i c : ℕ} {rule : RewriteRule} {rules : List RewriteRule} {theta : List (Option Tree)} {cause : Cause} → Matches theory rule t theta → Meets theory theta rule.condition c (untested cause) →
+      Tries theory t i (rule ∷ rules) c (trial_blocked cause)
+  condition_holds : {i c d : ℕ} {rule : RewriteRule} {rules : List RewriteRule} {theta : List (Option Tree)} → Matches theory rule t theta → Meets theory theta rule.condition c (holds d) →
+      Tries theory t i (rule ∷ rules) c (applies i rule theta d)

@@ -1,13 +1,48 @@
 -- Matching by substitution (Kore language document, "Patterns"). A substitution matches a pattern with a term where the
 -- pattern becomes the term under it. The definition guesses the substitution; the code takes the term apart.
-use Rattle.std.specs.Prelude.{◌≡◌, ℕ, List, length, Option, Some}
-use Rattle.term_core.specs.Terms.{Tree}
-use Rattle.term_core.specs.Patterns.{Pattern, instance_of}
+use Rattle.std.specs.Prelude.{◌≡◌, ◌↔◌, ◌<◌, ℕ, List, length, slice_get, Option, Some, IsSome, ◌⊎◌}
+use Rattle.term_core.specs.Terms.{Tree, Forest, no_tree, more_trees, IsNormal}
+use Rattle.term_core.specs.Patterns.{Pattern, Patterns, variable, domain_value, application, injection, call, no_pattern, more_patterns, binding, instances_of}
+use Rattle.rule_core.specs.Sorting.{IsTermOf}
+use Rattle.rule_core.specs.declared.signature.Signature.{Signature}
 
--- the substitution has a place for each of so many variables, and the pattern becomes the term under it
-abbrev pub Matches : ℕ → Pattern → Tree → List (Option Tree) → Type 0
-Matches variables pattern t theta = (length theta ≡ variables) × (instance_of theta pattern ≡ Some t)
+-- the variable stands in the pattern
+abbrev mutual
+  pub StandsIn : ℕ → Pattern → Type 0
+  StandsIn x (variable y) = x ≡ y
+  StandsIn x (domain_value s v) = ⊥
+  StandsIn x (application f ps) = StandsInSome x ps
+  StandsIn x (injection a b p) = StandsIn x p
+  StandsIn x (call f sorts ps) = StandsInSome x ps
 
--- no substitution matches
-abbrev pub IsUnmatched : ℕ → Pattern → Tree → Type 0
-IsUnmatched variables pattern t = (theta : List (Option Tree)) → Matches variables pattern t theta → ⊥
+  pub StandsInSome : ℕ → Patterns → Type 0
+  StandsInSome x no_pattern = ⊥
+  StandsInSome x (more_patterns p ps) = StandsIn x p ⊎ StandsInSome x ps
+
+-- the first variables, so many, are all that stand in the patterns
+abbrev pub UseFirst : ℕ → Patterns → Type 0
+UseFirst n ps = (x : ℕ) → StandsInSome x ps → x < n
+
+-- the substitution gives variables normal terms of their sorts
+abbrev pub RespectsSorts : Signature → List ℕ → List (Option Tree) → Type 0
+RespectsSorts sig variables theta =
+    (x : ℕ) (t : Tree) → binding theta x ≡ Some t → IsNormal t × ((sort : ℕ) × (slice_get variables x ≡ Some sort) × IsTermOf sig t sort)
+
+-- the substitution gives just the variables that stand in the patterns each a normal term of its sort
+pub record Binds (sig : Signature) (variables : List ℕ) (ps : Patterns) (theta : List (Option Tree)) : Type 0 where
+  pub room : length theta ≡ length variables
+  pub just : (x : ℕ) → IsSome (binding theta x) ↔ StandsInSome x ps
+  pub sorted : RespectsSorts sig variables theta
+
+-- such a substitution makes the patterns the terms, in order
+pub record MatchAll (sig : Signature) (variables : List ℕ) (ps : Patterns) (ts : Forest) (theta : List (Option Tree)) : Type 0 where
+  pub binds : Binds sig variables ps theta
+  pub makes : instances_of theta ps ≡ Some ts
+
+-- such a substitution makes the pattern the term
+abbrev pub MatchesTerm : Signature → List ℕ → Pattern → Tree → List (Option Tree) → Type 0
+MatchesTerm sig variables p t theta = MatchAll sig variables (more_patterns p no_pattern) (more_trees t no_tree) theta
+
+-- no substitution makes the patterns the terms
+abbrev pub NoneMatches : Signature → List ℕ → Patterns → Forest → Type 0
+NoneMatches sig variables ps ts = (theta : List (Option Tree)) → MatchAll sig variables ps ts theta → ⊥

@@ -1,21 +1,49 @@
--- Runs: a term is rewritten until no rule applies or the limit of steps is reached.
-use Rattle.std.specs.Prelude.{◌≡◌, ℕ, ◌+◌, ◌<◌, List}
+-- Runs: a term is rewritten by the first rule that applies until none does, or the limit of steps is reached, or an evaluation is
+-- blocked. Calls of functions are counted over the whole run.
+use Rattle.std.specs.Prelude.{◌≡◌, ℕ, suc, ◌<◌, List, [], Option}
 use Rattle.term_core.specs.Terms.{Tree}
+use Rattle.term_core.specs.Patterns.{Pattern, ground_pattern}
 use Rattle.rule_core.specs.Rules.{RewriteRule}
-use Rattle.rule_core.specs.FirstRule.{Rewrites, NoRuleApplies}
+use Rattle.rule_core.specs.Theories.{RewriteTheory}
+use Rattle.rule_core.specs.Evaluation.{Cause, value, blocked, Evaluates}
+use Rattle.rule_core.specs.FirstRule.{most_nesting, applies, none_applies, trial_blocked, Tries}
 
--- so many steps lead from the first term to the second
-pub data Reaches (rules : List RewriteRule) (start : Tree) : ℕ → Tree → Type 0 where
-  at_start : Reaches rules start 0 start
-  after_step : (n : ℕ) (t u : Tree) → Reaches rules start n t → Rewrites rules t u → Reaches rules start (n + 1) u
+-- what comes of one step from a configuration: the next one, with the calls that are left; none; or a cause why none can be told
+pub data Stepped : Type 0 where
+  next : Tree → ℕ → Stepped
+  stays : Stepped
+  stops : Cause → Stepped
 
--- how a run ends: so many steps were made, and this is the last configuration
+pub data Steps (theory : RewriteTheory) (t : Tree) (c : ℕ) : Stepped → Type 0 where
+  by_rule : {i d e : ℕ} {rule : RewriteRule} {theta : List (Option Tree)} {u : Tree} → Tries theory t 0 theory.rules c (applies i rule theta d) →
+      Evaluates theory most_nesting theta rule.right d (value u e) → Steps theory t c (next u e)
+  by_none : Tries theory t 0 theory.rules c none_applies → Steps theory t c stays
+  in_condition : {cause : Cause} → Tries theory t 0 theory.rules c (trial_blocked cause) → Steps theory t c (stops cause)
+  in_right_side : {i d : ℕ} {rule : RewriteRule} {theta : List (Option Tree)} {cause : Cause} → Tries theory t 0 theory.rules c (applies i rule theta d) →
+      Evaluates theory most_nesting theta rule.right d (blocked cause) → Steps theory t c (stops cause)
+
+-- so many steps lead from the value of the initial term to this configuration, and leave so many calls
+pub data Reaches (theory : RewriteTheory) (start : Pattern) (calls : ℕ) : ℕ → Tree → ℕ → Type 0 where
+  at_start : {t : Tree} {c : ℕ} → Evaluates theory most_nesting [] start calls (value t c) → Reaches theory start calls 0 t c
+  after_step : {n c d : ℕ} {t u : Tree} → Reaches theory start calls n t c → Steps theory t c (next u d) → Reaches theory start calls (suc n) u d
+
+-- how a run ends, after how many steps, and the last whole configuration; where the initial term has no value there is none
 pub data Run : Type 0 where
   stuck : ℕ → Tree → Run
   limited : ℕ → Tree → Run
+  stopped : ℕ → Cause → Tree → Run
+  unstarted : Cause → Run
 
--- The run of a term. It is stuck where no rule applies to a configuration before the limit; at the limit no rule is
--- tried.
-abbrev pub IsRunOf : List RewriteRule → ℕ → Tree → Run → Type 0
-IsRunOf rules limit start (stuck n t) = Reaches rules start n t × (n < limit) × NoRuleApplies rules t
-IsRunOf rules limit start (limited n t) = Reaches rules start n t × (n ≡ limit)
+-- what a run keeps: its last configuration, or the initial term as it was read
+abbrev pub kept_by : Pattern → Run → Pattern
+kept_by start (stuck n t) = ground_pattern t
+kept_by start (limited n t) = ground_pattern t
+kept_by start (stopped n cause t) = ground_pattern t
+kept_by start (unstarted cause) = start
+
+-- The run of a term. At the limit no rule is tried.
+abbrev pub IsRunOf : RewriteTheory → ℕ → ℕ → Pattern → Run → Type 0
+IsRunOf theory limit calls start (stuck n t) = (c : ℕ) × Reaches theory start calls n t c × (n < limit) × Steps theory t c stays
+IsRunOf theory limit calls start (limited n t) = (c : ℕ) × Reaches theory start calls n t c × (n ≡ limit)
+IsRunOf theory limit calls start (stopped n cause t) = (c : ℕ) × Reaches theory start calls n t c × (n < limit) × Steps theory t c (stops cause)
+IsRunOf theory limit calls start (unstarted cause) = Evaluates theory most_nesting [] start calls (blocked cause)

@@ -1,5 +1,5 @@
 // The signature of a definition: its sorts and symbols.
-use crate::Table;
+use crate::{Subsorts, Table};
 use term_core::{HookNo, SortId};
 
 /// What the hook of a sort says of the sort's domain values.
@@ -72,4 +72,6 @@ pub struct Signature {
     pub sorts: Table<SortInfo>,
     /// The symbols: a `SymId` is the number of a name here.
     pub symbols: Table<SymInfo>,
+    /// Which sorts are below which.
+    pub subsorts: Subsorts,
 }

@@ -149,7 +149,8 @@ operation_value (on_truth f) (truth a ∷ []) = Some (Ok (truth (f a)))
 operation_value (on_truths f) (truth a ∷ (truth b ∷ [])) = Some (Ok (truth (f a b)))
 operation_value operation arguments = None
 
-abbrev value_by : Option Hook → List DomainValue → Option (Result DomainValue NoValue)
+-- the same of a hook that is there or not
+abbrev pub value_by : Option Hook → List DomainValue → Option (Result DomainValue NoValue)
 value_by None arguments = None
 value_by (Some h) arguments = operation_value h.operation arguments
 

@@ -13,3 +13,4 @@ pub mod TreeTest
 pub mod TermView
 pub mod TermSize
 pub mod PatternLists
+pub mod HookValues

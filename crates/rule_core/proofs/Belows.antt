@@ -1,0 +1,130 @@
+-- The test of what is below what answers true exactly where a chain leads there.
+use Rattle.std.proofs.Common.{◌≡◌, ℕ, zero, suc, ◌⊎◌, ◌↔◌, inl, inr, eq-eqb, Bool, true, false, List, [], ◌∷◌, Contains, refl, sym, ap, subst, arith}
+use Rattle.std.specs.Prelude.{◌&&◌, ◌||◌, ◌==◌, IsTrue}
+use Rattle.std.proofs.lemmas.Bool.{eqb-true, false≢true}
+use Rattle.rule_core.specs.Subsorts.{IsBelow, by_pair, by_chain, HasNoCycle}
+use Rattle.rule_core.specs.MatchSteps.{is_below}
+
+-- two tests of which one holds, or both
+pub either_true : (a b : Bool) → (a || b) ≡ true → (a ≡ true) ⊎ (b ≡ true)
+either_true true b h = inl refl
+either_true false b h = inr h
+
+pub both_true : (a b : Bool) → (a && b) ≡ true → (a ≡ true) × (b ≡ true)
+both_true true b h = (refl, h)
+both_true false b h = absurd (cc)
+
+pub true_left : (a b : Bool) → a ≡ true → (a || b) ≡ true
+true_left a b h = rw h refl
+
+pub true_right : (a b : Bool) → b ≡ true → (a || b) ≡ true
+true_right true b h = refl
+true_right false b h = h
+
+pub true_both : (a b : Bool) → a ≡ true → b ≡ true → (a && b) ≡ true
+true_both a b h k = rw h k
+
+-- what is below what is below is below
+pub IsBelow-trans : (pairs : List (ℕ × ℕ)) (a b c : ℕ) → IsBelow pairs a b → IsBelow pairs b c → IsBelow pairs a c
+IsBelow-trans pairs a b c (by_pair first) h = by_chain first h
+IsBelow-trans pairs a b c (by_chain {b = m} first rest) h = by_chain first (IsBelow-trans pairs m b c rest h)
+
+-- a pair of a longer list
+contains_later : (pairs : List (ℕ × ℕ)) (first pair : ℕ × ℕ) → Contains pairs pair → Contains (first ∷ pairs) pair
+contains_later pairs first pair known = (suc known.0, omega (arith, known.1), known.2)
+
+contains_cases : (pairs : List (ℕ × ℕ)) (first pair : ℕ × ℕ) → Contains (first ∷ pairs) pair → (first ≡ pair) ⊎ Contains pairs pair
+contains_cases pairs first pair (zero, lt, is) = inl is
+contains_cases pairs first pair (suc k, lt, is) = inr (k, omega arith, is)
+
+more_pairs : (pairs : List (ℕ × ℕ)) (first : ℕ × ℕ) (a b : ℕ) → IsBelow pairs a b → IsBelow (first ∷ pairs) a b
+more_pairs pairs first a b (by_pair known) = by_pair (contains_later pairs first (a, b) known)
+more_pairs pairs first a b (by_chain {b = m} known rest) =
+    by_chain (contains_later pairs first (a, m) known) (more_pairs pairs first m b rest)
+
+-- a chain that may have no pair at all
+abbrev Reaches : List (ℕ × ℕ) → ℕ → ℕ → Type 0
+Reaches pairs a b = (a ≡ b) ⊎ IsBelow pairs a b
+
+-- a chain over a longer list needs the first pair not at all, or once
+chain_cases : (pairs : List (ℕ × ℕ)) (first : ℕ × ℕ) (a b : ℕ) → IsBelow (first ∷ pairs) a b → IsBelow pairs a b ⊎ (Reaches pairs a first.0 × Reaches pairs first.1 b)
+chain_cases pairs first a b (by_pair known) = one (contains_cases pairs first (a, b) known) where
+  one : (first ≡ (a, b)) ⊎ Contains pairs (a, b) → IsBelow pairs a b ⊎ (Reaches pairs a first.0 × Reaches pairs first.1 b)
+  one (inl is) = inr (inl (sym (ap (λ (p : ℕ × ℕ). p.0) is)), inl (ap (λ (p : ℕ × ℕ). p.1) is))
+  one (inr later) = inl (by_pair later)
+chain_cases pairs first a b (by_chain {b = m} known rest) = joined (contains_cases pairs first (a, m) known) (chain_cases pairs first m b rest) where
+  to_first : Contains pairs (a, m) → Reaches pairs m first.0 → Reaches pairs a first.0
+  to_first there (inl same) = let P : ℕ → Type 0 = λ x. Contains pairs (a, x) in inr (by_pair (subst P same there))
+  to_first there (inr below) = inr (by_chain there below)
+
+  joined : (first ≡ (a, m)) ⊎ Contains pairs (a, m) → IsBelow pairs m b ⊎ (Reaches pairs m first.0 × Reaches pairs first.1 b) → IsBelow pairs a b ⊎ (Reaches pairs a first.0 × Reaches pairs first.1 b)
+  joined (inl is) (inl below) =
+      let P : ℕ → Type 0 = λ x. IsBelow pairs x b in
+      inr (inl (sym (ap (λ (p : ℕ × ℕ). p.0) is)), inr (subst P (sym (ap (λ (p : ℕ × ℕ). p.1) is)) below))
+  joined (inl is) (inr halves) = inr (inl (sym (ap (λ (p : ℕ × ℕ). p.0) is)), halves.1)
+  joined (inr there) (inl below) = inl (by_chain there below)
+  joined (inr there) (inr halves) = inr (to_first there halves.0, halves.1)
+
+reached : (pairs : List (ℕ × ℕ)) (a b : ℕ) → ((x y : ℕ) → is_below pairs x y ≡ true → IsBelow pairs x y) → (a == b || is_below pairs a b) ≡ true → Reaches pairs a b
+reached pairs a b fewer h = known (either_true _ _ h) where
+  known : ((a == b) ≡ true) ⊎ (is_below pairs a b ≡ true) → Reaches pairs a b
+  known (inl t) = inl (eqb-true a b t)
+  known (inr t) = inr (fewer a b t)
+
+-- a chain that goes over the first pair
+over_first : (pairs : List (ℕ × ℕ)) (pair : ℕ × ℕ) (a b : ℕ) → Reaches pairs a pair.0 → Reaches pairs pair.1 b → IsBelow (pair ∷ pairs) a b
+over_first pairs pair a b front back = after (before front) back where
+  before : (a ≡ pair.0) ⊎ IsBelow pairs a pair.0 → IsBelow (pair ∷ pairs) a pair.1
+  before (inl same) = by_pair (0, omega arith, ap (λ (x : ℕ). (x, pair.1)) (sym same))
+  before (inr below) =
+      IsBelow-trans (pair ∷ pairs) a pair.0 pair.1 (more_pairs pairs pair a pair.0 below) (by_pair (0, omega arith, refl))
+
+  after : IsBelow (pair ∷ pairs) a pair.1 → (pair.1 ≡ b) ⊎ IsBelow pairs pair.1 b → IsBelow (pair ∷ pairs) a b
+  after so_far (inl same) = let P : ℕ → Type 0 = λ x. IsBelow (pair ∷ pairs) a x in subst P same so_far
+  after so_far (inr below) = IsBelow-trans (pair ∷ pairs) a pair.1 b so_far (more_pairs pairs pair pair.1 b below)
+
+from_test : (pairs : List (ℕ × ℕ)) (pair : ℕ × ℕ) (a b : ℕ) → ((x y : ℕ) → is_below pairs x y ≡ true → IsBelow pairs x y) → is_below (pair ∷ pairs) a b ≡ true → IsBelow (pair ∷ pairs) a b
+from_test pairs pair a b fewer h = known (either_true _ _ h) where
+  known : (is_below pairs a b ≡ true) ⊎ (((a == pair.0 || is_below pairs a pair.0) && (pair.1 == b || is_below pairs pair.1 b)) ≡ true) → IsBelow (pair ∷ pairs) a b
+  known (inl t) = more_pairs pairs pair a b (fewer a b t)
+  known (inr t) =
+      let halves = both_true _ _ t in
+      over_first pairs pair a b (reached pairs a pair.0 fewer halves.0) (reached pairs pair.1 b fewer halves.1)
+
+to_reached : (pairs : List (ℕ × ℕ)) (a b : ℕ) → ((x y : ℕ) → IsBelow pairs x y → is_below pairs x y ≡ true) → Reaches pairs a b → (a == b || is_below pairs a b) ≡ true
+to_reached pairs a b fewer (inl same) = true_left _ _ (eq-eqb a b same)
+to_reached pairs a b fewer (inr below) = true_right _ _ (fewer a b below)
+
+to_test : (pairs : List (ℕ × ℕ)) (pair : ℕ × ℕ) (a b : ℕ) → ((x y : ℕ) → IsBelow pairs x y → is_below pairs x y ≡ true) → IsBelow pairs a b ⊎ (Reaches pairs a pair.0 × Reaches pairs pair.1 b) → is_below (pair ∷ pairs) a b ≡ true
+to_test pairs pair a b fewer (inl below) = true_left _ _ (fewer a b below)
+to_test pairs pair a b fewer (inr halves) =
+    true_right (is_below pairs a b) _ (true_both _ _ (to_reached pairs a pair.0 fewer halves.0) (to_reached pairs pair.1 b fewer halves.1))
+
+nothing_below : (a b : ℕ) → IsBelow [] a b → ⊥
+nothing_below a b (by_pair known) = omega (arith, known.1)
+nothing_below a b (by_chain known rest) = omega (arith, known.1)
+
+-- the test and the fact
+pub is_below-true : (pairs : List (ℕ × ℕ)) (a b : ℕ) → is_below pairs a b ≡ true → IsBelow pairs a b
+is_below-true [] a b h = absurd (cc)
+is_below-true (pair ∷ pairs) a b h = from_test pairs pair a b (λ x y t. is_below-true pairs x y t) h
+
+pub true-is_below : (pairs : List (ℕ × ℕ)) (a b : ℕ) → IsBelow pairs a b → is_below pairs a b ≡ true
+true-is_below [] a b h = absurd (nothing_below a b h)
+true-is_below (pair ∷ pairs) a b h = to_test pairs pair a b (λ x y t. true-is_below pairs x y t) (chain_cases pairs pair a b h)
+
+-- the answer of a call that tells what is below what is that of the test
+pub below_answer : (pairs : List (ℕ × ℕ)) (a b : ℕ) (answer : Bool) → IsTrue answer ↔ IsBelow pairs a b → answer ≡ is_below pairs a b
+below_answer pairs a b true h = sym (true-is_below pairs a b (h.0 refl))
+below_answer pairs a b false h = unless (is_below pairs a b) refl where
+  unless : (t : Bool) → is_below pairs a b ≡ t → false ≡ is_below pairs a b
+  unless false e = sym e
+  unless true e = absurd (false≢true (h.1 (is_below-true pairs a b e)))
+
+-- no sort reaches itself
+pub no_loop : (pairs : List (ℕ × ℕ)) (a b : ℕ) → HasNoCycle pairs → IsBelow pairs a b → (a == b) ≡ false
+no_loop pairs a b none below = unless (a == b) refl where
+  unless : (t : Bool) → (a == b) ≡ t → (a == b) ≡ false
+  unless false e = e
+  unless true e =
+      let P : ℕ → Type 0 = λ x. IsBelow pairs x b in absurd (none b (subst P (eqb-true a b e) below))

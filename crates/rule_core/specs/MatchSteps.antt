@@ -1,0 +1,47 @@
+-- Matching as private functions do it: they take the term apart, and bind variables on top of what is bound.
+use Rattle.std.specs.Prelude.{◌≡◌, ◌==◌, ◌&&◌, ◌||◌, if◌then◌else◌, ℕ, Bool, true, false, List, [], ◌∷◌, slice_set, Option, Some, None}
+use Rattle.std.specs.Option.{option_and_then}
+use Rattle.term_core.specs.Terms.{Tree, leaf, node, inj, Forest, no_tree, more_trees}
+use Rattle.term_core.specs.TreeTest.{tree_eq}
+use Rattle.term_core.specs.Patterns.{Pattern, Patterns, variable, domain_value, application, injection, call, no_pattern, more_patterns, binding}
+
+-- Whether a chain of the pairs leads from the one sort to the other: one that does not need the first pair, or one that needs it
+-- once.
+abbrev pub is_below : List (ℕ × ℕ) → ℕ → ℕ → Bool
+is_below [] a b = false
+is_below (pair ∷ pairs) a b =
+    is_below pairs a b || ((a == pair.0 || is_below pairs a pair.0) && (pair.1 == b || is_below pairs pair.1 b))
+
+-- what stands for a variable of the sort b under an injection, where the term injects this tree from the sort a
+abbrev pub lowered : ℕ → ℕ → Tree → Tree
+lowered a b t = if a == b then t else inj a b t
+
+-- the substitution, once the variable, which it gives this, stands for the tree; none where it stands for another
+abbrev pub bound_to : Tree → ℕ → List (Option Tree) → Option Tree → Option (List (Option Tree))
+bound_to t x theta None = Some (slice_set theta x (Some t))
+bound_to t x theta (Some u) = if tree_eq u t then Some theta else None
+
+-- the substitution, with the variables that matching binds; none where nothing matches
+abbrev mutual
+  pub matched : List (ℕ × ℕ) → Pattern → Tree → List (Option Tree) → Option (List (Option Tree))
+  matched pairs (variable x) t theta = bound_to t x theta (binding theta x)
+  matched pairs (domain_value s v) t theta = if tree_eq t (leaf s v) then Some theta else None
+  matched pairs (application f ps) (leaf s v) theta = None
+  matched pairs (application f ps) (node g ts) theta = if f == g then all_matched pairs ps ts theta else None
+  matched pairs (application f ps) (inj a b t) theta = None
+  matched pairs (injection b c p) (leaf s v) theta = None
+  matched pairs (injection b c p) (node g ts) theta = None
+  matched pairs (injection b c p) (inj a d t) theta =
+      if (c == d) && (a == b || is_below pairs a b) then matched pairs p (lowered a b t) theta else None
+  matched pairs (call f sorts ps) t theta = None
+
+  pub all_matched : List (ℕ × ℕ) → Patterns → Forest → List (Option Tree) → Option (List (Option Tree))
+  all_matched pairs no_pattern no_tree theta = Some theta
+  all_matched pairs no_pattern (more_trees t ts) theta = None
+  all_matched pairs (more_patterns p ps) no_tree theta = None
+  all_matched pairs (more_patterns p ps) (more_trees t ts) theta = option_and_then (all_matched pairs ps ts) (matched pairs p t theta)
+
+-- a search answers what it found: the substitution is this one, or there is none
+abbrev pub Answers : Option (List (Option Tree)) → Bool → List (Option Tree) → Type 0
+Answers found true theta = found ≡ Some theta
+Answers found false theta = found ≡ None

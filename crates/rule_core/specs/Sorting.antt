@@ -1,0 +1,90 @@
+-- Well-sorted patterns (Kore language document, "Well-formed patterns"), over the signature of a definition.
+use Rattle.std.specs.Prelude.{◌≡◌, ◌≤ℤ◌, ◌-◌, ◌^◌, ◌<◌, ℕ, ℤ, pos, neg_ℤ, IsTrue, List, [], ◌∷◌, length, slice_get, Option, Some}
+use Rattle.std.specs.Str.{is_utf8}
+use Rattle.term_core.specs.Terms.{DomainValue, integer, truth, text, Tree}
+use Rattle.term_core.specs.Patterns.{Pattern, Patterns, variable, domain_value, application, injection, call, no_pattern, more_patterns, ground_pattern}
+use Rattle.rule_core.specs.Subsorts.{IsBelow}
+use Rattle.rule_core.specs.declared.signature.Signature.{Signature}
+use Rattle.rule_core.specs.declared.signature.SortInfo.{SortInfo}
+use Rattle.rule_core.specs.declared.signature.SortKind.{SortKind}
+use Rattle.rule_core.specs.declared.signature.SortKind.TheVariants as kind
+use Rattle.rule_core.specs.declared.signature.SymInfo.{SymInfo}
+use Rattle.rule_core.specs.declared.signature.SymKind.{SymKind}
+use Rattle.rule_core.specs.declared.signature.SymKind.TheVariants.{Injection, Ctor, Equations, Hooked, Closed, NoKind}
+use Rattle.rule_core.specs.declared.signature.SortRef.{SortRef}
+use Rattle.rule_core.specs.declared.signature.SortRef.TheVariants.{Param, Sort}
+
+-- the integers of 128 bits
+abbrev pub IsInRange : ℤ → Type 0
+IsInRange n = (neg_ℤ (pos (2 ^ 127)) ≤ℤ n) × (n ≤ℤ pos (2 ^ 127 - 1))
+
+-- a value that a sort of this kind has: an integer in the range, a truth value, or any text of another sort
+abbrev pub IsValueOf : SortKind → DomainValue → Type 0
+IsValueOf kind.Int (integer n) = IsInRange n
+IsValueOf kind.Int (truth b) = ⊥
+IsValueOf kind.Int (text bytes) = ⊥
+IsValueOf kind.Bool (integer n) = ⊥
+IsValueOf kind.Bool (truth b) = Unit {0}
+IsValueOf kind.Bool (text bytes) = ⊥
+IsValueOf kind.Map (integer n) = ⊥
+IsValueOf kind.Map (truth b) = ⊥
+IsValueOf kind.Map (text bytes) = IsTrue (is_utf8 bytes)
+IsValueOf kind.Other (integer n) = ⊥
+IsValueOf kind.Other (truth b) = ⊥
+IsValueOf kind.Other (text bytes) = IsTrue (is_utf8 bytes)
+
+-- the sort with this number has that value
+abbrev pub HasValue : Signature → ℕ → DomainValue → Type 0
+HasValue sig s v = (name : List ℕ) × (info : SortInfo) × (slice_get sig.sorts s ≡ Some (name, info)) × IsValueOf info.kind v
+
+-- the symbol with this number is declared so
+abbrev pub IsSymbol : Signature → ℕ → SymInfo → Type 0
+IsSymbol sig f info = (name : List ℕ) × (slice_get sig.symbols f ≡ Some (name, info))
+
+-- what a function is evaluated by, or that nothing gives its values
+abbrev pub IsFunction : SymKind → Type 0
+IsFunction Injection = ⊥
+IsFunction Ctor = ⊥
+IsFunction Equations = Unit {0}
+IsFunction (Hooked row) = Unit {0}
+IsFunction Closed = Unit {0}
+IsFunction NoKind = ⊥
+
+-- the sort that a declaration names, where the symbol is applied at these sorts
+abbrev pub sort_at : List ℕ → SortRef → Option ℕ
+sort_at sorts (Param i) = slice_get sorts i
+sort_at sorts (Sort s) = Some s.0
+
+-- the symbol with this number injects a sort into one that it is below
+abbrev pub HasInjection : Signature → Type 0
+HasInjection sig = (f : ℕ) × (info : SymInfo) × IsSymbol sig f info × (info.kind ≡ Injection)
+
+abbrev pub AreSorts : Signature → List ℕ → Type 0
+AreSorts sig [] = Unit {0}
+AreSorts sig (s ∷ sorts) = (s < length sig.sorts) × AreSorts sig sorts
+
+-- The pattern has this sort, where the variables have these: a variable has its own; a value that of the text, which has
+-- it; an application the result sort of its constructor, whose arguments have the declared sorts; an injection the sort
+-- that it goes to, which is above that of what is injected; a call the result sort of its function at the given sorts.
+abbrev mutual
+  pub HasSort : Signature → List ℕ → Pattern → ℕ → Type 0
+  HasSort sig variables (variable x) sort = slice_get variables x ≡ Some sort
+  HasSort sig variables (domain_value s v) sort = (s ≡ sort) × HasValue sig s v
+  HasSort sig variables (application f ps) sort =
+      (info : SymInfo) × IsSymbol sig f info × (info.kind ≡ Ctor) × (sort_at [] info.result ≡ Some sort) × HaveSorts sig variables [] ps info.args.items
+  HasSort sig variables (injection a b p) sort =
+      HasInjection sig × (b ≡ sort) × IsBelow sig.subsorts a b × HasSort sig variables p a
+  HasSort sig variables (call f sorts ps) sort =
+      (info : SymInfo) × IsSymbol sig f info × IsFunction info.kind × (length sorts ≡ info.params) × AreSorts sig sorts × (sort_at sorts info.result ≡ Some sort) × HaveSorts sig variables sorts ps info.args.items
+
+  -- the patterns have the declared sorts, in order
+  pub HaveSorts : Signature → List ℕ → List ℕ → Patterns → List SortRef → Type 0
+  HaveSorts sig variables sorts no_pattern [] = Unit {0}
+  HaveSorts sig variables sorts no_pattern (of ∷ refs) = ⊥
+  HaveSorts sig variables sorts (more_patterns p ps) [] = ⊥
+  HaveSorts sig variables sorts (more_patterns p ps) (of ∷ refs) =
+      (sort : ℕ) × (sort_at sorts of ≡ Some sort) × HasSort sig variables p sort × HaveSorts sig variables sorts ps refs
+
+-- the term has this sort
+abbrev pub IsTermOf : Signature → Tree → ℕ → Type 0
+IsTermOf sig t sort = HasSort sig [] (ground_pattern t) sort

@@ -1,0 +1,18 @@
+-- The order of sorts (K framework, attribute `subsort`): a sort is below another where a chain of one or more declared pairs
+-- leads from it to the other.
+use Rattle.std.specs.Prelude.{◌≡◌, ℕ, List, [], ◌∷◌, Contains}
+
+pub data IsBelow (pairs : List (ℕ × ℕ)) : ℕ → ℕ → Type 0 where
+  by_pair : {a b : ℕ} → Contains pairs (a, b) → IsBelow pairs a b
+  by_chain : {a b c : ℕ} → Contains pairs (a, b) → IsBelow pairs b c → IsBelow pairs a c
+
+-- no sort is below itself
+abbrev pub HasNoCycle : List (ℕ × ℕ) → Type 0
+HasNoCycle pairs = (a : ℕ) → IsBelow pairs a a → ⊥
+
+-- the sorts of a chain of pairs from the one sort to the other, both of them included
+abbrev pub IsPath : List (ℕ × ℕ) → ℕ → ℕ → List ℕ → Type 0
+IsPath pairs a b [] = ⊥
+IsPath pairs a b (s ∷ []) = ⊥
+IsPath pairs a b (s ∷ (t ∷ [])) = (s ≡ a) × (t ≡ b) × Contains pairs (a, b)
+IsPath pairs a b (s ∷ (t ∷ (u ∷ sorts))) = (s ≡ a) × Contains pairs (a, t) × IsPath pairs t b (t ∷ (u ∷ sorts))

@@ -1,0 +1,139 @@
+-- Well-sorted theories: what a definition that is accepted gives, and what matching, evaluation and runs ask for.
+use Rattle.std.specs.Prelude.{◌≡◌, ℕ, ◌<◌, ◌≤◌, List, [], ◌∷◌, length, slice_get, Option, Some, IsSome, IfSome, All, ◌⊎◌, map}
+use Rattle.term_core.specs.Terms.{Tree, height}
+use Rattle.term_core.specs.Patterns.{Pattern, Patterns, variable, domain_value, application, injection, call, no_pattern, more_patterns, binding}
+use Rattle.term_core.specs.HookValues.{Hook, Kind, integers, truths, hooks, argument_kinds, result_kind}
+use Rattle.rule_core.specs.Rules.{RewriteRule, Equation, ComesBefore}
+use Rattle.rule_core.specs.Theories.{RewriteTheory, equations_of}
+use Rattle.rule_core.specs.Subsorts.{IsBelow, HasNoCycle}
+use Rattle.rule_core.specs.Matching.{StandsIn, StandsInSome, RespectsSorts}
+use Rattle.rule_core.specs.Evaluation.{most_height}
+use Rattle.rule_core.specs.Sorting.{HasSort, HaveSorts, IsSymbol, sort_at}
+use Rattle.rule_core.specs.declared.signature.Signature.{Signature}
+use Rattle.rule_core.specs.declared.signature.SortInfo.{SortInfo}
+use Rattle.rule_core.specs.declared.signature.SortKind.TheVariants as kind
+use Rattle.rule_core.specs.declared.signature.SymInfo.{SymInfo}
+use Rattle.rule_core.specs.declared.signature.SymKind.TheVariants.{Ctor, Equations, Hooked}
+use Rattle.rule_core.specs.declared.signature.SortRef.{SortRef}
+use Rattle.rule_core.specs.declared.signature.SortRef.TheVariants.{Param, Sort}
+
+-- no function is called in the pattern
+abbrev mutual
+  pub HasNoCall : Pattern → Type 0
+  HasNoCall (variable x) = Unit {0}
+  HasNoCall (domain_value s v) = Unit {0}
+  HasNoCall (application f ps) = HaveNoCall ps
+  HasNoCall (injection a b p) = HasNoCall p
+  HasNoCall (call f sorts ps) = ⊥
+
+  pub HaveNoCall : Patterns → Type 0
+  HaveNoCall no_pattern = Unit {0}
+  HaveNoCall (more_patterns p ps) = HasNoCall p × HaveNoCall ps
+
+-- a reference of a symbol with so many sort parameters is to one of them or to a declared sort
+abbrev pub IsReference : Signature → ℕ → SortRef → Type 0
+IsReference sig params (Param i) = i < params
+IsReference sig params (Sort s) = s.0 < length sig.sorts
+
+-- the declaration of a symbol refers to sorts that are there
+pub record IsDeclaration (sig : Signature) (info : SymInfo) : Type 0 where
+  pub arguments : All (IsReference sig info.params) info.args.items
+  pub result : IsReference sig info.params info.result
+
+-- a pair of declared sorts
+abbrev pub IsPair : Signature → ℕ × ℕ → Type 0
+IsPair sig pair = (pair.0 < length sig.sorts) × (pair.1 < length sig.sorts)
+
+pub record IsSignature (sig : Signature) : Type 0 where
+  pub declared : (f : ℕ) (info : SymInfo) → IsSymbol sig f info → IsDeclaration sig info
+  pub pairs : All (IsPair sig) sig.subsorts
+  pub no_cycle : HasNoCycle sig.subsorts
+
+-- the sort is of this kind, by its hook
+abbrev pub IsOfKind : Kind → SortInfo → Type 0
+IsOfKind integers info = info.kind ≡ kind.Int
+IsOfKind truths info = info.kind ≡ kind.Bool
+
+-- a sort of whole numbers or of truth values, of which there are no other terms than values: no constructor has it as its
+-- result sort, and no sort is below it
+pub record IsSortOf (sig : Signature) (k : Kind) (sort : ℕ) : Type 0 where
+  pub name : List ℕ
+  pub info : SortInfo
+  pub there : slice_get sig.sorts sort ≡ Some (name, info)
+  pub of_kind : IsOfKind k info
+  pub no_constructor : (f : ℕ) (made : SymInfo) → IsSymbol sig f made → made.kind ≡ Ctor → (made.result ≡ Sort (record { 0 = sort }) → ⊥)
+  pub lowest : (a : ℕ) → IsBelow sig.subsorts a sort → ⊥
+
+-- a declaration's reference is to such a sort
+abbrev pub RefersTo : Signature → Kind → SortRef → Type 0
+RefersTo sig k of = (sort : ℕ) × (of ≡ Sort (record { 0 = sort })) × IsSortOf sig k sort
+
+-- references to such sorts, in order
+abbrev pub ReferTo : Signature → List Kind → List SortRef → Type 0
+ReferTo sig [] [] = Unit {0}
+ReferTo sig [] (of ∷ refs) = ⊥
+ReferTo sig (k ∷ ks) [] = ⊥
+ReferTo sig (k ∷ ks) (of ∷ refs) = RefersTo sig k of × ReferTo sig ks refs
+
+-- the declaration has the sorts of the hook with this number
+pub record FitsHook (sig : Signature) (row : ℕ) (info : SymInfo) : Type 0 where
+  pub hook : Hook
+  pub there : slice_get hooks row ≡ Some hook
+  pub plain : info.params ≡ 0
+  pub arguments : ReferTo sig (argument_kinds hook.operation) info.args.items
+  pub result : RefersTo sig (result_kind hook.operation) info.result
+
+-- each variable that stands in the pattern stands in one of these
+abbrev pub UsesOnly : Patterns → Pattern → Type 0
+UsesOnly ps p = (x : ℕ) → StandsIn x p → StandsInSome x ps
+
+-- a condition has a sort of truth values, and only variables of these patterns
+abbrev pub IsCondition : Signature → List ℕ → Patterns → Pattern → Type 0
+IsCondition sig variables ps p =
+    (sort : ℕ) × (name : List ℕ) × (info : SortInfo) × (slice_get sig.sorts sort ≡ Some (name, info)) × (info.kind ≡ kind.Bool) × HasSort sig variables p sort × UsesOnly ps p
+
+-- a rule on terms of this sort
+pub record IsRuleOf (sig : Signature) (sort : ℕ) (rule : RewriteRule) : Type 0 where
+  pub variables : All (λ s. s < length sig.sorts) rule.variables
+  pub left : HasSort sig rule.variables rule.left sort
+  pub no_call : HasNoCall rule.left
+  pub condition : IfSome rule.condition (IsCondition sig rule.variables (more_patterns rule.left no_pattern))
+  pub right : HasSort sig rule.variables rule.right sort
+  pub bound : UsesOnly (more_patterns rule.left no_pattern) rule.right
+
+-- an equation of a function with this declaration
+pub record IsEquationOf (sig : Signature) (info : SymInfo) (e : Equation) : Type 0 where
+  pub variables : All (λ s. s < length sig.sorts) e.variables
+  pub arguments : HaveSorts sig e.variables [] e.arguments info.args.items
+  pub no_call : HaveNoCall e.arguments
+  pub condition : IfSome e.condition (IsCondition sig e.variables e.arguments)
+  pub sort : ℕ
+  pub result : sort_at [] info.result ≡ Some sort
+  pub right : HasSort sig e.variables e.right sort
+  pub bound : UsesOnly e.arguments e.right
+
+-- each stands before those that are listed after it, in the order of trial
+abbrev pub AreInOrder : List (ℕ × ℕ) → Type 0
+AreInOrder [] = Unit {0}
+AreInOrder (first ∷ later) = All (ComesBefore first) later × AreInOrder later
+
+pub record IsWellSorted (theory : RewriteTheory) : Type 0 where
+  pub signature : IsSignature theory.sig
+  pub hooked : (f row : ℕ) (info : SymInfo) → IsSymbol theory.sig f info → info.kind ≡ Hooked (record { 0 = row }) → FitsHook theory.sig row info
+  pub functions : (f : ℕ) (info : SymInfo) → IsSymbol theory.sig f info → info.kind ≡ Equations → info.params ≡ 0
+  pub one_sort : (theory.rules ≡ []) ⊎ ((sort : ℕ) × All (IsRuleOf theory.sig sort) theory.rules)
+  pub rules_in_order : AreInOrder (map (λ (r : RewriteRule). (r.priority, r.place)) theory.rules)
+  pub listed : length theory.equations ≡ length theory.sig.symbols
+  pub equations : (f : ℕ) (info : SymInfo) → IsSymbol theory.sig f info → All (IsEquationOf theory.sig info) (equations_of theory f)
+  pub equations_in_order : (f : ℕ) → AreInOrder (map (λ (e : Equation). (e.priority, e.place)) (equations_of theory f))
+
+-- the substitution gives each variable of the pattern, and maybe others, a normal term of its sort, which is not
+-- too high
+pub record Serves (sig : Signature) (variables : List ℕ) (theta : List (Option Tree)) (p : Pattern) : Type 0 where
+  pub bound : (x : ℕ) → StandsIn x p → IsSome (binding theta x)
+  pub sorted : RespectsSorts sig variables theta
+  pub low : (x : ℕ) (t : Tree) → binding theta x ≡ Some t → height t ≤ most_height
+
+-- the initial term of a run: it has a sort, and no variable
+abbrev pub IsStart : Signature → Pattern → Type 0
+IsStart sig start = (sort : ℕ) × HasSort sig [] start sort

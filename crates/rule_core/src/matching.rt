@@ -1,0 +1,226 @@
+// Matching of patterns with terms: the substitution that makes the one the other.
+ghost use Rattle.std.specs.Prelude.{ℕ, ◌≡◌, ◌+◌, ◌<◌, ◌≤◌, ◌==◌, ◌||◌, if◌then◌else◌, length, IfOk, None};
+ghost use Rattle.term_core.specs.Terms.{inj, no_tree, more_trees, forest, children, height, IsNoInjection};
+ghost use Rattle.term_core.specs.Patterns.{binding, no_pattern, more_patterns};
+ghost use Rattle.term_core.specs.RulePatterns.{plain_pattern};
+ghost use Rattle.term_core.specs.PatternLists.{plain_patterns};
+ghost use Rattle.rule_core.specs.Matching.{StandsIn, UseFirst};
+ghost use Rattle.rule_core.specs.MatchSearch.{FindsMatch, nodes, all_nodes};
+ghost use Rattle.rule_core.specs.MatchSteps.{is_below, lowered, bound_to, matched, all_matched, Answers};
+
+use crate::Subsorts;
+use std::alloc::{AllocError, Global};
+use std::sync::ledger::Ledger;
+use term_core::{MAX_HEIGHT, RulePat, SortId, Steps, Subst, Term, View};
+
+/// The substitution that makes a pattern over `vars` variables the term: none exactly where no substitution does. An
+/// injection of a variable matches the injection of a term of a lower sort too. It looks at no more terms than the pattern
+/// has nodes, and compares two terms where a variable stands again. `AllocError` says that there was no memory for the
+/// substitution.
+pub fn find_match<L: Ledger>(
+    alloc: Global,
+    pat: &RulePat,
+    vars: usize,
+    subsorts: &Subsorts,
+    term: &Term,
+    steps: &mut Steps<L>,
+) -> Result<Option<Subst>, AllocError>
+    requires { UseFirst vars (more_patterns (plain_pattern pat.now) no_pattern) }
+    ensures found { IfOk result (FindsMatch subsorts.now vars (more_patterns (plain_pattern pat.now) no_pattern) (more_trees term.now no_tree)) }
+    ensures looks { steps.new ≤ steps.old + nodes (plain_pattern pat.now) }
+{
+    // A term is normal.
+    let _high = term.height();
+    let mut subst = Subst::new(alloc, vars)?;
+    if match_term(alloc, subsorts, pat, term, &mut subst, steps)? {
+        Ok(Some(subst))
+    } else {
+        Ok(None)
+    }
+}
+
+/// The same for the patterns of a function's arguments and as many terms.
+pub fn find_match_all<L: Ledger>(
+    alloc: Global,
+    pats: &[RulePat],
+    vars: usize,
+    subsorts: &Subsorts,
+    terms: &[Term],
+    steps: &mut Steps<L>,
+) -> Result<Option<Subst>, AllocError>
+    requires scoped { UseFirst vars (plain_patterns pats.now) }
+    requires count { length pats.now ≡ length terms.now }
+    ensures found { IfOk result (FindsMatch subsorts.now vars (plain_patterns pats.now) (forest terms.now)) }
+    ensures looks { steps.new ≤ steps.old + all_nodes (plain_patterns pats.now) }
+{
+    // Terms are normal.
+    let _high = Term::highest(terms);
+    let mut subst = Subst::new(alloc, vars)?;
+    for i in 0..pats.len() {
+        if !match_term(alloc, subsorts, &pats[i], &terms[i], &mut subst, steps)? {
+            return Ok(None);
+        }
+    }
+    Ok(Some(subst))
+}
+
+// Whether the pattern matches the term by what is bound and more, which it binds.
+#[cycle(matching)]
+fn match_term<L: Ledger>(
+    alloc: Global,
+    subsorts: &Subsorts,
+    pat: &RulePat,
+    term: &Term,
+    subst: &mut Subst,
+    steps: &mut Steps<L>,
+) -> Result<bool, AllocError>
+    requires { (x : ℕ) → StandsIn x (plain_pattern pat.now) → x < length subst.old }
+    ensures room { length subst.new ≡ length subst.old }
+    ensures found { IfOk result (λ yes. Answers (matched subsorts.now (plain_pattern pat.now) term.now subst.old) yes subst.new) }
+    ensures looks { steps.new ≤ steps.old + nodes (plain_pattern pat.now) }
+{
+    match pat {
+        RulePat::Var(var) => bind_term(*var, term, subst),
+        RulePat::Value(sort, value) => match term.view(steps) {
+            View::Value(own_sort, own_value) => Ok(*sort == own_sort && value.same(own_value)),
+            _ => Ok(false),
+        },
+        RulePat::Ctor(sym, args) => match term.view(steps) {
+            View::Ctor(own_sym, count) if *sym == own_sym && args.len() == count => {
+                match_children(alloc, subsorts, args, term, subst, steps)
+            }
+            _ => Ok(false),
+        },
+        RulePat::Inj(from, to, below) => match term.view(steps) {
+            View::Inj(own_from, own_to) if *to == own_to => {
+                // A term is normal and not too high: its child is no injection, and lower.
+                let _high = term.height();
+                let child = term.child(0);
+                match_lowered(alloc, subsorts, below, own_from, *from, child, subst, steps)
+            }
+            _ => Ok(false),
+        },
+        RulePat::Call(..) => Ok(false),
+    }
+}
+
+// Whether the patterns match the children of the term.
+#[cycle(matching)]
+fn match_children<L: Ledger>(
+    alloc: Global,
+    subsorts: &Subsorts,
+    pats: &[RulePat],
+    term: &Term,
+    subst: &mut Subst,
+    steps: &mut Steps<L>,
+) -> Result<bool, AllocError>
+    requires scoped { UseFirst (length subst.old) (plain_patterns pats.now) }
+    requires count { length pats.now ≡ length (children term.now) }
+    ensures room { length subst.new ≡ length subst.old }
+    ensures found { IfOk result (λ yes. Answers (all_matched subsorts.now (plain_patterns pats.now) (forest (children term.now)) subst.old) yes subst.new) }
+    ensures looks { steps.new ≤ steps.old + all_nodes (plain_patterns pats.now) }
+{
+    for i in 0..pats.len() {
+        if !match_term(alloc, subsorts, &pats[i], term.child(i), subst, steps)? {
+            return Ok(false);
+        }
+    }
+    Ok(true)
+}
+
+// Whether the pattern, which stands under an injection from the sort `to`, matches what the term injects there: `child`, or its
+// injection from `from`, where that is below.
+#[cycle(matching)]
+fn match_lowered<L: Ledger>(
+    alloc: Global,
+    subsorts: &Subsorts,
+    pat: &RulePat,
+    from: SortId,
+    to: SortId,
+    child: &Term,
+    subst: &mut Subst,
+    steps: &mut Steps<L>,
+) -> Result<bool, AllocError>
+    requires scoped { (x : ℕ) → StandsIn x (plain_pattern pat.now) → x < length subst.old }
+    requires low { height child.now < MAX_HEIGHT }
+    requires other { IsNoInjection child.now }
+    ensures room { length subst.new ≡ length subst.old }
+    ensures found { IfOk result (λ yes. Answers
+        (if from.0 == to.0 || is_below subsorts.now from.0 to.0
+        then matched subsorts.now (plain_pattern pat.now) (lowered from.0 to.0 child.now) subst.old
+        else None)
+        yes subst.new) }
+    ensures looks { steps.new ≤ steps.old + nodes (plain_pattern pat.now) }
+{
+    if from == to {
+        match_term(alloc, subsorts, pat, child, subst, steps)
+    } else if subsorts.below(from, to) {
+        match_injected(alloc, subsorts, pat, from, to, child, subst, steps)
+    } else {
+        Ok(false)
+    }
+}
+
+// Whether the pattern matches the injection of `child`, which is made only where a variable is bound to it.
+#[cycle(matching)]
+fn match_injected<L: Ledger>(
+    alloc: Global,
+    subsorts: &Subsorts,
+    pat: &RulePat,
+    from: SortId,
+    to: SortId,
+    child: &Term,
+    subst: &mut Subst,
+    steps: &mut Steps<L>,
+) -> Result<bool, AllocError>
+    requires scoped { (x : ℕ) → StandsIn x (plain_pattern pat.now) → x < length subst.old }
+    requires low { height child.now < MAX_HEIGHT }
+    requires other { IsNoInjection child.now }
+    ensures room { length subst.new ≡ length subst.old }
+    ensures found { IfOk result (λ yes. Answers (matched subsorts.now (plain_pattern pat.now) (inj from.0 to.0 child.now) subst.old) yes subst.new) }
+    ensures looks { steps.new ≤ steps.old + nodes (plain_pattern pat.now) }
+{
+    match pat {
+        RulePat::Var(var) => bind_injected(alloc, *var, from, to, child, subst),
+        RulePat::Inj(own_from, own_to, below) if *own_to == to => {
+            match_lowered(alloc, subsorts, below, from, *own_from, child, subst, steps)
+        }
+        _ => Ok(false),
+    }
+}
+
+// Lets a variable stand for the term, or compares it with what the variable stands for.
+fn bind_term(var: u32, term: &Term, subst: &mut Subst) -> Result<bool, AllocError>
+    requires { var < length subst.old }
+    ensures room { length subst.new ≡ length subst.old }
+    ensures found { IfOk result (λ yes. Answers (bound_to term.now var subst.old (binding subst.old var)) yes subst.new) }
+{
+    if let Some(known) = subst.get(var) {
+        return Ok(known.same(term));
+    }
+    subst.bind(var, term.share()?);
+    Ok(true)
+}
+
+// Lets a variable stand for the injection of `child`, or compares that with what the variable stands for.
+fn bind_injected(
+    alloc: Global,
+    var: u32,
+    from: SortId,
+    to: SortId,
+    child: &Term,
+    subst: &mut Subst,
+) -> Result<bool, AllocError>
+    requires room { var < length subst.old }
+    requires low { height child.now < MAX_HEIGHT }
+    requires other { IsNoInjection child.now }
+    ensures room { length subst.new ≡ length subst.old }
+    ensures found { IfOk result (λ yes. Answers (bound_to (inj from.0 to.0 child.now) var subst.old (binding subst.old var)) yes subst.new) }
+{
+    if let Some(known) = subst.get(var) {
+        return Ok(known.same_inj(from, to, child));
+    }
+    let term = Term::inj(alloc, from, to, child)?;
+    subst.bind(var, term);
+    Ok(true)
+}
