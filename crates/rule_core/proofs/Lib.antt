@@ -19,3 +19,4 @@ pub mod TriedLists
 pub mod MatchAnswers
 pub mod Searches
 pub mod Trials
+pub mod RunUnique

@@ -17,5 +17,6 @@ pub mod WellSorted
 pub mod Records
 pub mod EvaluationLaws
 pub mod EvaluationCases
+pub mod RunLaws
 pub mod ProgramView
 pub mod Trial

@@ -1,0 +1,39 @@
+-- Laws on steps and runs.
+use Rattle.std.specs.Prelude.{◌≡◌, ◌≤◌, ℕ, List, [], All}
+use Rattle.term_core.specs.Terms.{Tree, height, IsNormal}
+use Rattle.term_core.specs.Patterns.{Pattern}
+use Rattle.rule_core.specs.Theories.{RewriteTheory}
+use Rattle.rule_core.specs.Sorting.{HasSort, IsTermOf}
+use Rattle.rule_core.specs.Evaluation.{most_height}
+use Rattle.rule_core.specs.FirstRule.{Trial, Tries}
+use Rattle.rule_core.specs.Runs.{Stepped, next, Steps, Reaches, Run, IsRunOf}
+use Rattle.rule_core.specs.Records.{StepRecord, RecordsStep, result_of}
+use Rattle.rule_core.specs.WellSorted.{IsWellSorted, IsRuleOf}
+
+-- At most one thing comes of trying the rules, of a step and of a run.
+abbrev pub TrialIsUnique : Type 0
+TrialIsUnique = (theory : RewriteTheory) (t : Tree) (c : ℕ) (r s : Trial) → IsWellSorted theory → Tries theory t 0 theory.rules c r → Tries theory t 0 theory.rules c s → r ≡ s
+
+abbrev pub StepIsUnique : Type 0
+StepIsUnique = (theory : RewriteTheory) (t : Tree) (c : ℕ) (r s : Stepped) → IsWellSorted theory → Steps theory t c r → Steps theory t c s → r ≡ s
+
+abbrev pub RunIsUnique : Type 0
+RunIsUnique =
+    (theory : RewriteTheory) (limit calls : ℕ) (start : Pattern) (r s : Run) → IsWellSorted theory → IsRunOf theory limit calls start r → IsRunOf theory limit calls start s → r ≡ s
+
+-- An initial term of the rules' sort has a run.
+abbrev pub HasRun : Type 0
+HasRun =
+    (theory : RewriteTheory) (limit calls sort : ℕ) (start : Pattern) → IsWellSorted theory → All (IsRuleOf theory.sig sort) theory.rules → HasSort theory.sig [] start sort →
+    (r : Run) × IsRunOf theory limit calls start r
+
+-- Its configurations are normal terms of this sort, which are not too high.
+abbrev pub ConfigurationsAreSorted : Type 0
+ConfigurationsAreSorted =
+    (theory : RewriteTheory) (calls sort n c : ℕ) (start : Pattern) (t : Tree) → IsWellSorted theory → All (IsRuleOf theory.sig sort) theory.rules → HasSort theory.sig [] start sort →
+    Reaches theory start calls n t c → IsTermOf theory.sig t sort × IsNormal t × (height t ≤ most_height)
+
+-- Where there is a record of a step from a term, its result is the only term that a step leads to.
+abbrev pub StepRecordDetermines : Type 0
+StepRecordDetermines =
+    (theory : RewriteTheory) (t u : Tree) (c d : ℕ) (step : StepRecord) → IsWellSorted theory → RecordsStep theory t step → Steps theory t c (next u d) → u ≡ result_of step.right
