@@ -119,9 +119,9 @@ all_answer theory n at variables theta sorts no_pattern [] c h serves = (values 
 all_answer theory n at variables theta sorts no_pattern (of ∷ refs) c h serves = absurd h
 all_answer theory n at variables theta sorts (more_patterns p ps) [] c h serves = absurd h
 all_answer theory n at variables theta sorts (more_patterns p ps) (of ∷ refs) c h serves =
-    let first = at variables theta p h.0 c h.2 (record { bound = λ x s. serves.bound x (inl s); sorted = serves.sorted; low = serves.low; }) in
+    let first = at variables theta p h.0 c h.2 (record { bound = λ x s. serves.bound x (inl s); sorted = serves.sorted; low = serves.low }) in
     first_then sorts p ps of refs c h.0 h.1 first.0 first.1 first.2
-    (λ d. all_answer theory n at variables theta sorts ps refs d h.3 (record { bound = λ x s. serves.bound x (inr s); sorted = serves.sorted; low = serves.low; }))
+    (λ d. all_answer theory n at variables theta sorts ps refs d h.3 (record { bound = λ x s. serves.bound x (inr s); sorted = serves.sorted; low = serves.low }))
 
 -- ---- constructors and injections
 
@@ -162,7 +162,7 @@ at_symbol : (sig : Signature) (n : ℕ) → NoneInjects sig n → (o : Option (L
 at_symbol sig n none None there = inl (none_more sig n none (λ other i k. let e : None ≡ Some (i.0, other) = sym there ∙ i.1 in let no : ⊥ = cc in no))
 at_symbol sig n none (Some (name, info)) there =
     ⊎_elim
-    (λ (k : info.kind ≡ Injection). inr (n, record { info = info; there = (name, there); injects = k; first = none; }))
+    (λ (k : info.kind ≡ Injection). inr (n, record { info = info; there = (name, there); injects = k; first = none }))
     (λ (k : info.kind ≢ Injection). inl (none_more sig n none (λ other i l. k (ap (λ (s : SymInfo). s.kind) (same_symbol sig n info other (name, there) i) ∙ l))))
     (is_injection info.kind)
 
@@ -220,10 +220,10 @@ equation_answer theory good n within f info ts sort at trees (e ∷ es) each c =
     let same : fits.sort ≡ sort = cc in
     ⊎_elim
     (λ (hit : (theta : List (Option Tree)) × MatchAll theory.sig e.variables e.arguments ts theta).
-      let x = test_answer theory n within f e.variables e.arguments ts hit.0 c hit.1 trees.2 e.condition fits.condition in
-      matched_answer theory n f e es ts hit.0 c sort hit.1 x.0 x.1
-      (λ d. within f e.variables hit.0 e.right sort d (subst (λ s. HasSort theory.sig e.variables e.right s) same fits.right) (serves_match theory.sig e.variables e.arguments ts hit.0 e.right hit.1 trees.2 fits.bound))
-      others)
+    let x = test_answer theory n within f e.variables e.arguments ts hit.0 c hit.1 trees.2 e.condition fits.condition in
+    matched_answer theory n f e es ts hit.0 c sort hit.1 x.0 x.1
+    (λ d. within f e.variables hit.0 e.right sort d (subst (λ s. HasSort theory.sig e.variables e.right s) same fits.right) (serves_match theory.sig e.variables e.arguments ts hit.0 e.right hit.1 trees.2 fits.bound))
+    others)
     (λ (never : NoneMatches theory.sig e.variables e.arguments ts). let r = others c in (r.0, unmatched never r.1, r.2))
     (match_is_decidable theory.sig e.variables [] e.arguments info.args.items ts good.signature.no_cycle fits.arguments trees.0 trees.1)
 
@@ -283,15 +283,15 @@ one_deeper : (theory : RewriteTheory) → IsWellSorted theory → (n : ℕ) → 
 one_deeper theory good n at within variables theta (variable x) sort c h serves = bound_answer theory (suc n) variables theta x sort c h serves (binding theta x) refl
 one_deeper theory good n at within variables theta (domain_value s v) sort c h serves = (value (leaf s v) c, itself, (h, tt, omega arith))
 one_deeper theory good n at within variables theta (application f ps) sort c h serves =
-    let all = all_answer theory n at variables theta [] ps h.0.args.items c h.4 (record { bound = serves.bound; sorted = serves.sorted; low = serves.low; }) in
+    let all = all_answer theory n at variables theta [] ps h.0.args.items c h.4 (record { bound = serves.bound; sorted = serves.sorted; low = serves.low }) in
     constructed f ps c sort h.0 h.1 h.2 h.3 all.0 all.1 all.2
 one_deeper theory good n at within variables theta (injection a b p) sort c h serves =
     let s = injection_symbol theory.sig h.0 in
-    let r = at variables theta p a c h.3 (record { bound = serves.bound; sorted = serves.sorted; low = serves.low; }) in
+    let r = at variables theta p a c h.3 (record { bound = serves.bound; sorted = serves.sorted; low = serves.low }) in
     subst (λ k. Answer theory (suc n) theta (injection a b p) c k) h.1
     (injected_answer a b p c s.0 s.1 h.0 (λ t of. IsTermOf-injected theory.sig a b t h.0 h.2 of) r.0 r.1 r.2)
 one_deeper theory good n at within variables theta (call f sorts ps) sort c h serves =
-    let all = all_answer theory n at variables theta sorts ps h.0.args.items c h.6 (record { bound = serves.bound; sorted = serves.sorted; low = serves.low; }) in
+    let all = all_answer theory n at variables theta sorts ps h.0.args.items c h.6 (record { bound = serves.bound; sorted = serves.sorted; low = serves.low }) in
     called_answer theory good n within theta f sorts ps c sort h.0 h.1 h.2 h.3 h.5 all.0 all.1 all.2
 
 within_zero : (theory : RewriteTheory) → AnswersWithin theory 0

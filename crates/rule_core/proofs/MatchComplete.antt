@@ -69,8 +69,7 @@ mutual
       (theta, rw ((Decides-tree_eq t (leaf s v)).1 same) refl, extends, room)
   matched_complete sig variables (application f ps) sort t sigma theta none (info, at, ctor, result, args) respects room extends e =
       let from = mapped (node f) (instances_of sigma ps) t e in
-      let inside = all_complete sig variables [] ps info.args.items from.0 sigma theta none args respects room extends from.1.0 in
-      (
+      let inside = all_complete sig variables [] ps info.args.items from.0 sigma theta none args respects room extends from.1.0 in (
         inside.0,
         node_complete sig.subsorts f ps from.0 t theta inside.0 from.1.1 inside.1,
         inside.2,
@@ -79,8 +78,7 @@ mutual
   matched_complete sig variables (injection b c p) sort t sigma theta none (has, to, below, within) respects room extends e =
       let from = mapped (injected b c) (instance_of sigma p) t e in
       let inside = matched_complete sig variables p b from.0 sigma theta none within respects room extends from.1.0 in
-      let sorted = instance_is_sorted sig variables p b sigma from.0 within respects from.1.0 in
-      (
+      let sorted = instance_is_sorted sig variables p b sigma from.0 within respects from.1.0 in (
         inside.0,
         injection_complete sig.subsorts sig b c p from.0 t theta inside.0 refl none sorted.0 from.1.1 inside.1,
         inside.2,
@@ -96,8 +94,7 @@ mutual
   all_complete sig variables sorts (more_patterns p ps) (of ∷ refs) ts sigma theta none (sort, at, first, others) respects room extends e =
       let parts = both_there (instance_of sigma p) (instances_of sigma ps) ts e in
       let one = matched_complete sig variables p sort parts.0 sigma theta none first respects room extends parts.1.1.1.0 in
-      let rest = all_complete sig variables sorts ps refs parts.1.0 sigma one.0 none others respects one.3 one.2 parts.1.1.1.1 in
-      (
+      let rest = all_complete sig variables sorts ps refs parts.1.0 sigma one.0 none others respects one.3 one.2 parts.1.1.1.1 in (
         rest.0,
         list_complete sig.subsorts p ps parts.0 parts.1.0 ts theta one.0 rest.0 parts.1.1.0 one.1 rest.1,
         rest.2,

@@ -53,12 +53,12 @@ found_matches sig variables sorts ps refs ts theta h is normal e =
 same_where_bound : (variables : List ℕ) (ps : Patterns) (theta sigma : List (Option Tree)) → length theta ≡ length variables → length sigma ≡ length variables → Extends sigma theta → ((x : ℕ) → IsSome (binding theta x) ↔ StandsInSome x ps) → ((x : ℕ) → IsSome (binding sigma x) ↔ StandsInSome x ps) → theta ≡ sigma
 same_where_bound variables ps theta sigma room room2 extends just just2 =
     same_bindings theta sigma (room ∙ sym room2) (λ x. at x (binding theta x) (binding sigma x) refl refl) where
-  at : (x : ℕ) (o r : Option Tree) → binding theta x ≡ o → binding sigma x ≡ r → binding theta x ≡ binding sigma x
-  at x (Some t) r e d = e ∙ sym (extends x t e)
-  at x None None e d = e ∙ sym d
-  at x None (Some u) e d =
-      let there = given (binding theta x) ((just x).1 ((just2 x).0 (IsSome-of _ u d))) in
-      absurd (let no : None ≡ Some there.0 = sym e ∙ there.1 in let never : ⊥ = cc in never)
+      at : (x : ℕ) (o r : Option Tree) → binding theta x ≡ o → binding sigma x ≡ r → binding theta x ≡ binding sigma x
+      at x (Some t) r e d = e ∙ sym (extends x t e)
+      at x None None e d = e ∙ sym d
+      at x None (Some u) e d =
+          let there = given (binding theta x) ((just x).1 ((just2 x).0 (IsSome-of _ u d))) in
+          absurd (let no : None ≡ Some there.0 = sym e ∙ there.1 in let never : ⊥ = cc in never)
 
 -- what matches is found
 pub match_is_found : (sig : Signature) (variables sorts : List ℕ) (ps : Patterns) (refs : List SortRef) (ts : Forest) (theta : List (Option Tree)) → HasNoCycle sig.subsorts → HaveSorts sig variables sorts ps refs → MatchAll sig variables ps ts theta → all_matched sig.subsorts ps ts (replicate (length variables) None) ≡ Some theta
@@ -80,6 +80,6 @@ none_found sig variables sorts ps refs ts none h e theta m =
 pub match_is_decidable : MatchIsDecidable
 match_is_decidable sig variables sorts ps refs ts none h is normal =
     told (all_matched sig.subsorts ps ts (empty (length variables))) refl where
-  told : (found : Option (List (Option Tree))) → all_matched sig.subsorts ps ts (empty (length variables)) ≡ found → ((theta : List (Option Tree)) × MatchAll sig variables ps ts theta) ⊎ NoneMatches sig variables ps ts
-  told None e = inr (none_found sig variables sorts ps refs ts none h e)
-  told (Some theta) e = inl (theta, found_matches sig variables sorts ps refs ts theta h is normal e)
+      told : (found : Option (List (Option Tree))) → all_matched sig.subsorts ps ts (empty (length variables)) ≡ found → ((theta : List (Option Tree)) × MatchAll sig variables ps ts theta) ⊎ NoneMatches sig variables ps ts
+      told None e = inr (none_found sig variables sorts ps refs ts none h e)
+      told (Some theta) e = inl (theta, found_matches sig variables sorts ps refs ts theta h is normal e)

@@ -76,18 +76,21 @@ FitsAt sig variables y u = IsNormal u × ((s : ℕ) × (slice_get variables y �
 -- a variable was bound
 bound : (sig : Signature) (variables : List ℕ) (theta : List (Option Tree)) (x : ℕ) (t : Tree) (sort : ℕ) → slice_get variables x ≡ Some sort → IsTermOf sig t sort → IsNormal t → length theta ≡ length variables → RespectsSorts sig variables theta → binding theta x ≡ None → Found sig variables theta (set theta x (Some t)) (λ y. y ≡ x) × (binding (set theta x (Some t)) x ≡ Some t)
 bound sig variables theta x t sort at is normal room sorted free = (
-  record { extends = extends; room = length-set theta x (Some t) ∙ room; sorted = respects; just = just; },
+  record { extends = extends; room = length-set theta x (Some t) ∙ room; sorted = respects; just = just },
   here,
 ) where
   here : binding (set theta x (Some t)) x ≡ Some t
   here =
       let P : ℕ → Type 0 = λ n. x < n in
       binding-set_same theta x t (subst P (sym room) (slice_get_within variables x sort at))
+
   extends_at : (y : ℕ) (u : Tree) → binding theta y ≡ Some u → (y ≡ x) ⊎ (y ≢ x) → binding (set theta x (Some t)) y ≡ Some u
   extends_at y u e (inl same) = let no : None ≡ Some u = sym free ∙ ap (binding theta) (sym same) ∙ e in absurd (cc)
   extends_at y u e (inr other) = binding-set_other theta x y t other ∙ e
+
   extends : Extends (set theta x (Some t)) theta
   extends y u e = extends_at y u e (same_or_other y x)
+
   respects_at : (y : ℕ) (u : Tree) → binding (set theta x (Some t)) y ≡ Some u → (y ≡ x) ⊎ (y ≢ x) → FitsAt sig variables y u
   respects_at y u e (inl same) =
       let both : Some t ≡ Some u = sym here ∙ ap (binding (set theta x (Some t))) (sym same) ∙ e in
@@ -95,14 +98,18 @@ bound sig variables theta x t sort at is normal room sorted free = (
       let P : Tree → Type 0 = FitsAt sig variables y in
       let Q : ℕ → Type 0 = λ z. FitsAt sig variables z t in subst P one (subst Q (sym same) (normal, (sort, at, is)))
   respects_at y u e (inr other) = sorted y u (sym (binding-set_other theta x y t other) ∙ e)
+
   respects : RespectsSorts sig variables (set theta x (Some t))
   respects y u e = respects_at y u e (same_or_other y x)
+
   to_at : (y : ℕ) → IsSome (binding (set theta x (Some t)) y) → (y ≡ x) ⊎ (y ≢ x) → IsSome (binding theta y) ⊎ (y ≡ x)
   to_at y some (inl same) = inr same
   to_at y some (inr other) = let P : Option Tree → Type 0 = IsSome in inl (subst P (binding-set_other theta x y t other) some)
+
   from_at : (y : ℕ) → IsSome (binding theta y) → (y ≡ x) ⊎ (y ≢ x) → IsSome (binding (set theta x (Some t)) y)
   from_at y some (inl same) = IsSome-of _ t (ap (binding (set theta x (Some t))) same ∙ here)
   from_at y some (inr other) = let P : Option Tree → Type 0 = IsSome in subst P (sym (binding-set_other theta x y t other)) some
+
   just : (y : ℕ) → IsSome (binding (set theta x (Some t)) y) ↔ (IsSome (binding theta y) ⊎ (y ≡ x))
   just y = (
     λ some. to_at y some (same_or_other y x),
@@ -119,8 +126,7 @@ found_variable sig variables theta new x t sort (Some u) at is normal room sorte
     let test = guarded (tree_eq u t) (Some theta) new found in
     let equal : u ≡ t = (Decides-tree_eq u t).0 test.0 in
     let same : theta ≡ new = cc in
-    let there : binding theta x ≡ Some t = e ∙ ap (λ (v : Tree). Some v) equal in
-    (
+    let there : binding theta x ≡ Some t = e ∙ ap (λ (v : Tree). Some v) equal in (
       unchanged sig variables theta new (λ y. y ≡ x) room sorted same (λ y eq. IsSome-of _ t (ap (binding theta) eq ∙ there)),
       ap (λ (th : List (Option Tree)). binding th x) (sym same) ∙ there,
     )
@@ -151,8 +157,7 @@ mutual
       found_variable sig variables theta new x t sort (binding theta x) h is normal room sorted refl e
   matched_found sig variables (domain_value s v) sort t theta new h is normal room sorted e =
       let test = guarded (tree_eq t (leaf s v)) (Some theta) new e in
-      let same : theta ≡ new = cc in
-      (
+      let same : theta ≡ new = cc in (
         unchanged sig variables theta new (λ x. ⊥) room sorted same (λ x stands. absurd stands),
         ap (λ (u : Tree). Some u) (sym ((Decides-tree_eq t (leaf s v)).0 test.0)),
       )
@@ -195,8 +200,7 @@ mutual
       let same : sort2 ≡ sort = cc in
       let P : ℕ → Type 0 = λ s. IsTermOf sig t s in
       let one = matched_found sig variables p sort t theta mid.0 first (subst P same first2) normal.0 room sorted mid.1.0 in
-      let rest = all_found sig variables sorts ps refs ts mid.0 new others others2 normal.1 one.0.room one.0.sorted mid.1.1 in
-      (
+      let rest = all_found sig variables sorts ps refs ts mid.0 new others others2 normal.1 one.0.room one.0.sorted mid.1.1 in (
         record {
           extends = Extends-trans new mid.0 theta rest.0.extends one.0.extends;
           room = rest.0.room;

@@ -122,7 +122,6 @@ unused_before : {theory : RewriteTheory} {f : ℕ} {ts : Forest} (e : Equation) 
 unused_before e theta n c d match test le few =
     let failed = failed_before e theta n c d most_nesting most_calls match test le few in inr (theta, failed.0, match, failed.1)
 
-
 by_equation_record : (theory : RewriteTheory) (f : ℕ) (info : SymInfo) {theta : List (Option Tree)} {ts : Forest} {t : Tree} → IsSymbol theory.sig f info → info.kind ≡ Equations → (sorts : List ℕ) (ps : Patterns) → RecordsOf theory theta ps ts → EquationRecord theory f (equations_of theory f) ts t → RecordOf theory theta (call f sorts ps) t
 by_equation_record theory f info {ts = ts} is defined sorts ps args r =
     let back : ts ≡ results_of args.0 = sym args.2 in

@@ -48,13 +48,13 @@ skipped_somehow : (theory : RewriteTheory) (f : ℕ) (e : Equation) (es : List E
 skipped_somehow theory f e es ts t unused others =
     ⊎_elim (λ never. (others.0, others.1, others.2, unmatched never others.3)) (λ failed. failing failed.0 failed.1 most_nesting most_calls failed.2 failed.3) unused
   where
-  failing : (theta : List (Option Tree)) (left m c : ℕ) → MatchAll theory.sig e.variables e.arguments ts theta → Tests theory m f theta e.condition c (fails left) → Somehow (EquatedBy theory f (e ∷ es) ts t)
-  failing theta left m c match test =
-      let n : ℕ = m + others.0 in
-      let tested : Tests theory n f theta e.condition (c + others.1) (fails (left + others.1)) = tests_more theory others.1 test tt n (omega arith) in
-      let rest : Equates theory n f es ts (others.1 + left) (value t (others.2 + left)) = equates_more theory left others.3 n (omega arith) in
-      let swap : others.1 + left ≡ left + others.1 = omega arith in
-      (n, c + others.1, others.2 + left, condition_fails match tested (subst (λ k. Equates theory n f es ts k (value t (others.2 + left))) swap rest))
+    failing : (theta : List (Option Tree)) (left m c : ℕ) → MatchAll theory.sig e.variables e.arguments ts theta → Tests theory m f theta e.condition c (fails left) → Somehow (EquatedBy theory f (e ∷ es) ts t)
+    failing theta left m c match test =
+        let n : ℕ = m + others.0 in
+        let tested : Tests theory n f theta e.condition (c + others.1) (fails (left + others.1)) = tests_more theory others.1 test tt n (omega arith) in
+        let rest : Equates theory n f es ts (others.1 + left) (value t (others.2 + left)) = equates_more theory left others.3 n (omega arith) in
+        let swap : others.1 + left ≡ left + others.1 = omega arith in
+        (n, c + others.1, others.2 + left, condition_fails match tested (subst (λ k. Equates theory n f es ts k (value t (others.2 + left))) swap rest))
 
 used_somehow : (theory : RewriteTheory) (f : ℕ) (e : Equation) (es : List Equation) (ts : Forest) (theta : List (Option Tree)) (t : Tree) → MatchAll theory.sig e.variables e.arguments ts theta → Somehow (HoldsBy theory f theta e.condition) → Somehow (ValueBy theory theta e.right t) → Somehow (EquatedBy theory f (e ∷ es) ts t)
 used_somehow theory f e es ts theta t match test right =

@@ -27,8 +27,8 @@ rules_match_once theory good =
     ⊎_elim
     (λ (none : theory.rules ≡ []). let nothing : All (RuleMatchesOnce theory) [] = λ k d lt. absurd (omega arith) in subst (λ rules. All (RuleMatchesOnce theory) rules) (sym none) nothing)
     (λ (all : (sort : ℕ) × All (IsRuleOf theory.sig sort) theory.rules).
-      λ k d lt. let fits = all.1 k d lt in
-      λ t theta sigma m l. match_is_unique theory.sig _ [] _ (Sort (record { 0 = all.0 }) ∷ []) (more_trees t no_tree) theta sigma good.signature.no_cycle (all.0, refl, fits.left, tt) m l)
+    λ k d lt. let fits = all.1 k d lt in
+    λ t theta sigma m l. match_is_unique theory.sig _ [] _ (Sort (record { 0 = all.0 }) ∷ []) (more_trees t no_tree) theta sigma good.signature.no_cycle (all.0, refl, fits.left, tt) m l)
     good.one_sort
 
 -- ---- trials
@@ -133,7 +133,7 @@ record Before (theory : RewriteTheory) (start : Pattern) (calls n : ℕ) (u : Tr
   step : Steps theory term left (next u d)
 
 before : {theory : RewriteTheory} {start : Pattern} {calls n d : ℕ} {u : Tree} → Reaches theory start calls (suc n) u d → Before theory start calls n u d
-before (after_step r s) = record { term = _; left = _; reached = r; step = s; }
+before (after_step r s) = record { term = _; left = _; reached = r; step = s }
 
 same_place : (theory : RewriteTheory) → IsWellSorted theory → {start : Pattern} {calls : ℕ} (n : ℕ) {c d : ℕ} {t u : Tree} → Reaches theory start calls n t c → Reaches theory start calls n u d → (t ≡ u) × (c ≡ d)
 same_place theory good zero a b = same_start theory (all_match_once theory good) (from_start a) (from_start b)
@@ -194,7 +194,7 @@ stopped_last theory good limit n cause t (c, r, lt, s) = record {
 }
 
 limited_last : (theory : RewriteTheory) {start : Pattern} {calls : ℕ} (limit n : ℕ) (t : Tree) → (h : IsRunOf theory limit calls start (limited n t)) → Last theory limit start calls n t h.0
-limited_last theory limit n t (c, r, e) = record { reached = r; within = omega arith; ends = λ lt w k step. absurd (omega arith); }
+limited_last theory limit n t (c, r, e) = record { reached = r; within = omega arith; ends = λ lt w k step. absurd (omega arith) }
 
 -- an initial term whose evaluation is blocked reaches no configuration
 unstarted_reaches : (theory : RewriteTheory) → IsWellSorted theory → {start : Pattern} {calls n c : ℕ} {t : Tree} (cause : Cause) → Evaluates theory most_nesting [] start calls (blocked cause) → Reaches theory start calls n t c → ⊥

@@ -54,8 +54,8 @@ one_more sig rules from i t r j rule before there last low at (inr same) =
 pub NoneSoFar-more : (pairs : List (ℕ × ℕ)) (rules : List RewriteRule) (from i count : ℕ) (t : Tree) (r : RewriteRule) → NoneSoFar pairs rules from i t → slice_get rules i ≡ Some r → length r.variables ≡ count → FindsMatch pairs count (more_patterns r.left no_pattern) (more_trees t no_tree) None → NoneSoFar pairs rules from (i + 1) t
 NoneSoFar-more pairs rules from i count t r before there len finds =
     λ sig sort is none all sorted j rule low high at.
-        let rule_sorted : IsRuleOf sig sort r = all_at (IsRuleOf sig sort) rules i r all there in
-        one_more sig rules from i t r j rule (before sig sort is none all sorted) there (searched sig pairs sort count r t None finds len is none rule_sorted sorted) low at (below_or_at j i high)
+    let rule_sorted : IsRuleOf sig sort r = all_at (IsRuleOf sig sort) rules i r all there in
+    one_more sig rules from i t r j rule (before sig sort is none all sorted) there (searched sig pairs sort count r t None finds len is none rule_sorted sorted) low at (below_or_at j i high)
 
 -- .. and ends at one that does
 pub found_first : (pairs : List (ℕ × ℕ)) (rules : List RewriteRule) (from i count : ℕ) (t : Tree) (r : RewriteRule) (theta : List (Option Tree)) → from ≤ i → NoneSoFar pairs rules from i t → slice_get rules i ≡ Some r → length r.variables ≡ count → FindsMatch pairs count (more_patterns r.left no_pattern) (more_trees t no_tree) (Some theta) → FindsFirstMatch pairs rules from t (Some (i, theta))

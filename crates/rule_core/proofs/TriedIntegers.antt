@@ -29,11 +29,11 @@ two_numbers x y = one_more itself (one_more itself none_left)
 
 pub hook_gives : {theory : RewriteTheory} {k f c row result : ℕ} {arguments : List ℕ} (x y : ℤ) (v : DomainValue) → Declares theory.sig f (hook row) arguments result → hook_value row (integer x ∷ (integer y ∷ [])) ≡ Some (Ok v) → Applies theory k f (more_trees (tree_number x) (one_tree (tree_number y))) (suc c) (value (leaf result v) c)
 hook_gives x y v d e =
-    by_hook d.there (record { hooked = d.of_kind; arguments = integer x ∷ (integer y ∷ []); are = (integer y ∷ [], refl, ([], refl, refl)); answers = e; }) (declared_result d)
+    by_hook d.there (record { hooked = d.of_kind; arguments = integer x ∷ (integer y ∷ []); are = (integer y ∷ [], refl, ([], refl, refl)); answers = e }) (declared_result d)
 
 pub hook_has_none : {theory : RewriteTheory} {k f c row result : ℕ} {arguments : List ℕ} (x y : ℤ) (why : NoValue) → Declares theory.sig f (hook row) arguments result → hook_value row (integer x ∷ (integer y ∷ [])) ≡ Some (Err why) → Applies theory k f (more_trees (tree_number x) (one_tree (tree_number y))) (suc c) (blocked (no_value row why))
 hook_has_none x y why d e =
-    hook_fails d.there (record { hooked = d.of_kind; arguments = integer x ∷ (integer y ∷ []); are = (integer y ∷ [], refl, ([], refl, refl)); fails = e; })
+    hook_fails d.there (record { hooked = d.of_kind; arguments = integer x ∷ (integer y ∷ []); are = (integer y ∷ [], refl, ([], refl, refl)); fails = e })
 
 result_in_n : {theory : RewriteTheory} {k f row : ℕ} (x y z : ℤ) {arguments : List ℕ} → Declares theory.sig f (hook row) arguments 0 → hook_value row (integer x ∷ (integer y ∷ [])) ≡ Some (Ok (integer z)) → Evaluates theory (suc (suc k)) [] (n (binary f x y)) 1 (value (tree_n z) 0)
 result_in_n x y z d e = made of_constructor (one_more (called (two_numbers x y) (hook_gives x y (integer z) d e)) none_left) refl (omega arith)

@@ -22,15 +22,17 @@ use Rattle.rule_core.proofs.TriedIntegers.{hook_gives, hook_has_none, hooked_not
 -- a pattern with one variable matches, by what stands for it
 pub match_one : (sig : Signature) (sort : ℕ) (ps : Patterns) (ts : Forest) (u : Tree) → ((x : ℕ) → StandsInSome x ps → x ≡ 0) → StandsInSome 0 ps → IsNormal u → IsTermOf sig u sort → instances_of (Some u ∷ []) ps ≡ Some ts → MatchAll sig (sort ∷ []) ps ts (Some u ∷ [])
 match_one sig sort ps ts u only there normal of e = record {
-  binds = record { room = refl; just = λ x. (given x, λ s. bound_there x (only x s)); sorted = sorted_there; };
+  binds = record { room = refl; just = λ x. (given x, λ s. bound_there x (only x s)); sorted = sorted_there };
   makes = e;
 } where
   given : (x : ℕ) → IsSome (binding (Some u ∷ []) x) → StandsInSome x ps
   given zero s = there
   given (suc x) s = let wrong : false ≡ true = s in absurd (false≢true wrong)
+
   bound_there : (x : ℕ) → x ≡ 0 → IsSome (binding (Some u ∷ []) x)
   bound_there zero same = refl
   bound_there (suc x) same = absurd (omega (arith, same))
+
   sorted_there : (x : ℕ) (t : Tree) → binding (Some u ∷ []) x ≡ Some t → IsNormal t × ((s : ℕ) × (slice_get (sort ∷ []) x ≡ Some s) × IsTermOf sig t s)
   sorted_there zero t b = let k : Some u ≡ Some t = b in let same : u ≡ t = cc in rw (sym same) (normal, (sort, refl, of))
   sorted_there (suc x) t b = let k : None ≡ Some t = b in let no : ⊥ = cc in absurd no
@@ -56,37 +58,37 @@ not_true s h = let k : leaf s (truth false) ≡ leaf h.0 (truth true) = h.1 in c
 pub tried_conditions : (sig : Signature) → DeclaresIntegers sig → TriedConditions sig
 tried_conditions sig d = record {
   first_holds =
-    by_rule (condition_holds (on_matches sig 11 d.sort (omega arith)) (condition (compared (pos 11) (pos 10) (truth true) d.gt (bound refl) itself refl) (says_true (1, refl))))
-    (made of_constructor (one_more (bound refl) none_left) refl (omega arith));
+      by_rule (condition_holds (on_matches sig 11 d.sort (omega arith)) (condition (compared (pos 11) (pos 10) (truth true) d.gt (bound refl) itself refl) (says_true (1, refl))))
+      (made of_constructor (one_more (bound refl) none_left) refl (omega arith));
   second_holds =
-    by_rule (condition_fails (on_matches sig 3 d.sort (omega arith)) (condition (compared (pos 3) (pos 10) (truth false) d.gt (bound refl) itself refl) (says_other (not_true 1)))
-    (condition_holds (on_matches sig 3 d.sort (omega arith)) (condition (compared (pos 10) (pos 3) (truth true) d.gt itself (bound refl) refl) (says_true (1, refl)))))
-    (made of_constructor (one_more (bound refl) none_left) refl (omega arith));
+      by_rule (condition_fails (on_matches sig 3 d.sort (omega arith)) (condition (compared (pos 3) (pos 10) (truth false) d.gt (bound refl) itself refl) (says_other (not_true 1)))
+      (condition_holds (on_matches sig 3 d.sort (omega arith)) (condition (compared (pos 10) (pos 3) (truth true) d.gt itself (bound refl) refl) (says_true (1, refl)))))
+      (made of_constructor (one_more (bound refl) none_left) refl (omega arith));
   none_holds =
-    by_none (condition_fails (on_matches sig 10 d.sort (omega arith)) (condition (compared (pos 10) (pos 10) (truth false) d.gt (bound refl) itself refl) (says_other (not_true 1)))
-    (condition_fails (on_matches sig 10 d.sort (omega arith)) (condition (compared (pos 10) (pos 10) (truth false) d.gt itself (bound refl) refl) (says_other (not_true 1))) no_rule_left));
+      by_none (condition_fails (on_matches sig 10 d.sort (omega arith)) (condition (compared (pos 10) (pos 10) (truth false) d.gt (bound refl) itself refl) (says_other (not_true 1)))
+      (condition_fails (on_matches sig 10 d.sort (omega arith)) (condition (compared (pos 10) (pos 10) (truth false) d.gt itself (bound refl) refl) (says_other (not_true 1))) no_rule_left));
   too_few_calls =
-    in_condition (condition_fails (on_matches sig 3 d.sort (omega arith)) (condition (compared (pos 3) (pos 10) (truth false) d.gt (bound refl) itself refl) (says_other (not_true 1)))
-    (condition_blocked (on_matches sig 3 d.sort (omega arith)) (condition (called (one_more itself (one_more (bound refl) none_left)) (without_call d.gt.there (λ is. hooked_not_closed d.gt.info.kind 11 d.gt.of_kind is))) says_nothing)));
+      in_condition (condition_fails (on_matches sig 3 d.sort (omega arith)) (condition (compared (pos 3) (pos 10) (truth false) d.gt (bound refl) itself refl) (says_other (not_true 1)))
+      (condition_blocked (on_matches sig 3 d.sort (omega arith)) (condition (called (one_more itself (one_more (bound refl) none_left)) (without_call d.gt.there (λ is. hooked_not_closed d.gt.info.kind 11 d.gt.of_kind is))) says_nothing)));
   first_divides =
-    by_rule (condition_fails (on_matches sig 3 d.sort (omega arith)) (condition
-    (compared (pos 0) (pos 0) (truth false) d.gt (called (one_more itself (one_more (bound refl) none_left)) (hook_gives (pos 1) (pos 3) (integer (pos 0)) d.tdiv refl)) itself refl) (says_other (not_true 1)))
-    (condition_holds (on_matches sig 3 d.sort (omega arith)) (condition (compared (pos 10) (pos 3) (truth true) d.gt itself (bound refl) refl) (says_true (1, refl)))))
-    (made of_constructor (one_more (bound refl) none_left) refl (omega arith));
+      by_rule (condition_fails (on_matches sig 3 d.sort (omega arith)) (condition
+      (compared (pos 0) (pos 0) (truth false) d.gt (called (one_more itself (one_more (bound refl) none_left)) (hook_gives (pos 1) (pos 3) (integer (pos 0)) d.tdiv refl)) itself refl) (says_other (not_true 1)))
+      (condition_holds (on_matches sig 3 d.sort (omega arith)) (condition (compared (pos 10) (pos 3) (truth true) d.gt itself (bound refl) refl) (says_true (1, refl)))))
+      (made of_constructor (one_more (bound refl) none_left) refl (omega arith));
   first_blocked =
-    in_condition (condition_blocked (on_matches sig 0 d.sort (omega arith)) (condition
-    (argument_blocked of_call (first_blocked (called (one_more itself (one_more (bound refl) none_left)) (hook_has_none (pos 1) (pos 0) ZeroDivisor d.tdiv refl)))) says_nothing));
+      in_condition (condition_blocked (on_matches sig 0 d.sort (omega arith)) (condition
+      (argument_blocked of_call (first_blocked (called (one_more itself (one_more (bound refl) none_left)) (hook_has_none (pos 1) (pos 0) ZeroDivisor d.tdiv refl)))) says_nothing));
 }
 
 pub tried_injections : (sig : Signature) → DeclaresInjections sig → TriedInjections sig
 tried_injections sig d =
     let has : HasInjection sig = (0, d.symbol.info, d.symbol.there, d.symbol.injects) in
     record {
-  joined = made (of_injection d.symbol) (one_more (made (of_injection d.symbol) (one_more itself none_left) refl (omega arith)) none_left) refl (omega arith);
-  moved =
-    by_rule (condition_holds
-    (match_one sig 1 (one (application 1 (one (injection 1 3 (variable 0))))) (one_tree (node 1 (one_tree (inj 0 3 (tree_number (pos 5)))))) (inj 0 1 (tree_number (pos 5))) only_first (inl (inl refl)) (tt, tt)
-    (has, refl, d.below, number_of_sort sig 0 5 d.integers (omega arith)) refl)
-    no_condition)
-    (made of_constructor (one_more (made (of_injection d.symbol) (one_more (bound refl) none_left) refl (omega arith)) none_left) refl (omega arith));
-}
+      joined = made (of_injection d.symbol) (one_more (made (of_injection d.symbol) (one_more itself none_left) refl (omega arith)) none_left) refl (omega arith);
+      moved =
+          by_rule (condition_holds
+          (match_one sig 1 (one (application 1 (one (injection 1 3 (variable 0))))) (one_tree (node 1 (one_tree (inj 0 3 (tree_number (pos 5)))))) (inj 0 1 (tree_number (pos 5))) only_first (inl (inl refl)) (tt, tt)
+          (has, refl, d.below, number_of_sort sig 0 5 d.integers (omega arith)) refl)
+          no_condition)
+          (made of_constructor (one_more (made (of_injection d.symbol) (one_more (bound refl) none_left) refl (omega arith)) none_left) refl (omega arith));
+    }

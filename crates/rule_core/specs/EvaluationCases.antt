@@ -78,7 +78,7 @@ abbrev pub tree_n : ℤ → Tree
 tree_n z = node 7 (one_tree (tree_number z))
 
 abbrev pub without_rules : Signature → RewriteTheory
-without_rules sig = record { sig = sig; rules = []; equations = []; }
+without_rules sig = record { sig = sig; rules = []; equations = [] }
 
 -- the pattern, without variables, evaluates so with so many calls left
 abbrev pub Gives : RewriteTheory → Pattern → ℕ → Evaluated → Type 0
@@ -108,10 +108,10 @@ pub record TriedIntegers (sig : Signature) : Type 0 where
 -- ---- a function without arguments, of three forms: no equation, a value, and a constructor
 
 abbrev pub always : Pattern → Equation
-always right = record { arguments = no_pattern; condition = None; right = right; variables = []; priority = 50; place = 0; }
+always right = record { arguments = no_pattern; condition = None; right = right; variables = []; priority = 50; place = 0 }
 
 abbrev pub defined_by : Signature → List Equation → RewriteTheory
-defined_by sig es = record { sig = sig; rules = []; equations = es ∷ []; }
+defined_by sig es = record { sig = sig; rules = []; equations = es ∷ [] }
 
 -- the function is called with so much nesting and so many calls left
 abbrev pub Calls : Signature → List Equation → ℕ → ℕ → Evaluated → Type 0
@@ -145,7 +145,7 @@ abbrev pub greater : Pattern → Pattern → Pattern
 greater p q = call 5 [] (two p q)
 
 abbrev pub with_rules : Signature → List RewriteRule → RewriteTheory
-with_rules sig rules = record { sig = sig; rules = rules; equations = []; }
+with_rules sig rules = record { sig = sig; rules = rules; equations = [] }
 
 -- above 10 it goes to the constructor 9, below 10 to the constructor 10
 abbrev pub by_size : Signature → RewriteTheory

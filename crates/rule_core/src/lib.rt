@@ -14,6 +14,7 @@ mod laws;
 mod matching;
 mod rules;
 mod signature;
+mod sort_sets;
 mod subsorts;
 mod table;
 mod trial;
@@ -26,4 +27,3 @@ pub use signature::{Signature, SortInfo, SortKind, SortRef, SymInfo, SymKind};
 pub use subsorts::Subsorts;
 pub use table::Table;
 pub use trial::first_match;
-

@@ -147,8 +147,8 @@ fn match_lowered<L: Ledger>(
     ensures room { length subst.new ≡ length subst.old }
     ensures found { IfOk result (λ yes. Answers
         (if from.0 == to.0 || is_below subsorts.now from.0 to.0
-            then matched subsorts.now (plain_pattern pat.now) (lowered from.0 to.0 child.now) subst.old
-            else None)
+        then matched subsorts.now (plain_pattern pat.now) (lowered from.0 to.0 child.now) subst.old
+        else None)
         yes subst.new) }
     ensures looks { steps.new ≤ steps.old + nodes (plain_pattern pat.now) }
 {

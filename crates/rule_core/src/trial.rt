@@ -48,7 +48,14 @@ fn counted_match<L: Ledger>(
     let mut steps = Steps::<L>::new(blank);
     for i in from..rules.len() {
         let rule = &rules[i];
-        if let Some(subst) = find_match(alloc, &rule.left, rule.vars.len(), subsorts, term, &mut steps)? {
+        if let Some(subst) = find_match(
+            alloc,
+            &rule.left,
+            rule.vars.len(),
+            subsorts,
+            term,
+            &mut steps,
+        )? {
             return Ok(Some((i, subst)));
         }
     }

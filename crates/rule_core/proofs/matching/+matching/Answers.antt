@@ -15,8 +15,7 @@ use Rattle.rule_core.proofs.matching.+matching.Goals as goal
 pub match_children-match_term-requires : goal.match_children-match_term-requires
 match_children-match_term-requires g t c κs within =
     let low : depth (plain_pattern c.index-pats-i.result) ≤ depths (plain_patterns c.args.pats.now) = depth_of-item _ _ _ c.index-pats-i.is c.loop-i-test.true in
-    let P : ℕ → Type 0 = λ n. (x : ℕ) → StandsIn x (plain_pattern c.index-pats-i.result) → x < n in
-    (
+    let P : ℕ → Type 0 = λ n. (x : ℕ) → StandsIn x (plain_pattern c.index-pats-i.result) → x < n in (
       omega arith,
       (within, subst P (sym c.loop-i.invariant.room) (λ x stands. c.requires.scoped x (stands_of-item _ _ _ x c.index-pats-i.is c.loop-i-test.true stands))),
     )
@@ -45,8 +44,7 @@ pub match_injected-match_lowered-requires : goal.match_injected-match_lowered-re
 match_injected-match_lowered-requires g t c κs within =
     let is : plain_pattern c.args.pat.now ≡ injection c.in-Inj.own_from.0 c.in-Inj.own_to.0 (plain_pattern c.deref.result.now) =
     ap plain_pattern c.in-Inj.is ∙ (plain-Inj _ _ _ ∙ ap (λ p. injection c.in-Inj.own_from.0 c.in-Inj.own_to.0 (plain_pattern p)) (sym c.deref.ensures)) in
-    let deep : depth (plain_pattern c.args.pat.now) ≡ depth (plain_pattern c.deref.result.now) + 1 = ap depth is in
-    (
+    let deep : depth (plain_pattern c.args.pat.now) ≡ depth (plain_pattern c.deref.result.now) + 1 = ap depth is in (
       omega arith,
       (within, (λ x stands. let P : Pattern → Type 0 = StandsIn x in c.requires.scoped x (subst P (sym is) stands), (c.requires.low, c.requires.other))),
     )
@@ -73,8 +71,7 @@ pub match_term-match_children-requires : goal.match_term-match_children-requires
 match_term-match_children-requires g t c κs within =
     let is : plain_pattern c.args.pat.now ≡ application c.in-Ctor.sym.0 (plain_patterns c.deref.result.now) =
     ap plain_pattern c.in-Ctor.is ∙ (plain-Ctor _ _ ∙ ap (λ ps. application c.in-Ctor.sym.0 (plain_patterns ps)) (sym c.deref.ensures.value)) in
-    let deep : depth (plain_pattern c.args.pat.now) ≡ depths (plain_patterns c.deref.result.now) + 1 = ap depth is in
-    (
+    let deep : depth (plain_pattern c.args.pat.now) ≡ depths (plain_patterns c.deref.result.now) + 1 = ap depth is in (
       omega arith,
       (within, (λ x stands. let P : Pattern → Type 0 = StandsIn x in c.requires x (subst P (sym is) stands), search rules)),
     )
@@ -84,8 +81,7 @@ match_term-match_lowered-requires g t c κs within =
     let is : plain_pattern c.args.pat.now ≡ injection c.in-Inj.from.0 c.in-Inj.to.0 (plain_pattern c.deref-in-Inj-view.result.now) =
     ap plain_pattern c.in-Inj.is ∙ (plain-Inj _ _ _ ∙ ap (λ p. injection c.in-Inj.from.0 c.in-Inj.to.0 (plain_pattern p)) (sym c.deref-in-Inj-view.ensures)) in
     let deep : depth (plain_pattern c.args.pat.now) ≡ depth (plain_pattern c.deref-in-Inj-view.result.now) + 1 = ap depth is in
-    let root = child_is c.args.term.now c.child-child.result.now _ _ _ c.in-Inj-view.ensures.shows.1 c.child-child.ensures in
-    (
+    let root = child_is c.args.term.now c.child-child.result.now _ _ _ c.in-Inj-view.ensures.shows.1 c.child-child.ensures in (
       omega arith,
       (
         within,
