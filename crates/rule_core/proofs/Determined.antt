@@ -46,7 +46,7 @@ pub record_tells_value : RecordTells
 record_tells_value theory theta p r w = record_tells theory theta p r w
 
 -- two values agree, whatever was left
-values_agree : (theory : RewriteTheory) → IsWellSorted theory → (theta : List (Option Tree)) (p : Pattern) (t u : Tree) (n c d m k e : ℕ) → Evaluates theory n theta p c (value t d) → Evaluates theory m theta p k (value u e) → t ≡ u
+pub values_agree : (theory : RewriteTheory) → IsWellSorted theory → (theta : List (Option Tree)) (p : Pattern) (t u : Tree) (n c d m k e : ℕ) → Evaluates theory n theta p c (value t d) → Evaluates theory m theta p k (value u e) → t ≡ u
 values_agree theory good theta p t u n c d m k e a b =
     let first : Evaluates theory (n + m) theta p (c + k) (value t (d + k)) = evaluates_more theory k a (n + m) (omega arith) in
     let second : Evaluates theory (n + m) theta p (k + c) (value u (e + c)) = evaluates_more theory c b (n + m) (omega arith) in

@@ -13,10 +13,9 @@ use Rattle.rule_core.specs.Matching.{StandsIn, StandsInSome, RespectsSorts, Bind
 use Rattle.rule_core.specs.MatchLaws.{AreTermsOf}
 use Rattle.rule_core.specs.Sorting.{HasSort, HaveSorts, IsTermOf, IsSymbol, IsFunction, HasInjection, HasValue, sort_at}
 use Rattle.rule_core.specs.Evaluation.{Cause, Evaluated, value, blocked, AllEvaluated, values, stopped, Tested, holds, fails, untested, no_value, closed, no_equation, no_call_left, too_high, too_nested, IsTrueValue, most_height, IsInjectionSymbol, HasHead, of_constructor, of_injection, of_call, built, Says, says_true, says_other, says_nothing, Evaluates, bound, itself, nested_out, argument_blocked, made, made_too_high, called, EvaluateAll, none_left, first_blocked, later_blocked, one_more, Applies, by_nothing, without_call, by_hook, hook_fails, by_equations, Equates, no_equation_left, unmatched, condition_fails, condition_blocked, used, Tests, no_condition, condition, EvaluatesIn, no_nesting, inside}
-use Rattle.rule_core.specs.EvaluationLaws.{Serves}
 use Rattle.rule_core.specs.HookCalls.{HookAnswers, HookFails}
 use Rattle.term_core.specs.declared.values.NoValue.{NoValue}
-use Rattle.rule_core.specs.WellSorted.{IsWellSorted, IsEquationOf, IsCondition, UsesOnly, FitsHook}
+use Rattle.rule_core.specs.WellSorted.{IsWellSorted, Serves, IsEquationOf, IsCondition, UsesOnly, FitsHook}
 use Rattle.rule_core.specs.declared.signature.Signature.{Signature}
 use Rattle.rule_core.specs.declared.signature.SortRef.{SortRef}
 use Rattle.rule_core.specs.declared.signature.SymInfo.{SymInfo}
@@ -177,7 +176,7 @@ injection_symbol sig has =
 -- ---- equations
 
 -- what matching gives the condition and the right side
-serves_match : (sig : Signature) (variables : List ℕ) (ps : Patterns) (ts : Forest) (theta : List (Option Tree)) (p : Pattern) → MatchAll sig variables ps ts theta → heights ts ≤ most_height → UsesOnly ps p → Serves sig variables theta p
+pub serves_match : (sig : Signature) (variables : List ℕ) (ps : Patterns) (ts : Forest) (theta : List (Option Tree)) (p : Pattern) → MatchAll sig variables ps ts theta → heights ts ≤ most_height → UsesOnly ps p → Serves sig variables theta p
 serves_match sig variables ps ts theta p m lows uses = record {
   bound = λ x stands. (m.binds.just x).1 (uses x stands);
   sorted = m.binds.sorted;
@@ -194,7 +193,7 @@ true_or_not (leaf s (text bytes)) = inr (λ h. let k : leaf s (text bytes) ≡ l
 true_or_not (node f ts) = inr (λ h. let k : node f ts ≡ leaf h.0 (truth true) = h.1 in cc)
 true_or_not (inj a b t) = inr (λ h. let k : inj a b t ≡ leaf h.0 (truth true) = h.1 in cc)
 
-says_something : (e : Evaluated) → (x : Tested) × Says e x
+pub says_something : (e : Evaluated) → (x : Tested) × Says e x
 says_something (blocked cause) = (untested cause, says_nothing)
 says_something (value t c) = ⊎_elim (λ (is : IsTrueValue t). (holds c, says_true is)) (λ (other : IsTrueValue t → ⊥). (fails c, says_other other)) (true_or_not t)
 

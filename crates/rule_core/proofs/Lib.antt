@@ -21,3 +21,5 @@ pub mod MatchAnswers
 pub mod Searches
 pub mod Trials
 pub mod RunUnique
+pub mod RunAnswers
+pub mod Skips

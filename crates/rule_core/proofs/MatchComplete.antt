@@ -1,18 +1,14 @@
 -- Where a substitution makes the pattern the term, matching binds no more than it gives.
-use Rattle.std.proofs.Common.{◌≡◌, ◌≢◌, ◌<◌, ◌⊎◌, inl, inr, ℕ, Bool, true, false, List, [], ◌∷◌, length, set, slice_get, Option, option_map, Some, None, refl, sym, ◌∙◌, ap, subst, eq-eqb}
-use Rattle.std.specs.Prelude.{◌==◌, ◌&&◌, ◌||◌, if◌then◌else◌}
-use Rattle.std.specs.Option.{option_and_then}
-use Rattle.std.proofs.lemmas.Bool.{eqb-true, false≢true}
+use Rattle.std.proofs.Common.{◌≡◌, ◌≢◌, ◌<◌, ◌⊎◌, inl, inr, ℕ, List, [], ◌∷◌, length, set, slice_get, Option, Some, None, refl, sym, ◌∙◌, ap, subst, eq-eqb}
 use Rattle.std.proofs.lemmas.List.{length-set}
 use Rattle.std.proofs.lemmas.Option.{slice_get_within}
 use Rattle.term_core.specs.Terms.{Tree, leaf, node, inj, Forest, no_tree, more_trees, injected}
-use Rattle.term_core.specs.TreeTest.{tree_eq}
 use Rattle.term_core.specs.Patterns.{Pattern, Patterns, variable, domain_value, application, injection, call, no_pattern, more_patterns, binding, instance_of, instances_of}
 use Rattle.term_core.proofs.TreeTests.{Decides-tree_eq}
 use Rattle.rule_core.specs.Subsorts.{IsBelow, HasNoCycle}
-use Rattle.rule_core.specs.Sorting.{HasSort, HaveSorts, IsTermOf, HasInjection}
+use Rattle.rule_core.specs.Sorting.{HasSort, HaveSorts, IsTermOf}
 use Rattle.rule_core.specs.Matching.{RespectsSorts}
-use Rattle.rule_core.specs.MatchSteps.{is_below, lowered, bound_to, matched, all_matched}
+use Rattle.rule_core.specs.MatchSteps.{bound_to, matched, all_matched}
 use Rattle.rule_core.specs.declared.signature.Signature.{Signature}
 use Rattle.rule_core.specs.declared.signature.SortRef.{SortRef}
 use Rattle.rule_core.proofs.Belows.{true-is_below, no_loop}

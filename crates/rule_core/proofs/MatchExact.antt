@@ -1,20 +1,20 @@
 -- Matching from a substitution without bindings gives just the substitution that makes the patterns the terms.
-use Rattle.std.proofs.Common.{◌≡◌, ◌<◌, ◌↔◌, ◌⊎◌, inl, inr, ℕ, Bool, true, false, List, [], ◌∷◌, length, replicate, Option, Some, None, refl, sym, ◌∙◌, ap, subst, ⊎_elim}
+use Rattle.std.proofs.Common.{◌≡◌, ◌↔◌, ◌⊎◌, inl, inr, ℕ, Bool, true, false, List, length, replicate, Option, Some, None, refl, sym, ◌∙◌, ap, ⊎_elim}
 use Rattle.std.specs.Prelude.{IsSome}
 use Rattle.std.proofs.lemmas.List.{length-replicate}
 use Rattle.std.proofs.lemmas.Bool.{false≢true}
 use Rattle.term_core.specs.Terms.{Tree, Forest, AreNormal}
-use Rattle.term_core.specs.Patterns.{Patterns, binding, instances_of}
+use Rattle.term_core.specs.Patterns.{Patterns, binding}
 use Rattle.rule_core.specs.Subsorts.{HasNoCycle}
 use Rattle.rule_core.specs.Sorting.{HaveSorts}
-use Rattle.rule_core.specs.Matching.{StandsInSome, RespectsSorts, Binds, MatchAll, NoneMatches}
+use Rattle.rule_core.specs.Matching.{StandsInSome, RespectsSorts, MatchAll, NoneMatches}
 use Rattle.rule_core.specs.MatchLaws.{AreTermsOf, MatchIsUnique, MatchIsDecidable}
 use Rattle.rule_core.specs.MatchSteps.{all_matched}
 use Rattle.rule_core.specs.declared.signature.Signature.{Signature}
 use Rattle.rule_core.specs.declared.signature.SortRef.{SortRef}
 use Rattle.rule_core.proofs.Bindings.{Extends, binding-replicate, same_bindings, given, IsSome-of}
 use Rattle.rule_core.proofs.SortedInstances.{instances_are_sorted}
-use Rattle.rule_core.proofs.MatchFound.{Found, all_found}
+use Rattle.rule_core.proofs.MatchFound.{all_found}
 use Rattle.rule_core.proofs.MatchComplete.{all_complete}
 
 -- no variable is bound

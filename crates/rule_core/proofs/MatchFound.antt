@@ -2,23 +2,22 @@
 use Rattle.std.proofs.Common.{◌≡◌, ◌≢◌, ◌<◌, ◌↔◌, ◌⊎◌, inl, inr, ℕ, Bool, true, false, List, [], ◌∷◌, length, set, slice_get, Option, option_map, Some, None, refl, sym, ◌∙◌, ap, subst, ⊎_elim}
 use Rattle.std.specs.Prelude.{IsSome, ◌==◌, ◌&&◌, ◌||◌, if◌then◌else◌}
 use Rattle.std.specs.Option.{option_and_then}
-use Rattle.std.proofs.lemmas.Bool.{eqb-true, false≢true}
+use Rattle.std.proofs.lemmas.Bool.{eqb-true}
 use Rattle.std.proofs.lemmas.List.{length-set}
 use Rattle.std.proofs.lemmas.Option.{slice_get_within}
 use Rattle.term_core.specs.Terms.{Tree, leaf, node, inj, Forest, no_tree, more_trees, injected, IsNoInjection, IsNormal, AreNormal}
 use Rattle.term_core.specs.TreeTest.{tree_eq}
-use Rattle.term_core.specs.Patterns.{Pattern, Patterns, variable, domain_value, application, injection, call, no_pattern, more_patterns, binding, with_first, instance_of, instances_of, ground_patterns}
+use Rattle.term_core.specs.Patterns.{Pattern, Patterns, variable, domain_value, application, injection, call, no_pattern, more_patterns, binding, instance_of, instances_of}
 use Rattle.term_core.proofs.Forests.{injected-other}
 use Rattle.term_core.proofs.TreeTests.{Decides-tree_eq}
-use Rattle.rule_core.specs.Subsorts.{IsBelow}
-use Rattle.rule_core.specs.Sorting.{HasSort, HaveSorts, IsTermOf, IsSymbol, HasInjection, sort_at}
+use Rattle.rule_core.specs.Sorting.{HasSort, HaveSorts, IsTermOf, IsSymbol, HasInjection}
 use Rattle.rule_core.specs.Matching.{StandsIn, StandsInSome, RespectsSorts}
 use Rattle.rule_core.specs.MatchLaws.{AreTermsOf}
 use Rattle.rule_core.specs.MatchSteps.{is_below, lowered, bound_to, matched, all_matched}
 use Rattle.rule_core.specs.declared.signature.Signature.{Signature}
 use Rattle.rule_core.specs.declared.signature.SymInfo.{SymInfo}
 use Rattle.rule_core.specs.declared.signature.SortRef.{SortRef}
-use Rattle.rule_core.proofs.Belows.{either_true, both_true, is_below-true}
+use Rattle.rule_core.proofs.Belows.{both_true, is_below-true}
 use Rattle.rule_core.proofs.Bindings.{Extends, Extends-refl, Extends-trans, same_or_other, binding-set_same, binding-set_other, IsSome-of}
 use Rattle.rule_core.proofs.SortedInstances.{mapped, both_there}
 

@@ -90,13 +90,13 @@ trial_is_unique theory t c r s good a b = tries_unique theory (all_match_once th
 -- ---- steps
 
 -- what comes of a step, by what comes of the trial
-data After (theory : RewriteTheory) : Trial → Stepped → Type 0 where
+pub data After (theory : RewriteTheory) : Trial → Stepped → Type 0 where
   after_right : {i d e : ℕ} {rule : RewriteRule} {theta : List (Option Tree)} {u : Tree} → Evaluates theory most_nesting theta rule.right d (value u e) → After theory (applies i rule theta d) (next u e)
   after_none : After theory none_applies stays
   after_condition : {cause : Cause} → After theory (trial_blocked cause) (stops cause)
   after_blocked : {i d : ℕ} {rule : RewriteRule} {theta : List (Option Tree)} {cause : Cause} → Evaluates theory most_nesting theta rule.right d (blocked cause) → After theory (applies i rule theta d) (stops cause)
 
-after_trial : {theory : RewriteTheory} {t : Tree} {c : ℕ} {s : Stepped} → Steps theory t c s → (r : Trial) × Tries theory t 0 theory.rules c r × After theory r s
+pub after_trial : {theory : RewriteTheory} {t : Tree} {c : ℕ} {s : Stepped} → Steps theory t c s → (r : Trial) × Tries theory t 0 theory.rules c r × After theory r s
 after_trial (by_rule tries e) = (_, tries, after_right e)
 after_trial (by_none tries) = (none_applies, tries, after_none)
 after_trial (in_condition {cause = cause} tries) = (trial_blocked cause, tries, after_condition)

@@ -1,5 +1,5 @@
 -- What a search that began without bindings says.
-use Rattle.std.proofs.Common.{◌≡◌, ℕ, List, [], ◌∷◌, length, replicate, Option, Some, None, refl, sym, ◌∙◌, ap, subst}
+use Rattle.std.proofs.Common.{◌≡◌, ℕ, List, length, replicate, Option, Some, None, refl, sym, subst}
 use Rattle.term_core.specs.Terms.{Tree, Forest, no_tree, more_trees, AreNormal}
 use Rattle.term_core.specs.Patterns.{Pattern, Patterns, no_pattern, more_patterns}
 use Rattle.rule_core.specs.Subsorts.{HasNoCycle}

@@ -1,12 +1,12 @@
 -- Well-sorted patterns: their variables, and their instances under normal terms of the right sorts.
-use Rattle.std.proofs.Common.{◌≡◌, ◌<◌, ◌⊎◌, inl, inr, ℕ, List, [], ◌∷◌, length, slice_get, Option, option_map, Some, None, refl, sym, ◌∙◌, ap, subst}
+use Rattle.std.proofs.Common.{◌≡◌, ◌<◌, inl, inr, ℕ, List, [], ◌∷◌, length, Option, option_map, Some, None, refl, sym, ◌∙◌, subst}
 use Rattle.std.proofs.lemmas.Option.{slice_get_within}
 use Rattle.term_core.specs.Terms.{Tree, leaf, node, inj, Forest, no_tree, more_trees, injected, IsNormal, AreNormal}
-use Rattle.term_core.specs.Patterns.{Pattern, Patterns, variable, domain_value, application, injection, call, no_pattern, more_patterns, binding, with_first, instance_of, instances_of, ground_pattern, ground_patterns}
+use Rattle.term_core.specs.Patterns.{Pattern, Patterns, variable, domain_value, application, injection, call, no_pattern, more_patterns, with_first, instance_of, instances_of}
 use Rattle.term_core.proofs.Forests.{IsNormal-injected}
 use Rattle.rule_core.specs.Subsorts.{IsBelow}
-use Rattle.rule_core.specs.Sorting.{HasSort, HaveSorts, IsTermOf, HasInjection, sort_at}
-use Rattle.rule_core.specs.Matching.{StandsIn, StandsInSome, UseFirst, RespectsSorts}
+use Rattle.rule_core.specs.Sorting.{HasSort, HaveSorts, IsTermOf, HasInjection}
+use Rattle.rule_core.specs.Matching.{StandsIn, StandsInSome, RespectsSorts}
 use Rattle.rule_core.specs.MatchLaws.{AreTermsOf, SortedUseFirst, InstancesAreSorted}
 use Rattle.rule_core.specs.declared.signature.Signature.{Signature}
 use Rattle.rule_core.specs.declared.signature.SortRef.{SortRef}

@@ -1,18 +1,17 @@
 -- One turn of a trial.
-use Rattle.std.proofs.Common.{◌≡◌, ℕ, zero, suc, ◌+◌, ◌<◌, ◌≤◌, List, [], ◌∷◌, map, length, get_or, slice_get, Option, option_map, Some, None, All, vec_len, refl, sym, ◌∙◌, ap, subst, arith, inl, inr, ◌⊎◌}
+use Rattle.std.proofs.Common.{◌≡◌, ℕ, zero, suc, ◌+◌, ◌<◌, ◌≤◌, List, [], ◌∷◌, length, get_or, slice_get, Option, option_map, Some, None, All, refl, sym, ◌∙◌, ap, subst, arith, inl, inr, ◌⊎◌}
 use Rattle.std.specs.Prelude.{MatchOption}
-use Rattle.std.proofs.lemmas.List.{length-map}
 use Rattle.std.proofs.lemmas.Option.{slice_get-map, slice_get_read, slice_get_within}
 use Rattle.term_core.specs.Terms.{Tree, no_tree, more_trees}
-use Rattle.term_core.specs.Patterns.{Pattern, no_pattern, more_patterns, ground_pattern}
+use Rattle.term_core.specs.Patterns.{no_pattern, more_patterns}
 use Rattle.rule_core.specs.Rules.{RewriteRule}
 use Rattle.rule_core.specs.Subsorts.{HasNoCycle}
-use Rattle.rule_core.specs.Sorting.{IsTermOf, HaveSorts}
+use Rattle.rule_core.specs.Sorting.{IsTermOf}
 use Rattle.rule_core.specs.WellSorted.{IsRuleOf}
 use Rattle.rule_core.specs.Matching.{NoneMatches, MatchAll}
 use Rattle.rule_core.specs.MatchSearch.{FindsMatch}
-use Rattle.rule_core.specs.Trial.{NoRuleMatches, IsFirstMatch, FindsFirstMatch}
-use Rattle.rule_core.specs.ProgramView.{sorts_of, rewrite_rule, rewrite_rules}
+use Rattle.rule_core.specs.Trial.{NoRuleMatches, FindsFirstMatch}
+use Rattle.rule_core.specs.ProgramView.{rewrite_rule, rewrite_rules}
 use Rattle.rule_core.specs.declared.rules.Rule.{Rule}
 use Rattle.rule_core.specs.declared.signature.Signature.{Signature}
 use Rattle.rule_core.specs.declared.signature.SortRef.TheVariants.{Sort}

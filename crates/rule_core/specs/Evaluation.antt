@@ -6,7 +6,7 @@ use Rattle.term_core.specs.Terms.{Tree, leaf, node, Forest, no_tree, more_trees,
 use Rattle.term_core.specs.Patterns.{Pattern, Patterns, variable, domain_value, application, injection, call, no_pattern, more_patterns, binding}
 use Rattle.rule_core.specs.Rules.{Equation}
 use Rattle.rule_core.specs.Theories.{RewriteTheory, equations_of}
-use Rattle.rule_core.specs.Matching.{MatchAll}
+use Rattle.rule_core.specs.Matching.{MatchAll, NoneMatches}
 use Rattle.rule_core.specs.Sorting.{IsSymbol, sort_at}
 use Rattle.rule_core.specs.HookCalls.{HookAnswers, HookFails}
 use Rattle.rule_core.specs.declared.signature.Signature.{Signature}
@@ -78,7 +78,7 @@ pub data Says : Evaluated → Tested → Type 0 where
 
 -- no substitution matches the equation's arguments with the terms
 abbrev pub IsUnmatchedBy : RewriteTheory → Equation → Forest → Type 0
-IsUnmatchedBy theory e ts = (theta : List (Option Tree)) → MatchAll theory.sig e.variables e.arguments ts theta → ⊥
+IsUnmatchedBy theory e ts = NoneMatches theory.sig e.variables e.arguments ts
 
 mutual
   -- with so much nesting and so many calls left, the pattern evaluates so under the substitution

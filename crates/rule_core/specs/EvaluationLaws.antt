@@ -8,7 +8,7 @@ use Rattle.rule_core.specs.Sorting.{HasSort, IsTermOf}
 use Rattle.rule_core.specs.Evaluation.{Evaluated, value, Evaluates, most_height}
 use Rattle.rule_core.specs.FirstRule.{most_nesting}
 use Rattle.rule_core.specs.Records.{Record, result_of, most_calls, Records}
-use Rattle.rule_core.specs.WellSorted.{IsWellSorted}
+use Rattle.rule_core.specs.WellSorted.{IsWellSorted, Serves}
 use Rattle.rule_core.specs.declared.signature.Signature.{Signature}
 
 -- Evaluation is a function: it has at most one answer.
@@ -16,13 +16,7 @@ abbrev pub EvaluationIsUnique : Type 0
 EvaluationIsUnique =
     (theory : RewriteTheory) (n c : ℕ) (theta : List (Option Tree)) (p : Pattern) (r s : Evaluated) → IsWellSorted theory → Evaluates theory n theta p c r → Evaluates theory n theta p c s → r ≡ s
 
--- the substitution gives each variable of the pattern, and maybe others, a normal term of its sort, which is not too high
-pub record Serves (sig : Signature) (variables : List ℕ) (theta : List (Option Tree)) (p : Pattern) : Type 0 where
-  pub bound : (x : ℕ) → StandsIn x p → IsSome (binding theta x)
-  pub sorted : RespectsSorts sig variables theta
-  pub low : (x : ℕ) (t : Tree) → binding theta x ≡ Some t → height t ≤ most_height
-
--- .. and at least one, for a well-sorted pattern
+-- .. and at least one, for a well-sorted pattern under a substitution that serves it
 abbrev pub EvaluationHasAnswer : Type 0
 EvaluationHasAnswer =
     (theory : RewriteTheory) (n c : ℕ) (variables : List ℕ) (theta : List (Option Tree)) (p : Pattern) (sort : ℕ) → IsWellSorted theory → HasSort theory.sig variables p sort →

@@ -5,7 +5,7 @@ use Rattle.term_core.specs.Terms.{Tree, no_tree, more_trees}
 use Rattle.term_core.specs.Patterns.{Pattern, no_pattern, more_patterns}
 use Rattle.rule_core.specs.Rules.{RewriteRule}
 use Rattle.rule_core.specs.Theories.{RewriteTheory}
-use Rattle.rule_core.specs.Matching.{MatchAll}
+use Rattle.rule_core.specs.Matching.{MatchAll, NoneMatches}
 use Rattle.rule_core.specs.Evaluation.{Cause, Evaluated, Tested, holds, fails, untested, Says, Evaluates}
 
 -- the nesting at which a condition or a right side of a rule is evaluated
@@ -17,7 +17,7 @@ abbrev pub Matches : RewriteTheory → RewriteRule → Tree → List (Option Tre
 Matches theory rule t theta = MatchAll theory.sig rule.variables (more_patterns rule.left no_pattern) (more_trees t no_tree) theta
 
 abbrev pub IsUnmatched : RewriteTheory → RewriteRule → Tree → Type 0
-IsUnmatched theory rule t = (theta : List (Option Tree)) → Matches theory rule t theta → ⊥
+IsUnmatched theory rule t = NoneMatches theory.sig rule.variables (more_patterns rule.left no_pattern) (more_trees t no_tree)
 
 -- the condition of a rule, where it has one
 pub data Meets (theory : RewriteTheory) (theta : List (Option Tree)) : Option Pattern → ℕ → Tested → Type 0 where

@@ -19,4 +19,6 @@ pub mod EvaluationLaws
 pub mod EvaluationCases
 pub mod RunLaws
 pub mod ProgramView
+pub mod RuleVariables
 pub mod Trial
+pub mod TrialLaws

@@ -2,7 +2,7 @@
 -- pattern becomes the term under it. The definition guesses the substitution; the code takes the term apart.
 use Rattle.std.specs.Prelude.{◌≡◌, ◌↔◌, ◌<◌, ℕ, List, length, slice_get, Option, Some, IsSome, ◌⊎◌}
 use Rattle.term_core.specs.Terms.{Tree, Forest, no_tree, more_trees, IsNormal}
-use Rattle.term_core.specs.Patterns.{Pattern, Patterns, variable, domain_value, application, injection, call, no_pattern, more_patterns, binding, instance_of, instances_of}
+use Rattle.term_core.specs.Patterns.{Pattern, Patterns, variable, domain_value, application, injection, call, no_pattern, more_patterns, binding, instances_of}
 use Rattle.rule_core.specs.Sorting.{IsTermOf}
 use Rattle.rule_core.specs.declared.signature.Signature.{Signature}
 

@@ -1,11 +1,13 @@
 -- Well-sorted theories: what a definition that is accepted gives, and what matching, evaluation and runs ask for.
-use Rattle.std.specs.Prelude.{◌≡◌, ℕ, ◌<◌, ◌^◌, List, [], ◌∷◌, length, slice_get, Option, Some, None, IfSome, All, ◌⊎◌, map}
-use Rattle.term_core.specs.Patterns.{Pattern, Patterns, variable, domain_value, application, injection, call, no_pattern, more_patterns}
+use Rattle.std.specs.Prelude.{◌≡◌, ℕ, ◌<◌, ◌≤◌, ◌^◌, List, [], ◌∷◌, length, slice_get, Option, Some, None, IsSome, IfSome, All, ◌⊎◌, map}
+use Rattle.term_core.specs.Terms.{Tree, height}
+use Rattle.term_core.specs.Patterns.{Pattern, Patterns, variable, domain_value, application, injection, call, no_pattern, more_patterns, binding}
 use Rattle.term_core.specs.HookValues.{Hook, Kind, integers, truths, hooks, argument_kinds, result_kind}
 use Rattle.rule_core.specs.Rules.{RewriteRule, Equation, ComesBefore}
 use Rattle.rule_core.specs.Theories.{RewriteTheory, equations_of}
 use Rattle.rule_core.specs.Subsorts.{IsBelow, HasNoCycle}
-use Rattle.rule_core.specs.Matching.{StandsIn, StandsInSome}
+use Rattle.rule_core.specs.Matching.{StandsIn, StandsInSome, RespectsSorts}
+use Rattle.rule_core.specs.Evaluation.{most_height}
 use Rattle.rule_core.specs.Sorting.{HasSort, HaveSorts, IsSymbol, sort_at}
 use Rattle.rule_core.specs.declared.signature.Signature.{Signature}
 use Rattle.rule_core.specs.declared.signature.SortInfo.{SortInfo}
@@ -124,6 +126,13 @@ pub record IsWellSorted (theory : RewriteTheory) : Type 0 where
   pub listed : length theory.equations ≡ length theory.sig.symbols
   pub equations : (f : ℕ) (info : SymInfo) → IsSymbol theory.sig f info → All (IsEquationOf theory.sig info) (equations_of theory f)
   pub equations_in_order : (f : ℕ) → AreInOrder (map (λ (e : Equation). (e.priority, e.place)) (equations_of theory f))
+
+-- the substitution gives each variable of the pattern, and maybe others, a normal term of its sort, which is not
+-- too high
+pub record Serves (sig : Signature) (variables : List ℕ) (theta : List (Option Tree)) (p : Pattern) : Type 0 where
+  pub bound : (x : ℕ) → StandsIn x p → IsSome (binding theta x)
+  pub sorted : RespectsSorts sig variables theta
+  pub low : (x : ℕ) (t : Tree) → binding theta x ≡ Some t → height t ≤ most_height
 
 -- the initial term of a run: it has a sort, and no variable
 abbrev pub IsStart : Signature → Pattern → Type 0

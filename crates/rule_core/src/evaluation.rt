@@ -1,6 +1,7 @@
-// Laws on evaluation and on its records, and the definitions tried on small theories.
+// Laws on evaluation, on its records and on runs, and the definitions tried on small theories.
 ghost use Rattle.rule_core.specs.EvaluationCases.{TriedEvaluations};
 ghost use Rattle.rule_core.specs.EvaluationLaws.{EvaluationHasAnswer, EvaluationIsUnique, MoreLeftKeepsValue, RecordDetermines, RecordTells, RecordsAgree, ValueHasRecord, ValuesAreSorted};
+ghost use Rattle.rule_core.specs.RunLaws.{ConfigurationsAreSorted, HasRun, RunIsUnique, StepIsUnique, StepRecordDetermines, TrialIsUnique};
 
 /// Evaluation in a well-sorted theory is a function: a pattern that has a sort has one answer under a substitution that
 /// gives its variables terms of their sorts, and a value is a normal term of the pattern's sort, of height at most 500.
@@ -24,4 +25,16 @@ pub fn record_laws()
 /// of an evaluation, by rules with conditions, through injections, and by a function with two equations.
 pub fn tried()
     ensures cases { TriedEvaluations }
+{}
+
+/// Rewriting in a well-sorted theory is a function too: a trial of the rules, a step and a run have one outcome, an
+/// initial term of the rules' sort has a run, and its configurations are normal terms of this sort, of height at most 500.
+/// The record of a step tells where the step leads.
+pub fn run_laws()
+    ensures trial { TrialIsUnique }
+    ensures step { StepIsUnique }
+    ensures one { RunIsUnique }
+    ensures some { HasRun }
+    ensures sorted { ConfigurationsAreSorted }
+    ensures kept { StepRecordDetermines }
 {}

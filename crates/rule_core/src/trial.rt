@@ -1,9 +1,7 @@
 // The plain trial of rules, one by one in their order.
-ghost use Rattle.std.specs.Prelude.{◌≡◌, ◌<◌, All, IfOk, vec_len};
-ghost use Rattle.term_core.specs.Patterns.{no_pattern, more_patterns};
-ghost use Rattle.term_core.specs.RulePatterns.{plain_pattern};
-ghost use Rattle.rule_core.specs.Matching.{UseFirst};
+ghost use Rattle.std.specs.Prelude.{◌≡◌, ◌<◌, All, IfOk};
 ghost use Rattle.rule_core.specs.ProgramView.{rewrite_rules};
+ghost use Rattle.rule_core.specs.RuleVariables.{MatchesByOwnVariables};
 ghost use Rattle.rule_core.specs.Trial.{FindsFirstMatch};
 
 use crate::matching::find_match;
@@ -24,7 +22,7 @@ pub fn first_match(
     from: usize,
     term: &Term,
 ) -> Result<Option<(usize, Subst)>, AllocError>
-    requires { All (λ (r : Rule). UseFirst (vec_len r.vars) (more_patterns (plain_pattern r.left) no_pattern)) rules.now }
+    requires { All MatchesByOwnVariables rules.now }
     ensures { IfOk result (FindsFirstMatch subsorts.now (rewrite_rules rules.now) from term.now) }
 {
     counted_match::<Brand>(alloc, rules, subsorts, from, term, Blank::new(1))
@@ -39,7 +37,7 @@ fn counted_match<L: Ledger>(
     term: &Term,
     blank: Blank,
 ) -> Result<Option<(usize, Subst)>, AllocError>
-    requires scoped { All (λ (r : Rule). UseFirst (vec_len r.vars) (more_patterns (plain_pattern r.left) no_pattern)) rules.now }
+    requires scoped { All MatchesByOwnVariables rules.now }
     requires name { blank.name ≡ L.name }
     requires parts { blank.parts ≡ L.parts }
     requires some { 0 < L.parts }

@@ -1,13 +1,13 @@
-use Rattle.std.proofs.Common.{rules, ◌≡◌, ◌≢◌, ◌+◌, ◌≤◌, ◌<◌, ℕ, Some, None, false, true, length, refl, sym, ◌∙◌, ap, subst, arith, eq-eqb}
+use Rattle.std.proofs.Common.{rules, ◌≡◌, ◌≢◌, ◌+◌, ◌≤◌, ◌<◌, ℕ, false, true, length, refl, sym, ◌∙◌, ap, subst, arith}
 use Rattle.std.specs.Prelude.{◌==◌}
-use Rattle.term_core.specs.Terms.{Tree, node, inj, forest, children}
+use Rattle.term_core.specs.Terms.{children}
 use Rattle.term_core.specs.Patterns.{Pattern, variable, application, injection}
 use Rattle.term_core.specs.RulePatterns.{plain_pattern}
 use Rattle.term_core.specs.PatternLists.{plain_patterns}
 use Rattle.term_core.proofs.PatternLaws.{depth, depths, depth_of-item}
 use Rattle.term_core.proofs.PlainPatterns.{plain-Var, plain-Ctor, plain-Inj}
 use Rattle.rule_core.specs.Matching.{StandsIn}
-use Rattle.rule_core.specs.MatchSteps.{is_below, matched}
+use Rattle.rule_core.specs.MatchSteps.{is_below}
 use Rattle.rule_core.proofs.Belows.{below_answer}
 use Rattle.rule_core.proofs.MatchAnswers.{stands_of-item, answer_none, answer_some, rest_goes_on, rest_fails, other_arguments, all_nodes-drop, child_is, child_is_low, child_is_other, lowered_found, lowered_none}
 use Rattle.rule_core.proofs.matching.+matching.Goals as goal

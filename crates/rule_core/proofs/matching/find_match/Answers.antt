@@ -1,4 +1,4 @@
-use Rattle.std.proofs.Common.{◌≡◌, List, Option, Some, None, replicate, sym, subst}
+use Rattle.std.proofs.Common.{◌≡◌, List, Option, Some, None, replicate, subst}
 use Rattle.term_core.specs.Terms.{Tree}
 use Rattle.term_core.specs.RulePatterns.{plain_pattern}
 use Rattle.rule_core.specs.MatchSteps.{matched}

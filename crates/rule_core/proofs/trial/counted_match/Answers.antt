@@ -1,4 +1,4 @@
-use Rattle.std.proofs.Common.{◌≡◌, ◌∙◌, ◌<◌, ◌≤◌, List, Option, Some, None, length, subst, rules, arith}
+use Rattle.std.proofs.Common.{◌≡◌, ◌<◌, List, Option, length, subst, rules, arith}
 use Rattle.std.proofs.lemmas.List.{length-map}
 use Rattle.term_core.specs.Terms.{Tree, no_tree, more_trees}
 use Rattle.term_core.specs.Patterns.{no_pattern, more_patterns}

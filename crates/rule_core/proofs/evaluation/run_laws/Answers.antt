@@ -1,0 +1,21 @@
+use Rattle.rule_core.proofs.RunUnique.{trial_is_unique, step_is_unique, run_is_unique}
+use Rattle.rule_core.proofs.RunAnswers.{has_run, configurations_are_sorted, step_record_determines}
+use Rattle.rule_core.proofs.evaluation.run_laws.Goals as goal
+
+pub returns-clause-trial : goal.returns-clause-trial
+returns-clause-trial a = trial_is_unique
+
+pub returns-clause-step : goal.returns-clause-step
+returns-clause-step a = step_is_unique
+
+pub returns-clause-one : goal.returns-clause-one
+returns-clause-one a = run_is_unique
+
+pub returns-clause-some : goal.returns-clause-some
+returns-clause-some a = has_run
+
+pub returns-clause-sorted : goal.returns-clause-sorted
+returns-clause-sorted a = λ theory calls sort n c start t good each h r. configurations_are_sorted theory good calls sort start each h r
+
+pub returns-clause-kept : goal.returns-clause-kept
+returns-clause-kept a = step_record_determines
