@@ -1,18 +1,17 @@
 -- Well-sorted patterns have an answer, and a value is a normal term of their sort that is not too high.
-use Rattle.std.proofs.Common.{◌≡◌, ℕ, suc, zero, ◌+◌, ◌<◌, ◌≤◌, ◌≢◌, ◌⊎◌, inl, inr, ⊎_elim, max, List, [], ◌∷◌, length, slice_get, Bool, true, false, Option, Some, None, refl, sym, ◌∙◌, ap, subst, arith}
+use Rattle.std.proofs.Common.{◌≡◌, ℕ, suc, zero, ◌<◌, ◌≤◌, ◌≢◌, ◌⊎◌, inl, inr, ⊎_elim, List, [], ◌∷◌, length, slice_get, true, false, Option, Some, None, refl, sym, ◌∙◌, ap, subst, arith}
 use Rattle.std.specs.Prelude.{All, IsSome, IfSome}
 use Rattle.std.proofs.Math.Nat.{eq-or-lt_of_le, le_trans}
 use Rattle.std.proofs.lemmas.Bool.{cases_lt, false≢true}
 use Rattle.term_core.specs.Terms.{DomainValue, integer, truth, text, Tree, leaf, node, inj, Forest, no_tree, more_trees, height, heights, IsNormal, AreNormal, injected}
 use Rattle.term_core.specs.Patterns.{Pattern, Patterns, variable, domain_value, application, injection, call, no_pattern, more_patterns, binding, instance_of, instances_of}
-use Rattle.term_core.specs.declared.ids.HookNo.{HookNo}
 use Rattle.term_core.proofs.Forests.{IsNormal-injected, height-injected_le}
 use Rattle.rule_core.specs.Rules.{Equation}
 use Rattle.rule_core.specs.Theories.{RewriteTheory, equations_of}
-use Rattle.rule_core.specs.Matching.{StandsIn, StandsInSome, RespectsSorts, Binds, MatchAll, NoneMatches}
+use Rattle.rule_core.specs.Matching.{StandsIn, StandsInSome, RespectsSorts, MatchAll, NoneMatches}
 use Rattle.rule_core.specs.MatchLaws.{AreTermsOf}
 use Rattle.rule_core.specs.Sorting.{HasSort, HaveSorts, IsTermOf, IsSymbol, IsFunction, HasInjection, HasValue, sort_at}
-use Rattle.rule_core.specs.Evaluation.{Cause, Evaluated, value, blocked, AllEvaluated, values, stopped, Tested, holds, fails, untested, no_value, closed, no_equation, no_call_left, too_high, too_nested, IsTrueValue, most_height, IsInjectionSymbol, HasHead, of_constructor, of_injection, of_call, built, Says, says_true, says_other, says_nothing, Evaluates, bound, itself, nested_out, argument_blocked, made, made_too_high, called, EvaluateAll, none_left, first_blocked, later_blocked, one_more, Applies, by_nothing, without_call, by_hook, hook_fails, by_equations, Equates, no_equation_left, unmatched, condition_fails, condition_blocked, used, Tests, no_condition, condition, EvaluatesIn, no_nesting, inside}
+use Rattle.rule_core.specs.Evaluation.{Evaluated, value, blocked, AllEvaluated, values, stopped, Tested, holds, fails, untested, no_value, closed, no_equation, no_call_left, too_high, too_nested, IsTrueValue, most_height, IsInjectionSymbol, HasHead, of_constructor, of_injection, of_call, built, Says, says_true, says_other, says_nothing, Evaluates, bound, itself, nested_out, argument_blocked, made, made_too_high, called, EvaluateAll, none_left, first_blocked, later_blocked, one_more, Applies, by_nothing, without_call, by_hook, hook_fails, by_equations, Equates, no_equation_left, unmatched, condition_fails, condition_blocked, used, Tests, no_condition, condition, EvaluatesIn, no_nesting, inside}
 use Rattle.rule_core.specs.HookCalls.{HookAnswers, HookFails}
 use Rattle.term_core.specs.declared.values.NoValue.{NoValue}
 use Rattle.rule_core.specs.WellSorted.{IsWellSorted, Serves, IsEquationOf, IsCondition, UsesOnly, FitsHook}

@@ -1,15 +1,15 @@
 -- The hooks of well-sorted theories have values at well-sorted terms, or a reason why not, and the values are in range.
-use Rattle.std.proofs.Common.{◌≡◌, ℕ, suc, zero, ◌+◌, ◌-◌, ◌*◌, ◌/◌, ◌%◌, ◌^◌, ◌<◌, ◌≤◌, ◌⊎◌, inl, inr, ⊎_elim, ℤ, pos, negsuc, Bool, true, false, cond, leb, leb→le, le→leb, List, [], ◌∷◌, Option, Some, None, refl, sym, ◌∙◌, ap, subst, slice_get, arith}
-use Rattle.std.specs.Prelude.{bit_and, bit_or, bit_xor, int_rem, int_div, ◌-ℤ◌, ◌+ℤ◌, ◌*ℤ◌, int_le, int_lt, ◌&&◌, Result, Ok, Err, unsigned_abs, if◌then◌else◌}
+use Rattle.std.proofs.Common.{◌≡◌, ℕ, suc, zero, ◌-◌, ◌/◌, ◌%◌, ◌^◌, ◌<◌, ◌≤◌, ◌⊎◌, inl, inr, ⊎_elim, ℤ, pos, negsuc, Bool, true, false, cond, leb, leb→le, le→leb, List, [], ◌∷◌, Some, None, refl, sym, ◌∙◌, ap, subst, slice_get, arith}
+use Rattle.std.specs.Prelude.{bit_and, int_rem, int_div, ◌-ℤ◌, ◌+ℤ◌, ◌*ℤ◌, int_le, int_lt, ◌&&◌, Result, Ok, Err, unsigned_abs, if◌then◌else◌}
 use Rattle.std.specs.Int.{int_min, int_max, int_div_euclid, int_rem_euclid}
 use Rattle.std.specs.Int.Signed.{mag, mag_rem}
 use Rattle.std.specs.Ordering.{int_eq}
 use Rattle.std.proofs.Math.Nat.{div-le_self, mod-le}
 use Rattle.std.proofs.lemmas.Bool.{false≢true}
 use Rattle.std.proofs.lemmas.Bool.Decides.{leb_tells}
-use Rattle.std.proofs.lemmas.Nat.{and_le_l, and_le_r, or_lt, xor_lt}
+use Rattle.std.proofs.lemmas.Nat.{and_le_l, or_lt, xor_lt}
 use Rattle.term_core.specs.Terms.{Tree, leaf, node, inj, Forest, no_tree, more_trees, DomainValue, integer, truth, text}
-use Rattle.term_core.specs.HookValues.{in_range, unless_zero, unless_negative, complement, bits_without, bitwise_and, bitwise_or, bitwise_xor, Operation, on_integer, on_integers, compares, on_truth, on_truths, Hook, hooks, Kind, integers, truths, argument_kinds, result_kind, operation_value, outcome, value_by, hook_value}
+use Rattle.term_core.specs.HookValues.{in_range, complement, bitwise_and, bitwise_or, bitwise_xor, Operation, on_integer, on_integers, compares, on_truth, on_truths, Hook, hooks, Kind, integers, truths, argument_kinds, result_kind, operation_value, outcome, value_by, hook_value}
 use Rattle.term_core.specs.declared.values.NoValue.{NoValue}
 use Rattle.term_core.specs.declared.values.NoValue.TheVariants.{ZeroDivisor, NegativeShift, Range}
 use Rattle.rule_core.specs.Subsorts.{IsBelow}

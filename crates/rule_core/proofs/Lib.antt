@@ -21,5 +21,7 @@ pub mod MatchAnswers
 pub mod Searches
 pub mod Trials
 pub mod RunUnique
+pub mod FirstApplies
+pub mod StepsKept
 pub mod RunAnswers
 pub mod Skips

@@ -1,15 +1,15 @@
 -- A record of a pattern tells an evaluation of it, with some nesting and some calls left.
-use Rattle.std.proofs.Common.{◌≡◌, ℕ, suc, zero, ◌+◌, ◌<◌, ◌≤◌, ◌⊎◌, ⊎_elim, List, [], ◌∷◌, Option, Some, None, refl, sym, ◌∙◌, ap, subst, slice_get, arith}
-use Rattle.term_core.specs.Terms.{Tree, leaf, Forest, no_tree, more_trees}
-use Rattle.term_core.specs.Patterns.{Pattern, Patterns, call, no_pattern, more_patterns}
+use Rattle.std.proofs.Common.{◌≡◌, ℕ, suc, zero, ◌+◌, ◌<◌, ◌≤◌, ⊎_elim, List, [], ◌∷◌, Option, Some, refl, subst, slice_get, arith}
+use Rattle.term_core.specs.Terms.{Tree, leaf, Forest, more_trees}
+use Rattle.term_core.specs.Patterns.{Pattern, Patterns, call, more_patterns}
 use Rattle.rule_core.specs.Rules.{Equation}
 use Rattle.rule_core.specs.Theories.{RewriteTheory, equations_of}
 use Rattle.rule_core.specs.Matching.{MatchAll}
-use Rattle.rule_core.specs.Evaluation.{Evaluated, value, AllEvaluated, values, Tested, holds, fails, says_true, Evaluates, bound, itself, made, called, EvaluateAll, none_left, one_more, Applies, by_hook, by_equations, Equates, unmatched, condition_fails, used, Tests, no_condition, condition, EvaluatesIn, inside}
+use Rattle.rule_core.specs.Evaluation.{value, values, holds, fails, says_true, Evaluates, bound, itself, made, called, EvaluateAll, none_left, one_more, Applies, by_hook, by_equations, Equates, unmatched, condition_fails, used, Tests, no_condition, condition, EvaluatesIn, inside}
 use Rattle.rule_core.specs.FirstRule.{most_nesting}
 use Rattle.rule_core.specs.Records.{Record, RecordList, no_record, more_records, OptionalRecord, unconditional, conditional, result_of, results_of, most_calls, IsUnused, Records, RecordAll, RecordsCondition}
 use Rattle.rule_core.specs.Records as kept
-use Rattle.rule_core.proofs.MoreLeft.{evaluates_more, all_more, equates_more, tests_more, within_more}
+use Rattle.rule_core.proofs.MoreLeft.{evaluates_more, all_more, equates_more, tests_more}
 
 -- with some nesting and some calls, this is the value
 abbrev pub Somehow : (ℕ → ℕ → ℕ → Type 0) → Type 0

@@ -1,16 +1,14 @@
 -- A step and a run have one outcome, in well-sorted theories.
-use Rattle.std.proofs.Common.{◌≡◌, ℕ, suc, zero, ◌+◌, ◌<◌, ◌≤◌, ◌⊎◌, inl, inr, ⊎_elim, List, [], ◌∷◌, Option, Some, None, refl, sym, ◌∙◌, ap, subst, slice_get, arith}
+use Rattle.std.proofs.Common.{◌≡◌, ℕ, suc, zero, ◌+◌, ◌<◌, ◌≤◌, ⊎_elim, List, [], ◌∷◌, Option, refl, sym, ap, subst, arith}
 use Rattle.std.specs.Prelude.{All}
 use Rattle.std.proofs.Math.Nat.{eq-or-lt_of_le}
-use Rattle.std.proofs.lemmas.Bool.{cases_lt}
-use Rattle.term_core.specs.Terms.{Tree, Forest, no_tree, more_trees}
-use Rattle.term_core.specs.Patterns.{Pattern, Patterns, no_pattern, more_patterns}
-use Rattle.term_core.specs.declared.ids.SortId.{SortId}
+use Rattle.term_core.specs.Terms.{Tree, no_tree, more_trees}
+use Rattle.term_core.specs.Patterns.{Pattern}
 use Rattle.rule_core.specs.Rules.{RewriteRule}
 use Rattle.rule_core.specs.Theories.{RewriteTheory}
-use Rattle.rule_core.specs.Evaluation.{Cause, Evaluated, value, blocked, Tested, holds, fails, untested, Says, Evaluates}
+use Rattle.rule_core.specs.Evaluation.{Cause, value, blocked, Tested, holds, fails, untested, Says, Evaluates}
 use Rattle.rule_core.specs.FirstRule.{most_nesting, Matches, IsUnmatched, Meets, no_condition, condition, Trial, applies, none_applies, trial_blocked, Tries, no_rule_left, unmatched, condition_fails, condition_blocked, condition_holds}
-use Rattle.rule_core.specs.Runs.{Stepped, next, stays, stops, Steps, by_rule, by_none, in_condition, in_right_side, Reaches, at_start, after_step, Run, stuck, limited, stopped, unstarted, IsRunOf}
+use Rattle.rule_core.specs.Runs.{Stepped, next, stays, stops, Steps, by_rule, by_none, in_condition, in_right_side, Reaches, at_start, after_step, stuck, limited, stopped, unstarted, IsRunOf}
 use Rattle.rule_core.specs.RunLaws.{TrialIsUnique, StepIsUnique, RunIsUnique}
 use Rattle.rule_core.specs.WellSorted.{IsWellSorted, IsRuleOf}
 use Rattle.rule_core.specs.declared.signature.SortRef.TheVariants.{Sort}

@@ -1,16 +1,14 @@
 -- The cases of evaluation on whole numbers.
-use Rattle.std.proofs.Common.{◌≡◌, ℕ, suc, zero, ◌+◌, ◌<◌, ◌≤◌, ℤ, pos, negsuc, List, [], ◌∷◌, Option, Some, None, refl, sym, ◌∙◌, ap, subst, arith}
+use Rattle.std.proofs.Common.{◌≡◌, ℕ, suc, ℤ, pos, negsuc, List, [], ◌∷◌, Option, Some, refl, sym, ◌∙◌, ap, arith}
 use Rattle.std.specs.Prelude.{Ok, Err}
-use Rattle.term_core.specs.Terms.{DomainValue, integer, text, truth, Tree, leaf, node, inj, Forest, no_tree, more_trees, height}
-use Rattle.term_core.specs.Patterns.{Pattern, Patterns, variable, domain_value, application, call, no_pattern, more_patterns}
+use Rattle.term_core.specs.Terms.{DomainValue, integer, Tree, leaf, more_trees}
 use Rattle.term_core.specs.HookValues.{hook_value}
 use Rattle.term_core.specs.declared.values.NoValue.{NoValue}
 use Rattle.term_core.specs.declared.values.NoValue.TheVariants.{ZeroDivisor, Range}
 use Rattle.rule_core.specs.Theories.{RewriteTheory}
-use Rattle.rule_core.specs.Sorting.{IsSymbol, sort_at}
-use Rattle.rule_core.specs.HookCalls.{HookAnswers, HookFails}
-use Rattle.rule_core.specs.Evaluation.{Cause, Evaluated, value, blocked, no_value, closed, no_call_left, AllEvaluated, values, stopped, HasHead, of_constructor, of_call, most_height, Evaluates, itself, argument_blocked, made, called, EvaluateAll, none_left, first_blocked, one_more, Applies, by_nothing, without_call, by_hook, hook_fails}
-use Rattle.rule_core.specs.EvaluationCases.{Declares, DeclaresIntegers, TriedIntegers, binary, two, number, tree_number, one, one_tree, n, tree_n, hook, named, without_rules, greatest, least}
+use Rattle.rule_core.specs.Sorting.{sort_at}
+use Rattle.rule_core.specs.Evaluation.{value, blocked, no_value, values, of_constructor, of_call, Evaluates, itself, argument_blocked, made, called, EvaluateAll, none_left, first_blocked, one_more, Applies, by_nothing, without_call, by_hook, hook_fails}
+use Rattle.rule_core.specs.EvaluationCases.{Declares, DeclaresIntegers, TriedIntegers, binary, two, number, tree_number, one_tree, n, tree_n, hook, greatest, least}
 use Rattle.rule_core.specs.declared.signature.Signature.{Signature}
 use Rattle.rule_core.specs.declared.signature.SymKind.{SymKind}
 use Rattle.rule_core.specs.declared.signature.SymKind.TheVariants.{Hooked, Closed}

@@ -1,17 +1,15 @@
 -- The cases of a function with two equations, which appends lists.
-use Rattle.std.proofs.Common.{◌≡◌, ℕ, suc, zero, ◌+◌, ◌<◌, ◌≤◌, ◌⊎◌, inl, inr, ⊎_elim, List, [], ◌∷◌, length, slice_get, map, Bool, true, false, Option, Some, None, refl, sym, ◌∙◌, ap, subst, arith}
+use Rattle.std.proofs.Common.{◌≡◌, ℕ, suc, zero, ◌<◌, ◌⊎◌, inl, inr, ⊎_elim, List, [], ◌∷◌, slice_get, map, true, false, Option, Some, None, refl, sym, subst, arith}
 use Rattle.std.specs.Prelude.{IsSome}
 use Rattle.std.proofs.lemmas.Bool.{false≢true}
-use Rattle.term_core.specs.Terms.{Tree, leaf, node, inj, Forest, no_tree, more_trees, height, IsNormal}
-use Rattle.term_core.specs.Patterns.{Pattern, Patterns, variable, domain_value, application, call, no_pattern, more_patterns, binding, instance_of, instances_of, ground_patterns}
-use Rattle.rule_core.specs.Rules.{Equation}
+use Rattle.term_core.specs.Terms.{Tree, node, Forest, no_tree, more_trees, IsNormal}
+use Rattle.term_core.specs.Patterns.{variable, application, no_pattern, binding, instances_of, ground_patterns}
 use Rattle.rule_core.specs.Theories.{RewriteTheory}
 use Rattle.rule_core.specs.Matching.{MatchAll, StandsInSome}
-use Rattle.rule_core.specs.Sorting.{HaveSorts, IsTermOf, sort_at}
-use Rattle.rule_core.specs.Evaluation.{Cause, Evaluated, value, blocked, no_call_left, AllEvaluated, values, of_constructor, IsUnmatchedBy, Evaluates, bound, argument_blocked, made, called, EvaluateAll, none_left, first_blocked, later_blocked, one_more, Applies, without_call, by_equations, Equates, unmatched, used, no_condition, EvaluatesIn, inside}
-use Rattle.rule_core.specs.EvaluationCases.{Declares, DeclaresLists, TriedLists, appending, append_empty, two, one, one_tree, one_item, one_item_tree, empty_list, named}
+use Rattle.rule_core.specs.Sorting.{HaveSorts, IsTermOf}
+use Rattle.rule_core.specs.Evaluation.{value, of_constructor, IsUnmatchedBy, Evaluates, bound, argument_blocked, made, called, none_left, first_blocked, later_blocked, one_more, without_call, by_equations, unmatched, used, no_condition, inside}
+use Rattle.rule_core.specs.EvaluationCases.{Declares, DeclaresLists, TriedLists, appending, append_empty, two, one, one_tree, one_item, one_item_tree, named}
 use Rattle.rule_core.specs.declared.signature.Signature.{Signature}
-use Rattle.rule_core.specs.declared.signature.SortRef.{SortRef}
 use Rattle.rule_core.specs.declared.signature.SymKind.TheVariants.{Ctor}
 use Rattle.rule_core.proofs.SortedInstances.{both_there}
 use Rattle.rule_core.proofs.TriedIntegers.{declared_result}

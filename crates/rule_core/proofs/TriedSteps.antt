@@ -1,21 +1,19 @@
 -- The cases of steps by rules with conditions, and of injections.
-use Rattle.std.proofs.Common.{◌≡◌, ℕ, suc, zero, ◌+◌, ◌<◌, ◌≤◌, ◌⊎◌, inl, inr, ⊎_elim, ℤ, pos, negsuc, List, [], ◌∷◌, length, slice_get, Bool, true, false, Option, Some, None, refl, sym, ◌∙◌, ap, subst, arith}
-use Rattle.std.specs.Prelude.{IsSome, Ok, Err, ◌^◌}
+use Rattle.std.proofs.Common.{◌≡◌, ℕ, suc, zero, ◌<◌, ◌⊎◌, inl, ⊎_elim, ℤ, pos, List, [], ◌∷◌, slice_get, true, false, Option, Some, None, refl, sym, subst, arith}
+use Rattle.std.specs.Prelude.{IsSome, Ok, ◌^◌}
 use Rattle.std.proofs.lemmas.Bool.{false≢true}
-use Rattle.term_core.specs.Terms.{DomainValue, integer, truth, Tree, leaf, node, inj, Forest, no_tree, more_trees, height, IsNormal}
-use Rattle.term_core.specs.Patterns.{Pattern, Patterns, variable, domain_value, application, injection, call, no_pattern, more_patterns, binding, instances_of}
+use Rattle.term_core.specs.Terms.{DomainValue, integer, truth, Tree, leaf, node, inj, Forest, no_tree, more_trees, IsNormal}
+use Rattle.term_core.specs.Patterns.{Pattern, Patterns, variable, application, injection, no_pattern, more_patterns, binding, instances_of}
 use Rattle.term_core.specs.HookValues.{hook_value}
 use Rattle.term_core.specs.declared.values.NoValue.TheVariants.{ZeroDivisor}
 use Rattle.rule_core.specs.Theories.{RewriteTheory}
 use Rattle.rule_core.specs.Matching.{MatchAll, StandsInSome}
-use Rattle.rule_core.specs.Sorting.{HasValue, HasInjection, IsTermOf, IsInRange, IsValueOf}
-use Rattle.rule_core.specs.Evaluation.{Cause, Evaluated, value, blocked, no_value, no_call_left, holds, fails, untested, says_true, says_other, says_nothing, IsTrueValue, AllEvaluated, values, of_constructor, of_injection, of_call, Evaluates, bound, itself, argument_blocked, made, called, EvaluateAll, none_left, first_blocked, one_more, Applies, without_call}
-use Rattle.rule_core.specs.FirstRule.{Meets, no_condition, condition, Tries, no_rule_left, condition_fails, condition_blocked, condition_holds}
-use Rattle.rule_core.specs.Runs.{Steps, by_rule, by_none, in_condition}
-use Rattle.rule_core.specs.EvaluationCases.{Declares, DeclaresIntegers, DeclaresInjections, TriedConditions, TriedInjections, IsOfIntegers, tree_number, number, two, one, one_tree, hook, when, greater, by_size, by_quotient, on, moves}
+use Rattle.rule_core.specs.Sorting.{HasInjection, IsTermOf, IsValueOf}
+use Rattle.rule_core.specs.Evaluation.{value, says_true, says_other, says_nothing, IsTrueValue, of_constructor, of_injection, of_call, Evaluates, bound, itself, argument_blocked, made, called, none_left, first_blocked, one_more, without_call}
+use Rattle.rule_core.specs.FirstRule.{no_condition, condition, no_rule_left, condition_fails, condition_blocked, condition_holds}
+use Rattle.rule_core.specs.Runs.{by_rule, by_none, in_condition}
+use Rattle.rule_core.specs.EvaluationCases.{Declares, DeclaresIntegers, DeclaresInjections, TriedConditions, TriedInjections, IsOfIntegers, tree_number, one, one_tree, hook, greater, on}
 use Rattle.rule_core.specs.declared.signature.Signature.{Signature}
-use Rattle.rule_core.specs.declared.signature.SortInfo.{SortInfo}
-use Rattle.rule_core.specs.declared.signature.SortKind.TheVariants as kind
 use Rattle.rule_core.proofs.HookRanges.{short_range}
 use Rattle.rule_core.proofs.TriedIntegers.{hook_gives, hook_has_none, hooked_not_closed}
 

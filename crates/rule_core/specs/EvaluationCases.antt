@@ -1,13 +1,13 @@
 -- Small theories, with what the definitions say of evaluations and steps there. A theory is told by what its signature declares:
 -- each case is one of every signature that declares that.
-use Rattle.std.specs.Prelude.{◌≡◌, ◌+◌, ◌-◌, ◌^◌, ℕ, suc, ℤ, pos, negsuc, List, [], ◌∷◌, slice_get, Option, Some, None, map}
-use Rattle.term_core.specs.Terms.{DomainValue, integer, text, Tree, leaf, node, inj, Forest, no_tree, more_trees, height}
+use Rattle.std.specs.Prelude.{◌≡◌, ◌-◌, ◌^◌, ℕ, ℤ, pos, negsuc, List, [], ◌∷◌, slice_get, Some, None, map}
+use Rattle.term_core.specs.Terms.{integer, text, Tree, leaf, node, inj, Forest, no_tree, more_trees, height}
 use Rattle.term_core.specs.Patterns.{Pattern, Patterns, variable, domain_value, application, injection, call, no_pattern, more_patterns}
 use Rattle.term_core.specs.declared.values.NoValue.TheVariants.{ZeroDivisor, Range}
 use Rattle.rule_core.specs.Rules.{RewriteRule, Equation}
 use Rattle.rule_core.specs.Theories.{RewriteTheory}
 use Rattle.rule_core.specs.Subsorts.{IsBelow}
-use Rattle.rule_core.specs.Sorting.{IsSymbol, HasInjection, sort_at}
+use Rattle.rule_core.specs.Sorting.{IsSymbol}
 use Rattle.rule_core.specs.Evaluation.{Evaluated, value, blocked, no_value, closed, no_equation, no_call_left, too_high, too_nested, IsInjectionSymbol, Evaluates}
 use Rattle.rule_core.specs.FirstRule.{most_nesting}
 use Rattle.rule_core.specs.Runs.{next, stops, stays, Steps}
@@ -18,7 +18,7 @@ use Rattle.rule_core.specs.declared.signature.SortRef.{SortRef}
 use Rattle.rule_core.specs.declared.signature.SortRef.TheVariants.{Sort}
 use Rattle.rule_core.specs.declared.signature.SymInfo.{SymInfo}
 use Rattle.rule_core.specs.declared.signature.SymKind.{SymKind}
-use Rattle.rule_core.specs.declared.signature.SymKind.TheVariants.{Injection, Ctor, Equations, Hooked, Closed}
+use Rattle.rule_core.specs.declared.signature.SymKind.TheVariants.{Ctor, Equations, Hooked, Closed}
 
 -- ---- declarations, and patterns over them
 
