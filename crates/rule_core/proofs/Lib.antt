@@ -1,3 +1,4 @@
+pub mod SortSets
 pub mod Tables
 pub mod Belows
 pub mod Bindings
