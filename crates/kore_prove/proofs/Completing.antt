@@ -6,9 +6,9 @@ use Rattle.desk_io.specs.Counts.{Rose}
 use Rattle.term_core.specs.Patterns.{Pattern}
 use Rattle.kore_text.specs.Trees.{AxiomDeclaration, DefinitionTree, Declaration, PatternTree}
 use Rattle.kore_ast.specs.KoreText.{ReadsDefinition, ReadsPattern}
-use Rattle.rule_core.specs.Rules.{RewriteRule}
-use Rattle.rule_core.specs.declared.rules.Program.{Program}
-use Rattle.rule_core.specs.declared.signature.Signature.{Signature}
+use Rattle.ground_rules.specs.Rules.{RewriteRule}
+use Rattle.ground_rules.specs.declared.rules.Program.{Program}
+use Rattle.ground_rules.specs.declared.signature.Signature.{Signature}
 use Rattle.kore_prove.specs.Acceptance.{Each, IsRuleOf, IsAccepted, IsStartSort, IsAcceptedTerm, axiom_declared, sort_number}
 use Rattle.kore_prove.specs.Runnable.{AcceptsTree}
 use Rattle.kore_prove.specs.Words.{proof_words, IsRunCommand, IsVerifyCommand, IsNoCommand}

@@ -6,14 +6,14 @@ use Rattle.kore_text.specs.Trees.{SortTree, sort_applied, no_sorts, sort_trees, 
 use Rattle.kore_text.specs.declared.names.Op.TheVariants.{And, Rewrites}
 use Rattle.term_core.specs.declared.ids.SortId.{SortId}
 use Rattle.term_core.specs.Patterns.{Pattern, Patterns}
-use Rattle.rule_core.specs.Rules.{RewriteRule}
-use Rattle.rule_core.specs.Named.{number_of}
-use Rattle.rule_core.specs.declared.signature.Signature.{Signature}
-use Rattle.rule_core.specs.declared.signature.SortInfo.{SortInfo}
-use Rattle.rule_core.specs.declared.signature.SymInfo.{SymInfo}
-use Rattle.rule_core.specs.declared.signature.SortRef.{SortRef}
-use Rattle.rule_core.specs.declared.signature.SortRef.TheVariants.{Sort}
-use Rattle.rule_core.specs.declared.signature.SortKind.{SortKind}
+use Rattle.ground_rules.specs.Rules.{RewriteRule}
+use Rattle.ground_rules.specs.Named.{number_of}
+use Rattle.ground_rules.specs.declared.signature.Signature.{Signature}
+use Rattle.ground_rules.specs.declared.signature.SortInfo.{SortInfo}
+use Rattle.ground_rules.specs.declared.signature.SymInfo.{SymInfo}
+use Rattle.ground_rules.specs.declared.signature.SortRef.{SortRef}
+use Rattle.ground_rules.specs.declared.signature.SortRef.TheVariants.{Sort}
+use Rattle.ground_rules.specs.declared.signature.SortKind.{SortKind}
 use Rattle.kore_prove.specs.Acceptance.{Each, NamesSort, NamesSortOf, Denotes, AllDenote, IsSortEntry, IsSymbolEntry, IsSide, IsSideOf, IsRewriting, IsRuleOf, HasDeclarations}
 
 pub one_sort : (sorts : List (List ℕ × SortInfo)) (tree : SortTree) (s r : ℕ) → NamesSort sorts tree s → NamesSort sorts tree r → s ≡ r

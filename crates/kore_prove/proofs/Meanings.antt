@@ -14,12 +14,12 @@ use Rattle.term_core.specs.PatternLists.{plain_patterns as rule_patterns}
 use Rattle.term_core.specs.declared.ids.SortId.{SortId}
 use Rattle.term_core.specs.declared.rule_patterns.RulePat.{RulePat}
 use Rattle.term_core.specs.Terms.{Tree, node, Forest, no_tree, more_trees, height, heights}
-use Rattle.rule_core.specs.declared.signature.Signature.{Signature}
-use Rattle.rule_core.specs.declared.signature.SymInfo.{SymInfo}
-use Rattle.rule_core.specs.declared.signature.SortRef.{SortRef}
-use Rattle.rule_core.specs.declared.signature.SortRef.TheVariants as sort_ref
-use Rattle.rule_core.specs.Named.{number_of}
-use Rattle.rule_core.proofs.Tables.{number_of-entry}
+use Rattle.ground_rules.specs.declared.signature.Signature.{Signature}
+use Rattle.ground_rules.specs.declared.signature.SymInfo.{SymInfo}
+use Rattle.ground_rules.specs.declared.signature.SortRef.{SortRef}
+use Rattle.ground_rules.specs.declared.signature.SortRef.TheVariants as sort_ref
+use Rattle.ground_rules.specs.Named.{number_of}
+use Rattle.ground_rules.proofs.Tables.{number_of-entry}
 use Rattle.kore_prove.specs.Lines.{name_of, applied, in_front, kore_pattern, kore_patterns}
 use Rattle.kore_prove.specs.Acceptance.{Denotes, AllDenote}
 use Rattle.kore_prove.specs.Nesting.{nesting, nestings}

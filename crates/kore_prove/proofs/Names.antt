@@ -7,8 +7,8 @@ use Rattle.kore_lex.specs.Tokens.{IsName}
 use Rattle.kore_text.specs.Trees.{SortDeclaration, SymbolDeclaration, Declaration, import_declaration, sort_declaration, symbol_declaration, alias_declaration, axiom_declaration, claim_declaration, ModuleTree, DefinitionTree}
 use Rattle.kore_text.specs.Identifiers.{IsNamedDeclaration, IsNamedModule, NamesAreIdentifiers}
 use Rattle.kore_ast.specs.KoreText.{ReadsDefinition}
-use Rattle.rule_core.specs.Named.{names_of}
-use Rattle.rule_core.specs.declared.rules.Program.{Program}
+use Rattle.ground_rules.specs.Named.{names_of}
+use Rattle.ground_rules.specs.declared.rules.Program.{Program}
 use Rattle.kore_prove.specs.declared.accept.Refusal.{Refusal}
 use Rattle.kore_prove.specs.Acceptance.{Each, IsSortEntry, IsSymbolEntry, sort_declared, symbol_declared, HasDeclarations}
 use Rattle.kore_prove.specs.Runnable.{AcceptsTree}

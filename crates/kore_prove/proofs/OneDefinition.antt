@@ -2,9 +2,9 @@
 use Rattle.std.proofs.Common.{◌≡◌, ◌<◌, ◌^◌, ◌⊎◌, ℕ, List, [], ◌∷◌, Option, length, subst, arith, inl, inr}
 use Rattle.std.specs.List.{filter_map}
 use Rattle.kore_text.specs.Trees.{Declaration, AxiomDeclaration, DefinitionTree}
-use Rattle.rule_core.specs.Rules.{RewriteRule}
-use Rattle.rule_core.specs.declared.signature.Signature.{Signature}
-use Rattle.rule_core.specs.declared.signature.SortInfo.{SortInfo}
+use Rattle.ground_rules.specs.Rules.{RewriteRule}
+use Rattle.ground_rules.specs.declared.signature.Signature.{Signature}
+use Rattle.ground_rules.specs.declared.signature.SortInfo.{SortInfo}
 use Rattle.kore_prove.specs.Acceptance.{Each, IsSortEntry, IsSymbolEntry, IsRuleOf, sort_declared, symbol_declared, axiom_declared, HasDeclarations, IsAccepted}
 use Rattle.kore_prove.proofs.Determined.{Each-same, Each-both, Each-weaker, Each-length, filter_map-few, one_main, one_sort_entry, one_symbol, SameSymbol, SameSignature, same_rule}
 

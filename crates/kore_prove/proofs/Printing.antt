@@ -5,11 +5,11 @@ use Rattle.desk_io.specs.Told.{Told, KeepsFiles}
 use Rattle.desk_io.specs.Sent.{Appends}
 use Rattle.term_core.specs.Terms.{Tree}
 use Rattle.term_core.specs.Patterns.{Pattern}
-use Rattle.rule_core.specs.declared.rules.Outcome.{Outcome}
-use Rattle.rule_core.specs.declared.rules.Outcome.TheVariants.{Stuck, Limit}
-use Rattle.rule_core.specs.declared.rules.Program.{Program}
-use Rattle.rule_core.specs.ProgramView.{rewrite_rules}
-use Rattle.rule_core.proofs.Reordered.{IsRunOf-reordered}
+use Rattle.ground_rules.specs.declared.rules.Outcome.{Outcome}
+use Rattle.ground_rules.specs.declared.rules.Outcome.TheVariants.{Stuck, Limit}
+use Rattle.ground_rules.specs.declared.rules.Program.{Program}
+use Rattle.ground_rules.specs.ProgramView.{rewrite_rules}
+use Rattle.ground_rules.proofs.Reordered.{IsRunOf-reordered}
 use Rattle.kore_prove.specs.Words.{IsRunCommand}
 use Rattle.kore_prove.specs.Outcomes.{run_of, HasLines, PrintsRunOf}
 use Rattle.kore_prove.specs.Lines.{last_of, ReadsBack}

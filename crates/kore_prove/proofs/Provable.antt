@@ -5,9 +5,9 @@ use Rattle.term_core.specs.Terms.{DomainValue, Tree, leaf, node, inj, Forest, no
 use Rattle.term_core.specs.Patterns.{Pattern, Patterns, variable, domain_value, application, injection, call, no_pattern, more_patterns, with_first, instance_of, instances_of, ground_pattern, ground_patterns}
 use Rattle.term_core.specs.RulePatterns.{plain_pattern}
 use Rattle.term_core.proofs.PatternLaws.{with_first_some, node_some}
-use Rattle.rule_core.specs.declared.signature.Signature.{Signature}
-use Rattle.rule_core.specs.declared.rules.Rule.{Rule}
-use Rattle.rule_core.specs.declared.rules.Program.{Program}
+use Rattle.ground_rules.specs.declared.signature.Signature.{Signature}
+use Rattle.ground_rules.specs.declared.rules.Rule.{Rule}
+use Rattle.ground_rules.specs.declared.rules.Program.{Program}
 use Rattle.ml_image.specs.Images.{HasImage, HaveImages, HasImageAt}
 use Rattle.mm_justify.specs.NoVariables.{HasNoVariable, HaveNoVariable}
 use Rattle.term_core.specs.declared.rule_patterns.RulePat.{RulePat}

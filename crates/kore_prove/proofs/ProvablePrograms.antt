@@ -11,13 +11,13 @@ use Rattle.mm_claims.specs.Statements.{is_name_byte}
 use Rattle.kore_text.specs.Trees.{PatternTree, PatternTrees, element_variable, set_variable, string, symbol_applied, connected, binding, domain_value, folded, no_patterns, pattern_then, AxiomDeclaration}
 use Rattle.term_core.specs.Patterns.{Pattern, Patterns}
 use Rattle.ml_image.specs.Tokens.{name_at}
-use Rattle.rule_core.specs.Named.{names_of}
-use Rattle.rule_core.specs.ProgramView.{rewrite_rule, rewrite_rules}
-use Rattle.rule_core.specs.Rules.{RewriteRule}
-use Rattle.rule_core.specs.declared.rules.Program.{Program}
-use Rattle.rule_core.specs.declared.rules.Rule.{Rule}
-use Rattle.rule_core.specs.declared.signature.Signature.{Signature}
-use Rattle.rule_core.specs.declared.signature.SortRef.{SortRef}
+use Rattle.ground_rules.specs.Named.{names_of}
+use Rattle.ground_rules.specs.ProgramView.{rewrite_rule, rewrite_rules}
+use Rattle.ground_rules.specs.Rules.{RewriteRule}
+use Rattle.ground_rules.specs.declared.rules.Program.{Program}
+use Rattle.ground_rules.specs.declared.rules.Rule.{Rule}
+use Rattle.ground_rules.specs.declared.signature.Signature.{Signature}
+use Rattle.ground_rules.specs.declared.signature.SortRef.{SortRef}
 use Rattle.prove_run.specs.PlainNames.{HasPlainNames}
 use Rattle.kore_prove.specs.Acceptance.{Each, Denotes, AllDenote, IsRuleOf, axiom_declared}
 use Rattle.kore_prove.specs.Names.{HasIdentifierNames}

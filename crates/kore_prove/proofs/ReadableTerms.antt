@@ -8,8 +8,8 @@ use Rattle.kore_text.specs.Trees.{PatternTree, PatternTrees, no_patterns}
 use Rattle.kore_text.specs.Grammar.{Want, any, listed, more_listed, spell_pattern, spell_patterns}
 use Rattle.kore_print.specs.PrintLaws.{ReadableReadsBack, CanStand}
 use Rattle.term_core.specs.Terms.{Tree, leaf, node, inj, Forest, no_tree, more_trees, height, heights}
-use Rattle.rule_core.specs.Named.{names_of}
-use Rattle.rule_core.specs.declared.signature.SymInfo.{SymInfo}
+use Rattle.ground_rules.specs.Named.{names_of}
+use Rattle.ground_rules.specs.declared.signature.SymInfo.{SymInfo}
 use Rattle.kore_prove.specs.Lines.{name_of, kore_pattern, kore_patterns, ReadsBack}
 use Rattle.kore_prove.specs.Runnable.{IsShown}
 use Rattle.kore_prove.proofs.Pairings.{item_at}

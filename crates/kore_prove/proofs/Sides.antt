@@ -1,6 +1,6 @@
 -- The sides of a rule that is shallow.
 use Rattle.kore_prove.proofs.Determined.{one_rewriting}
-use Rattle.rule_core.specs.Rules.{RewriteRule}
+use Rattle.ground_rules.specs.Rules.{RewriteRule}
 use Rattle.kore_prove.proofs.TreesOfForms.{tree-Built}
 use Rattle.kore_ast.specs.declared.tree.PatForm.TheVariants.{Built}
 use Rattle.kore_ast.specs.declared.tree.Sort.{Sort}
@@ -12,8 +12,8 @@ use Rattle.std.proofs.lemmas.List.{length-map}
 use Rattle.std.proofs.Common.{◌≡◌, ℕ, ◌≤◌, [], ◌∷◌, ap, arith, List, refl, sym, ◌∙◌, map, length, subst, Option, Some}
 use Rattle.kore_text.specs.Trees.{PatternTree, connected, sort_trees, pattern_trees, SortTree, AxiomDeclaration}
 use Rattle.kore_text.specs.declared.names.Op.TheVariants.{And, Rewrites}
-use Rattle.rule_core.specs.declared.signature.Signature.{Signature}
-use Rattle.rule_core.specs.declared.signature.SortInfo.{SortInfo}
+use Rattle.ground_rules.specs.declared.signature.Signature.{Signature}
+use Rattle.ground_rules.specs.declared.signature.SortInfo.{SortInfo}
 use Rattle.term_core.specs.Patterns.{Pattern}
 use Rattle.kore_prove.specs.Acceptance.{IsRewriting, IsSideOf, NamesSort, IsRuleOf}
 use Rattle.kore_prove.specs.Nesting.{nesting}

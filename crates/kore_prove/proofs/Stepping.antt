@@ -5,13 +5,13 @@ use Rattle.std.proofs.lemmas.Option.{slice_get_within, slice_get-get_or}
 use Rattle.term_core.specs.Terms.{Tree}
 use Rattle.term_core.specs.Patterns.{Pattern, instance_of, FitsWithin}
 use Rattle.term_core.specs.RulePatterns.{plain_pattern}
-use Rattle.rule_core.specs.Rules.{RewriteRule}
-use Rattle.rule_core.specs.FirstRule.{Rewrites}
-use Rattle.rule_core.specs.Trial.{IsInTrialOrder, IsFirstMatch}
-use Rattle.rule_core.specs.ProgramView.{rewrite_rule, rewrite_rules}
-use Rattle.rule_core.specs.declared.rules.Rule.{Rule}
-use Rattle.rule_core.specs.declared.signature.SymInfo.{SymInfo}
-use Rattle.rule_core.proofs.Trials.{rule_at, first_rule, mapped}
+use Rattle.ground_rules.specs.Rules.{RewriteRule}
+use Rattle.ground_rules.specs.FirstRule.{Rewrites}
+use Rattle.ground_rules.specs.Trial.{IsInTrialOrder, IsFirstMatch}
+use Rattle.ground_rules.specs.ProgramView.{rewrite_rule, rewrite_rules}
+use Rattle.ground_rules.specs.declared.rules.Rule.{Rule}
+use Rattle.ground_rules.specs.declared.signature.SymInfo.{SymInfo}
+use Rattle.ground_rules.proofs.Trials.{rule_at, first_rule, mapped}
 use Rattle.kore_prove.specs.Runnable.{IsShowable, IsShown, IsRunnable}
 use Rattle.kore_prove.specs.Steps.{LeadsBy}
 

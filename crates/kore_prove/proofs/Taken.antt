@@ -8,8 +8,8 @@ use Rattle.std.proofs.lemmas.List.{map-append, take-append-drop, drop_more}
 use Rattle.std.proofs.lemmas.List.Elements.{filter_map-append}
 use Rattle.std.proofs.lemmas.Option.{slice_get_within}
 use Rattle.std.proofs.lemmas.Slice.Eq.{bytes_eq-Decides}
-use Rattle.rule_core.specs.Named.{number_of, names_of, IsNoneOf, AreDistinct}
-use Rattle.rule_core.proofs.Tables.{number_of-entry}
+use Rattle.ground_rules.specs.Named.{number_of, names_of, IsNoneOf, AreDistinct}
+use Rattle.ground_rules.proofs.Tables.{number_of-entry}
 use Rattle.kore_prove.specs.Acceptance.{Each}
 
 -- the number of a name is that of an entry

@@ -5,7 +5,7 @@ use Rattle.kore_ast.specs.declared.tree.Pat.{Pat}
 use Rattle.kore_ast.specs.Plain.{plain_pattern}
 use Rattle.kore_text.specs.Trees.{PatternTree, PatternTrees, symbol_applied, no_sorts, pattern_then, pattern_trees}
 use Rattle.term_core.specs.Terms.{Tree, forest}
-use Rattle.rule_core.specs.declared.signature.SymInfo.{SymInfo}
+use Rattle.ground_rules.specs.declared.signature.SymInfo.{SymInfo}
 use Rattle.kore_prove.specs.Lines.{applied, in_front, kore_pattern, kore_patterns}
 
 -- what an application is made of

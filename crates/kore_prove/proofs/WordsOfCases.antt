@@ -16,7 +16,7 @@ use Rattle.kore_text.specs.TokenStream.{Stream, tokens_of}
 use Rattle.kore_text.specs.Trees.{DefinitionTree, PatternTree}
 use Rattle.kore_text.specs.Faults.{IsFirstFault, IsDefinition, IsPattern}
 use Rattle.kore_text.specs.TextLaws.{DefinitionHasNoFault, PatternHasNoFault}
-use Rattle.rule_core.specs.declared.rules.Program.{Program}
+use Rattle.ground_rules.specs.declared.rules.Program.{Program}
 
 pub on_true : {P : Type 0} (b : Bool) → OnTrue b P → b ≡ true → P
 on_true true h e = h

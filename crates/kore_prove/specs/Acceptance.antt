@@ -5,15 +5,15 @@ use Rattle.term_core.specs.declared.ids.SortId.{SortId}
 use Rattle.term_core.specs.Patterns.{Pattern, Patterns, application, no_pattern, more_patterns}
 use Rattle.kore_text.specs.Trees.{SortTree, sort_applied, no_sorts, sort_trees, PatternTree, PatternTrees, element_variable, set_variable, string, symbol_applied, connected, binding, domain_value, folded, no_patterns, pattern_then, pattern_trees, SortDeclaration, SymbolDeclaration, AxiomDeclaration, Declaration, import_declaration, sort_declaration, symbol_declaration, alias_declaration, axiom_declaration, claim_declaration, ModuleTree, DefinitionTree}
 use Rattle.kore_text.specs.declared.names.Op.TheVariants.{And, Top, Rewrites}
-use Rattle.rule_core.specs.Named.{number_of, names_of, AreDistinct}
-use Rattle.rule_core.specs.Rules.{RewriteRule}
-use Rattle.rule_core.specs.declared.signature.Signature.{Signature}
-use Rattle.rule_core.specs.declared.signature.SortInfo.{SortInfo}
-use Rattle.rule_core.specs.declared.signature.SymInfo.{SymInfo}
-use Rattle.rule_core.specs.declared.signature.SortRef.{SortRef}
-use Rattle.rule_core.specs.declared.signature.SortRef.TheVariants.{Sort}
-use Rattle.rule_core.specs.declared.signature.SortKind.TheVariants.{Other}
-use Rattle.rule_core.specs.declared.signature.SymKind.TheVariants.{Ctor}
+use Rattle.ground_rules.specs.Named.{number_of, names_of, AreDistinct}
+use Rattle.ground_rules.specs.Rules.{RewriteRule}
+use Rattle.ground_rules.specs.declared.signature.Signature.{Signature}
+use Rattle.ground_rules.specs.declared.signature.SortInfo.{SortInfo}
+use Rattle.ground_rules.specs.declared.signature.SymInfo.{SymInfo}
+use Rattle.ground_rules.specs.declared.signature.SortRef.{SortRef}
+use Rattle.ground_rules.specs.declared.signature.SortRef.TheVariants.{Sort}
+use Rattle.ground_rules.specs.declared.signature.SortKind.TheVariants.{Other}
+use Rattle.ground_rules.specs.declared.signature.SymKind.TheVariants.{Ctor}
 
 -- the items of two lists stand in a relation, each with the one at its place
 abbrev pub Each : {A B : Type 0} → (A → B → Type 0) → List A → List B → Type 0

@@ -4,8 +4,8 @@ use Rattle.kore_text.specs.Trees.{PatternTree, PatternTrees, symbol_applied, no_
 use Rattle.kore_print.specs.CanonicalText.{canonical_text}
 use Rattle.kore_print.specs.Reading.{ReadsAs}
 use Rattle.term_core.specs.Terms.{Tree, leaf, node, inj, Forest, no_tree, more_trees}
-use Rattle.rule_core.specs.declared.signature.SymInfo.{SymInfo}
-use Rattle.rule_core.specs.Runs.{Run, stuck, limited}
+use Rattle.ground_rules.specs.declared.signature.SymInfo.{SymInfo}
+use Rattle.ground_rules.specs.Runs.{Run, stuck, limited}
 
 -- the last configuration of a run
 abbrev pub last_of : Run → Tree

@@ -4,11 +4,11 @@ use Rattle.desk_io.specs.Told.{Told}
 use Rattle.desk_io.specs.Sent.{Appends}
 use Rattle.term_core.specs.Terms.{Tree}
 use Rattle.term_core.specs.Patterns.{Pattern, instance_of}
-use Rattle.rule_core.specs.Runs.{Run, stuck, limited, IsRunOf}
-use Rattle.rule_core.specs.ProgramView.{rewrite_rules}
-use Rattle.rule_core.specs.declared.rules.Outcome.{Outcome}
-use Rattle.rule_core.specs.declared.rules.Outcome.TheVariants.{Stuck, Limit}
-use Rattle.rule_core.specs.declared.rules.Program.{Program}
+use Rattle.ground_rules.specs.Runs.{Run, stuck, limited, IsRunOf}
+use Rattle.ground_rules.specs.ProgramView.{rewrite_rules}
+use Rattle.ground_rules.specs.declared.rules.Outcome.{Outcome}
+use Rattle.ground_rules.specs.declared.rules.Outcome.TheVariants.{Stuck, Limit}
+use Rattle.ground_rules.specs.declared.rules.Program.{Program}
 use Rattle.kore_prove.specs.Runnable.{IsShown}
 use Rattle.kore_prove.specs.Lines.{lines_of}
 use Rattle.kore_prove.specs.PrintedRun.{IsPrintedRun}

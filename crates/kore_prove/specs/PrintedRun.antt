@@ -6,9 +6,9 @@ use Rattle.kore_text.specs.Trees.{PatternTree, DefinitionTree}
 use Rattle.kore_ast.specs.KoreText.{ReadsPattern, ReadsDefinition}
 use Rattle.desk_io.specs.Told.{Told, file_of}
 use Rattle.desk_io.specs.Sent.{Appends}
-use Rattle.rule_core.specs.declared.signature.Signature.{Signature}
-use Rattle.rule_core.specs.Rules.{RewriteRule}
-use Rattle.rule_core.specs.Runs.{Run, stuck, limited, IsRunOf}
+use Rattle.ground_rules.specs.declared.signature.Signature.{Signature}
+use Rattle.ground_rules.specs.Rules.{RewriteRule}
+use Rattle.ground_rules.specs.Runs.{Run, stuck, limited, IsRunOf}
 use Rattle.kore_prove.specs.Words.{IsRunCommand, IsNoVerification}
 use Rattle.kore_prove.specs.Limits.{definition_limit, term_limit}
 use Rattle.kore_prove.specs.Acceptance.{IsAccepted, IsAcceptedTerm}

@@ -2,8 +2,8 @@
 use Rattle.std.specs.Prelude.{◌≡◌, ◌≢◌, ℕ, List, ◌++◌, Option, Some, None}
 use Rattle.desk_io.specs.Told.{Told, PutsFile, file_of}
 use Rattle.term_core.specs.Patterns.{Pattern, ground_pattern}
-use Rattle.rule_core.specs.declared.rules.Outcome.{Outcome}
-use Rattle.rule_core.specs.declared.rules.Program.{Program}
+use Rattle.ground_rules.specs.declared.rules.Outcome.{Outcome}
+use Rattle.ground_rules.specs.declared.rules.Program.{Program}
 use Rattle.mm_justify.specs.Justifying.{Justifies}
 use Rattle.kore_prove.specs.Outcomes.{HasLines}
 

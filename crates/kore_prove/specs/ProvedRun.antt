@@ -4,9 +4,9 @@ use Rattle.desk_io.specs.Told.{Told, file_of}
 use Rattle.desk_io.specs.Sent.{Appends}
 use Rattle.term_core.specs.Terms.{Tree}
 use Rattle.term_core.specs.Patterns.{Pattern, instance_of, ground_pattern}
-use Rattle.rule_core.specs.Runs.{Run, IsRunOf}
-use Rattle.rule_core.specs.ProgramView.{rewrite_rules}
-use Rattle.rule_core.specs.declared.rules.Program.{Program}
+use Rattle.ground_rules.specs.Runs.{Run, IsRunOf}
+use Rattle.ground_rules.specs.ProgramView.{rewrite_rules}
+use Rattle.ground_rules.specs.declared.rules.Program.{Program}
 use Rattle.mm_justify.specs.Justifying.{Justifies}
 use Rattle.kore_prove.specs.Words.{IsRunCommand, IsProofCommand}
 use Rattle.kore_prove.specs.Files.{HoldsProgram, HoldsStart}

@@ -4,8 +4,8 @@ use Rattle.desk_io.specs.Told.{Told, Holds}
 use Rattle.term_core.specs.Patterns.{Pattern}
 use Rattle.kore_text.specs.Trees.{PatternTree, DefinitionTree}
 use Rattle.kore_ast.specs.KoreText.{ReadsPattern, ReadsDefinition}
-use Rattle.rule_core.specs.Rules.{RewriteRule}
-use Rattle.rule_core.specs.declared.signature.Signature.{Signature}
+use Rattle.ground_rules.specs.Rules.{RewriteRule}
+use Rattle.ground_rules.specs.declared.signature.Signature.{Signature}
 use Rattle.kore_prove.specs.Acceptance.{IsAccepted, IsAcceptedTerm}
 use Rattle.kore_prove.specs.Limits.{definition_limit, term_limit, database_limit}
 use Rattle.kore_prove.specs.Words.{IsRunCommand, IsVerifyCommand}

@@ -6,12 +6,12 @@ use Rattle.term_core.specs.Patterns.{Pattern, instance_of}
 use Rattle.term_core.specs.RulePatterns.{plain_pattern}
 use Rattle.kore_text.specs.Trees.{PatternTree, DefinitionTree}
 use Rattle.kore_ast.specs.KoreText.{ReadsPattern, ReadsDefinition}
-use Rattle.rule_core.specs.Rules.{RewriteRule}
-use Rattle.rule_core.specs.Trial.{IsInTrialOrder}
-use Rattle.rule_core.specs.ProgramView.{rewrite_rules, HasNoVariables}
-use Rattle.rule_core.specs.declared.rules.Rule.{Rule}
-use Rattle.rule_core.specs.declared.rules.Program.{Program}
-use Rattle.rule_core.specs.declared.signature.SymInfo.{SymInfo}
+use Rattle.ground_rules.specs.Rules.{RewriteRule}
+use Rattle.ground_rules.specs.Trial.{IsInTrialOrder}
+use Rattle.ground_rules.specs.ProgramView.{rewrite_rules, HasNoVariables}
+use Rattle.ground_rules.specs.declared.rules.Rule.{Rule}
+use Rattle.ground_rules.specs.declared.rules.Program.{Program}
+use Rattle.ground_rules.specs.declared.signature.SymInfo.{SymInfo}
 use Rattle.kore_prove.specs.Acceptance.{IsAccepted, IsAcceptedTerm, sort_number}
 use Rattle.kore_prove.specs.Lines.{kore_pattern}
 

@@ -3,10 +3,10 @@ use Rattle.std.specs.Prelude.{◌≡◌, ℕ, List, [], slice_get, Option, Some,
 use Rattle.term_core.specs.Terms.{Tree}
 use Rattle.term_core.specs.Patterns.{instance_of}
 use Rattle.term_core.specs.RulePatterns.{plain_pattern}
-use Rattle.rule_core.specs.FirstRule.{NoRuleApplies, Rewrites}
-use Rattle.rule_core.specs.ProgramView.{rewrite_rules}
-use Rattle.rule_core.specs.declared.rules.Rule.{Rule}
-use Rattle.rule_core.specs.declared.signature.SymInfo.{SymInfo}
+use Rattle.ground_rules.specs.FirstRule.{NoRuleApplies, Rewrites}
+use Rattle.ground_rules.specs.ProgramView.{rewrite_rules}
+use Rattle.ground_rules.specs.declared.rules.Rule.{Rule}
+use Rattle.ground_rules.specs.declared.signature.SymInfo.{SymInfo}
 use Rattle.kore_prove.specs.Runnable.{IsShown}
 
 -- the rule at this place has the one term as its left side and the other as its right side

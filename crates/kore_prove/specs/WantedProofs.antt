@@ -4,8 +4,8 @@ use Rattle.desk_io.specs.Told.{Told}
 use Rattle.desk_io.specs.Sent.{Appends}
 use Rattle.term_core.specs.Terms.{Tree}
 use Rattle.term_core.specs.Patterns.{Pattern, ground_pattern}
-use Rattle.rule_core.specs.declared.rules.Outcome.{Outcome}
-use Rattle.rule_core.specs.declared.rules.Program.{Program}
+use Rattle.ground_rules.specs.declared.rules.Outcome.{Outcome}
+use Rattle.ground_rules.specs.declared.rules.Program.{Program}
 use Rattle.mm_justify.specs.Justifying.{Justifies}
 use Rattle.kore_prove.specs.Outcomes.{run_of, HasLines}
 use Rattle.kore_prove.specs.ProvedRun.{Tells, IsProvedRun}

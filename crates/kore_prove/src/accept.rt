@@ -3,11 +3,11 @@ ghost use Rattle.kore_prove.specs.declared.accept.Refusal.TheVariants.{Memory};
 ghost use Rattle.std.specs.Prelude.{◌≡◌, ◌<◌, ◌≤◌, ◌^◌, ◌↔◌, ℕ, List, Option, length, All, IsTrue, OnOk, IfOk, IfSome, IfNone, map};
 ghost use Rattle.std.specs.List.Sorted.{IsPermutation};
 ghost use Rattle.kore_ast.specs.Plain.{plain_definition, plain_module, plain_declaration, plain_pattern};
-ghost use Rattle.rule_core.specs.ProgramView.{rewrite_rules};
-ghost use Rattle.rule_core.specs.Trial.{IsInTrialOrder};
+ghost use Rattle.ground_rules.specs.ProgramView.{rewrite_rules};
+ghost use Rattle.ground_rules.specs.Trial.{IsInTrialOrder};
 ghost use Rattle.term_core.specs.RulePatterns.{plain_pattern as rule_pattern};
 ghost use Rattle.kore_text.specs.Trees.{Declaration, ModuleTree};
-ghost use Rattle.rule_core.specs.Rules.{RewriteRule};
+ghost use Rattle.ground_rules.specs.Rules.{RewriteRule};
 ghost use Rattle.term_core.specs.Patterns.{Pattern};
 ghost use Rattle.kore_prove.specs.RefusedAnswers.{OnRefused, OnNumber, refused_by};
 ghost use Rattle.kore_prove.specs.Causes.{IsRefusedDefinition, IsRefusedTerm};
@@ -19,9 +19,9 @@ ghost use Rattle.kore_prove.specs.Runnable.{AcceptsTree, AcceptsPattern, IsProgr
 use crate::axioms::{declared_rules, first_rule_sort};
 use crate::declared::{declared_sorts, declared_symbols};
 use crate::meaning::meaning;
+use ground_rules::{Program, Rule, Signature};
 use kore_ast::{Decl, Definition, Module, Pat, ReadFault, read_definition, read_pattern};
 use kore_text::{name_laws, text_laws};
-use rule_core::{Program, Rule, Signature};
 use std::alloc::{AllocError, AllocFailed, Global};
 use term_core::{RulePat, SortId};
 

@@ -3,8 +3,8 @@ ghost use Rattle.std.specs.Prelude.{◌≡◌, ◌<◌, ◌≤◌, ◌^◌, ◌�
 ghost use Rattle.std.specs.List.{filter_map};
 ghost use Rattle.kore_ast.specs.Plain.{plain_declaration, plain_axiom_decl, plain_pattern, plain_sort};
 ghost use Rattle.kore_text.specs.Trees.{SortTree, sort_trees, PatternTree, connected, pattern_trees};
-ghost use Rattle.rule_core.specs.Rules.{RewriteRule};
-ghost use Rattle.rule_core.specs.ProgramView.{rewrite_rule};
+ghost use Rattle.ground_rules.specs.Rules.{RewriteRule};
+ghost use Rattle.ground_rules.specs.ProgramView.{rewrite_rule};
 ghost use Rattle.term_core.specs.Patterns.{Pattern};
 ghost use Rattle.term_core.specs.RulePatterns.{plain_pattern as rule_pattern};
 ghost use Rattle.kore_prove.specs.Acceptance.{Each, NamesSort, axiom_declared, sort_number, IsTopOf, IsSide, IsSideOf, IsRewriting, IsRuleOf};
@@ -15,8 +15,8 @@ ghost use Rattle.kore_prove.specs.Runnable.{IsRunnable};
 use crate::accept::{NOT_BUILT, Refusal};
 use crate::declared::named_sort;
 use crate::meaning::meaning;
+use ground_rules::{Rule, Signature, SortInfo, Table};
 use kore_ast::{AxiomDecl, Decl, Op, Pat, PatForm, Sort};
-use rule_core::{Rule, Signature, SortInfo, Table};
 use std::alloc::Global;
 use term_core::{RulePat, SortId};
 

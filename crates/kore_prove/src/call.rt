@@ -9,12 +9,12 @@ ghost use Rattle.kore_prove.specs.Limits.{definition_limit, term_limit};
 ghost use Rattle.kore_prove.specs.FileCauses.{FileCause, KeepsFilesAt};
 ghost use Rattle.kore_prove.specs.PlainEnds.{fault_end, plain_end};
 ghost use Rattle.kore_prove.specs.Files.{HoldsProgram};
-ghost use Rattle.rule_core.specs.declared.rules.Program.{Program};
+ghost use Rattle.ground_rules.specs.declared.rules.Program.{Program};
 ghost use Rattle.kore_prove.specs.Readiness.{IsReady, IsReadyToVerify};
 ghost use Rattle.kore_prove.specs.Reports.{Reports};
 ghost use Rattle.kore_prove.specs.Runnable.{IsShowable, IsRunnable};
-ghost use Rattle.rule_core.specs.Trial.{IsInTrialOrder};
-ghost use Rattle.rule_core.specs.ProgramView.{rewrite_rules};
+ghost use Rattle.ground_rules.specs.Trial.{IsInTrialOrder};
+ghost use Rattle.ground_rules.specs.ProgramView.{rewrite_rules};
 ghost use Rattle.kore_prove.specs.PrintedRun.{PrintsRun, code_of};
 ghost use Rattle.kore_prove.specs.Outcomes.{PrintsRunOf, HasLines, run_of};
 ghost use Rattle.kore_prove.specs.Verdicts.{PrintsVerdict};
@@ -30,8 +30,8 @@ use crate::report::{End, send_report};
 use crate::verification::verify_command;
 use crate::words::{Command, RunWords, read_words};
 use desk_io::{Desk, DeskFault, ReadEnd, Sink, send_whole};
+use ground_rules::Outcome;
 use kore_print::print_laws;
-use rule_core::Outcome;
 use std::alloc::Global;
 
 /// How a call ended: the exit code of the program.

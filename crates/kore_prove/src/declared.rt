@@ -1,17 +1,17 @@
 // The sorts and the symbols that a module declares.
 ghost use Rattle.std.specs.Prelude.{◌≡◌, ◌<◌, ◌≤◌, ◌^◌, ◌↔◌, length, ℕ, List, ◌++◌, ◌∷◌, [], None, IfOk, OnOk, IfSome, IfNone, IsTrue, is_none, false, map, codes};
-ghost use Rattle.rule_core.specs.Named.{number_of, names_of, AreDistinct};
+ghost use Rattle.ground_rules.specs.Named.{number_of, names_of, AreDistinct};
 ghost use Rattle.kore_prove.specs.RefusedAnswers.{OnRefused};
 ghost use Rattle.std.specs.List.{filter_map};
 ghost use Rattle.kore_ast.specs.Plain.{plain_declaration, plain_sort, plain_sort_decl, plain_symbol_decl, plain_pattern};
 ghost use Rattle.kore_text.specs.Trees.{symbol_applied, no_sorts, no_patterns};
-ghost use Rattle.rule_core.specs.declared.signature.SymKind.TheVariants.{Ctor};
-ghost use Rattle.rule_core.specs.declared.signature.SortRef.TheVariants.{Sort as of_sort};
+ghost use Rattle.ground_rules.specs.declared.signature.SymKind.TheVariants.{Ctor};
+ghost use Rattle.ground_rules.specs.declared.signature.SortRef.TheVariants.{Sort as of_sort};
 ghost use Rattle.kore_prove.specs.Acceptance.{Each, IsSortEntry, IsSymbolEntry, sort_declared, symbol_declared, IsConstructorAlone, NamesSort, NamesSortOf};
 
 use crate::accept::{NOT_BUILT, Refusal};
+use ground_rules::{SortInfo, SortKind, SortRef, SymInfo, SymKind, Table};
 use kore_ast::{Decl, Pat, PatForm, Sort, SortDecl, SortForm, SymbolDecl};
-use rule_core::{SortInfo, SortKind, SortRef, SymInfo, SymKind, Table};
 use std::alloc::Global;
 use term_core::SortId;
 

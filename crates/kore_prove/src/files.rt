@@ -10,7 +10,7 @@ ghost use Rattle.kore_prove.specs.Nesting.{HasFewNames};
 
 use crate::accept::{Refusal, accept, accept_term};
 use desk_io::{Desk, ReadEnd, read_file};
-use rule_core::Program;
+use ground_rules::Program;
 use std::alloc::Global;
 use term_core::RulePat;
 

@@ -4,9 +4,9 @@ ghost use Rattle.kore_prove.specs.Lines.{kore_pattern, lines_of};
 ghost use Rattle.kore_prove.specs.Outcomes.{run_of};
 
 use crate::pattern::kore_pattern;
+use ground_rules::{Outcome, SymInfo, Table};
 use itoa::Buffer;
 use kore_print::print_pattern;
-use rule_core::{Outcome, SymInfo, Table};
 use std::alloc::{AllocError, Global};
 use term_core::Term;
 

@@ -2,8 +2,8 @@
 ghost use Rattle.std.specs.Prelude.{◌≡◌, ◌<◌, ◌^◌, ◌↔◌, ℕ, length, IfOk, IfSome, IfNone, map, Some, None, slice_get, IsTrue};
 ghost use Rattle.kore_ast.specs.Plain.{plain_pattern};
 ghost use Rattle.kore_text.specs.Trees.{pattern_trees};
-ghost use Rattle.rule_core.specs.Named.{number_of};
-ghost use Rattle.rule_core.specs.declared.signature.SortRef.TheVariants.{Sort};
+ghost use Rattle.ground_rules.specs.Named.{number_of};
+ghost use Rattle.ground_rules.specs.declared.signature.SortRef.TheVariants.{Sort};
 ghost use Rattle.term_core.specs.Patterns.{Pattern, Patterns};
 ghost use Rattle.term_core.specs.RulePatterns.{plain_pattern as rule_pattern};
 ghost use Rattle.term_core.specs.PatternLists.{plain_patterns as rule_patterns};
@@ -11,8 +11,8 @@ ghost use Rattle.kore_prove.specs.Acceptance.{Denotes, AllDenote};
 ghost use Rattle.kore_prove.specs.RefusedAnswers.{OnRefused};
 
 use crate::accept::{NOT_BUILT, Refusal};
+use ground_rules::{Signature, SortRef, SymInfo};
 use kore_ast::{Pat, PatForm};
-use rule_core::{Signature, SortRef, SymInfo};
 use std::alloc::Global;
 use term_core::{RulePat, SortId, SymId};
 

@@ -5,8 +5,8 @@ ghost use Rattle.kore_text.specs.Trees.{pattern_trees};
 ghost use Rattle.term_core.specs.Terms.{forest, children};
 ghost use Rattle.kore_prove.specs.Lines.{kore_pattern, kore_patterns};
 
+use ground_rules::{SymInfo, Table};
 use kore_ast::{Pat, PatForm, Text};
-use rule_core::{SymInfo, Table};
 use std::alloc::{AllocError, Global};
 use std::marker::Brand;
 use std::sync::ledger::{Blank, Ledger};

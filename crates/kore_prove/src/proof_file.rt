@@ -3,8 +3,8 @@ ghost use Rattle.std.specs.Prelude.{◌≡◌, ◌≤◌, All, IfOk, IsErrOf, Is
 ghost use Rattle.desk_io.specs.Counts.{Rose};
 ghost use Rattle.desk_io.specs.Told.{Holds, Writes};
 ghost use Rattle.term_core.specs.RulePatterns.{plain_pattern};
-ghost use Rattle.rule_core.specs.ProgramView.{rewrite_rules};
-ghost use Rattle.rule_core.specs.Trial.{IsInTrialOrder};
+ghost use Rattle.ground_rules.specs.ProgramView.{rewrite_rules};
+ghost use Rattle.ground_rules.specs.Trial.{IsInTrialOrder};
 ghost use Rattle.kore_prove.specs.Outcomes.{HasLines};
 ghost use Rattle.kore_prove.specs.ProofFiles.{HasText, KeepsOthersNow, PutsCreated};
 ghost use Rattle.kore_prove.specs.Provable.{IsBuiltOf, IsProvable};
@@ -16,7 +16,7 @@ use crate::lines::run_lines;
 use crate::proved::proved_run;
 use crate::run::{run, start_term};
 use desk_io::{Desk, DeskFault, write_whole};
-use rule_core::{Outcome, Program};
+use ground_rules::{Outcome, Program};
 use std::alloc::{AllocError, Global};
 use term_core::RulePat;
 

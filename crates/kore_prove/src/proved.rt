@@ -3,9 +3,9 @@ ghost use Rattle.std.specs.Prelude.{◌≡◌, [], Some, IfOk, All};
 ghost use Rattle.term_core.specs.Terms.{Tree};
 ghost use Rattle.term_core.specs.Patterns.{instance_of, ground_pattern};
 ghost use Rattle.term_core.specs.RulePatterns.{plain_pattern};
-ghost use Rattle.rule_core.specs.Runs.{IsRunOf};
-ghost use Rattle.rule_core.specs.Trial.{IsInTrialOrder};
-ghost use Rattle.rule_core.specs.ProgramView.{rewrite_rules};
+ghost use Rattle.ground_rules.specs.Runs.{IsRunOf};
+ghost use Rattle.ground_rules.specs.Trial.{IsInTrialOrder};
+ghost use Rattle.ground_rules.specs.ProgramView.{rewrite_rules};
 ghost use Rattle.mm_justify.specs.Justifying.{Justifies};
 ghost use Rattle.prove_run.specs.Proving.{IsAtRule, StepsBy};
 ghost use Rattle.kore_prove.specs.Outcomes.{run_of};
@@ -13,8 +13,8 @@ ghost use Rattle.kore_prove.specs.Provable.{IsBuiltOf, IsProvable};
 ghost use Rattle.kore_prove.specs.Runnable.{IsShown, IsShowable, IsRunnable};
 
 use crate::run::{next, start_term};
+use ground_rules::{Outcome, Program};
 use prove_run::Proof;
-use rule_core::{Outcome, Program};
 use std::alloc::{AllocError, Global};
 use term_core::{RulePat, Term};
 

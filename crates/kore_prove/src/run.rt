@@ -2,14 +2,14 @@
 ghost use Rattle.std.specs.Prelude.{◌≡◌, ◌≤◌, [], Some, IfOk, IsSome, All};
 ghost use Rattle.term_core.specs.Patterns.{instance_of, FitsWithin};
 ghost use Rattle.term_core.specs.RulePatterns.{plain_pattern};
-ghost use Rattle.rule_core.specs.Runs.{IsRunOf};
-ghost use Rattle.rule_core.specs.Trial.{IsInTrialOrder};
-ghost use Rattle.rule_core.specs.ProgramView.{rewrite_rules};
+ghost use Rattle.ground_rules.specs.Runs.{IsRunOf};
+ghost use Rattle.ground_rules.specs.Trial.{IsInTrialOrder};
+ghost use Rattle.ground_rules.specs.ProgramView.{rewrite_rules};
 ghost use Rattle.kore_prove.specs.Outcomes.{run_of};
 ghost use Rattle.kore_prove.specs.Runnable.{IsShown, IsRunnable};
 ghost use Rattle.kore_prove.specs.Steps.{NextBy};
 
-use rule_core::{Outcome, Program, first_match};
+use ground_rules::{Outcome, Program, first_match};
 use std::alloc::{AllocError, Global};
 use term_core::{RulePat, Subst, Term, instance};
 

@@ -3,14 +3,14 @@ use Rattle.std.proofs.Common.{◌≡◌, ℕ, ◌+◌, ◌<◌, get_or, subst, a
 use Rattle.std.specs.List.{position_from}
 use Rattle.std.proofs.lemmas.Option.{slice_get_within, get_or_from_slice_get}
 use Rattle.std.proofs.lemmas.List.{drop_more}
-use Rattle.rule_core.specs.declared.signature.SymInfo.{SymInfo}
+use Rattle.ground_rules.specs.declared.signature.SymInfo.{SymInfo}
 use Rattle.std.proofs.lemmas.Slice.Eq.{bytes_eq-Decides}
 use Rattle.ml_pat.proofs.NamedLaws.{number_of-push}
 use Rattle.ml_pat.specs.Patterns.{Pattern, top, imp, and, app, at_sort, next, constant}
-use Rattle.rule_core.specs.Rules.{RewriteRule}
+use Rattle.ground_rules.specs.Rules.{RewriteRule}
 use Rattle.ml_pat.specs.Named.{number_of, IsNumbered}
 use Rattle.term_core.specs.Patterns.{Pattern as RulePattern, Patterns as RulePatterns, variable, domain_value, application, injection, call, no_pattern, more_patterns}
-use Rattle.rule_core.specs.declared.signature.Signature.{Signature}
+use Rattle.ground_rules.specs.declared.signature.Signature.{Signature}
 use Rattle.ml_image.specs.Tokens.{token_of_sort, token_of_symbol, token_of_value, numbered}
 use Rattle.ml_image.specs.Images.{both, symbol_image, at_sorts, image_of, applied, rule_image_of, some_symbol_image, injection_symbol, injection_image, is_injection}
 use Rattle.ml_image.specs.Injecting.{IsInjectionAt}

@@ -7,7 +7,7 @@ use Rattle.term_core.specs.RulePatterns.{plain_pattern, sort_numbers}
 use Rattle.term_core.specs.PatternLists.{plain_patterns}
 use Rattle.term_core.specs.declared.rule_patterns.RulePat.{RulePat}
 use Rattle.term_core.specs.declared.ids.SortId.{SortId}
-use Rattle.rule_core.specs.declared.signature.Signature.{Signature}
+use Rattle.ground_rules.specs.declared.signature.Signature.{Signature}
 use Rattle.ml_image.specs.Tokens.{token_of_sort, numbered}
 use Rattle.ml_image.specs.Images.{both, at_sorts, image_of, applied, HasImage, HaveImages, AreSorts}
 use Rattle.ml_image.specs.Gained.{HasGained}

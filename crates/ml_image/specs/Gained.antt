@@ -1,7 +1,7 @@
 -- What names may gain while images are made.
 use Rattle.std.specs.Prelude.{◌≡◌, ℕ, List, [], ◌∷◌, ◌++◌, ◌⊎◌, IsTrue, Some}
 use Rattle.term_core.specs.Terms.{DomainValue}
-use Rattle.rule_core.specs.declared.signature.Signature.{Signature}
+use Rattle.ground_rules.specs.declared.signature.Signature.{Signature}
 use Rattle.ml_image.specs.Tokens.{token_of_sort, token_of_symbol, token_of_value, is_value_at}
 
 -- the token of one of the signature's sorts or symbols, or of a domain value that one of its sorts has

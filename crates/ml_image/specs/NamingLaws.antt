@@ -2,8 +2,8 @@
 use Rattle.std.specs.Prelude.{◌≡◌, ℕ, List, ◌++◌, length, drop, Some}
 use Rattle.ml_pat.specs.Patterns.{Pattern}
 use Rattle.term_core.specs.Patterns.{Pattern as RulePattern}
-use Rattle.rule_core.specs.declared.signature.Signature.{Signature}
-use Rattle.rule_core.specs.Rules.{RewriteRule}
+use Rattle.ground_rules.specs.declared.signature.Signature.{Signature}
+use Rattle.ground_rules.specs.Rules.{RewriteRule}
 use Rattle.ml_image.specs.Images.{image_of, rule_image_of}
 use Rattle.ml_image.specs.Gained.{AreOwnTokens, HasGained}
 

@@ -5,10 +5,10 @@ use Rattle.std.specs.List.{list_all}
 use Rattle.std.specs.Fmt.{signed_decimal}
 use Rattle.term_core.specs.Terms.{DomainValue, integer, truth, text}
 use Rattle.ml_pat.specs.Named.{number_of}
-use Rattle.rule_core.specs.declared.signature.Signature.{Signature}
-use Rattle.rule_core.specs.declared.signature.SortInfo.{SortInfo}
-use Rattle.rule_core.specs.declared.signature.SortKind.{SortKind}
-use Rattle.rule_core.specs.declared.signature.SortKind.TheVariants as kind
+use Rattle.ground_rules.specs.declared.signature.Signature.{Signature}
+use Rattle.ground_rules.specs.declared.signature.SortInfo.{SortInfo}
+use Rattle.ground_rules.specs.declared.signature.SortKind.{SortKind}
+use Rattle.ground_rules.specs.declared.signature.SortKind.TheVariants as kind
 
 abbrev pub sort_token : List ℕ → List ℕ
 sort_token name = codes "s:" ++ name

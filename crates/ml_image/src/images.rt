@@ -8,8 +8,8 @@ ghost use Rattle.ml_image.specs.Injecting.{IsInjectionAt};
 ghost use Rattle.ml_image.specs.Gained.{HasGained};
 
 use crate::tokens::{sort_number, symbol_number, value_number};
+use ground_rules::{Program, Signature, SymKind};
 use ml_pat::{MPat, Names, VarNo};
-use rule_core::{Program, Signature, SymKind};
 use std::alloc::{AllocError, Global};
 use term_core::{RulePat, SortId};
 

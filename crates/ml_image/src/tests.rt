@@ -8,8 +8,10 @@ ghost use Rattle.ml_image.specs.Tokens.{is_value_of, is_byte, value_text};
 ghost use Rattle.ml_image.specs.Images.{HasImage, HasImageAt, injection_symbol};
 
 use crate::images::{injection_symbol, rule_image, term_image};
+use ground_rules::{
+    Program, Rule, Signature, SortInfo, SortKind, SortRef, SymInfo, SymKind, Table,
+};
 use ml_pat::{ConstNo, MPat, MSort, Names};
-use rule_core::{Program, Rule, Signature, SortInfo, SortKind, SortRef, SymInfo, SymKind, Table};
 use std::alloc::{AllocError, Global};
 use std::test::Fail;
 use term_core::{RulePat, SortId, SymId, Value};

@@ -6,9 +6,9 @@ ghost use Rattle.ml_pat.specs.Named.{number_of, IsNumbered};
 ghost use Rattle.ml_image.specs.Tokens.{sort_token, symbol_token, name_at, token_of_sort, token_of_symbol, token_of_value, value_token, hexadecimal, numbered, is_value_at};
 ghost use Rattle.ml_image.specs.Gained.{IsOwnToken, HasGained};
 
+use ground_rules::Signature;
 use itoa::Buffer;
 use ml_pat::{ConstNo, MPat, MSort, Names};
-use rule_core::Signature;
 use std::alloc::{AllocError, Global};
 use term_core::{SortId, Value};
 

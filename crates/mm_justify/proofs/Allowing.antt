@@ -8,7 +8,7 @@ use Rattle.mm_database.specs.Validity.{IsValid}
 use Rattle.mm_database.proofs.Faults.{faultless_valid}
 use Rattle.ml_pat.specs.Patterns.{Pattern, imp, ev}
 use Rattle.term_core.specs.Patterns.{Pattern as RulePattern}
-use Rattle.rule_core.specs.declared.rules.Program.{Program}
+use Rattle.ground_rules.specs.declared.rules.Program.{Program}
 use Rattle.ml_image.specs.Images.{image_of}
 use Rattle.ml_pat.specs.Leaves.{EachLeaf}
 use Rattle.mm_proof.specs.Tokens.{own_naming}

@@ -12,7 +12,7 @@ use Rattle.mm_database.specs.FrameLaws.{Adds}
 use Rattle.mm_database.proofs.WrittenForms.{plain_tokens_say}
 use Rattle.mm_database.proofs.Stated.{appended_states}
 use Rattle.ml_pat.specs.Named.{AreDistinct, IsNoneOf}
-use Rattle.rule_core.specs.declared.rules.Program.{Program}
+use Rattle.ground_rules.specs.declared.rules.Program.{Program}
 use Rattle.ml_image.specs.Gained.{AreOwnTokens}
 use Rattle.mm_proof.specs.Labels.{name_label}
 use Rattle.mm_claims.specs.Statements.{typecode_of, all_name_statements}

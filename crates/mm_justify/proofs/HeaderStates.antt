@@ -10,7 +10,7 @@ use Rattle.mm_header.specs.HeaderText.{header_bytes}
 use Rattle.mm_header.specs.HeaderContext.{header_context, header_labels, header_types, IsFrameOfRow, frame_of_row}
 use Rattle.mm_header.specs.HeaderLaws.{HasRow}
 use Rattle.mm_header.proofs.HeaderFrames.{header_frames}
-use Rattle.rule_core.specs.declared.rules.Program.{Program}
+use Rattle.ground_rules.specs.declared.rules.Program.{Program}
 use Rattle.mm_justify.specs.Justifying.{SaysNoMore, IsAxiomOf, header_row, AreAllowed, AreTypings}
 use Rattle.mm_justify.specs.JustifyingLaws.{HeaderHasOnly}
 

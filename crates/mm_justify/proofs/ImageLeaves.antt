@@ -10,8 +10,8 @@ use Rattle.ml_pat.specs.Named.{number_of}
 use Rattle.term_core.specs.Terms.{DomainValue}
 use Rattle.term_core.specs.Patterns.{Pattern as RulePattern, Patterns as RulePatterns, variable, domain_value, application, injection, call, no_pattern, more_patterns}
 use Rattle.term_core.specs.GroundPatterns.{IsGround, AreGround}
-use Rattle.rule_core.specs.declared.signature.Signature.{Signature}
-use Rattle.rule_core.specs.ProgramView.{rewrite_rule}
+use Rattle.ground_rules.specs.declared.signature.Signature.{Signature}
+use Rattle.ground_rules.specs.ProgramView.{rewrite_rule}
 use Rattle.ml_image.specs.Tokens.{sort_token, symbol_token, value_token, name_at, token_of_sort, token_of_symbol, token_of_value, numbered}
 use Rattle.ml_image.specs.Images.{both, symbol_image, at_sorts, injection_symbol, some_symbol_image, injection_image, image_of, applied}
 use Rattle.ml_image.proofs.ImageLaws.{numbered-keeps}

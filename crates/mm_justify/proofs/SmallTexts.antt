@@ -15,9 +15,9 @@ use Rattle.ml_kernel.specs.Rules.{pattern, ev_1}
 use Rattle.ml_kernel.specs.Theorems.{Derivation, by_rule, no_derivation}
 use Rattle.ml_kernel.specs.Concluding.{Concludes}
 use Rattle.ml_kernel.specs.declared.rules.Rule.TheVariants as rule
-use Rattle.rule_core.specs.declared.rules.Program.{Program}
+use Rattle.ground_rules.specs.declared.rules.Program.{Program}
 use Rattle.ml_image.specs.Tokens.{token_of_symbol, numbered}
-use Rattle.rule_core.specs.ProgramView.{rewrite_rule}
+use Rattle.ground_rules.specs.ProgramView.{rewrite_rule}
 use Rattle.ml_image.specs.Images.{both, image_of}
 use Rattle.ml_pat.specs.Leaves.{EachLeaf}
 use Rattle.mm_proof.specs.Tokens.{name_of, own_naming}

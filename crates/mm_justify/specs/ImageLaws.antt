@@ -4,9 +4,9 @@ use Rattle.mm_text.specs.Bytes.{Token}
 use Rattle.ml_pat.specs.Patterns.{Pattern}
 use Rattle.term_core.specs.Patterns.{Pattern as RulePattern}
 use Rattle.term_core.specs.GroundPatterns.{IsGround}
-use Rattle.rule_core.specs.declared.signature.Signature.{Signature}
-use Rattle.rule_core.specs.declared.rules.Program.{Program}
-use Rattle.rule_core.specs.Rules.{RewriteRule}
+use Rattle.ground_rules.specs.declared.signature.Signature.{Signature}
+use Rattle.ground_rules.specs.declared.rules.Program.{Program}
+use Rattle.ground_rules.specs.Rules.{RewriteRule}
 use Rattle.ml_image.specs.Images.{image_of, rule_image_of, HasImageAt, IsImageAt}
 use Rattle.ml_pat.specs.Leaves.{EachLeaf}
 use Rattle.mm_claims.specs.OverNames.{closed_over}

@@ -10,10 +10,10 @@ use Rattle.mm_header.specs.HeaderContext.{IsFrameOfRow}
 use Rattle.ml_pat.specs.Patterns.{Pattern, imp, fun, ev, constant}
 use Rattle.term_core.specs.Terms.{DomainValue}
 use Rattle.term_core.specs.Patterns.{Pattern as RulePattern}
-use Rattle.rule_core.specs.declared.signature.Signature.{Signature}
-use Rattle.rule_core.specs.declared.rules.Rule.{Rule}
-use Rattle.rule_core.specs.declared.rules.Program.{Program}
-use Rattle.rule_core.specs.ProgramView.{rewrite_rule, HasNoVariables}
+use Rattle.ground_rules.specs.declared.signature.Signature.{Signature}
+use Rattle.ground_rules.specs.declared.rules.Rule.{Rule}
+use Rattle.ground_rules.specs.declared.rules.Program.{Program}
+use Rattle.ground_rules.specs.ProgramView.{rewrite_rule, HasNoVariables}
 use Rattle.ml_image.specs.Tokens.{token_of_sort, token_of_value, numbered, is_value_at}
 use Rattle.ml_image.specs.Images.{image_of, rule_image_of}
 use Rattle.ml_image.specs.Gained.{IsOwnToken}

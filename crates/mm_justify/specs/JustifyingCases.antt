@@ -4,7 +4,7 @@ use Rattle.mm_text.specs.Bytes.{Token}
 use Rattle.mm_database.specs.Frames.{Frame}
 use Rattle.mm_header.specs.HeaderText.{header_bytes}
 use Rattle.term_core.specs.Patterns.{Pattern as RulePattern, application, no_pattern}
-use Rattle.rule_core.specs.declared.rules.Program.{Program}
+use Rattle.ground_rules.specs.declared.rules.Program.{Program}
 use Rattle.ml_image.specs.Tokens.{token_of_symbol}
 use Rattle.mm_justify.specs.Justifying.{IsAxiomOf, Justifies}
 

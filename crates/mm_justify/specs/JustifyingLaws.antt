@@ -6,7 +6,7 @@ use Rattle.ml_pat.specs.Patterns.{Pattern, imp, ev}
 use Rattle.ml_pat.specs.Named.{AreDistinct}
 use Rattle.ml_kernel.specs.Theorems.{Theorem}
 use Rattle.term_core.specs.Patterns.{Pattern as RulePattern}
-use Rattle.rule_core.specs.declared.rules.Program.{Program}
+use Rattle.ground_rules.specs.declared.rules.Program.{Program}
 use Rattle.ml_image.specs.Images.{image_of}
 use Rattle.ml_image.specs.Gained.{AreOwnTokens}
 use Rattle.ml_pat.specs.Leaves.{EachLeaf}

@@ -4,7 +4,7 @@ use Rattle.std.specs.Prelude.{codes, option_map, nat_le, ◌&&◌}
 use Rattle.std.specs.Char.{digit_char}
 use Rattle.std.specs.List.{list_all}
 use Rattle.mm_text.specs.Bytes.{Token}
-use Rattle.rule_core.specs.declared.signature.Signature.{Signature}
+use Rattle.ground_rules.specs.declared.signature.Signature.{Signature}
 use Rattle.term_core.specs.Terms.{DomainValue}
 use Rattle.ml_image.specs.Tokens.{name_at, sort_token, symbol_token, value_token, hexadecimal, value_text, is_byte, is_value_at}
 use Rattle.ml_image.specs.Gained.{IsOwnToken, AreOwnTokens}

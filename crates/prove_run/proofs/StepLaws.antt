@@ -11,9 +11,9 @@ use Rattle.ml_derived.specs.Derived.{reaching}
 use Rattle.ml_derived.specs.Implications.{IsOneStepOn, ReachesOneFurther, IsStepOf, IsFreed}
 use Rattle.term_core.specs.Patterns.{Pattern as RulePattern}
 use Rattle.term_core.specs.RulePatterns.{plain_pattern}
-use Rattle.rule_core.specs.declared.rules.Rule.{Rule}
-use Rattle.rule_core.specs.declared.rules.Program.{Program}
-use Rattle.rule_core.specs.ProgramView.{rewrite_rule}
+use Rattle.ground_rules.specs.declared.rules.Rule.{Rule}
+use Rattle.ground_rules.specs.declared.rules.Program.{Program}
+use Rattle.ground_rules.specs.ProgramView.{rewrite_rule}
 use Rattle.ml_image.specs.Images.{image_of}
 use Rattle.mm_claims.specs.Keeping.{axiom_at}
 use Rattle.mm_claims.specs.OverNames.{over_names}

@@ -7,10 +7,10 @@ ghost use Rattle.prove_run.specs.PlainNames.{HasPlainNames};
 ghost use Rattle.prove_run.specs.Proving.{AreGroundAt, Begins, GainsTheorem, IsAtRule, IsJustified, IsUsed, StepsBy};
 
 use crate::script::Script;
+use ground_rules::Program;
 use ml_derived::{free_of_top, reach_here, reach_step};
 use ml_kernel::{Lemma, Thm};
 use mm_justify::image_laws;
-use rule_core::Program;
 use std::alloc::{AllocError, Global};
 use std::marker::Model;
 use term_core::RulePat;

@@ -7,13 +7,13 @@ ghost use Rattle.prove_run.specs.PlainNames.{HasPlainNames};
 ghost use Rattle.prove_run.specs.Proving.{AreGroundAt, GainsTheorem};
 ghost use Rattle.prove_run.specs.Scripts.{Continues, HasStated, IsDeclared, IsSound, Justified, rules_used};
 
+use ground_rules::Program;
 use ml_image::{naming_laws, rule_image, term_image};
 use ml_kernel::{AxiomNo, Lemma, Theory, Thm};
 use ml_pat::{MPat, Names};
 use mm_claims::{closed_laws, later_laws};
 use mm_justify::{image_laws, justifying_laws};
 use mm_render::Renderer;
-use rule_core::Program;
 use std::alloc::{AllocError, Global};
 use term_core::RulePat;
 

@@ -13,4 +13,3 @@ pub mod TreeTest
 pub mod TermView
 pub mod TermSize
 pub mod PatternLists
-pub mod HookValues

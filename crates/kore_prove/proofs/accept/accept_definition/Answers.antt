@@ -3,8 +3,8 @@ use Rattle.std.proofs.lemmas.List.Sorted.{IsPermutation-map, All-permutation, le
 use Rattle.std.proofs.lemmas.List.{length-map}
 use Rattle.std.proofs.lemmas.Result.{err_from_is_err_and}
 use Rattle.kore_ast.specs.Plain.{plain_definition, plain_declaration}
-use Rattle.rule_core.specs.ProgramView.{rewrite_rule, rewrite_rules}
-use Rattle.rule_core.specs.declared.signature.Signature.{Signature}
+use Rattle.ground_rules.specs.ProgramView.{rewrite_rule, rewrite_rules}
+use Rattle.ground_rules.specs.declared.signature.Signature.{Signature}
 use Rattle.kore_prove.specs.Acceptance.{IsSortEntry, IsSymbolEntry, IsRuleOf, sort_declared, symbol_declared, axiom_declared, sort_number}
 use Rattle.kore_prove.specs.Runnable.{IsRunnable}
 use Rattle.kore_prove.proofs.MainModule.{main-within}

@@ -1,7 +1,7 @@
 use Rattle.std.proofs.Common.{rules}
 use Rattle.std.proofs.lemmas.List.Sorted.{IsNonDecreasingBy-from_sort_by_key, All-permutation}
-use Rattle.rule_core.specs.declared.rules.Rule.{Rule}
-use Rattle.rule_core.proofs.Trials.{in_trial_order}
+use Rattle.ground_rules.specs.declared.rules.Rule.{Rule}
+use Rattle.ground_rules.proofs.Trials.{in_trial_order}
 use Rattle.kore_prove.specs.Runnable.{HasUsualPriority}
 use Rattle.kore_prove.proofs.accept.put_in_order.Goals as goal
 

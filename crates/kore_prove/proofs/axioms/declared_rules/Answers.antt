@@ -4,7 +4,7 @@ use Rattle.std.proofs.lemmas.Result.{err_from_is_err_and}
 use Rattle.std.proofs.Common.{rules, arith, ◌<◌, length, ap, map, subst}
 use Rattle.kore_ast.specs.Plain.{plain_declaration, plain_axiom_decl}
 use Rattle.kore_prove.specs.Acceptance.{IsRuleOf, axiom_declared, sort_number}
-use Rattle.rule_core.specs.ProgramView.{rewrite_rule}
+use Rattle.ground_rules.specs.ProgramView.{rewrite_rule}
 use Rattle.kore_prove.proofs.NotDeclared.{no_axiom}
 use Rattle.kore_prove.proofs.Pairings.{Each-take_some, Each-take_none, All-item}
 use Rattle.kore_prove.specs.Nesting.{IsShallow}

@@ -2,7 +2,7 @@ use Rattle.std.proofs.Common.{All, map, take}
 use Rattle.std.specs.List.{filter_map}
 use Rattle.kore_ast.specs.Plain.{plain_declaration}
 use Rattle.kore_prove.specs.Acceptance.{Each, IsRuleOf, axiom_declared, sort_number}
-use Rattle.rule_core.specs.ProgramView.{rewrite_rule}
+use Rattle.ground_rules.specs.ProgramView.{rewrite_rule}
 use Rattle.kore_prove.specs.Runnable.{IsRunnable}
 use Rattle.kore_prove.proofs.axioms.declared_rules.Given as goal
 

@@ -3,7 +3,7 @@ use Rattle.std.specs.List.{filter_map}
 use Rattle.std.proofs.lemmas.List.{take_all}
 use Rattle.kore_ast.specs.Plain.{plain_declaration, plain_axiom_decl}
 use Rattle.kore_text.specs.Trees.{AxiomDeclaration}
-use Rattle.rule_core.specs.Rules.{RewriteRule}
+use Rattle.ground_rules.specs.Rules.{RewriteRule}
 use Rattle.kore_prove.specs.Acceptance.{IsRuleOf, axiom_declared, sort_number}
 use Rattle.kore_prove.proofs.NotDeclared.{no_axiom}
 use Rattle.kore_prove.proofs.Pairings.{none-take, Each-none, none_each_empty}

@@ -1,7 +1,7 @@
 use Rattle.std.proofs.Common.{rules, ◌≡◌, ℕ, List, subst, sym, inr}
 use Rattle.desk_io.specs.Told.{Lacks, HoldsMore}
 use Rattle.desk_io.specs.declared.read.ReadEnd.TheVariants as read
-use Rattle.rule_core.specs.declared.rules.Program.{Program}
+use Rattle.ground_rules.specs.declared.rules.Program.{Program}
 use Rattle.kore_prove.specs.declared.accept.Refusal.{Refusal}
 use Rattle.kore_prove.specs.declared.accept.Refusal.TheVariants as refusal
 use Rattle.kore_prove.specs.declared.files.FileEnd.{FileEnd}

@@ -1,6 +1,6 @@
 use Rattle.std.proofs.Common.{rules, string_bytes, ◌≡◌, []}
 use Rattle.std.proofs.lemmas.List.{nil_from_length}
-use Rattle.rule_core.specs.declared.signature.SortKind.TheVariants.{Other}
+use Rattle.ground_rules.specs.declared.signature.SortKind.TheVariants.{Other}
 use Rattle.kore_prove.proofs.declared.add_sort.Goals as goal
 
 pub returns-then-branch-clause-added : goal.returns-then-branch-clause-added

@@ -3,7 +3,7 @@ use Rattle.std.proofs.lemmas.Grind.{common_steps}
 use Rattle.std.proofs.lemmas.List.{nil_from_length}
 use Rattle.kore_text.specs.Trees.{no_sorts, sort_applied, sort_trees}
 use Rattle.kore_ast.specs.Plain.{plain_sort}
-use Rattle.rule_core.specs.Named.{number_of}
+use Rattle.ground_rules.specs.Named.{number_of}
 use Rattle.kore_ast.specs.declared.tree.Sort.{Sort}
 use Rattle.kore_prove.proofs.TreesOfForms.{tree-sort}
 use Rattle.kore_prove.proofs.Forms.{sort-args, no-sort-trees}

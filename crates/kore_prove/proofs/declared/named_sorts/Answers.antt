@@ -1,6 +1,6 @@
 use Rattle.std.proofs.Common.{refl, arith, length, ◌<◌}
 use Rattle.kore_ast.specs.Plain.{plain_sort}
-use Rattle.rule_core.specs.declared.signature.SortRef.TheVariants.{Sort}
+use Rattle.ground_rules.specs.declared.signature.SortRef.TheVariants.{Sort}
 use Rattle.kore_prove.specs.Acceptance.{NamesSortOf}
 use Rattle.kore_prove.proofs.Pairings.{Each-take}
 use Rattle.kore_prove.proofs.WordsOfCases.{if_none}

@@ -1,8 +1,8 @@
 use Rattle.kore_prove.proofs.Determined.{one_info, one_meaning_sort}
 use Rattle.kore_prove.proofs.WordsOfCases.{passed_on}
 use Rattle.kore_prove.specs.Acceptance.{AllDenote}
-use Rattle.rule_core.specs.Named.{number_of}
-use Rattle.rule_core.specs.declared.signature.SymInfo.{SymInfo}
+use Rattle.ground_rules.specs.Named.{number_of}
+use Rattle.ground_rules.specs.declared.signature.SymInfo.{SymInfo}
 use Rattle.kore_text.specs.Trees.{pattern_trees}
 use Rattle.kore_ast.specs.Plain.{plain_pattern}
 use Rattle.std.proofs.lemmas.Grind.{common_steps}
@@ -11,7 +11,7 @@ use Rattle.std.proofs.lemmas.Option.{same_Some}
 use Rattle.std.proofs.lemmas.Bool.{false≢true}
 use Rattle.std.proofs.Common.{rules, ◌≡◌, [], arith, true, ◌∙◌, ℕ, map, false, Some, refl, sym, ap, subst, slice_get}
 use Rattle.std.proofs.lemmas.List.{nil_from_length}
-use Rattle.rule_core.specs.declared.signature.SortRef.TheVariants.{Param, Sort}
+use Rattle.ground_rules.specs.declared.signature.SortRef.TheVariants.{Param, Sort}
 use Rattle.term_core.proofs.PlainPatterns.{plain-Ctor}
 use Rattle.kore_prove.proofs.Meanings.{AllDenote-take, denotes-applied, denoted, same_count, meaning_at}
 use Rattle.kore_prove.proofs.meaning.+meaning.Goals as goal

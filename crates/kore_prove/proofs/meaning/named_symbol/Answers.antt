@@ -1,8 +1,8 @@
 use Rattle.std.proofs.Common.{◌≡◌, ◌∙◌, ap, ℕ, List, rules, Some, None, option_map, slice_get}
-use Rattle.rule_core.specs.declared.signature.SymInfo.{SymInfo}
-use Rattle.rule_core.proofs.Tables.{number_of-entry}
+use Rattle.ground_rules.specs.declared.signature.SymInfo.{SymInfo}
+use Rattle.ground_rules.proofs.Tables.{number_of-entry}
 use Rattle.kore_prove.proofs.Taken.{number_of-within}
-use Rattle.rule_core.specs.Named.{number_of}
+use Rattle.ground_rules.specs.Named.{number_of}
 use Rattle.kore_prove.proofs.Meanings.{entry-of}
 use Rattle.kore_prove.proofs.meaning.named_symbol.Goals as goal
 

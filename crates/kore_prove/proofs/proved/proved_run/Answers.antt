@@ -2,9 +2,9 @@ use Rattle.std.proofs.Common.{◌≡◌, [], Some, rules, sym, ◌∙◌, subst}
 use Rattle.term_core.specs.Terms.{Tree}
 use Rattle.term_core.specs.Patterns.{instance_of, ground_pattern}
 use Rattle.term_core.specs.RulePatterns.{plain_pattern}
-use Rattle.rule_core.specs.Runs.{Reaches, at_start, after_step}
-use Rattle.rule_core.specs.FirstRule.{Rewrites}
-use Rattle.rule_core.specs.ProgramView.{rewrite_rules}
+use Rattle.ground_rules.specs.Runs.{Reaches, at_start, after_step}
+use Rattle.ground_rules.specs.FirstRule.{Rewrites}
+use Rattle.ground_rules.specs.ProgramView.{rewrite_rules}
 use Rattle.prove_run.specs.Proving.{StepsBy}
 use Rattle.kore_prove.specs.Runnable.{IsShown}
 use Rattle.kore_prove.specs.Steps.{LeadsBy}

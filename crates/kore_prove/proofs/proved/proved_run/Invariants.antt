@@ -2,8 +2,8 @@ use Rattle.std.specs.Prelude.{◌≡◌, [], Some}
 use Rattle.term_core.specs.Terms.{Tree}
 use Rattle.term_core.specs.Patterns.{instance_of, ground_pattern}
 use Rattle.term_core.specs.RulePatterns.{plain_pattern}
-use Rattle.rule_core.specs.ProgramView.{rewrite_rules}
-use Rattle.rule_core.specs.Runs.{Reaches}
+use Rattle.ground_rules.specs.ProgramView.{rewrite_rules}
+use Rattle.ground_rules.specs.Runs.{Reaches}
 use Rattle.kore_prove.specs.Runnable.{IsShown}
 use Rattle.kore_prove.proofs.Provable.{IsProofOf}
 use Rattle.kore_prove.proofs.proved.proved_run.Given as goal

@@ -1,9 +1,9 @@
 use Rattle.std.proofs.Common.{rules, arith, length}
 use Rattle.std.proofs.lemmas.List.{length-map}
 use Rattle.term_core.specs.RulePatterns.{plain_pattern}
-use Rattle.rule_core.specs.ProgramView.{rewrite_rule, rewrite_rules}
-use Rattle.rule_core.specs.Trial.{IsFirstMatch, NoneMatches}
-use Rattle.rule_core.proofs.Trials.{no_rule_applies}
+use Rattle.ground_rules.specs.ProgramView.{rewrite_rule, rewrite_rules}
+use Rattle.ground_rules.specs.Trial.{IsFirstMatch, NoneMatches}
+use Rattle.ground_rules.proofs.Trials.{no_rule_applies}
 use Rattle.kore_prove.proofs.Stepping.{found, fits, steps}
 use Rattle.kore_prove.proofs.run.next.Goals as goal
 

@@ -1,7 +1,7 @@
 use Rattle.std.proofs.Common.{rules}
-use Rattle.rule_core.specs.Runs.{at_start, after_step}
-use Rattle.rule_core.specs.FirstRule.{Rewrites}
-use Rattle.rule_core.specs.ProgramView.{rewrite_rules}
+use Rattle.ground_rules.specs.Runs.{at_start, after_step}
+use Rattle.ground_rules.specs.FirstRule.{Rewrites}
+use Rattle.ground_rules.specs.ProgramView.{rewrite_rules}
 use Rattle.kore_prove.specs.Runnable.{IsShown}
 use Rattle.kore_prove.proofs.run.run.Goals as goal
 

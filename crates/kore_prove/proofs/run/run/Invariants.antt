@@ -1,5 +1,5 @@
-use Rattle.rule_core.specs.ProgramView.{rewrite_rules}
-use Rattle.rule_core.specs.Runs.{Reaches}
+use Rattle.ground_rules.specs.ProgramView.{rewrite_rules}
+use Rattle.ground_rules.specs.Runs.{Reaches}
 use Rattle.kore_prove.specs.Runnable.{IsShown}
 use Rattle.kore_prove.proofs.run.run.Given as goal
 

@@ -1,8 +1,8 @@
 use Rattle.std.proofs.Common.{◌≡◌, Some, ap, sym, ◌∙◌, slice_get}
 use Rattle.ml_pat.specs.Patterns.{Pattern, top, imp, and, next}
 use Rattle.term_core.specs.RulePatterns.{plain_pattern}
-use Rattle.rule_core.specs.ProgramView.{rewrite_rule}
-use Rattle.rule_core.specs.declared.rules.Rule.{Rule}
+use Rattle.ground_rules.specs.ProgramView.{rewrite_rule}
+use Rattle.ground_rules.specs.declared.rules.Rule.{Rule}
 use Rattle.ml_image.specs.Images.{IsImageAt, image_of, rule_image_of}
 use Rattle.ml_image.proofs.ImageLaws.{gained-twice, gained-image, rule_image-sides, if_ok, item_there}
 use Rattle.ml_image.proofs.images.rule_image.Goals as goal

@@ -1,6 +1,6 @@
 use Rattle.std.proofs.Common.{◌≤◌, length, ap, sym, subst, rules, arith, slice_get, List}
 use Rattle.term_core.specs.Patterns.{Pattern}
-use Rattle.rule_core.specs.declared.rules.Rule.{Rule}
+use Rattle.ground_rules.specs.declared.rules.Rule.{Rule}
 use Rattle.ml_image.specs.Images.{HasImage}
 use Rattle.ml_image.proofs.tests.small.Goals as goal
 

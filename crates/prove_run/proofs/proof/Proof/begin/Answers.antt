@@ -1,5 +1,5 @@
 use Rattle.std.proofs.Common.{◌≡◌, Option, [], map, refl, Some, ap, ◌∙◌, sym, subst}
-use Rattle.rule_core.specs.declared.rules.Program.{Program}
+use Rattle.ground_rules.specs.declared.rules.Program.{Program}
 use Rattle.term_core.specs.RulePatterns.{plain_pattern}
 use Rattle.ml_kernel.specs.Theorems.{Theorem}
 use Rattle.ml_image.specs.Images.{image_of}

@@ -2,7 +2,7 @@ use Rattle.std.proofs.Common.{◌≡◌, Option, map, true, Some, ap, ◌∙◌,
 use Rattle.std.specs.Prelude.{slice_get, slice_set}
 use Rattle.std.specs.Global.{Vec}
 use Rattle.std.specs.Option.{is_some}
-use Rattle.rule_core.specs.declared.rules.Rule.{Rule}
+use Rattle.ground_rules.specs.declared.rules.Rule.{Rule}
 use Rattle.term_core.specs.RulePatterns.{plain_pattern}
 use Rattle.ml_pat.specs.Patterns.{next}
 use Rattle.ml_kernel.specs.Theorems.{Theorem}

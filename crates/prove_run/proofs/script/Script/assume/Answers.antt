@@ -4,7 +4,7 @@ use Rattle.std.proofs.lemmas.List.{map-set}
 use Rattle.std.proofs.lemmas.Option.{slice_get_within}
 use Rattle.mm_text.specs.Bytes.{Token}
 use Rattle.ml_pat.specs.Patterns.{Pattern}
-use Rattle.rule_core.specs.ProgramView.{rewrite_rule}
+use Rattle.ground_rules.specs.ProgramView.{rewrite_rule}
 use Rattle.ml_image.specs.Images.{rule_image_of}
 use Rattle.mm_claims.specs.Kept.{Kept}
 use Rattle.ml_pat.specs.Leaves.{EachLeaf}

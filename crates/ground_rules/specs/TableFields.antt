@@ -1,0 +1,14 @@
+-- What contracts see of a table, and how its two fields agree.
+use Rattle.std.specs.Prelude.{◌≡◌, ℕ, List, map, string_bytes}
+use Rattle.std.specs.BTreeMap.{get_by_text}
+use Rattle.ground_rules.specs.Named.{number_of, names_of, AreDistinct}
+use Rattle.ground_rules.specs.declared.table.Table.TheInside.{Inside}
+
+-- the names, each beside its value
+abbrev pub entries_of : {V : Type 0} → Inside V → List (List ℕ × V)
+entries_of t = map (λ e. (string_bytes e.0, e.1)) t.entries.items
+
+-- no name stands twice, and the map has just the number of each name
+pub record IsIndexed {V : Type 0} (t : Inside V) : Type 0 where
+  pub distinct : AreDistinct (names_of (entries_of t))
+  pub numbered : (name : List ℕ) → get_by_text t.numbers name ≡ number_of (entries_of t) name

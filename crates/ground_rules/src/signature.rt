@@ -1,0 +1,75 @@
+// The signature of a definition: its sorts and symbols.
+use crate::Table;
+use term_core::{HookNo, SortId};
+
+/// What the hook of a sort says of the sort's domain values.
+#[derive(Clone, Copy, PartialEq, Eq, Debug)]
+pub enum SortKind {
+    /// Whole numbers, by the hook `INT.Int`.
+    Int,
+    /// `true` and `false`, by the hook `BOOL.Bool`.
+    Bool,
+    /// Maps, by the hook `MAP.Map`.
+    Map,
+    /// Any text: the sort has another hook or none.
+    Other,
+}
+
+/// A declared sort. Its name stands beside it, in the table of sorts.
+#[derive(Clone, Copy, PartialEq, Eq, Debug)]
+pub struct SortInfo {
+    /// What its domain values are.
+    pub kind: SortKind,
+}
+
+/// What a symbol is used for.
+#[derive(Clone, Copy, PartialEq, Eq, Debug)]
+pub enum SymKind {
+    /// It takes the terms of a sort to a sort above.
+    Injection,
+    /// It builds terms.
+    Ctor,
+    /// A function whose values its equations give.
+    Equations,
+    /// A function whose values this hook gives.
+    Hooked(HookNo),
+    /// A function whose values nothing gives: a call of it is not evaluated.
+    Closed,
+    /// None of these: no term or rule uses it.
+    NoKind,
+}
+
+/// A sort in the declaration of a symbol.
+#[derive(Clone, Copy, PartialEq, Eq, Debug)]
+pub enum SortRef {
+    /// One of the symbol's own sort parameters, by its place among them from 0 on.
+    Param(u32),
+    /// A declared sort.
+    Sort(SortId),
+}
+
+/// A declared symbol. Its name stands beside it, in the table of symbols.
+#[derive(Drop)]
+pub struct SymInfo {
+    /// What it is used for.
+    pub kind: SymKind,
+    /// How many sort parameters it has.
+    pub params: u32,
+    /// The sorts of its arguments, in order.
+    pub args: Vec<SortRef>,
+    /// The sort of what it makes.
+    pub result: SortRef,
+    /// The name of its hook, where it has one.
+    pub hook: Option<String>,
+    /// Whether it is said to be associative, commutative or idempotent, or to have a unit.
+    pub ac: bool,
+}
+
+/// The sorts and the symbols of a definition, each by name and by number.
+#[derive(Drop)]
+pub struct Signature {
+    /// The sorts: a `SortId` is the number of a name here.
+    pub sorts: Table<SortInfo>,
+    /// The symbols: a `SymId` is the number of a name here.
+    pub symbols: Table<SymInfo>,
+}
