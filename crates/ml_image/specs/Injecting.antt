@@ -1,17 +1,7 @@
 -- Which symbol injects, as the code looks for it.
-use Rattle.std.specs.Prelude.{◌≡◌, ◌<◌, ℕ, Bool, true, false, IsTrue, IsSome, List, [], ◌∷◌, length, slice_get, Option, Some, None, option_map}
-use Rattle.std.specs.List.{position_from}
-use Rattle.ml_pat.specs.Patterns.{Pattern, top, imp, and, app, at_sort, next, var, constant}
-use Rattle.term_core.specs.Patterns.{Pattern as RulePattern, Patterns as RulePatterns, variable, domain_value, application, injection, call, no_pattern, more_patterns}
+use Rattle.std.specs.Prelude.{◌≡◌, ℕ, Bool, List, slice_get, Some}
 use Rattle.rule_core.specs.declared.signature.Signature.{Signature}
 use Rattle.rule_core.specs.declared.signature.SymInfo.{SymInfo}
-use Rattle.rule_core.specs.declared.signature.SymKind.{SymKind}
-use Rattle.rule_core.specs.declared.signature.SymKind.TheVariants as kind
-use Rattle.rule_core.specs.declared.rules.Rule.{Rule}
-use Rattle.rule_core.specs.declared.rules.Program.{Program}
-use Rattle.rule_core.specs.Rules.{RewriteRule}
-use Rattle.rule_core.specs.ProgramView.{rewrite_rule}
-use Rattle.ml_image.specs.Tokens.{token_of_sort, token_of_symbol, token_of_value, numbered, is_value_at}
 use Rattle.ml_image.specs.Images.{is_injection}
 
 -- whether the symbol with this number injects
