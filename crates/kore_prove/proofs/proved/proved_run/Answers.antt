@@ -44,9 +44,9 @@ pub loop-made-preserved : goal.loop-made-preserved
 loop-made-preserved c =
     let program = c.args.program.now in
     let step : Rewrites (rewrite_rules program.rules.items) c.loop-made.config c.in-Some.to × IsShown program.sig.symbols c.in-Some.to × LeadsBy program.rules.items c.in-Some.rule c.loop-made.config c.in-Some.to = search rules in
-    let further : StepsBy c.loop-made.proof c.in_ok-proof-2.proof c.in-Some.rule = search rules in
+    let further : StepsBy c.loop-made.proof c.in_ok-proof-in-Some.proof c.in-Some.rule = search rules in
     record {
       reached = λ t is. after_step c.loop-made.made c.loop-made.config c.in-Some.to (c.loop-made.invariant.reached t is) step.0;
       shown = step.1;
-      proved = goes_on c.loop-made.proof c.in_ok-proof-2.proof program (plain_pattern c.args.start.now) c.in-Some.rule c.loop-made.config c.in-Some.to c.requires.provable c.loop-made.invariant.proved step.2 further;
+      proved = goes_on c.loop-made.proof c.in_ok-proof-in-Some.proof program (plain_pattern c.args.start.now) c.in-Some.rule c.loop-made.config c.in-Some.to c.requires.provable c.loop-made.invariant.proved step.2 further;
     }
