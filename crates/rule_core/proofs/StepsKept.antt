@@ -1,16 +1,16 @@
 -- A step has a record.
-use Rattle.std.proofs.Common.{◌≡◌, ℕ, suc, zero, ◌+◌, ◌-◌, ◌<◌, ◌≤◌, ◌⊎◌, inl, inr, List, [], ◌∷◌, Option, Some, None, refl, sym, ◌∙◌, ap, subst, slice_get, le_trans, arith}
+use Rattle.std.proofs.Common.{◌≡◌, ℕ, suc, zero, ◌+◌, ◌-◌, ◌<◌, ◌≤◌, inl, inr, List, ◌∷◌, Option, Some, refl, subst, slice_get, le_trans, arith}
 use Rattle.term_core.specs.Terms.{Tree}
 use Rattle.term_core.specs.Patterns.{Pattern}
 use Rattle.rule_core.specs.Rules.{RewriteRule}
 use Rattle.rule_core.specs.Theories.{RewriteTheory}
-use Rattle.rule_core.specs.Evaluation.{Evaluated, value, blocked, Tested, holds, fails, untested, says_true, says_other, says_nothing}
-use Rattle.rule_core.specs.FirstRule.{most_nesting, Matches, IsUnmatched, Meets, no_condition, condition, Trial, applies, Tries, unmatched, condition_fails, condition_holds}
-use Rattle.rule_core.specs.Runs.{Stepped, next, Steps, by_rule}
-use Rattle.rule_core.specs.Records.{StepRecord, RecordsStep, RecordsCondition, OptionalRecord, unconditional, IsUnusedRule, most_calls, result_of}
+use Rattle.rule_core.specs.Evaluation.{value, blocked, Tested, fails, says_nothing}
+use Rattle.rule_core.specs.FirstRule.{most_nesting, Matches, Meets, no_condition, condition, applies, Tries, unmatched, condition_fails, condition_holds}
+use Rattle.rule_core.specs.Runs.{by_rule}
+use Rattle.rule_core.specs.Records.{RecordsCondition, OptionalRecord, unconditional, IsUnusedRule, most_calls}
 use Rattle.rule_core.specs.RunLaws.{StepHasRecord}
 use Rattle.rule_core.proofs.MoreLeft.{with_calls, IsTold, more_says, evaluates_more}
-use Rattle.rule_core.proofs.RecordsKept.{LeavesAtMost, says_at_most, calls_fall, RecordOf, ConditionRecord, condition_record, has_record}
+use Rattle.rule_core.proofs.RecordsKept.{LeavesAtMost, says_at_most, calls_fall, ConditionRecord, condition_record, has_record}
 
 -- the condition of a rule, with more calls left
 meets_more : (theory : RewriteTheory) (k : ℕ) {c : ℕ} {theta : List (Option Tree)} {p : Option Pattern} {r : Tested} → Meets theory theta p c r → IsTold r → Meets theory theta p (c + k) (with_calls k r)
