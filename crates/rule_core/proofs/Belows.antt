@@ -1,5 +1,5 @@
 -- The test of what is below what answers true exactly where a chain leads there.
-use Rattle.std.proofs.Common.{◌≡◌, ℕ, zero, suc, ◌⊎◌, ◌↔◌, inl, inr, eq-eqb, Bool, true, false, List, [], ◌∷◌, Contains, refl, sym, ap, subst, arith}
+use Rattle.std.proofs.Common.{◌≡◌, ℕ, zero, suc, ◌⊎◌, ◌↔◌, inl, inr, eq-eqb, Bool, true, false, List, [], ◌∷◌, ◌++◌, Contains, refl, sym, ◌∙◌, ap, subst, arith}
 use Rattle.std.specs.Prelude.{◌&&◌, ◌||◌, ◌==◌, IsTrue}
 use Rattle.std.proofs.lemmas.Bool.{eqb-true, false≢true}
 use Rattle.rule_core.specs.Subsorts.{IsBelow, by_pair, by_chain, HasNoCycle}
@@ -30,10 +30,10 @@ IsBelow-trans pairs a b c (by_pair first) h = by_chain first h
 IsBelow-trans pairs a b c (by_chain {b = m} first rest) h = by_chain first (IsBelow-trans pairs m b c rest h)
 
 -- a pair of a longer list
-contains_later : (pairs : List (ℕ × ℕ)) (first pair : ℕ × ℕ) → Contains pairs pair → Contains (first ∷ pairs) pair
+pub contains_later : (pairs : List (ℕ × ℕ)) (first pair : ℕ × ℕ) → Contains pairs pair → Contains (first ∷ pairs) pair
 contains_later pairs first pair known = (suc known.0, omega (arith, known.1), known.2)
 
-contains_cases : (pairs : List (ℕ × ℕ)) (first pair : ℕ × ℕ) → Contains (first ∷ pairs) pair → (first ≡ pair) ⊎ Contains pairs pair
+pub contains_cases : (pairs : List (ℕ × ℕ)) (first pair : ℕ × ℕ) → Contains (first ∷ pairs) pair → (first ≡ pair) ⊎ Contains pairs pair
 contains_cases pairs first pair (zero, lt, is) = inl is
 contains_cases pairs first pair (suc k, lt, is) = inr (k, omega arith, is)
 
@@ -120,6 +120,66 @@ below_answer pairs a b false h = unless (is_below pairs a b) refl where
   unless : (t : Bool) → is_below pairs a b ≡ t → false ≡ is_below pairs a b
   unless false e = sym e
   unless true e = absurd (false≢true (h.1 (is_below-true pairs a b e)))
+
+-- a chain over some of the pairs is one over all of them
+pub fewer_pairs : (pairs all : List (ℕ × ℕ)) (a b : ℕ) → ((p : ℕ × ℕ) → Contains pairs p → Contains all p) → IsBelow pairs a b → IsBelow all a b
+fewer_pairs pairs all a b among (by_pair known) = by_pair (among _ known)
+fewer_pairs pairs all a b among (by_chain {b = m} known rest) = by_chain (among _ known) (fewer_pairs pairs all m b among rest)
+
+-- the pairs of a list that ends in one more pair
+pub last_first : (pairs : List (ℕ × ℕ)) (last p : ℕ × ℕ) → Contains (pairs ++ last ∷ []) p → Contains (last ∷ pairs) p
+last_first [] last p known = known
+last_first (pair ∷ pairs) last p known =
+    one (λ later. last_first pairs last p later) (contains_cases (pairs ++ last ∷ []) pair p known) where
+      two : (last ≡ p) ⊎ Contains pairs p → Contains (last ∷ pair ∷ pairs) p
+      two (inl is) = (0, omega arith, is)
+      two (inr known') = contains_later (pair ∷ pairs) last p (contains_later pairs pair p known')
+
+      one : (Contains (pairs ++ last ∷ []) p → Contains (last ∷ pairs) p) → (pair ≡ p) ⊎ Contains (pairs ++ last ∷ []) p → Contains (last ∷ pair ∷ pairs) p
+      one fewer (inl is) = (1, omega arith, is)
+      one fewer (inr later) = two (contains_cases pairs last p (fewer later))
+
+pub first_last : (pairs : List (ℕ × ℕ)) (last p : ℕ × ℕ) → Contains (last ∷ pairs) p → Contains (pairs ++ last ∷ []) p
+first_last [] last p known = known
+first_last (pair ∷ pairs) last p known =
+    one (λ there. first_last pairs last p there) (contains_cases (pair ∷ pairs) last p known) where
+      two : (Contains (last ∷ pairs) p → Contains (pairs ++ last ∷ []) p) → (pair ≡ p) ⊎ Contains pairs p → Contains (pair ∷ (pairs ++ last ∷ [])) p
+      two fewer (inl is) = (0, omega arith, is)
+      two fewer (inr later) = contains_later _ pair p (fewer (contains_later pairs last p later))
+
+      one : (Contains (last ∷ pairs) p → Contains (pairs ++ last ∷ []) p) → (last ≡ p) ⊎ Contains (pair ∷ pairs) p → Contains (pair ∷ (pairs ++ last ∷ [])) p
+      one fewer (inl is) = contains_later _ pair p (fewer (0, omega arith, is))
+      one fewer (inr known') = two fewer (contains_cases pairs pair p known')
+
+-- the test over a list that ends in one more pair
+pub below_last : (pairs : List (ℕ × ℕ)) (last : ℕ × ℕ) (a b : ℕ) → is_below (pairs ++ last ∷ []) a b ≡ is_below (last ∷ pairs) a b
+below_last pairs last a b =
+    sym (below_answer (pairs ++ last ∷ []) a b (is_below (last ∷ pairs) a b) (
+      λ t. fewer_pairs _ _ a b (first_last pairs last) (is_below-true (last ∷ pairs) a b t),
+      λ below. true-is_below (last ∷ pairs) a b (fewer_pairs _ _ a b (last_first pairs last) below),
+    ))
+
+-- one more pair makes no cycle just where it does not lead from a sort to itself or to one below
+pub no_cycle_more : (pairs : List (ℕ × ℕ)) (a b : ℕ) → HasNoCycle pairs → (a ≡ b → ⊥) → (IsBelow pairs b a → ⊥) → HasNoCycle (pairs ++ (a, b) ∷ [])
+no_cycle_more pairs a b none other back x round = by_case (chain_cases pairs (a, b) x x (fewer_pairs _ _ x x (last_first pairs (a, b)) round)) where
+  by_case : IsBelow pairs x x ⊎ (Reaches pairs x a × Reaches pairs b x) → ⊥
+  by_case (inl old) = none x old
+  by_case (inr halves) = ends halves.0 halves.1 where
+    ends : Reaches pairs x a → Reaches pairs b x → ⊥
+    ends (inl e) (inl f) = other (sym (f ∙ e))
+    ends (inl e) (inr g) = let P : ℕ → Type 0 = λ n. IsBelow pairs b n in back (subst P e g)
+    ends (inr g) (inl f) = let P : ℕ → Type 0 = λ n. IsBelow pairs n a in back (subst P (sym f) g)
+    ends (inr g) (inr h) = back (IsBelow-trans pairs b x a h g)
+
+pub cycle_same : (pairs : List (ℕ × ℕ)) (a b : ℕ) → a ≡ b → HasNoCycle (pairs ++ (a, b) ∷ []) → ⊥
+cycle_same pairs a b same none =
+    let P : ℕ → Type 0 = λ n. IsBelow (pairs ++ (a, b) ∷ []) a n in
+    none a (subst P (sym same) (by_pair (first_last pairs (a, b) (a, b) (0, omega arith, refl))))
+
+pub cycle_back : (pairs : List (ℕ × ℕ)) (a b : ℕ) → IsBelow pairs b a → HasNoCycle (pairs ++ (a, b) ∷ []) → ⊥
+cycle_back pairs a b back none =
+    none a (by_chain (first_last pairs (a, b) (a, b) (0, omega arith, refl))
+    (fewer_pairs _ _ b a (λ p known. first_last pairs (a, b) p (contains_later pairs (a, b) p known)) back))
 
 -- no sort reaches itself
 pub no_loop : (pairs : List (ℕ × ℕ)) (a b : ℕ) → HasNoCycle pairs → IsBelow pairs a b → (a == b) ≡ false

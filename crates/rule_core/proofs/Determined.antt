@@ -1,20 +1,16 @@
 -- Laws of evaluation and of records, in well-sorted theories.
-use Rattle.std.proofs.Common.{◌≡◌, ℕ, ◌+◌, ◌≤◌, List, [], Option, Some, refl, sym, ◌∙◌, ap, subst, arith}
-use Rattle.std.specs.Prelude.{All}
-use Rattle.term_core.specs.Terms.{Tree, Forest}
+use Rattle.std.proofs.Common.{◌≡◌, ℕ, ◌+◌, List, [], Option, subst, arith}
+use Rattle.term_core.specs.Terms.{Tree}
 use Rattle.term_core.specs.Patterns.{Pattern}
-use Rattle.rule_core.specs.Rules.{Equation}
-use Rattle.rule_core.specs.Theories.{RewriteTheory, equations_of}
-use Rattle.rule_core.specs.Sorting.{IsSymbol}
-use Rattle.rule_core.specs.Evaluation.{Evaluated, value, Evaluates}
-use Rattle.rule_core.specs.Records.{Record, result_of, Records}
-use Rattle.rule_core.specs.WellSorted.{IsWellSorted, IsEquationOf}
-use Rattle.rule_core.specs.EvaluationLaws.{EvaluationIsUnique, EvaluationHasAnswer, ValuesAreSorted, MoreLeftKeepsValue, ValueHasRecord, RecordTells, RecordDetermines, RecordsAgree}
-use Rattle.rule_core.specs.declared.signature.SymInfo.{SymInfo}
-use Rattle.rule_core.proofs.EvaluationUnique.{MatchesOnce, AllMatchOnce, evaluation_unique}
+use Rattle.rule_core.specs.Theories.{RewriteTheory}
+use Rattle.rule_core.specs.Evaluation.{value, Evaluates}
+use Rattle.rule_core.specs.Records.{result_of}
+use Rattle.rule_core.specs.WellSorted.{IsWellSorted}
+use Rattle.rule_core.specs.EvaluationLaws.{CallsFall, EvaluationIsUnique, EvaluationHasAnswer, ValuesAreSorted, MoreLeftKeepsValue, ValueHasRecord, RecordTells, RecordDetermines, RecordsAgree}
+use Rattle.rule_core.proofs.EvaluationUnique.{AllMatchOnce, evaluation_unique}
 use Rattle.rule_core.proofs.MoreLeft.{evaluates_more}
 use Rattle.rule_core.proofs.RecordsTell.{record_tells}
-use Rattle.rule_core.proofs.RecordsKept.{has_record}
+use Rattle.rule_core.proofs.RecordsKept.{has_record, calls_fall}
 use Rattle.rule_core.proofs.EvaluationAnswers.{IsGood, answers}
 use Rattle.rule_core.proofs.MatchExact.{match_is_unique}
 
@@ -38,6 +34,9 @@ values_are_sorted theory n c d variables theta p sort t good h serves e =
 
 pub more_left_keeps_value : MoreLeftKeepsValue
 more_left_keeps_value theory n m c d k theta p t le e = evaluates_more theory k e m le
+
+pub evaluation_calls_fall : CallsFall
+evaluation_calls_fall theory n c d theta p t e = calls_fall e
 
 pub value_has_record : ValueHasRecord
 value_has_record theory n c d theta p t le few e = has_record theory e le few

@@ -1,18 +1,17 @@
 -- Well-sorted patterns have an answer, and a value is a normal term of their sort that is not too high.
-use Rattle.std.proofs.Common.{◌≡◌, ℕ, suc, zero, ◌+◌, ◌<◌, ◌≤◌, ◌≢◌, ◌⊎◌, inl, inr, ⊎_elim, max, List, [], ◌∷◌, length, slice_get, Bool, true, false, Option, Some, None, refl, sym, ◌∙◌, ap, subst, arith}
+use Rattle.std.proofs.Common.{◌≡◌, ℕ, suc, zero, ◌<◌, ◌≤◌, ◌≢◌, ◌⊎◌, inl, inr, ⊎_elim, List, [], ◌∷◌, length, slice_get, true, false, Option, Some, None, refl, sym, ◌∙◌, ap, subst, arith}
 use Rattle.std.specs.Prelude.{All, IsSome, IfSome}
 use Rattle.std.proofs.Math.Nat.{eq-or-lt_of_le, le_trans}
 use Rattle.std.proofs.lemmas.Bool.{cases_lt, false≢true}
 use Rattle.term_core.specs.Terms.{DomainValue, integer, truth, text, Tree, leaf, node, inj, Forest, no_tree, more_trees, height, heights, IsNormal, AreNormal, injected}
 use Rattle.term_core.specs.Patterns.{Pattern, Patterns, variable, domain_value, application, injection, call, no_pattern, more_patterns, binding, instance_of, instances_of}
-use Rattle.term_core.specs.declared.ids.HookNo.{HookNo}
 use Rattle.term_core.proofs.Forests.{IsNormal-injected, height-injected_le}
 use Rattle.rule_core.specs.Rules.{Equation}
 use Rattle.rule_core.specs.Theories.{RewriteTheory, equations_of}
-use Rattle.rule_core.specs.Matching.{StandsIn, StandsInSome, RespectsSorts, Binds, MatchAll, NoneMatches}
+use Rattle.rule_core.specs.Matching.{StandsIn, StandsInSome, RespectsSorts, MatchAll, NoneMatches}
 use Rattle.rule_core.specs.MatchLaws.{AreTermsOf}
 use Rattle.rule_core.specs.Sorting.{HasSort, HaveSorts, IsTermOf, IsSymbol, IsFunction, HasInjection, HasValue, sort_at}
-use Rattle.rule_core.specs.Evaluation.{Cause, Evaluated, value, blocked, AllEvaluated, values, stopped, Tested, holds, fails, untested, no_value, closed, no_equation, no_call_left, too_high, too_nested, IsTrueValue, most_height, IsInjectionSymbol, HasHead, of_constructor, of_injection, of_call, built, Says, says_true, says_other, says_nothing, Evaluates, bound, itself, nested_out, argument_blocked, made, made_too_high, called, EvaluateAll, none_left, first_blocked, later_blocked, one_more, Applies, by_nothing, without_call, by_hook, hook_fails, by_equations, Equates, no_equation_left, unmatched, condition_fails, condition_blocked, used, Tests, no_condition, condition, EvaluatesIn, no_nesting, inside}
+use Rattle.rule_core.specs.Evaluation.{Evaluated, value, blocked, AllEvaluated, values, stopped, Tested, holds, fails, untested, no_value, closed, no_equation, no_call_left, too_high, too_nested, IsTrueValue, most_height, IsInjectionSymbol, HasHead, of_constructor, of_injection, of_call, built, Says, says_true, says_other, says_nothing, Evaluates, bound, itself, nested_out, argument_blocked, made, made_too_high, called, EvaluateAll, none_left, first_blocked, later_blocked, one_more, Applies, by_nothing, without_call, by_hook, hook_fails, by_equations, Equates, no_equation_left, unmatched, condition_fails, condition_blocked, used, Tests, no_condition, condition, EvaluatesIn, no_nesting, inside}
 use Rattle.rule_core.specs.HookCalls.{HookAnswers, HookFails}
 use Rattle.term_core.specs.declared.values.NoValue.{NoValue}
 use Rattle.rule_core.specs.WellSorted.{IsWellSorted, Serves, IsEquationOf, IsCondition, UsesOnly, FitsHook}
@@ -118,9 +117,9 @@ all_answer theory n at variables theta sorts no_pattern [] c h serves = (values 
 all_answer theory n at variables theta sorts no_pattern (of ∷ refs) c h serves = absurd h
 all_answer theory n at variables theta sorts (more_patterns p ps) [] c h serves = absurd h
 all_answer theory n at variables theta sorts (more_patterns p ps) (of ∷ refs) c h serves =
-    let first = at variables theta p h.0 c h.2 (record { bound = λ x s. serves.bound x (inl s); sorted = serves.sorted; low = serves.low; }) in
+    let first = at variables theta p h.0 c h.2 (record { bound = λ x s. serves.bound x (inl s); sorted = serves.sorted; low = serves.low }) in
     first_then sorts p ps of refs c h.0 h.1 first.0 first.1 first.2
-    (λ d. all_answer theory n at variables theta sorts ps refs d h.3 (record { bound = λ x s. serves.bound x (inr s); sorted = serves.sorted; low = serves.low; }))
+    (λ d. all_answer theory n at variables theta sorts ps refs d h.3 (record { bound = λ x s. serves.bound x (inr s); sorted = serves.sorted; low = serves.low }))
 
 -- ---- constructors and injections
 
@@ -161,7 +160,7 @@ at_symbol : (sig : Signature) (n : ℕ) → NoneInjects sig n → (o : Option (L
 at_symbol sig n none None there = inl (none_more sig n none (λ other i k. let e : None ≡ Some (i.0, other) = sym there ∙ i.1 in let no : ⊥ = cc in no))
 at_symbol sig n none (Some (name, info)) there =
     ⊎_elim
-    (λ (k : info.kind ≡ Injection). inr (n, record { info = info; there = (name, there); injects = k; first = none; }))
+    (λ (k : info.kind ≡ Injection). inr (n, record { info = info; there = (name, there); injects = k; first = none }))
     (λ (k : info.kind ≢ Injection). inl (none_more sig n none (λ other i l. k (ap (λ (s : SymInfo). s.kind) (same_symbol sig n info other (name, there) i) ∙ l))))
     (is_injection info.kind)
 
@@ -219,10 +218,10 @@ equation_answer theory good n within f info ts sort at trees (e ∷ es) each c =
     let same : fits.sort ≡ sort = cc in
     ⊎_elim
     (λ (hit : (theta : List (Option Tree)) × MatchAll theory.sig e.variables e.arguments ts theta).
-      let x = test_answer theory n within f e.variables e.arguments ts hit.0 c hit.1 trees.2 e.condition fits.condition in
-      matched_answer theory n f e es ts hit.0 c sort hit.1 x.0 x.1
-      (λ d. within f e.variables hit.0 e.right sort d (subst (λ s. HasSort theory.sig e.variables e.right s) same fits.right) (serves_match theory.sig e.variables e.arguments ts hit.0 e.right hit.1 trees.2 fits.bound))
-      others)
+    let x = test_answer theory n within f e.variables e.arguments ts hit.0 c hit.1 trees.2 e.condition fits.condition in
+    matched_answer theory n f e es ts hit.0 c sort hit.1 x.0 x.1
+    (λ d. within f e.variables hit.0 e.right sort d (subst (λ s. HasSort theory.sig e.variables e.right s) same fits.right) (serves_match theory.sig e.variables e.arguments ts hit.0 e.right hit.1 trees.2 fits.bound))
+    others)
     (λ (never : NoneMatches theory.sig e.variables e.arguments ts). let r = others c in (r.0, unmatched never r.1, r.2))
     (match_is_decidable theory.sig e.variables [] e.arguments info.args.items ts good.signature.no_cycle fits.arguments trees.0 trees.1)
 
@@ -282,15 +281,15 @@ one_deeper : (theory : RewriteTheory) → IsWellSorted theory → (n : ℕ) → 
 one_deeper theory good n at within variables theta (variable x) sort c h serves = bound_answer theory (suc n) variables theta x sort c h serves (binding theta x) refl
 one_deeper theory good n at within variables theta (domain_value s v) sort c h serves = (value (leaf s v) c, itself, (h, tt, omega arith))
 one_deeper theory good n at within variables theta (application f ps) sort c h serves =
-    let all = all_answer theory n at variables theta [] ps h.0.args.items c h.4 (record { bound = serves.bound; sorted = serves.sorted; low = serves.low; }) in
+    let all = all_answer theory n at variables theta [] ps h.0.args.items c h.4 (record { bound = serves.bound; sorted = serves.sorted; low = serves.low }) in
     constructed f ps c sort h.0 h.1 h.2 h.3 all.0 all.1 all.2
 one_deeper theory good n at within variables theta (injection a b p) sort c h serves =
     let s = injection_symbol theory.sig h.0 in
-    let r = at variables theta p a c h.3 (record { bound = serves.bound; sorted = serves.sorted; low = serves.low; }) in
+    let r = at variables theta p a c h.3 (record { bound = serves.bound; sorted = serves.sorted; low = serves.low }) in
     subst (λ k. Answer theory (suc n) theta (injection a b p) c k) h.1
     (injected_answer a b p c s.0 s.1 h.0 (λ t of. IsTermOf-injected theory.sig a b t h.0 h.2 of) r.0 r.1 r.2)
 one_deeper theory good n at within variables theta (call f sorts ps) sort c h serves =
-    let all = all_answer theory n at variables theta sorts ps h.0.args.items c h.6 (record { bound = serves.bound; sorted = serves.sorted; low = serves.low; }) in
+    let all = all_answer theory n at variables theta sorts ps h.0.args.items c h.6 (record { bound = serves.bound; sorted = serves.sorted; low = serves.low }) in
     called_answer theory good n within theta f sorts ps c sort h.0 h.1 h.2 h.3 h.5 all.0 all.1 all.2
 
 within_zero : (theory : RewriteTheory) → AnswersWithin theory 0

@@ -1,8 +1,8 @@
 -- An evaluation has one answer, where each equation matches in one way.
-use Rattle.std.proofs.Common.{◌≡◌, ℕ, suc, ◌<◌, ◌≤◌, ◌≢◌, ◌⊎◌, List, [], ◌∷◌, Option, Some, None, refl, sym, ◌∙◌, ap, subst, slice_get, arith}
+use Rattle.std.proofs.Common.{◌≡◌, ℕ, suc, ◌<◌, ◌≤◌, ◌≢◌, List, [], ◌∷◌, Option, Some, None, refl, sym, ◌∙◌, ap, subst, arith}
 use Rattle.std.specs.Prelude.{All, Ok, Err}
 use Rattle.term_core.specs.Terms.{Tree, leaf, node, inj, Forest, no_tree, more_trees, height, DomainValue}
-use Rattle.term_core.specs.Patterns.{Pattern, Patterns, variable, domain_value, application, injection, call, no_pattern, more_patterns, binding}
+use Rattle.term_core.specs.Patterns.{Pattern, Patterns, variable, domain_value, call, no_pattern, more_patterns, binding}
 use Rattle.term_core.specs.HookValues.{hook_value}
 use Rattle.term_core.specs.declared.ids.HookNo.{HookNo}
 use Rattle.term_core.specs.declared.values.NoValue.{NoValue}
@@ -11,11 +11,11 @@ use Rattle.rule_core.specs.Theories.{RewriteTheory, equations_of}
 use Rattle.rule_core.specs.Matching.{MatchAll}
 use Rattle.rule_core.specs.Sorting.{IsSymbol, sort_at}
 use Rattle.rule_core.specs.HookCalls.{AreValues, HookAnswers, HookFails}
-use Rattle.rule_core.specs.Evaluation.{Cause, Evaluated, value, blocked, AllEvaluated, values, stopped, Tested, holds, fails, untested, no_value, closed, no_equation, no_call_left, too_high, too_nested, IsTrueValue, most_height, IsInjectionSymbol, HasHead, of_constructor, of_injection, of_call, built, Says, says_true, says_other, says_nothing, IsUnmatchedBy, Evaluates, bound, itself, nested_out, argument_blocked, made, made_too_high, called, EvaluateAll, none_left, first_blocked, later_blocked, one_more, Applies, by_nothing, without_call, by_hook, hook_fails, by_equations, Equates, no_equation_left, unmatched, condition_fails, condition_blocked, used, Tests, no_condition, condition, EvaluatesIn, no_nesting, inside}
+use Rattle.rule_core.specs.Evaluation.{Cause, Evaluated, value, blocked, AllEvaluated, values, stopped, Tested, holds, fails, untested, no_value, closed, no_equation, no_call_left, too_high, too_nested, most_height, IsInjectionSymbol, HasHead, of_constructor, of_injection, of_call, built, Says, says_true, says_other, says_nothing, IsUnmatchedBy, Evaluates, bound, itself, nested_out, argument_blocked, made, made_too_high, called, EvaluateAll, none_left, first_blocked, later_blocked, one_more, Applies, by_nothing, without_call, by_hook, hook_fails, by_equations, Equates, no_equation_left, unmatched, condition_fails, condition_blocked, used, Tests, no_condition, condition, EvaluatesIn, no_nesting, inside}
 use Rattle.rule_core.specs.declared.signature.Signature.{Signature}
 use Rattle.rule_core.specs.declared.signature.SymInfo.{SymInfo}
 use Rattle.rule_core.specs.declared.signature.SymKind.{SymKind}
-use Rattle.rule_core.specs.declared.signature.SymKind.TheVariants.{Injection, Equations, Hooked, Closed}
+use Rattle.rule_core.specs.declared.signature.SymKind.TheVariants.{Equations, Hooked, Closed}
 
 -- a number has one symbol
 pub same_symbol : (sig : Signature) (f : ℕ) (a b : SymInfo) → IsSymbol sig f a → IsSymbol sig f b → a ≡ b

@@ -1,15 +1,15 @@
 -- The hooks of well-sorted theories have values at well-sorted terms, or a reason why not, and the values are in range.
-use Rattle.std.proofs.Common.{◌≡◌, ℕ, suc, zero, ◌+◌, ◌-◌, ◌*◌, ◌/◌, ◌%◌, ◌^◌, ◌<◌, ◌≤◌, ◌⊎◌, inl, inr, ⊎_elim, ℤ, pos, negsuc, Bool, true, false, cond, leb, leb→le, le→leb, List, [], ◌∷◌, Option, Some, None, refl, sym, ◌∙◌, ap, subst, slice_get, arith}
-use Rattle.std.specs.Prelude.{bit_and, bit_or, bit_xor, int_rem, int_div, ◌-ℤ◌, ◌+ℤ◌, ◌*ℤ◌, int_le, int_lt, ◌&&◌, Result, Ok, Err, unsigned_abs, if◌then◌else◌}
+use Rattle.std.proofs.Common.{◌≡◌, ℕ, suc, zero, ◌-◌, ◌/◌, ◌%◌, ◌^◌, ◌<◌, ◌≤◌, ◌⊎◌, inl, inr, ⊎_elim, ℤ, pos, negsuc, Bool, true, false, cond, leb, leb→le, le→leb, List, [], ◌∷◌, Some, None, refl, sym, ◌∙◌, ap, subst, slice_get, arith}
+use Rattle.std.specs.Prelude.{bit_and, int_rem, int_div, ◌-ℤ◌, ◌+ℤ◌, ◌*ℤ◌, int_le, int_lt, ◌&&◌, Result, Ok, Err, unsigned_abs, if◌then◌else◌}
 use Rattle.std.specs.Int.{int_min, int_max, int_div_euclid, int_rem_euclid}
 use Rattle.std.specs.Int.Signed.{mag, mag_rem}
 use Rattle.std.specs.Ordering.{int_eq}
 use Rattle.std.proofs.Math.Nat.{div-le_self, mod-le}
 use Rattle.std.proofs.lemmas.Bool.{false≢true}
 use Rattle.std.proofs.lemmas.Bool.Decides.{leb_tells}
-use Rattle.std.proofs.lemmas.Nat.{and_le_l, and_le_r, or_lt, xor_lt}
+use Rattle.std.proofs.lemmas.Nat.{and_le_l, or_lt, xor_lt}
 use Rattle.term_core.specs.Terms.{Tree, leaf, node, inj, Forest, no_tree, more_trees, DomainValue, integer, truth, text}
-use Rattle.term_core.specs.HookValues.{in_range, unless_zero, unless_negative, complement, bits_without, bitwise_and, bitwise_or, bitwise_xor, Operation, on_integer, on_integers, compares, on_truth, on_truths, Hook, hooks, Kind, integers, truths, argument_kinds, result_kind, operation_value, outcome, value_by, hook_value}
+use Rattle.term_core.specs.HookValues.{in_range, complement, bitwise_and, bitwise_or, bitwise_xor, Operation, on_integer, on_integers, compares, on_truth, on_truths, Hook, hooks, Kind, integers, truths, argument_kinds, result_kind, operation_value, outcome, value_by, hook_value}
 use Rattle.term_core.specs.declared.values.NoValue.{NoValue}
 use Rattle.term_core.specs.declared.values.NoValue.TheVariants.{ZeroDivisor, NegativeShift, Range}
 use Rattle.rule_core.specs.Subsorts.{IsBelow}
@@ -110,26 +110,100 @@ plain : (k : ℕ) (z r : ℤ) → ◌≡◌ {A = Result ℤ NoValue} (Ok z) (Ok 
 plain k z r e s = let same : z ≡ r = cc in subst (IsShort k) same s
 
 hooks_keep_range : AllKeepRange hooks
-hooks_keep_range =
-    (λ x y r sx sy e. ranged (x +ℤ y) r e,
-    (λ x y r sx sy e. ranged (x -ℤ y) r e,
-    (λ x y r sx sy e. ranged (x *ℤ y) r e,
-    (λ x y r sx sy e. ranged (int_div x y) r (otherwise (int_eq y (pos 0)) (in_range (int_div x y)) ZeroDivisor r e),
-    (λ x y r sx sy e. plain 127 (int_rem x y) r (otherwise (int_eq y (pos 0)) (Ok (int_rem x y)) ZeroDivisor r e) (short_from 127 (int_rem x y) x (rem_short x y) sx),
-    (λ x y r sx sy e. ranged (int_div_euclid x y) r (otherwise (int_eq y (pos 0)) (in_range (int_div_euclid x y)) ZeroDivisor r e),
-    (λ x y r sx sy e. plain 127 (int_rem_euclid x y) r (otherwise (int_eq y (pos 0)) (Ok (int_rem_euclid x y)) ZeroDivisor r e) (remainder_short 127 x y sx sy),
-    (tt, (tt, (tt, (tt, (tt, (tt,
-    (λ x y r sx sy e. plain 127 (int_min x y) r e (chosen_short 127 (int_lt y x) y x sy sx),
-    (λ x y r sx sy e. plain 127 (int_max x y) r e (chosen_short 127 (int_lt y x) x y sx sy),
-    (λ x r sx e. ranged (pos (unsigned_abs x)) r e,
-    (λ x y r sx sy e. plain 127 (bitwise_and x y) r e (and_short 127 x y sx sy),
-    (λ x y r sx sy e. plain 127 (bitwise_or x y) r e (or_short 127 x y sx sy),
-    (λ x y r sx sy e. plain 127 (bitwise_xor x y) r e (xor_short 127 x y sx sy),
-    (λ x r sx e. plain 127 (complement x) r e (complement_short 127 x sx),
-    (λ x y r sx sy e. ranged (x *ℤ pos (2 ^ unsigned_abs y)) r (otherwise (int_lt y (pos 0)) (in_range (x *ℤ pos (2 ^ unsigned_abs y))) NegativeShift r e),
-    (λ x y r sx sy e. plain 127 (int_div_euclid x (pos (2 ^ unsigned_abs y))) r (otherwise (int_lt y (pos 0)) (Ok (int_div_euclid x (pos (2 ^ unsigned_abs y)))) NegativeShift r e) (shifted_short 127 x (2 ^ unsigned_abs y) sx),
-    (tt, (tt, (tt, (tt, (tt, (tt, (tt, (tt, (tt,
-    tt)))))))))))))))))))))))))))))))
+hooks_keep_range = (
+  λ x y r sx sy e. ranged (x +ℤ y) r e,
+  (
+    λ x y r sx sy e. ranged (x -ℤ y) r e,
+    (
+      λ x y r sx sy e. ranged (x *ℤ y) r e,
+      (
+        λ x y r sx sy e. ranged (int_div x y) r (otherwise (int_eq y (pos 0)) (in_range (int_div x y)) ZeroDivisor r e),
+        (
+          λ x y r sx sy e. plain 127 (int_rem x y) r (otherwise (int_eq y (pos 0)) (Ok (int_rem x y)) ZeroDivisor r e) (short_from 127 (int_rem x y) x (rem_short x y) sx),
+          (
+            λ x y r sx sy e. ranged (int_div_euclid x y) r (otherwise (int_eq y (pos 0)) (in_range (int_div_euclid x y)) ZeroDivisor r e),
+            (
+              λ x y r sx sy e. plain 127 (int_rem_euclid x y) r (otherwise (int_eq y (pos 0)) (Ok (int_rem_euclid x y)) ZeroDivisor r e) (remainder_short 127 x y sx sy),
+              (
+                tt,
+                (
+                  tt,
+                  (
+                    tt,
+                    (
+                      tt,
+                      (
+                        tt,
+                        (
+                          tt,
+                          (
+                            λ x y r sx sy e. plain 127 (int_min x y) r e (chosen_short 127 (int_lt y x) y x sy sx),
+                            (
+                              λ x y r sx sy e. plain 127 (int_max x y) r e (chosen_short 127 (int_lt y x) x y sx sy),
+                              (
+                                λ x r sx e. ranged (pos (unsigned_abs x)) r e,
+                                (
+                                  λ x y r sx sy e. plain 127 (bitwise_and x y) r e (and_short 127 x y sx sy),
+                                  (
+                                    λ x y r sx sy e. plain 127 (bitwise_or x y) r e (or_short 127 x y sx sy),
+                                    (
+                                      λ x y r sx sy e. plain 127 (bitwise_xor x y) r e (xor_short 127 x y sx sy),
+                                      (
+                                        λ x r sx e. plain 127 (complement x) r e (complement_short 127 x sx),
+                                        (
+                                          λ x y r sx sy e. ranged (x *ℤ pos (2 ^ unsigned_abs y)) r (otherwise (int_lt y (pos 0)) (in_range (x *ℤ pos (2 ^ unsigned_abs y))) NegativeShift r e),
+                                          (
+                                            λ x y r sx sy e. plain 127 (int_div_euclid x (pos (2 ^ unsigned_abs y))) r (otherwise (int_lt y (pos 0)) (Ok (int_div_euclid x (pos (2 ^ unsigned_abs y)))) NegativeShift r e) (shifted_short 127 x (2 ^ unsigned_abs y) sx),
+                                            (
+                                              tt,
+                                              (
+                                                tt,
+                                                (
+                                                  tt,
+                                                  (
+                                                    tt,
+                                                    (
+                                                      tt,
+                                                      (
+                                                        tt,
+                                                        (
+                                                          tt,
+                                                          (
+                                                            tt,
+                                                            (
+                                                              tt,
+                                                              tt,
+                                                            ),
+                                                          ),
+                                                        ),
+                                                      ),
+                                                    ),
+                                                  ),
+                                                ),
+                                              ),
+                                            ),
+                                          ),
+                                        ),
+                                      ),
+                                    ),
+                                  ),
+                                ),
+                              ),
+                            ),
+                          ),
+                        ),
+                      ),
+                    ),
+                  ),
+                ),
+              ),
+            ),
+          ),
+        ),
+      ),
+    ),
+  ),
+)
 
 hook_keeps : (hs : List Hook) → AllKeepRange hs → (row : ℕ) (h : Hook) → slice_get hs row ≡ Some h → KeepsRange h.operation
 hook_keeps [] all row h e = let k : None ≡ Some h = e in let no : ⊥ = cc in absurd no
@@ -158,8 +232,8 @@ range_short (pos n) r = let le : n ≤ 2 ^ 127 - 1 = leb→le n (2 ^ 127 - 1) r.
 range_short (negsuc n) r = let le : n ≤ 2 ^ 127 - 1 = leb→le n (2 ^ 127 - 1) r.0.le in omega arith
 
 pub short_range : (z : ℤ) → IsShort 127 z → IsInRange z
-short_range (pos n) s = (record { le = tt; }, record { le = le→leb n (2 ^ 127 - 1) (omega arith); })
-short_range (negsuc n) s = (record { le = le→leb n (2 ^ 127 - 1) (omega arith); }, record { le = tt; })
+short_range (pos n) s = (record { le = tt }, record { le = le→leb n (2 ^ 127 - 1) (omega arith) })
+short_range (negsuc n) s = (record { le = le→leb n (2 ^ 127 - 1) (omega arith) }, record { le = tt })
 
 value_kind : (k : Kind) (info : SortInfo) (v : DomainValue) → IsOfKind k info → IsValueOf info.kind v → IsOfThisKind k v
 value_kind integers info (integer z) is v = let there : IsValueOf sort_kind.Int (integer z) = subst (λ k. IsValueOf k (integer z)) is v in range_short z there
@@ -278,7 +352,7 @@ hook_answer sig info row ts sort fits hooked at of =
     let there : hook_value row vs.0 ≡ operation_value op vs.0 = ap (λ o. value_by o vs.0) fits.there in
     ⊎_elim
     (λ (a : (v : DomainValue) × (operation_value op vs.0 ≡ Some (Ok v)) × IsOfThisKind (result_kind op) v).
-      inl (a.0, record { hooked = hooked; arguments = vs.0; are = vs.1; answers = there ∙ a.1; }, result_sort sig (result_kind op) info.result sort a.0 fits.result at a.2))
+    inl (a.0, record { hooked = hooked; arguments = vs.0; are = vs.1; answers = there ∙ a.1 }, result_sort sig (result_kind op) info.result sort a.0 fits.result at a.2))
     (λ (a : (why : NoValue) × (operation_value op vs.0 ≡ Some (Err why))).
-      inr (a.0, record { hooked = hooked; arguments = vs.0; are = vs.1; fails = there ∙ a.1; }))
+    inr (a.0, record { hooked = hooked; arguments = vs.0; are = vs.1; fails = there ∙ a.1 }))
     (operation_answer op vs.0 (hook_keeps hooks hooks_keep_range row fits.hook fits.there) vs.2)

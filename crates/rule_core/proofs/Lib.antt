@@ -1,3 +1,4 @@
+pub mod SortSets
 pub mod Tables
 pub mod Belows
 pub mod Bindings
@@ -20,5 +21,7 @@ pub mod MatchAnswers
 pub mod Searches
 pub mod Trials
 pub mod RunUnique
+pub mod FirstApplies
+pub mod StepsKept
 pub mod RunAnswers
 pub mod Skips

@@ -1,10 +1,10 @@
 -- An evaluation that has a value has it too with more nesting and more calls left, and then leaves as many more calls.
-use Rattle.std.proofs.Common.{◌≡◌, ℕ, suc, zero, ◌+◌, ◌<◌, ◌≤◌, ◌≢◌, List, [], ◌∷◌, Option, Some, None, refl, sym, ◌∙◌, ap, subst, arith}
-use Rattle.term_core.specs.Terms.{Tree, leaf, Forest, no_tree, more_trees}
-use Rattle.term_core.specs.Patterns.{Pattern, Patterns, no_pattern, more_patterns}
+use Rattle.std.proofs.Common.{◌≡◌, ℕ, suc, zero, ◌+◌, ◌≤◌, List, Option, arith}
+use Rattle.term_core.specs.Terms.{Tree, Forest}
+use Rattle.term_core.specs.Patterns.{Pattern, Patterns}
 use Rattle.rule_core.specs.Rules.{Equation}
-use Rattle.rule_core.specs.Theories.{RewriteTheory, equations_of}
-use Rattle.rule_core.specs.Evaluation.{Evaluated, value, blocked, AllEvaluated, values, stopped, Tested, holds, fails, untested, Says, says_true, says_other, says_nothing, Evaluates, bound, itself, made, called, EvaluateAll, none_left, one_more, Applies, by_hook, by_equations, Equates, unmatched, condition_fails, used, Tests, no_condition, condition, EvaluatesIn, inside}
+use Rattle.rule_core.specs.Theories.{RewriteTheory}
+use Rattle.rule_core.specs.Evaluation.{value, blocked, values, Tested, holds, fails, untested, Says, says_true, says_other, says_nothing, Evaluates, bound, itself, made, called, EvaluateAll, none_left, one_more, Applies, by_hook, by_equations, Equates, unmatched, condition_fails, used, Tests, no_condition, condition, EvaluatesIn, inside}
 
 -- so many more calls are left
 abbrev pub with_calls : ℕ → Tested → Tested
@@ -18,7 +18,7 @@ IsTold (holds c) = Unit {0}
 IsTold (fails c) = Unit {0}
 IsTold (untested cause) = ⊥
 
-more_says : {c : ℕ} (k : ℕ) {t : Tree} {r : Tested} → Says (value t c) r → Says (value t (c + k)) (with_calls k r)
+pub more_says : {c : ℕ} (k : ℕ) {t : Tree} {r : Tested} → Says (value t c) r → Says (value t (c + k)) (with_calls k r)
 more_says k (says_true is) = says_true is
 more_says k (says_other other) = says_other other
 

@@ -1,11 +1,11 @@
 -- An evaluation that has a value leaves no more calls than there were, and has a record.
-use Rattle.std.proofs.Common.{◌≡◌, ℕ, suc, zero, ◌+◌, ◌-◌, ◌<◌, ◌≤◌, ◌⊎◌, inl, inr, List, [], ◌∷◌, Option, Some, None, refl, sym, ◌∙◌, ap, subst, slice_get, le_trans, arith}
-use Rattle.term_core.specs.Terms.{Tree, leaf, Forest, no_tree, more_trees}
-use Rattle.term_core.specs.Patterns.{Pattern, Patterns, call, no_pattern, more_patterns}
+use Rattle.std.proofs.Common.{◌≡◌, ℕ, suc, zero, ◌+◌, ◌-◌, ◌<◌, ◌≤◌, inl, inr, List, ◌∷◌, Option, Some, refl, sym, ◌∙◌, ap, subst, slice_get, le_trans, arith}
+use Rattle.term_core.specs.Terms.{Tree, leaf, Forest, more_trees}
+use Rattle.term_core.specs.Patterns.{Pattern, Patterns, call}
 use Rattle.rule_core.specs.Rules.{Equation}
 use Rattle.rule_core.specs.Theories.{RewriteTheory, equations_of}
 use Rattle.rule_core.specs.Matching.{MatchAll}
-use Rattle.rule_core.specs.Evaluation.{Evaluated, value, blocked, AllEvaluated, values, Tested, holds, fails, untested, built, says_true, says_other, says_nothing, Evaluates, bound, itself, made, called, EvaluateAll, none_left, one_more, Applies, by_hook, by_equations, Equates, unmatched, condition_fails, used, Tests, no_condition, condition, EvaluatesIn, inside, IsTrueValue, Says}
+use Rattle.rule_core.specs.Evaluation.{value, blocked, values, Tested, holds, fails, untested, built, says_true, says_other, says_nothing, Evaluates, bound, itself, made, called, EvaluateAll, none_left, one_more, Applies, by_hook, by_equations, Equates, unmatched, condition_fails, used, Tests, no_condition, condition, EvaluatesIn, inside, IsTrueValue, Says}
 use Rattle.rule_core.specs.FirstRule.{most_nesting}
 use Rattle.rule_core.specs.HookCalls.{HookAnswers}
 use Rattle.rule_core.specs.Records.{Record, RecordList, no_record, more_records, OptionalRecord, unconditional, conditional, result_of, results_of, most_calls, IsUnused, Records, RecordAll, RecordsCondition}
@@ -13,15 +13,15 @@ use Rattle.rule_core.specs.Records as kept
 use Rattle.rule_core.specs.Sorting.{IsSymbol}
 use Rattle.rule_core.specs.declared.signature.SymInfo.{SymInfo}
 use Rattle.rule_core.specs.declared.signature.SymKind.TheVariants.{Equations}
-use Rattle.rule_core.proofs.MoreLeft.{tests_more, IsTold}
+use Rattle.rule_core.proofs.MoreLeft.{tests_more}
 
 -- the calls that a told condition leaves
-abbrev LeavesAtMost : ℕ → Tested → Type 0
+abbrev pub LeavesAtMost : ℕ → Tested → Type 0
 LeavesAtMost c (holds d) = d ≤ c
 LeavesAtMost c (fails d) = d ≤ c
 LeavesAtMost c (untested cause) = Unit {0}
 
-says_at_most : {c d : ℕ} {t : Tree} {r : Tested} → Says (value t d) r → d ≤ c → LeavesAtMost c r
+pub says_at_most : {c d : ℕ} {t : Tree} {r : Tested} → Says (value t d) r → d ≤ c → LeavesAtMost c r
 says_at_most (says_true is) le = le
 says_at_most (says_other other) le = le
 
@@ -54,13 +54,13 @@ mutual
   within_calls_fall (inside e) = calls_fall e
 
 -- a record of the pattern whose result is this term
-abbrev RecordOf : RewriteTheory → List (Option Tree) → Pattern → Tree → Type 0
+abbrev pub RecordOf : RewriteTheory → List (Option Tree) → Pattern → Tree → Type 0
 RecordOf theory theta p t = (r : Record) × Records theory theta p r × (result_of r ≡ t)
 
 abbrev RecordsOf : RewriteTheory → List (Option Tree) → Patterns → Forest → Type 0
 RecordsOf theory theta ps ts = (rs : RecordList) × RecordAll theory theta ps rs × (results_of rs ≡ ts)
 
-abbrev ConditionRecord : RewriteTheory → List (Option Tree) → Option Pattern → Tested → Type 0
+abbrev pub ConditionRecord : RewriteTheory → List (Option Tree) → Option Pattern → Tested → Type 0
 ConditionRecord theory theta p (holds c) = (o : OptionalRecord) × RecordsCondition theory theta p o
 ConditionRecord theory theta p (fails c) = Unit {0}
 ConditionRecord theory theta p (untested cause) = Unit {0}
@@ -122,7 +122,6 @@ unused_before : {theory : RewriteTheory} {f : ℕ} {ts : Forest} (e : Equation) 
 unused_before e theta n c d match test le few =
     let failed = failed_before e theta n c d most_nesting most_calls match test le few in inr (theta, failed.0, match, failed.1)
 
-
 by_equation_record : (theory : RewriteTheory) (f : ℕ) (info : SymInfo) {theta : List (Option Tree)} {ts : Forest} {t : Tree} → IsSymbol theory.sig f info → info.kind ≡ Equations → (sorts : List ℕ) (ps : Patterns) → RecordsOf theory theta ps ts → EquationRecord theory f (equations_of theory f) ts t → RecordOf theory theta (call f sorts ps) t
 by_equation_record theory f info {ts = ts} is defined sorts ps args r =
     let back : ts ≡ results_of args.0 = sym args.2 in
@@ -130,7 +129,7 @@ by_equation_record theory f info {ts = ts} is defined sorts ps args r =
     let before = subst (λ us. (j : ℕ) (other : Equation) → j < r.place → slice_get (equations_of theory f) j ≡ Some other → IsUnused theory f other us) back r.earlier in
     (kept.by_equation args.0 r.place r.sigma r.test r.body, (f, sorts, ps, info, r.equation, refl, is, defined, r.there, there, before, args.1, r.condition, r.right), r.result)
 
-condition_record : (theory : RewriteTheory) {theta : List (Option Tree)} (p : Pattern) {d : ℕ} {t : Tree} {r : Tested} → Says (value t d) r → RecordOf theory theta p t → ConditionRecord theory theta (Some p) r
+pub condition_record : (theory : RewriteTheory) {theta : List (Option Tree)} (p : Pattern) {d : ℕ} {t : Tree} {r : Tested} → Says (value t d) r → RecordOf theory theta p t → ConditionRecord theory theta (Some p) r
 condition_record theory p (says_true is) kept_value = (conditional kept_value.0, (p, refl, kept_value.1, subst IsTrueValue (sym kept_value.2) is))
 condition_record theory p (says_other other) kept_value = tt
 

@@ -1,15 +1,15 @@
 -- A record of a pattern tells an evaluation of it, with some nesting and some calls left.
-use Rattle.std.proofs.Common.{◌≡◌, ℕ, suc, zero, ◌+◌, ◌<◌, ◌≤◌, ◌⊎◌, ⊎_elim, List, [], ◌∷◌, Option, Some, None, refl, sym, ◌∙◌, ap, subst, slice_get, arith}
-use Rattle.term_core.specs.Terms.{Tree, leaf, Forest, no_tree, more_trees}
-use Rattle.term_core.specs.Patterns.{Pattern, Patterns, call, no_pattern, more_patterns}
+use Rattle.std.proofs.Common.{◌≡◌, ℕ, suc, zero, ◌+◌, ◌<◌, ◌≤◌, ⊎_elim, List, [], ◌∷◌, Option, Some, refl, subst, slice_get, arith}
+use Rattle.term_core.specs.Terms.{Tree, leaf, Forest, more_trees}
+use Rattle.term_core.specs.Patterns.{Pattern, Patterns, call, more_patterns}
 use Rattle.rule_core.specs.Rules.{Equation}
 use Rattle.rule_core.specs.Theories.{RewriteTheory, equations_of}
 use Rattle.rule_core.specs.Matching.{MatchAll}
-use Rattle.rule_core.specs.Evaluation.{Evaluated, value, AllEvaluated, values, Tested, holds, fails, says_true, Evaluates, bound, itself, made, called, EvaluateAll, none_left, one_more, Applies, by_hook, by_equations, Equates, unmatched, condition_fails, used, Tests, no_condition, condition, EvaluatesIn, inside}
+use Rattle.rule_core.specs.Evaluation.{value, values, holds, fails, says_true, Evaluates, bound, itself, made, called, EvaluateAll, none_left, one_more, Applies, by_hook, by_equations, Equates, unmatched, condition_fails, used, Tests, no_condition, condition, EvaluatesIn, inside}
 use Rattle.rule_core.specs.FirstRule.{most_nesting}
 use Rattle.rule_core.specs.Records.{Record, RecordList, no_record, more_records, OptionalRecord, unconditional, conditional, result_of, results_of, most_calls, IsUnused, Records, RecordAll, RecordsCondition}
 use Rattle.rule_core.specs.Records as kept
-use Rattle.rule_core.proofs.MoreLeft.{evaluates_more, all_more, equates_more, tests_more, within_more}
+use Rattle.rule_core.proofs.MoreLeft.{evaluates_more, all_more, equates_more, tests_more}
 
 -- with some nesting and some calls, this is the value
 abbrev pub Somehow : (ℕ → ℕ → ℕ → Type 0) → Type 0
@@ -48,13 +48,13 @@ skipped_somehow : (theory : RewriteTheory) (f : ℕ) (e : Equation) (es : List E
 skipped_somehow theory f e es ts t unused others =
     ⊎_elim (λ never. (others.0, others.1, others.2, unmatched never others.3)) (λ failed. failing failed.0 failed.1 most_nesting most_calls failed.2 failed.3) unused
   where
-  failing : (theta : List (Option Tree)) (left m c : ℕ) → MatchAll theory.sig e.variables e.arguments ts theta → Tests theory m f theta e.condition c (fails left) → Somehow (EquatedBy theory f (e ∷ es) ts t)
-  failing theta left m c match test =
-      let n : ℕ = m + others.0 in
-      let tested : Tests theory n f theta e.condition (c + others.1) (fails (left + others.1)) = tests_more theory others.1 test tt n (omega arith) in
-      let rest : Equates theory n f es ts (others.1 + left) (value t (others.2 + left)) = equates_more theory left others.3 n (omega arith) in
-      let swap : others.1 + left ≡ left + others.1 = omega arith in
-      (n, c + others.1, others.2 + left, condition_fails match tested (subst (λ k. Equates theory n f es ts k (value t (others.2 + left))) swap rest))
+    failing : (theta : List (Option Tree)) (left m c : ℕ) → MatchAll theory.sig e.variables e.arguments ts theta → Tests theory m f theta e.condition c (fails left) → Somehow (EquatedBy theory f (e ∷ es) ts t)
+    failing theta left m c match test =
+        let n : ℕ = m + others.0 in
+        let tested : Tests theory n f theta e.condition (c + others.1) (fails (left + others.1)) = tests_more theory others.1 test tt n (omega arith) in
+        let rest : Equates theory n f es ts (others.1 + left) (value t (others.2 + left)) = equates_more theory left others.3 n (omega arith) in
+        let swap : others.1 + left ≡ left + others.1 = omega arith in
+        (n, c + others.1, others.2 + left, condition_fails match tested (subst (λ k. Equates theory n f es ts k (value t (others.2 + left))) swap rest))
 
 used_somehow : (theory : RewriteTheory) (f : ℕ) (e : Equation) (es : List Equation) (ts : Forest) (theta : List (Option Tree)) (t : Tree) → MatchAll theory.sig e.variables e.arguments ts theta → Somehow (HoldsBy theory f theta e.condition) → Somehow (ValueBy theory theta e.right t) → Somehow (EquatedBy theory f (e ∷ es) ts t)
 used_somehow theory f e es ts theta t match test right =

@@ -1,22 +1,22 @@
 -- Steps and runs have an outcome, their configurations are well-sorted, and a record of a step tells where it leads.
-use Rattle.std.proofs.Common.{◌≡◌, ℕ, suc, zero, ◌+◌, ◌-◌, ◌<◌, ◌≤◌, ◌⊎◌, inl, inr, ⊎_elim, List, [], ◌∷◌, length, Option, Some, None, refl, sym, ◌∙◌, ap, subst, slice_get, arith}
+use Rattle.std.proofs.Common.{◌≡◌, ℕ, suc, zero, ◌+◌, ◌<◌, ◌≤◌, inl, ⊎_elim, List, [], ◌∷◌, Option, Some, None, refl, sym, ◌∙◌, ap, subst, slice_get, arith}
 use Rattle.std.specs.Prelude.{All, IfSome}
-use Rattle.std.proofs.lemmas.Bool.{cases_lt}
 use Rattle.term_core.specs.Terms.{Tree, Forest, no_tree, more_trees, height, heights}
-use Rattle.term_core.specs.Patterns.{Pattern, Patterns, no_pattern, more_patterns, binding}
+use Rattle.term_core.specs.Patterns.{Pattern, Patterns, no_pattern, more_patterns}
 use Rattle.rule_core.specs.Rules.{RewriteRule}
 use Rattle.rule_core.specs.Theories.{RewriteTheory}
 use Rattle.rule_core.specs.Matching.{MatchAll, NoneMatches}
-use Rattle.rule_core.specs.Sorting.{HasSort, IsTermOf}
-use Rattle.rule_core.specs.Evaluation.{Cause, Evaluated, value, blocked, Tested, holds, fails, untested, Says, says_true, says_other, IsTrueValue, Evaluates, most_height}
+use Rattle.rule_core.specs.Sorting.{HasSort}
+use Rattle.rule_core.specs.Evaluation.{Evaluated, value, blocked, Tested, holds, fails, untested, says_true, says_other, IsTrueValue, Evaluates, most_height}
 use Rattle.rule_core.specs.FirstRule.{most_nesting, Matches, IsUnmatched, Meets, no_condition, condition, Trial, applies, none_applies, trial_blocked, Tries, no_rule_left, unmatched, condition_fails, condition_blocked, condition_holds}
 use Rattle.rule_core.specs.Runs.{Stepped, next, stays, stops, Steps, by_rule, by_none, in_condition, in_right_side, Reaches, at_start, after_step, Run, stuck, limited, stopped, unstarted, IsRunOf}
-use Rattle.rule_core.specs.RunLaws.{HasRun, ConfigurationsAreSorted, StepRecordDetermines}
-use Rattle.rule_core.specs.Records.{StepRecord, RecordsStep, RecordsCondition, OptionalRecord, unconditional, conditional, IsUnusedRule, result_of}
+use Rattle.rule_core.specs.RunLaws.{HasRun, StepRecordDetermines}
+use Rattle.rule_core.specs.Records.{StepRecord, RecordsStep, RecordsCondition, OptionalRecord, unconditional, conditional, result_of}
 use Rattle.rule_core.specs.WellSorted.{IsWellSorted, Serves, IsRuleOf, IsCondition}
 use Rattle.rule_core.specs.declared.signature.SortRef.TheVariants.{Sort}
 use Rattle.rule_core.proofs.EvaluationUnique.{all_first, all_rest}
 use Rattle.rule_core.proofs.EvaluationAnswers.{IsGood, IsGoodTree, answers, serves_match, says_something}
+use Rattle.rule_core.proofs.FirstApplies.{Applied, applied, all_at}
 use Rattle.rule_core.proofs.MatchExact.{match_is_decidable}
 use Rattle.rule_core.proofs.SortedInstances.{sorted_use_first}
 use Rattle.rule_core.proofs.RecordsTell.{record_tells}
@@ -53,8 +53,8 @@ trial_answer theory good sort t fine (rule ∷ rules) each i c =
     let low : height t ≤ most_height = fine.2 in
     ⊎_elim
     (λ (hit : (theta : List (Option Tree)) × MatchAll theory.sig rule.variables (more_patterns rule.left no_pattern) (more_trees t no_tree) theta).
-      let x = meets_answer theory good rule.variables (more_patterns rule.left no_pattern) (more_trees t no_tree) hit.0 c hit.1 (omega arith) rule.condition fits.condition in
-      matched_rule theory sort t i c rule rules hit.0 fits hit.1 x.0 x.1 others)
+    let x = meets_answer theory good rule.variables (more_patterns rule.left no_pattern) (more_trees t no_tree) hit.0 c hit.1 (omega arith) rule.condition fits.condition in
+    matched_rule theory sort t i c rule rules hit.0 fits hit.1 x.0 x.1 others)
     (λ (never : NoneMatches theory.sig rule.variables (more_patterns rule.left no_pattern) (more_trees t no_tree)). let r = others c in (r.0, unmatched never r.1, r.2))
     (match_is_decidable theory.sig rule.variables [] (more_patterns rule.left no_pattern) (Sort (record { 0 = sort }) ∷ []) (more_trees t no_tree) good.signature.no_cycle (sort, refl, fits.left, tt) (sort, refl, fine.0, tt) (fine.1, tt))
 
@@ -94,6 +94,7 @@ serves_start theory start sort h = record {
 } where
   none : (x : ℕ) → x < 0 → ⊥
   none x lt = omega arith
+
   no_term : (t : Tree) → None ≡ Some t → ⊥
   no_term t e = cc
 
@@ -132,39 +133,6 @@ configurations_are_sorted theory good calls sort start each h (after_step {c = c
 
 -- ---- records of steps
 
--- a rule that a trial passed over, with some calls left
-abbrev PassedOver : RewriteTheory → Tree → RewriteRule → Type 0
-PassedOver theory t rule = IsUnmatched theory rule t ⊎ ((theta : List (Option Tree)) × (c : ℕ) × (d : ℕ) × Matches theory rule t theta × Meets theory theta rule.condition c (fails d))
-
--- where the rule that applies stands among the rules
-record Applied (theory : RewriteTheory) (t : Tree) (rules : List RewriteRule) (rule : RewriteRule) (theta : List (Option Tree)) : Type 0 where
-  place : ℕ
-  there : slice_get rules place ≡ Some rule
-  matches : Matches theory rule t theta
-  before : ℕ
-  after : ℕ
-  holding : Meets theory theta rule.condition before (holds after)
-  earlier : (j : ℕ) (other : RewriteRule) → j < place → slice_get rules j ≡ Some other → PassedOver theory t other
-
-one_later : {theory : RewriteTheory} {t : Tree} {rules : List RewriteRule} {rule : RewriteRule} {theta : List (Option Tree)} (first : RewriteRule) → PassedOver theory t first → Applied theory t rules rule theta → Applied theory t (first ∷ rules) rule theta
-one_later {theory} {t} {rules} first over a = record {
-  place = suc a.place;
-  there = a.there;
-  matches = a.matches;
-  before = a.before;
-  after = a.after;
-  holding = a.holding;
-  earlier = passed;
-} where
-  passed : (j : ℕ) (other : RewriteRule) → j < suc a.place → slice_get (first ∷ rules) j ≡ Some other → PassedOver theory t other
-  passed zero other lt s = let k : Some first ≡ Some other = s in let same : first ≡ other = cc in subst (PassedOver theory t) same over
-  passed (suc j) other lt s = a.earlier j other (omega arith) s
-
-applied : {theory : RewriteTheory} {t : Tree} {i c j d : ℕ} {rules : List RewriteRule} {rule : RewriteRule} {theta : List (Option Tree)} → Tries theory t i rules c (applies j rule theta d) → Applied theory t rules rule theta
-applied (unmatched {rule = first} never others) = one_later first (inl never) (applied others)
-applied (condition_fails {c = c} {d = d} {rule = first} {theta = theta} m test others) = one_later first (inr (theta, c, d, m, test)) (applied others)
-applied (condition_holds {c = c} {d = d} m test) = record { place = 0; there = refl; matches = m; before = c; after = d; holding = test; earlier = λ j other lt s. absurd (omega arith); }
-
 -- a condition does not both hold and fail, whatever is left
 not_both : (theory : RewriteTheory) → IsWellSorted theory → (theta : List (Option Tree)) (p : Option Pattern) (c d k e : ℕ) → Meets theory theta p c (holds d) → Meets theory theta p k (fails e) → ⊥
 not_both theory good theta None c d k e holding failing = elim failing [ ]
@@ -185,26 +153,21 @@ not_recorded theory good theta p k e (conditional r) w test = failed (subst (λ 
       other (subst IsTrueValue (values_agree theory good theta w.0 (result_of r) u told.0 told.1 told.2 most_nesting k n told.3 b) w.3)
   failed (condition {e = blocked cause} b says) = elim says [ ]
 
-all_at : {X : Type 0} (P : X → Type 0) (xs : List X) (i : ℕ) (x : X) → All P xs → slice_get xs i ≡ Some x → P x
-all_at P [] i x each e = let k : None ≡ Some x = e in let no : ⊥ = cc in absurd no
-all_at P (y ∷ xs) zero x each e = let k : Some y ≡ Some x = e in let same : y ≡ x = cc in subst P same (all_first P y xs each)
-all_at P (y ∷ xs) (suc i) x each e = all_at P xs i x (all_rest P y xs each) e
-
 -- the rule that is used is the one that the record names
-same_rule : (theory : RewriteTheory) → IsWellSorted theory → (t : Tree) (rule : RewriteRule) (theta : List (Option Tree)) (step : StepRecord) → (w : RecordsStep theory t step) → (a : Applied theory t theory.rules rule theta) → a.place ≡ step.rule
-same_rule theory good t rule theta step w a =
+same_rule : (theory : RewriteTheory) → IsWellSorted theory → (t : Tree) (rule : RewriteRule) (theta : List (Option Tree)) (step : StepRecord) → (w : RecordsStep theory t step) → {i d : ℕ} → (a : Applied theory t 0 i d theory.rules rule theta) → a.place ≡ step.rule
+same_rule theory good t rule theta step w {i} {d} a =
     let once = rules_match_once theory good in
     let not_less : a.place < step.rule → ⊥ = λ lt. ⊎_elim
-      (λ (never : IsUnmatched theory rule t). never theta a.matches)
-      (λ failed. let same : failed.0 ≡ theta = all_at (RuleMatchesOnce theory) theory.rules a.place rule once a.there t failed.0 theta failed.2 a.matches in
-        not_both theory good theta rule.condition a.before a.after _ failed.1 a.holding (subst (λ s. Meets theory s rule.condition _ (fails failed.1)) same failed.3))
-      (w.earlier a.place rule lt a.there) in
+    (λ (never : IsUnmatched theory rule t). never theta a.matches)
+    (λ failed. let same : failed.0 ≡ theta = all_at (RuleMatchesOnce theory) theory.rules a.place rule once a.there t failed.0 theta failed.2 a.matches in
+    not_both theory good theta rule.condition a.before d _ failed.1 a.holding (subst (λ s. Meets theory s rule.condition _ (fails failed.1)) same failed.3))
+    (w.earlier a.place rule lt a.there) in
     let not_more : step.rule < a.place → ⊥ = λ lt. ⊎_elim
-      (λ (never : IsUnmatched theory w.rule t). never step.theta w.matches)
-      (λ (failed : (theta : List (Option Tree)) × (c : ℕ) × (d : ℕ) × Matches theory w.rule t theta × Meets theory theta w.rule.condition c (fails d)).
-        let same : failed.0 ≡ step.theta = all_at (RuleMatchesOnce theory) theory.rules step.rule w.rule once w.there t failed.0 step.theta failed.3 w.matches in
-        not_recorded theory good step.theta w.rule.condition failed.1 failed.2 step.condition w.condition (subst (λ s. Meets theory s w.rule.condition failed.1 (fails failed.2)) same failed.4))
-      (a.earlier step.rule w.rule lt w.there) in
+    (λ (never : IsUnmatched theory w.rule t). never step.theta w.matches)
+    (λ (failed : (theta : List (Option Tree)) × (c : ℕ) × (d : ℕ) × Matches theory w.rule t theta × Meets theory theta w.rule.condition c (fails d)).
+    let same : failed.0 ≡ step.theta = all_at (RuleMatchesOnce theory) theory.rules step.rule w.rule once w.there t failed.0 step.theta failed.3 w.matches in
+    not_recorded theory good step.theta w.rule.condition failed.1 failed.2 step.condition w.condition (subst (λ s. Meets theory s w.rule.condition failed.1 (fails failed.2)) same failed.4))
+    (a.earlier step.rule w.rule lt w.there) in
     omega arith
 
 recorded_right : (theory : RewriteTheory) → IsWellSorted theory → (t u : Tree) (c d : ℕ) (step : StepRecord) → RecordsStep theory t step → (r : Trial) → Tries theory t 0 theory.rules c r → After theory r (next u d) → u ≡ result_of step.right

@@ -1,16 +1,14 @@
 -- A step and a run have one outcome, in well-sorted theories.
-use Rattle.std.proofs.Common.{◌≡◌, ℕ, suc, zero, ◌+◌, ◌<◌, ◌≤◌, ◌⊎◌, inl, inr, ⊎_elim, List, [], ◌∷◌, Option, Some, None, refl, sym, ◌∙◌, ap, subst, slice_get, arith}
+use Rattle.std.proofs.Common.{◌≡◌, ℕ, suc, zero, ◌+◌, ◌<◌, ◌≤◌, ⊎_elim, List, [], ◌∷◌, Option, refl, sym, ap, subst, arith}
 use Rattle.std.specs.Prelude.{All}
 use Rattle.std.proofs.Math.Nat.{eq-or-lt_of_le}
-use Rattle.std.proofs.lemmas.Bool.{cases_lt}
-use Rattle.term_core.specs.Terms.{Tree, Forest, no_tree, more_trees}
-use Rattle.term_core.specs.Patterns.{Pattern, Patterns, no_pattern, more_patterns}
-use Rattle.term_core.specs.declared.ids.SortId.{SortId}
+use Rattle.term_core.specs.Terms.{Tree, no_tree, more_trees}
+use Rattle.term_core.specs.Patterns.{Pattern}
 use Rattle.rule_core.specs.Rules.{RewriteRule}
 use Rattle.rule_core.specs.Theories.{RewriteTheory}
-use Rattle.rule_core.specs.Evaluation.{Cause, Evaluated, value, blocked, Tested, holds, fails, untested, Says, Evaluates}
+use Rattle.rule_core.specs.Evaluation.{Cause, value, blocked, Tested, holds, fails, untested, Says, Evaluates}
 use Rattle.rule_core.specs.FirstRule.{most_nesting, Matches, IsUnmatched, Meets, no_condition, condition, Trial, applies, none_applies, trial_blocked, Tries, no_rule_left, unmatched, condition_fails, condition_blocked, condition_holds}
-use Rattle.rule_core.specs.Runs.{Stepped, next, stays, stops, Steps, by_rule, by_none, in_condition, in_right_side, Reaches, at_start, after_step, Run, stuck, limited, stopped, unstarted, IsRunOf}
+use Rattle.rule_core.specs.Runs.{Stepped, next, stays, stops, Steps, by_rule, by_none, in_condition, in_right_side, Reaches, at_start, after_step, stuck, limited, stopped, unstarted, IsRunOf}
 use Rattle.rule_core.specs.RunLaws.{TrialIsUnique, StepIsUnique, RunIsUnique}
 use Rattle.rule_core.specs.WellSorted.{IsWellSorted, IsRuleOf}
 use Rattle.rule_core.specs.declared.signature.SortRef.TheVariants.{Sort}
@@ -27,8 +25,8 @@ rules_match_once theory good =
     ⊎_elim
     (λ (none : theory.rules ≡ []). let nothing : All (RuleMatchesOnce theory) [] = λ k d lt. absurd (omega arith) in subst (λ rules. All (RuleMatchesOnce theory) rules) (sym none) nothing)
     (λ (all : (sort : ℕ) × All (IsRuleOf theory.sig sort) theory.rules).
-      λ k d lt. let fits = all.1 k d lt in
-      λ t theta sigma m l. match_is_unique theory.sig _ [] _ (Sort (record { 0 = all.0 }) ∷ []) (more_trees t no_tree) theta sigma good.signature.no_cycle (all.0, refl, fits.left, tt) m l)
+    λ k d lt. let fits = all.1 k d lt in
+    λ t theta sigma m l. match_is_unique theory.sig _ [] _ (Sort (record { 0 = all.0 }) ∷ []) (more_trees t no_tree) theta sigma good.signature.no_cycle (all.0, refl, fits.left, tt) m l)
     good.one_sort
 
 -- ---- trials
@@ -133,7 +131,7 @@ record Before (theory : RewriteTheory) (start : Pattern) (calls n : ℕ) (u : Tr
   step : Steps theory term left (next u d)
 
 before : {theory : RewriteTheory} {start : Pattern} {calls n d : ℕ} {u : Tree} → Reaches theory start calls (suc n) u d → Before theory start calls n u d
-before (after_step r s) = record { term = _; left = _; reached = r; step = s; }
+before (after_step r s) = record { term = _; left = _; reached = r; step = s }
 
 same_place : (theory : RewriteTheory) → IsWellSorted theory → {start : Pattern} {calls : ℕ} (n : ℕ) {c d : ℕ} {t u : Tree} → Reaches theory start calls n t c → Reaches theory start calls n u d → (t ≡ u) × (c ≡ d)
 same_place theory good zero a b = same_start theory (all_match_once theory good) (from_start a) (from_start b)
@@ -194,7 +192,7 @@ stopped_last theory good limit n cause t (c, r, lt, s) = record {
 }
 
 limited_last : (theory : RewriteTheory) {start : Pattern} {calls : ℕ} (limit n : ℕ) (t : Tree) → (h : IsRunOf theory limit calls start (limited n t)) → Last theory limit start calls n t h.0
-limited_last theory limit n t (c, r, e) = record { reached = r; within = omega arith; ends = λ lt w k step. absurd (omega arith); }
+limited_last theory limit n t (c, r, e) = record { reached = r; within = omega arith; ends = λ lt w k step. absurd (omega arith) }
 
 -- an initial term whose evaluation is blocked reaches no configuration
 unstarted_reaches : (theory : RewriteTheory) → IsWellSorted theory → {start : Pattern} {calls n c : ℕ} {t : Tree} (cause : Cause) → Evaluates theory most_nesting [] start calls (blocked cause) → Reaches theory start calls n t c → ⊥

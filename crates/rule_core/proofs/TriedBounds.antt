@@ -1,13 +1,10 @@
 -- The cases of evaluation near its bounds.
-use Rattle.std.proofs.Common.{◌≡◌, ℕ, suc, zero, ◌+◌, ◌<◌, ◌≤◌, List, [], ◌∷◌, Bool, true, false, Option, Some, None, refl, sym, ◌∙◌, ap, subst, arith}
-use Rattle.std.specs.Prelude.{IsSome}
+use Rattle.std.proofs.Common.{◌≡◌, ℕ, suc, [], ◌∷◌, true, false, Some, None, refl, sym, ◌∙◌, arith}
 use Rattle.std.proofs.lemmas.Bool.{false≢true}
-use Rattle.term_core.specs.Terms.{DomainValue, Tree, leaf, node, Forest, no_tree, more_trees, height}
-use Rattle.term_core.specs.Patterns.{Pattern, Patterns, variable, domain_value, application, call, no_pattern, more_patterns, binding}
-use Rattle.rule_core.specs.Rules.{Equation}
-use Rattle.rule_core.specs.Theories.{RewriteTheory}
+use Rattle.term_core.specs.Terms.{no_tree}
+use Rattle.term_core.specs.Patterns.{Pattern, call, no_pattern, binding}
 use Rattle.rule_core.specs.Matching.{MatchAll}
-use Rattle.rule_core.specs.Evaluation.{Cause, Evaluated, value, blocked, no_equation, no_call_left, too_high, too_nested, AllEvaluated, values, of_constructor, of_call, Evaluates, bound, itself, nested_out, made, made_too_high, called, EvaluateAll, none_left, one_more, Applies, without_call, by_equations, Equates, no_equation_left, used, Tests, no_condition, EvaluatesIn, no_nesting, inside}
+use Rattle.rule_core.specs.Evaluation.{Evaluated, of_constructor, of_call, Evaluates, bound, itself, nested_out, made, made_too_high, called, none_left, one_more, without_call, by_equations, no_equation_left, used, no_condition, EvaluatesIn, no_nesting, inside}
 use Rattle.rule_core.specs.EvaluationCases.{Declares, TriedBounds, always, defined_by}
 use Rattle.rule_core.specs.declared.signature.Signature.{Signature}
 use Rattle.rule_core.specs.declared.signature.SymKind.{SymKind}

@@ -1,16 +1,14 @@
 -- The cases of evaluation on whole numbers.
-use Rattle.std.proofs.Common.{◌≡◌, ℕ, suc, zero, ◌+◌, ◌<◌, ◌≤◌, ℤ, pos, negsuc, List, [], ◌∷◌, Option, Some, None, refl, sym, ◌∙◌, ap, subst, arith}
+use Rattle.std.proofs.Common.{◌≡◌, ℕ, suc, ℤ, pos, negsuc, List, [], ◌∷◌, Option, Some, refl, sym, ◌∙◌, ap, arith}
 use Rattle.std.specs.Prelude.{Ok, Err}
-use Rattle.term_core.specs.Terms.{DomainValue, integer, text, truth, Tree, leaf, node, inj, Forest, no_tree, more_trees, height}
-use Rattle.term_core.specs.Patterns.{Pattern, Patterns, variable, domain_value, application, call, no_pattern, more_patterns}
+use Rattle.term_core.specs.Terms.{DomainValue, integer, Tree, leaf, more_trees}
 use Rattle.term_core.specs.HookValues.{hook_value}
 use Rattle.term_core.specs.declared.values.NoValue.{NoValue}
 use Rattle.term_core.specs.declared.values.NoValue.TheVariants.{ZeroDivisor, Range}
 use Rattle.rule_core.specs.Theories.{RewriteTheory}
-use Rattle.rule_core.specs.Sorting.{IsSymbol, sort_at}
-use Rattle.rule_core.specs.HookCalls.{HookAnswers, HookFails}
-use Rattle.rule_core.specs.Evaluation.{Cause, Evaluated, value, blocked, no_value, closed, no_call_left, AllEvaluated, values, stopped, HasHead, of_constructor, of_call, most_height, Evaluates, itself, argument_blocked, made, called, EvaluateAll, none_left, first_blocked, one_more, Applies, by_nothing, without_call, by_hook, hook_fails}
-use Rattle.rule_core.specs.EvaluationCases.{Declares, DeclaresIntegers, TriedIntegers, binary, two, number, tree_number, one, one_tree, n, tree_n, hook, named, without_rules, greatest, least}
+use Rattle.rule_core.specs.Sorting.{sort_at}
+use Rattle.rule_core.specs.Evaluation.{value, blocked, no_value, values, of_constructor, of_call, Evaluates, itself, argument_blocked, made, called, EvaluateAll, none_left, first_blocked, one_more, Applies, by_nothing, without_call, by_hook, hook_fails}
+use Rattle.rule_core.specs.EvaluationCases.{Declares, DeclaresIntegers, TriedIntegers, binary, two, number, tree_number, one_tree, n, tree_n, hook, greatest, least}
 use Rattle.rule_core.specs.declared.signature.Signature.{Signature}
 use Rattle.rule_core.specs.declared.signature.SymKind.{SymKind}
 use Rattle.rule_core.specs.declared.signature.SymKind.TheVariants.{Hooked, Closed}
@@ -29,11 +27,11 @@ two_numbers x y = one_more itself (one_more itself none_left)
 
 pub hook_gives : {theory : RewriteTheory} {k f c row result : ℕ} {arguments : List ℕ} (x y : ℤ) (v : DomainValue) → Declares theory.sig f (hook row) arguments result → hook_value row (integer x ∷ (integer y ∷ [])) ≡ Some (Ok v) → Applies theory k f (more_trees (tree_number x) (one_tree (tree_number y))) (suc c) (value (leaf result v) c)
 hook_gives x y v d e =
-    by_hook d.there (record { hooked = d.of_kind; arguments = integer x ∷ (integer y ∷ []); are = (integer y ∷ [], refl, ([], refl, refl)); answers = e; }) (declared_result d)
+    by_hook d.there (record { hooked = d.of_kind; arguments = integer x ∷ (integer y ∷ []); are = (integer y ∷ [], refl, ([], refl, refl)); answers = e }) (declared_result d)
 
 pub hook_has_none : {theory : RewriteTheory} {k f c row result : ℕ} {arguments : List ℕ} (x y : ℤ) (why : NoValue) → Declares theory.sig f (hook row) arguments result → hook_value row (integer x ∷ (integer y ∷ [])) ≡ Some (Err why) → Applies theory k f (more_trees (tree_number x) (one_tree (tree_number y))) (suc c) (blocked (no_value row why))
 hook_has_none x y why d e =
-    hook_fails d.there (record { hooked = d.of_kind; arguments = integer x ∷ (integer y ∷ []); are = (integer y ∷ [], refl, ([], refl, refl)); fails = e; })
+    hook_fails d.there (record { hooked = d.of_kind; arguments = integer x ∷ (integer y ∷ []); are = (integer y ∷ [], refl, ([], refl, refl)); fails = e })
 
 result_in_n : {theory : RewriteTheory} {k f row : ℕ} (x y z : ℤ) {arguments : List ℕ} → Declares theory.sig f (hook row) arguments 0 → hook_value row (integer x ∷ (integer y ∷ [])) ≡ Some (Ok (integer z)) → Evaluates theory (suc (suc k)) [] (n (binary f x y)) 1 (value (tree_n z) 0)
 result_in_n x y z d e = made of_constructor (one_more (called (two_numbers x y) (hook_gives x y (integer z) d e)) none_left) refl (omega arith)

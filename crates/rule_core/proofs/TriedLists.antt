@@ -1,17 +1,15 @@
 -- The cases of a function with two equations, which appends lists.
-use Rattle.std.proofs.Common.{◌≡◌, ℕ, suc, zero, ◌+◌, ◌<◌, ◌≤◌, ◌⊎◌, inl, inr, ⊎_elim, List, [], ◌∷◌, length, slice_get, map, Bool, true, false, Option, Some, None, refl, sym, ◌∙◌, ap, subst, arith}
+use Rattle.std.proofs.Common.{◌≡◌, ℕ, suc, zero, ◌<◌, ◌⊎◌, inl, inr, ⊎_elim, List, [], ◌∷◌, slice_get, map, true, false, Option, Some, None, refl, sym, subst, arith}
 use Rattle.std.specs.Prelude.{IsSome}
 use Rattle.std.proofs.lemmas.Bool.{false≢true}
-use Rattle.term_core.specs.Terms.{Tree, leaf, node, inj, Forest, no_tree, more_trees, height, IsNormal}
-use Rattle.term_core.specs.Patterns.{Pattern, Patterns, variable, domain_value, application, call, no_pattern, more_patterns, binding, instance_of, instances_of, ground_patterns}
-use Rattle.rule_core.specs.Rules.{Equation}
+use Rattle.term_core.specs.Terms.{Tree, node, Forest, no_tree, more_trees, IsNormal}
+use Rattle.term_core.specs.Patterns.{variable, application, no_pattern, binding, instances_of, ground_patterns}
 use Rattle.rule_core.specs.Theories.{RewriteTheory}
 use Rattle.rule_core.specs.Matching.{MatchAll, StandsInSome}
-use Rattle.rule_core.specs.Sorting.{HaveSorts, IsTermOf, sort_at}
-use Rattle.rule_core.specs.Evaluation.{Cause, Evaluated, value, blocked, no_call_left, AllEvaluated, values, of_constructor, IsUnmatchedBy, Evaluates, bound, argument_blocked, made, called, EvaluateAll, none_left, first_blocked, later_blocked, one_more, Applies, without_call, by_equations, Equates, unmatched, used, no_condition, EvaluatesIn, inside}
-use Rattle.rule_core.specs.EvaluationCases.{Declares, DeclaresLists, TriedLists, appending, append_empty, two, one, one_tree, one_item, one_item_tree, empty_list, named}
+use Rattle.rule_core.specs.Sorting.{HaveSorts, IsTermOf}
+use Rattle.rule_core.specs.Evaluation.{value, of_constructor, IsUnmatchedBy, Evaluates, bound, argument_blocked, made, called, none_left, first_blocked, later_blocked, one_more, without_call, by_equations, unmatched, used, no_condition, inside}
+use Rattle.rule_core.specs.EvaluationCases.{Declares, DeclaresLists, TriedLists, appending, append_empty, two, one, one_tree, one_item, one_item_tree, named}
 use Rattle.rule_core.specs.declared.signature.Signature.{Signature}
-use Rattle.rule_core.specs.declared.signature.SortRef.{SortRef}
 use Rattle.rule_core.specs.declared.signature.SymKind.TheVariants.{Ctor}
 use Rattle.rule_core.proofs.SortedInstances.{both_there}
 use Rattle.rule_core.proofs.TriedIntegers.{declared_result}
@@ -58,7 +56,7 @@ items = Some item ∷ (Some nothing ∷ (Some one_item_tree ∷ []))
 
 match_items : (sig : Signature) → DeclaresLists sig → MatchAll sig (0 ∷ (1 ∷ (1 ∷ []))) (two (application 2 (two (variable 0) (variable 1))) (variable 2)) (more_trees one_item_tree (one_tree one_item_tree)) items
 match_items sig d = record {
-  binds = record { room = refl; just = λ x. (given x, bound_there x); sorted = sorted_there; };
+  binds = record { room = refl; just = λ x. (given x, bound_there x); sorted = sorted_there };
   makes = refl;
 } where
   given : (x : ℕ) → IsSome (binding items x) → StandsInSome x (two (application 2 (two (variable 0) (variable 1))) (variable 2))
@@ -66,17 +64,20 @@ match_items sig d = record {
   given (suc zero) s = inl (inr (inl refl))
   given (suc (suc zero)) s = inr (inl refl)
   given (suc (suc (suc x))) s = let wrong : false ≡ true = s in absurd (false≢true wrong)
+
   few : (x : ℕ) → StandsInSome x (two (application 2 (two (variable 0) (variable 1))) (variable 2)) → x < 3
   few x s =
       ⊎_elim
       (λ (a : (x ≡ 0) ⊎ ((x ≡ 1) ⊎ ⊥)). ⊎_elim (λ (e : x ≡ 0). omega (arith, e)) (λ (b : (x ≡ 1) ⊎ ⊥). ⊎_elim (λ (e : x ≡ 1). omega (arith, e)) (λ (no : ⊥). absurd no) b) a)
       (λ (a : (x ≡ 2) ⊎ ⊥). ⊎_elim (λ (e : x ≡ 2). omega (arith, e)) (λ (no : ⊥). absurd no) a)
       s
+
   bound_there : (x : ℕ) → StandsInSome x (two (application 2 (two (variable 0) (variable 1))) (variable 2)) → IsSome (binding items x)
   bound_there zero s = refl
   bound_there (suc zero) s = refl
   bound_there (suc (suc zero)) s = refl
   bound_there (suc (suc (suc x))) s = absurd (omega (arith, few (suc (suc (suc x))) s))
+
   sorted_there : (x : ℕ) (t : Tree) → binding items x ≡ Some t → IsNormal t × ((s : ℕ) × (slice_get (0 ∷ (1 ∷ (1 ∷ []))) x ≡ Some s) × IsTermOf sig t s)
   sorted_there zero t b = let k : Some item ≡ Some t = b in let same : item ≡ t = cc in rw (sym same) (tt, (0, refl, item_is_item sig d))
   sorted_there (suc zero) t b = let k : Some nothing ≡ Some t = b in let same : nothing ≡ t = cc in rw (sym same) (tt, (1, refl, empty_is_list sig d))
@@ -90,13 +91,13 @@ one_item_value = made of_constructor (one_more (made of_constructor none_left re
 pub tried_lists : (sig : Signature) → DeclaresLists sig → TriedLists sig
 tried_lists sig d = record {
   appended =
-    called (one_more one_item_value (one_more one_item_value none_left)) (by_equations d.append.there d.append.of_kind
-    (unmatched (first_unmatched sig (one_tree one_item_tree)) (used (match_items sig d) no_condition (inside
-    (made of_constructor (one_more (bound refl) (one_more
-    (called (one_more (bound refl) (one_more (bound refl) none_left)) (by_equations d.append.there d.append.of_kind (used (match_empty sig d) no_condition (inside (bound refl))))) none_left)) refl (omega arith))))));
+      called (one_more one_item_value (one_more one_item_value none_left)) (by_equations d.append.there d.append.of_kind
+      (unmatched (first_unmatched sig (one_tree one_item_tree)) (used (match_items sig d) no_condition (inside
+      (made of_constructor (one_more (bound refl) (one_more
+      (called (one_more (bound refl) (one_more (bound refl) none_left)) (by_equations d.append.there d.append.of_kind (used (match_empty sig d) no_condition (inside (bound refl))))) none_left)) refl (omega arith))))));
   too_few =
-    called (one_more one_item_value (one_more one_item_value none_left)) (by_equations d.append.there d.append.of_kind
-    (unmatched (first_unmatched sig (one_tree one_item_tree)) (used (match_items sig d) no_condition (inside
-    (argument_blocked of_constructor (later_blocked (bound refl) (first_blocked
-    (called (one_more (bound refl) (one_more (bound refl) none_left)) (without_call d.append.there (λ is. defined_not_closed d.append.info.kind d.append.of_kind is))))))))));
+      called (one_more one_item_value (one_more one_item_value none_left)) (by_equations d.append.there d.append.of_kind
+      (unmatched (first_unmatched sig (one_tree one_item_tree)) (used (match_items sig d) no_condition (inside
+      (argument_blocked of_constructor (later_blocked (bound refl) (first_blocked
+      (called (one_more (bound refl) (one_more (bound refl) none_left)) (without_call d.append.there (λ is. defined_not_closed d.append.info.kind d.append.of_kind is))))))))));
 }

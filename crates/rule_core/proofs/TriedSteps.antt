@@ -1,36 +1,36 @@
 -- The cases of steps by rules with conditions, and of injections.
-use Rattle.std.proofs.Common.{◌≡◌, ℕ, suc, zero, ◌+◌, ◌<◌, ◌≤◌, ◌⊎◌, inl, inr, ⊎_elim, ℤ, pos, negsuc, List, [], ◌∷◌, length, slice_get, Bool, true, false, Option, Some, None, refl, sym, ◌∙◌, ap, subst, arith}
-use Rattle.std.specs.Prelude.{IsSome, Ok, Err, ◌^◌}
+use Rattle.std.proofs.Common.{◌≡◌, ℕ, suc, zero, ◌<◌, ◌⊎◌, inl, ⊎_elim, ℤ, pos, List, [], ◌∷◌, slice_get, true, false, Option, Some, None, refl, sym, subst, arith}
+use Rattle.std.specs.Prelude.{IsSome, Ok, ◌^◌}
 use Rattle.std.proofs.lemmas.Bool.{false≢true}
-use Rattle.term_core.specs.Terms.{DomainValue, integer, truth, Tree, leaf, node, inj, Forest, no_tree, more_trees, height, IsNormal}
-use Rattle.term_core.specs.Patterns.{Pattern, Patterns, variable, domain_value, application, injection, call, no_pattern, more_patterns, binding, instances_of}
+use Rattle.term_core.specs.Terms.{DomainValue, integer, truth, Tree, leaf, node, inj, Forest, no_tree, more_trees, IsNormal}
+use Rattle.term_core.specs.Patterns.{Pattern, Patterns, variable, application, injection, no_pattern, more_patterns, binding, instances_of}
 use Rattle.term_core.specs.HookValues.{hook_value}
 use Rattle.term_core.specs.declared.values.NoValue.TheVariants.{ZeroDivisor}
 use Rattle.rule_core.specs.Theories.{RewriteTheory}
 use Rattle.rule_core.specs.Matching.{MatchAll, StandsInSome}
-use Rattle.rule_core.specs.Sorting.{HasValue, HasInjection, IsTermOf, IsInRange, IsValueOf}
-use Rattle.rule_core.specs.Evaluation.{Cause, Evaluated, value, blocked, no_value, no_call_left, holds, fails, untested, says_true, says_other, says_nothing, IsTrueValue, AllEvaluated, values, of_constructor, of_injection, of_call, Evaluates, bound, itself, argument_blocked, made, called, EvaluateAll, none_left, first_blocked, one_more, Applies, without_call}
-use Rattle.rule_core.specs.FirstRule.{Meets, no_condition, condition, Tries, no_rule_left, condition_fails, condition_blocked, condition_holds}
-use Rattle.rule_core.specs.Runs.{Steps, by_rule, by_none, in_condition}
-use Rattle.rule_core.specs.EvaluationCases.{Declares, DeclaresIntegers, DeclaresInjections, TriedConditions, TriedInjections, IsOfIntegers, tree_number, number, two, one, one_tree, hook, when, greater, by_size, by_quotient, on, moves}
+use Rattle.rule_core.specs.Sorting.{HasInjection, IsTermOf, IsValueOf}
+use Rattle.rule_core.specs.Evaluation.{value, says_true, says_other, says_nothing, IsTrueValue, of_constructor, of_injection, of_call, Evaluates, bound, itself, argument_blocked, made, called, none_left, first_blocked, one_more, without_call}
+use Rattle.rule_core.specs.FirstRule.{no_condition, condition, no_rule_left, condition_fails, condition_blocked, condition_holds}
+use Rattle.rule_core.specs.Runs.{by_rule, by_none, in_condition}
+use Rattle.rule_core.specs.EvaluationCases.{Declares, DeclaresIntegers, DeclaresInjections, TriedConditions, TriedInjections, IsOfIntegers, tree_number, one, one_tree, hook, greater, on}
 use Rattle.rule_core.specs.declared.signature.Signature.{Signature}
-use Rattle.rule_core.specs.declared.signature.SortInfo.{SortInfo}
-use Rattle.rule_core.specs.declared.signature.SortKind.TheVariants as kind
 use Rattle.rule_core.proofs.HookRanges.{short_range}
 use Rattle.rule_core.proofs.TriedIntegers.{hook_gives, hook_has_none, hooked_not_closed}
 
 -- a pattern with one variable matches, by what stands for it
 pub match_one : (sig : Signature) (sort : ℕ) (ps : Patterns) (ts : Forest) (u : Tree) → ((x : ℕ) → StandsInSome x ps → x ≡ 0) → StandsInSome 0 ps → IsNormal u → IsTermOf sig u sort → instances_of (Some u ∷ []) ps ≡ Some ts → MatchAll sig (sort ∷ []) ps ts (Some u ∷ [])
 match_one sig sort ps ts u only there normal of e = record {
-  binds = record { room = refl; just = λ x. (given x, λ s. bound_there x (only x s)); sorted = sorted_there; };
+  binds = record { room = refl; just = λ x. (given x, λ s. bound_there x (only x s)); sorted = sorted_there };
   makes = e;
 } where
   given : (x : ℕ) → IsSome (binding (Some u ∷ []) x) → StandsInSome x ps
   given zero s = there
   given (suc x) s = let wrong : false ≡ true = s in absurd (false≢true wrong)
+
   bound_there : (x : ℕ) → x ≡ 0 → IsSome (binding (Some u ∷ []) x)
   bound_there zero same = refl
   bound_there (suc x) same = absurd (omega (arith, same))
+
   sorted_there : (x : ℕ) (t : Tree) → binding (Some u ∷ []) x ≡ Some t → IsNormal t × ((s : ℕ) × (slice_get (sort ∷ []) x ≡ Some s) × IsTermOf sig t s)
   sorted_there zero t b = let k : Some u ≡ Some t = b in let same : u ≡ t = cc in rw (sym same) (normal, (sort, refl, of))
   sorted_there (suc x) t b = let k : None ≡ Some t = b in let no : ⊥ = cc in absurd no
@@ -56,37 +56,37 @@ not_true s h = let k : leaf s (truth false) ≡ leaf h.0 (truth true) = h.1 in c
 pub tried_conditions : (sig : Signature) → DeclaresIntegers sig → TriedConditions sig
 tried_conditions sig d = record {
   first_holds =
-    by_rule (condition_holds (on_matches sig 11 d.sort (omega arith)) (condition (compared (pos 11) (pos 10) (truth true) d.gt (bound refl) itself refl) (says_true (1, refl))))
-    (made of_constructor (one_more (bound refl) none_left) refl (omega arith));
+      by_rule (condition_holds (on_matches sig 11 d.sort (omega arith)) (condition (compared (pos 11) (pos 10) (truth true) d.gt (bound refl) itself refl) (says_true (1, refl))))
+      (made of_constructor (one_more (bound refl) none_left) refl (omega arith));
   second_holds =
-    by_rule (condition_fails (on_matches sig 3 d.sort (omega arith)) (condition (compared (pos 3) (pos 10) (truth false) d.gt (bound refl) itself refl) (says_other (not_true 1)))
-    (condition_holds (on_matches sig 3 d.sort (omega arith)) (condition (compared (pos 10) (pos 3) (truth true) d.gt itself (bound refl) refl) (says_true (1, refl)))))
-    (made of_constructor (one_more (bound refl) none_left) refl (omega arith));
+      by_rule (condition_fails (on_matches sig 3 d.sort (omega arith)) (condition (compared (pos 3) (pos 10) (truth false) d.gt (bound refl) itself refl) (says_other (not_true 1)))
+      (condition_holds (on_matches sig 3 d.sort (omega arith)) (condition (compared (pos 10) (pos 3) (truth true) d.gt itself (bound refl) refl) (says_true (1, refl)))))
+      (made of_constructor (one_more (bound refl) none_left) refl (omega arith));
   none_holds =
-    by_none (condition_fails (on_matches sig 10 d.sort (omega arith)) (condition (compared (pos 10) (pos 10) (truth false) d.gt (bound refl) itself refl) (says_other (not_true 1)))
-    (condition_fails (on_matches sig 10 d.sort (omega arith)) (condition (compared (pos 10) (pos 10) (truth false) d.gt itself (bound refl) refl) (says_other (not_true 1))) no_rule_left));
+      by_none (condition_fails (on_matches sig 10 d.sort (omega arith)) (condition (compared (pos 10) (pos 10) (truth false) d.gt (bound refl) itself refl) (says_other (not_true 1)))
+      (condition_fails (on_matches sig 10 d.sort (omega arith)) (condition (compared (pos 10) (pos 10) (truth false) d.gt itself (bound refl) refl) (says_other (not_true 1))) no_rule_left));
   too_few_calls =
-    in_condition (condition_fails (on_matches sig 3 d.sort (omega arith)) (condition (compared (pos 3) (pos 10) (truth false) d.gt (bound refl) itself refl) (says_other (not_true 1)))
-    (condition_blocked (on_matches sig 3 d.sort (omega arith)) (condition (called (one_more itself (one_more (bound refl) none_left)) (without_call d.gt.there (λ is. hooked_not_closed d.gt.info.kind 11 d.gt.of_kind is))) says_nothing)));
+      in_condition (condition_fails (on_matches sig 3 d.sort (omega arith)) (condition (compared (pos 3) (pos 10) (truth false) d.gt (bound refl) itself refl) (says_other (not_true 1)))
+      (condition_blocked (on_matches sig 3 d.sort (omega arith)) (condition (called (one_more itself (one_more (bound refl) none_left)) (without_call d.gt.there (λ is. hooked_not_closed d.gt.info.kind 11 d.gt.of_kind is))) says_nothing)));
   first_divides =
-    by_rule (condition_fails (on_matches sig 3 d.sort (omega arith)) (condition
-    (compared (pos 0) (pos 0) (truth false) d.gt (called (one_more itself (one_more (bound refl) none_left)) (hook_gives (pos 1) (pos 3) (integer (pos 0)) d.tdiv refl)) itself refl) (says_other (not_true 1)))
-    (condition_holds (on_matches sig 3 d.sort (omega arith)) (condition (compared (pos 10) (pos 3) (truth true) d.gt itself (bound refl) refl) (says_true (1, refl)))))
-    (made of_constructor (one_more (bound refl) none_left) refl (omega arith));
+      by_rule (condition_fails (on_matches sig 3 d.sort (omega arith)) (condition
+      (compared (pos 0) (pos 0) (truth false) d.gt (called (one_more itself (one_more (bound refl) none_left)) (hook_gives (pos 1) (pos 3) (integer (pos 0)) d.tdiv refl)) itself refl) (says_other (not_true 1)))
+      (condition_holds (on_matches sig 3 d.sort (omega arith)) (condition (compared (pos 10) (pos 3) (truth true) d.gt itself (bound refl) refl) (says_true (1, refl)))))
+      (made of_constructor (one_more (bound refl) none_left) refl (omega arith));
   first_blocked =
-    in_condition (condition_blocked (on_matches sig 0 d.sort (omega arith)) (condition
-    (argument_blocked of_call (first_blocked (called (one_more itself (one_more (bound refl) none_left)) (hook_has_none (pos 1) (pos 0) ZeroDivisor d.tdiv refl)))) says_nothing));
+      in_condition (condition_blocked (on_matches sig 0 d.sort (omega arith)) (condition
+      (argument_blocked of_call (first_blocked (called (one_more itself (one_more (bound refl) none_left)) (hook_has_none (pos 1) (pos 0) ZeroDivisor d.tdiv refl)))) says_nothing));
 }
 
 pub tried_injections : (sig : Signature) → DeclaresInjections sig → TriedInjections sig
 tried_injections sig d =
     let has : HasInjection sig = (0, d.symbol.info, d.symbol.there, d.symbol.injects) in
     record {
-  joined = made (of_injection d.symbol) (one_more (made (of_injection d.symbol) (one_more itself none_left) refl (omega arith)) none_left) refl (omega arith);
-  moved =
-    by_rule (condition_holds
-    (match_one sig 1 (one (application 1 (one (injection 1 3 (variable 0))))) (one_tree (node 1 (one_tree (inj 0 3 (tree_number (pos 5)))))) (inj 0 1 (tree_number (pos 5))) only_first (inl (inl refl)) (tt, tt)
-    (has, refl, d.below, number_of_sort sig 0 5 d.integers (omega arith)) refl)
-    no_condition)
-    (made of_constructor (one_more (made (of_injection d.symbol) (one_more (bound refl) none_left) refl (omega arith)) none_left) refl (omega arith));
-}
+      joined = made (of_injection d.symbol) (one_more (made (of_injection d.symbol) (one_more itself none_left) refl (omega arith)) none_left) refl (omega arith);
+      moved =
+          by_rule (condition_holds
+          (match_one sig 1 (one (application 1 (one (injection 1 3 (variable 0))))) (one_tree (node 1 (one_tree (inj 0 3 (tree_number (pos 5)))))) (inj 0 1 (tree_number (pos 5))) only_first (inl (inl refl)) (tt, tt)
+          (has, refl, d.below, number_of_sort sig 0 5 d.integers (omega arith)) refl)
+          no_condition)
+          (made of_constructor (one_more (made (of_injection d.symbol) (one_more (bound refl) none_left) refl (omega arith)) none_left) refl (omega arith));
+    }

@@ -1,7 +1,7 @@
 -- Evaluation of patterns under a substitution, innermost and from left to right (K framework, "Functions"; Rosu 2017), as a
 -- big-step semantics. It is bounded by the calls of functions that are left, by the nesting that is left, and by the height of
 -- terms.
-use Rattle.std.specs.Prelude.{◌≡◌, ◌≢◌, ◌≤◌, ◌<◌, ℕ, suc, Bool, true, List, [], ◌∷◌, Option, Some, None, Ok, Err}
+use Rattle.std.specs.Prelude.{◌≡◌, ◌≢◌, ◌≤◌, ◌<◌, ℕ, suc, true, List, [], ◌∷◌, Option, Some, None}
 use Rattle.term_core.specs.Terms.{Tree, leaf, node, Forest, no_tree, more_trees, height, truth, injected, DomainValue}
 use Rattle.term_core.specs.Patterns.{Pattern, Patterns, variable, domain_value, application, injection, call, no_pattern, more_patterns, binding}
 use Rattle.rule_core.specs.Rules.{Equation}
@@ -11,7 +11,7 @@ use Rattle.rule_core.specs.Sorting.{IsSymbol, sort_at}
 use Rattle.rule_core.specs.HookCalls.{HookAnswers, HookFails}
 use Rattle.rule_core.specs.declared.signature.Signature.{Signature}
 use Rattle.rule_core.specs.declared.signature.SymInfo.{SymInfo}
-use Rattle.rule_core.specs.declared.signature.SymKind.TheVariants.{Injection, Equations, Hooked, Closed}
+use Rattle.rule_core.specs.declared.signature.SymKind.TheVariants.{Injection, Equations, Closed}
 use Rattle.term_core.specs.declared.values.NoValue.{NoValue}
 
 -- why there is no term: the hook with this number has no value; nothing gives the function's values; no equation is used; no

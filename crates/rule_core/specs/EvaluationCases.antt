@@ -1,13 +1,13 @@
 -- Small theories, with what the definitions say of evaluations and steps there. A theory is told by what its signature declares:
 -- each case is one of every signature that declares that.
-use Rattle.std.specs.Prelude.{◌≡◌, ◌+◌, ◌-◌, ◌^◌, ℕ, suc, ℤ, pos, negsuc, List, [], ◌∷◌, slice_get, Option, Some, None, map}
-use Rattle.term_core.specs.Terms.{DomainValue, integer, text, Tree, leaf, node, inj, Forest, no_tree, more_trees, height}
+use Rattle.std.specs.Prelude.{◌≡◌, ◌-◌, ◌^◌, ℕ, ℤ, pos, negsuc, List, [], ◌∷◌, slice_get, Some, None, map}
+use Rattle.term_core.specs.Terms.{integer, text, Tree, leaf, node, inj, Forest, no_tree, more_trees, height}
 use Rattle.term_core.specs.Patterns.{Pattern, Patterns, variable, domain_value, application, injection, call, no_pattern, more_patterns}
 use Rattle.term_core.specs.declared.values.NoValue.TheVariants.{ZeroDivisor, Range}
 use Rattle.rule_core.specs.Rules.{RewriteRule, Equation}
 use Rattle.rule_core.specs.Theories.{RewriteTheory}
 use Rattle.rule_core.specs.Subsorts.{IsBelow}
-use Rattle.rule_core.specs.Sorting.{IsSymbol, HasInjection, sort_at}
+use Rattle.rule_core.specs.Sorting.{IsSymbol}
 use Rattle.rule_core.specs.Evaluation.{Evaluated, value, blocked, no_value, closed, no_equation, no_call_left, too_high, too_nested, IsInjectionSymbol, Evaluates}
 use Rattle.rule_core.specs.FirstRule.{most_nesting}
 use Rattle.rule_core.specs.Runs.{next, stops, stays, Steps}
@@ -18,7 +18,7 @@ use Rattle.rule_core.specs.declared.signature.SortRef.{SortRef}
 use Rattle.rule_core.specs.declared.signature.SortRef.TheVariants.{Sort}
 use Rattle.rule_core.specs.declared.signature.SymInfo.{SymInfo}
 use Rattle.rule_core.specs.declared.signature.SymKind.{SymKind}
-use Rattle.rule_core.specs.declared.signature.SymKind.TheVariants.{Injection, Ctor, Equations, Hooked, Closed}
+use Rattle.rule_core.specs.declared.signature.SymKind.TheVariants.{Ctor, Equations, Hooked, Closed}
 
 -- ---- declarations, and patterns over them
 
@@ -78,7 +78,7 @@ abbrev pub tree_n : ℤ → Tree
 tree_n z = node 7 (one_tree (tree_number z))
 
 abbrev pub without_rules : Signature → RewriteTheory
-without_rules sig = record { sig = sig; rules = []; equations = []; }
+without_rules sig = record { sig = sig; rules = []; equations = [] }
 
 -- the pattern, without variables, evaluates so with so many calls left
 abbrev pub Gives : RewriteTheory → Pattern → ℕ → Evaluated → Type 0
@@ -108,10 +108,10 @@ pub record TriedIntegers (sig : Signature) : Type 0 where
 -- ---- a function without arguments, of three forms: no equation, a value, and a constructor
 
 abbrev pub always : Pattern → Equation
-always right = record { arguments = no_pattern; condition = None; right = right; variables = []; priority = 50; place = 0; }
+always right = record { arguments = no_pattern; condition = None; right = right; variables = []; priority = 50; place = 0 }
 
 abbrev pub defined_by : Signature → List Equation → RewriteTheory
-defined_by sig es = record { sig = sig; rules = []; equations = es ∷ []; }
+defined_by sig es = record { sig = sig; rules = []; equations = es ∷ [] }
 
 -- the function is called with so much nesting and so many calls left
 abbrev pub Calls : Signature → List Equation → ℕ → ℕ → Evaluated → Type 0
@@ -145,7 +145,7 @@ abbrev pub greater : Pattern → Pattern → Pattern
 greater p q = call 5 [] (two p q)
 
 abbrev pub with_rules : Signature → List RewriteRule → RewriteTheory
-with_rules sig rules = record { sig = sig; rules = rules; equations = []; }
+with_rules sig rules = record { sig = sig; rules = rules; equations = [] }
 
 -- above 10 it goes to the constructor 9, below 10 to the constructor 10
 abbrev pub by_size : Signature → RewriteTheory

@@ -1,15 +1,13 @@
 -- Laws on evaluation and on its records.
-use Rattle.std.specs.Prelude.{◌≡◌, ◌≤◌, ◌+◌, ℕ, List, Option, Some, IsSome}
+use Rattle.std.specs.Prelude.{◌≡◌, ◌≤◌, ◌+◌, ℕ, List, Option}
 use Rattle.term_core.specs.Terms.{Tree, height, IsNormal}
-use Rattle.term_core.specs.Patterns.{Pattern, binding}
+use Rattle.term_core.specs.Patterns.{Pattern}
 use Rattle.rule_core.specs.Theories.{RewriteTheory}
-use Rattle.rule_core.specs.Matching.{StandsIn, RespectsSorts}
 use Rattle.rule_core.specs.Sorting.{HasSort, IsTermOf}
 use Rattle.rule_core.specs.Evaluation.{Evaluated, value, Evaluates, most_height}
 use Rattle.rule_core.specs.FirstRule.{most_nesting}
 use Rattle.rule_core.specs.Records.{Record, result_of, most_calls, Records}
 use Rattle.rule_core.specs.WellSorted.{IsWellSorted, Serves}
-use Rattle.rule_core.specs.declared.signature.Signature.{Signature}
 
 -- Evaluation is a function: it has at most one answer.
 abbrev pub EvaluationIsUnique : Type 0
@@ -32,6 +30,10 @@ ValuesAreSorted =
 abbrev pub MoreLeftKeepsValue : Type 0
 MoreLeftKeepsValue =
     (theory : RewriteTheory) (n m c d k : ℕ) (theta : List (Option Tree)) (p : Pattern) (t : Tree) → n ≤ m → Evaluates theory n theta p c (value t d) → Evaluates theory m theta p (c + k) (value t (d + k))
+
+-- No evaluation leaves more calls than there were.
+abbrev pub CallsFall : Type 0
+CallsFall = (theory : RewriteTheory) (n c d : ℕ) (theta : List (Option Tree)) (p : Pattern) (t : Tree) → Evaluates theory n theta p c (value t d) → d ≤ c
 
 -- A value has a record, where no more is left than records are judged with.
 abbrev pub ValueHasRecord : Type 0

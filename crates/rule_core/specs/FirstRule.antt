@@ -1,6 +1,6 @@
 -- The first rule that applies to a term (K framework, "Rules"): rules are tried in their order, and the calls that are left go
 -- from one condition to the next.
-use Rattle.std.specs.Prelude.{◌≡◌, ℕ, ◌+◌, List, [], ◌∷◌, Option, Some, None}
+use Rattle.std.specs.Prelude.{ℕ, ◌+◌, List, [], ◌∷◌, Option, Some, None}
 use Rattle.term_core.specs.Terms.{Tree, no_tree, more_trees}
 use Rattle.term_core.specs.Patterns.{Pattern, no_pattern, more_patterns}
 use Rattle.rule_core.specs.Rules.{RewriteRule}

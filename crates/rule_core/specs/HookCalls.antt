@@ -1,6 +1,6 @@
 -- What the hook of a function answers at terms.
-use Rattle.std.specs.Prelude.{◌≡◌, ℕ, List, [], ◌∷◌, Option, Some, None, Ok, Err}
-use Rattle.term_core.specs.Terms.{Tree, leaf, node, inj, Forest, no_tree, more_trees, DomainValue}
+use Rattle.std.specs.Prelude.{◌≡◌, ℕ, List, [], ◌∷◌, Some, Ok, Err}
+use Rattle.term_core.specs.Terms.{leaf, node, inj, Forest, no_tree, more_trees, DomainValue}
 use Rattle.term_core.specs.HookValues.{hook_value}
 use Rattle.term_core.specs.declared.values.NoValue.{NoValue}
 use Rattle.rule_core.specs.declared.signature.SymInfo.{SymInfo}

@@ -1,7 +1,7 @@
 -- Records of evaluations: what was used at each node of a pattern to give its value, so that a proof can be made of it.
 use Rattle.std.specs.Prelude.{◌≡◌, ◌<◌, ◌≤◌, ◌-◌, ◌^◌, ◌⊎◌, ℕ, List, [], slice_get, Option, Some, None}
 use Rattle.term_core.specs.Terms.{Tree, leaf, Forest, no_tree, more_trees, height, DomainValue}
-use Rattle.term_core.specs.Patterns.{Pattern, Patterns, variable, domain_value, application, injection, call, no_pattern, more_patterns, binding}
+use Rattle.term_core.specs.Patterns.{Pattern, Patterns, variable, domain_value, call, no_pattern, more_patterns, binding}
 use Rattle.rule_core.specs.Rules.{RewriteRule, Equation}
 use Rattle.rule_core.specs.Theories.{RewriteTheory, equations_of}
 use Rattle.rule_core.specs.Matching.{MatchAll}

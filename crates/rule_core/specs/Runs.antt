@@ -6,7 +6,7 @@ use Rattle.term_core.specs.Patterns.{Pattern, ground_pattern}
 use Rattle.rule_core.specs.Rules.{RewriteRule}
 use Rattle.rule_core.specs.Theories.{RewriteTheory}
 use Rattle.rule_core.specs.Evaluation.{Cause, value, blocked, Evaluates}
-use Rattle.rule_core.specs.FirstRule.{most_nesting, Trial, applies, none_applies, trial_blocked, Tries}
+use Rattle.rule_core.specs.FirstRule.{most_nesting, applies, none_applies, trial_blocked, Tries}
 
 -- what comes of one step from a configuration: the next one, with the calls that are left; none; or a cause why none can be told
 pub data Stepped : Type 0 where

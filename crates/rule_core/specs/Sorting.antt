@@ -1,5 +1,5 @@
 -- Well-sorted patterns (Kore language document, "Well-formed patterns"), over the signature of a definition.
-use Rattle.std.specs.Prelude.{◌≡◌, ◌≤ℤ◌, ◌-ℤ◌, ◌-◌, ◌^◌, ◌<◌, ℕ, ℤ, pos, neg_ℤ, IsTrue, List, [], ◌∷◌, length, slice_get, Option, Some, None}
+use Rattle.std.specs.Prelude.{◌≡◌, ◌≤ℤ◌, ◌-◌, ◌^◌, ◌<◌, ℕ, ℤ, pos, neg_ℤ, IsTrue, List, [], ◌∷◌, length, slice_get, Option, Some}
 use Rattle.std.specs.Str.{is_utf8}
 use Rattle.term_core.specs.Terms.{DomainValue, integer, truth, text, Tree}
 use Rattle.term_core.specs.Patterns.{Pattern, Patterns, variable, domain_value, application, injection, call, no_pattern, more_patterns, ground_pattern}

@@ -1,6 +1,9 @@
--- The pairs that are kept.
-use Rattle.std.specs.Prelude.{ℕ, List, map}
+-- The pairs that are kept, and the tables beside them.
+use Rattle.std.specs.Prelude.{◌≡◌, ◌↔◌, ◌==◌, ◌||◌, ℕ, Bool, false, IsTrue, List, Vec, [], map, Contains, slice_index_or}
+use Rattle.std.specs.Global.{Global}
 use Rattle.term_core.specs.declared.ids.SortId.{SortId}
+use Rattle.rule_core.specs.Subsorts.{HasNoCycle}
+use Rattle.rule_core.specs.MatchSteps.{is_below}
 use Rattle.rule_core.specs.declared.subsorts.Subsorts.TheInside.{Inside}
 
 -- pairs of sorts, by number
@@ -9,3 +12,25 @@ sort_pairs pairs = map (λ (p : SortId × SortId). (p.0.0, p.1.0)) pairs
 
 abbrev pub pairs_of : Inside → List (ℕ × ℕ)
 pairs_of a = sort_pairs a.pairs.items
+
+-- the set has the sort with this number
+abbrev pub has : List Bool → ℕ → Bool
+has set s = slice_index_or set s false
+
+-- the set of the sort with this number
+abbrev pub set_at : List (Vec Bool Global) → ℕ → List Bool
+set_at sets a = slice_index_or (map (λ (set : Vec Bool Global). set.items) sets) a []
+
+-- the set of the first sort has the second
+abbrev pub is_in : List (Vec Bool Global) → ℕ → ℕ → Bool
+is_in sets a b = has (set_at sets a) b
+
+-- the sort is a, or its set has a
+abbrev pub reaches : List (Vec Bool Global) → ℕ → ℕ → Bool
+reaches sets x a = x == a || is_in sets x a
+
+-- the tables agree with the pairs, and no sort is below itself
+pub record IsTable (t : Inside) : Type 0 where
+  pub chains : (a b : ℕ) → is_in t.above.items a b ≡ is_below (pairs_of t) a b
+  pub single : (a b : ℕ) → IsTrue (is_in t.direct.items a b) ↔ Contains (pairs_of t) (a, b)
+  pub no_cycle : HasNoCycle (pairs_of t)

@@ -1,5 +1,5 @@
 -- Well-sorted theories: what a definition that is accepted gives, and what matching, evaluation and runs ask for.
-use Rattle.std.specs.Prelude.{◌≡◌, ℕ, ◌<◌, ◌≤◌, ◌^◌, List, [], ◌∷◌, length, slice_get, Option, Some, None, IsSome, IfSome, All, ◌⊎◌, map}
+use Rattle.std.specs.Prelude.{◌≡◌, ℕ, ◌<◌, ◌≤◌, List, [], ◌∷◌, length, slice_get, Option, Some, IsSome, IfSome, All, ◌⊎◌, map}
 use Rattle.term_core.specs.Terms.{Tree, height}
 use Rattle.term_core.specs.Patterns.{Pattern, Patterns, variable, domain_value, application, injection, call, no_pattern, more_patterns, binding}
 use Rattle.term_core.specs.HookValues.{Hook, Kind, integers, truths, hooks, argument_kinds, result_kind}

@@ -15,6 +15,7 @@ mod laws;
 mod matching;
 mod rules;
 mod signature;
+mod sort_sets;
 mod subsorts;
 mod table;
 #[cfg(test)]

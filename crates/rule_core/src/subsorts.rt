@@ -1,17 +1,23 @@
 // The order of a definition's sorts.
-ghost use Rattle.std.specs.Prelude.{◌≡◌, ◌↔◌, IsTrue, []};
-ghost use Rattle.rule_core.specs.Subsorts.{IsBelow};
-ghost use Rattle.rule_core.specs.SubsortFields.{sort_pairs};
-ghost use Rattle.rule_core.specs.MatchSteps.{is_below};
+ghost use Rattle.std.specs.Prelude.{◌≡◌, ◌↔◌, ◌++◌, ◌∷◌, IsTrue, [], Contains, IfOk, OnErr, if◌then◌else◌};
+ghost use Rattle.rule_core.specs.Subsorts.{IsBelow, HasNoCycle};
 
-use std::alloc::Global;
+use crate::sort_sets::{grow, is_in, merge, set_of, widen, with_sort};
+use std::alloc::{AllocError, Global};
 use std::marker::Model;
 use term_core::SortId;
 
-/// The pairs by which a definition says that one sort is below another. Contracts see them as a list of pairs.
+/// The pairs by which a definition says that one sort is below another. Contracts see them as a list of pairs, in the order
+/// in which they were added. No sort is below itself.
+///
+/// Beside the pairs it keeps for each sort the set of those above it, and the set of those that a pair puts right above it,
+/// a byte for each sort up to the greatest in the set. So a look-up takes one step, and the sets of a chain of 1,000 sorts
+/// at most 2 MB, of 10,000 at most 200 MB.
 #[derive(Drop)]
 pub struct Subsorts {
     pairs: Vec<(SortId, SortId)>,
+    above: Vec<Vec<bool>>,
+    direct: Vec<Vec<bool>>,
 }
 
 impl Model for Subsorts {
@@ -19,37 +25,61 @@ impl Model for Subsorts {
 
     ghost Value = { List (ℕ × ℕ) };
 
-    ghost use Rattle.rule_core.specs.SubsortFields.{pairs_of};
+    ghost use Rattle.rule_core.specs.SubsortFields.{pairs_of, IsTable};
 
     ghost view = { pairs_of };
+
+    ghost invariant = { IsTable };
 }
 
 impl Subsorts {
-    /// No pair.
+    /// No pair. It takes no memory yet.
     pub fn new(alloc: Global) -> Subsorts
         ensures { result ≡ [] }
     {
         Subsorts {
             pairs: Vec::new(alloc),
+            above: Vec::new(alloc),
+            direct: Vec::new(alloc),
         }
     }
 
-    /// Whether a chain of one or more pairs leads from a sort to another.
+    /// Whether a chain of one or more pairs leads from a sort to another. It takes no memory, and looks at one entry.
     pub fn below(&self, a: SortId, b: SortId) -> bool
         ensures { IsTrue result ↔ IsBelow self.now a.0 b.0 }
     {
-        leads(&self.pairs, a, b)
+        is_in(&self.above, a, b)
     }
-}
 
-// Whether a chain of the pairs leads there: one that does not need the first pair, or one that needs it once.
-fn leads(pairs: &[(SortId, SortId)], a: SortId, b: SortId) -> bool
-    ensures { result ≡ is_below (sort_pairs pairs.now) a.0 b.0 }
-{
-    match pairs.split_first() {
-        None => false,
-        Some((first, rest)) => leads(rest, a, b)
-            || ((a == first.0 || leads(rest, a, first.0))
-                && (first.1 == b || leads(rest, first.1, b))),
+    /// Whether this very pair was added. It takes no memory, and looks at one entry.
+    pub fn pair(&self, a: SortId, b: SortId) -> bool
+        ensures { IsTrue result ↔ Contains self.now (a.0, b.0) }
+    {
+        is_in(&self.direct, a, b)
+    }
+
+    /// Adds a pair and answers true. Where a sort would then be below itself, it answers false and changes nothing.
+    /// `AllocError` says that memory was wanting, and then no pair is added either.
+    ///
+    /// It looks at one entry of each set, and at each entry of the sets that get new sorts. So the pairs of a chain of 1,000
+    /// sorts cost some millions of steps in all.
+    pub fn add(&mut self, alloc: Global, a: SortId, b: SortId) -> Result<bool, AllocError>
+        ensures fresh { IfOk result (λ added. IsTrue added ↔ HasNoCycle (self.old ++ (a.0, b.0) ∷ [])) }
+        ensures pairs { IfOk result (λ added. self.new ≡ (if added then self.old ++ (a.0, b.0) ∷ [] else self.old)) }
+        ensures err { OnErr result (self.new ≡ self.old) }
+    {
+        if a == b || self.below(b, a) {
+            return Ok(false);
+        }
+        self.pairs.reserve(1)?;
+        grow(alloc, &mut self.direct, a)?;
+        let right_above = with_sort(alloc, set_of(&self.direct, a), b)?;
+        grow(alloc, &mut self.above, a)?;
+        let above = with_sort(alloc, set_of(&self.above, b), b)?;
+        widen(&mut self.above, a, above.len())?;
+        merge(&mut self.above, a, &above);
+        self.direct[a.0 as usize] = right_above;
+        self.pairs.push((a, b)).unwrap();
+        Ok(true)
     }
 }

@@ -1,4 +1,4 @@
-use Rattle.rule_core.proofs.Determined.{evaluation_is_unique, evaluation_has_answer, values_are_sorted, more_left_keeps_value}
+use Rattle.rule_core.proofs.Determined.{evaluation_is_unique, evaluation_has_answer, values_are_sorted, more_left_keeps_value, evaluation_calls_fall}
 use Rattle.rule_core.proofs.evaluation.evaluation_laws.Goals as goal
 
 pub returns-clause-one : goal.returns-clause-one
@@ -12,3 +12,6 @@ returns-clause-sorted a = values_are_sorted
 
 pub returns-clause-more : goal.returns-clause-more
 returns-clause-more a = more_left_keeps_value
+
+pub returns-clause-fewer : goal.returns-clause-fewer
+returns-clause-fewer a = evaluation_calls_fall

@@ -1,5 +1,7 @@
 use Rattle.rule_core.proofs.RunUnique.{trial_is_unique, step_is_unique, run_is_unique}
 use Rattle.rule_core.proofs.RunAnswers.{has_run, configurations_are_sorted, step_record_determines}
+use Rattle.rule_core.proofs.FirstApplies.{first_applies, none_applies_over}
+use Rattle.rule_core.proofs.StepsKept.{step_has_record}
 use Rattle.rule_core.proofs.evaluation.run_laws.Goals as goal
 
 pub returns-clause-trial : goal.returns-clause-trial
@@ -17,5 +19,14 @@ returns-clause-some a = has_run
 pub returns-clause-sorted : goal.returns-clause-sorted
 returns-clause-sorted a = λ theory calls sort n c start t good each h r. configurations_are_sorted theory good calls sort start each h r
 
+pub returns-clause-recorded : goal.returns-clause-recorded
+returns-clause-recorded a = step_record_determines
+
+pub returns-clause-first : goal.returns-clause-first
+returns-clause-first a = first_applies
+
+pub returns-clause-none : goal.returns-clause-none
+returns-clause-none a = none_applies_over
+
 pub returns-clause-kept : goal.returns-clause-kept
-returns-clause-kept a = step_record_determines
+returns-clause-kept a = step_has_record
