@@ -1,5 +1,5 @@
 -- A trial goes over rules that do not match.
-use Rattle.std.proofs.Common.{◌≡◌, ℕ, zero, suc, ◌+◌, ◌<◌, ◌≤◌, List, [], ◌∷◌, length, drop, get_or, slice_get, Some, refl, sym, ◌∙◌, ap, subst, arith}
+use Rattle.std.proofs.Common.{◌≡◌, ℕ, zero, suc, ◌+◌, ◌<◌, List, [], ◌∷◌, length, drop, get_or, slice_get, Some, refl, sym, ◌∙◌, ap, subst, arith}
 use Rattle.std.proofs.lemmas.List.{drop_more}
 use Rattle.std.proofs.lemmas.Option.{slice_get_read}
 use Rattle.term_core.specs.Terms.{Tree, no_tree, more_trees}
@@ -8,7 +8,6 @@ use Rattle.rule_core.specs.Rules.{RewriteRule}
 use Rattle.rule_core.specs.Theories.{RewriteTheory}
 use Rattle.rule_core.specs.Matching.{NoneMatches}
 use Rattle.rule_core.specs.FirstRule.{Trial, Tries, unmatched}
-use Rattle.rule_core.specs.Trial.{NoRuleMatches}
 use Rattle.rule_core.specs.TrialLaws.{UnmatchedAreSkipped}
 
 -- one rule that does not match

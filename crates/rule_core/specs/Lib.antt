@@ -19,6 +19,8 @@ pub mod EvaluationLaws
 pub mod EvaluationCases
 pub mod RunLaws
 pub mod ProgramView
+pub mod RecordView
+pub mod RunView
 pub mod RuleVariables
 pub mod Trial
 -- Private: what clauses of private functions cite, and how private fields are seen.

@@ -13,6 +13,7 @@
 mod evaluation;
 mod laws;
 mod matching;
+mod records;
 mod rules;
 mod signature;
 mod sort_sets;
@@ -25,7 +26,8 @@ mod trial;
 pub use evaluation::{evaluation_laws, record_laws, run_laws, tried};
 pub use laws::{match_laws, trial_laws};
 pub use matching::{find_match, find_match_all};
-pub use rules::{Outcome, Program, Rule, VarInfo};
+pub use records::{EqRecord, EvalRecord, StepRecord};
+pub use rules::{Blocked, Equation, Outcome, Program, Rule, VarInfo};
 pub use signature::{Signature, SortInfo, SortKind, SortRef, SymInfo, SymKind};
 pub use subsorts::Subsorts;
 pub use table::Table;

@@ -143,6 +143,40 @@ fn matches_a_repeated_variable(rt: HostRuntime) -> Result<(), Fail> {
     Ok(())
 }
 
+// The rule `inj{Exp,KItem}(X) => X`.
+fn injection_rule(alloc: Global) -> Result<Rule, AllocError>
+    ensures { IfOk result MatchesByOwnVariables }
+{
+    let variable = VarInfo {
+        name: String::from_str(alloc, "X")?,
+        sort: EXP,
+    };
+    Ok(Rule {
+        at: 0,
+        left: RulePat::Inj(EXP, KITEM, Box::new(alloc, RulePat::Var(0))?),
+        right: RulePat::Var(0),
+        vars: vec![in alloc; variable]?,
+        priority: 50,
+    })
+}
+
+// With Int below Exp, `inj{Exp,KItem}(X)` matches inj{Int,KItem}(5), with X for inj{Int,Exp}(5); without, it does not.
+#[test]
+fn matches_an_injection_of_a_lower_sort(rt: HostRuntime) -> Result<(), Fail> {
+    let alloc = rt.alloc();
+    let rules = vec![in alloc; injection_rule(alloc)?]?;
+    let five = Term::value(alloc, INT, Value::Int(5))?;
+    assert!(rt; five.height_injected() <= MAX_HEIGHT);
+    let term = Term::inj(alloc, INT, KITEM, &five)?;
+    let mut subsorts = Subsorts::new(alloc);
+    assert!(rt; first_match(alloc, &rules, &subsorts, 0, &term)?.is_none());
+    assert!(rt; subsorts.add(alloc, INT, EXP)?);
+    let (place, subst) = first_match(alloc, &rules, &subsorts, 0, &term)?.ok_or("none")?;
+    assert_eq!(rt; place, 0);
+    assert!(rt; subst.get(0).ok_or("X")?.same_inj(INT, EXP, &five));
+    Ok(())
+}
+
 // The arguments `X, 5` match the terms 7 and 5, with X for 7.
 fn matches_arguments<L: Ledger>(alloc: Global, blank: Blank) -> Result<bool, AllocError>
     requires name { blank.name ≡ L.name }

@@ -1,7 +1,7 @@
-use Rattle.std.proofs.Common.{rules, ℕ, ◌≡◌, ◌≢◌, ◌+◌, ◌≤◌, ◌<◌, length, refl, sym, ◌∙◌, ap, arith, suc}
+use Rattle.std.proofs.Common.{rules, ℕ, ◌≡◌, ◌≢◌, ◌<◌, length, sym, ◌∙◌, ap, arith}
 use Rattle.std.specs.Prelude.{◌||◌}
 use Rattle.std.proofs.lemmas.Grind.{common_steps}
-use Rattle.rule_core.specs.SubsortFields.{has, set_at, is_in, reaches}
+use Rattle.rule_core.specs.SubsortFields.{has, set_at, is_in}
 use Rattle.rule_core.proofs.SortSets.{set_at_entry, set_at_set_same, set_at_set_other, merged_next, merged_still}
 use Rattle.rule_core.proofs.sort_sets.merge.Goals as goal
 use Rattle.rule_core.proofs.sort_sets.merge.Goals.{then-leads, else-leads}

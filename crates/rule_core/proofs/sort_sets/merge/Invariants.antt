@@ -1,4 +1,4 @@
-use Rattle.std.proofs.Common.{ℕ, ◌≡◌, ◌<◌, ◌≤◌, length}
+use Rattle.std.proofs.Common.{ℕ, ◌≡◌, ◌<◌, ◌≤◌}
 use Rattle.std.specs.Prelude.{vec_len, ◌||◌, ◌&&◌}
 use Rattle.rule_core.specs.SubsortFields.{has, is_in, set_at, reaches}
 use Rattle.rule_core.proofs.sort_sets.merge.Given as goal

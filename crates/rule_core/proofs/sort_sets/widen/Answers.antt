@@ -1,6 +1,6 @@
-use Rattle.std.proofs.Common.{rules, ℕ, ◌≡◌, ◌≢◌, ◌+◌, ◌≤◌, ◌<◌, refl, sym, ◌∙◌, ap, arith, length}
+use Rattle.std.proofs.Common.{rules, ◌≡◌, ◌<◌, sym, ◌∙◌, ap, arith, length}
 use Rattle.std.proofs.lemmas.Grind.{common_steps}
-use Rattle.rule_core.specs.SubsortFields.{has, set_at, is_in, reaches}
+use Rattle.rule_core.specs.SubsortFields.{has, set_at}
 use Rattle.rule_core.proofs.SortSets.{set_at_set_same, set_at_set_other, is_in_same, set_at_entry, long_next, long_still}
 use Rattle.rule_core.proofs.sort_sets.widen.Goals as goal
 use Rattle.rule_core.proofs.sort_sets.widen.Goals.{then-leads+in_ok-lengthen, else-leads}

@@ -1,11 +1,11 @@
-use Rattle.std.proofs.Common.{rules, ◌≡◌, ◌↔◌, ◌++◌, ◌∷◌, [], ℕ, List, ◌∙◌, ap, sym, refl, subst, Bool, true, false, length, ◌<◌, arith, eq-eqb, Contains}
+use Rattle.std.proofs.Common.{rules, ◌≡◌, ◌↔◌, ◌++◌, ◌∷◌, [], ℕ, List, ◌∙◌, ap, sym, refl, subst, false, length, ◌<◌, arith, eq-eqb, Contains}
 use Rattle.std.proofs.lemmas.Grind.{common_steps}
-use Rattle.std.specs.Prelude.{IsTrue, ◌||◌, ◌&&◌, ◌==◌}
+use Rattle.std.specs.Prelude.{IsTrue, ◌||◌, ◌==◌}
 use Rattle.std.proofs.lemmas.Bool.{false≢true}
 use Rattle.std.proofs.lemmas.List.{map-append}
 use Rattle.rule_core.specs.Subsorts.{IsBelow, HasNoCycle}
 use Rattle.rule_core.specs.MatchSteps.{is_below}
-use Rattle.rule_core.specs.SubsortFields.{sort_pairs, pairs_of, has, is_in, reaches}
+use Rattle.rule_core.specs.SubsortFields.{sort_pairs, pairs_of, has, is_in}
 use Rattle.rule_core.proofs.Belows.{no_cycle_more, cycle_same, cycle_back}
 use Rattle.rule_core.proofs.SortSets.{chains_more, single_more}
 use Rattle.rule_core.proofs.subsorts.Subsorts.add.Goals as goal

@@ -1,0 +1,44 @@
+-- The plain records that the records of the code stand for.
+use Rattle.std.specs.Prelude.{List, [], ◌∷◌, Option, Some, None, option_map}
+use Rattle.rule_core.specs.Records.{Record, RecordList, OptionalRecord, bound, itself, made, by_hook, by_equation, no_record, more_records, unconditional, conditional}
+use Rattle.rule_core.specs.Records as plain
+use Rattle.rule_core.specs.declared.records.EvalRecord.{EvalRecord}
+use Rattle.rule_core.specs.declared.records.StepRecord.{StepRecord}
+use Rattle.rule_core.specs.declared.records.EvalRecord.TheOpen.{EvalRecord-F}
+use Rattle.rule_core.specs.declared.records.EvalRecord.TheOpen as layer
+use Rattle.rule_core.specs.declared.records.EvalRecord.TheOpen.{EqRecord-F}
+use Rattle.rule_core.specs.declared.records.EvalRecord.TheFolds.{fold-EvalRecord}
+
+-- records, in order
+abbrev pub records : List Record → RecordList
+records [] = no_record
+records (r ∷ rs) = more_records r (records rs)
+
+-- the record of a condition, where there is one
+abbrev pub optional : Option Record → OptionalRecord
+optional None = unconditional
+optional (Some r) = conditional r
+
+-- one layer, whose parts are plain records already
+abbrev pub plain_use : EqRecord-F Record Record → Record
+plain_use used =
+    by_equation (records used.args.items) used.equation used.subst (optional (option_map (λ r. r.value) used.cond)) used.body.value
+
+abbrev pub plain_layer : EvalRecord-F Record Record → Record
+plain_layer (layer.Bound x t) = bound x t
+plain_layer (layer.Value t) = itself t
+plain_layer (layer.Ctor f rs t) = made (records rs.items) t
+plain_layer (layer.Inj a b r t) = made (more_records r.value no_record) t
+plain_layer (layer.ByHook f rs t) = by_hook (records rs.items) t
+plain_layer (layer.ByEquation used) = used
+
+abbrev pub plain_record : EvalRecord → Record
+plain_record = fold-EvalRecord Record Record plain_layer plain_use
+
+abbrev pub plain_step : StepRecord → plain.StepRecord
+plain_step step = record {
+  rule = step.rule;
+  theta = step.subst;
+  condition = optional (option_map plain_record step.cond);
+  right = plain_record step.right;
+}
