@@ -57,6 +57,7 @@ fn number_rule(alloc: Global, at: u32, left: i128, right: i128) -> Rule
     Rule {
         at,
         left: RulePat::Value(INT, Value::Int(left)),
+        cond: None,
         right: RulePat::Value(INT, Value::Int(right)),
         vars: Vec::new(alloc),
         priority: 50,
@@ -102,6 +103,7 @@ fn same_pair_rule(alloc: Global) -> Result<Rule, AllocError>
     Ok(Rule {
         at: 0,
         left: RulePat::Ctor(PAIR, vec![in alloc; first, second]?),
+        cond: None,
         right: RulePat::Var(0),
         vars: vec![in alloc; variable]?,
         priority: 50,
@@ -253,5 +255,22 @@ fn makes_a_signature(rt: HostRuntime) -> Result<(), Fail> {
         sig.sorts.value(0).map(|sort| sort.kind),
         Some(SortKind::Int)
     );
+    Ok(())
+}
+
+// The ends of a chain are in order without a pair of their own, and no pair closes the chain.
+#[test]
+fn sorts_stand_in_chains(rt: HostRuntime) -> Result<(), Fail> {
+    let alloc = rt.alloc();
+    let (low, middle, high) = (SortId(4), SortId(70), SortId(0));
+    let mut subsorts = Subsorts::new(alloc);
+    assert!(rt; subsorts.add(alloc, middle, high)?);
+    assert!(rt; subsorts.add(alloc, low, middle)?);
+    assert!(rt; subsorts.below(low, high));
+    assert!(rt; !subsorts.below(high, low));
+    assert!(rt; !subsorts.pair(low, high));
+    assert!(rt; !subsorts.add(alloc, high, low)?);
+    assert!(rt; !subsorts.add(alloc, low, low)?);
+    assert!(rt; subsorts.pair(low, middle));
     Ok(())
 }
