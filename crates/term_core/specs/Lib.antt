@@ -5,6 +5,7 @@ pub mod HookValues
 pub mod Heads
 pub mod Patterns
 pub mod RulePatterns
+pub mod PatternLists
 -- Laws: what follows from that. Each is a clause of a function that does nothing.
 pub mod GroundPatterns
 -- Private: what clauses of private functions cite, and how private fields are seen.
@@ -12,4 +13,3 @@ pub mod TermCode
 pub mod TreeTest
 pub mod TermView
 pub mod TermSize
-pub mod PatternLists
