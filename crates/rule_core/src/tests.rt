@@ -57,6 +57,7 @@ fn number_rule(alloc: Global, at: u32, left: i128, right: i128) -> Rule
     Rule {
         at,
         left: RulePat::Value(INT, Value::Int(left)),
+        cond: None,
         right: RulePat::Value(INT, Value::Int(right)),
         vars: Vec::new(alloc),
         priority: 50,
@@ -102,6 +103,7 @@ fn same_pair_rule(alloc: Global) -> Result<Rule, AllocError>
     Ok(Rule {
         at: 0,
         left: RulePat::Ctor(PAIR, vec![in alloc; first, second]?),
+        cond: None,
         right: RulePat::Var(0),
         vars: vec![in alloc; variable]?,
         priority: 50,
@@ -154,6 +156,7 @@ fn injection_rule(alloc: Global) -> Result<Rule, AllocError>
     Ok(Rule {
         at: 0,
         left: RulePat::Inj(EXP, KITEM, Box::new(alloc, RulePat::Var(0))?),
+        cond: None,
         right: RulePat::Var(0),
         vars: vec![in alloc; variable]?,
         priority: 50,
