@@ -258,3 +258,20 @@ fn makes_a_signature(rt: HostRuntime) -> Result<(), Fail> {
     );
     Ok(())
 }
+
+// The ends of a chain are in order without a pair of their own, and no pair closes the chain.
+#[test]
+fn sorts_stand_in_chains(rt: HostRuntime) -> Result<(), Fail> {
+    let alloc = rt.alloc();
+    let (low, middle, high) = (SortId(4), SortId(70), SortId(0));
+    let mut subsorts = Subsorts::new(alloc);
+    assert!(rt; subsorts.add(alloc, middle, high)?);
+    assert!(rt; subsorts.add(alloc, low, middle)?);
+    assert!(rt; subsorts.below(low, high));
+    assert!(rt; !subsorts.below(high, low));
+    assert!(rt; !subsorts.pair(low, high));
+    assert!(rt; !subsorts.add(alloc, high, low)?);
+    assert!(rt; !subsorts.add(alloc, low, low)?);
+    assert!(rt; subsorts.pair(low, middle));
+    Ok(())
+}
