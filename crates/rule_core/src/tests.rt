@@ -156,6 +156,7 @@ fn injection_rule(alloc: Global) -> Result<Rule, AllocError>
     Ok(Rule {
         at: 0,
         left: RulePat::Inj(EXP, KITEM, Box::new(alloc, RulePat::Var(0))?),
+        cond: None,
         right: RulePat::Var(0),
         vars: vec![in alloc; variable]?,
         priority: 50,
