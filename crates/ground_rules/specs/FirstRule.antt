@@ -5,7 +5,8 @@ use Rattle.term_core.specs.Patterns.{instance_of}
 use Rattle.ground_rules.specs.Rules.{RewriteRule, ComesBefore}
 use Rattle.ground_rules.specs.Matching.{Matches, IsUnmatched}
 
--- the rule is one of the program's, it matches the term with this substitution, and no rule that comes before it matches
+-- the rule is one of the program's, it matches the term with this substitution, and no rule that comes before it
+-- matches
 pub record IsFirstRule (rules : List RewriteRule) (t : Tree) (rule : RewriteRule) (theta : List (Option Tree)) : Type 0 where
   pub known : Contains rules rule
   pub matches : Matches rule.variables rule.left t theta

@@ -2,8 +2,8 @@
 use Rattle.std.specs.Prelude.{◌≡◌, ℕ, ◌<◌, ◌⊎◌}
 use Rattle.term_core.specs.Patterns.{Pattern}
 
--- A rule rewrites the instances of its left side to those of its right side. It has so many variables, and stands at this
--- place in the file.
+-- A rule rewrites the instances of its left side to those of its right side. It has so many variables, and stands at
+-- this place in the file.
 pub record RewriteRule : Type 0 where
   pub left : Pattern
   pub right : Pattern

@@ -179,8 +179,8 @@ pub fn shl(x: i128, y: i128) -> Result<i128, NoValue>
     ranged(shifted(x, y.unsigned_abs()))
 }
 
-// The product with a power of two, where it fits. A power past 2^127 takes no number but 0 into the range; a lower one is
-// made of two factors that fit.
+// The product with a power of two, where it fits. A power past 2^127 takes no number but 0 into the range; a lower one
+// is made of two factors that fit.
 fn shifted(x: i128, by: u128) -> Option<i128>
     ensures { SomeIff result (FitsSigned w128 (x *ℤ pos (2 ^ by))) (x *ℤ pos (2 ^ by)) }
 {

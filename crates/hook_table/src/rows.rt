@@ -1,7 +1,7 @@
 // The rows of the table, each once.
 
-// Hands the rows to a macro: the number of each, its name, the kinds of its arguments and of its value, and the function
-// that computes the value.
+// Hands the rows to a macro: the number of each, its name, the kinds of its arguments and of its value, and the
+// function that computes the value.
 macro_rules! table_rows {
     ($with:ident!($($given:tt)*)) => {
         $with! {

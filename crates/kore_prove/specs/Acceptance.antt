@@ -175,8 +175,8 @@ pub record HasDeclarations (definition : DefinitionTree) (declarations : List De
   pub declared : main.declarations ≡ declarations
   pub built : All IsBuilt declarations
 
--- The definition is accepted: it declares this signature and, in the order of the file, these rules, all of the one sort
--- `top`.
+-- The definition is accepted: it declares this signature and, in the order of the file, these rules, all of the one
+-- sort `top`.
 pub record IsAccepted (definition : DefinitionTree) (sig : Signature) (top : Option ℕ) (rules : List RewriteRule) : Type 0 where
   pub declarations : List Declaration
   pub main : HasDeclarations definition declarations

@@ -34,8 +34,8 @@ IsRefusedDefinition bytes number byte = IsRefusal IsDefinition bytes number byte
 abbrev pub IsRefusedTerm : Program → List ℕ → ℕ → ℕ → Type 0
 IsRefusedTerm program bytes number byte = IsRefusal IsPattern bytes number byte × IsNoTermOf program bytes
 
--- What is known of a run command whose files have these names: what the desk told at first, and the counts of its faults in
--- reading and in writing, and of the output's, before and after.
+-- What is known of a run command whose files have these names: what the desk told at first, and the counts of its
+-- faults in reading and in writing, and of the output's, before and after.
 pub record Course : Type 0 where
   pub definition : List ℕ
   pub term : List ℕ
@@ -55,8 +55,8 @@ HasProgram c = (program : Program) × HoldsProgram c.told c.definition program
 abbrev pub HasRun : Course → Type 0
 HasRun c = (program : Program) × HoldsProgram c.told c.definition program × ((start : Pattern) × HoldsStart c.told c.term program start)
 
--- The end of such a command has its cause. The term is answered where the definition was accepted, and what could not be
--- written where both were.
+-- The end of such a command has its cause. The term is answered where the definition was accepted, and what could not
+-- be written where both were.
 abbrev pub RunCause : Course → Ending → Type 0
 RunCause c out_of_memory = Unit {0}
 RunCause c bad_words = ⊥
@@ -112,8 +112,9 @@ KeepsOutput (too_large name) before after = SameBytes before after
 abbrev pub IsUnwritten : ℕ → Type 0
 IsUnwritten code = (code ≢ 0) × (code ≢ 1) × (code ≢ 4) × (code ≢ 10)
 
--- What is known of a call: its words; what the desk told before and after; the counts of faults of the desk in reading and in
--- writing, of the output and of the error stream before and after; and what the two streams told before and after.
+-- What is known of a call: its words; what the desk told before and after; the counts of faults of the desk in reading
+-- and in writing, of the output and of the error stream before and after; and what the two streams told before and
+-- after.
 pub record Call : Type 0 where
   pub words : List (List ℕ)
   pub told : Option Told

@@ -28,8 +28,8 @@ UnreadCause told name limit reads reads' read.Failed = Rose reads reads'
 UnreadCause told name limit reads reads' read.TooLarge = HoldsMore told name limit
 UnreadCause told name limit reads reads' read.Memory = Unit {0}
 
--- The desk's files are as before, but where they could not be written or memory was wanting: then the file of a proof may have
--- been created.
+-- The desk's files are as before, but where they could not be written or memory was wanting: then the file of a proof
+-- may have been created.
 abbrev pub KeepsFilesAt : Ending → Option Told → Option Told → Type 0
 KeepsFilesAt out_of_memory old new = Unit {0}
 KeepsFilesAt bad_words old new = KeepsFiles old new

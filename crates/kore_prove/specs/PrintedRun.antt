@@ -14,8 +14,8 @@ use Rattle.kore_prove.specs.Limits.{definition_limit, term_limit}
 use Rattle.kore_prove.specs.Acceptance.{IsAccepted, IsAcceptedTerm}
 use Rattle.kore_prove.specs.Lines.{lines_of, last_of, ReadsBack}
 
--- The one file is accepted as a definition, the other as a term of it, each within its limit; the run is that of the term up to the limit, and
--- what was printed are its two lines, of which the second reads back.
+-- The one file is accepted as a definition, the other as a term of it, each within its limit; the run is that of the
+-- term up to the limit, and what was printed are its two lines, of which the second reads back.
 pub record IsPrintedRun (definition_name term_name : List ℕ) (limit : ℕ) (told : Told) (printed : List ℕ) (run : Run) : Type 0 where
   pub definition_bytes : List ℕ
   pub definition_file : file_of told.files definition_name ≡ Some definition_bytes
@@ -49,8 +49,8 @@ abbrev pub IsCodeOfRun : List (List ℕ) → ℕ → Type 0
 IsCodeOfRun words code = (code ≡ 10) ⊎ ((code ≡ 0) × IsNoVerification words)
 
 -- With the exit codes of a run, the words name two files and a limit, the output grew by the two lines of the run that
--- they give, and the code is that of its end. Of an output that tells nothing the lines are not said, and of a desk that
--- tells nothing nothing is.
+-- they give, and the code is that of its end. Of an output that tells nothing the lines are not said, and of a desk
+-- that tells nothing nothing is.
 abbrev pub PrintsRun : List (List ℕ) → Option Told → Option (List ℕ) → Option (List ℕ) → ℕ → Type 0
 PrintsRun words None before after code = Unit {0}
 PrintsRun words (Some told) before after code =

@@ -41,9 +41,9 @@ pub struct Status {
 }
 
 /// Does what the words name: reads its files from the desk, runs the term, writes the proof of the run
-/// to its file where one is named, and prints the two lines of the run to `out`; or verifies the database and prints the line of the verdict. Where it
-/// does not come to that, `err` gets one line that says why. The status has the exit code: 0 where
-/// the run is stuck, 10 where it reached its limit; 0 where the database is valid, 12 where it is not.
+/// to its file where one is named, and prints the two lines of the run to `out`; or verifies the database and prints
+/// the line of the verdict. Where it does not come to that, `err` gets one line that says why. The status has the exit
+/// code: 0 where the run is stuck, 10 where it reached its limit; 0 where the database is valid, 12 where it is not.
 pub fn kore_main<D: Desk, O: Sink, E: Sink>(
     alloc: Global,
     words: &[String],

@@ -13,9 +13,9 @@ use ml_pat::{MPat, Names, VarNo};
 use std::alloc::{AllocError, Global};
 use term_core::{RulePat, SortId};
 
-/// The image of a pattern whose sorts and symbols are the program's (Chen and Rosu 2019): a symbol's token, applied to the
-/// sorts' tokens and to the images of the arguments, one after another. An error is want of memory; the names may have
-/// gained tokens then too.
+/// The image of a pattern whose sorts and symbols are the program's (Chen and Rosu 2019): a symbol's token, applied to
+/// the sorts' tokens and to the images of the arguments, one after another. An error is want of memory; the names may
+/// have gained tokens then too.
 pub fn term_image(
     alloc: Global,
     program: &Program,
@@ -29,8 +29,8 @@ pub fn term_image(
     image(alloc, &program.sig, names, pat)
 }
 
-/// The image of the rule at this place, which has no variables (Chen and Rosu 2019): `left & top -> next right`, with the
-/// images of its sides. An error is want of memory; the names may have gained tokens then too.
+/// The image of the rule at this place, which has no variables (Chen and Rosu 2019): `left & top -> next right`, with
+/// the images of its sides. An error is want of memory; the names may have gained tokens then too.
 pub fn rule_image(
     alloc: Global,
     program: &Program,

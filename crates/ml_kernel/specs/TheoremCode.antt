@@ -73,7 +73,8 @@ abbrev instance_code : Coded Instance
 instance_code =
     code_by (Pattern ⊎ (ℕ ⊎ ℕ)) (coded⊎ pattern_code (coded⊎ coded_ℕ coded_ℕ)) instance_cases instance_of_cases instance_of_cases-instance_cases
 
--- A token opens a list of derivations, or is a hypothesis or an axiom, or ends the derivations below a rule or a citation.
+-- A token opens a list of derivations, or is a hypothesis or an axiom, or ends the derivations below a rule or a
+-- citation.
 abbrev Token : Type 0
 Token = (Unit {0} ⊎ (Pattern ⊎ (ℕ × Pattern))) ⊎ ((Rule × List Instance) ⊎ (List Pattern × (Pattern × List Pattern)))
 

@@ -1,13 +1,13 @@
--- Theorems: a conclusion, the hypotheses that it rests on, and a derivation tree as it is kept, in which a step may cite a
--- lemma at instances of its pattern variables.
+-- Theorems: a conclusion, the hypotheses that it rests on, and a derivation tree as it is kept, in which a step may
+-- cite a lemma at instances of its pattern variables.
 use Rattle.std.specs.Prelude.{◌≡◌, ℕ, List, [], ◌∷◌, ◌++◌, ◌⊎◌, Contains}
 use Rattle.ml_pat.specs.Patterns.{Pattern}
 use Rattle.ml_kernel.specs.Rules.{Instance}
 use Rattle.ml_kernel.specs.Derivability.{Derives}
 use Rattle.ml_kernel.specs.declared.rules.Rule.{Rule}
 
--- An axiom has its number in its theory. A citation has the lemma's hypotheses, conclusion and derivation, what stands for
--- its pattern variables, and the derivations of its hypotheses.
+-- An axiom has its number in its theory. A citation has the lemma's hypotheses, conclusion and derivation, what stands
+-- for its pattern variables, and the derivations of its hypotheses.
 mutual
   pub data Derivation : Type 0 where
     hypothesis : Pattern → Derivation
@@ -54,21 +54,22 @@ abbrev mutual
   all_axioms no_derivation = []
   all_axioms (more_derivations d ds) = axioms_of d ++ all_axioms ds
 
--- Old hypotheses and others make new ones: the old, and then each of the others that is not there yet, at its first place.
+-- Old hypotheses and others make new ones: the old, and then each of the others that is not there yet, at its first
+-- place.
 abbrev pub AddsNew : List Pattern → List Pattern → List Pattern → Type 0
 AddsNew old [] new = new ≡ old
 AddsNew old (p ∷ ps) new =
     (Contains old p × AddsNew old ps new) ⊎ ((Contains old p → ⊥) × AddsNew (old ++ p ∷ []) ps new)
 
--- The theorem concludes q from these theorems by the rule: it has just their hypotheses, in order, each once, and its last
--- step is the rule at these instances over their derivations.
+-- The theorem concludes q from these theorems by the rule: it has just their hypotheses, in order, each once, and its
+-- last step is the rule at these instances over their derivations.
 pub record IsByRule (r : Rule) (is : List Instance) (ts : List Theorem) (q : Pattern) (t : Theorem) : Type 0 where
   pub conclusion : t.conclusion ≡ q
   pub kept_hypotheses : AddsNew [] (all_hypotheses ts) t.hypotheses
   pub last_step : t.derivation ≡ by_rule r is (all_derivations ts)
 
--- The theorem has just the hypotheses of these theorems, and its last step cites the lemma at these instances over their
--- derivations.
+-- The theorem has just the hypotheses of these theorems, and its last step cites the lemma at these instances over
+-- their derivations.
 pub record IsByLemma (lemma : Theorem) (ms : List Pattern) (ts : List Theorem) (t : Theorem) : Type 0 where
   pub kept_hypotheses : AddsNew [] (all_hypotheses ts) t.hypotheses
   pub last_step : t.derivation ≡ cited lemma.hypotheses lemma.conclusion lemma.derivation ms (all_derivations ts)

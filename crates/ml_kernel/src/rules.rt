@@ -1,5 +1,5 @@
-// The rules, one call each, in the order of the header. A call's conditions are what the rule asks: of the theorems that it
-// concludes from, and of patterns.
+// The rules, one call each, in the order of the header. A call's conditions are what the rule asks: of the theorems
+// that it concludes from, and of patterns.
 #![tactic(auto, using(crate::proofs::RuleLaws::rule_laws))]
 
 ghost use Rattle.std.specs.Prelude.{◌≡◌, [], ◌∷◌, IfOk, Some};

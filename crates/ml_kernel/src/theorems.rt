@@ -14,8 +14,8 @@ use ml_pat::{MPat, MSort, VarNo};
 use std::alloc::{AllocError, Global};
 use std::marker::Model;
 
-/// A theorem: a conclusion with the hypotheses that it rests on, each once, and a derivation. Contracts see it as a plain
-/// `Theorem`.
+/// A theorem: a conclusion with the hypotheses that it rests on, each once, and a derivation. Contracts see it as a
+/// plain `Theorem`.
 #[derive(Drop)]
 pub struct Thm {
     hypotheses: Vec<MPat>,
@@ -94,8 +94,8 @@ impl Thm {
         &self.derivation
     }
 
-    /// The conclusion of a lemma with these patterns in the place of its pattern variables, from proofs of its hypotheses
-    /// with the same in their places. It keeps the axioms of the lemma and of the proofs.
+    /// The conclusion of a lemma with these patterns in the place of its pattern variables, from proofs of its
+    /// hypotheses with the same in their places. It keeps the axioms of the lemma and of the proofs.
     pub fn use_lemma(
         alloc: Global,
         lemma: &Lemma,

@@ -1,5 +1,5 @@
--- Statements, which may have variables and hypotheses. Such a statement stands in a block of its own, which declares its
--- variables: behind the block nothing more is active than before it, and the next block may declare them again.
+-- Statements, which may have variables and hypotheses. Such a statement stands in a block of its own, which declares
+-- its variables: behind the block nothing more is active than before it, and the next block may declare them again.
 use Rattle.std.specs.Prelude.{◌≡◌, ℕ, ◌+◌, ◌<◌, ◌^◌, Bool, true, false, not, ◌&&◌, ◌||◌, if◌then◌else◌, List, [], ◌∷◌, ◌++◌, map, filter, length, codes, bytes_eq}
 use Rattle.std.specs.List.{list_any, list_all}
 use Rattle.mm_text.specs.Bytes.{Token, has_token}
@@ -16,7 +16,8 @@ use Rattle.mm_claims.specs.OverNames.{AreOpenOver}
 use Rattle.mm_claims.specs.Variables.{Variable, is_object, are_once, AreNumbered, stands_in, variable_token, variable_label, variable_type, variable_tokens, object_tokens, are_several}
 use Rattle.mm_database.specs.StatementTexts.{plain_tokens}
 
--- what an axiom or a lemma claims: its conclusion under its hypotheses, and its variables in the order in which they are typed
+-- what an axiom or a lemma claims: its conclusion under its hypotheses, and its variables in the order in which they
+-- are typed
 pub record Claim : Type 0 where
   pub variables : List Variable
   pub hypotheses : List Pattern
@@ -78,7 +79,8 @@ needs_block [] [] = false
 needs_block [] (p ∷ ps) = true
 needs_block (v ∷ vs) ps = true
 
--- What is written of an axiom, and of a theorem with its proof: the statement alone, or in its block where it needs one.
+-- What is written of an axiom, and of a theorem with its proof: the statement alone, or in its block where it needs
+-- one.
 abbrev pub axiom_statements : List Token → ℕ → Claim → List (List Token)
 axiom_statements declared k s =
     if needs_block s.variables s.hypotheses then axiom_block declared k s else (axiom_statement declared k s.conclusion ∷ [])
@@ -100,8 +102,8 @@ abbrev pub are_apart : List Variable → Token → Token → Bool
 are_apart vs a b =
     not (bytes_eq a b) && ((has_token (variable_tokens vs) a && has_token (variable_tokens vs) b) && (has_token (object_tokens vs) a || has_token (object_tokens vs) b))
 
--- The frame of a claim: its variables are typed in their order, then come its hypotheses; each two of its variables have to
--- stay apart of which one is an object variable.
+-- The frame of a claim: its variables are typed in their order, then come its hypotheses; each two of its variables
+-- have to stay apart of which one is an object variable.
 abbrev pub open_frame : List Token → ℕ → Claim → Frame
 open_frame declared k s = record {
   label = statement_label k;

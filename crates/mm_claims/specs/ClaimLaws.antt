@@ -21,8 +21,8 @@ OverNamesIsClaim =
     (declared : List Token) (hypotheses : List Pattern) (conclusion : Pattern) → AreOverNames declared (conclusion ∷ hypotheses) →
     AreNumbered (claim_variables hypotheses conclusion) → length hypotheses < 2 ^ 64 → IsClaim declared (claim_of hypotheses conclusion)
 
--- A derivation that uses declared names and cites claims can be written in a block that declares the variables of its claim, and
--- then those others that it needs.
+-- A derivation that uses declared names and cites claims can be written in a block that declares the variables of its
+-- claim, and then those others that it needs.
 abbrev pub NeededAreEnough : Type 0
 NeededAreEnough =
     (declared : List Token) (claims : List Claim) (s : Claim) (d : Derivation) (place : List Pattern → Pattern → ℕ) (premise_place : Pattern → ℕ) →

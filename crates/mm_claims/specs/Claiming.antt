@@ -26,8 +26,9 @@ abbrev pub AreClaims : List Token → List Claim → Type 0
 AreClaims declared [] = Unit {0}
 AreClaims declared (s ∷ ss) = IsClaim declared s × AreClaims declared ss
 
--- The header, these names and these claims are declared, each claim under the label of its place. The labels of later blocks
--- are free; no variable's token is a label. The label of each assertion is well spelt, taken, and that of no active hypothesis.
+-- The header, these names and these claims are declared, each claim under the label of its place. The labels of later
+-- blocks are free; no variable's token is a label. The label of each assertion is well spelt, taken, and that of no
+-- active hypothesis.
 pub record HoldsClaims (declared : List Token) (claims : List Claim) (c : Context) : Type 0 where
   pub base : Holds declared c
   pub names : AreNames declared
@@ -48,7 +49,8 @@ abbrev pub proved_statements : List Token → ℕ → List Claim → (List Patte
 proved_statements declared k claims place premise_place s more d =
     theorem_statements declared k s more (derivation_tree (own_labels k) (claims_citing k claims place premise_place) d)
 
--- What a text has gained with a statement behind it: just this assertion, and the typings of these variables in its block.
+-- What a text has gained with a statement behind it: just this assertion, and the typings of these variables in its
+-- block.
 pub record HasJust (bytes appended : List ℕ) (k : ℕ) (vs : List Variable) (a : Assertion) : Type 0 where
   pub assertions : assertions_of (bytes ++ appended) ≡ assertions_of bytes ++ a ∷ []
   pub typings : typings_of (bytes ++ appended) ≡ typings_of bytes ++ map (variable_float k) vs

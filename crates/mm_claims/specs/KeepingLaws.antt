@@ -17,7 +17,8 @@ EmptyFits = (names : List Token) → Fits names nothing_kept []
 abbrev pub BegunFits : Type 0
 BegunFits = (names : List Token) (bytes : List ℕ) → Fits names nothing_kept bytes → Fits names header_kept (bytes ++ header_bytes)
 
--- A text that fits still does so with the declarations of more names behind it. The names differ, and are fewer than 2 ^ 64.
+-- A text that fits still does so with the declarations of more names behind it. The names differ, and are fewer than 2
+-- ^ 64.
 abbrev pub DeclaredFits : Type 0
 DeclaredFits =
     (names : List Token) (k : Kept) (bytes : List ℕ) → AreNames names → AreDistinct names → length names < 2 ^ 64 → k.begun ≡ true → k.named ≤ length names → Fits names k bytes →

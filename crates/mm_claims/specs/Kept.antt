@@ -2,7 +2,8 @@
 use Rattle.std.specs.Prelude.{ℕ, Bool, true, false, List, []}
 use Rattle.mm_claims.specs.Blocks.{Claim}
 
--- whether the header was written, how many names were declared: those with the first numbers, and which claims were stated
+-- whether the header was written, how many names were declared: those with the first numbers, and which claims were
+-- stated
 pub record Kept : Type 0 where
   pub begun : Bool
   pub named : ℕ

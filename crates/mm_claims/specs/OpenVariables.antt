@@ -1,5 +1,5 @@
--- The variables that a derivation needs in its block: those that stand in what is written of it. With these it can be written
--- behind a text that fits, where it has declared names alone besides.
+-- The variables that a derivation needs in its block: those that stand in what is written of it. With these it can be
+-- written behind a text that fits, where it has declared names alone besides.
 use Rattle.std.specs.Prelude.{ℕ, if◌then◌else◌, List, [], ◌∷◌, ◌++◌, flat_map}
 use Rattle.ml_pat.specs.Patterns.{Pattern, bot, top, imp, not, and, or, equal, member, fun, ex, all, app, at_sort, next, ev, var, meta, constant}
 use Rattle.ml_kernel.specs.Lemmas.{instance}

@@ -25,8 +25,8 @@ use Rattle.mm_database.specs.StatementTexts.{written_statements}
 abbrev pub HeaderHasOnly : Type 0
 HeaderHasOnly = (program : Program) → HasOnlyAxiomsOf program header_bytes
 
--- A text that fits and has only a program's axioms still has only these with the declarations of more names behind it, which are
--- the program's own tokens.
+-- A text that fits and has only a program's axioms still has only these with the declarations of more names behind it,
+-- which are the program's own tokens.
 abbrev pub DeclaredHasOnly : Type 0
 DeclaredHasOnly =
     (program : Program) (names : List Token) (k : Kept) (bytes : List ℕ) → AreNames names → AreDistinct names → length names < 2 ^ 64 → k.begun ≡ true → k.named ≤ length names →
@@ -48,8 +48,8 @@ TheoremHasOnly =
     StatesLemma names old new t text text' → MayProve names old t → Fits names old text → HasOnlyAxiomsOf program text →
     HasOnlyAxiomsOf program text'
 
--- Where the theorem says, without hypotheses and variables, that one pattern's image reaches another's, the text with it justifies
--- the run.
+-- Where the theorem says, without hypotheses and variables, that one pattern's image reaches another's, the text with
+-- it justifies the run.
 abbrev pub TheoremJustifies : Type 0
 TheoremJustifies =
     (program : Program) (names : List Token) (old new : Kept) (t : Theorem) (text text' : List ℕ) (a b : RulePattern) (p q : Pattern) →

@@ -1,5 +1,5 @@
--- What proof a derivation is written as, by recursion. How hypotheses, axioms and lemmas are cited is a matter of the statement in which
--- it stands; a rule is its label over the proofs of what it concludes from.
+-- What proof a derivation is written as, by recursion. How hypotheses, axioms and lemmas are cited is a matter of the
+-- statement in which it stands; a rule is its label over the proofs of what it concludes from.
 use Rattle.std.specs.Prelude.{List, [], ◌∷◌, map, Contains}
 use Rattle.mm_database.specs.Database.{Context}
 use Rattle.mm_database.specs.Proofs.{Expression, ProofTree, Proves, AllProve}
@@ -14,8 +14,8 @@ use Rattle.mm_proof.specs.Trees.{trees_of, rule_tree}
 abbrev pub holds_text : Naming → Pattern → Expression
 holds_text n p = judgement_by (letters_of n) (holds p)
 
--- The proofs that cite a hypothesis, an axiom, and a lemma with its hypotheses and conclusion, at patterns for its pattern
--- variables, over proofs of its hypotheses.
+-- The proofs that cite a hypothesis, an axiom, and a lemma with its hypotheses and conclusion, at patterns for its
+-- pattern variables, over proofs of its hypotheses.
 pub record Citing : Type 0 where
   pub premise : Pattern → ProofTree
   pub fact : Pattern → ProofTree

@@ -1,5 +1,5 @@
--- What the written proofs prove: the labels, in postorder, are a proof of the statement in every database that has the header
--- and the declarations that they cite.
+-- What the written proofs prove: the labels, in postorder, are a proof of the statement in every database that has the
+-- header and the declarations that they cite.
 use Rattle.std.specs.Prelude.{◌≡◌, ℕ, true, IsTrue, List, map, Some}
 use Rattle.mm_database.specs.Database.{Context}
 use Rattle.mm_database.specs.Proofs.{ProofTree, AllProve, IsProof, postorder}

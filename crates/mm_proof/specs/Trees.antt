@@ -17,8 +17,8 @@ trees_of (tree ∷ trees) = more_proofs tree (trees_of trees)
 abbrev pub cite : Token → List ProofTree → ProofTree
 cite label trees = proof_node label (trees_of trees)
 
--- The proof that a pattern is one. A naming gives the labels: of the declarations of sorts and constants, and of the `$f`s
--- of variables. The trees below a label stand in the order of the header's variables: `p q r t u x y s v`.
+-- The proof that a pattern is one. A naming gives the labels: of the declarations of sorts and constants, and of the
+-- `$f`s of variables. The trees below a label stand in the order of the header's variables: `p q r t u x y s v`.
 abbrev pub syntax_tree : Naming → Pattern → ProofTree
 syntax_tree l bot = cite (codes "w.bot") []
 syntax_tree l top = cite (codes "w.top") []

@@ -7,8 +7,8 @@ pub fn tried()
     ensures { TriedCases }
 {}
 
-/// What is written as a proof that a pattern is one, or of a judgement on it, proves that, in every database that has the
-/// header and the declarations that are cited; and so does a rule over proofs of what it concludes from.
+/// What is written as a proof that a pattern is one, or of a judgement on it, proves that, in every database that has
+/// the header and the declarations that are cited; and so does a rule over proofs of what it concludes from.
 pub fn proof_laws()
     ensures parse { PatternsParse }
     ensures fresh { FreshnessIsProved }

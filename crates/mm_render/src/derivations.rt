@@ -1,5 +1,5 @@
-// The proof by a derivation. What of it is still to be written lies on a stack, so that a deep derivation costs no stack of
-// calls.
+// The proof by a derivation. What of it is still to be written lies on a stack, so that a deep derivation costs no
+// stack of calls.
 ghost use Rattle.std.specs.Prelude.{◌≡◌, ◌+◌, ◌*◌, [], ◌∷◌, ◌++◌, OnOk};
 ghost use Rattle.ml_pat.specs.Patterns.{bot};
 ghost use Rattle.ml_kernel.specs.StepView.{instances_of};
@@ -92,8 +92,8 @@ fn write_premise(to: &mut Vec<u8>, at: &Standing<'_>, pattern: &MPat) -> Result<
     push_word(to, at.names, at.serial, Word::Premise(place))
 }
 
-/// Writes what stands for the variables of a claim that is cited, and puts on a stack what is left of its citation: the proofs of
-/// its hypotheses and its label.
+/// Writes what stands for the variables of a claim that is cited, and puts on a stack what is left of its citation: the
+/// proofs of its hypotheses and its label.
 fn write_citation<'a>(
     to: &mut Vec<u8>,
     at: &Standing<'_>,
@@ -144,7 +144,8 @@ fn put_derived<'a>(stack: &mut Vec<Part<'a>>, parts: &'a [Deriv]) -> Result<(), 
     Ok(())
 }
 
-/// Puts on a stack what is left of a rule: the proofs of what it concludes from, the judgement behind them and its label.
+/// Puts on a stack what is left of a rule: the proofs of what it concludes from, the judgement behind them and its
+/// label.
 fn put_rule<'a>(
     stack: &mut Vec<Part<'a>>,
     rule: Rule,

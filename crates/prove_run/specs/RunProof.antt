@@ -3,8 +3,8 @@ use Rattle.std.specs.Prelude.{ℕ, Bool, List}
 use Rattle.term_core.specs.declared.rule_patterns.RulePat.{RulePat}
 use Rattle.ground_rules.specs.declared.rules.Program.{Program}
 
--- A proof that the start of a program's run reaches a configuration, which is the present one: by which rules of the program steps
--- were made, and the text of the proof.
+-- A proof that the start of a program's run reaches a configuration, which is the present one: by which rules of the
+-- program steps were made, and the text of the proof.
 pub record RunProof : Type 0 where
   pub program : Program
   pub start : RulePat

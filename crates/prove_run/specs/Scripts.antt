@@ -1,5 +1,5 @@
--- What is known of the names, the axioms and the text of a proof while it is written: cited by the clauses of private functions
--- alone.
+-- What is known of the names, the axioms and the text of a proof while it is written: cited by the clauses of private
+-- functions alone.
 use Rattle.std.specs.Prelude.{◌≡◌, ℕ, suc, ◌<◌, ◌≤◌, true, List, [], ◌∷◌, ◌++◌, length, vec_len, Option, Some, None, Bool, map}
 use Rattle.std.specs.Option.{is_some}
 use Rattle.term_core.specs.Patterns.{Pattern as RulePattern}
@@ -27,8 +27,8 @@ AreStated s i [] = Unit {0}
 AreStated s i (None ∷ kept) = AreStated s (suc i) kept
 AreStated s i (Some named ∷ kept) = HasStated s i named.0 × AreStated s (suc i) kept
 
--- The text fits what the renderer keeps of the names, which are the program's own, and it has only the program's axioms. The
--- axiom that is kept for a rule is that of its image.
+-- The text fits what the renderer keeps of the names, which are the program's own, and it has only the program's
+-- axioms. The axiom that is kept for a rule is that of its image.
 pub record IsSound (s : Script) : Type 0 where
   pub begun : s.renderer.begun ≡ true
   pub named : s.renderer.named ≤ length s.names
@@ -56,8 +56,8 @@ pub record Continues (old new : Script) : Type 0 where
   pub names : Extends old.names new.names
   pub stated : Extends old.renderer.stated new.renderer.stated
 
--- Where the theorem says, without hypotheses and variables, that the image of one pattern reaches that of another, the text justifies
--- the run between them.
+-- Where the theorem says, without hypotheses and variables, that the image of one pattern reaches that of another, the
+-- text justifies the run between them.
 abbrev pub Justified : Script → Theorem → Type 0
 Justified s t =
     (a b : RulePattern) (from to : Pattern) → image_of s.program.now.sig s.names a ≡ Some from → image_of s.program.now.sig s.names b ≡ Some to →

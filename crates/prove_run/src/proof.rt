@@ -15,8 +15,8 @@ use std::alloc::{AllocError, Global};
 use std::marker::Model;
 use term_core::RulePat;
 
-/// A proof that the start of a run reaches the present configuration. Contracts see it as these two, the program, the rules by which
-/// steps were made, and the text.
+/// A proof that the start of a run reaches the present configuration. Contracts see it as these two, the program, the
+/// rules by which steps were made, and the text.
 #[derive(Drop)]
 pub struct Proof<'p> {
     script: Script<'p>,
@@ -66,9 +66,9 @@ impl<'p> Proof<'p> {
         })
     }
 
-    /// One step more, by the rule at a place of the program, whose left side is the present configuration. Its right side is the
-    /// present configuration then. Where a step was made by this rule before, its axiom is in the text already, which gains just the
-    /// theorem of this step. The error is want of memory, and no proof is left then.
+    /// One step more, by the rule at a place of the program, whose left side is the present configuration. Its right
+    /// side is the present configuration then. Where a step was made by this rule before, its axiom is in the text
+    /// already, which gains just the theorem of this step. The error is want of memory, and no proof is left then.
     pub fn step(self, alloc: Global, rule: u32) -> Result<Proof<'p>, AllocError>
         requires names { HasPlainNames self.program.sig }
         requires image { HasImageAt self.program rule }

@@ -1,6 +1,6 @@
--- Evaluation of patterns under a substitution, innermost and from left to right (K framework, "Functions"; Rosu 2017), as a
--- big-step semantics. It is bounded by the calls of functions that are left, by the nesting that is left, and by the height of
--- terms.
+-- Evaluation of patterns under a substitution, innermost and from left to right (K framework, "Functions"; Rosu 2017),
+-- as a big-step semantics. It is bounded by the calls of functions that are left, by the nesting that is left, and by
+-- the height of terms.
 use Rattle.std.specs.Prelude.{◌≡◌, ◌≢◌, ◌≤◌, ◌<◌, ℕ, suc, true, List, [], ◌∷◌, Option, Some, None}
 use Rattle.term_core.specs.Terms.{Tree, leaf, node, Forest, no_tree, more_trees, height, truth, injected, DomainValue}
 use Rattle.term_core.specs.Patterns.{Pattern, Patterns, variable, domain_value, application, injection, call, no_pattern, more_patterns, binding}
@@ -14,8 +14,8 @@ use Rattle.rule_core.specs.declared.signature.SymInfo.{SymInfo}
 use Rattle.rule_core.specs.declared.signature.SymKind.TheVariants.{Injection, Equations, Closed}
 use Rattle.term_core.specs.declared.values.NoValue.{NoValue}
 
--- why there is no term: the hook with this number has no value; nothing gives the function's values; no equation is used; no
--- call, no height, or no nesting is left for the symbol
+-- why there is no term: the hook with this number has no value; nothing gives the function's values; no equation is
+-- used; no call, no height, or no nesting is left for the symbol
 pub data Cause : Type 0 where
   no_value : ℕ → NoValue → Cause
   closed : ℕ → Cause
@@ -54,7 +54,8 @@ pub record IsInjectionSymbol (sig : Signature) (f : ℕ) : Type 0 where
   pub injects : info.kind ≡ Injection
   pub first : (g : ℕ) (other : SymInfo) → g < f → IsSymbol sig g other → other.kind ≢ Injection
 
--- The symbol and the arguments of a node that is no variable and no value. An injection's symbol is the injection symbol.
+-- The symbol and the arguments of a node that is no variable and no value. An injection's symbol is the injection
+-- symbol.
 pub data HasHead (theory : RewriteTheory) : Pattern → ℕ → Patterns → Type 0 where
   of_constructor : {f : ℕ} {ps : Patterns} → HasHead theory (application f ps) f ps
   of_injection : {a b f : ℕ} {p : Pattern} → IsInjectionSymbol theory.sig f → HasHead theory (injection a b p) f (more_patterns p no_pattern)
@@ -116,8 +117,8 @@ mutual
     by_equations : {n f c : ℕ} {ts : Forest} {info : SymInfo} {e : Evaluated} → IsSymbol theory.sig f info → info.kind ≡ Equations →
         Equates theory n f (equations_of theory f) ts c e → Applies theory n f ts (suc c) e
 
-  -- The first of these equations that matches and whose condition holds gives the value: that of its right side. Calls that a
-  -- condition took stay taken.
+  -- The first of these equations that matches and whose condition holds gives the value: that of its right side. Calls
+  -- that a condition took stay taken.
   pub data Equates (theory : RewriteTheory) : ℕ → ℕ → List Equation → Forest → ℕ → Evaluated → Type 0 where
     no_equation_left : {n f c : ℕ} {ts : Forest} → Equates theory n f [] ts c (blocked (no_equation f))
     unmatched : {n f c : ℕ} {ts : Forest} {e : Equation} {es : List Equation} {r : Evaluated} → IsUnmatchedBy theory e ts → Equates theory n f es ts c r → Equates theory n f (e ∷ es) ts c r

@@ -1,5 +1,5 @@
--- Small theories, with what the definitions say of evaluations and steps there. A theory is told by what its signature declares:
--- each case is one of every signature that declares that.
+-- Small theories, with what the definitions say of evaluations and steps there. A theory is told by what its signature
+-- declares: each case is one of every signature that declares that.
 use Rattle.std.specs.Prelude.{◌≡◌, ◌-◌, ◌^◌, ℕ, ℤ, pos, negsuc, List, [], ◌∷◌, slice_get, Some, None, map}
 use Rattle.term_core.specs.Terms.{integer, text, Tree, leaf, node, inj, Forest, no_tree, more_trees, height}
 use Rattle.term_core.specs.Patterns.{Pattern, Patterns, variable, domain_value, application, injection, call, no_pattern, more_patterns}
@@ -188,7 +188,8 @@ pub record TriedInjections (sig : Signature) : Type 0 where
   pub joined : Gives (without_rules sig) (injection 1 2 (injection 0 1 (number (pos 5)))) 0 (value (inj 0 2 (tree_number (pos 5))) 0)
   pub moved : Steps (with_rules sig (moves ∷ [])) (node 1 (one_tree (inj 0 3 (tree_number (pos 5))))) 0 (next (node 2 (one_tree (inj 0 2 (tree_number (pos 5))))) 0)
 
--- ---- lists: the constructors 1 (empty) and 2 (an item in front), and the function 0, which appends, in the sort 1; the item 3
+-- ---- lists: the constructors 1 (empty) and 2 (an item in front), and the function 0, which appends, in the sort 1;
+-- the item 3
 
 pub record DeclaresLists (sig : Signature) : Type 0 where
   pub append : Declares sig 0 Equations (1 ∷ (1 ∷ [])) 1

@@ -1,5 +1,5 @@
--- The first rule that applies to a term (K framework, "Rules"): rules are tried in their order, and the calls that are left go
--- from one condition to the next.
+-- The first rule that applies to a term (K framework, "Rules"): rules are tried in their order, and the calls that are
+-- left go from one condition to the next.
 use Rattle.std.specs.Prelude.{ℕ, ◌+◌, List, [], ◌∷◌, Option, Some, None}
 use Rattle.term_core.specs.Terms.{Tree, no_tree, more_trees}
 use Rattle.term_core.specs.Patterns.{Pattern, no_pattern, more_patterns}
@@ -24,8 +24,8 @@ pub data Meets (theory : RewriteTheory) (theta : List (Option Tree)) : Option Pa
   no_condition : {c : ℕ} → Meets theory theta None c (holds c)
   condition : {c : ℕ} {p : Pattern} {e : Evaluated} {r : Tested} → Evaluates theory most_nesting theta p c e → Says e r → Meets theory theta (Some p) c r
 
--- what comes of trying rules: the rule at a place applies with this substitution, and so many calls are left; none applies; or a
--- condition that is reached is blocked
+-- what comes of trying rules: the rule at a place applies with this substitution, and so many calls are left; none
+-- applies; or a condition that is reached is blocked
 pub data Trial : Type 0 where
   applies : ℕ → RewriteRule → List (Option Tree) → ℕ → Trial
   none_applies : Trial

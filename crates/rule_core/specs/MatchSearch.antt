@@ -1,4 +1,5 @@
--- What a search for a matching substitution answers, in each signature in which the patterns and the terms are well-sorted.
+-- What a search for a matching substitution answers, in each signature in which the patterns and the terms are
+-- well-sorted.
 use Rattle.std.specs.Prelude.{◌≡◌, ◌+◌, ℕ, List, [], length, Option, MatchOption}
 use Rattle.term_core.specs.Terms.{Tree, Forest}
 use Rattle.term_core.specs.Patterns.{Pattern, Patterns, variable, domain_value, application, injection, call, no_pattern, more_patterns, ground_patterns}
@@ -8,8 +9,8 @@ use Rattle.rule_core.specs.Matching.{MatchAll, NoneMatches}
 use Rattle.rule_core.specs.declared.signature.Signature.{Signature}
 use Rattle.rule_core.specs.declared.signature.SortRef.{SortRef}
 
--- Where a signature has these pairs of subsorts, and gives so many variables sorts so that the patterns and the terms have the same
--- ones: the substitution that was found matches, and none does where none was found.
+-- Where a signature has these pairs of subsorts, and gives so many variables sorts so that the patterns and the terms
+-- have the same ones: the substitution that was found matches, and none does where none was found.
 abbrev pub FindsMatch : List (ℕ × ℕ) → ℕ → Patterns → Forest → Option (List (Option Tree)) → Type 0
 FindsMatch pairs count ps ts found =
     (sig : Signature) (variables sorts : List ℕ) (refs : List SortRef) → sig.subsorts ≡ pairs → HasNoCycle pairs → length variables ≡ count → HaveSorts sig variables sorts ps refs →

@@ -5,8 +5,8 @@ use Rattle.term_core.specs.Terms.{Tree, leaf, node, inj, Forest, no_tree, more_t
 use Rattle.term_core.specs.TreeTest.{tree_eq}
 use Rattle.term_core.specs.Patterns.{Pattern, Patterns, variable, domain_value, application, injection, call, no_pattern, more_patterns, binding}
 
--- Whether a chain of the pairs leads from the one sort to the other: one that does not need the first pair, or one that needs it
--- once.
+-- Whether a chain of the pairs leads from the one sort to the other: one that does not need the first pair, or one that
+-- needs it once.
 abbrev pub is_below : List (ℕ × ℕ) → ℕ → ℕ → Bool
 is_below [] a b = false
 is_below (pair ∷ pairs) a b =

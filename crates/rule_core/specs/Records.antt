@@ -12,8 +12,8 @@ use Rattle.rule_core.specs.FirstRule.{Matches, IsUnmatched, Meets, most_nesting}
 use Rattle.rule_core.specs.declared.signature.SymInfo.{SymInfo}
 use Rattle.rule_core.specs.declared.signature.SymKind.TheVariants.{Equations}
 
--- A variable's binding; a value; what a constructor or an injection made; what a hook gave; or the equation that was used: its
--- number, its substitution, and the records of its condition, where it has one, and of its right side.
+-- A variable's binding; a value; what a constructor or an injection made; what a hook gave; or the equation that was
+-- used: its number, its substitution, and the records of its condition, where it has one, and of its right side.
 mutual
   pub data Record : Type 0 where
     bound : ℕ → Tree → Record
@@ -75,7 +75,8 @@ abbrev mutual
   RecordsCondition theory theta p unconditional = p ≡ None
   RecordsCondition theory theta p (conditional r) = (q : Pattern) × (p ≡ Some q) × Records theory theta q r × IsTrueValue (result_of r)
 
--- The record of a step: the number of the rule that was used, its substitution, and the records of its condition and right side.
+-- The record of a step: the number of the rule that was used, its substitution, and the records of its condition and
+-- right side.
 pub record StepRecord : Type 0 where
   pub rule : ℕ
   pub theta : List (Option Tree)

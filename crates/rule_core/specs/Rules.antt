@@ -1,9 +1,11 @@
--- Rewrite rules and equations, and the order in which they are tried (K framework: a smaller number is a higher priority).
+-- Rewrite rules and equations, and the order in which they are tried (K framework: a smaller number is a higher
+-- priority).
 use Rattle.std.specs.Prelude.{◌≡◌, ℕ, ◌<◌, ◌⊎◌, List, Option}
 use Rattle.term_core.specs.Patterns.{Pattern, Patterns}
 
--- A rule rewrites the instances of its left side to those of its right side, where its condition evaluates to `true`; one
--- without a condition always does. Its variables have these sorts, by number, and it stands at this place in the file.
+-- A rule rewrites the instances of its left side to those of its right side, where its condition evaluates to `true`;
+-- one without a condition always does. Its variables have these sorts, by number, and it stands at this place in the
+-- file.
 pub record RewriteRule : Type 0 where
   pub left : Pattern
   pub condition : Option Pattern

@@ -27,7 +27,8 @@ abbrev pub IsPassedOver : RewriteTheory → Tree → RewriteRule → Type 0
 IsPassedOver theory t rule =
     IsUnmatched theory rule t ⊎ ((theta : List (Option Tree)) × (c : ℕ) × (d : ℕ) × Matches theory rule t theta × Meets theory theta rule.condition c (fails d))
 
--- The rule that applies matches, its condition holds, and each rule that comes before it by priority and place is passed over.
+-- The rule that applies matches, its condition holds, and each rule that comes before it by priority and place is
+-- passed over.
 abbrev pub FirstApplies : Type 0
 FirstApplies =
     (theory : RewriteTheory) (t : Tree) (c i d : ℕ) (rule : RewriteRule) (theta : List (Option Tree)) → IsWellSorted theory → Tries theory t 0 theory.rules c (applies i rule theta d) →

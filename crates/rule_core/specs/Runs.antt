@@ -1,5 +1,5 @@
--- Runs: a term is rewritten by the first rule that applies until none does, or the limit of steps is reached, or an evaluation is
--- blocked. Calls of functions are counted over the whole run.
+-- Runs: a term is rewritten by the first rule that applies until none does, or the limit of steps is reached, or an
+-- evaluation is blocked. Calls of functions are counted over the whole run.
 use Rattle.std.specs.Prelude.{◌≡◌, ℕ, suc, ◌<◌, List, [], Option}
 use Rattle.term_core.specs.Terms.{Tree}
 use Rattle.term_core.specs.Patterns.{Pattern, ground_pattern}
@@ -8,7 +8,8 @@ use Rattle.rule_core.specs.Theories.{RewriteTheory}
 use Rattle.rule_core.specs.Evaluation.{Cause, value, blocked, Evaluates}
 use Rattle.rule_core.specs.FirstRule.{most_nesting, applies, none_applies, trial_blocked, Tries}
 
--- what comes of one step from a configuration: the next one, with the calls that are left; none; or a cause why none can be told
+-- what comes of one step from a configuration: the next one, with the calls that are left; none; or a cause why none
+-- can be told
 pub data Stepped : Type 0 where
   next : Tree → ℕ → Stepped
   stays : Stepped
@@ -27,7 +28,8 @@ pub data Reaches (theory : RewriteTheory) (start : Pattern) (calls : ℕ) : ℕ 
   at_start : {t : Tree} {c : ℕ} → Evaluates theory most_nesting [] start calls (value t c) → Reaches theory start calls 0 t c
   after_step : {n c d : ℕ} {t u : Tree} → Reaches theory start calls n t c → Steps theory t c (next u d) → Reaches theory start calls (suc n) u d
 
--- how a run ends, after how many steps, and the last whole configuration; where the initial term has no value there is none
+-- how a run ends, after how many steps, and the last whole configuration; where the initial term has no value there is
+-- none
 pub data Run : Type 0 where
   stuck : ℕ → Tree → Run
   limited : ℕ → Tree → Run

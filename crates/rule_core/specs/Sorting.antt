@@ -63,9 +63,10 @@ abbrev pub AreSorts : Signature → List ℕ → Type 0
 AreSorts sig [] = Unit {0}
 AreSorts sig (s ∷ sorts) = (s < length sig.sorts) × AreSorts sig sorts
 
--- The pattern has this sort, where the variables have these: a variable has its own; a value that of the text, which has
--- it; an application the result sort of its constructor, whose arguments have the declared sorts; an injection the sort
--- that it goes to, which is above that of what is injected; a call the result sort of its function at the given sorts.
+-- The pattern has this sort, where the variables have these: a variable has its own; a value that of the text, which
+-- has it; an application the result sort of its constructor, whose arguments have the declared sorts; an injection the
+-- sort that it goes to, which is above that of what is injected; a call the result sort of its function at the given
+-- sorts.
 abbrev mutual
   pub HasSort : Signature → List ℕ → Pattern → ℕ → Type 0
   HasSort sig variables (variable x) sort = slice_get variables x ≡ Some sort

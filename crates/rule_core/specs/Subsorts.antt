@@ -1,5 +1,5 @@
--- The order of sorts (K framework, attribute `subsort`): a sort is below another where a chain of one or more declared pairs
--- leads from it to the other.
+-- The order of sorts (K framework, attribute `subsort`): a sort is below another where a chain of one or more declared
+-- pairs leads from it to the other.
 use Rattle.std.specs.Prelude.{◌≡◌, ℕ, List, [], ◌∷◌, Contains}
 
 pub data IsBelow (pairs : List (ℕ × ℕ)) : ℕ → ℕ → Type 0 where

@@ -22,7 +22,8 @@ pub record IsFirstMatch (sig : Signature) (rules : List RewriteRule) (from : ℕ
   pub matches : MatchesTerm sig rule.variables rule.left t theta
   pub earlier : NoRuleMatches sig rules from i t
 
--- What a trial finds, in each signature that has these pairs of subsorts and in which the rules, and the term, have one sort.
+-- What a trial finds, in each signature that has these pairs of subsorts and in which the rules, and the term, have one
+-- sort.
 abbrev pub FindsFirstMatch : List (ℕ × ℕ) → List RewriteRule → ℕ → Tree → Option (ℕ × List (Option Tree)) → Type 0
 FindsFirstMatch pairs rules from t found =
     (sig : Signature) (sort : ℕ) → sig.subsorts ≡ pairs → HasNoCycle pairs → All (IsRuleOf sig sort) rules → IsTermOf sig t sort →

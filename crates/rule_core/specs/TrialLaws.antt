@@ -5,7 +5,8 @@ use Rattle.rule_core.specs.Theories.{RewriteTheory}
 use Rattle.rule_core.specs.FirstRule.{Trial, Tries}
 use Rattle.rule_core.specs.Trial.{NoRuleMatches}
 
--- Rules that do not match change nothing: a trial that begins behind them comes out as one that begins at the first of them.
+-- Rules that do not match change nothing: a trial that begins behind them comes out as one that begins at the first of
+-- them.
 abbrev pub UnmatchedAreSkipped : Type 0
 UnmatchedAreSkipped =
     (theory : RewriteTheory) (t : Tree) (from count calls : ℕ) (r : Trial) → from + count ≤ length theory.rules → NoRuleMatches theory.sig theory.rules from (from + count) t →

@@ -54,8 +54,8 @@ abbrev pub IsOfKind : Kind → SortInfo → Type 0
 IsOfKind integers info = info.kind ≡ kind.Int
 IsOfKind truths info = info.kind ≡ kind.Bool
 
--- a sort of whole numbers or of truth values, of which there are no other terms than values: no constructor has it as its
--- result sort, and no sort is below it
+-- a sort of whole numbers or of truth values, of which there are no other terms than values: no constructor has it as
+-- its result sort, and no sort is below it
 pub record IsSortOf (sig : Signature) (k : Kind) (sort : ℕ) : Type 0 where
   pub name : List ℕ
   pub info : SortInfo

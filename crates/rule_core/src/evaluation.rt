@@ -22,16 +22,16 @@ pub fn record_laws()
     ensures agree { RecordsAgree }
 {}
 
-/// The definitions say of small theories what is expected: on whole numbers near the ends of their range, near each bound
-/// of an evaluation, by rules with conditions, through injections, and by a function with two equations.
+/// The definitions say of small theories what is expected: on whole numbers near the ends of their range, near each
+/// bound of an evaluation, by rules with conditions, through injections, and by a function with two equations.
 pub fn tried()
     ensures cases { TriedEvaluations }
 {}
 
 /// Rewriting in a well-sorted theory is a function too: a trial of the rules, a step and a run have one outcome, an
-/// initial term of the rules' sort has a run, and its configurations are normal terms of this sort, of height at most 500.
-/// The rule that applies is the first one, by priority and place, that matches and of which the condition holds. A step
-/// has a record, which tells where the step leads.
+/// initial term of the rules' sort has a run, and its configurations are normal terms of this sort, of height at most
+/// 500. The rule that applies is the first one, by priority and place, that matches and of which the condition holds. A
+/// step has a record, which tells where the step leads.
 pub fn run_laws()
     ensures first { FirstApplies }
     ensures none { NoneApplies }

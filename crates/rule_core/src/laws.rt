@@ -2,9 +2,9 @@
 ghost use Rattle.rule_core.specs.MatchLaws.{SortedUseFirst, InstancesAreSorted, MatchIsUnique, MatchIsDecidable};
 ghost use Rattle.rule_core.specs.TrialLaws.{UnmatchedAreSkipped};
 
-/// Does nothing when it runs: a caller learns by it what matching does with well-sorted patterns. They use no variables but
-/// those that have a sort; their instances are normal terms of their sorts; at most one substitution matches them with
-/// terms; and whether one does can be decided.
+/// Does nothing when it runs: a caller learns by it what matching does with well-sorted patterns. They use no variables
+/// but those that have a sort; their instances are normal terms of their sorts; at most one substitution matches them
+/// with terms; and whether one does can be decided.
 pub fn match_laws()
     ensures variables { SortedUseFirst }
     ensures instances { InstancesAreSorted }
@@ -12,8 +12,8 @@ pub fn match_laws()
     ensures decidable { MatchIsDecidable }
 {}
 
-/// Does nothing when it runs: a caller learns by it that a trial of rules goes over those that do not match, so that one
-/// that looks for the first rule that matches may go on from there.
+/// Does nothing when it runs: a caller learns by it that a trial of rules goes over those that do not match, so that
+/// one that looks for the first rule that matches may go on from there.
 pub fn trial_laws()
     ensures skipped { UnmatchedAreSkipped }
 {}

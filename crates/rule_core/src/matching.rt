@@ -14,9 +14,9 @@ use std::sync::ledger::Ledger;
 use term_core::{MAX_HEIGHT, RulePat, SortId, Steps, Subst, Term, View};
 
 /// The substitution that makes a pattern over `vars` variables the term: none exactly where no substitution does. An
-/// injection of a variable matches the injection of a term of a lower sort too. It looks at no more terms than the pattern
-/// has nodes, and compares two terms where a variable stands again. `AllocError` says that there was no memory for the
-/// substitution.
+/// injection of a variable matches the injection of a term of a lower sort too. It looks at no more terms than the
+/// pattern has nodes, and compares two terms where a variable stands again. `AllocError` says that there was no memory
+/// for the substitution.
 pub fn find_match<L: Ledger>(
     alloc: Global,
     pat: &RulePat,
@@ -128,8 +128,8 @@ fn match_children<L: Ledger>(
     Ok(true)
 }
 
-// Whether the pattern, which stands under an injection from the sort `to`, matches what the term injects there: `child`, or its
-// injection from `from`, where that is below.
+// Whether the pattern, which stands under an injection from the sort `to`, matches what the term injects there:
+// `child`, or its injection from `from`, where that is below.
 #[cycle(matching)]
 fn match_lowered<L: Ledger>(
     alloc: Global,

@@ -11,8 +11,8 @@ pub struct VarInfo {
     pub sort: SortId,
 }
 
-/// A rewrite rule: it rewrites the instances of its left side to those of its right side, where its condition evaluates to
-/// `true`. Contracts see it as the plain `rewrite_rule`.
+/// A rewrite rule: it rewrites the instances of its left side to those of its right side, where its condition evaluates
+/// to `true`. Contracts see it as the plain `rewrite_rule`.
 #[derive(Drop)]
 pub struct Rule {
     /// The byte of its keyword in the definition. Of two rules of one priority, the one that stands earlier is tried
@@ -30,12 +30,12 @@ pub struct Rule {
     pub priority: u32,
 }
 
-/// An equation of a function: at the instances of its arguments it gives the function the value of its right side, where its
-/// condition evaluates to `true`. Contracts see it as the plain `function_equation`.
+/// An equation of a function: at the instances of its arguments it gives the function the value of its right side,
+/// where its condition evaluates to `true`. Contracts see it as the plain `function_equation`.
 #[derive(Drop)]
 pub struct Equation {
-    /// The byte of its keyword in the definition. Of two equations of one priority, the one that stands earlier is tried
-    /// first.
+    /// The byte of its keyword in the definition. Of two equations of one priority, the one that stands earlier is
+    /// tried first.
     pub at: u32,
     /// The function.
     pub fun: SymId,
@@ -53,8 +53,8 @@ pub struct Equation {
     pub priority: u32,
 }
 
-/// An accepted definition. Contracts see it as the plain `theory_of`. The type itself asks nothing of its fields: who needs the rules in the order of trial
-/// requires it.
+/// An accepted definition. Contracts see it as the plain `theory_of`. The type itself asks nothing of its fields: who
+/// needs the rules in the order of trial requires it.
 #[derive(Drop)]
 pub struct Program {
     /// The sorts and symbols, whose numbers the rules use.

@@ -1,5 +1,5 @@
-// Sets of sorts, one for each sort. An entry of a set says whether it has the sort with that number, and what is past its end
-// it does not have.
+// Sets of sorts, one for each sort. An entry of a set says whether it has the sort with that number, and what is past
+// its end it does not have.
 ghost use Rattle.std.specs.Prelude.{ℕ, ◌≡◌, ◌<◌, ◌≤◌, ◌==◌, ◌||◌, ◌&&◌, length, vec_len, OnOk, IfOk, IsTrue};
 ghost use Rattle.rule_core.specs.SubsortFields.{has, set_at, is_in, reaches};
 

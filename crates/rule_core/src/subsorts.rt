@@ -7,12 +7,12 @@ use std::alloc::{AllocError, Global};
 use std::marker::Model;
 use term_core::SortId;
 
-/// The pairs by which a definition says that one sort is below another. Contracts see them as a list of pairs, in the order
-/// in which they were added. No sort is below itself.
+/// The pairs by which a definition says that one sort is below another. Contracts see them as a list of pairs, in the
+/// order in which they were added. No sort is below itself.
 ///
-/// Beside the pairs it keeps for each sort the set of those above it, and the set of those that a pair puts right above it,
-/// a byte for each sort up to the greatest in the set. So a look-up takes one step, and the sets of a chain of 1,000 sorts
-/// at most 2 MB, of 10,000 at most 200 MB.
+/// Beside the pairs it keeps for each sort the set of those above it, and the set of those that a pair puts right above
+/// it, a byte for each sort up to the greatest in the set. So a look-up takes one step, and the sets of a chain of
+/// 1,000 sorts at most 2 MB, of 10,000 at most 200 MB.
 #[derive(Drop)]
 pub struct Subsorts {
     pairs: Vec<(SortId, SortId)>,
@@ -61,8 +61,8 @@ impl Subsorts {
     /// Adds a pair and answers true. Where a sort would then be below itself, it answers false and changes nothing.
     /// `AllocError` says that memory was wanting, and then no pair is added either.
     ///
-    /// It looks at one entry of each set, and at each entry of the sets that get new sorts. So the pairs of a chain of 1,000
-    /// sorts cost some millions of steps in all.
+    /// It looks at one entry of each set, and at each entry of the sets that get new sorts. So the pairs of a chain of
+    /// 1,000 sorts cost some millions of steps in all.
     pub fn add(&mut self, alloc: Global, a: SortId, b: SortId) -> Result<bool, AllocError>
         ensures fresh { IfOk result (λ added. IsTrue added ↔ HasNoCycle (self.old ++ (a.0, b.0) ∷ [])) }
         ensures pairs { IfOk result (λ added. self.new ≡ (if added then self.old ++ (a.0, b.0) ∷ [] else self.old)) }

@@ -13,8 +13,8 @@ use term_core::{Steps, Subst, Term};
 
 /// The first of `rules` from the place `from` on that matches the term: its place, and the substitution that makes its
 /// left side the term. None comes exactly where no rule from there matches, so also where `from` is past the end.
-/// `AllocError` says that there was no memory for a substitution. Each rule is tried by itself, up to the first that matches,
-/// at the cost of `find_match`. A left side uses the variables of its rule alone.
+/// `AllocError` says that there was no memory for a substitution. Each rule is tried by itself, up to the first that
+/// matches, at the cost of `find_match`. A left side uses the variables of its rule alone.
 pub fn first_match(
     alloc: Global,
     rules: &[Rule],

@@ -1,5 +1,6 @@
--- The hooks on whole numbers and truth values (K framework, "domains.md"): what each gives at its arguments. Whole numbers
--- are those of mathematics; where the result of a hook is a whole number, it has to lie from -2^127 to 2^127 - 1.
+-- The hooks on whole numbers and truth values (K framework, "domains.md"): what each gives at its arguments. Whole
+-- numbers are those of mathematics; where the result of a hook is a whole number, it has to lie from -2^127 to 2^127 -
+-- 1.
 use Rattle.std.specs.Prelude.{ℕ, ◌-◌, ◌^◌, ℤ, pos, negsuc, ◌+ℤ◌, ◌-ℤ◌, ◌*ℤ◌, int_lt, int_le, int_div, int_rem, unsigned_abs, bit_and, bit_or, bit_xor, Bool, not, ◌&&◌, ◌||◌, if◌then◌else◌, List, [], ◌∷◌, Option, Some, None, Result, Ok, Err, codes, slice_get, option_map}
 use Rattle.std.specs.Int.{int_min, int_max, int_div_euclid, int_rem_euclid}
 use Rattle.std.specs.Ordering.{int_eq}
@@ -64,8 +65,9 @@ pub record Hook : Type 0 where
 abbrev hook : List ℕ → Operation → Hook
 hook name operation = record { name = name; operation = operation }
 
--- The hooks, in order; the number of a hook is its place here. `INT.tdiv` has the quotient rounded to zero, and `INT.ediv`
--- the one whose remainder is not negative; by a power of two, as in `INT.shr`, that is the quotient rounded down.
+-- The hooks, in order; the number of a hook is its place here. `INT.tdiv` has the quotient rounded to zero, and
+-- `INT.ediv` the one whose remainder is not negative; by a power of two, as in `INT.shr`, that is the quotient rounded
+-- down.
 abbrev pub hooks : List Hook
 hooks =
     hook (codes "INT.add") (on_integers (λ x y. in_range (x +ℤ y)))
@@ -154,7 +156,7 @@ abbrev pub value_by : Option Hook → List DomainValue → Option (Result Domain
 value_by None arguments = None
 value_by (Some h) arguments = operation_value h.operation arguments
 
--- The value of the hook with this number, or the reason why it has none. There is neither where no hook has the number or
--- the arguments are not of its kinds.
+-- The value of the hook with this number, or the reason why it has none. There is neither where no hook has the number
+-- or the arguments are not of its kinds.
 abbrev pub hook_value : ℕ → List DomainValue → Option (Result DomainValue NoValue)
 hook_value number arguments = value_by (slice_get hooks number) arguments

@@ -37,8 +37,8 @@ with_first None ts = None
 with_first (Some t) None = None
 with_first (Some t) (Some ts) = Some (more_trees t ts)
 
--- The tree that a pattern becomes under a substitution, as it is written. There is none where a variable is not bound or
--- a function is called.
+-- The tree that a pattern becomes under a substitution, as it is written. There is none where a variable is not bound
+-- or a function is called.
 abbrev mutual
   pub substituted : List (Option Tree) → Pattern → Option Tree
   substituted theta (variable x) = binding theta x
@@ -51,8 +51,8 @@ abbrev mutual
   all_substituted theta no_pattern = Some no_tree
   all_substituted theta (more_patterns p ps) = with_first (substituted theta p) (all_substituted theta ps)
 
--- The same tree with two injections in a row joined as it is built. Where the substitution gives normal terms, it is the
--- normal form of `substituted`.
+-- The same tree with two injections in a row joined as it is built. Where the substitution gives normal terms, it is
+-- the normal form of `substituted`.
 abbrev mutual
   pub instance_of : List (Option Tree) → Pattern → Option Tree
   instance_of theta (variable x) = binding theta x

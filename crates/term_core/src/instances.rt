@@ -11,8 +11,8 @@ use crate::steps::Steps;
 use crate::subst::Subst;
 use crate::terms::{MAX_HEIGHT, Term, View};
 
-/// The term that `pat` becomes under `subst`: the normal form of the pattern with the terms in their places. `fits_within`
-/// is the test of what it requires: no call, each variable bound, and a term that is not too high.
+/// The term that `pat` becomes under `subst`: the normal form of the pattern with the terms in their places.
+/// `fits_within` is the test of what it requires: no call, each variable bound, and a term that is not too high.
 pub fn instance(alloc: Global, pat: &RulePat, subst: &Subst) -> Result<Term, AllocError>
     requires { FitsWithin MAX_HEIGHT subst.now (plain_pattern pat.now) }
     ensures instance { IfOk result (λ t. instance_of subst.now (plain_pattern pat.now) ≡ Some t) }
@@ -60,8 +60,8 @@ fn build_all(alloc: Global, pats: &[RulePat], subst: &Subst) -> Result<Vec<Term>
     Ok(terms)
 }
 
-/// Whether `pat` has an instance under `subst` whose height is at most `limit`. It takes no memory, and recurses no deeper
-/// than `limit` and injections in a row.
+/// Whether `pat` has an instance under `subst` whose height is at most `limit`. It takes no memory, and recurses no
+/// deeper than `limit` and injections in a row.
 #[cycle(fits_within)]
 pub fn fits_within(pat: &RulePat, subst: &Subst, limit: u32) -> bool
     ensures { IsTrue result ↔ FitsWithin limit subst.now (plain_pattern pat.now) }
