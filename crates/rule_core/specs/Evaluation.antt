@@ -58,7 +58,8 @@ pub record IsInjectionSymbol (sig : Signature) (f : ℕ) : Type 0 where
 -- symbol.
 pub data HasHead (theory : RewriteTheory) : Pattern → ℕ → Patterns → Type 0 where
   of_constructor : {f : ℕ} {ps : Patterns} → HasHead theory (application f ps) f ps
-  of_injection : {a b f : ℕ} {p : Pattern} → IsInjectionSymbol theory.sig f → HasHead theory (injection a b p) f (more_patterns p no_pattern)
+  of_injection : {a b f : ℕ} {p : Pattern} → IsInjectionSymbol theory.sig f →
+      HasHead theory (injection a b p) f (more_patterns p no_pattern)
   of_call : {f : ℕ} {sorts : List ℕ} {ps : Patterns} → HasHead theory (call f sorts ps) f ps
 
 -- the normal term that a constructor or an injection makes of its arguments' values
@@ -84,12 +85,17 @@ IsUnmatchedBy theory e ts = NoneMatches theory.sig e.variables e.arguments ts
 mutual
   -- with so much nesting and so many calls left, the pattern evaluates so under the substitution
   pub data Evaluates (theory : RewriteTheory) : ℕ → List (Option Tree) → Pattern → ℕ → Evaluated → Type 0 where
-    bound : {n c x : ℕ} {theta : List (Option Tree)} {t : Tree} → binding theta x ≡ Some t → Evaluates theory n theta (variable x) c (value t c)
-    itself : {n c s : ℕ} {theta : List (Option Tree)} {v : DomainValue} → Evaluates theory n theta (domain_value s v) c (value (leaf s v) c)
-    nested_out : {c f : ℕ} {theta : List (Option Tree)} {p : Pattern} {ps : Patterns} → HasHead theory p f ps → Evaluates theory 0 theta p c (blocked (too_nested f))
-    argument_blocked : {n c f : ℕ} {theta : List (Option Tree)} {p : Pattern} {ps : Patterns} {cause : Cause} → HasHead theory p f ps →
+    bound : {n c x : ℕ} {theta : List (Option Tree)} {t : Tree} → binding theta x ≡ Some t →
+        Evaluates theory n theta (variable x) c (value t c)
+    itself : {n c s : ℕ} {theta : List (Option Tree)} {v : DomainValue} →
+        Evaluates theory n theta (domain_value s v) c (value (leaf s v) c)
+    nested_out : {c f : ℕ} {theta : List (Option Tree)} {p : Pattern} {ps : Patterns} → HasHead theory p f ps →
+        Evaluates theory 0 theta p c (blocked (too_nested f))
+    argument_blocked : {n c f : ℕ} {theta : List (Option Tree)} {p : Pattern} {ps : Patterns} {cause : Cause} →
+        HasHead theory p f ps →
         EvaluateAll theory n theta ps c (stopped cause) → Evaluates theory (suc n) theta p c (blocked cause)
-    made : {n c d f : ℕ} {theta : List (Option Tree)} {p : Pattern} {ps : Patterns} {ts : Forest} {t : Tree} → HasHead theory p f ps → EvaluateAll theory n theta ps c (values ts d) →
+    made : {n c d f : ℕ} {theta : List (Option Tree)} {p : Pattern} {ps : Patterns} {ts : Forest} {t : Tree} →
+        HasHead theory p f ps → EvaluateAll theory n theta ps c (values ts d) →
         built p ts ≡ Some t → height t ≤ most_height → Evaluates theory (suc n) theta p c (value t d)
     made_too_high : {n c d f : ℕ} {theta : List (Option Tree)} {p : Pattern} {ps : Patterns} {ts : Forest} {t : Tree} → HasHead theory p f ps → EvaluateAll theory n theta ps c (values ts d) →
         built p ts ≡ Some t → most_height < height t → Evaluates theory (suc n) theta p c (blocked (too_high f))
@@ -99,42 +105,57 @@ mutual
   -- so do the patterns, one after another
   pub data EvaluateAll (theory : RewriteTheory) : ℕ → List (Option Tree) → Patterns → ℕ → AllEvaluated → Type 0 where
     none_left : {n c : ℕ} {theta : List (Option Tree)} → EvaluateAll theory n theta no_pattern c (values no_tree c)
-    first_blocked : {n c : ℕ} {theta : List (Option Tree)} {p : Pattern} {ps : Patterns} {cause : Cause} → Evaluates theory n theta p c (blocked cause) →
+    first_blocked : {n c : ℕ} {theta : List (Option Tree)} {p : Pattern} {ps : Patterns} {cause : Cause} →
+        Evaluates theory n theta p c (blocked cause) →
         EvaluateAll theory n theta (more_patterns p ps) c (stopped cause)
     later_blocked : {n c d : ℕ} {theta : List (Option Tree)} {p : Pattern} {ps : Patterns} {t : Tree} {cause : Cause} → Evaluates theory n theta p c (value t d) →
-        EvaluateAll theory n theta ps d (stopped cause) → EvaluateAll theory n theta (more_patterns p ps) c (stopped cause)
-    one_more : {n c d e : ℕ} {theta : List (Option Tree)} {p : Pattern} {ps : Patterns} {t : Tree} {ts : Forest} → Evaluates theory n theta p c (value t d) →
-        EvaluateAll theory n theta ps d (values ts e) → EvaluateAll theory n theta (more_patterns p ps) c (values (more_trees t ts) e)
+        EvaluateAll theory n theta ps d (stopped cause) →
+        EvaluateAll theory n theta (more_patterns p ps) c (stopped cause)
+    one_more : {n c d e : ℕ} {theta : List (Option Tree)} {p : Pattern} {ps : Patterns} {t : Tree} {ts : Forest} →
+        Evaluates theory n theta p c (value t d) →
+        EvaluateAll theory n theta ps d (values ts e) →
+        EvaluateAll theory n theta (more_patterns p ps) c (values (more_trees t ts) e)
 
   -- the function, at these terms, has this value: a call is taken, but of a function whose values nothing gives
   pub data Applies (theory : RewriteTheory) : ℕ → ℕ → Forest → ℕ → Evaluated → Type 0 where
-    by_nothing : {n f c : ℕ} {ts : Forest} {info : SymInfo} → IsSymbol theory.sig f info → info.kind ≡ Closed → Applies theory n f ts c (blocked (closed f))
-    without_call : {n f : ℕ} {ts : Forest} {info : SymInfo} → IsSymbol theory.sig f info → info.kind ≢ Closed → Applies theory n f ts 0 (blocked (no_call_left f))
-    by_hook : {n f c sort : ℕ} {ts : Forest} {info : SymInfo} {v : DomainValue} {row : ℕ} → IsSymbol theory.sig f info → HookAnswers info row ts v → sort_at [] info.result ≡ Some sort →
+    by_nothing : {n f c : ℕ} {ts : Forest} {info : SymInfo} → IsSymbol theory.sig f info → info.kind ≡ Closed →
+        Applies theory n f ts c (blocked (closed f))
+    without_call : {n f : ℕ} {ts : Forest} {info : SymInfo} → IsSymbol theory.sig f info → info.kind ≢ Closed →
+        Applies theory n f ts 0 (blocked (no_call_left f))
+    by_hook : {n f c sort : ℕ} {ts : Forest} {info : SymInfo} {v : DomainValue} {row : ℕ} →
+        IsSymbol theory.sig f info → HookAnswers info row ts v → sort_at [] info.result ≡ Some sort →
         Applies theory n f ts (suc c) (value (leaf sort v) c)
-    hook_fails : {n f c : ℕ} {ts : Forest} {info : SymInfo} {why : NoValue} {row : ℕ} → IsSymbol theory.sig f info → HookFails info row ts why →
+    hook_fails : {n f c : ℕ} {ts : Forest} {info : SymInfo} {why : NoValue} {row : ℕ} → IsSymbol theory.sig f info →
+        HookFails info row ts why →
         Applies theory n f ts (suc c) (blocked (no_value row why))
-    by_equations : {n f c : ℕ} {ts : Forest} {info : SymInfo} {e : Evaluated} → IsSymbol theory.sig f info → info.kind ≡ Equations →
+    by_equations : {n f c : ℕ} {ts : Forest} {info : SymInfo} {e : Evaluated} → IsSymbol theory.sig f info →
+        info.kind ≡ Equations →
         Equates theory n f (equations_of theory f) ts c e → Applies theory n f ts (suc c) e
 
   -- The first of these equations that matches and whose condition holds gives the value: that of its right side. Calls
   -- that a condition took stay taken.
   pub data Equates (theory : RewriteTheory) : ℕ → ℕ → List Equation → Forest → ℕ → Evaluated → Type 0 where
     no_equation_left : {n f c : ℕ} {ts : Forest} → Equates theory n f [] ts c (blocked (no_equation f))
-    unmatched : {n f c : ℕ} {ts : Forest} {e : Equation} {es : List Equation} {r : Evaluated} → IsUnmatchedBy theory e ts → Equates theory n f es ts c r → Equates theory n f (e ∷ es) ts c r
+    unmatched : {n f c : ℕ} {ts : Forest} {e : Equation} {es : List Equation} {r : Evaluated} →
+        IsUnmatchedBy theory e ts → Equates theory n f es ts c r → Equates theory n f (e ∷ es) ts c r
     condition_fails : {n f c d : ℕ} {ts : Forest} {e : Equation} {es : List Equation} {r : Evaluated} {theta : List (Option Tree)} → MatchAll theory.sig e.variables e.arguments ts theta →
-        Tests theory n f theta e.condition c (fails d) → Equates theory n f es ts d r → Equates theory n f (e ∷ es) ts c r
+        Tests theory n f theta e.condition c (fails d) → Equates theory n f es ts d r →
+        Equates theory n f (e ∷ es) ts c r
     condition_blocked : {n f c : ℕ} {ts : Forest} {e : Equation} {es : List Equation} {theta : List (Option Tree)} {cause : Cause} → MatchAll theory.sig e.variables e.arguments ts theta →
         Tests theory n f theta e.condition c (untested cause) → Equates theory n f (e ∷ es) ts c (blocked cause)
     used : {n f c d : ℕ} {ts : Forest} {e : Equation} {es : List Equation} {r : Evaluated} {theta : List (Option Tree)} → MatchAll theory.sig e.variables e.arguments ts theta →
-        Tests theory n f theta e.condition c (holds d) → EvaluatesIn theory n f theta e.right d r → Equates theory n f (e ∷ es) ts c r
+        Tests theory n f theta e.condition c (holds d) → EvaluatesIn theory n f theta e.right d r →
+        Equates theory n f (e ∷ es) ts c r
 
   -- the condition of an equation of this function, where it has one
   pub data Tests (theory : RewriteTheory) : ℕ → ℕ → List (Option Tree) → Option Pattern → ℕ → Tested → Type 0 where
     no_condition : {n f c : ℕ} {theta : List (Option Tree)} → Tests theory n f theta None c (holds c)
-    condition : {n f c : ℕ} {theta : List (Option Tree)} {p : Pattern} {e : Evaluated} {r : Tested} → EvaluatesIn theory n f theta p c e → Says e r → Tests theory n f theta (Some p) c r
+    condition : {n f c : ℕ} {theta : List (Option Tree)} {p : Pattern} {e : Evaluated} {r : Tested} →
+        EvaluatesIn theory n f theta p c e → Says e r → Tests theory n f theta (Some p) c r
 
   -- a condition or a right side of an equation of this function, which takes one of the nesting
   pub data EvaluatesIn (theory : RewriteTheory) : ℕ → ℕ → List (Option Tree) → Pattern → ℕ → Evaluated → Type 0 where
-    no_nesting : {f c : ℕ} {theta : List (Option Tree)} {p : Pattern} → EvaluatesIn theory 0 f theta p c (blocked (too_nested f))
-    inside : {n f c : ℕ} {theta : List (Option Tree)} {p : Pattern} {e : Evaluated} → Evaluates theory n theta p c e → EvaluatesIn theory (suc n) f theta p c e
+    no_nesting : {f c : ℕ} {theta : List (Option Tree)} {p : Pattern} →
+        EvaluatesIn theory 0 f theta p c (blocked (too_nested f))
+    inside : {n f c : ℕ} {theta : List (Option Tree)} {p : Pattern} {e : Evaluated} →
+        Evaluates theory n theta p c e → EvaluatesIn theory (suc n) f theta p c e

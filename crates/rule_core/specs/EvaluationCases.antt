@@ -35,7 +35,8 @@ pub record Declares (sig : Signature) (f : ℕ) (is : SymKind) (arguments : List
 
 -- the sort with this number has the whole numbers as values
 abbrev pub IsOfIntegers : Signature → ℕ → Type 0
-IsOfIntegers sig s = (name : List ℕ) × (info : SortInfo) × (slice_get sig.sorts s ≡ Some (name, info)) × (info.kind ≡ kind.Int)
+IsOfIntegers sig s = (name : List ℕ) × (info : SortInfo) × (slice_get sig.sorts s ≡ Some (name, info))
+    × (info.kind ≡ kind.Int)
 
 abbrev pub hook : ℕ → SymKind
 hook row = Hooked (record { 0 = row })
@@ -126,8 +127,10 @@ pub record TriedBounds (sig : Signature) : Type 0 where
   pub root_nested : Calls sig (always (application 7 no_pattern) ∷ []) 2 1 (blocked (too_nested 7))
   pub root_reached : Calls sig (always (application 7 no_pattern) ∷ []) 3 1 (value (node 7 no_tree) 0)
   pub endless : Calls sig (always (call 0 [] no_pattern) ∷ []) most_nesting 2 (blocked (no_call_left 0))
-  pub at_height : (t : Tree) → height t ≡ 499 → Evaluates (defined_by sig []) 1 (Some t ∷ []) (application 7 (one (variable 0))) 0 (value (node 7 (one_tree t)) 0)
-  pub past_height : (t : Tree) → height t ≡ 500 → Evaluates (defined_by sig []) 1 (Some t ∷ []) (application 7 (one (variable 0))) 0 (blocked (too_high 7))
+  pub at_height : (t : Tree) → height t ≡ 499 →
+      Evaluates (defined_by sig []) 1 (Some t ∷ []) (application 7 (one (variable 0))) 0 (value (node 7 (one_tree t)) 0)
+  pub past_height : (t : Tree) → height t ≡ 500 →
+      Evaluates (defined_by sig []) 1 (Some t ∷ []) (application 7 (one (variable 0))) 0 (blocked (too_high 7))
 
 -- ---- rules with conditions on whole numbers: the constructors 8 (before the step), 9 and 10
 

@@ -22,7 +22,8 @@ IsUnmatched theory rule t = NoneMatches theory.sig rule.variables (more_patterns
 -- the condition of a rule, where it has one
 pub data Meets (theory : RewriteTheory) (theta : List (Option Tree)) : Option Pattern → ℕ → Tested → Type 0 where
   no_condition : {c : ℕ} → Meets theory theta None c (holds c)
-  condition : {c : ℕ} {p : Pattern} {e : Evaluated} {r : Tested} → Evaluates theory most_nesting theta p c e → Says e r → Meets theory theta (Some p) c r
+  condition : {c : ℕ} {p : Pattern} {e : Evaluated} {r : Tested} → Evaluates theory most_nesting theta p c e →
+      Says e r → Meets theory theta (Some p) c r
 
 -- what comes of trying rules: the rule at a place applies with this substitution, and so many calls are left; none
 -- applies; or a condition that is reached is blocked
@@ -34,10 +35,12 @@ pub data Trial : Type 0 where
 -- the rules, of which the first stands at this place, are tried so on a term
 pub data Tries (theory : RewriteTheory) (t : Tree) : ℕ → List RewriteRule → ℕ → Trial → Type 0 where
   no_rule_left : {i c : ℕ} → Tries theory t i [] c none_applies
-  unmatched : {i c : ℕ} {rule : RewriteRule} {rules : List RewriteRule} {r : Trial} → IsUnmatched theory rule t → Tries theory t (i + 1) rules c r → Tries theory t i (rule ∷ rules) c r
+  unmatched : {i c : ℕ} {rule : RewriteRule} {rules : List RewriteRule} {r : Trial} → IsUnmatched theory rule t →
+      Tries theory t (i + 1) rules c r → Tries theory t i (rule ∷ rules) c r
   condition_fails : {i c d : ℕ} {rule : RewriteRule} {rules : List RewriteRule} {r : Trial} {theta : List (Option Tree)} → Matches theory rule t theta → Meets theory theta rule.condition c (fails d) →
       Tries theory t (i + 1) rules d r → Tries theory t i (rule ∷ rules) c r
   condition_blocked : {i c : ℕ} {rule : RewriteRule} {rules : List RewriteRule} {theta : List (Option Tree)} {cause : Cause} → Matches theory rule t theta → Meets theory theta rule.condition c (untested cause) →
       Tries theory t i (rule ∷ rules) c (trial_blocked cause)
-  condition_holds : {i c d : ℕ} {rule : RewriteRule} {rules : List RewriteRule} {theta : List (Option Tree)} → Matches theory rule t theta → Meets theory theta rule.condition c (holds d) →
+  condition_holds : {i c d : ℕ} {rule : RewriteRule} {rules : List RewriteRule} {theta : List (Option Tree)} →
+      Matches theory rule t theta → Meets theory theta rule.condition c (holds d) →
       Tries theory t i (rule ∷ rules) c (applies i rule theta d)

@@ -15,7 +15,8 @@ AreTermsOf sig sorts ts refs = HaveSorts sig [] sorts (ground_patterns ts) refs
 -- Well-sorted patterns use no variables but those that have a sort.
 abbrev pub SortedUseFirst : Type 0
 SortedUseFirst =
-    (sig : Signature) (variables sorts : List ℕ) (ps : Patterns) (refs : List SortRef) → HaveSorts sig variables sorts ps refs → UseFirst (length variables) ps
+    (sig : Signature) (variables sorts : List ℕ) (ps : Patterns) (refs : List SortRef) →
+    HaveSorts sig variables sorts ps refs → UseFirst (length variables) ps
 
 -- The instances of well-sorted patterns under normal terms of the right sorts are normal terms of these sorts.
 abbrev pub InstancesAreSorted : Type 0
@@ -32,5 +33,6 @@ MatchIsUnique =
 -- Whether one does can be decided, for normal terms of the patterns' sorts.
 abbrev pub MatchIsDecidable : Type 0
 MatchIsDecidable =
-    (sig : Signature) (variables sorts : List ℕ) (ps : Patterns) (refs : List SortRef) (ts : Forest) → HasNoCycle sig.subsorts → HaveSorts sig variables sorts ps refs → AreTermsOf sig sorts ts refs → AreNormal ts →
+    (sig : Signature) (variables sorts : List ℕ) (ps : Patterns) (refs : List SortRef) (ts : Forest) →
+    HasNoCycle sig.subsorts → HaveSorts sig variables sorts ps refs → AreTermsOf sig sorts ts refs → AreNormal ts →
     ((theta : List (Option Tree)) × MatchAll sig variables ps ts theta) ⊎ NoneMatches sig variables ps ts

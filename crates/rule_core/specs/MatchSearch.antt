@@ -13,8 +13,10 @@ use Rattle.rule_core.specs.declared.signature.SortRef.{SortRef}
 -- have the same ones: the substitution that was found matches, and none does where none was found.
 abbrev pub FindsMatch : List (ℕ × ℕ) → ℕ → Patterns → Forest → Option (List (Option Tree)) → Type 0
 FindsMatch pairs count ps ts found =
-    (sig : Signature) (variables sorts : List ℕ) (refs : List SortRef) → sig.subsorts ≡ pairs → HasNoCycle pairs → length variables ≡ count → HaveSorts sig variables sorts ps refs →
-    HaveSorts sig [] sorts (ground_patterns ts) refs → MatchOption found (NoneMatches sig variables ps ts) (MatchAll sig variables ps ts)
+    (sig : Signature) (variables sorts : List ℕ) (refs : List SortRef) → sig.subsorts ≡ pairs → HasNoCycle pairs →
+    length variables ≡ count → HaveSorts sig variables sorts ps refs →
+    HaveSorts sig [] sorts (ground_patterns ts) refs →
+    MatchOption found (NoneMatches sig variables ps ts) (MatchAll sig variables ps ts)
 
 -- how many values, constructors, injections and calls a pattern has: each of them costs at most one look at the term
 abbrev mutual

@@ -26,7 +26,8 @@ UseFirst n ps = (x : ℕ) → StandsInSome x ps → x < n
 -- the substitution gives variables normal terms of their sorts
 abbrev pub RespectsSorts : Signature → List ℕ → List (Option Tree) → Type 0
 RespectsSorts sig variables theta =
-    (x : ℕ) (t : Tree) → binding theta x ≡ Some t → IsNormal t × ((sort : ℕ) × (slice_get variables x ≡ Some sort) × IsTermOf sig t sort)
+    (x : ℕ) (t : Tree) → binding theta x ≡ Some t → IsNormal t × ((sort : ℕ) × (slice_get variables x ≡ Some sort)
+    × IsTermOf sig t sort)
 
 -- the substitution gives just the variables that stand in the patterns each a normal term of its sort
 pub record Binds (sig : Signature) (variables : List ℕ) (ps : Patterns) (theta : List (Option Tree)) : Type 0 where

@@ -49,31 +49,40 @@ most_calls = 2 ^ 32 - 1
 -- an equation of the function that is not used at these terms: it does not match, or its condition fails
 abbrev pub IsUnused : RewriteTheory → ℕ → Equation → Forest → Type 0
 IsUnused theory f e ts =
-    IsUnmatchedBy theory e ts ⊎ ((theta : List (Option Tree)) × (left : ℕ) × MatchAll theory.sig e.variables e.arguments ts theta × Tests theory most_nesting f theta e.condition most_calls (fails left))
+    IsUnmatchedBy theory e ts ⊎ ((theta : List (Option Tree)) × (left : ℕ)
+    × MatchAll theory.sig e.variables e.arguments ts theta
+    × Tests theory most_nesting f theta e.condition most_calls (fails left))
 
 -- The record follows the evaluation of the pattern under the substitution.
 abbrev mutual
   pub Records : RewriteTheory → List (Option Tree) → Pattern → Record → Type 0
   Records theory theta p (bound x t) = (p ≡ variable x) × (binding theta x ≡ Some t)
   Records theory theta p (itself t) = (s : ℕ) × (v : DomainValue) × (p ≡ domain_value s v) × (t ≡ leaf s v)
-  Records theory theta p (made rs t) = (f : ℕ) × (ps : Patterns) × HasHead theory p f ps × (built p (results_of rs) ≡ Some t) × (height t ≤ most_height) × RecordAll theory theta ps rs
+  Records theory theta p (made rs t) = (f : ℕ) × (ps : Patterns) × HasHead theory p f ps
+      × (built p (results_of rs) ≡ Some t) × (height t ≤ most_height) × RecordAll theory theta ps rs
   Records theory theta p (by_hook rs t) =
-      (f : ℕ) × (sorts : List ℕ) × (ps : Patterns) × (info : SymInfo) × (row : ℕ) × (v : DomainValue) × (sort : ℕ) × (p ≡ call f sorts ps) × IsSymbol theory.sig f info × HookAnswers info row (results_of rs) v
+      (f : ℕ) × (sorts : List ℕ) × (ps : Patterns) × (info : SymInfo) × (row : ℕ) × (v : DomainValue) × (sort : ℕ)
+      × (p ≡ call f sorts ps) × IsSymbol theory.sig f info × HookAnswers info row (results_of rs) v
       × (sort_at [] info.result ≡ Some sort) × (t ≡ leaf sort v) × RecordAll theory theta ps rs
   Records theory theta p (by_equation rs i sigma condition body) =
-      (f : ℕ) × (sorts : List ℕ) × (ps : Patterns) × (info : SymInfo) × (e : Equation) × (p ≡ call f sorts ps) × IsSymbol theory.sig f info × (info.kind ≡ Equations) × (slice_get (equations_of theory f) i ≡ Some e)
-      × MatchAll theory.sig e.variables e.arguments (results_of rs) sigma × ((j : ℕ) (other : Equation) → j < i → slice_get (equations_of theory f) j ≡ Some other → IsUnused theory f other (results_of rs))
-      × RecordAll theory theta ps rs × RecordsCondition theory sigma e.condition condition × Records theory sigma e.right body
+      (f : ℕ) × (sorts : List ℕ) × (ps : Patterns) × (info : SymInfo) × (e : Equation) × (p ≡ call f sorts ps)
+      × IsSymbol theory.sig f info × (info.kind ≡ Equations) × (slice_get (equations_of theory f) i ≡ Some e)
+      × MatchAll theory.sig e.variables e.arguments (results_of rs) sigma × ((j : ℕ) (other : Equation) → j < i →
+      slice_get (equations_of theory f) j ≡ Some other → IsUnused theory f other (results_of rs))
+      × RecordAll theory theta ps rs × RecordsCondition theory sigma e.condition condition
+      × Records theory sigma e.right body
 
   pub RecordAll : RewriteTheory → List (Option Tree) → Patterns → RecordList → Type 0
   RecordAll theory theta ps no_record = ps ≡ no_pattern
   RecordAll theory theta ps (more_records r rs) =
-      (q : Pattern) × (qs : Patterns) × (ps ≡ more_patterns q qs) × Records theory theta q r × RecordAll theory theta qs rs
+      (q : Pattern) × (qs : Patterns) × (ps ≡ more_patterns q qs) × Records theory theta q r
+      × RecordAll theory theta qs rs
 
   -- .. of a condition that holds
   pub RecordsCondition : RewriteTheory → List (Option Tree) → Option Pattern → OptionalRecord → Type 0
   RecordsCondition theory theta p unconditional = p ≡ None
-  RecordsCondition theory theta p (conditional r) = (q : Pattern) × (p ≡ Some q) × Records theory theta q r × IsTrueValue (result_of r)
+  RecordsCondition theory theta p (conditional r) = (q : Pattern) × (p ≡ Some q) × Records theory theta q r
+      × IsTrueValue (result_of r)
 
 -- The record of a step: the number of the rule that was used, its substitution, and the records of its condition and
 -- right side.
@@ -86,13 +95,15 @@ pub record StepRecord : Type 0 where
 -- a rule that is not used at a term: it does not match, or its condition fails
 abbrev pub IsUnusedRule : RewriteTheory → RewriteRule → Tree → Type 0
 IsUnusedRule theory rule t =
-    IsUnmatched theory rule t ⊎ ((theta : List (Option Tree)) × (left : ℕ) × Matches theory rule t theta × Meets theory theta rule.condition most_calls (fails left))
+    IsUnmatched theory rule t ⊎ ((theta : List (Option Tree)) × (left : ℕ) × Matches theory rule t theta
+    × Meets theory theta rule.condition most_calls (fails left))
 
 -- It follows a step from this term: the rule applies, and those before it do not.
 pub record RecordsStep (theory : RewriteTheory) (t : Tree) (step : StepRecord) : Type 0 where
   pub rule : RewriteRule
   pub there : slice_get theory.rules step.rule ≡ Some rule
   pub matches : Matches theory rule t step.theta
-  pub earlier : (j : ℕ) (other : RewriteRule) → j < step.rule → slice_get theory.rules j ≡ Some other → IsUnusedRule theory other t
+  pub earlier : (j : ℕ) (other : RewriteRule) → j < step.rule → slice_get theory.rules j ≡ Some other →
+      IsUnusedRule theory other t
   pub condition : RecordsCondition theory step.theta rule.condition step.condition
   pub right : Records theory step.theta rule.right step.right

@@ -13,51 +13,64 @@ use Rattle.rule_core.specs.WellSorted.{IsWellSorted, IsRuleOf}
 
 -- At most one thing comes of trying the rules, of a step and of a run.
 abbrev pub TrialIsUnique : Type 0
-TrialIsUnique = (theory : RewriteTheory) (t : Tree) (c : ℕ) (r s : Trial) → IsWellSorted theory → Tries theory t 0 theory.rules c r → Tries theory t 0 theory.rules c s → r ≡ s
+TrialIsUnique = (theory : RewriteTheory) (t : Tree) (c : ℕ) (r s : Trial) → IsWellSorted theory →
+    Tries theory t 0 theory.rules c r → Tries theory t 0 theory.rules c s → r ≡ s
 
 abbrev pub StepIsUnique : Type 0
-StepIsUnique = (theory : RewriteTheory) (t : Tree) (c : ℕ) (r s : Stepped) → IsWellSorted theory → Steps theory t c r → Steps theory t c s → r ≡ s
+StepIsUnique = (theory : RewriteTheory) (t : Tree) (c : ℕ) (r s : Stepped) → IsWellSorted theory →
+    Steps theory t c r → Steps theory t c s → r ≡ s
 
 abbrev pub RunIsUnique : Type 0
 RunIsUnique =
-    (theory : RewriteTheory) (limit calls : ℕ) (start : Pattern) (r s : Run) → IsWellSorted theory → IsRunOf theory limit calls start r → IsRunOf theory limit calls start s → r ≡ s
+    (theory : RewriteTheory) (limit calls : ℕ) (start : Pattern) (r s : Run) → IsWellSorted theory →
+    IsRunOf theory limit calls start r → IsRunOf theory limit calls start s → r ≡ s
 
 -- a trial passed over the rule: it does not match, or its condition failed with the calls that were left then
 abbrev pub IsPassedOver : RewriteTheory → Tree → RewriteRule → Type 0
 IsPassedOver theory t rule =
-    IsUnmatched theory rule t ⊎ ((theta : List (Option Tree)) × (c : ℕ) × (d : ℕ) × Matches theory rule t theta × Meets theory theta rule.condition c (fails d))
+    IsUnmatched theory rule t ⊎ ((theta : List (Option Tree)) × (c : ℕ) × (d : ℕ) × Matches theory rule t theta
+    × Meets theory theta rule.condition c (fails d))
 
 -- The rule that applies matches, its condition holds, and each rule that comes before it by priority and place is
 -- passed over.
 abbrev pub FirstApplies : Type 0
 FirstApplies =
-    (theory : RewriteTheory) (t : Tree) (c i d : ℕ) (rule : RewriteRule) (theta : List (Option Tree)) → IsWellSorted theory → Tries theory t 0 theory.rules c (applies i rule theta d) →
-    (slice_get theory.rules i ≡ Some rule) × Matches theory rule t theta × ((b : ℕ) × Meets theory theta rule.condition b (holds d)) ×
-    ((j : ℕ) (other : RewriteRule) → slice_get theory.rules j ≡ Some other → ComesBefore (other.priority, other.place) (rule.priority, rule.place) → IsPassedOver theory t other)
+    (theory : RewriteTheory) (t : Tree) (c i d : ℕ) (rule : RewriteRule) (theta : List (Option Tree)) →
+    IsWellSorted theory → Tries theory t 0 theory.rules c (applies i rule theta d) →
+    (slice_get theory.rules i ≡ Some rule) × Matches theory rule t theta × ((b : ℕ)
+    × Meets theory theta rule.condition b (holds d)) ×
+    ((j : ℕ) (other : RewriteRule) → slice_get theory.rules j ≡ Some other →
+    ComesBefore (other.priority, other.place) (rule.priority, rule.place) → IsPassedOver theory t other)
 
 -- Where none applies, each is passed over.
 abbrev pub NoneApplies : Type 0
 NoneApplies =
-    (theory : RewriteTheory) (t : Tree) (c j : ℕ) (other : RewriteRule) → Tries theory t 0 theory.rules c none_applies → slice_get theory.rules j ≡ Some other → IsPassedOver theory t other
+    (theory : RewriteTheory) (t : Tree) (c j : ℕ) (other : RewriteRule) →
+    Tries theory t 0 theory.rules c none_applies → slice_get theory.rules j ≡ Some other →
+    IsPassedOver theory t other
 
 -- An initial term of the rules' sort has a run.
 abbrev pub HasRun : Type 0
 HasRun =
-    (theory : RewriteTheory) (limit calls sort : ℕ) (start : Pattern) → IsWellSorted theory → All (IsRuleOf theory.sig sort) theory.rules → HasSort theory.sig [] start sort →
+    (theory : RewriteTheory) (limit calls sort : ℕ) (start : Pattern) → IsWellSorted theory →
+    All (IsRuleOf theory.sig sort) theory.rules → HasSort theory.sig [] start sort →
     (r : Run) × IsRunOf theory limit calls start r
 
 -- Its configurations are normal terms of this sort, which are not too high.
 abbrev pub ConfigurationsAreSorted : Type 0
 ConfigurationsAreSorted =
-    (theory : RewriteTheory) (calls sort n c : ℕ) (start : Pattern) (t : Tree) → IsWellSorted theory → All (IsRuleOf theory.sig sort) theory.rules → HasSort theory.sig [] start sort →
+    (theory : RewriteTheory) (calls sort n c : ℕ) (start : Pattern) (t : Tree) → IsWellSorted theory →
+    All (IsRuleOf theory.sig sort) theory.rules → HasSort theory.sig [] start sort →
     Reaches theory start calls n t c → IsTermOf theory.sig t sort × IsNormal t × (height t ≤ most_height)
 
 -- A step has a record, where no more calls are left than records are judged with.
 abbrev pub StepHasRecord : Type 0
 StepHasRecord =
-    (theory : RewriteTheory) (t u : Tree) (c d : ℕ) → c ≤ most_calls → Steps theory t c (next u d) → (step : StepRecord) × RecordsStep theory t step × (result_of step.right ≡ u)
+    (theory : RewriteTheory) (t u : Tree) (c d : ℕ) → c ≤ most_calls → Steps theory t c (next u d) →
+    (step : StepRecord) × RecordsStep theory t step × (result_of step.right ≡ u)
 
 -- Where there is a record of a step from a term, its result is the only term that a step leads to.
 abbrev pub StepRecordDetermines : Type 0
 StepRecordDetermines =
-    (theory : RewriteTheory) (t u : Tree) (c d : ℕ) (step : StepRecord) → IsWellSorted theory → RecordsStep theory t step → Steps theory t c (next u d) → u ≡ result_of step.right
+    (theory : RewriteTheory) (t u : Tree) (c d : ℕ) (step : StepRecord) → IsWellSorted theory →
+    RecordsStep theory t step → Steps theory t c (next u d) → u ≡ result_of step.right

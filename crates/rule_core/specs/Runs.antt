@@ -16,17 +16,22 @@ pub data Stepped : Type 0 where
   stops : Cause → Stepped
 
 pub data Steps (theory : RewriteTheory) (t : Tree) (c : ℕ) : Stepped → Type 0 where
-  by_rule : {i d e : ℕ} {rule : RewriteRule} {theta : List (Option Tree)} {u : Tree} → Tries theory t 0 theory.rules c (applies i rule theta d) →
+  by_rule : {i d e : ℕ} {rule : RewriteRule} {theta : List (Option Tree)} {u : Tree} →
+      Tries theory t 0 theory.rules c (applies i rule theta d) →
       Evaluates theory most_nesting theta rule.right d (value u e) → Steps theory t c (next u e)
   by_none : Tries theory t 0 theory.rules c none_applies → Steps theory t c stays
-  in_condition : {cause : Cause} → Tries theory t 0 theory.rules c (trial_blocked cause) → Steps theory t c (stops cause)
-  in_right_side : {i d : ℕ} {rule : RewriteRule} {theta : List (Option Tree)} {cause : Cause} → Tries theory t 0 theory.rules c (applies i rule theta d) →
+  in_condition : {cause : Cause} → Tries theory t 0 theory.rules c (trial_blocked cause) →
+      Steps theory t c (stops cause)
+  in_right_side : {i d : ℕ} {rule : RewriteRule} {theta : List (Option Tree)} {cause : Cause} →
+      Tries theory t 0 theory.rules c (applies i rule theta d) →
       Evaluates theory most_nesting theta rule.right d (blocked cause) → Steps theory t c (stops cause)
 
 -- so many steps lead from the value of the initial term to this configuration, and leave so many calls
 pub data Reaches (theory : RewriteTheory) (start : Pattern) (calls : ℕ) : ℕ → Tree → ℕ → Type 0 where
-  at_start : {t : Tree} {c : ℕ} → Evaluates theory most_nesting [] start calls (value t c) → Reaches theory start calls 0 t c
-  after_step : {n c d : ℕ} {t u : Tree} → Reaches theory start calls n t c → Steps theory t c (next u d) → Reaches theory start calls (suc n) u d
+  at_start : {t : Tree} {c : ℕ} → Evaluates theory most_nesting [] start calls (value t c) →
+      Reaches theory start calls 0 t c
+  after_step : {n c d : ℕ} {t u : Tree} → Reaches theory start calls n t c → Steps theory t c (next u d) →
+      Reaches theory start calls (suc n) u d
 
 -- how a run ends, after how many steps, and the last whole configuration; where the initial term has no value there is
 -- none
@@ -45,7 +50,9 @@ kept_by start (unstarted cause) = start
 
 -- The run of a term. At the limit no rule is tried.
 abbrev pub IsRunOf : RewriteTheory → ℕ → ℕ → Pattern → Run → Type 0
-IsRunOf theory limit calls start (stuck n t) = (c : ℕ) × Reaches theory start calls n t c × (n < limit) × Steps theory t c stays
+IsRunOf theory limit calls start (stuck n t) = (c : ℕ) × Reaches theory start calls n t c × (n < limit)
+    × Steps theory t c stays
 IsRunOf theory limit calls start (limited n t) = (c : ℕ) × Reaches theory start calls n t c × (n ≡ limit)
-IsRunOf theory limit calls start (stopped n cause t) = (c : ℕ) × Reaches theory start calls n t c × (n < limit) × Steps theory t c (stops cause)
+IsRunOf theory limit calls start (stopped n cause t) = (c : ℕ) × Reaches theory start calls n t c × (n < limit)
+    × Steps theory t c (stops cause)
 IsRunOf theory limit calls start (unstarted cause) = Evaluates theory most_nesting [] start calls (blocked cause)

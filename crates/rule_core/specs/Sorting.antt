@@ -35,7 +35,8 @@ IsValueOf kind.Other (text bytes) = IsTrue (is_utf8 bytes)
 
 -- the sort with this number has that value
 abbrev pub HasValue : Signature → ℕ → DomainValue → Type 0
-HasValue sig s v = (name : List ℕ) × (info : SortInfo) × (slice_get sig.sorts s ≡ Some (name, info)) × IsValueOf info.kind v
+HasValue sig s v = (name : List ℕ) × (info : SortInfo) × (slice_get sig.sorts s ≡ Some (name, info))
+    × IsValueOf info.kind v
 
 -- the symbol with this number is declared so
 abbrev pub IsSymbol : Signature → ℕ → SymInfo → Type 0
@@ -72,11 +73,14 @@ abbrev mutual
   HasSort sig variables (variable x) sort = slice_get variables x ≡ Some sort
   HasSort sig variables (domain_value s v) sort = (s ≡ sort) × HasValue sig s v
   HasSort sig variables (application f ps) sort =
-      (info : SymInfo) × IsSymbol sig f info × (info.kind ≡ Ctor) × (sort_at [] info.result ≡ Some sort) × HaveSorts sig variables [] ps info.args.items
+      (info : SymInfo) × IsSymbol sig f info × (info.kind ≡ Ctor) × (sort_at [] info.result ≡ Some sort)
+      × HaveSorts sig variables [] ps info.args.items
   HasSort sig variables (injection a b p) sort =
       HasInjection sig × (b ≡ sort) × IsBelow sig.subsorts a b × HasSort sig variables p a
   HasSort sig variables (call f sorts ps) sort =
-      (info : SymInfo) × IsSymbol sig f info × IsFunction info.kind × (length sorts ≡ info.params) × AreSorts sig sorts × (sort_at sorts info.result ≡ Some sort) × HaveSorts sig variables sorts ps info.args.items
+      (info : SymInfo) × IsSymbol sig f info × IsFunction info.kind × (length sorts ≡ info.params)
+      × AreSorts sig sorts × (sort_at sorts info.result ≡ Some sort)
+      × HaveSorts sig variables sorts ps info.args.items
 
   -- the patterns have the declared sorts, in order
   pub HaveSorts : Signature → List ℕ → List ℕ → Patterns → List SortRef → Type 0

@@ -12,7 +12,8 @@ use Rattle.rule_core.specs.declared.signature.Signature.{Signature}
 -- none of the rules from this place up to that one matches
 abbrev pub NoRuleMatches : Signature → List RewriteRule → ℕ → ℕ → Tree → Type 0
 NoRuleMatches sig rules from to t =
-    (j : ℕ) (rule : RewriteRule) → from ≤ j → j < to → slice_get rules j ≡ Some rule → NoneMatches sig rule.variables (more_patterns rule.left no_pattern) (more_trees t no_tree)
+    (j : ℕ) (rule : RewriteRule) → from ≤ j → j < to → slice_get rules j ≡ Some rule →
+    NoneMatches sig rule.variables (more_patterns rule.left no_pattern) (more_trees t no_tree)
 
 -- the rule at i is the first from this place on that matches, with this substitution
 pub record IsFirstMatch (sig : Signature) (rules : List RewriteRule) (from : ℕ) (t : Tree) (i : ℕ) (theta : List (Option Tree)) : Type 0 where
@@ -26,5 +27,6 @@ pub record IsFirstMatch (sig : Signature) (rules : List RewriteRule) (from : ℕ
 -- sort.
 abbrev pub FindsFirstMatch : List (ℕ × ℕ) → List RewriteRule → ℕ → Tree → Option (ℕ × List (Option Tree)) → Type 0
 FindsFirstMatch pairs rules from t found =
-    (sig : Signature) (sort : ℕ) → sig.subsorts ≡ pairs → HasNoCycle pairs → All (IsRuleOf sig sort) rules → IsTermOf sig t sort →
+    (sig : Signature) (sort : ℕ) → sig.subsorts ≡ pairs → HasNoCycle pairs → All (IsRuleOf sig sort) rules →
+    IsTermOf sig t sort →
     MatchOption found (NoRuleMatches sig rules from (length rules) t) (λ hit. IsFirstMatch sig rules from t hit.0 hit.1)

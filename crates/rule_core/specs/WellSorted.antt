@@ -61,7 +61,8 @@ pub record IsSortOf (sig : Signature) (k : Kind) (sort : ℕ) : Type 0 where
   pub info : SortInfo
   pub there : slice_get sig.sorts sort ≡ Some (name, info)
   pub of_kind : IsOfKind k info
-  pub no_constructor : (f : ℕ) (made : SymInfo) → IsSymbol sig f made → made.kind ≡ Ctor → (made.result ≡ Sort (record { 0 = sort }) → ⊥)
+  pub no_constructor : (f : ℕ) (made : SymInfo) → IsSymbol sig f made → made.kind ≡ Ctor →
+      (made.result ≡ Sort (record { 0 = sort }) → ⊥)
   pub lowest : (a : ℕ) → IsBelow sig.subsorts a sort → ⊥
 
 -- a declaration's reference is to such a sort
@@ -90,7 +91,8 @@ UsesOnly ps p = (x : ℕ) → StandsIn x p → StandsInSome x ps
 -- a condition has a sort of truth values, and only variables of these patterns
 abbrev pub IsCondition : Signature → List ℕ → Patterns → Pattern → Type 0
 IsCondition sig variables ps p =
-    (sort : ℕ) × (name : List ℕ) × (info : SortInfo) × (slice_get sig.sorts sort ≡ Some (name, info)) × (info.kind ≡ kind.Bool) × HasSort sig variables p sort × UsesOnly ps p
+    (sort : ℕ) × (name : List ℕ) × (info : SortInfo) × (slice_get sig.sorts sort ≡ Some (name, info))
+    × (info.kind ≡ kind.Bool) × HasSort sig variables p sort × UsesOnly ps p
 
 -- a rule on terms of this sort
 pub record IsRuleOf (sig : Signature) (sort : ℕ) (rule : RewriteRule) : Type 0 where
@@ -119,12 +121,14 @@ AreInOrder (first ∷ later) = All (ComesBefore first) later × AreInOrder later
 
 pub record IsWellSorted (theory : RewriteTheory) : Type 0 where
   pub signature : IsSignature theory.sig
-  pub hooked : (f row : ℕ) (info : SymInfo) → IsSymbol theory.sig f info → info.kind ≡ Hooked (record { 0 = row }) → FitsHook theory.sig row info
+  pub hooked : (f row : ℕ) (info : SymInfo) → IsSymbol theory.sig f info → info.kind ≡ Hooked (record { 0 = row }) →
+      FitsHook theory.sig row info
   pub functions : (f : ℕ) (info : SymInfo) → IsSymbol theory.sig f info → info.kind ≡ Equations → info.params ≡ 0
   pub one_sort : (theory.rules ≡ []) ⊎ ((sort : ℕ) × All (IsRuleOf theory.sig sort) theory.rules)
   pub rules_in_order : AreInOrder (map (λ (r : RewriteRule). (r.priority, r.place)) theory.rules)
   pub listed : length theory.equations ≡ length theory.sig.symbols
-  pub equations : (f : ℕ) (info : SymInfo) → IsSymbol theory.sig f info → All (IsEquationOf theory.sig info) (equations_of theory f)
+  pub equations : (f : ℕ) (info : SymInfo) → IsSymbol theory.sig f info →
+      All (IsEquationOf theory.sig info) (equations_of theory f)
   pub equations_in_order : (f : ℕ) → AreInOrder (map (λ (e : Equation). (e.priority, e.place)) (equations_of theory f))
 
 -- the substitution gives each variable of the pattern, and maybe others, a normal term of its sort, which is not
