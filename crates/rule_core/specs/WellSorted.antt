@@ -138,6 +138,6 @@ pub record Serves (sig : Signature) (variables : List ℕ) (theta : List (Option
   pub sorted : RespectsSorts sig variables theta
   pub low : (x : ℕ) (t : Tree) → binding theta x ≡ Some t → height t ≤ most_height
 
--- the initial term of a run: it has a sort, and no variable
-abbrev pub IsStart : Signature → Pattern → Type 0
-IsStart sig start = (sort : ℕ) × HasSort sig [] start sort
+-- the initial term of a run: it has no variable, and a sort, which is that of the rules
+abbrev pub IsStart : RewriteTheory → Pattern → Type 0
+IsStart theory start = (sort : ℕ) × HasSort theory.sig [] start sort × All (IsRuleOf theory.sig sort) theory.rules
