@@ -2,8 +2,7 @@
 use Rattle.std.proofs.Common.{◌≡◌, ◌≢◌, ℕ, zero, suc, ◌+◌, ◌<◌, ◌≤◌, ◌⊎◌, inl, inr, Contains, Bool, true, false, cond, List, [], ◌∷◌, ◌++◌, length, get_or, eq-eqb, refl, sym, ◌∙◌, ap, subst, arith}
 use Rattle.std.specs.Prelude.{◌==◌, ◌||◌, IsTrue, if◌then◌else◌}
 use Rattle.std.proofs.lemmas.Bool.{false≢true, eqb-true}
-use Rattle.rule_core.specs.Subsorts.{IsBelow, by_pair, by_chain, HasNoCycle, IsPath}
-use Rattle.rule_core.specs.MatchSteps.{is_below}
+use Rattle.rule_core.specs.Subsorts.{IsBelow, by_pair, by_chain, HasNoCycle, IsPath, is_below}
 use Rattle.rule_core.specs.SubsortFields.{sort_pairs}
 use Rattle.term_core.specs.declared.ids.SortId.{SortId}
 use Rattle.rule_core.proofs.Belows.{is_below-true, true-is_below, either_true, true_left, true_right, IsBelow-trans}

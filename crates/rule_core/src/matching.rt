@@ -6,7 +6,8 @@ ghost use Rattle.term_core.specs.RulePatterns.{plain_pattern};
 ghost use Rattle.term_core.specs.PatternLists.{plain_patterns};
 ghost use Rattle.rule_core.specs.Matching.{StandsIn, UseFirst};
 ghost use Rattle.rule_core.specs.MatchSearch.{FindsMatch, nodes, all_nodes};
-ghost use Rattle.rule_core.specs.MatchSteps.{is_below, lowered, bound_to, matched, all_matched, Answers};
+ghost use Rattle.rule_core.specs.MatchSteps.{lowered, bound_to, matched, all_matched, Answers};
+ghost use Rattle.rule_core.specs.Subsorts.{is_below};
 
 use crate::Subsorts;
 use std::alloc::{AllocError, Global};
