@@ -5,7 +5,7 @@ ghost use Rattle.rule_core.specs.TrialLaws.{UnmatchedAreSkipped};
 
 /// Does nothing when it runs: a caller learns by it that the test of the definitions tells what is below what.
 pub fn subsort_laws()
-    ensures below { BelowIsTested }
+    ensures { BelowIsTested }
 {}
 
 /// Does nothing when it runs: a caller learns by it what matching does with well-sorted patterns. They use no variables
