@@ -1,1 +1,9 @@
+-- Laws of the definitions.
+pub mod CountedLaws
+pub mod KnowingLaws
+pub mod ListLaws
+pub mod NotDeclared
+pub mod NotedLaws
+pub mod SetLaws
+pub mod TreeLists
 mod Tried
