@@ -1,5 +1,7 @@
 -- Laws of the definitions.
 pub mod CountedLaws
+pub mod DeclaringLaws
+pub mod FaultLaws
 pub mod KnowingLaws
 pub mod ListLaws
 pub mod NotDeclared

@@ -1,6 +1,6 @@
 -- Laws of lists and of tests on them.
-use Rattle.std.proofs.Common.{◌≡◌, ℕ, suc, ◌+◌, ◌<◌, arith, Bool, true, false, cond, List, [], ◌∷◌, ◌++◌, map, take, drop, get_or, length, refl, ap, sym, ◌∙◌}
-use Rattle.std.specs.Prelude.{Option, Some, None, is_some, option_map, find, filter_map, ◌||◌}
+use Rattle.std.proofs.Common.{◌≡◌, ℕ, zero, suc, ◌+◌, ◌<◌, arith, Bool, true, false, cond, List, [], ◌∷◌, ◌++◌, map, take, drop, get_or, length, refl, ap, sym, ◌∙◌}
+use Rattle.std.specs.Prelude.{Option, Some, None, is_some, option_map, find, filter_map, flat_map, ◌||◌}
 use Rattle.std.specs.List.{list_any, cons_option, position_from}
 use Rattle.std.specs.Str.{bytes_eq}
 use Rattle.rule_core.specs.Named.{number_of}
@@ -65,3 +65,17 @@ map_step f xs i x lt is = ap (map f) (take_step xs i x lt is) ∙ map-append f (
 pub none_from : {X : Type 0} (o : Option X) → ((x : X) → o ≡ Some x → ⊥) → o ≡ None
 none_from None never = refl
 none_from (Some x) never = absurd (never x refl)
+
+first_nil : {X : Type 0} (xs ys : List X) → xs ++ ys ≡ [] → xs ≡ []
+first_nil [] ys e = refl
+first_nil (x ∷ xs) ys e = absurd (let never : ⊥ = cc in never)
+
+rest_nil : {X : Type 0} (xs ys : List X) → xs ++ ys ≡ [] → ys ≡ []
+rest_nil [] ys e = e
+rest_nil (x ∷ xs) ys e = absurd (let never : ⊥ = cc in never)
+
+-- where nothing comes of any item, nothing comes of one
+pub flat_nil_at : {X Y Z : Type 0} (F : Y → List Z) (f : X → Y) (xs : List X) (i : ℕ) (x : X) → i < length xs → x ≡ get_or xs i x → flat_map F (map f xs) ≡ [] → F (f x) ≡ []
+flat_nil_at F f [] i x lt is e = absurd (omega arith)
+flat_nil_at F f (y ∷ ys) zero x lt is e = ap (λ z. F (f z)) is ∙ first_nil (F (f y)) (flat_map F (map f ys)) e
+flat_nil_at F f (y ∷ ys) (suc i) x lt is e = flat_nil_at F f ys i x (omega arith) is (rest_nil (F (f y)) (flat_map F (map f ys)) e)

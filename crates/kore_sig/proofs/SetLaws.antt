@@ -19,7 +19,7 @@ some_position : {K : Type 0} (test : K → Bool) (i : ℕ) (xs : List K) → is_
 some_position test i [] = refl
 some_position test i (x ∷ xs) = some_or (test x) i (position_from test (i + 1) xs) (list_any test xs) (some_position test (i + 1) xs)
 
-any_name : {V : Type 0} (entries : List (List ℕ × V)) (n : List ℕ) → list_any (λ (e : List ℕ × V). bytes_eq n e.0) entries ≡ is_among (names_of entries) n
+pub any_name : {V : Type 0} (entries : List (List ℕ × V)) (n : List ℕ) → list_any (λ (e : List ℕ × V). bytes_eq n e.0) entries ≡ is_among (names_of entries) n
 any_name [] n = refl
 any_name (e ∷ entries) n = ap (λ (b : Bool). bytes_eq n e.0 || b) (any_name entries n)
 

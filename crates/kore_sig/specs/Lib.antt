@@ -14,4 +14,5 @@ pub mod Sets
 pub mod Placing
 pub mod Knowing
 pub mod UnknownSorts
+pub mod Declaring
 pub mod Noted

@@ -6,7 +6,7 @@ ghost use Rattle.kore_sig.specs.SignatureFaults.{placed as the_placed, placed_at
 ghost use Rattle.kore_sig.specs.Placing.{marks_of, plain_placed, names_of_modules};
 ghost use Rattle.kore_sig.specs.Sets.{Knows};
 
-use crate::names::{add_name, is_in};
+use crate::names::{add_name, has_name};
 use kore_ast::{Decl, Definition, Module};
 use rule_core::Table;
 use std::alloc::{AllocError, Global};
@@ -63,7 +63,7 @@ fn marks(alloc: Global, modules: &[Module]) -> Result<Vec<bool>, AllocError>
     while i > 0 {
         i -= 1;
         let module = &modules[i];
-        let counts = i + 1 == modules.len() || is_in(&imported, &module.name);
+        let counts = i + 1 == modules.len() || has_name(&imported, &module.name);
         if counts {
             add_imports(alloc, &mut imported, &module.decls)?;
         }

@@ -3,11 +3,13 @@
 
 mod attributes;
 mod counted;
+mod declaring;
 mod faults;
 mod kinds;
 mod known;
 mod names;
 mod references;
+mod symbols;
 
 pub use attributes::{first_of_name, has_attribute, text_of};
 pub use counted::{Placed, counted_declarations};

@@ -1,15 +1,17 @@
 // Sets of names.
 ghost use Rattle.std.specs.Prelude.{◌≡◌, ◌++◌, ◌∷◌, [], ℕ, List, IfOk, OnOk, is_some, is_none, if◌then◌else◌};
-ghost use Rattle.rule_core.specs.Named.{number_of};
+ghost use Rattle.rule_core.specs.Named.{number_of, names_of};
+ghost use Rattle.kore_sig.specs.Names.{is_among};
 ghost use Rattle.kore_sig.specs.Sets.{Knows};
 
 use kore_ast::Text;
 use rule_core::Table;
 use std::alloc::{AllocError, Global};
 
-/// Whether the set has the name.
-pub(crate) fn is_in(names: &Table<()>, name: &Text) -> bool
-    ensures { result ≡ is_some (number_of names.now name.now) }
+/// Whether the table has the name.
+pub(crate) fn has_name<V: Drop>(names: &Table<V>, name: &Text) -> bool
+    ensures number { result ≡ is_some (number_of names.now name.now) }
+    ensures among { result ≡ is_among (names_of names.now) name.now }
 {
     names.number(name.as_str()).is_some()
 }

@@ -22,7 +22,7 @@ loop-i-preserved c =
     let is : c.if-i-modules.counts ≡ counts here later (counted later) = elim c.if-i-modules.branch [
       | then-i-modules w ↦ counts_main here later c.if-i-modules.counts (ap (map plain_module) (drop_all c.loop-i.i modules (omega arith))) (w.counts-is ∙ eq-eqb (c.loop-i.i - 1 + 1) (length modules) w.if-i-modules.true)
       | else-i-modules w ↦ let some_later : 0 < length (map plain_module (drop c.loop-i.i modules)) = omega (arith, length-map (drop c.loop-i.i modules) plain_module, length-drop c.loop-i.i modules) in
-          counts_imported here later c.if-i-modules.counts some_later (w.counts-is ∙ w.is_in-counts.ensures ∙ c.loop-i.invariant.imported c.index-modules-i.result.name)
+          counts_imported here later c.if-i-modules.counts some_later (w.counts-is ∙ w.has_name-counts.ensures.number ∙ c.loop-i.invariant.imported c.index-modules-i.result.name)
     ] in record {
       within = omega arith;
       marked = ap reverse c.in_ok-push.ensures.items ∙ marks_more c.loop-i.marks.items c.if-i-modules.counts here later is c.loop-i.invariant.marked ∙ ap marks_of (sym whole);
