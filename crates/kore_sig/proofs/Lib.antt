@@ -2,10 +2,12 @@
 pub mod CountedLaws
 pub mod DeclaringLaws
 pub mod FaultLaws
+pub mod FirstLaws
 pub mod KnowingLaws
 pub mod ListLaws
 pub mod NotDeclared
 pub mod NotedLaws
+pub mod PairLaws
 pub mod SetLaws
 pub mod TreeLists
 mod Tried
