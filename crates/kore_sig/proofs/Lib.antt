@@ -6,8 +6,11 @@ pub mod FirstLaws
 pub mod KnowingLaws
 pub mod ListLaws
 pub mod NotDeclared
+pub mod MeaningLaws
 pub mod NotedLaws
+pub mod OrderLaws
 pub mod PairLaws
 pub mod SetLaws
 pub mod TreeLists
+pub mod WholeLaws
 mod Tried
