@@ -15,6 +15,7 @@ mod declaring;
 mod faults;
 mod kinds;
 mod known;
+mod laws;
 mod meaning;
 mod names;
 mod pairs;
@@ -22,7 +23,8 @@ mod references;
 mod symbols;
 
 pub use attributes::{first_of_name, has_attribute, text_of};
-pub use counted::{Placed, counted_declarations};
+pub use counted::counted_declarations;
 pub use faults::SigFault;
+pub use laws::signature_laws;
 pub use meaning::signature;
 pub use references::sort_number;
