@@ -14,4 +14,3 @@ pub mod SetLaws
 pub mod TreeLists
 pub mod UniqueLaws
 pub mod WholeLaws
-mod Tried

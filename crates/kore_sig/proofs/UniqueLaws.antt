@@ -1,18 +1,16 @@
 -- The first of a set is one, also of stages and of things in order; and a definition has one signature.
-use Rattle.std.proofs.Common.{◌≡◌, ℕ, ◌<◌, ◌≤◌, List, [], ◌∷◌, ◌++◌, map, Option, Some, None, refl, ap, sym, ◌∙◌, arith, inl, inr, subst}
+use Rattle.std.proofs.Common.{◌≡◌, ℕ, List, [], ◌∷◌, map, Option, Some, None, refl, ap, sym, ◌∙◌, arith, inl, inr, subst}
 use Rattle.std.specs.Prelude.{Contains}
 use Rattle.std.specs.List.{AllZip}
-use Rattle.rule_core.specs.declared.signature.Signature.{Signature}
 use Rattle.rule_core.specs.declared.signature.SortInfo.{SortInfo}
-use Rattle.rule_core.specs.declared.signature.SortRef.{SortRef}
 use Rattle.rule_core.specs.declared.signature.SymInfo.{SymInfo}
-use Rattle.kore_text.specs.Trees.{SymbolDeclaration, DefinitionTree}
+use Rattle.kore_text.specs.Trees.{SymbolDeclaration}
 use Rattle.kore_sig.specs.Declarations.{SubsortPair, symbols_of, pairs_of}
 use Rattle.kore_sig.specs.FirstFault.{Fault, ByByte, ByNumber, IsFirstBy, Then, InOrder}
 use Rattle.kore_sig.specs.SignatureFaults.{FirstOfModules, FirstOfDeclarations, FirstOfPairs, HasPairFault, placed, module_faults, name_behind, nothing_declared, pair_behind}
 use Rattle.kore_sig.specs.Declaring.{placed_faults, placed_behind}
-use Rattle.kore_sig.specs.SignatureLaws.{FirstIsOne, IsSameSymbol, AreSameSignature, SignatureIsOne}
-use Rattle.kore_sig.specs.Signatures.{IsSymbolEntry, IsPairOf, IsSignatureOf}
+use Rattle.kore_sig.specs.SignatureLaws.{FirstIsOne, IsSameSymbol, SignatureIsOne}
+use Rattle.kore_sig.specs.Signatures.{IsSymbolEntry, IsPairOf}
 use Rattle.kore_sig.specs.SortReferences.{sort_entries}
 use Rattle.kore_sig.specs.SymbolKinds.{injection_of, ac_names}
 
@@ -136,6 +134,6 @@ signature_is_one d s t a b =
     let sorts : t.sorts ≡ s.sorts = b.sorts ∙ sym a.sorts in record {
       sorts = sym sorts;
       symbols = same_symbols s.sorts (injection_of (symbols_of d)) (ac_names d) (symbols_of d) s.symbols t.symbols a.symbols
-      (subst (λ (es : List (List ℕ × SortInfo)). AllZip (IsSymbolEntry es (injection_of (symbols_of d)) (ac_names d)) (symbols_of d) t.symbols) sorts b.symbols);
+          (subst (λ (es : List (List ℕ × SortInfo)). AllZip (IsSymbolEntry es (injection_of (symbols_of d)) (ac_names d)) (symbols_of d) t.symbols) sorts b.symbols);
       subsorts = same_pairs s.sorts (pairs_of d) s.subsorts t.subsorts a.subsorts (subst (λ (es : List (List ℕ × SortInfo)). AllZip (IsPairOf es) (pairs_of d) t.subsorts) sorts b.subsorts);
     }
