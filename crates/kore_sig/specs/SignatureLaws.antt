@@ -10,7 +10,8 @@ use Rattle.kore_sig.specs.Signatures.{IsSignatureOf}
 
 abbrev pub FirstIsOne : Type 0
 FirstIsOne =
-    (definition : DefinitionTree) (q r : Option Fault) → FirstOfSignature definition q → FirstOfSignature definition r → q ≡ r
+    (definition : DefinitionTree) (q r : Option Fault) → FirstOfSignature definition q → FirstOfSignature definition r →
+    q ≡ r
 
 -- two entries of one symbol
 pub record IsSameSymbol (e f : List ℕ × SymInfo) : Type 0 where
@@ -29,4 +30,5 @@ pub record AreSameSignature (s t : Signature) : Type 0 where
 
 abbrev pub SignatureIsOne : Type 0
 SignatureIsOne =
-    (definition : DefinitionTree) (s t : Signature) → IsSignatureOf definition s → IsSignatureOf definition t → AreSameSignature s t
+    (definition : DefinitionTree) (s t : Signature) → IsSignatureOf definition s → IsSignatureOf definition t →
+    AreSameSignature s t
