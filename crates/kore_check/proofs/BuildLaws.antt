@@ -1,5 +1,5 @@
 -- What rule patterns are built of.
-use Rattle.std.proofs.Common.{◌≡◌, ◌≤◌, ◌<◌, ◌⊎◌, inl, inr, ℕ, zero, suc, ◌+◌, Bool, true, false, List, [], ◌∷◌, ◌++◌, length, map, drop, take, reverse, get_or, Option, Some, None, option_map, slice_get, append_assoc, append-nil, eq-eqb, refl, sym, ◌∙◌, ap, subst, arith}
+use Rattle.std.proofs.Common.{◌≡◌, ◌≤◌, ◌<◌, inl, inr, ℕ, zero, suc, ◌+◌, Bool, true, false, List, [], ◌∷◌, ◌++◌, length, map, drop, take, reverse, get_or, Option, Some, None, option_map, slice_get, append_assoc, append-nil, eq-eqb, refl, sym, ◌∙◌, ap, subst, arith}
 use Rattle.std.specs.Prelude.{is_some, ◌&&◌, ◌==◌}
 use Rattle.std.proofs.lemmas.List.{map-append, reverse-append, length-map}
 use Rattle.std.specs.Prelude.{string_bytes}
@@ -7,7 +7,7 @@ use Rattle.rule_core.specs.declared.rules.VarInfo.{VarInfo}
 use Rattle.std.specs.Option.{option_and_then}
 use Rattle.std.specs.List.{position_from}
 use Rattle.std.specs.Str.{bytes_eq}
-use Rattle.std.specs.Prelude.{flat_map, IsTrue}
+use Rattle.std.specs.Prelude.{flat_map}
 use Rattle.std.proofs.lemmas.Bool.{false≢true, eqb-true}
 use Rattle.rule_core.proofs.Belows.{both_true}
 use Rattle.rule_core.proofs.AcSymbols.{symbol_found}
@@ -16,10 +16,9 @@ use Rattle.rule_core.specs.declared.signature.SortKind.{SortKind}
 use Rattle.rule_core.specs.declared.signature.SymInfo.{SymInfo}
 use Rattle.rule_core.specs.declared.signature.SortRef.{SortRef}
 use Rattle.rule_core.specs.declared.signature.SymKind.TheVariants.{Injection, Ctor, Equations, Hooked, Closed, NoKind}
-use Rattle.rule_core.specs.Named.{number_of}
 use Rattle.kore_sig.specs.FirstFault.{Fault, when, unless}
 use Rattle.kore_sig.specs.SortReferences.{sort_place}
-use Rattle.kore_check.specs.Folds.{Unfolded, named_variable, written_value, applied_symbol, other_form, Unfoldeds, no_more, and_more, standing_at, applied_to_two, folded_left, folded_right, fold_of, only_of, count, unfolded, IsApplicative, AreApplicative}
+use Rattle.kore_check.specs.Folds.{Unfolded, named_variable, written_value, applied_symbol, other_form, Unfoldeds, no_more, and_more, standing_at, applied_to_two, folded_left, folded_right, fold_of, count, unfolded, AreApplicative}
 use Rattle.kore_check.specs.ValueTexts.{value_of_text}
 use Rattle.kore_check.specs.PatternFaults.{pattern_faults, argument_faults, sort_faults, text_faults, symbol_faults, has_no_kind}
 use Rattle.kore_check.specs.declared.build.Head.{Head}
@@ -30,7 +29,7 @@ use Rattle.kore_check.proofs.Items.{drop-item}
 use Rattle.std.specs.Global.{Global}
 use Rattle.std.proofs.Common.{Vec}
 use Rattle.kore_text.specs.Trees.{SortTree, sort_parameter, sort_applied, no_sorts, sort_then}
-use Rattle.term_core.specs.Patterns.{Pattern, Patterns, variable, domain_value, injection, no_pattern, more_patterns, patterns}
+use Rattle.term_core.specs.Patterns.{Pattern, Patterns, injection, no_pattern, more_patterns, patterns}
 use Rattle.term_core.specs.RulePatterns.{plain_pattern, sort_numbers as numbers_of}
 use Rattle.term_core.specs.PatternLists.{plain_patterns}
 use Rattle.term_core.specs.declared.ids.SortId.{SortId}
@@ -85,7 +84,7 @@ extends-trans a b d (xs, e) (ys, f) =
 
 -- ---- values
 
-some_there : {X : Type 0} (xs : List X) (i : ℕ) → i < length xs → slice_get xs i ≡ None → ⊥
+pub some_there : {X : Type 0} (xs : List X) (i : ℕ) → i < length xs → slice_get xs i ≡ None → ⊥
 some_there [] i lt none = omega (arith, lt)
 some_there (x ∷ xs) zero lt none = let no_item : ⊥ = cc in no_item
 some_there (x ∷ xs) (suc i) lt none = some_there xs i (omega (arith, lt)) none
@@ -429,10 +428,11 @@ fold_made : (sig : Signature) (left : Bool) (byte : ℕ) (name : List ℕ) (ss :
 fold_made sig left byte name ss u v us old new h p ps None good (info, named, kind, sorts) vars all is = λ faultless.
     let parts = fold_faultless sig left byte name ss u v us faultless in
     fold_some left h.kind h.sym.0 (numbers_of h.sorts.items) p ps (two_some sig name ss h.sym.0 info (numbers_of h.sorts.items) h.kind good parts.0 named kind sorts) (sym is)
-fold_made sig left byte name ss u v us old new h p ps (Some r) good (info, named, kind, sorts) vars all is =
-    (vars ∙ sym (fold_variables sig old left byte name ss u (and_more v us)),
-     λ more ext. fold_means sig more left byte h.sym.0 name ss (numbers_of h.sorts.items) info u (and_more v us) p ps (plain_pattern r) named sorts (all more ext)
-      (ap (λ (k : SymKind). fold_pattern left k h.sym.0 (numbers_of h.sorts.items) (p ∷ ps)) (sym kind) ∙ sym is))
+fold_made sig left byte name ss u v us old new h p ps (Some r) good (info, named, kind, sorts) vars all is = (
+  vars ∙ sym (fold_variables sig old left byte name ss u (and_more v us)),
+  λ more ext. fold_means sig more left byte h.sym.0 name ss (numbers_of h.sorts.items) info u (and_more v us) p ps (plain_pattern r) named sorts (all more ext)
+      (ap (λ (k : SymKind). fold_pattern left k h.sym.0 (numbers_of h.sorts.items) (p ∷ ps)) (sym kind) ∙ sym is),
+)
 
 pub fold_built : (sig : Signature) (left : Bool) (byte : ℕ) (name : List ℕ) (ss : List SortTree) (args : List Pat) (old new : List (List ℕ × ℕ)) (h : Head) (ps : Vec RulePat Global) (found : Option RulePat) → 2 ≤ length args → IsSignature sig → IsHead sig name ss (Some h)
     → AllBuilt sig old new (reads args) (Some ps) → option_map plain_pattern found ≡ fold_pattern left h.kind h.sym.0 (numbers_of h.sorts.items) (map plain_pattern ps.items) → Built sig old new (fold_of left byte name ss (reads args)) found
@@ -467,7 +467,7 @@ pub all-more : (sig : Signature) (old mid new : List (List ℕ × ℕ)) (args : 
     → (more : List (List ℕ × ℕ)) (qs : List Pattern) → Extends new more → AllMean sig more (reads (drop (i + 1) args)) (patterns qs) → AllMean sig more (reads args) (patterns (map plain_pattern (pats ++ p ∷ []) ++ qs))
 all-more sig old mid new args i arg pats p lt item ext means before more qs ext2 rest =
     let grown : AllMean sig more (reads (drop i args)) (patterns (plain_pattern p ∷ qs)) =
-      subst (λ (xs : List Pat). AllMean sig more (reads xs) (patterns (plain_pattern p ∷ qs))) (sym (drop-item args i arg lt item)) (more_mean (means more ext2) rest) in
+    subst (λ (xs : List Pat). AllMean sig more (reads xs) (patterns (plain_pattern p ∷ qs))) (sym (drop-item args i arg lt item)) (more_mean (means more ext2) rest) in
     subst (λ (xs : List Pattern). AllMean sig more (reads args) (patterns xs))
     (sym (append_assoc (map plain_pattern pats) (plain_pattern p ∷ []) qs) ∙ ap (λ (xs : List Pattern). xs ++ qs) (sym (map-append plain_pattern pats (p ∷ []))))
     (before more (plain_pattern p ∷ qs) (extends-trans mid new more ext ext2) grown)

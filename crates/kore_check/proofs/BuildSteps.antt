@@ -1,8 +1,7 @@
 -- What the cases of building a rule pattern come to.
-use Rattle.std.proofs.Common.{◌≡◌, ◌≤◌, ◌<◌, ℕ, ◌+◌, Bool, true, false, List, [], ◌∷◌, ◌++◌, length, map, drop, get_or, Option, Some, None, option_map, Vec, Global, append-nil, refl, sym, ◌∙◌, ap, subst, arith}
+use Rattle.std.proofs.Common.{◌≡◌, ◌≤◌, ◌<◌, ℕ, ◌+◌, Bool, List, [], ◌++◌, length, map, drop, get_or, Option, Some, None, option_map, Vec, Global, append-nil, sym, ◌∙◌, ap, subst}
 use Rattle.std.specs.Prelude.{Result, Ok, Err, IfOk}
 use Rattle.std.proofs.lemmas.List.{drop_all}
-use Rattle.kore_text.specs.Trees.{SortTree}
 use Rattle.kore_text.specs.declared.names.Op.{Op}
 use Rattle.kore_ast.specs.declared.tree.Sort.{Sort}
 use Rattle.kore_ast.specs.declared.tree.Pat.{Pat}
@@ -14,10 +13,10 @@ use Rattle.term_core.specs.PatternLists.{plain_patterns}
 use Rattle.term_core.specs.declared.rule_patterns.RulePat.{RulePat}
 use Rattle.rule_core.specs.declared.signature.Signature.{Signature}
 use Rattle.rule_core.specs.WellSorted.{IsSignature}
-use Rattle.kore_check.specs.Folds.{Unfolded, named_variable, written_value, other_form, unfolded, inner_fold, standing_at, fold_of, only_of}
+use Rattle.kore_check.specs.Folds.{Unfolded, named_variable, written_value, unfolded, inner_fold, only_of}
 use Rattle.std.specs.Global.{Box}
 use Rattle.kore_check.specs.PatternMeanings.{applied_pattern, with_variables, with_all_variables, AllMean, none_mean}
-use Rattle.kore_check.specs.Building.{Built, AllBuilt, AllMeanFrom, Extends, IsHead, IsFaultless, AreFaultless}
+use Rattle.kore_check.specs.Building.{Built, AllBuilt, Extends, IsHead, IsFaultless, AreFaultless}
 use Rattle.kore_check.specs.declared.build.Head.{Head}
 use Rattle.kore_check.proofs.Forms.{variable_is, value_is, fold_is, connective_is}
 use Rattle.kore_check.proofs.Applications.{reads, application_unfolded}
@@ -46,8 +45,8 @@ pub app_built : {E : Type 0} (sig : Signature) (p : Pat) (n : List ℕ) (ss : Ve
     → IfOk r (λ found. option_map plain_pattern found ≡ applied_pattern h.kind h.sym.0 (numbers_of h.sorts.items) (plain_patterns args.items)) → IfOk r (Built sig old new (unfolded (plain_tree p)))
 app_built sig p n ss ps xs ys old new h args r good is same1 same2 head all known =
     if_ok r _ (Built sig old new (unfolded (plain_tree p))) (λ found e.
-      subst (λ (u : Unfolded). Built sig old new u found) (sym (application_unfolded p n ss ps is))
-      (application_built sig p.at p.at n (map plain_sort ss.items) (reads ps.items) old new h args found good (subst (λ (zs : List Sort). IsHead sig n (map plain_sort zs) (Some h)) same1 head) (subst (λ (qs : List Pat). AllBuilt sig old new (reads qs) (Some args)) same2 all) e)) known
+    subst (λ (u : Unfolded). Built sig old new u found) (sym (application_unfolded p n ss ps is))
+    (application_built sig p.at p.at n (map plain_sort ss.items) (reads ps.items) old new h args found good (subst (λ (zs : List Sort). IsHead sig n (map plain_sort zs) (Some h)) same1 head) (subst (λ (qs : List Pat). AllBuilt sig old new (reads qs) (Some args)) same2 all) e)) known
 
 -- ---- the other forms
 
@@ -65,8 +64,8 @@ pub folded_built : {E : Type 0} (sig : Signature) (p inner : Pat) (left : Bool) 
     → IfOk r (Built sig old new (inner_fold left (plain_tree inner))) → IfOk r (Built sig old new (unfolded (plain_tree p)))
 folded_built sig p inner left b old new r h same known =
     if_ok r (Built sig old new (inner_fold left (plain_tree inner))) (Built sig old new (unfolded (plain_tree p))) (λ found built.
-      subst (λ (u : Unfolded). Built sig old new u found) (sym (ap unfolded (fold_is p left b h)))
-      (built_standing sig old new p.at (inner_fold left (plain_tree b.value)) found (subst (λ (q : Pat). Built sig old new (inner_fold left (plain_tree q)) found) same built))) known
+    subst (λ (u : Unfolded). Built sig old new u found) (sym (ap unfolded (fold_is p left b h)))
+    (built_standing sig old new p.at (inner_fold left (plain_tree b.value)) found (subst (λ (q : Pat). Built sig old new (inner_fold left (plain_tree q)) found) same built))) known
 
 -- ---- folds
 
@@ -77,8 +76,8 @@ pub short_built : {E : Type 0} (sig : Signature) (left : Bool) (p : Pat) (n : Li
     → IfOk r (λ found. (at : ℕ) → Built sig old new (only_of at (reads ys)) found) → IfOk r (Built sig old new (inner_fold left (plain_tree p)))
 short_built sig left p n ss ps ys old new r h same short known =
     if_ok r _ (Built sig old new (inner_fold left (plain_tree p))) (λ found all.
-      subst (λ (u : Unfolded). Built sig old new u found) (fold_short left p.at n (map plain_sort ss.items) ps.items short ∙ sym (application_folded left p n ss ps h))
-      (subst (λ (qs : List Pat). Built sig old new (only_of p.at (reads qs)) found) same (all p.at))) known
+    subst (λ (u : Unfolded). Built sig old new u found) (fold_short left p.at n (map plain_sort ss.items) ps.items short ∙ sym (application_folded left p n ss ps h))
+    (subst (λ (qs : List Pat). Built sig old new (only_of p.at (reads qs)) found) same (all p.at))) known
 
 pub fold_none : (sig : Signature) (left : Bool) (p : Pat) (n : List ℕ) (ss : Vec Sort Global) (ps : Vec Pat Global) (xs : List Sort) → p.form ≡ form.App n ss ps → xs ≡ ss.items → 2 ≤ length ps.items → IsHead sig n (map plain_sort xs) None → IsFaultless sig (inner_fold left (plain_tree p)) → ⊥
 fold_none sig left p n ss ps xs h same many none good =
@@ -95,8 +94,8 @@ pub fold_ready : {E : Type 0} (sig : Signature) (side left : Bool) (p : Pat) (n 
     → IfOk r (λ found. option_map plain_pattern found ≡ fold_pattern left h.kind h.sym.0 (numbers_of h.sorts.items) (map plain_pattern args.items)) → IfOk r (Built sig old new (inner_fold side (plain_tree p)))
 fold_ready sig side left p n ss ps xs ys old new h args r good from is same1 same2 many head all known =
     if_ok r _ (Built sig old new (inner_fold side (plain_tree p))) (λ found e.
-      subst (λ (u : Unfolded). Built sig old new u found) (sym (ap (λ (b : Bool). inner_fold b (plain_tree p)) from ∙ application_folded left p n ss ps is))
-      (fold_built sig left p.at n (map plain_sort ss.items) ps.items old new h args found many good (subst (λ (zs : List Sort). IsHead sig n (map plain_sort zs) (Some h)) same1 head) (subst (λ (qs : List Pat). AllBuilt sig old new (reads qs) (Some args)) same2 all) e)) known
+    subst (λ (u : Unfolded). Built sig old new u found) (sym (ap (λ (b : Bool). inner_fold b (plain_tree p)) from ∙ application_folded left p n ss ps is))
+    (fold_built sig left p.at n (map plain_sort ss.items) ps.items old new h args found many good (subst (λ (zs : List Sort). IsHead sig n (map plain_sort zs) (Some h)) same1 head) (subst (λ (qs : List Pat). AllBuilt sig old new (reads qs) (Some args)) same2 all) e)) known
 
 -- ---- loops
 
@@ -114,14 +113,15 @@ variables-more sig args i arg mid new whole lt item is known =
 pub all_done : (sig : Signature) (args : List Pat) (i : ℕ) (old new : List (List ℕ × ℕ)) (pats : Vec RulePat Global) → length args ≤ i → with_all_variables sig new (reads (drop i args)) ≡ with_all_variables sig old (reads args)
     → ((more : List (List ℕ × ℕ)) (qs : List Pattern) → Extends new more → AllMean sig more (reads (drop i args)) (patterns qs) → AllMean sig more (reads args) (patterns (map plain_pattern pats.items ++ qs)))
     → AllBuilt sig old new (reads args) (Some pats)
-all_done sig args i old new pats le vars means =
-    (ap (λ (xs : List Pat). with_all_variables sig new (reads xs)) (sym (drop_all i args le)) ∙ vars,
-     λ more ext. subst (λ (ps : List Pattern). AllMean sig more (reads args) (patterns ps)) (append-nil (map plain_pattern pats.items))
-      (means more [] ext (subst (λ (xs : List Pat). AllMean sig more (reads xs) no_pattern) (sym (drop_all i args le)) none_mean)))
+all_done sig args i old new pats le vars means = (
+  ap (λ (xs : List Pat). with_all_variables sig new (reads xs)) (sym (drop_all i args le)) ∙ vars,
+  λ more ext. subst (λ (ps : List Pattern). AllMean sig more (reads args) (patterns ps)) (append-nil (map plain_pattern pats.items))
+      (means more [] ext (subst (λ (xs : List Pat). AllMean sig more (reads xs) no_pattern) (sym (drop_all i args le)) none_mean)),
+)
 
 pub connective_built : {E : Type 0} (sig : Signature) (left : Bool) (p : Pat) (o : Op) (ss : Vec Sort Global) (ps : Vec Pat Global) (ys : List Pat) (old new : List (List ℕ × ℕ)) (r : Result (Option RulePat) E) → p.form ≡ form.Built o ss ps → ys ≡ ps.items
     → IfOk r (λ found. (at : ℕ) → Built sig old new (only_of at (reads ys)) found) → IfOk r (Built sig old new (inner_fold left (plain_tree p)))
 connective_built sig left p o ss ps ys old new r h same known =
     if_ok r _ (Built sig old new (inner_fold left (plain_tree p))) (λ found all.
-      subst (λ (u : Unfolded). Built sig old new u found) (sym (ap (inner_fold left) (connective_is p o ss ps h)))
-      (subst (λ (qs : List Pat). Built sig old new (only_of p.at (reads qs)) found) same (all p.at))) known
+    subst (λ (u : Unfolded). Built sig old new u found) (sym (ap (inner_fold left) (connective_is p o ss ps h)))
+    (subst (λ (qs : List Pat). Built sig old new (only_of p.at (reads qs)) found) same (all p.at))) known

@@ -11,3 +11,4 @@ pub mod FoldChecks
 pub mod HeightLaws
 pub mod BuildLaws
 pub mod BuildSteps
+pub mod CheckLaws

@@ -28,7 +28,12 @@ pub(crate) struct Head {
 }
 
 // The declared symbol with this name and these sort arguments: none where it or one of them is not declared.
-fn head_of(alloc: Global, sig: &Signature, name: &Text, sorts: &[Sort]) -> Result<Option<Head>, AllocError>
+fn head_of(
+    alloc: Global,
+    sig: &Signature,
+    name: &Text,
+    sorts: &[Sort],
+) -> Result<Option<Head>, AllocError>
     requires { IsNumbered sig.now }
     ensures { IfOk result (IsHead sig.now name.now (map plain_sort sorts.now)) }
 {
@@ -49,7 +54,11 @@ fn head_of(alloc: Global, sig: &Signature, name: &Text, sorts: &[Sort]) -> Resul
 }
 
 // The declared sorts that these are: none where one of them is not declared.
-fn all_declared(alloc: Global, sig: &Signature, sorts: &[Sort]) -> Result<Option<Vec<SortId>>, AllocError>
+fn all_declared(
+    alloc: Global,
+    sig: &Signature,
+    sorts: &[Sort],
+) -> Result<Option<Vec<SortId>>, AllocError>
     requires { IsNumbered sig.now }
     ensures { IfOk result (λ found. option_map (λ ss. numbers_of ss.items) found ≡ sort_numbers sig.now (map plain_sort sorts.now)) }
 {
@@ -113,7 +122,12 @@ fn build_variable(
 }
 
 // A value by its text.
-fn build_value(alloc: Global, sig: &Signature, sort: &Sort, text: &Text) -> Result<Option<RulePat>, AllocError>
+fn build_value(
+    alloc: Global,
+    sig: &Signature,
+    sort: &Sort,
+    text: &Text,
+) -> Result<Option<RulePat>, AllocError>
     requires { IsNumbered sig.now }
     ensures { IfOk result (λ found. (at byte : ℕ) (vars : List (List ℕ × ℕ)) → Built sig.now vars vars (written_value at (plain_sort sort.now) text.now byte) found) }
 {
@@ -155,7 +169,9 @@ pub(crate) fn build(
             applied(alloc, &head, args)
         }
         PatForm::Fold(left, inner) => build_fold(inner, alloc, sig, *left, vars),
-        PatForm::SetVar(..) | PatForm::Text(_) | PatForm::Built(..) | PatForm::Bound(..) => Ok(None),
+        PatForm::SetVar(..) | PatForm::Text(_) | PatForm::Built(..) | PatForm::Bound(..) => Ok(
+            None,
+        ),
     }
 }
 
@@ -239,7 +255,11 @@ fn build_only(
 }
 
 // What a fold of a symbol from the left makes of patterns.
-fn folded_left(alloc: Global, head: &Head, args: Vec<RulePat>) -> Result<Option<RulePat>, AllocError>
+fn folded_left(
+    alloc: Global,
+    head: &Head,
+    args: Vec<RulePat>,
+) -> Result<Option<RulePat>, AllocError>
     ensures { IfOk result (λ found. option_map plain_pattern found ≡ left_pattern head.now.kind head.now.sym.0 (numbers_of head.now.sorts.items) (map plain_pattern args.items)) }
 {
     let mut rest = args;
@@ -257,7 +277,11 @@ fn folded_left(alloc: Global, head: &Head, args: Vec<RulePat>) -> Result<Option<
 }
 
 // What a fold of a symbol from the right makes of patterns.
-fn folded_right(alloc: Global, head: &Head, args: Vec<RulePat>) -> Result<Option<RulePat>, AllocError>
+fn folded_right(
+    alloc: Global,
+    head: &Head,
+    args: Vec<RulePat>,
+) -> Result<Option<RulePat>, AllocError>
     ensures { IfOk result (λ found. option_map plain_pattern found ≡ right_pattern head.now.kind head.now.sym.0 (numbers_of head.now.sorts.items) (map plain_pattern args.items)) }
 {
     let mut rest = args;

@@ -6,8 +6,6 @@ ghost use Rattle.kore_check.specs.declared.faults.CheckFault.TheVariants.{Memory
 use std::alloc::AllocError;
 use thiserror::Error;
 
-
-
 /// What is wrong with a pattern. As a number each is that of its refusal.
 #[derive(Clone, Copy, PartialEq, Eq, Debug)]
 pub enum FaultKind {

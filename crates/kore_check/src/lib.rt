@@ -15,6 +15,6 @@ mod tests;
 mod values;
 mod variables;
 
-pub use checked::build_pattern;
+pub use checked::{build_pattern, check_pattern};
 pub use faults::{CheckFault, FaultKind, PatternFault};
 pub use patterns::{note_clash, note_pattern, note_sort};

@@ -1,6 +1,5 @@
-use Rattle.std.proofs.Common.{rules, ◌≡◌, ◌≤◌, ◌+◌, ◌++◌, ◌∷◌, [], ℕ, List, length, map, drop, Some, None, true, false, refl, sym, ◌∙◌, ap, subst, arith}
-use Rattle.kore_ast.specs.declared.tree.Pat.{Pat}
-use Rattle.kore_ast.specs.Plain.{plain_sort, plain_pattern as plain_tree}
+use Rattle.std.proofs.Common.{rules, ◌≡◌, ◌+◌, ◌++◌, ◌∷◌, [], ℕ, List, map, drop, Some, true, false, sym, subst, arith}
+use Rattle.kore_ast.specs.Plain.{plain_sort}
 use Rattle.term_core.specs.Patterns.{Pattern, patterns}
 use Rattle.term_core.specs.RulePatterns.{plain_pattern}
 use Rattle.term_core.specs.declared.rule_patterns.RulePat.{RulePat}
@@ -45,7 +44,7 @@ build_all-loop-i-preserved t c =
     let built : Built c.args.sig.now (named_sorts c.loop-i.vars.items) (named_sorts c.build.new.vars.items) _ (Some c.in-Some.pat) = subst (Built c.args.sig.now (named_sorts c.loop-i.vars.items) (named_sorts c.build.new.vars.items) _) c.in-Some.is c.in_ok-pat.ensures.built in
     let pushed : c.push.new.self.items ≡ c.loop-i.pats.items ++ c.in-Some.pat ∷ [] = search rules in
     let means : (more : List (List ℕ × ℕ)) (qs : List Pattern) → Extends (named_sorts c.build.new.vars.items) more → AllMean c.args.sig.now more (reads (drop (c.loop-i.i + 1) c.args.args.now)) (patterns qs) → AllMean c.args.sig.now more (reads c.args.args.now) (patterns (map plain_pattern (c.loop-i.pats.items ++ c.in-Some.pat ∷ []) ++ qs)) =
-      all-more c.args.sig.now (named_sorts c.args.vars.now.items) (named_sorts c.loop-i.vars.items) (named_sorts c.build.new.vars.items) c.args.args.now c.loop-i.i c.index-args-i.result c.loop-i.pats.items c.in-Some.pat c.loop-i-test.true c.index-args-i.is c.build.ensures.grows built.1 c.loop-i.invariant.means in
+    all-more c.args.sig.now (named_sorts c.args.vars.now.items) (named_sorts c.loop-i.vars.items) (named_sorts c.build.new.vars.items) c.args.args.now c.loop-i.i c.index-args-i.result c.loop-i.pats.items c.in-Some.pat c.loop-i-test.true c.index-args-i.is c.build.ensures.grows built.1 c.loop-i.invariant.means in
     record {
       grows = extends-trans (named_sorts c.args.vars.now.items) (named_sorts c.loop-i.vars.items) (named_sorts c.build.new.vars.items) c.loop-i.invariant.grows c.build.ensures.grows;
       good = λ g. (good-more c.args.sig.now c.args.args.now c.loop-i.i c.index-args-i.result c.loop-i-test.true c.index-args-i.is c.loop-i.invariant.good g).1;

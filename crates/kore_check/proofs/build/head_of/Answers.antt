@@ -1,7 +1,5 @@
-use Rattle.std.proofs.Common.{rules, ◌≡◌, ℕ, List, Some, refl, sym, ◌∙◌, ap, map}
-use Rattle.std.specs.Prelude.{option_map, slice_get}
+use Rattle.std.proofs.Common.{rules, ◌≡◌, Some, refl, map}
 use Rattle.rule_core.specs.Named.{number_of}
-use Rattle.rule_core.specs.declared.signature.SymInfo.{SymInfo}
 use Rattle.kore_ast.specs.Plain.{plain_sort}
 use Rattle.kore_check.specs.PatternSorts.{symbol_info, sort_numbers}
 use Rattle.term_core.specs.RulePatterns.{sort_numbers as numbers_of}

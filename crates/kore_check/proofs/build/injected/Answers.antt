@@ -1,4 +1,4 @@
-use Rattle.std.proofs.Common.{rules, ◌≡◌, ◌++◌, ◌∷◌, [], ℕ, List, length, map, Some, refl, sym, ◌∙◌, ap, arith}
+use Rattle.std.proofs.Common.{rules, ◌≡◌, ◌++◌, ◌∷◌, [], List, length, map, Some, sym, ◌∙◌, ap, arith}
 use Rattle.std.proofs.lemmas.List.{length-map}
 use Rattle.term_core.specs.RulePatterns.{plain_pattern, sort_numbers as numbers_of}
 use Rattle.term_core.specs.Patterns.{Pattern, patterns, injection}
@@ -26,4 +26,4 @@ returns c =
     let P : RulePat → Pattern = λ p. injection c.index.result.now.0 c.index-2.result.now.0 (plain_pattern p) in
     ap (λ (p : Pattern). Some p) (plain-Inj c.index.result.now c.index-2.result.now c.in_ok-child.child ∙ ap P child)
     ∙ sym (ap (λ (ps : List RulePat). injected_only (numbers_of c.args.head.now.sorts.items) (patterns (map plain_pattern ps))) only
-      ∙ injected-is c.args.head.now.sorts.items c.index.result.now c.index-2.result.now (plain_pattern c.in-Some.child) (omega (arith, c.len.ensures, c.if-len-ne2.false)) c.index.ensures c.index-2.ensures)
+    ∙ injected-is c.args.head.now.sorts.items c.index.result.now c.index-2.result.now (plain_pattern c.in-Some.child) (omega (arith, c.len.ensures, c.if-len-ne2.false)) c.index.ensures c.index-2.ensures)
