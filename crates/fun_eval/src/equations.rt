@@ -11,11 +11,12 @@ use rule_core::{Equation, Program};
 use std::alloc::{AllocError, Global};
 use term_core::{Subst, SymId, Term};
 
-// An equation is passed over, or it is used: with the substitution that makes its arguments the terms, and what is
-// recorded of its condition, where it has one.
+/// What comes of trying an equation or a rewrite rule at terms.
 #[derive(Drop)]
-pub(crate) enum Trial<R> {
+pub enum Trial<R> {
+    /// It does not match them, or its condition fails.
     Unused,
+    /// It is used, with the substitution that makes it match, and what is recorded of its condition, where it has one.
     Used(Subst, Option<R>),
 }
 
