@@ -1,10 +1,10 @@
 -- Equations of a function that is called, and evaluations that stop.
-use Rattle.std.proofs.Common.{rules, ◌≡◌, ℕ, suc, zero, ◌+◌, ◌-◌, ◌<◌, ◌≤◌, inl, inr, List, [], ◌∷◌, length, map, get_or, Option, Some, None, refl, sym, ◌∙◌, ap, subst, arith}
-use Rattle.std.specs.Prelude.{Result, Ok, Err, slice_get, IfSome, MatchOption}
+use Rattle.std.proofs.Common.{◌≡◌, ℕ, suc, zero, ◌<◌, ◌≤◌, List, [], ◌∷◌, length, map, get_or, Option, Some, None, refl, sym, ◌∙◌, ap, subst, arith}
+use Rattle.std.specs.Prelude.{Err, slice_get, IfSome}
 use Rattle.std.proofs.lemmas.List.{length-map}
 use Rattle.std.proofs.lemmas.Option.{slice_get_within}
 use Rattle.term_core.specs.Terms.{Tree, Forest, forest}
-use Rattle.term_core.specs.Patterns.{Pattern, Patterns, application, injection, call, no_pattern}
+use Rattle.term_core.specs.Patterns.{Pattern, Patterns, injection}
 use Rattle.term_core.specs.RulePatterns.{plain_pattern}
 use Rattle.term_core.specs.PatternLists.{plain_patterns}
 use Rattle.term_core.specs.declared.rule_patterns.RulePat.{RulePat}
@@ -13,26 +13,24 @@ use Rattle.rule_core.specs.Theories.{RewriteTheory, equations_of}
 use Rattle.rule_core.specs.ProgramView.{function_equation}
 use Rattle.rule_core.specs.declared.rules.Equation.{Equation}
 use Rattle.rule_core.specs.Matching.{MatchAll}
-use Rattle.rule_core.specs.Evaluation.{Cause, value, blocked, values, stopped, holds, fails, untested, IsTrueValue, Says, says_true, says_other, says_nothing, IsInjectionSymbol, HasHead, of_constructor, of_injection, of_call, Evaluates, argument_blocked, EvaluateAll, first_blocked, IsUnmatchedBy, Equates, Tests, no_condition, condition, EvaluatesIn}
+use Rattle.rule_core.specs.Evaluation.{value, blocked, holds, fails, untested, IsTrueValue, says_true, says_other, says_nothing, IsInjectionSymbol, HasHead, of_injection, Evaluates, argument_blocked, first_blocked, IsUnmatchedBy, Equates, Tests, no_condition, condition, EvaluatesIn}
 use Rattle.rule_core.specs.Records.{Record, RecordList, OptionalRecord, unconditional, conditional, Records, RecordAll, RecordsCondition, result_of, results_of}
 use Rattle.rule_core.specs.Records as kept
 use Rattle.rule_core.specs.Sorting.{IsSymbol}
 use Rattle.rule_core.specs.WellSorted.{IsWellSorted, IsEquationOf, IsCondition}
 use Rattle.rule_core.specs.RunView.{cause_of}
 use Rattle.rule_core.specs.declared.signature.SymInfo.{SymInfo}
-use Rattle.rule_core.specs.declared.signature.SymKind.TheVariants.{Equations}
 use Rattle.rule_core.proofs.FirstApplies.{all_at}
 use Rattle.rule_core.proofs.EvaluationAnswers.{serves_match}
 use Rattle.fun_eval.specs.Evaluable.{IsEvaluable}
 use Rattle.fun_eval.specs.Recorded.{IsRecorded}
-use Rattle.fun_eval.specs.Giving.{Comes, Gives, GivesWithin, AllGive, AreGoodTrees, IsCallRecord, IsRecordedCall}
-use Rattle.fun_eval.specs.Equations.{IsDefined, IsChosen, IsRecordedCondition, IsTriable, Matches, TrialSays, Tries, Chooses, ChoiceSays, CallsByEquations}
+use Rattle.fun_eval.specs.Giving.{Gives, GivesWithin, AllGive, IsCallRecord}
+use Rattle.fun_eval.specs.Equations.{IsDefined, IsChosen, IsRecordedCondition, IsTriable, Matches, Tries, Chooses, CallsByEquations}
 use Rattle.fun_eval.specs.RecordLists.{TellsOption}
 use Rattle.fun_eval.specs.declared.answer.Answer.{Answer}
 use Rattle.fun_eval.specs.declared.answer.Answers.{Answers}
 use Rattle.fun_eval.specs.declared.answer.EvalEnd.{EvalEnd}
 use Rattle.fun_eval.specs.declared.answer.EvalEnd.TheVariants.{Blocked, Memory}
-use Rattle.fun_eval.specs.declared.equations.Trial.TheVariants.{Unused, Used}
 use Rattle.fun_eval.proofs.Goings.{GoesOn, goes_on-stop}
 use Rattle.fun_eval.proofs.Trials.{TriedUpTo, stopped_at}
 

@@ -1,14 +1,12 @@
 -- What may be evaluated, part by part.
-use Rattle.std.proofs.Common.{◌≡◌, ℕ, suc, zero, ◌+◌, ◌<◌, ◌≤◌, inl, inr, List, [], ◌∷◌, length, get_or, Option, Some, None, refl, sym, ◌∙◌, ap, subst, arith}
-use Rattle.std.specs.Prelude.{IsSome}
-use Rattle.term_core.specs.Terms.{Tree, height}
-use Rattle.term_core.specs.Patterns.{Pattern, Patterns, variable, application, injection, call, no_pattern, more_patterns, binding}
+use Rattle.std.proofs.Common.{◌≡◌, ℕ, suc, zero, ◌<◌, inl, inr, List, [], ◌∷◌, length, get_or, Option, refl, sym, subst, arith}
+use Rattle.term_core.specs.Terms.{Tree}
+use Rattle.term_core.specs.Patterns.{Pattern, Patterns, variable, application, injection, call}
 use Rattle.term_core.specs.RulePatterns.{plain_pattern}
 use Rattle.term_core.specs.PatternLists.{plain_patterns}
 use Rattle.term_core.specs.declared.rule_patterns.RulePat.{RulePat}
 use Rattle.rule_core.specs.Theories.{RewriteTheory}
-use Rattle.rule_core.specs.Sorting.{HasSort, HaveSorts, HasInjection}
-use Rattle.rule_core.specs.WellSorted.{Serves}
+use Rattle.rule_core.specs.Sorting.{HaveSorts, HasInjection}
 use Rattle.rule_core.specs.declared.signature.SortRef.{SortRef}
 use Rattle.fun_eval.specs.Evaluable.{IsEvaluable}
 use Rattle.fun_eval.specs.Giving.{AreEvaluable, ServesAll, IsBound}

@@ -1,8 +1,8 @@
 -- How the evaluation of patterns, and the trial of equations, go on.
-use Rattle.std.proofs.Common.{◌≡◌, ℕ, suc, zero, ◌+◌, ◌-◌, ◌<◌, ◌≤◌, List, [], ◌∷◌, ◌++◌, length, get_or, drop, Option, Some, refl, sym, ◌∙◌, ap, subst, arith}
+use Rattle.std.proofs.Common.{◌≡◌, ℕ, ◌+◌, ◌<◌, ◌≤◌, List, [], ◌∷◌, ◌++◌, length, get_or, drop, Option, refl, sym, ◌∙◌, ap, subst}
 use Rattle.std.proofs.lemmas.List.{drop_more, drop_all}
-use Rattle.term_core.specs.Terms.{Tree, Forest, no_tree, more_trees, forest}
-use Rattle.term_core.specs.Patterns.{Pattern, Patterns, no_pattern, more_patterns}
+use Rattle.term_core.specs.Terms.{Tree, no_tree, more_trees, forest}
+use Rattle.term_core.specs.Patterns.{Pattern, Patterns, more_patterns}
 use Rattle.term_core.specs.RulePatterns.{plain_pattern}
 use Rattle.term_core.specs.PatternLists.{plain_patterns}
 use Rattle.term_core.specs.declared.rule_patterns.RulePat.{RulePat}

@@ -1,15 +1,13 @@
 -- A search for a matching substitution, on equations and terms of their arguments' sorts.
-use Rattle.std.proofs.Common.{rules, ◌≡◌, ℕ, suc, ◌<◌, List, [], ◌∷◌, length, map, Option, Some, None, refl, sym, ◌∙◌, ap, subst, arith}
-use Rattle.std.specs.Prelude.{MatchOption, vec_len}
+use Rattle.std.proofs.Common.{rules, ◌≡◌, ℕ, suc, ◌<◌, List, [], ◌∷◌, length, Option, refl, sym, ◌∙◌, ap, subst, arith}
+use Rattle.std.specs.Prelude.{vec_len}
 use Rattle.std.proofs.lemmas.List.{length-map}
 use Rattle.term_core.specs.Terms.{Tree, Forest, forest}
-use Rattle.term_core.specs.Patterns.{Pattern, Patterns, no_pattern, more_patterns}
-use Rattle.term_core.specs.RulePatterns.{plain_pattern}
 use Rattle.term_core.specs.PatternLists.{plain_patterns}
 use Rattle.term_core.specs.declared.rule_patterns.RulePat.{RulePat}
 use Rattle.rule_core.specs.Theories.{RewriteTheory}
 use Rattle.rule_core.specs.ProgramView.{function_equation, sorts_of}
-use Rattle.rule_core.specs.Matching.{MatchAll, NoneMatches, StandsInSome}
+use Rattle.rule_core.specs.Matching.{StandsInSome}
 use Rattle.rule_core.specs.MatchLaws.{AreTermsOf}
 use Rattle.rule_core.specs.MatchSearch.{FindsMatch}
 use Rattle.rule_core.specs.Sorting.{HaveSorts}

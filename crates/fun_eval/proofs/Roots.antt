@@ -1,8 +1,8 @@
 -- Arguments of which one cannot match, and scalars among terms.
-use Rattle.std.proofs.Common.{◌≡◌, ℕ, suc, zero, ◌+◌, ◌<◌, ◌≤◌, List, [], ◌∷◌, length, map, get_or, Option, Some, None, refl, sym, ◌∙◌, ap, subst, arith}
+use Rattle.std.proofs.Common.{◌≡◌, ℕ, suc, zero, ◌<◌, ◌≤◌, List, [], ◌∷◌, length, map, get_or, Option, Some, None, refl, sym, ◌∙◌, ap, subst, arith}
 use Rattle.std.specs.Prelude.{Bool, true, false, slice_get, option_map}
-use Rattle.term_core.specs.Terms.{DomainValue, integer, truth, Tree, leaf, node, inj, Forest, no_tree, more_trees, forest}
-use Rattle.term_core.specs.Patterns.{Pattern, instance_of, instances_of, with_first}
+use Rattle.term_core.specs.Terms.{integer, truth, Tree, leaf, node, inj, more_trees, forest}
+use Rattle.term_core.specs.Patterns.{Pattern, instance_of, instances_of}
 use Rattle.term_core.specs.HookValues.{Hook, Kind, Operation, on_integer, on_integers, compares, on_truth, on_truths, argument_kinds, hooks, hook_arguments}
 use Rattle.term_core.specs.Values.{scalar_value}
 use Rattle.term_core.specs.RulePatterns.{plain_pattern}

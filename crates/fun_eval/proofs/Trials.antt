@@ -1,28 +1,20 @@
 -- How equations are tried, one by one.
-use Rattle.std.proofs.Common.{◌≡◌, ℕ, suc, zero, ◌+◌, ◌-◌, ◌<◌, ◌≤◌, ◌⊎◌, ⊎_elim, inl, inr, List, [], ◌∷◌, length, map, get_or, drop, Option, Some, None, refl, sym, ◌∙◌, ap, subst, arith}
-use Rattle.std.specs.Prelude.{Result, Ok, Err, Vec, slice_get, slice_index_or, option_map, All, IfSome, MatchOption}
-use Rattle.std.specs.Global.{Global}
-use Rattle.std.proofs.lemmas.List.{drop_more, drop_all, length-map}
+use Rattle.std.proofs.Common.{◌≡◌, ℕ, suc, zero, ◌+◌, ◌-◌, ◌<◌, ◌≤◌, ⊎_elim, inl, inr, List, [], ◌∷◌, length, drop, Option, Some, sym, ◌∙◌, ap, subst, arith}
+use Rattle.std.specs.Prelude.{slice_get}
+use Rattle.std.proofs.lemmas.List.{drop_all}
 use Rattle.std.proofs.Math.Nat.{eq-or-lt_of_le}
-use Rattle.term_core.specs.Terms.{Tree, Forest, forest, heights}
-use Rattle.term_core.specs.Patterns.{Pattern, Patterns}
-use Rattle.term_core.specs.RulePatterns.{plain_pattern}
+use Rattle.term_core.specs.Terms.{Tree, Forest}
+use Rattle.term_core.specs.Patterns.{Pattern}
 use Rattle.rule_core.specs.Rules.{Equation}
 use Rattle.rule_core.specs.Theories.{RewriteTheory, equations_of}
-use Rattle.rule_core.specs.ProgramView.{function_equation, function_equations}
 use Rattle.rule_core.specs.Matching.{MatchAll}
-use Rattle.rule_core.specs.Evaluation.{Cause, Evaluated, value, blocked, Tested, holds, fails, untested, IsTrueValue, Says, says_true, says_other, says_nothing, IsUnmatchedBy, Equates, no_equation_left, unmatched, condition_fails, condition_blocked, used, Tests, no_condition, condition, EvaluatesIn, inside, no_equation}
+use Rattle.rule_core.specs.Evaluation.{Cause, Evaluated, value, blocked, Tested, holds, fails, untested, says_nothing, Equates, no_equation_left, unmatched, condition_fails, condition_blocked, used, Tests, no_condition, condition, EvaluatesIn, inside, no_equation}
 use Rattle.rule_core.specs.FirstRule.{most_nesting}
-use Rattle.rule_core.specs.Records.{Record, RecordList, OptionalRecord, unconditional, conditional, IsUnused, most_calls, Records, RecordsCondition, result_of}
-use Rattle.rule_core.specs.WellSorted.{IsWellSorted, IsEquationOf, IsCondition}
-use Rattle.rule_core.specs.declared.signature.SymInfo.{SymInfo}
+use Rattle.rule_core.specs.Records.{Record, IsUnused, most_calls}
 use Rattle.rule_core.proofs.MoreLeft.{tests_more}
 use Rattle.rule_core.proofs.RecordsKept.{LeavesAtMost, says_at_most, calls_fall}
-use Rattle.fun_eval.specs.Recorded.{IsRecorded}
-use Rattle.fun_eval.specs.RecordLists.{TellsOption}
-use Rattle.fun_eval.specs.Equations.{IsChosen, IsRecordedCondition, TrialSays}
-use Rattle.fun_eval.specs.declared.equations.Trial.{Trial}
-use Rattle.fun_eval.specs.declared.equations.Trial.TheVariants.{Unused, Used}
+use Rattle.fun_eval.specs.Equations.{IsChosen, TrialSays}
+use Rattle.fun_eval.specs.declared.equations.Trial.TheVariants.{Unused}
 
 -- ---- one equation
 

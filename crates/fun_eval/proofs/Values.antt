@@ -1,9 +1,9 @@
 -- What is known of the values of arguments, and what nodes make of them.
-use Rattle.std.proofs.Common.{◌≡◌, ◌≢◌, ℕ, suc, zero, ◌+◌, ◌<◌, ◌≤◌, ⊎_elim, inl, inr, List, [], ◌∷◌, length, map, Option, Some, None, refl, sym, ◌∙◌, ap, subst, arith}
+use Rattle.std.proofs.Common.{◌≡◌, ◌≢◌, ℕ, suc, ◌<◌, ◌≤◌, ⊎_elim, inl, inr, List, [], ◌∷◌, length, map, Option, Some, None, refl, sym, ◌∙◌, ap, subst, arith}
 use Rattle.std.specs.Prelude.{IsSome, Result, Ok, Err, slice_get, option_map}
-use Rattle.term_core.specs.Terms.{DomainValue, integer, truth, text, Tree, leaf, node, Forest, no_tree, more_trees, forest, height, injected}
+use Rattle.term_core.specs.Terms.{DomainValue, integer, truth, Tree, leaf, node, Forest, forest, height, injected}
 use Rattle.term_core.specs.Patterns.{Pattern, Patterns, variable, domain_value, binding, application, injection, call, no_pattern, more_patterns}
-use Rattle.term_core.specs.HookValues.{Operation, on_integer, on_integers, compares, on_truth, on_truths, operation_value, argument_kinds, value_by, hook_arguments, hook_value, hooks, Hook}
+use Rattle.term_core.specs.HookValues.{Operation, on_integer, on_integers, compares, on_truth, on_truths, operation_value, argument_kinds, value_by, hook_value, hooks, Hook}
 use Rattle.term_core.specs.Values.{scalar_value}
 use Rattle.term_core.specs.declared.ids.HookNo.{HookNo}
 use Rattle.term_core.specs.declared.values.NoValue.{NoValue}
@@ -12,12 +12,11 @@ use Rattle.term_core.specs.declared.values.Scalar.TheVariants as scalar
 use Rattle.hook_table.specs.Scalars.{kind_of}
 use Rattle.rule_core.specs.Theories.{RewriteTheory, equations_of}
 use Rattle.rule_core.specs.HookCalls.{AreValues, HookAnswers, HookFails}
-use Rattle.rule_core.specs.Sorting.{HaveSorts, HasInjection, IsSymbol, IsFunction, sort_at, HasValue}
-use Rattle.rule_core.specs.WellSorted.{IsWellSorted, Serves, FitsHook}
-use Rattle.rule_core.specs.Evaluation.{Cause, value, blocked, values, stopped, no_value, too_high, most_height, IsInjectionSymbol, HasHead, of_constructor, of_injection, of_call, built, Evaluates, bound, itself, made, made_too_high, called, argument_blocked, nested_out, EvaluateAll, none_left, one_more, first_blocked, Applies, by_hook, hook_fails, by_equations, Equates, EvaluatesIn, inside}
+use Rattle.rule_core.specs.Sorting.{HaveSorts, IsSymbol, IsFunction, sort_at, HasValue}
+use Rattle.rule_core.specs.WellSorted.{IsWellSorted, FitsHook}
+use Rattle.rule_core.specs.Evaluation.{value, blocked, values, no_value, too_high, most_height, IsInjectionSymbol, of_constructor, of_injection, Evaluates, bound, itself, made, made_too_high, called, EvaluateAll, none_left, one_more, Applies, by_hook, hook_fails, by_equations, Equates, EvaluatesIn, inside}
 use Rattle.rule_core.specs.Records.{Record, RecordList, no_record, more_records, RecordAll, Records, results_of, result_of}
 use Rattle.rule_core.specs.Records as kept
-use Rattle.rule_core.specs.declared.signature.Signature.{Signature}
 use Rattle.rule_core.specs.declared.signature.SortRef.{SortRef}
 use Rattle.rule_core.specs.declared.signature.SymInfo.{SymInfo}
 use Rattle.rule_core.specs.declared.signature.SymKind.{SymKind}
@@ -28,7 +27,7 @@ use Rattle.rule_core.proofs.HookRanges.{hook_answer}
 use Rattle.fun_eval.specs.Evaluable.{IsEvaluable}
 use Rattle.fun_eval.specs.Recorded.{IsRecorded}
 use Rattle.fun_eval.specs.Roots.{AreHookArguments}
-use Rattle.fun_eval.specs.Giving.{Comes, Gives, GivesWithin, AreRecorded, AreGoodTrees, ServesAll, AreEvaluable, AreArguments, IsCallable, IsCallRecord, IsRecordedCall, Calls, Constructs, InjectsTo, HookGives}
+use Rattle.fun_eval.specs.Giving.{Gives, GivesWithin, AreRecorded, AreGoodTrees, ServesAll, AreArguments, IsCallable, IsRecordedCall, Calls, Constructs, InjectsTo, HookGives}
 use Rattle.fun_eval.specs.Equations.{IsDefined, CallsByEquations}
 use Rattle.fun_eval.specs.declared.answer.Answer.{Answer}
 use Rattle.fun_eval.specs.declared.answer.Answers.{Answers}

@@ -1,11 +1,11 @@
 -- What the private functions that try equations answer.
-use Rattle.std.specs.Prelude.{◌≡◌, ◌⊎◌, ◌<◌, ℕ, List, [], length, Option, Some, None, slice_get, MatchOption, Result, Ok, Err}
+use Rattle.std.specs.Prelude.{◌≡◌, ◌⊎◌, ◌<◌, ℕ, List, [], Option, Some, None, slice_get, MatchOption, Result}
 use Rattle.term_core.specs.Terms.{Tree, Forest, forest}
 use Rattle.term_core.specs.Patterns.{Pattern}
 use Rattle.rule_core.specs.Rules.{Equation}
 use Rattle.rule_core.specs.Theories.{RewriteTheory, equations_of}
 use Rattle.rule_core.specs.Matching.{MatchAll}
-use Rattle.rule_core.specs.Sorting.{IsSymbol, sort_at}
+use Rattle.rule_core.specs.Sorting.{IsSymbol}
 use Rattle.rule_core.specs.WellSorted.{IsEquationOf}
 use Rattle.rule_core.specs.Evaluation.{Evaluated, value, blocked, no_equation, holds, fails, untested, IsUnmatchedBy, Equates, Tests, EvaluatesIn}
 use Rattle.rule_core.specs.Records.{IsUnused, Record, RecordList, OptionalRecord, RecordsCondition}

@@ -1,25 +1,22 @@
 -- What the private functions of evaluation answer.
-use Rattle.std.specs.Prelude.{◌≡◌, ◌<◌, ◌≤◌, ◌⊎◌, ℕ, List, [], length, Option, Some, IsSome, Result, Ok, Err}
+use Rattle.std.specs.Prelude.{◌≡◌, ◌<◌, ◌≤◌, ℕ, List, length, Option, Some, IsSome, Result, Ok, Err}
 use Rattle.term_core.specs.Terms.{DomainValue, Tree, leaf, node, Forest, forest, height, heights, injected, AreNormal}
 use Rattle.term_core.specs.Patterns.{Pattern, Patterns, call, binding}
 use Rattle.term_core.specs.HookValues.{hook_value}
-use Rattle.rule_core.specs.Rules.{Equation}
-use Rattle.rule_core.specs.Theories.{RewriteTheory, equations_of}
+use Rattle.rule_core.specs.Theories.{RewriteTheory}
 use Rattle.rule_core.specs.HookCalls.{AreValues}
 use Rattle.term_core.specs.declared.values.NoValue.{NoValue}
 use Rattle.rule_core.specs.Sorting.{HaveSorts, IsSymbol, IsFunction, sort_at}
 use Rattle.rule_core.specs.MatchLaws.{AreTermsOf}
-use Rattle.rule_core.specs.WellSorted.{IsEquationOf}
-use Rattle.rule_core.specs.Matching.{MatchAll, StandsInSome, RespectsSorts}
-use Rattle.rule_core.specs.Evaluation.{Cause, value, blocked, values, stopped, holds, fails, untested, no_value, too_high, most_height, IsUnmatchedBy, Evaluates, EvaluateAll, Applies, Equates, Tests, EvaluatesIn}
-use Rattle.rule_core.specs.Records.{Record, RecordList, OptionalRecord, no_record, more_records, made, by_hook, Records, RecordAll, RecordsCondition, results_of, result_of}
+use Rattle.rule_core.specs.Matching.{StandsInSome, RespectsSorts}
+use Rattle.rule_core.specs.Evaluation.{Cause, value, blocked, values, stopped, no_value, too_high, most_height, Evaluates, EvaluateAll, Applies, EvaluatesIn}
+use Rattle.rule_core.specs.Records.{Record, RecordList, no_record, more_records, made, by_hook, Records, RecordAll, results_of, result_of}
 use Rattle.rule_core.specs.RunView.{cause_of}
 use Rattle.rule_core.specs.declared.signature.Signature.{Signature}
 use Rattle.rule_core.specs.declared.signature.SortRef.{SortRef}
 use Rattle.rule_core.specs.declared.signature.SymInfo.{SymInfo}
 use Rattle.fun_eval.specs.Evaluable.{IsEvaluable}
 use Rattle.fun_eval.specs.Recorded.{IsRecorded}
-use Rattle.fun_eval.specs.RecordLists.{TellsOption}
 use Rattle.fun_eval.specs.declared.answer.Answer.{Answer}
 use Rattle.fun_eval.specs.declared.answer.EvalEnd.{EvalEnd}
 use Rattle.fun_eval.specs.declared.answer.EvalEnd.TheVariants.{Blocked, Memory}

@@ -1,12 +1,12 @@
 -- Records of steps, from what is recorded of their evaluations.
-use Rattle.std.proofs.Common.{◌≡◌, ℕ, ◌<◌, List, Option, Some, None, refl, sym, ◌∙◌, ap, subst}
+use Rattle.std.proofs.Common.{◌≡◌, ℕ, ◌<◌, Option, Some, None, sym, ◌∙◌, ap, subst}
 use Rattle.std.specs.Prelude.{slice_get, option_map}
 use Rattle.term_core.specs.Terms.{Tree}
 use Rattle.rule_core.specs.Rules.{RewriteRule}
 use Rattle.rule_core.specs.Theories.{RewriteTheory}
 use Rattle.rule_core.specs.FirstRule.{Matches}
-use Rattle.rule_core.specs.Records.{Record, OptionalRecord, unconditional, conditional, RecordsCondition, Records, RecordsStep, IsUnusedRule, result_of}
-use Rattle.rule_core.specs.RecordView.{optional, plain_record, plain_step}
+use Rattle.rule_core.specs.Records.{Record, OptionalRecord, conditional, RecordsCondition, Records, IsUnusedRule, result_of}
+use Rattle.rule_core.specs.RecordView.{optional, plain_record}
 use Rattle.rule_core.specs.declared.records.EvalRecord.{EvalRecord}
 use Rattle.rule_core.specs.declared.records.StepRecord.{StepRecord}
 use Rattle.fun_eval.specs.RecordLists.{TellsOption}

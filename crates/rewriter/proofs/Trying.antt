@@ -1,6 +1,6 @@
 -- How rules are tried, one by one, and what a step comes to.
-use Rattle.std.proofs.Common.{rules, ◌≡◌, ℕ, suc, zero, ◌+◌, ◌-◌, ◌<◌, ◌≤◌, ◌⊎◌, ⊎_elim, inl, inr, List, [], ◌∷◌, length, map, get_or, drop, Option, Some, None, refl, sym, ◌∙◌, ap, subst, arith}
-use Rattle.std.specs.Prelude.{Result, Ok, Err, slice_get, option_map, IfSome, MatchOption, All, vec_len}
+use Rattle.std.proofs.Common.{rules, ◌≡◌, ℕ, suc, zero, ◌+◌, ◌-◌, ◌<◌, ◌≤◌, ⊎_elim, inl, inr, List, [], ◌∷◌, length, drop, Option, Some, None, refl, sym, ◌∙◌, ap, subst, arith}
+use Rattle.std.specs.Prelude.{Err, slice_get, IfSome, MatchOption, vec_len}
 use Rattle.std.proofs.lemmas.List.{drop_all, length-map}
 use Rattle.std.proofs.lemmas.Option.{slice_get_within}
 use Rattle.std.proofs.Math.Nat.{eq-or-lt_of_le}
@@ -12,17 +12,15 @@ use Rattle.rule_core.specs.Theories.{RewriteTheory}
 use Rattle.rule_core.specs.ProgramView.{rewrite_rule, rewrite_rules, sorts_of, theory_of}
 use Rattle.rule_core.specs.Matching.{StandsInSome}
 use Rattle.rule_core.specs.MatchSearch.{FindsMatch}
-use Rattle.rule_core.specs.Sorting.{IsTermOf}
 use Rattle.rule_core.specs.WellSorted.{IsWellSorted, IsRuleOf, IsCondition}
-use Rattle.rule_core.specs.Evaluation.{Cause, value, blocked, Tested, holds, fails, untested, IsTrueValue, says_true, says_other, says_nothing, Evaluates}
+use Rattle.rule_core.specs.Evaluation.{value, blocked, Tested, holds, fails, untested, IsTrueValue, says_true, says_other, says_nothing, Evaluates}
 use Rattle.rule_core.specs.FirstRule.{most_nesting, Matches, IsUnmatched, Meets, no_condition, condition, applies, none_applies, trial_blocked, Tries, no_rule_left, unmatched, condition_fails, condition_blocked, condition_holds}
 use Rattle.rule_core.specs.FirstRule as first
-use Rattle.rule_core.specs.Records.{Record, OptionalRecord, unconditional, conditional, RecordsCondition, IsUnusedRule, most_calls, StepRecord, RecordsStep, Records, result_of}
-use Rattle.rule_core.specs.Runs.{Steps, next, stays, stops, by_rule, by_none, in_condition, in_right_side}
+use Rattle.rule_core.specs.Records.{Record, OptionalRecord, unconditional, conditional, RecordsCondition, IsUnusedRule, most_calls, Records}
+use Rattle.rule_core.specs.Runs.{Steps, next, by_rule, in_condition, in_right_side}
 use Rattle.rule_core.specs.RunView.{cause_of}
 use Rattle.rule_core.specs.declared.rules.Program.{Program}
 use Rattle.rule_core.specs.declared.rules.Rule.{Rule}
-use Rattle.rule_core.specs.declared.signature.Signature.{Signature}
 use Rattle.rule_core.specs.declared.signature.SortRef.TheVariants.{Sort}
 use Rattle.rule_core.proofs.SortedInstances.{sorted_use_first}
 use Rattle.rule_core.proofs.FirstApplies.{all_at}
@@ -33,17 +31,13 @@ use Rattle.rule_core.proofs.RecordsKept.{LeavesAtMost, says_at_most, calls_fall}
 use Rattle.fun_eval.specs.Evaluable.{IsEvaluable}
 use Rattle.fun_eval.specs.EvalEnds.{EndsBy}
 use Rattle.fun_eval.specs.Recorded.{IsRecorded}
-use Rattle.fun_eval.specs.RecordLists.{TellsOption}
 use Rattle.fun_eval.specs.declared.answer.EvalEnd.{EvalEnd}
 use Rattle.fun_eval.specs.declared.answer.EvalEnd.TheVariants.{Blocked, Memory}
-use Rattle.fun_eval.specs.declared.equations.Trial.{Trial}
-use Rattle.fun_eval.specs.declared.equations.Trial.TheVariants.{Unused, Used}
+use Rattle.fun_eval.specs.declared.equations.Trial.TheVariants.{Unused}
 use Rattle.rewriter.specs.Configurations.{IsConfiguration}
 use Rattle.rewriter.specs.NextSteps.{TellsStep}
-use Rattle.rewriter.specs.Choosing.{IsTriable, IsRecordedCondition, RuleSays, TriesRule, IsChosen, ChoiceSays, Chooses}
+use Rattle.rewriter.specs.Choosing.{IsTriable, IsRecordedCondition, RuleSays, TriesRule, IsChosen, Chooses}
 use Rattle.rewriter.specs.Stepping.{Advances}
-use Rattle.rewriter.specs.declared.rules.Choice.{Choice}
-use Rattle.rewriter.specs.declared.step.Made.{Made}
 
 -- ---- matching
 

@@ -1,5 +1,5 @@
 -- What a step of a run answers.
-use Rattle.std.specs.Prelude.{◌≡◌, ℕ}
+use Rattle.std.specs.Prelude.{◌≡◌}
 use Rattle.term_core.specs.Terms.{Tree}
 use Rattle.rule_core.specs.Theories.{RewriteTheory}
 use Rattle.rule_core.specs.Records.{Record, StepRecord, RecordsStep, result_of}

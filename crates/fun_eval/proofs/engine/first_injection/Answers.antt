@@ -1,5 +1,4 @@
-use Rattle.std.proofs.Common.{◌≡◌, ◌<◌, ℕ, List, length, slice_get, Some, arith}
-use Rattle.rule_core.specs.declared.signature.SymInfo.{SymInfo}
+use Rattle.std.proofs.Common.{arith}
 use Rattle.fun_eval.proofs.Injections.{symbol_within, none_more, none_after}
 use Rattle.fun_eval.proofs.engine.first_injection.Goals as goal
 

@@ -1,8 +1,5 @@
-use Rattle.std.proofs.Common.{◌≡◌, ◌<◌, ℕ, length, sym, ◌∙◌, ap, subst}
-use Rattle.term_core.specs.PatternLists.{plain_patterns}
-use Rattle.term_core.specs.Terms.{forest}
-use Rattle.rule_core.specs.ProgramView.{theory_of, function_equation}
-use Rattle.fun_eval.proofs.Matches.{own_variables, as_many, equation_matches}
+use Rattle.rule_core.specs.ProgramView.{theory_of}
+use Rattle.fun_eval.proofs.Matches.{own_variables, as_many}
 use Rattle.fun_eval.proofs.equations.match_equation.Goals as goal
 
 pub match_terms-requires-clause-scoped : goal.match_terms-requires-clause-scoped

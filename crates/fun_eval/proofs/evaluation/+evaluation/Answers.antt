@@ -1,17 +1,17 @@
-use Rattle.std.proofs.Common.{rules, ◌≡◌, ◌≢◌, ◌≤◌, ◌<◌, ◌-◌, ◌+◌, ◌∷◌, ◌++◌, [], ℕ, suc, List, length, map, take, drop, Option, Some, None, refl, sym, ◌∙◌, ap, subst, inl, inr, arith}
+use Rattle.std.proofs.Common.{◌≡◌, ◌<◌, ◌-◌, ◌+◌, ◌∷◌, ◌++◌, [], suc, List, length, map, take, Some, None, sym, ◌∙◌, ap, subst, inr, arith}
 use Rattle.std.specs.Prelude.{slice_get, option_map, Err}
 use Rattle.std.proofs.lemmas.Bool.{false≢true}
 use Rattle.std.proofs.lemmas.List.{take_more, take_all}
-use Rattle.term_core.specs.Terms.{Tree, forest}
-use Rattle.term_core.specs.Patterns.{Pattern, variable, domain_value, application, injection, call}
+use Rattle.term_core.specs.Terms.{forest}
+use Rattle.term_core.specs.Patterns.{variable, domain_value, application, injection, call}
 use Rattle.term_core.specs.Values.{value_of}
 use Rattle.term_core.specs.RulePatterns.{plain_pattern, sort_numbers}
 use Rattle.term_core.specs.PatternLists.{plain_patterns}
 use Rattle.term_core.specs.declared.rule_patterns.RulePat.{RulePat}
-use Rattle.term_core.proofs.PlainPatterns.{plain-Var, plain-Value, plain-Ctor, plain-Inj, plain-Call}
+use Rattle.term_core.proofs.PlainPatterns.{plain-Var, plain-Value, plain-Ctor, plain-Call}
 use Rattle.rule_core.specs.Theories.{equations_of}
 use Rattle.rule_core.specs.ProgramView.{theory_of, function_equation}
-use Rattle.rule_core.specs.Evaluation.{Evaluates, value, blocked, too_nested, nested_out, of_constructor, of_injection, of_call, EvaluateAll, values, Applies, by_nothing, without_call, no_call_left, EvaluatesIn, no_nesting, no_equation, Equates, no_equation_left}
+use Rattle.rule_core.specs.Evaluation.{Evaluates, value, blocked, too_nested, nested_out, of_constructor, of_injection, of_call, Applies, by_nothing, without_call, no_call_left, EvaluatesIn, no_nesting}
 use Rattle.rule_core.specs.Matching.{MatchAll}
 use Rattle.rule_core.specs.Sorting.{IsSymbol}
 use Rattle.rule_core.specs.declared.rules.Program.{Program}
@@ -20,15 +20,13 @@ use Rattle.fun_eval.specs.Evaluable.{IsEvaluable}
 use Rattle.fun_eval.specs.Recorded.{IsRecorded}
 use Rattle.fun_eval.specs.Giving.{Gives, GivesWithin, AreRecorded, AreArguments, IsCallable, IsDeclared}
 use Rattle.fun_eval.specs.Equations.{ChoiceSays, IsTriable, Matches, TrialSays}
-use Rattle.fun_eval.specs.declared.equations.Choice.{Choice}
-use Rattle.fun_eval.specs.declared.equations.Trial.{Trial}
 use Rattle.fun_eval.specs.declared.equations.Trial.TheVariants.{Unused, Used}
-use Rattle.fun_eval.proofs.Evaluable.{bound_of-variable, arguments_of-application, arguments_of-call, injection_there, below_injection, item_evaluable}
-use Rattle.fun_eval.proofs.Goings.{goes_on-start, goes_on-more, goes_on-end}
-use Rattle.fun_eval.proofs.Values.{arguments_callable, is_function, no_other_kind, defined, hooked_arguments, hooked_result, hook_calls, equations_call, called_gives, constructed_gives, injected_gives, within_gives}
+use Rattle.fun_eval.proofs.Evaluable.{arguments_of-application, arguments_of-call, item_evaluable}
+use Rattle.fun_eval.proofs.Goings.{goes_on-more, goes_on-end}
+use Rattle.fun_eval.proofs.Values.{arguments_callable, defined, hooked_arguments, hooked_result, hook_calls, equations_call, called_gives, constructed_gives, injected_gives, within_gives}
 use Rattle.fun_eval.proofs.Recordings.{recorded-more}
-use Rattle.fun_eval.proofs.Trials.{tried-none, unused-none, tried-more, unused-more, is_unused, trial_falls, chosen, tried-all}
-use Rattle.fun_eval.proofs.Calls.{arguments_stop, injected_stops, pattern_stops, own_equation, as_long, triable, right_evaluable, condition_evaluable, matched_none, matched_some, no_test, test_holds, test_fails, test_stops, trial_stops, choice_stops, right_stops, right_gives, number_within, chosen_within, has_list}
+use Rattle.fun_eval.proofs.Trials.{tried-more, unused-more, is_unused, trial_falls, chosen, tried-all}
+use Rattle.fun_eval.proofs.Calls.{arguments_stop, injected_stops, pattern_stops, own_equation, as_long, triable, right_evaluable, condition_evaluable, matched_some, no_test, test_holds, test_fails, test_stops, trial_stops, right_stops, right_gives, chosen_within}
 use Rattle.fun_eval.proofs.evaluation.+evaluation.Goals as goal
 
 -- ---- evaluate

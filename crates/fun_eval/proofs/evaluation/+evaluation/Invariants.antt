@@ -2,7 +2,7 @@ use Rattle.std.proofs.Common.{◌+◌, ◌*◌, ◌≤◌, take}
 use Rattle.term_core.specs.Terms.{forest}
 use Rattle.term_core.specs.PatternLists.{plain_patterns}
 use Rattle.rule_core.specs.Theories.{equations_of}
-use Rattle.rule_core.specs.ProgramView.{theory_of, function_equation}
+use Rattle.rule_core.specs.ProgramView.{theory_of}
 use Rattle.fun_eval.specs.Giving.{AreRecorded}
 use Rattle.fun_eval.proofs.Goings.{GoesOn}
 use Rattle.fun_eval.proofs.Trials.{TriedUpTo, UnusedUpTo}

@@ -1,4 +1,4 @@
-use Rattle.std.proofs.Common.{◌≡◌, sym, ◌∙◌, ap}
+use Rattle.std.proofs.Common.{◌≡◌, ◌∙◌, ap}
 use Rattle.term_core.specs.Terms.{leaf}
 use Rattle.term_core.specs.Values.{value_of}
 use Rattle.fun_eval.proofs.Values.{itself_gives}

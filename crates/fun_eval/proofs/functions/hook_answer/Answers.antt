@@ -1,4 +1,4 @@
-use Rattle.std.proofs.Common.{◌≡◌, ◌<◌, ◌≤◌, ◌∷◌, [], length, map, arith}
+use Rattle.std.proofs.Common.{◌≡◌, ◌<◌, ◌∷◌, [], length, map, arith}
 use Rattle.term_core.specs.Values.{scalar_value}
 use Rattle.fun_eval.proofs.Roots.{scalar_item, one_scalar, two_scalars, hook_kinds, scalars_are, few_terms}
 use Rattle.fun_eval.proofs.functions.hook_answer.Goals as goal

@@ -1,4 +1,4 @@
-use Rattle.std.proofs.Common.{◌≡◌, ◌<◌, ◌≤◌, length, Some, None, sym, subst, arith}
+use Rattle.std.proofs.Common.{◌≡◌, ◌<◌, ◌≤◌, length, Some, subst, arith}
 use Rattle.std.specs.Prelude.{slice_get}
 use Rattle.term_core.specs.Terms.{height}
 use Rattle.rule_core.specs.ProgramView.{theory_of, rewrite_rule, rewrite_rules}

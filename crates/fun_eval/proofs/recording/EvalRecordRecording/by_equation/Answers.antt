@@ -1,4 +1,4 @@
-use Rattle.std.proofs.Common.{rules, ◌≡◌, map, option_map, sym, ◌∙◌, ap}
+use Rattle.std.proofs.Common.{◌≡◌, map, option_map, ◌∙◌, ap}
 use Rattle.std.specs.Global.{Box}
 use Rattle.rule_core.specs.Records.{Record, RecordList, OptionalRecord}
 use Rattle.rule_core.specs.Records.{by_equation as equation_record}
@@ -6,7 +6,6 @@ use Rattle.rule_core.specs.RecordView.{optional, plain_record, records}
 use Rattle.rule_core.specs.declared.records.EvalRecord.{EvalRecord}
 use Rattle.rule_core.specs.declared.records.EvalRecord.TheVariants as form
 use Rattle.rule_core.specs.declared.records.EqRecord.{roll-EqRecord}
-use Rattle.fun_eval.specs.RecordLists.{TellsOption}
 use Rattle.fun_eval.proofs.PlainRecords.{plain-used}
 use Rattle.fun_eval.proofs.recording.EvalRecordRecording.by_equation.Goals as goal
 

@@ -1,5 +1,5 @@
-use Rattle.std.proofs.Common.{◌++◌, ◌∷◌, [], List, sym, ◌∙◌, ap, map}
-use Rattle.rule_core.specs.Records.{RecordList, Record}
+use Rattle.std.proofs.Common.{List, ◌∙◌, ap, map}
+use Rattle.rule_core.specs.Records.{RecordList}
 use Rattle.rule_core.specs.RecordView.{plain_record, records}
 use Rattle.rule_core.specs.declared.records.EvalRecord.{EvalRecord}
 use Rattle.fun_eval.specs.RecordLists.{at_end}

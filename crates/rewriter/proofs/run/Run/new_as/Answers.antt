@@ -1,4 +1,3 @@
-use Rattle.std.proofs.Common.{◌≡◌, sym, subst}
 use Rattle.term_core.specs.RulePatterns.{plain_pattern}
 use Rattle.rule_core.specs.ProgramView.{theory_of}
 use Rattle.rewriter.proofs.Started.{start_evaluable, run_started, start_sorted}
