@@ -1,8 +1,6 @@
 -- What a run keeps, and what it asks for.
-use Rattle.std.specs.Prelude.{ℕ, [], All, refl}
-use Rattle.std.specs.Coded.{Coded, code_by, coded×, coded_ℕ}
+use Rattle.std.specs.Prelude.{ℕ, [], All}
 use Rattle.term_core.specs.Terms.{Tree}
-use Rattle.term_core.specs.TermCode.{tree_code}
 use Rattle.term_core.specs.Patterns.{Pattern}
 use Rattle.rule_core.specs.Theories.{RewriteTheory}
 use Rattle.rule_core.specs.Sorting.{HasSort, IsTermOf}
@@ -12,11 +10,6 @@ use Rattle.rule_core.specs.WellSorted.{IsRuleOf}
 pub record RunState : Type 0 where
   pub config : Tree
   pub calls : ℕ
-
--- it is stored as the pair of its fields
-abbrev pub run_state_code : Coded RunState
-run_state_code =
-    code_by (Tree × ℕ) (coded× tree_code coded_ℕ) (λ s. (s.config, s.calls)) (λ p. record { config = p.0; calls = p.1 }) (λ _. refl)
 
 -- The initial term has a sort, that of the rules where there are any, and no variable.
 abbrev pub IsStartOf : RewriteTheory → Pattern → Type 0

@@ -28,7 +28,8 @@ pub struct Run {
 }
 
 impl Model for Run {
-    ghost use Rattle.rewriter.specs.Configurations.{RunState, run_state_code};
+    ghost use Rattle.rewriter.specs.Configurations.{RunState};
+    ghost use Rattle.rewriter.specs.RunCode.{run_state_code};
 
     ghost Value = { RunState };
 
