@@ -1,0 +1,78 @@
+-- The images of rules' patterns as patterns of matching logic (Chen and Rosu 2019). A constant or a sort of an image is
+-- the number of its token among names; where the names lack a token there is no image.
+use Rattle.std.specs.Prelude.{ℕ, ◌+◌, Bool, true, false, List, [], ◌∷◌, Option, Some, None, option_map}
+use Rattle.std.specs.List.{position_from}
+use Rattle.ml_pat.specs.Patterns.{Pattern, app, at_sort, var, constant}
+use Rattle.term_core.specs.Patterns.{Pattern as RulePattern, Patterns as RulePatterns, variable, domain_value, application, injection, call, no_pattern, more_patterns}
+use Rattle.rule_core.specs.declared.signature.Signature.{Signature}
+use Rattle.rule_core.specs.declared.signature.SymInfo.{SymInfo}
+use Rattle.rule_core.specs.declared.signature.SymKind.{SymKind}
+use Rattle.rule_core.specs.declared.signature.SymKind.TheVariants as kind
+use Rattle.ml_image.specs.Tokens.{token_of_sort, token_of_symbol, token_of_value, numbered}
+
+-- what two things make, where both are there
+abbrev pub both : {A B C : Type 0} → (A → B → C) → Option A → Option B → Option C
+both f None b = None
+both f (Some a) None = None
+both f (Some a) (Some b) = Some (f a b)
+
+abbrev pub is_injection : SymKind → Bool
+is_injection kind.Injection = true
+is_injection kind.Ctor = false
+is_injection kind.Equations = false
+is_injection (kind.Hooked n) = false
+is_injection kind.Closed = false
+is_injection kind.NoKind = false
+
+-- the injection symbol: the first of that kind
+abbrev pub injection_symbol : Signature → Option ℕ
+injection_symbol sig = position_from (λ (e : List ℕ × SymInfo). is_injection e.1.kind) 0 sig.symbols
+
+-- the constant of a symbol
+abbrev pub symbol_image : Signature → List (List ℕ) → ℕ → Option Pattern
+symbol_image sig names f = option_map constant (numbered names (token_of_symbol sig f))
+
+-- the number of a sort
+abbrev pub sort_image : Signature → List (List ℕ) → ℕ → Option ℕ
+sort_image sig names s = numbered names (token_of_sort sig s)
+
+-- the pattern at sort arguments, from the first on
+abbrev pub at_sorts : Signature → List (List ℕ) → Option Pattern → List ℕ → Option Pattern
+at_sorts sig names head [] = head
+at_sorts sig names head (s ∷ ss) = at_sorts sig names (both at_sort head (sort_image sig names s)) ss
+
+-- the injection symbol, where there is one, at the sort that an injection comes from and the one that it goes to
+abbrev pub some_symbol_image : Signature → List (List ℕ) → Option ℕ → Option Pattern
+some_symbol_image sig names None = None
+some_symbol_image sig names (Some f) = symbol_image sig names f
+
+abbrev pub injection_image : Signature → List (List ℕ) → ℕ → ℕ → Option Pattern
+injection_image sig names a b = at_sorts sig names (some_symbol_image sig names (injection_symbol sig)) (a ∷ b ∷ [])
+
+-- A variable is the object variable of its number, a domain value the constant of its token. A symbol is applied to its
+-- sort arguments and then to its arguments, one after another from the first on.
+abbrev mutual
+  pub image_of : Signature → List (List ℕ) → RulePattern → Option Pattern
+  image_of sig names (variable x) = Some (var x)
+  image_of sig names (domain_value s v) = option_map constant (numbered names (token_of_value sig s v))
+  image_of sig names (application f ps) = applied sig names (symbol_image sig names f) ps
+  image_of sig names (injection a b p) = both app (injection_image sig names a b) (image_of sig names p)
+  image_of sig names (call f ss ps) = applied sig names (at_sorts sig names (symbol_image sig names f) ss) ps
+
+  -- the pattern applied to the images of arguments, from the first on
+  pub applied : Signature → List (List ℕ) → Option Pattern → RulePatterns → Option Pattern
+  applied sig names head no_pattern = head
+  applied sig names head (more_patterns p ps) = applied sig names (both app head (image_of sig names p)) ps
+
+-- the pattern with its variables numbered from k on
+abbrev mutual
+  pub shifted : ℕ → RulePattern → RulePattern
+  shifted k (variable x) = variable (k + x)
+  shifted k (domain_value s v) = domain_value s v
+  shifted k (application f ps) = application f (all_shifted k ps)
+  shifted k (injection a b p) = injection a b (shifted k p)
+  shifted k (call f ss ps) = call f ss (all_shifted k ps)
+
+  pub all_shifted : ℕ → RulePatterns → RulePatterns
+  all_shifted k no_pattern = no_pattern
+  all_shifted k (more_patterns p ps) = more_patterns (shifted k p) (all_shifted k ps)

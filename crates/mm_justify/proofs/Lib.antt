@@ -1,0 +1,6 @@
+pub mod Allowing
+pub mod DeclaredStates
+pub mod FrameCases
+pub mod HeaderStates
+pub mod ImageLeaves
+pub mod SmallTexts

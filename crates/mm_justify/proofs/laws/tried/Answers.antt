@@ -1,0 +1,12 @@
+use Rattle.mm_justify.proofs.FrameCases.{tried_frames}
+use Rattle.mm_justify.proofs.SmallTexts.{small_justifies, conclusion_is_no_axiom}
+use Rattle.mm_justify.proofs.laws.tried.Goals as goal
+
+pub returns-clause-justifies : goal.returns-clause-justifies
+returns-clause-justifies a = small_justifies
+
+pub returns-clause-refuses : goal.returns-clause-refuses
+returns-clause-refuses a = conclusion_is_no_axiom
+
+pub returns-clause-frames : goal.returns-clause-frames
+returns-clause-frames a = tried_frames
