@@ -1,12 +1,13 @@
 -- Frames of an axiom with two variables, tried.
-use Rattle.std.proofs.Common.{◌≡◌, ℕ, Bool, true, false, List, [], ◌∷◌, ◌++◌, Option, Some, None, refl, sym, ap, ◌∙◌, arith}
-use Rattle.std.specs.Prelude.{if◌then◌else◌, ◌&&◌, ◌||◌, not, codes, bytes_eq, decimal}
+use Rattle.std.proofs.Common.{◌≡◌, ◌+◌, ℕ, Bool, true, false, List, [], ◌∷◌, ◌++◌, Option, Some, None, refl, sym, ap, ◌∙◌, arith}
+use Rattle.std.specs.Prelude.{if◌then◌else◌, codes, bytes_eq, decimal}
 use Rattle.std.proofs.lemmas.Bool.{false≢true}
 use Rattle.std.proofs.lemmas.Fmt.{decimal_by_steps}
 use Rattle.std.proofs.lemmas.Slice.Eq.{bytes_eq-Decides}
 use Rattle.mm_text.specs.Bytes.{Token}
 use Rattle.mm_proof.specs.Tokens.{object_token}
-use Rattle.mm_justify.specs.JustifyingCases.{TriedFrames}
+use Rattle.mm_justify.specs.Justifying.{holds_frame}
+use Rattle.mm_justify.specs.JustifyingCases.{sorts, two_variables, TriedFrames}
 
 -- the digits of 0 and of 1
 zero_digits : decimal 0 ≡ codes "0"
@@ -48,13 +49,8 @@ none_typed true true other is not typed = false≢true (sym not)
 none_typed true false other is not typed = cc
 none_typed false q other is not typed = false≢true is
 
--- two different tokens that are there are apart
-apart_there : (e a b c d : Bool) → e ≡ false → a ≡ true → d ≡ true → (not e && (((a || b) && (c || (d || false))) && ((a || b) || (c || (d || false))))) ≡ true
-apart_there e a b c d he ha hd = rw (he, ha, hd) (go c)
-  where
-    go : (c : Bool) → (true && ((true && (c || true)) && (true || (c || true)))) ≡ true
-    go true = refl
-    go false = refl
+apart_there : (holds_frame sorts two_variables).apart (object_token 0) (object_token 1) ≡ true
+apart_there = rw (zero_digits, one_digits) refl
 
 pub tried_frames : TriedFrames
 tried_frames = record {
@@ -62,6 +58,6 @@ tried_frames = record {
   other_order = record { statement = refl; premises = refl; types = λ v. either (bytes_eq (object_token 0) v) (bytes_eq (object_token 1) v) (codes "#Var"); apart = λ x y h. refl };
   other_type = λ says. types_differ (bytes_eq (object_token 0) (object_token 0)) _ _ (same (object_token 0)) (says.types (object_token 0));
   untyped = λ says. none_typed (bytes_eq (object_token 0) (object_token 0)) (bytes_eq (object_token 1) (object_token 0)) _ (same (object_token 0)) differ_back (says.types (object_token 0));
-  not_apart = λ says. false≢true (says.apart (object_token 0) (object_token 1) ?);
+  not_apart = λ says. false≢true (says.apart (object_token 0) (object_token 1) apart_there);
   hypothesis = λ statement says. let none : statement ∷ [] ≡ [] = says.premises in cc;
 }

@@ -118,16 +118,16 @@ some_leaves sig names f known (Some g) p h = symbol_leaves sig names f known g p
 mutual
   term_leaves : (sig : Signature) (names : List Token) (f : LeafFacts) → Known names f → (a : RulePattern) → ((x : ℕ) → StandsIn x a → f.object x) → Each f (image_of sig names a)
   term_leaves sig names f known (variable x) objects p h = subst (EachLeaf f) (some_same (logic.var x) p h) (objects x refl)
-  term_leaves sig names f known (domain_value s v) objects = constant_leaves f (numbered names (token_of_value sig s v)) (λ n h. known.constants n (value_leaf sig names s v n h))
-  term_leaves sig names f known (application g ps) objects = applied_leaves sig names f known ps (symbol_image sig names g) objects (symbol_leaves sig names f known g)
-  term_leaves sig names f known (injection a b q) objects =
-      two_leaves f app (λ x y hx hy. (hx, hy)) (injection_image sig names a b) (image_of sig names q) (sorts_leaves sig names f known (a ∷ b ∷ []) (some_symbol_image sig names (injection_symbol sig)) (some_leaves sig names f known (injection_symbol sig))) (term_leaves sig names f known q objects)
-  term_leaves sig names f known (call g ss ps) objects = applied_leaves sig names f known ps (at_sorts sig names (symbol_image sig names g) ss) objects (sorts_leaves sig names f known ss (symbol_image sig names g) (symbol_leaves sig names f known g))
+  term_leaves sig names f known (domain_value s v) objects p h = constant_leaves f (numbered names (token_of_value sig s v)) (λ n k. known.constants n (value_leaf sig names s v n k)) p h
+  term_leaves sig names f known (application g ps) objects p h = applied_leaves sig names f known ps (symbol_image sig names g) objects (symbol_leaves sig names f known g) p h
+  term_leaves sig names f known (injection a b q) objects p h =
+      two_leaves f app (λ x y hx hy. (hx, hy)) (injection_image sig names a b) (image_of sig names q) (sorts_leaves sig names f known (a ∷ b ∷ []) (some_symbol_image sig names (injection_symbol sig)) (some_leaves sig names f known (injection_symbol sig))) (term_leaves sig names f known q objects) p h
+  term_leaves sig names f known (call g ss ps) objects p h = applied_leaves sig names f known ps (at_sorts sig names (symbol_image sig names g) ss) objects (sorts_leaves sig names f known ss (symbol_image sig names g) (symbol_leaves sig names f known g)) p h
 
   applied_leaves : (sig : Signature) (names : List Token) (f : LeafFacts) → Known names f → (ps : RulePatterns) (head : Option Pattern) → ((x : ℕ) → StandsInSome x ps → f.object x) → Each f head → Each f (applied sig names head ps)
-  applied_leaves sig names f known no_pattern head objects k = k
-  applied_leaves sig names f known (more_patterns q qs) head objects k =
-      applied_leaves sig names f known qs (both app head (image_of sig names q)) (λ x h. objects x (inr h)) (two_leaves f app (λ x y hx hy. (hx, hy)) head (image_of sig names q) k (term_leaves sig names f known q (λ x h. objects x (inl h))))
+  applied_leaves sig names f known no_pattern head objects k p h = k p h
+  applied_leaves sig names f known (more_patterns q qs) head objects k p h =
+      applied_leaves sig names f known qs (both app head (image_of sig names q)) (λ x s. objects x (inr s)) (two_leaves f app (λ x y hx hy. (hx, hy)) head (image_of sig names q) k (term_leaves sig names f known q (λ x s. objects x (inl s)))) p h
 
 -- the image of a sentence, where each object variable has the fact
 sentence_leaves : (sig : Signature) (names : List Token) (f : LeafFacts) → Known names f → ((x : ℕ) → f.object x) → (s : Sentence) → Each f (sentence_image sig names s)

@@ -240,15 +240,15 @@ own_other theory ts s (of_equation f e there (direct c none says is)) =
 own_other theory ts s (of_equation f e there (kompile c info sorts sort some many declared says is)) =
     subst (AreOther theory.sig ts) (sym is) (closed_other theory.sig ts 0 (behind_parameters sorts e).variables _ (after_and_other theory.sig ts c (meets 0 (behind_parameters sorts e).arguments) (equals (of_variables f 0 (length sorts)) (term (behind_parameters sorts e).right))))
 own_other theory ts s (total f says) =
-    subst (AreOther theory.sig ts) (sym says.says) (closed_other theory.sig ts 0 says.sorts _ (exists_other theory.sig ts (length says.sorts) says.sort (equals (term (variable (length says.sorts))) (of_variables f 0 (length says.sorts)))))
+    subst (AreOther theory.sig ts) (sym says.says) (closed_other theory.sig ts 0 says.sorts (exists (length says.sorts) says.sort (equals (term (variable (length says.sorts))) (of_variables f 0 (length says.sorts)))) (exists_other theory.sig ts (length says.sorts) says.sort (equals (term (variable (length says.sorts))) (of_variables f 0 (length says.sorts)))))
 own_other theory ts s (apart f g says) =
-    subst (AreOther theory.sig ts) (sym says.says) (closed_other theory.sig ts 0 (says.sorts ++ says.others) _ (not_other theory.sig ts (and (of_variables f 0 (length says.sorts)) (of_variables g (length says.sorts) (length says.others)))))
+    subst (AreOther theory.sig ts) (sym says.says) (closed_other theory.sig ts 0 (says.sorts ++ says.others) (not (and (of_variables f 0 (length says.sorts)) (of_variables g (length says.sorts) (length says.others)))) (not_other theory.sig ts (and (of_variables f 0 (length says.sorts)) (of_variables g (length says.sorts) (length says.others)))))
 own_other theory ts s (free f says) =
-    subst (AreOther theory.sig ts) (sym says.says) (closed_other theory.sig ts 0 (says.sorts ++ says.sorts) _ (after_and_other theory.sig ts (of_variables f 0 (length says.sorts)) (of_variables f (length says.sorts) (length says.sorts)) (apply_all (symbol f) (conjunctions (variables 0 (length says.sorts)) (variables (length says.sorts) (length says.sorts))))))
+    subst (AreOther theory.sig ts) (sym says.says) (closed_other theory.sig ts 0 (says.sorts ++ says.sorts) (implies (and (of_variables f 0 (length says.sorts)) (of_variables f (length says.sorts) (length says.sorts))) (apply_all (symbol f) (conjunctions (variables 0 (length says.sorts)) (variables (length says.sorts) (length says.sorts))))) (after_and_other theory.sig ts (of_variables f 0 (length says.sorts)) (of_variables f (length says.sorts) (length says.sorts)) (apply_all (symbol f) (conjunctions (variables 0 (length says.sorts)) (variables (length says.sorts) (length says.sorts))))))
 own_other theory ts s (subsort a b says) =
-    subst (AreOther theory.sig ts) (sym says.says) (closed_other theory.sig ts 0 (a ∷ []) _ (exists_other theory.sig ts 1 b (equals (term (variable 1)) (term (injection a b (variable 0))))))
+    subst (AreOther theory.sig ts) (sym says.says) (closed_other theory.sig ts 0 (a ∷ []) (exists 1 b (equals (term (variable 1)) (term (injection a b (variable 0))))) (exists_other theory.sig ts 1 b (equals (term (variable 1)) (term (injection a b (variable 0))))))
 own_other theory ts s (collapse a b c says) =
-    subst (AreOther theory.sig ts) (sym says.says) (closed_other theory.sig ts 0 (a ∷ []) _ (equals_other theory.sig ts (term (injection b c (injection a b (variable 0)))) (term (injection a c (variable 0)))))
+    subst (AreOther theory.sig ts) (sym says.says) (closed_other theory.sig ts 0 (a ∷ []) (equals (term (injection b c (injection a b (variable 0)))) (term (injection a c (variable 0)))) (equals_other theory.sig ts (term (injection b c (injection a b (variable 0)))) (term (injection a c (variable 0)))))
 
 fact_other : (sig : Signature) (ts : List Token) (s : Sentence) → IsTrueFact sig s → AreOther sig ts s
 fact_other sig ts s (of_value sort v says) = subst (AreOther sig ts) (sym says.says) (functional_other sig ts (term (domain_value sort v)) sort)
