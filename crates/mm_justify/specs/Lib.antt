@@ -3,4 +3,5 @@ pub mod Justifying
 -- Laws: what follows from that. Each is a clause of a function that does nothing.
 pub mod JustifyingLaws
 pub mod JustifyingCases
+pub mod ImageCases
 pub mod ImageLaws

@@ -1,14 +1,17 @@
 // Laws on what justifies a run, and the definition tried on small texts and frames.
+ghost use Rattle.mm_justify.specs.ImageCases.{TriedImages};
 ghost use Rattle.mm_justify.specs.ImageLaws.{ImageIsClosed, SentenceHasNoMeta, SentenceIsOver};
 ghost use Rattle.mm_justify.specs.JustifyingCases.{ConclusionIsNoAxiom, SmallJustifies, TriedFrames};
 ghost use Rattle.mm_justify.specs.JustifyingLaws.{AxiomHasOnly, DeclaredHasOnly, HeaderHasOnly, RunIsJustified, TheoremHasOnly, TheoremJustifies};
 
 /// The definition says of a small text that it justifies a run; of an axiom that says that one symbol reaches another
 /// that no program has it; and of frames of an axiom with two variables which of them are taken.
+/// The images of what four small definitions say have the tokens that they should have.
 pub fn tried()
     ensures justifies { SmallJustifies }
     ensures refuses { ConclusionIsNoAxiom }
     ensures frames { TriedFrames }
+    ensures images { TriedImages }
 {}
 
 /// A text that fits and whose axioms are the header's rows, declarations and what a program may assume still has only
