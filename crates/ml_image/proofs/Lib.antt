@@ -8,3 +8,4 @@ pub mod ListedLaws
 pub mod ConditionLaws
 pub mod ConstructorLaws
 pub mod HookLaws
+pub mod WellSortedLaws

@@ -8,6 +8,7 @@ pub mod HasImages
 pub mod Gained
 -- Laws: what follows from that. Each is a clause of a function that does nothing.
 pub mod NamingLaws
+pub mod ConditionLaws
 -- Private: what clauses of private functions cite, and how private fields are seen.
 pub mod Injecting
 pub mod Counted
