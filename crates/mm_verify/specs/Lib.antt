@@ -4,7 +4,10 @@ pub mod StackView
 pub mod Places
 pub mod Resolved
 pub mod AssertionView
+pub mod KeptView
 pub mod Filling
+pub mod Pairs
+pub mod Turned
 pub mod Applied
 pub mod Running
 pub mod Digits

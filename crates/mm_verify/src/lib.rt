@@ -16,6 +16,7 @@ mod counting;
 mod digits;
 mod ends;
 mod filling;
+mod kept;
 mod known;
 mod letters;
 mod machine;
@@ -24,6 +25,7 @@ mod place;
 mod proof_fault;
 mod proof_text;
 mod scattered;
+mod spreads;
 mod stack;
 #[cfg(test)]
 mod tests;

@@ -7,10 +7,10 @@ use Rattle.mm_verify.specs.Resolved.{hypotheses_of, parts_in}
 use Rattle.mm_verify.proofs.Placing.{placed}
 use Rattle.mm_verify.proofs.assertion.Assertion.of.Goals as goal
 
-locates : (c : goal.After-result-1) → Locates c.in_ok-places.places (hypotheses_held c.args.frame.now.hyps.items)
+locates : (c : goal.After-result-1) → Locates c.in_ok-places.places (hypotheses_held c.args.frame.now.mandatory.value.hyps.items)
 locates c = search rules
 
-same : (c : goal.After-result-1) → hypotheses_of c.in_ok-wanted.wanted.items ≡ hypotheses_held c.args.frame.now.hyps.items
+same : (c : goal.After-result-1) → hypotheses_of c.in_ok-wanted.wanted.items ≡ hypotheses_held c.args.frame.now.mandatory.value.hyps.items
 same c = search rules
 
 located : (c : goal.After-result-1) → AreLocated c.in_ok-places.places c.in_ok-conclusion.conclusion.items
@@ -18,7 +18,7 @@ located c = c.in_ok-conclusion.ensures.places ∙ ap (λ (s : List ℕ). map (ge
 
 pub invariant_of-result : goal.invariant_of-result
 invariant_of-result c = record {
-  wanted_placed = placed c.in_ok-places.places (hypotheses_held c.args.frame.now.hyps.items) _ (flat_map parts_in c.in_ok-wanted.wanted.items) (locates c) (same c) c.in_ok-wanted.ensures.places;
-  apart_placed = placed c.in_ok-places.places (hypotheses_held c.args.frame.now.hyps.items) _ (flat_map parts_of c.in_ok-apart.apart.items) (locates c) (same c) c.in_ok-apart.ensures.places;
-  conclusion_placed = placed c.in_ok-places.places (hypotheses_held c.args.frame.now.hyps.items) _ c.in_ok-conclusion.conclusion.items (locates c) (same c) (located c);
+  wanted_placed = placed c.in_ok-places.places (hypotheses_held c.args.frame.now.mandatory.value.hyps.items) _ (flat_map parts_in c.in_ok-wanted.wanted.items) (locates c) (same c) c.in_ok-wanted.ensures.places;
+  apart_placed = placed c.in_ok-places.places (hypotheses_held c.args.frame.now.mandatory.value.hyps.items) _ (flat_map parts_of c.in_ok-apart.apart.items) (locates c) (same c) c.in_ok-apart.ensures.places;
+  conclusion_placed = placed c.in_ok-places.places (hypotheses_held c.args.frame.now.mandatory.value.hyps.items) _ c.in_ok-conclusion.conclusion.items (locates c) (same c) (located c);
 }
