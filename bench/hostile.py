@@ -1,10 +1,10 @@
 #!/usr/bin/env python3
 """Writes databases that are costly for a naive verifier, verifies each at sizes n, 2n and 4n, and prints how time grows.
 
-    bench/hostile.py [--program FILE] [--only NAME] [--scale F] [--keep FOLDER]
+    bench/hostile.py [--program FILE] [--only NAME] [--scale F] [--limit MEGABYTES] [--keep FOLDER]
 
-Each line has the sizes in bytes, the seconds and megabytes at each size, and the growth of the seconds from one size
-to the next: about 2 is linear, about 4 is quadratic. Each database is valid but for `doubling`, which is to end as
+Each line has the bytes of the smallest database, the seconds and megabytes at each size, and the growth of the seconds
+from one size to the next: about 2 is linear, about 4 is quadratic. Each database is valid, but `doubling` is to end as
 out of memory. Not part of the gate."""
 import argparse
 import os

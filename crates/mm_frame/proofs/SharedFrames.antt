@@ -1,21 +1,20 @@
 -- What assertions of one place share is what each of them asks for.
-use Rattle.std.proofs.Common.{◌≡◌, ℕ, zero, suc, ◌+◌, Bool, true, false, not, List, [], ◌∷◌, length, refl, ap, sym, subst, ◌∙◌, arith}
-use Rattle.std.specs.Prelude.{◌&&◌, ◌||◌, nat_eq, filter, slice_get, slice_index, Option, Some, None, IfSome, if◌then◌else◌}
+use Rattle.std.proofs.Common.{◌≡◌, ℕ, suc, Bool, true, false, not, List, [], ◌∷◌, length, refl, ap, sym, subst, ◌∙◌, arith}
+use Rattle.std.specs.Prelude.{◌&&◌, ◌||◌, nat_eq, filter, slice_get, slice_index, Option, Some, IfSome, if◌then◌else◌}
 use Rattle.std.specs.List.{list_any, list_all}
 use Rattle.std.proofs.lemmas.Bool.{eq-eqb, eqb-true}
 use Rattle.mm_text.specs.Bytes.{Token}
 use Rattle.mm_database.specs.Frames.{floating, essential}
 use Rattle.mm_frame.specs.Numbered.{NumberedHypothesis}
-use Rattle.mm_frame.specs.FramesHeld.{has_number, in_groups, groups_of}
+use Rattle.mm_frame.specs.FramesHeld.{has_number, in_groups}
 use Rattle.mm_frame.specs.Held.{Held}
-use Rattle.mm_frame.specs.NeededNumbers.{number_stands_in, is_needed_number, is_mandatory_number}
+use Rattle.mm_frame.specs.NeededNumbers.{is_needed_number, is_mandatory_number}
 use Rattle.mm_frame.specs.HeldPlaces.{ArePlaced}
 use Rattle.mm_frame.specs.HeldTests.{types_in, is_held_typed}
 use Rattle.mm_frame.specs.Listed.{group_places}
-use Rattle.mm_frame.specs.Sharing.{IsMandatory, IsShared}
+use Rattle.mm_frame.specs.Sharing.{IsMandatory}
 use Rattle.mm_frame.specs.HeldTests.{is_covered}
 use Rattle.mm_frame.specs.declared.frames.Mandatory.{Mandatory}
-use Rattle.mm_frame.specs.declared.sharing.Shared.{Shared}
 use Rattle.mm_frame.proofs.Apartness.{and-left, and-right, common-apart}
 use Rattle.mm_frame.proofs.Grouped.{all-at, groups-differ, groups-turned}
 use Rattle.mm_frame.proofs.FramePlaces.{typed-there}

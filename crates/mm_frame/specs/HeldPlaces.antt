@@ -1,6 +1,5 @@
 -- Where the hypotheses stand that a frame takes: cited by the clauses of private functions alone.
-use Rattle.std.specs.Prelude.{◌≡◌, ℕ, if◌then◌else◌, List, [], ◌∷◌, slice_get, slice_index, Option, Some, None}
-use Rattle.mm_text.specs.Bytes.{Token}
+use Rattle.std.specs.Prelude.{ℕ, if◌then◌else◌, List, [], ◌∷◌, slice_index, Option, Some, None}
 use Rattle.mm_frame.specs.Numbered.{NumberedHypothesis}
 use Rattle.mm_frame.specs.Sharing.{ArePlacedIn}
 use Rattle.mm_frame.specs.Held.{Held}

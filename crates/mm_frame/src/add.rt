@@ -136,7 +136,7 @@ impl<'a> Scopes<'a> {
         ensures { ClosesBlock (held self.old) (held self.new) result }
     {
         let block = self.blocks.pop()?;
-        self.shared = None;
+        self.shared.take();
         self.variables.truncate(block.variables);
         self.hyps.truncate(block.hyps);
         self.disjoint.truncate(block.disjoint);

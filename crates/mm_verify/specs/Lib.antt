@@ -2,6 +2,7 @@
 pub mod Cut
 pub mod StackView
 pub mod Places
+pub mod Locating
 pub mod Resolved
 pub mod AssertionView
 pub mod KeptView

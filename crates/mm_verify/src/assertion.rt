@@ -5,8 +5,9 @@ ghost use Rattle.mm_verify.specs.Resolved.{hypotheses_of, parts_in};
 
 use crate::spreads::are_groups_apart;
 use crate::checking::are_wanted;
-use crate::filling::fill;
-use crate::parts::{Part, Wanted, all_wanted, groups_located, located, places};
+use crate::filling::{fill, filled_length};
+use crate::finding::find_places;
+use crate::parts::{Part, Wanted, all_wanted, groups_located, located};
 use crate::place::Place;
 use crate::stack::Stack;
 use mm_frame::Frame;
@@ -38,7 +39,7 @@ impl<'a> Assertion<'a> {
         ensures { IfOk result (λ a. assertion_frame a ≡ frame_held frame.now) }
     {
         let mandatory = &*frame.mandatory;
-        let places = places(alloc, &mandatory.hyps)?;
+        let places = find_places(alloc, &mandatory.hyps)?;
         let conclusion = located(alloc, &places, &frame.statement)?;
         let apart = groups_located(alloc, &places, &mandatory.apart)?;
         let wanted = all_wanted(alloc, &places, &mandatory.hyps)?;
@@ -95,6 +96,13 @@ impl<'a> Assertion<'a> {
         ensures { IfOk result (λ r. r ≡ keeps_apart (numbers_apart (P.place place.now)) (assertion_frame self.now) (bindings_in (assertion_frame self.now) (drop base stack.now))) }
     {
         are_groups_apart(alloc, place, &self.apart, stack, base)
+    }
+
+    /// How long its statement is, with the texts that the entries from `base` on give its variables.
+    pub(crate) fn length(&self, stack: &Stack, base: usize) -> usize
+        requires { length (assertion_frame self.now).hypotheses ≡ length (drop base stack.now) }
+    {
+        filled_length(&self.conclusion, stack, base)
     }
 
     /// Appends its statement, with the texts that the entries from `base` on give its variables.

@@ -25,19 +25,23 @@ impl<'s, 'a> ReadSteps<'s, 'a> {
     ghost use Rattle.mm_verify.specs.Running.{steps_in};
     ghost use Rattle.mm_verify.specs.Reading.{meant, letters_of, ReadsOn};
 
-    /// Nothing is read.
-    pub(crate) fn new(alloc: Global, table: Vec<Citation<'s, 'a>>) -> ReadSteps<'s, 'a>
-        ensures table { result.table ≡ table.entry }
-        ensures steps { result.steps.items ≡ [] }
-        ensures behind { result.behind ≡ Nothing }
-        ensures saved { result.saved ≡ 0 }
+    /// Nothing is read. There is room for this many steps.
+    pub(crate) fn new(
+        alloc: Global,
+        table: Vec<Citation<'s, 'a>>,
+        count: usize,
+    ) -> Result<ReadSteps<'s, 'a>, AllocError>
+        ensures table { IfOk result (λ r. r.table ≡ table.entry) }
+        ensures steps { IfOk result (λ r. r.steps.items ≡ []) }
+        ensures behind { IfOk result (λ r. r.behind ≡ Nothing) }
+        ensures saved { IfOk result (λ r. r.saved ≡ 0) }
     {
-        ReadSteps {
+        Ok(ReadSteps {
             table,
-            steps: Vec::new(alloc),
+            steps: Vec::with_capacity(alloc, count)?,
             behind: Behind::Nothing,
             saved: 0,
-        }
+        })
     }
 
     /// Reads a letter, where it may stand and what it completes stands for a step.

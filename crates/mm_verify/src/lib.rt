@@ -16,6 +16,7 @@ mod counting;
 mod digits;
 mod ends;
 mod filling;
+mod finding;
 mod kept;
 mod known;
 mod letters;

@@ -54,14 +54,14 @@ pub(crate) enum ProofFault {
 
 impl Machine {
     /// Nothing on the stack, and nothing saved.
-    fn new(alloc: Global) -> Machine
-        ensures { saving_of result ≡ saving [] [] }
+    fn new(alloc: Global) -> Result<Machine, AllocError>
+        ensures { IfOk result (λ m. saving_of m ≡ saving [] []) }
     {
-        Machine {
-            stack: Stack::new(alloc),
-            saved: Stack::new(alloc),
+        Ok(Machine {
+            stack: Stack::new(alloc)?,
+            saved: Stack::new(alloc)?,
             buffer: Vec::new(alloc),
-        }
+        })
     }
 
     /// Does a step. Answers whether it fits; where not, nothing changes.
@@ -138,7 +138,7 @@ pub(crate) fn check_steps<P: Place>(
 ) -> Result<Option<ProofFault>, AllocError>
     ensures { IfOk result (λ f. f ≡ steps_fault (P.place place.now) (map step_of steps.now) conclusion.now) }
 {
-    let mut machine = Machine::new(alloc);
+    let mut machine = Machine::new(alloc)?;
     for step in steps {
         if !machine.take(alloc, place, *step)? {
             return Ok(Some(ProofFault::Step));

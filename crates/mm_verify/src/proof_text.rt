@@ -85,6 +85,7 @@ fn cite_all<'s, 'a>(
 ) -> Result<bool, AllocError>
     ensures { IfOk result (λ all. behind_items (map citation_of citations.old.items) (all_cited (held known.now.scopes.now) (words_of bytes.now labels.now)) ≡ (if all then Some (map citation_of citations.new.items) else None)) }
 {
+    citations.reserve(labels.len())?;
     for label in labels {
         match known.cite(label.word(bytes)) {
             None => return Ok(false),
@@ -206,10 +207,19 @@ pub(crate) fn read_letters<'s, 'a>(
 ) -> Result<Option<Vec<Step<'s, 'a>>>, AllocError>
     ensures { IfOk result (λ r. option_map steps_in r ≡ lettered_steps (map citation_of table.entry.items) (letters_of bytes.now tokens.now)) }
 {
-    let mut read = ReadSteps::new(alloc, table);
+    let mut read = ReadSteps::new(alloc, table, count_letters(tokens))?;
     if read.take_words(bytes, tokens)? {
         Ok(read.ended())
     } else {
         Ok(None)
     }
+}
+
+/// How many letters tokens have, which are at least as many as the steps that they stand for.
+fn count_letters(tokens: &[MmToken]) -> usize {
+    let mut count: usize = 0;
+    for token in tokens {
+        count = count.saturating_add(token.to.saturating_sub(token.from));
+    }
+    count
 }

@@ -3,7 +3,7 @@ use Rattle.std.proofs.lemmas.List.{get_or-map, length-map}
 use Rattle.mm_frame.specs.FramesHeld.{hypothesis_held, types_number}
 use Rattle.mm_verify.specs.Places.{first_place}
 use Rattle.mm_verify.proofs.Placing.{place_more}
-use Rattle.mm_verify.proofs.parts.places.Goals as goal
+use Rattle.mm_verify.proofs.finding.place_table.Goals as goal
 
 pub loop-i-preserved : goal.loop-i-preserved
 loop-i-preserved c symbol =
