@@ -3,12 +3,12 @@ ghost use Rattle.std.specs.Prelude.{flat_map};
 ghost use Rattle.mm_verify.specs.Places.{ArePlaced, parts_of};
 ghost use Rattle.mm_verify.specs.Resolved.{hypotheses_of, parts_in};
 
-use crate::spreads::are_groups_apart;
 use crate::checking::are_wanted;
 use crate::filling::{fill, filled_length};
 use crate::finding::find_places;
 use crate::parts::{Part, Wanted, all_wanted, groups_located, located};
 use crate::place::Place;
+use crate::spreads::are_groups_apart;
 use crate::stack::Stack;
 use mm_frame::Frame;
 use std::alloc::{AllocError, Global};

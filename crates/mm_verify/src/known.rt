@@ -45,7 +45,6 @@ impl<'s, 'a> Known<'s, 'a> {
 
 impl Place for Known<'_, '_> {
     ghost use Rattle.mm_frame.specs.StandingLaws.{place_of};
-
     ghost use Rattle.mm_verify.specs.Turned.{in_groups-turned};
 
     ghost place = { λ known. place_of (held known.scopes.now) };

@@ -36,7 +36,13 @@ pub(crate) fn proof_fault<'a>(
     ensures { IfOk result (λ k. k ≡ proof_kind (place_of (held scopes.now)) (frame_held theorem.now.frame).statement (steps_named (held scopes.now) (frame_held theorem.now.frame).hypotheses (words_of bytes.now theorem.now.proof.now))) }
 {
     let known = Known::new(scopes, assertions);
-    match read_proof(alloc, &known, bytes, &theorem.frame.mandatory.hyps, theorem.proof)? {
+    match read_proof(
+        alloc,
+        &known,
+        bytes,
+        &theorem.frame.mandatory.hyps,
+        theorem.proof,
+    )? {
         None => Ok(Some(BAD_PROOF_TEXT)),
         Some(steps) => Ok(kind(check_steps(alloc, &known, &steps, &theorem.frame.statement)?)),
     }

@@ -66,7 +66,10 @@ fn read_normal<'s, 'a>(
 }
 
 /// The steps that only cite.
-fn citing<'s, 'a>(alloc: Global, citations: &[Citation<'s, 'a>]) -> Result<Vec<Step<'s, 'a>>, AllocError>
+fn citing<'s, 'a>(
+    alloc: Global,
+    citations: &[Citation<'s, 'a>],
+) -> Result<Vec<Step<'s, 'a>>, AllocError>
     ensures { IfOk result (λ v. map step_of v.items ≡ citing_all (map citation_of citations.now)) }
 {
     let mut steps = Vec::with_capacity(alloc, citations.len())?;
