@@ -1,0 +1,5 @@
+// The sort check of patterns.
+#![tactic(auto)]
+
+/// Does nothing.
+pub fn placeholder() {}
