@@ -1,0 +1,69 @@
+-- Attributes (Kore language document, "Attributes"; K framework, the attributes that its compiler writes). An attribute
+-- goes by its name alone, whatever sorts and arguments it has, but where its text or its sorts are asked for.
+use Rattle.std.specs.Prelude.{ℕ, Bool, false, ◌||◌, List, [], ◌∷◌, Option, Some, None, option_map, unwrap_or, find, filter_map, if◌then◌else◌, codes}
+use Rattle.std.specs.List.{list_any}
+use Rattle.std.specs.Str.{bytes_eq}
+use Rattle.kore_text.specs.Trees.{SortTree, no_sorts, sort_then, PatternTree, element_variable, set_variable, string, symbol_applied, connected, binding, domain_value, folded, PatternTrees, no_patterns, pattern_then}
+
+-- an attribute of this name
+abbrev pub is_named : List ℕ → PatternTree → Bool
+is_named name (element_variable at n s) = false
+is_named name (set_variable at n s) = false
+is_named name (string at text) = false
+is_named name (symbol_applied at n sorts arguments) = bytes_eq n name
+is_named name (connected at op sorts arguments) = false
+is_named name (binding at binder sorts variable body) = false
+is_named name (domain_value at sort text place) = false
+is_named name (folded at left p) = false
+
+-- some attribute has this name
+abbrev pub has_attribute : List ℕ → List PatternTree → Bool
+has_attribute name attributes = list_any (is_named name) attributes
+
+-- the first attribute of this name: of several it is the one that counts
+abbrev pub first_of_name : List ℕ → List PatternTree → Option PatternTree
+first_of_name name attributes = find (is_named name) attributes
+
+-- the text that is the only argument
+abbrev pub text_argument : PatternTrees → Option (List ℕ)
+text_argument no_patterns = None
+text_argument (pattern_then (string at text) no_patterns) = Some text
+text_argument (pattern_then p ps) = None
+
+-- the text of an attribute whose only argument is a text
+abbrev pub text_of : PatternTree → Option (List ℕ)
+text_of (element_variable at n s) = None
+text_of (set_variable at n s) = None
+text_of (string at text) = None
+text_of (symbol_applied at n sorts arguments) = text_argument arguments
+text_of (connected at op sorts arguments) = None
+text_of (binding at binder sorts variable body) = None
+text_of (domain_value at sort text place) = None
+text_of (folded at left p) = None
+
+-- the name of the hook; the empty text, which names no hook, where the attribute has no text
+abbrev pub hook_of : List PatternTree → Option (List ℕ)
+hook_of attributes = option_map (λ (a : PatternTree). unwrap_or (text_of a) []) (first_of_name (codes "hook") attributes)
+
+-- some attribute says that the symbol is associative, commutative or idempotent, or has a unit
+abbrev pub is_said_ac : List PatternTree → Bool
+is_said_ac attributes =
+    has_attribute (codes "assoc") attributes || has_attribute (codes "comm") attributes
+    || has_attribute (codes "unit") attributes || has_attribute (codes "idem") attributes
+
+-- the two sorts of `subsort{A,B}()`: the lower and the upper one
+abbrev pub subsort_sorts : PatternTree → Option (SortTree × SortTree)
+subsort_sorts (element_variable at n s) = None
+subsort_sorts (set_variable at n s) = None
+subsort_sorts (string at text) = None
+subsort_sorts (symbol_applied at n (sort_then lower (sort_then upper no_sorts)) no_patterns) =
+    if bytes_eq n (codes "subsort") then Some (lower, upper) else None
+subsort_sorts (symbol_applied at n sorts arguments) = None
+subsort_sorts (connected at op sorts arguments) = None
+subsort_sorts (binding at binder sorts variable body) = None
+subsort_sorts (domain_value at sort text place) = None
+subsort_sorts (folded at left p) = None
+
+-- the pairs of sorts that the attributes of an axiom state, in order
+abbrev pub subsort_pairs : List PatternTree → List (SortTree × SortTree)
+subsort_pairs attributes = filter_map subsort_sorts attributes

@@ -1,0 +1,20 @@
+-- What is left of faults that are noted one by one, of which the first is kept.
+use Rattle.std.specs.Prelude.{ℕ, Bool, ◌&&◌, ◌||◌, ◌==◌, List, [], ◌∷◌, Option, Some, None, if◌then◌else◌, nat_lt, nat_le}
+use Rattle.kore_sig.specs.FirstFault.{Fault}
+
+-- the tests of the two orders
+abbrev pub leads_by_byte : Fault → Fault → Bool
+leads_by_byte f g = nat_lt f.byte g.byte || ((f.byte == g.byte) && nat_le f.number g.number)
+
+abbrev pub leads_by_number : Fault → Fault → Bool
+leads_by_number f g = nat_lt f.number g.number || ((f.number == g.number) && nat_le f.byte g.byte)
+
+-- the first of a fault that is kept and another one
+abbrev pub kept : (Fault → Fault → Bool) → Option Fault → Fault → Option Fault
+kept leads None g = Some g
+kept leads (Some f) g = if leads f g then Some f else Some g
+
+-- the first of a fault that is kept and others
+abbrev pub noted : (Fault → Fault → Bool) → Option Fault → List Fault → Option Fault
+noted leads r [] = r
+noted leads r (f ∷ fs) = noted leads (kept leads r f) fs

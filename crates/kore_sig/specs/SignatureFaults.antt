@@ -1,0 +1,128 @@
+-- The faults of the declarations of a definition, and the first of them: first the names of all modules, then the
+-- declarations of the modules that count, then the pairs of sorts. Each of these goes in the order of the file. At one
+-- declaration the smallest number comes first, of one number the first byte.
+use Rattle.std.specs.Prelude.{◌≡◌, ◌==◌, ℕ, Bool, List, [], ◌∷◌, ◌++◌, length, map, flat_map, Contains, ◌⊎◌, Option, Some, None, is_some, if◌then◌else◌, nat_lt}
+use Rattle.kore_text.specs.Trees.{SortTree, ImportDeclaration, SortDeclaration, SymbolDeclaration, Declaration, import_declaration, sort_declaration, symbol_declaration, alias_declaration, axiom_declaration, claim_declaration, ModuleTree, DefinitionTree}
+use Rattle.rule_core.specs.Subsorts.{HasNoCycle}
+use Rattle.rule_core.specs.declared.signature.SortInfo.{SortInfo}
+use Rattle.kore_sig.specs.FirstFault.{Fault, when, unless, ByNumber, IsFirstBy, Then, InOrder}
+use Rattle.kore_sig.specs.CountedModules.{counts, counted}
+use Rattle.kore_sig.specs.Declared.{SubsortPair, pairs_of}
+use Rattle.kore_sig.specs.SortReferences.{sort_entries, sort_reference, sort_number, sort_place}
+use Rattle.kore_sig.specs.SymbolKinds.{is_among}
+
+-- ---- the names of the modules
+
+-- 5 at the keyword of a module: one in front of it has its name
+abbrev pub module_faults : List (List ℕ) → ModuleTree → List Fault
+module_faults names m = when (is_among names m.name) 5 m.at
+
+abbrev pub name_behind : List (List ℕ) → ModuleTree → List (List ℕ)
+name_behind names m = names ++ m.name ∷ []
+
+abbrev pub FirstOfModules : List ModuleTree → Option Fault → Type 0
+FirstOfModules modules r =
+    InOrder (λ names m. IsFirstBy ByNumber (Contains (module_faults names m))) name_behind [] modules r
+
+-- ---- the declarations
+
+-- a declaration, and the names of the modules that stand in front of its own
+pub record Placed : Type 0 where
+  pub earlier : List (List ℕ)
+  pub declaration : Declaration
+
+abbrev pub placed_at : List (List ℕ) → Declaration → Placed
+placed_at names d = record { earlier = names; declaration = d }
+
+-- the declarations of the modules that count, where modules of these names stand in front
+abbrev pub placed : List (List ℕ) → List ModuleTree → List Placed
+placed names [] = []
+placed names (m ∷ later) =
+    (if counts m later (counted later) then map (placed_at names) m.declarations else []) ++ placed (name_behind names m) later
+
+-- the names that are declared in front of a declaration
+pub record Before : Type 0 where
+  pub sorts : List (List ℕ)
+  pub symbols : List (List ℕ)
+
+-- 4 at the keyword: no module in front of this one has the name
+abbrev pub import_faults : List (List ℕ) → ImportDeclaration → List Fault
+import_faults earlier d = unless (is_among earlier d.name) 4 d.at
+
+-- 5 at the keyword: a sort in front of it has the name; 10 at the keyword: it has parameters
+abbrev pub sort_faults : List (List ℕ) → SortDeclaration → List Fault
+sort_faults names d = when (is_among names d.name) 5 d.at ++ unless (length d.params == 0) 10 d.at
+
+-- 6 at the sort's name: it is neither declared nor a parameter, or it has arguments
+abbrev pub reference_faults : List (List ℕ × SortInfo) → List (List ℕ) → SortTree → List Fault
+reference_faults sorts params s = unless (is_some (sort_reference sorts params s)) 6 (sort_place s)
+
+-- the most arguments of a symbol
+abbrev pub most_arguments : ℕ
+most_arguments = 64
+
+-- 5 at the keyword: a symbol in front of it has the name; 6 at the name of a sort; 8 at the keyword: it has too many
+-- arguments
+abbrev pub symbol_faults : List (List ℕ × SortInfo) → List (List ℕ) → SymbolDeclaration → List Fault
+symbol_faults sorts names d =
+    when (is_among names d.name) 5 d.at
+    ++ flat_map (reference_faults sorts d.params) (d.args ++ d.result ∷ [])
+    ++ when (nat_lt most_arguments (length d.args)) 8 d.at
+
+-- the faults of a declaration, where these names stand in front of it
+abbrev pub declaration_faults : List (List ℕ × SortInfo) → Before → List (List ℕ) → Declaration → List Fault
+declaration_faults sorts before earlier (import_declaration d) = import_faults earlier d
+declaration_faults sorts before earlier (sort_declaration d) = sort_faults before.sorts d
+declaration_faults sorts before earlier (symbol_declaration d) = symbol_faults sorts before.symbols d
+declaration_faults sorts before earlier (alias_declaration d) = []
+declaration_faults sorts before earlier (axiom_declaration d) = []
+declaration_faults sorts before earlier (claim_declaration d) = []
+
+-- the names that are declared behind it
+abbrev pub declared_behind : Before → Declaration → Before
+declared_behind before (import_declaration d) = before
+declared_behind before (sort_declaration d) = record before { sorts = before.sorts ++ d.name ∷ [] }
+declared_behind before (symbol_declaration d) = record before { symbols = before.symbols ++ d.name ∷ [] }
+declared_behind before (alias_declaration d) = before
+declared_behind before (axiom_declaration d) = before
+declared_behind before (claim_declaration d) = before
+
+abbrev pub nothing_declared : Before
+nothing_declared = record { sorts = []; symbols = [] }
+
+abbrev pub FirstOfDeclarations : List (List ℕ × SortInfo) → List Placed → Option Fault → Type 0
+FirstOfDeclarations sorts declarations r =
+    InOrder (λ before p. IsFirstBy ByNumber (Contains (declaration_faults sorts before p.earlier p.declaration)))
+    (λ before p. declared_behind before p.declaration) nothing_declared declarations r
+
+-- ---- the pairs of sorts
+
+-- a fault of a pair, where these pairs stand in front of it: 6 at the name of a sort that is not declared or has
+-- arguments, or 24 at the keyword of the axiom, where the pair makes a sort be below itself
+pub data HasPairFault (sorts : List (List ℕ × SortInfo)) (before : List (ℕ × ℕ)) (p : SubsortPair) : Fault → Type 0 where
+  unknown_sort : {f : Fault} → Contains (reference_faults sorts [] p.lower ++ reference_faults sorts [] p.upper) f →
+      HasPairFault sorts before p f
+  cycle : {a b : ℕ} → sort_number sorts p.lower ≡ Some a → sort_number sorts p.upper ≡ Some b →
+      (HasNoCycle (before ++ (a, b) ∷ []) → ⊥) → HasPairFault sorts before p (record { number = 24; byte = p.at })
+
+-- the numbers of the sorts of a pair behind those of the pairs in front of it
+abbrev pub with_numbers : List (ℕ × ℕ) → Option ℕ → Option ℕ → List (ℕ × ℕ)
+with_numbers before None b = before
+with_numbers before (Some a) None = before
+with_numbers before (Some a) (Some b) = before ++ (a, b) ∷ []
+
+abbrev pub pair_behind : List (List ℕ × SortInfo) → List (ℕ × ℕ) → SubsortPair → List (ℕ × ℕ)
+pair_behind sorts before p = with_numbers before (sort_number sorts p.lower) (sort_number sorts p.upper)
+
+abbrev pub FirstOfPairs : List (List ℕ × SortInfo) → List SubsortPair → Option Fault → Type 0
+FirstOfPairs sorts pairs r =
+    InOrder (λ before p. IsFirstBy ByNumber (HasPairFault sorts before p)) (pair_behind sorts) [] pairs r
+
+-- ---- the definition
+
+-- the first fault of the declarations of a definition, or none
+abbrev pub FirstOfSignature : DefinitionTree → Option Fault → Type 0
+FirstOfSignature definition r =
+    Then (FirstOfModules definition.modules)
+    (Then (FirstOfDeclarations (sort_entries definition) (placed [] definition.modules))
+    (FirstOfPairs (sort_entries definition) (pairs_of definition))) r

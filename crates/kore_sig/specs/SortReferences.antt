@@ -1,0 +1,53 @@
+-- Declared sorts: what their hooks say, and which of them a sort in the text is (Kore language document, "Sorts").
+use Rattle.std.specs.Prelude.{ℕ, Bool, List, [], ◌∷◌, Option, Some, None, option_map, map, if◌then◌else◌, codes}
+use Rattle.std.specs.List.{position_from}
+use Rattle.std.specs.Str.{bytes_eq}
+use Rattle.kore_text.specs.Trees.{SortTree, sort_parameter, sort_applied, no_sorts, sort_then, SortDeclaration, DefinitionTree}
+use Rattle.rule_core.specs.Named.{number_of}
+use Rattle.rule_core.specs.declared.signature.SortInfo.{SortInfo}
+use Rattle.rule_core.specs.declared.signature.SortKind.{SortKind}
+use Rattle.rule_core.specs.declared.signature.SortKind.TheVariants as kind
+use Rattle.rule_core.specs.declared.signature.SortRef.{SortRef}
+use Rattle.rule_core.specs.declared.signature.SortRef.TheVariants.{Param, Sort}
+use Rattle.kore_sig.specs.Attributes.{hook_of}
+use Rattle.kore_sig.specs.Declared.{sorts_of}
+
+-- what the name of a sort's hook says of its domain values
+abbrev pub kind_of_hook : Option (List ℕ) → SortKind
+kind_of_hook None = kind.Other
+kind_of_hook (Some name) =
+    if bytes_eq name (codes "INT.Int") then kind.Int
+    else if bytes_eq name (codes "BOOL.Bool") then kind.Bool
+    else if bytes_eq name (codes "MAP.Map") then kind.Map
+    else kind.Other
+
+-- a declared sort: its name, and what its hook says
+abbrev pub sort_entry : SortDeclaration → List ℕ × SortInfo
+sort_entry d = (d.name, record { kind = kind_of_hook (hook_of d.attributes) })
+
+-- the declared sorts of a definition
+abbrev pub sort_entries : DefinitionTree → List (List ℕ × SortInfo)
+sort_entries definition = map sort_entry (sorts_of definition)
+
+-- the place of a sort parameter: that of the first of its name
+abbrev pub parameter_place : List (List ℕ) → List ℕ → Option ℕ
+parameter_place params name = position_from (λ (p : List ℕ). bytes_eq name p) 0 params
+
+-- what a sort means where there are these declared sorts and these sort parameters: one of the parameters, or a
+-- declared sort, which has no arguments
+abbrev pub sort_reference : List (List ℕ × SortInfo) → List (List ℕ) → SortTree → Option SortRef
+sort_reference sorts params (sort_parameter at name) = option_map Param (parameter_place params name)
+sort_reference sorts params (sort_applied at name no_sorts) =
+    option_map (λ (n : ℕ). Sort (record { 0 = n })) (number_of sorts name)
+sort_reference sorts params (sort_applied at name (sort_then s ss)) = None
+
+-- the number of a sort outside a symbol's declaration, where nothing is a parameter
+abbrev pub sort_number : List (List ℕ × SortInfo) → SortTree → Option ℕ
+sort_number sorts (sort_parameter at name) = None
+sort_number sorts (sort_applied at name no_sorts) = number_of sorts name
+sort_number sorts (sort_applied at name (sort_then s ss)) = None
+
+-- the byte of a sort's name
+abbrev pub sort_place : SortTree → ℕ
+sort_place (sort_parameter at name) = at
+sort_place (sort_applied at name ss) = at

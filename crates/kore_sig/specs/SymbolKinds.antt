@@ -1,0 +1,80 @@
+-- What a symbol is used for, and whether it is said to be associative, commutative or the like (K framework,
+-- attributes `sortInjection`, `function`, `constructor`, `assoc`, `comm`, `unit` and `idem`).
+use Rattle.std.specs.Prelude.{ℕ, Bool, false, not, ◌&&◌, ◌||◌, ◌==◌, List, [], ◌∷◌, length, Option, Some, None, option_map, find, filter_map, if◌then◌else◌, codes}
+use Rattle.std.specs.List.{list_any}
+use Rattle.std.specs.Str.{bytes_eq}
+use Rattle.kore_text.specs.Trees.{SortTree, sort_parameter, sort_applied, no_sorts, sort_then, PatternTree, element_variable, set_variable, string, symbol_applied, connected, binding, domain_value, folded, PatternTrees, no_patterns, pattern_then, SymbolDeclaration, AxiomDeclaration, DefinitionTree}
+use Rattle.kore_text.specs.declared.names.Op.{Op}
+use Rattle.kore_text.specs.declared.names.Op.TheVariants.{Equals}
+use Rattle.rule_core.specs.declared.signature.SymKind.{SymKind}
+use Rattle.rule_core.specs.declared.signature.SymKind.TheVariants.{Injection, Ctor, Equations, Closed, NoKind}
+use Rattle.kore_sig.specs.Attributes.{has_attribute, is_said_ac}
+use Rattle.kore_sig.specs.Declared.{symbols_of, axioms_of}
+
+-- the name is one of these
+abbrev pub is_among : List (List ℕ) → List ℕ → Bool
+is_among names name = list_any (bytes_eq name) names
+
+-- the sort is the parameter of this name
+abbrev pub is_parameter : List ℕ → SortTree → Bool
+is_parameter name (sort_parameter at n) = bytes_eq n name
+is_parameter name (sort_applied at n ss) = false
+
+-- two different parameters From and To, one argument of sort From, and the result sort To
+abbrev pub goes_from_to : List (List ℕ) → List SortTree → SortTree → Bool
+goes_from_to (from ∷ (to ∷ [])) (arg ∷ []) result =
+    not (bytes_eq from to) && (is_parameter from arg && is_parameter to result)
+goes_from_to params args result = false
+
+abbrev pub has_injection_form : SymbolDeclaration → Bool
+has_injection_form d =
+    has_attribute (codes "sortInjection") d.attributes && goes_from_to d.params d.args d.result
+
+-- the name of the injection symbol: the first symbol of that form
+abbrev pub injection_of : List SymbolDeclaration → Option (List ℕ)
+injection_of symbols = option_map (λ (d : SymbolDeclaration). d.name) (find has_injection_form symbols)
+
+-- this is the name, where there is one
+abbrev pub is_named_so : Option (List ℕ) → List ℕ → Bool
+is_named_so None name = false
+is_named_so (Some n) name = bytes_eq n name
+
+-- a function with sort parameters is not evaluated
+abbrev pub function_kind : SymbolDeclaration → SymKind
+function_kind d = if length d.params == 0 then Equations else Closed
+
+-- the kind of a symbol, where the injection symbol has this name: the first kind that fits. Whether a hook gives a
+-- function's values is not looked at here.
+abbrev pub kind_of : Option (List ℕ) → SymbolDeclaration → SymKind
+kind_of injection d =
+    if is_named_so injection d.name then Injection
+    else if has_attribute (codes "function") d.attributes then function_kind d
+    else if has_attribute (codes "constructor") d.attributes && (length d.params == 0) then Ctor
+    else NoKind
+
+-- the symbol f of `\equals{S,R}(f{}(..),..)`
+abbrev pub equated_head : Op → PatternTrees → Option (List ℕ)
+equated_head Equals (pattern_then (symbol_applied at f no_sorts args) ps) = Some f
+equated_head op ps = None
+
+abbrev pub equated_symbol : PatternTree → Option (List ℕ)
+equated_symbol (element_variable at n s) = None
+equated_symbol (set_variable at n s) = None
+equated_symbol (string at text) = None
+equated_symbol (symbol_applied at n sorts args) = None
+equated_symbol (connected at op sorts args) = equated_head op args
+equated_symbol (binding at binder sorts variable body) = None
+equated_symbol (domain_value at sort text place) = None
+equated_symbol (folded at left p) = None
+
+-- the symbol that an axiom says to be associative, commutative or the like
+abbrev pub said_ac : AxiomDeclaration → Option (List ℕ)
+said_ac stated = if is_said_ac stated.attributes then equated_symbol stated.pattern else None
+
+-- the symbols that axioms say so of
+abbrev pub ac_names : DefinitionTree → List (List ℕ)
+ac_names definition = filter_map said_ac (axioms_of definition)
+
+-- the symbol is said so by its own attributes or by an axiom
+abbrev pub is_ac : List (List ℕ) → SymbolDeclaration → Bool
+is_ac by_axiom d = is_said_ac d.attributes || is_among by_axiom d.name
