@@ -1,2 +1,0 @@
--- Believed: what public clauses say, and believed definitions of other crates.
-pub mod Folds

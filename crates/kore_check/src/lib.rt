@@ -1,5 +1,0 @@
-// The sort check of patterns.
-#![tactic(auto)]
-
-/// Does nothing.
-pub fn placeholder() {}
