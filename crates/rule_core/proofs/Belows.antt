@@ -2,8 +2,8 @@
 use Rattle.std.proofs.Common.{◌≡◌, ℕ, zero, suc, ◌⊎◌, ◌↔◌, inl, inr, eq-eqb, Bool, true, false, List, [], ◌∷◌, ◌++◌, Contains, refl, sym, ◌∙◌, ap, subst, arith}
 use Rattle.std.specs.Prelude.{◌&&◌, ◌||◌, ◌==◌, IsTrue}
 use Rattle.std.proofs.lemmas.Bool.{eqb-true, false≢true}
-use Rattle.rule_core.specs.Subsorts.{IsBelow, by_pair, by_chain, HasNoCycle}
-use Rattle.rule_core.specs.MatchSteps.{is_below}
+use Rattle.rule_core.specs.Subsorts.{IsBelow, by_pair, by_chain, HasNoCycle, is_below}
+use Rattle.rule_core.specs.SubsortLaws.{BelowIsTested}
 
 -- two tests of which one holds, or both
 pub either_true : (a b : Bool) → (a || b) ≡ true → (a ≡ true) ⊎ (b ≡ true)
@@ -188,3 +188,6 @@ no_loop pairs a b none below = unless (a == b) refl where
   unless false e = e
   unless true e =
       let P : ℕ → Type 0 = λ x. IsBelow pairs x b in absurd (none b (subst P (eqb-true a b e) below))
+
+pub below_is_tested : BelowIsTested
+below_is_tested pairs a b = (is_below-true pairs a b, true-is_below pairs a b)

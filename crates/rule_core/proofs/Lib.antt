@@ -1,6 +1,8 @@
 pub mod SortSets
 pub mod Tables
 pub mod Belows
+pub mod Paths
+pub mod AcSymbols
 pub mod Bindings
 pub mod SortedInstances
 pub mod MatchFound

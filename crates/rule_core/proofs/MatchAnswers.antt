@@ -14,7 +14,8 @@ use Rattle.term_core.specs.declared.rule_patterns.RulePat.{RulePat}
 use Rattle.term_core.proofs.TreeTests.{Decides-tree_eq}
 use Rattle.rule_core.specs.Matching.{StandsIn, StandsInSome}
 use Rattle.rule_core.specs.MatchSearch.{nodes, all_nodes}
-use Rattle.rule_core.specs.MatchSteps.{is_below, lowered, bound_to, matched, all_matched, Answers}
+use Rattle.rule_core.specs.MatchSteps.{lowered, bound_to, matched, all_matched, Answers}
+use Rattle.rule_core.specs.Subsorts.{is_below}
 
 -- a test that fails answers false
 pub test_fails : (t u : Tree) → (t ≡ u → ⊥) → tree_eq t u ≡ false

@@ -13,7 +13,8 @@ use Rattle.term_core.proofs.TreeTests.{Decides-tree_eq}
 use Rattle.rule_core.specs.Sorting.{HasSort, HaveSorts, IsTermOf, IsSymbol, HasInjection}
 use Rattle.rule_core.specs.Matching.{StandsIn, StandsInSome, RespectsSorts}
 use Rattle.rule_core.specs.MatchLaws.{AreTermsOf}
-use Rattle.rule_core.specs.MatchSteps.{is_below, lowered, bound_to, matched, all_matched}
+use Rattle.rule_core.specs.MatchSteps.{lowered, bound_to, matched, all_matched}
+use Rattle.rule_core.specs.Subsorts.{is_below}
 use Rattle.rule_core.specs.declared.signature.Signature.{Signature}
 use Rattle.rule_core.specs.declared.signature.SymInfo.{SymInfo}
 use Rattle.rule_core.specs.declared.signature.SortRef.{SortRef}

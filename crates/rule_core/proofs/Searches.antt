@@ -12,10 +12,10 @@ moved pairs more count number ps ts found is len e = rw (is, len) e
 
 pub search_found : (pairs : List (ℕ × ℕ)) (count : ℕ) (ps : Patterns) (ts : Forest) (theta : List (Option Tree)) → AreNormal ts → all_matched pairs ps ts (replicate count None) ≡ Some theta → FindsMatch pairs count ps ts (Some theta)
 search_found pairs count ps ts theta normal e =
-    λ sig variables sorts refs is none len h sorted. found_matches sig variables sorts ps refs ts theta h sorted normal (moved pairs sig.subsorts count (length variables) ps ts (Some theta) is len e)
+    λ sig variables sorts refs is len h sorted. found_matches sig variables sorts ps refs ts theta h sorted normal (moved pairs sig.subsorts count (length variables) ps ts (Some theta) is len e)
 
-pub search_failed : (pairs : List (ℕ × ℕ)) (count : ℕ) (ps : Patterns) (ts : Forest) → all_matched pairs ps ts (replicate count None) ≡ None → FindsMatch pairs count ps ts None
-search_failed pairs count ps ts e = λ sig variables sorts refs is none len h sorted.
+pub search_failed : (pairs : List (ℕ × ℕ)) (count : ℕ) (ps : Patterns) (ts : Forest) → HasNoCycle pairs → all_matched pairs ps ts (replicate count None) ≡ None → FindsMatch pairs count ps ts None
+search_failed pairs count ps ts none e = λ sig variables sorts refs is len h sorted.
     let P : List (ℕ × ℕ) → Type 0 = HasNoCycle in
     none_found sig variables sorts ps refs ts (subst P (sym is) none) h (moved pairs sig.subsorts count (length variables) ps ts None is len e)
 

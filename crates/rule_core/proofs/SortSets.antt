@@ -3,7 +3,7 @@ use Rattle.std.proofs.Common.{◌≡◌, ◌≢◌, ℕ, zero, suc, ◌+◌, ◌
 use Rattle.std.proofs.Math.ListN.{set, get_or}
 use Rattle.std.specs.Prelude.{Vec, IsTrue, ◌==◌, ◌||◌, ◌&&◌}
 use Rattle.std.proofs.lemmas.Bool.{false≢true, eqb-true}
-use Rattle.rule_core.specs.MatchSteps.{is_below}
+use Rattle.rule_core.specs.Subsorts.{is_below}
 use Rattle.rule_core.proofs.Belows.{either_true, true_left, true_right, contains_later, contains_cases, first_last, last_first, below_last}
 use Rattle.std.specs.Global.{Global}
 use Rattle.rule_core.specs.SubsortFields.{has, set_at, is_in, reaches}

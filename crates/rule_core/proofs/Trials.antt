@@ -5,7 +5,6 @@ use Rattle.std.proofs.lemmas.Option.{slice_get-map, slice_get_read, slice_get_wi
 use Rattle.term_core.specs.Terms.{Tree, no_tree, more_trees}
 use Rattle.term_core.specs.Patterns.{no_pattern, more_patterns}
 use Rattle.rule_core.specs.Rules.{RewriteRule}
-use Rattle.rule_core.specs.Subsorts.{HasNoCycle}
 use Rattle.rule_core.specs.Sorting.{IsTermOf}
 use Rattle.rule_core.specs.WellSorted.{IsRuleOf}
 use Rattle.rule_core.specs.Matching.{NoneMatches, MatchAll}
@@ -19,7 +18,7 @@ use Rattle.rule_core.specs.declared.signature.SortRef.TheVariants.{Sort}
 -- no rule that was tried so far matches
 abbrev pub NoneSoFar : List (ℕ × ℕ) → List RewriteRule → ℕ → ℕ → Tree → Type 0
 NoneSoFar pairs rules from to t =
-    (sig : Signature) (sort : ℕ) → sig.subsorts ≡ pairs → HasNoCycle pairs → All (IsRuleOf sig sort) rules → IsTermOf sig t sort → NoRuleMatches sig rules from to t
+    (sig : Signature) (sort : ℕ) → sig.subsorts ≡ pairs → All (IsRuleOf sig sort) rules → IsTermOf sig t sort → NoRuleMatches sig rules from to t
 
 -- the plain rule at a place
 pub rule_at : (rules : List Rule) (i : ℕ) (r : Rule) → i < length rules → r ≡ get_or rules i r → slice_get (rewrite_rules rules) i ≡ Some (rewrite_rule r)
@@ -35,9 +34,9 @@ pub all_at : (P : RewriteRule → Type 0) (rules : List RewriteRule) (i : ℕ) (
 all_at P rules i r all there = subst P (get_at rules i r r there) (all i r (slice_get_within rules i r there))
 
 -- what a search at one rule says of it
-searched : (sig : Signature) (pairs : List (ℕ × ℕ)) (sort count : ℕ) (r : RewriteRule) (t : Tree) (found : Option (List (Option Tree))) → FindsMatch pairs count (more_patterns r.left no_pattern) (more_trees t no_tree) found → length r.variables ≡ count → sig.subsorts ≡ pairs → HasNoCycle pairs → IsRuleOf sig sort r → IsTermOf sig t sort → MatchOption found (NoneMatches sig r.variables (more_patterns r.left no_pattern) (more_trees t no_tree)) (MatchAll sig r.variables (more_patterns r.left no_pattern) (more_trees t no_tree))
-searched sig pairs sort count r t found finds len is none rule sorted =
-    finds sig r.variables [] (Sort (record { 0 = sort }) ∷ []) is none len (sort, refl, rule.left, tt) (sort, refl, sorted, tt)
+searched : (sig : Signature) (pairs : List (ℕ × ℕ)) (sort count : ℕ) (r : RewriteRule) (t : Tree) (found : Option (List (Option Tree))) → FindsMatch pairs count (more_patterns r.left no_pattern) (more_trees t no_tree) found → length r.variables ≡ count → sig.subsorts ≡ pairs → IsRuleOf sig sort r → IsTermOf sig t sort → MatchOption found (NoneMatches sig r.variables (more_patterns r.left no_pattern) (more_trees t no_tree)) (MatchAll sig r.variables (more_patterns r.left no_pattern) (more_trees t no_tree))
+searched sig pairs sort count r t found finds len is rule sorted =
+    finds sig r.variables [] (Sort (record { 0 = sort }) ∷ []) is len (sort, refl, rule.left, tt) (sort, refl, sorted, tt)
 
 below_or_at : (j i : ℕ) → j < i + 1 → (j < i) ⊎ (j ≡ i)
 below_or_at j i h = grind arith
@@ -52,16 +51,16 @@ one_more sig rules from i t r j rule before there last low at (inr same) =
 -- a trial goes on behind a rule that does not match
 pub NoneSoFar-more : (pairs : List (ℕ × ℕ)) (rules : List RewriteRule) (from i count : ℕ) (t : Tree) (r : RewriteRule) → NoneSoFar pairs rules from i t → slice_get rules i ≡ Some r → length r.variables ≡ count → FindsMatch pairs count (more_patterns r.left no_pattern) (more_trees t no_tree) None → NoneSoFar pairs rules from (i + 1) t
 NoneSoFar-more pairs rules from i count t r before there len finds =
-    λ sig sort is none all sorted j rule low high at.
+    λ sig sort is all sorted j rule low high at.
     let rule_sorted : IsRuleOf sig sort r = all_at (IsRuleOf sig sort) rules i r all there in
-    one_more sig rules from i t r j rule (before sig sort is none all sorted) there (searched sig pairs sort count r t None finds len is none rule_sorted sorted) low at (below_or_at j i high)
+    one_more sig rules from i t r j rule (before sig sort is all sorted) there (searched sig pairs sort count r t None finds len is rule_sorted sorted) low at (below_or_at j i high)
 
 -- .. and ends at one that does
 pub found_first : (pairs : List (ℕ × ℕ)) (rules : List RewriteRule) (from i count : ℕ) (t : Tree) (r : RewriteRule) (theta : List (Option Tree)) → from ≤ i → NoneSoFar pairs rules from i t → slice_get rules i ≡ Some r → length r.variables ≡ count → FindsMatch pairs count (more_patterns r.left no_pattern) (more_trees t no_tree) (Some theta) → FindsFirstMatch pairs rules from t (Some (i, theta))
-found_first pairs rules from i count t r theta low before there len finds = λ sig sort is none all sorted. record {
+found_first pairs rules from i count t r theta low before there len finds = λ sig sort is all sorted. record {
   rule = r;
   there = there;
   not_before = low;
-  matches = searched sig pairs sort count r t (Some theta) finds len is none (all_at (IsRuleOf sig sort) rules i r all there) sorted;
-  earlier = before sig sort is none all sorted;
+  matches = searched sig pairs sort count r t (Some theta) finds len is (all_at (IsRuleOf sig sort) rules i r all there) sorted;
+  earlier = before sig sort is all sorted;
 }

@@ -18,6 +18,7 @@ pub mod RecordView
 pub mod RuleVariables
 pub mod Trial
 -- Laws: what follows from that. Each is a clause of a function that does nothing.
+pub mod SubsortLaws
 pub mod MatchLaws
 pub mod EvaluationLaws
 pub mod EvaluationCases

@@ -3,7 +3,6 @@
 use Rattle.std.specs.Prelude.{◌≡◌, ◌+◌, ℕ, List, [], length, Option, MatchOption}
 use Rattle.term_core.specs.Terms.{Tree, Forest}
 use Rattle.term_core.specs.Patterns.{Pattern, Patterns, variable, domain_value, application, injection, call, no_pattern, more_patterns, ground_patterns}
-use Rattle.rule_core.specs.Subsorts.{HasNoCycle}
 use Rattle.rule_core.specs.Sorting.{HaveSorts}
 use Rattle.rule_core.specs.Matching.{MatchAll, NoneMatches}
 use Rattle.rule_core.specs.declared.signature.Signature.{Signature}
@@ -13,7 +12,7 @@ use Rattle.rule_core.specs.declared.signature.SortRef.{SortRef}
 -- have the same ones: the substitution that was found matches, and none does where none was found.
 abbrev pub FindsMatch : List (ℕ × ℕ) → ℕ → Patterns → Forest → Option (List (Option Tree)) → Type 0
 FindsMatch pairs count ps ts found =
-    (sig : Signature) (variables sorts : List ℕ) (refs : List SortRef) → sig.subsorts ≡ pairs → HasNoCycle pairs →
+    (sig : Signature) (variables sorts : List ℕ) (refs : List SortRef) → sig.subsorts ≡ pairs →
     length variables ≡ count → HaveSorts sig variables sorts ps refs →
     HaveSorts sig [] sorts (ground_patterns ts) refs →
     MatchOption found (NoneMatches sig variables ps ts) (MatchAll sig variables ps ts)

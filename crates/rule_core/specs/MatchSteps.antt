@@ -1,16 +1,10 @@
 -- Matching as private functions do it: they take the term apart, and bind variables on top of what is bound.
 use Rattle.std.specs.Prelude.{◌≡◌, ◌==◌, ◌&&◌, ◌||◌, if◌then◌else◌, ℕ, Bool, true, false, List, [], ◌∷◌, slice_set, Option, Some, None}
 use Rattle.std.specs.Option.{option_and_then}
+use Rattle.rule_core.specs.Subsorts.{is_below}
 use Rattle.term_core.specs.Terms.{Tree, leaf, node, inj, Forest, no_tree, more_trees}
 use Rattle.term_core.specs.TreeTest.{tree_eq}
 use Rattle.term_core.specs.Patterns.{Pattern, Patterns, variable, domain_value, application, injection, call, no_pattern, more_patterns, binding}
-
--- Whether a chain of the pairs leads from the one sort to the other: one that does not need the first pair, or one that
--- needs it once.
-abbrev pub is_below : List (ℕ × ℕ) → ℕ → ℕ → Bool
-is_below [] a b = false
-is_below (pair ∷ pairs) a b =
-    is_below pairs a b || ((a == pair.0 || is_below pairs a pair.0) && (pair.1 == b || is_below pairs pair.1 b))
 
 -- what stands for a variable of the sort b under an injection, where the term injects this tree from the sort a
 abbrev pub lowered : ℕ → ℕ → Tree → Tree

@@ -42,6 +42,14 @@ HasValue sig s v = (name : List ℕ) × (info : SortInfo) × (slice_get sig.sort
 abbrev pub IsSymbol : Signature → ℕ → SymInfo → Type 0
 IsSymbol sig f info = (name : List ℕ) × (slice_get sig.symbols f ≡ Some (name, info))
 
+-- the symbol with this number is a constructor that is associative, commutative or idempotent, or has a unit
+abbrev pub IsAcConstructor : Signature → ℕ → Type 0
+IsAcConstructor sig f = (info : SymInfo) × IsSymbol sig f info × (info.kind ≡ Ctor) × IsTrue info.ac
+
+-- no symbol is such a constructor
+abbrev pub IsAcFree : Signature → Type 0
+IsAcFree sig = (f : ℕ) → IsAcConstructor sig f → ⊥
+
 -- what a function is evaluated by, or that nothing gives its values
 abbrev pub IsFunction : SymKind → Type 0
 IsFunction Injection = ⊥

@@ -2,8 +2,7 @@
 use Rattle.std.specs.Prelude.{◌≡◌, ◌↔◌, ◌==◌, ◌||◌, ℕ, Bool, false, IsTrue, List, Vec, [], map, Contains, slice_index_or}
 use Rattle.std.specs.Global.{Global}
 use Rattle.term_core.specs.declared.ids.SortId.{SortId}
-use Rattle.rule_core.specs.Subsorts.{HasNoCycle}
-use Rattle.rule_core.specs.MatchSteps.{is_below}
+use Rattle.rule_core.specs.Subsorts.{HasNoCycle, is_below}
 use Rattle.rule_core.specs.declared.subsorts.Subsorts.TheInside.{Inside}
 
 -- pairs of sorts, by number

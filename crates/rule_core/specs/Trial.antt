@@ -3,7 +3,6 @@ use Rattle.std.specs.Prelude.{◌≡◌, ℕ, ◌<◌, ◌≤◌, List, length, 
 use Rattle.term_core.specs.Terms.{Tree, no_tree, more_trees}
 use Rattle.term_core.specs.Patterns.{no_pattern, more_patterns}
 use Rattle.rule_core.specs.Rules.{RewriteRule}
-use Rattle.rule_core.specs.Subsorts.{HasNoCycle}
 use Rattle.rule_core.specs.Sorting.{IsTermOf}
 use Rattle.rule_core.specs.WellSorted.{IsRuleOf}
 use Rattle.rule_core.specs.Matching.{MatchesTerm, NoneMatches}
@@ -27,6 +26,6 @@ pub record IsFirstMatch (sig : Signature) (rules : List RewriteRule) (from : ℕ
 -- sort.
 abbrev pub FindsFirstMatch : List (ℕ × ℕ) → List RewriteRule → ℕ → Tree → Option (ℕ × List (Option Tree)) → Type 0
 FindsFirstMatch pairs rules from t found =
-    (sig : Signature) (sort : ℕ) → sig.subsorts ≡ pairs → HasNoCycle pairs → All (IsRuleOf sig sort) rules →
+    (sig : Signature) (sort : ℕ) → sig.subsorts ≡ pairs → All (IsRuleOf sig sort) rules →
     IsTermOf sig t sort →
     MatchOption found (NoRuleMatches sig rules from (length rules) t) (λ hit. IsFirstMatch sig rules from t hit.0 hit.1)

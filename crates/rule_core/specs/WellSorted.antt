@@ -13,7 +13,7 @@ use Rattle.rule_core.specs.declared.signature.Signature.{Signature}
 use Rattle.rule_core.specs.declared.signature.SortInfo.{SortInfo}
 use Rattle.rule_core.specs.declared.signature.SortKind.TheVariants as kind
 use Rattle.rule_core.specs.declared.signature.SymInfo.{SymInfo}
-use Rattle.rule_core.specs.declared.signature.SymKind.TheVariants.{Ctor, Equations, Hooked}
+use Rattle.rule_core.specs.declared.signature.SymKind.TheVariants.{Injection, Ctor, Equations, Hooked}
 use Rattle.rule_core.specs.declared.signature.SortRef.{SortRef}
 use Rattle.rule_core.specs.declared.signature.SortRef.TheVariants.{Param, Sort}
 
@@ -40,12 +40,20 @@ pub record IsDeclaration (sig : Signature) (info : SymInfo) : Type 0 where
   pub arguments : All (IsReference sig info.params) info.args.items
   pub result : IsReference sig info.params info.result
 
+-- the declaration of the injection goes from its first sort parameter to its second: `inj{From,To}(From) : To`
+pub record IsInjectionDeclaration (info : SymInfo) : Type 0 where
+  pub parameters : info.params ≡ 2
+  pub argument : info.args.items ≡ Param 0 ∷ []
+  pub result : info.result ≡ Param 1
+
 -- a pair of declared sorts
 abbrev pub IsPair : Signature → ℕ × ℕ → Type 0
 IsPair sig pair = (pair.0 < length sig.sorts) × (pair.1 < length sig.sorts)
 
 pub record IsSignature (sig : Signature) : Type 0 where
   pub declared : (f : ℕ) (info : SymInfo) → IsSymbol sig f info → IsDeclaration sig info
+  pub injections : (f : ℕ) (info : SymInfo) → IsSymbol sig f info → info.kind ≡ Injection → IsInjectionDeclaration info
+  pub constructors : (f : ℕ) (info : SymInfo) → IsSymbol sig f info → info.kind ≡ Ctor → info.params ≡ 0
   pub pairs : All (IsPair sig) sig.subsorts
   pub no_cycle : HasNoCycle sig.subsorts
 
@@ -138,6 +146,6 @@ pub record Serves (sig : Signature) (variables : List ℕ) (theta : List (Option
   pub sorted : RespectsSorts sig variables theta
   pub low : (x : ℕ) (t : Tree) → binding theta x ≡ Some t → height t ≤ most_height
 
--- the initial term of a run: it has a sort, and no variable
-abbrev pub IsStart : Signature → Pattern → Type 0
-IsStart sig start = (sort : ℕ) × HasSort sig [] start sort
+-- the initial term of a run: it has no variable, and a sort, which is that of the rules
+abbrev pub IsStart : RewriteTheory → Pattern → Type 0
+IsStart theory start = (sort : ℕ) × HasSort theory.sig [] start sort × All (IsRuleOf theory.sig sort) theory.rules

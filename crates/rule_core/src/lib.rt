@@ -24,7 +24,7 @@ mod tests;
 mod trial;
 
 pub use evaluation::{evaluation_laws, record_laws, run_laws, tried};
-pub use laws::{match_laws, trial_laws};
+pub use laws::{match_laws, subsort_laws, trial_laws};
 pub use matching::{find_match, find_match_all};
 pub use records::{EqRecord, EvalRecord, StepRecord};
 pub use rules::{Blocked, Equation, Outcome, Program, Rule, VarInfo};

@@ -6,7 +6,8 @@ ghost use Rattle.term_core.specs.RulePatterns.{plain_pattern};
 ghost use Rattle.term_core.specs.PatternLists.{plain_patterns};
 ghost use Rattle.rule_core.specs.Matching.{StandsIn, UseFirst};
 ghost use Rattle.rule_core.specs.MatchSearch.{FindsMatch, nodes, all_nodes};
-ghost use Rattle.rule_core.specs.MatchSteps.{is_below, lowered, bound_to, matched, all_matched, Answers};
+ghost use Rattle.rule_core.specs.MatchSteps.{lowered, bound_to, matched, all_matched, Answers};
+ghost use Rattle.rule_core.specs.Subsorts.{is_below};
 
 use crate::Subsorts;
 use std::alloc::{AllocError, Global};
@@ -29,8 +30,9 @@ pub fn find_match<L: Ledger>(
     ensures found { IfOk result (FindsMatch subsorts.now vars (more_patterns (plain_pattern pat.now) no_pattern) (more_trees term.now no_tree)) }
     ensures looks { steps.new ≤ steps.old + nodes (plain_pattern pat.now) }
 {
-    // A term is normal.
+    // A term is normal, and no sort is below itself.
     let _high = term.height();
+    subsorts.has_no_cycle();
     let mut subst = Subst::new(alloc, vars)?;
     if match_term(alloc, subsorts, pat, term, &mut subst, steps)? {
         Ok(Some(subst))
@@ -53,8 +55,9 @@ pub fn find_match_all<L: Ledger>(
     ensures found { IfOk result (FindsMatch subsorts.now vars (plain_patterns pats.now) (forest terms.now)) }
     ensures looks { steps.new ≤ steps.old + all_nodes (plain_patterns pats.now) }
 {
-    // Terms are normal.
+    // Terms are normal, and no sort is below itself.
     let _high = Term::highest(terms);
+    subsorts.has_no_cycle();
     let mut subst = Subst::new(alloc, vars)?;
     for i in 0..pats.len() {
         if !match_term(alloc, subsorts, &pats[i], &terms[i], &mut subst, steps)? {

@@ -1,4 +1,6 @@
 // The signature of a definition: its sorts and symbols.
+ghost use Rattle.std.specs.Prelude.{◌↔◌, IsTrue};
+
 use crate::{Subsorts, Table};
 use term_core::{HookNo, SortId};
 
@@ -74,4 +76,31 @@ pub struct Signature {
     pub symbols: Table<SymInfo>,
     /// Which sorts are below which.
     pub subsorts: Subsorts,
+}
+
+impl Signature {
+    ghost use Rattle.rule_core.specs.Sorting.{IsAcConstructor, IsAcFree};
+
+    /// Whether no constructor is associative, commutative or idempotent, or has a unit. It looks at each symbol at most
+    /// once.
+    pub fn ac_free(&self) -> bool
+        ensures { IsTrue result ↔ IsAcFree self.now }
+    {
+        for number in 0..self.symbols.len() {
+            if self.is_ac_constructor(number) {
+                return false;
+            }
+        }
+        true
+    }
+
+    // Whether the symbol with this number is such a constructor.
+    fn is_ac_constructor(&self, number: usize) -> bool
+        ensures { IsTrue result ↔ IsAcConstructor self.now number }
+    {
+        match self.symbols.value(number) {
+            None => false,
+            Some(symbol) => symbol.kind == SymKind::Ctor && symbol.ac,
+        }
+    }
 }

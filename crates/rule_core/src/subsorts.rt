@@ -1,6 +1,7 @@
 // The order of a definition's sorts.
-ghost use Rattle.std.specs.Prelude.{◌≡◌, ◌↔◌, ◌++◌, ◌∷◌, IsTrue, [], Contains, IfOk, OnErr, if◌then◌else◌};
-ghost use Rattle.rule_core.specs.Subsorts.{IsBelow, HasNoCycle};
+ghost use Rattle.std.specs.Prelude.{◌≡◌, ◌↔◌, ◌⊎◌, ◌++◌, ◌∷◌, IsTrue, [], Contains, IsSome, IfSome, IfOk, OnErr, if◌then◌else◌};
+ghost use Rattle.term_core.specs.RulePatterns.{sort_numbers};
+ghost use Rattle.rule_core.specs.Subsorts.{IsBelow, HasNoCycle, IsPath};
 
 use crate::sort_sets::{grow, is_in, merge, set_of, widen, with_sort};
 use std::alloc::{AllocError, Global};
@@ -56,6 +57,61 @@ impl Subsorts {
         ensures { IsTrue result ↔ Contains self.now (a.0, b.0) }
     {
         is_in(&self.direct, a, b)
+    }
+
+    /// Does nothing when it runs: a caller learns by it that no sort is below itself.
+    pub fn has_no_cycle(&self)
+        ensures { HasNoCycle self.now }
+    {
+        let _pairs = &self.pairs;
+    }
+
+    /// The sorts of a chain of pairs from a sort to another, both of them included: none exactly where the first is not
+    /// below the second. `AllocError` says that there was no memory for the chain. For each of its sorts it looks at
+    /// each pair at most once.
+    pub fn path(
+        &self,
+        alloc: Global,
+        a: SortId,
+        b: SortId,
+    ) -> Result<Option<Vec<SortId>>, AllocError>
+        ensures below { IfOk result (λ found. IsSome found ↔ IsBelow self.now a.0 b.0) }
+        ensures chain { IfOk result (λ found. IfSome found (λ sorts. IsPath self.now a.0 b.0 (sort_numbers sorts.items))) }
+    {
+        if !self.below(a, b) {
+            return Ok(None);
+        }
+        // So the walk ends.
+        self.has_no_cycle();
+        let mut sorts = vec![in alloc; a]?;
+        let mut last = a;
+        'walk: while last != b {
+            last = self.next_towards(last, b);
+            sorts.push(last)?;
+        }
+        Ok(Some(sorts))
+    }
+
+    // The upper sort of the first pair that leads from the sort to `b` or to a sort below it.
+    fn next_towards(&self, from: SortId, b: SortId) -> SortId
+        requires { IsBelow self.now from.0 b.0 }
+        ensures pair { Contains self.now (from.0, result.0) }
+        ensures leads { (result.0 ≡ b.0) ⊎ IsBelow self.now result.0 b.0 }
+    {
+        for i in 0..self.pairs.len() {
+            let (lower, upper) = self.pairs[i];
+            if lower == from && self.reaches(upper, b) {
+                return upper;
+            }
+        }
+        unreachable!()
+    }
+
+    // Whether the first sort is the second, or below it.
+    fn reaches(&self, a: SortId, b: SortId) -> bool
+        ensures { IsTrue result ↔ ((a.0 ≡ b.0) ⊎ IsBelow self.now a.0 b.0) }
+    {
+        a == b || self.below(a, b)
     }
 
     /// Adds a pair and answers true. Where a sort would then be below itself, it answers false and changes nothing.

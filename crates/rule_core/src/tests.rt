@@ -259,6 +259,30 @@ fn makes_a_signature(rt: HostRuntime) -> Result<(), Fail> {
     Ok(())
 }
 
+// A function may be commutative, a constructor may not.
+#[test]
+fn looks_for_constructors_that_are_commutative(rt: HostRuntime) -> Result<(), Fail> {
+    let alloc = rt.alloc();
+    let mut sig = small_signature(alloc)?;
+    for (name, kind, ac_free) in [
+        ("sum", SymKind::Closed, true),
+        ("bag", SymKind::Ctor, false),
+        ("list", SymKind::Injection, false),
+    ] {
+        let symbol = SymInfo {
+            kind,
+            params: 0,
+            args: Vec::new(alloc),
+            result: SortRef::Sort(EXP),
+            hook: None,
+            ac: true,
+        };
+        sig.symbols.insert(String::from_str(alloc, name)?, symbol)?;
+        assert_eq!(rt; sig.ac_free(), ac_free, "with {name}");
+    }
+    Ok(())
+}
+
 // The ends of a chain are in order without a pair of their own, and no pair closes the chain.
 #[test]
 fn sorts_stand_in_chains(rt: HostRuntime) -> Result<(), Fail> {
@@ -273,5 +297,11 @@ fn sorts_stand_in_chains(rt: HostRuntime) -> Result<(), Fail> {
     assert!(rt; !subsorts.add(alloc, high, low)?);
     assert!(rt; !subsorts.add(alloc, low, low)?);
     assert!(rt; subsorts.pair(low, middle));
+    let path = subsorts.path(alloc, low, high)?.ok_or("no path")?;
+    assert_eq!(rt; path.as_slice(), [low, middle, high].as_slice());
+    let step = subsorts.path(alloc, low, middle)?.ok_or("no step")?;
+    assert_eq!(rt; step.as_slice(), [low, middle].as_slice());
+    assert!(rt; subsorts.path(alloc, high, low)?.is_none());
+    assert!(rt; subsorts.path(alloc, low, low)?.is_none());
     Ok(())
 }

@@ -7,7 +7,7 @@ use Rattle.term_core.specs.PatternLists.{plain_patterns}
 use Rattle.term_core.proofs.PatternLaws.{depth, depths, depth_of-item}
 use Rattle.term_core.proofs.PlainPatterns.{plain-Var, plain-Ctor, plain-Inj}
 use Rattle.rule_core.specs.Matching.{StandsIn}
-use Rattle.rule_core.specs.MatchSteps.{is_below}
+use Rattle.rule_core.specs.Subsorts.{is_below}
 use Rattle.rule_core.proofs.Belows.{below_answer}
 use Rattle.rule_core.proofs.MatchAnswers.{stands_of-item, answer_none, answer_some, rest_goes_on, rest_fails, other_arguments, all_nodes-drop, child_is, child_is_low, child_is_other, lowered_found, lowered_none}
 use Rattle.rule_core.proofs.matching.+matching.Goals as goal

@@ -16,4 +16,4 @@ pub returns-else-branch-clause-found : goal.returns-else-branch-clause-found
 returns-else-branch-clause-found g c =
     let P : List (Option Tree) → Type 0 = λ th. matched c.args.subsorts.now (plain_pattern c.args.pat.now) c.args.term.now th ≡ None in
     let found : P (replicate c.args.vars None) = subst P c.in_ok-subst.ensures (answer_none _ _ _ c.in_ok-match_term.ensures.found c.if-branch.false) in
-    search_failed _ _ _ _ (one_found c.args.subsorts.now (plain_pattern c.args.pat.now) c.args.term.now (replicate c.args.vars None) _ found)
+    search_failed _ _ _ _ c.has_no_cycle.ensures (one_found c.args.subsorts.now (plain_pattern c.args.pat.now) c.args.term.now (replicate c.args.vars None) _ found)

@@ -20,7 +20,7 @@ match_term-requires g c =
 pub returns-then-not-branch-clause-found : goal.returns-then-not-branch-clause-found
 returns-then-not-branch-clause-found g c =
     let item : slice_get c.args.terms.now c.loop-i.i ≡ Some c.index-terms-i.result = slice_get_read _ (length c.args.terms.now) _ _ refl (omega arith) c.index-terms-i.is in
-    search_failed c.args.subsorts.now c.args.vars (plain_patterns c.args.pats.now) (forest c.args.terms.now)
+    search_failed c.args.subsorts.now c.args.vars (plain_patterns c.args.pats.now) (forest c.args.terms.now) c.has_no_cycle.ensures
     (rest_fails _ c.args.pats.now c.args.terms.now _ c.loop-i.i _ c.index-terms-i.result _ c.index-pats-i.is c.loop-i-test.true item (answer_none _ _ _ c.in_ok-match_term.ensures.found c.if-not-branch.true) c.loop-i.invariant.rest)
 
 pub loop-i-preserved : goal.loop-i-preserved

@@ -1,5 +1,5 @@
 use Rattle.std.proofs.Common.{◌≡◌, ◌∙◌, sym, rules}
-use Rattle.rule_core.specs.MatchSteps.{is_below}
+use Rattle.rule_core.specs.Subsorts.{is_below}
 use Rattle.rule_core.proofs.Belows.{is_below-true, true-is_below}
 use Rattle.rule_core.proofs.subsorts.Subsorts.below.Goals as goal
 
