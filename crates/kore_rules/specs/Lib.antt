@@ -4,3 +4,11 @@ pub mod Forms
 pub mod Shapes
 pub mod Statements
 pub mod EquationForms
+pub mod Uses
+pub mod Priorities
+pub mod RuleFaults
+pub mod AxiomClasses
+pub mod EquationFaults
+pub mod FirstRefusal
+pub mod Programs
+pub mod Acceptance

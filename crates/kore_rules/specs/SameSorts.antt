@@ -1,19 +1,14 @@
 -- Sorts and variables that are written alike. Places in the text are left aside.
 use Rattle.std.specs.Prelude.{ℕ, List, Bool, true, false, ◌&&◌, ◌==◌}
-use Rattle.std.specs.Cmp.Lexicographic.{pointwise}
-use Rattle.std.specs.Prelude.{nat_eq}
+use Rattle.std.specs.Str.{bytes_eq}
 use Rattle.kore_text.specs.Trees.{SortTree, sort_parameter, sort_applied, SortTrees, no_sorts, sort_then, PatternTree, element_variable, set_variable, string, symbol_applied, connected, binding, domain_value, folded}
-
--- two names or texts, by their bytes
-abbrev pub same_text : List ℕ → List ℕ → Bool
-same_text = pointwise nat_eq
 
 abbrev mutual
   pub same_sort : SortTree → SortTree → Bool
-  same_sort (sort_parameter at n) (sort_parameter place m) = same_text n m
+  same_sort (sort_parameter at n) (sort_parameter place m) = bytes_eq n m
   same_sort (sort_parameter at n) (sort_applied place m ts) = false
   same_sort (sort_applied at n ss) (sort_parameter place m) = false
-  same_sort (sort_applied at n ss) (sort_applied place m ts) = same_text n m && same_sorts ss ts
+  same_sort (sort_applied at n ss) (sort_applied place m ts) = bytes_eq n m && same_sorts ss ts
 
   pub same_sorts : SortTrees → SortTrees → Bool
   same_sorts no_sorts no_sorts = true
@@ -23,7 +18,7 @@ abbrev mutual
 
 -- the pattern is the element variable of this name and sort
 abbrev pub is_variable : List ℕ → SortTree → PatternTree → Bool
-is_variable name s (element_variable at n t) = same_text name n && same_sort s t
+is_variable name s (element_variable at n t) = bytes_eq name n && same_sort s t
 is_variable name s (set_variable at n t) = false
 is_variable name s (string at text) = false
 is_variable name s (symbol_applied at n ss ps) = false

@@ -5,7 +5,8 @@ use Rattle.std.specs.Prelude.{ℕ, List, Bool, true, false, ◌&&◌, if◌then�
 use Rattle.kore_text.specs.Trees.{SortTree, SortTrees, no_sorts, sort_then, PatternTree, element_variable, set_variable, string, symbol_applied, connected, binding, domain_value, folded, PatternTrees, no_patterns, pattern_then}
 use Rattle.kore_text.specs.declared.names.Op.{Op}
 use Rattle.kore_text.specs.declared.names.Op.TheVariants.{Top, Bottom, Not, Next, And, Or, Implies, Iff, Rewrites, Ceil, Floor, Equals, Member}
-use Rattle.kore_rules.specs.SameSorts.{same_sort, same_text}
+use Rattle.std.specs.Str.{bytes_eq}
+use Rattle.kore_rules.specs.SameSorts.{same_sort}
 
 -- `\rewrites{S}(A,B)`
 pub record Rewriting : Type 0 where
@@ -59,17 +60,17 @@ abbrev pub is_top : PatternTree → Bool
 is_top (connected at Top ss ps) = true
 is_top p = false
 
--- A condition: `\top{S}()`; `\equals{Bool,S}(b,\dv{Bool}("true"))`, with the pattern b; or none of the two.
+-- A condition: `\top{S}()`; `\equals{Bool,S}(b,\dv{Bool}("true"))`, with the sort and the pattern b; or none of the two.
 pub data Condition : Type 0 where
   always : Condition
-  tests : PatternTree → Condition
+  tests : SortTree → PatternTree → Condition
   ill : Condition
 
 -- the condition that a pattern is, where S is the sort around it and the test tells the Bool sorts
 abbrev pub condition_of : (SortTree → Bool) → SortTree → PatternTree → Condition
 condition_of is_bool s (connected at Top (sort_then t no_sorts) no_patterns) = if same_sort s t then always else ill
 condition_of is_bool s (connected at Equals (sort_then t (sort_then u no_sorts)) (pattern_then b (pattern_then (domain_value place v text string_place) no_patterns))) =
-    if (is_bool t && same_sort s u) && (same_sort t v && same_text text (codes "true")) then tests b else ill
+    if (is_bool t && same_sort s u) && (same_sort t v && bytes_eq text (codes "true")) then tests t b else ill
 condition_of is_bool s p = ill
 
 -- .. where there may be none, which always holds
@@ -80,10 +81,10 @@ given_condition is_bool s (Some p) = condition_of is_bool s p
 -- what a condition tests
 abbrev pub tested : Condition → Option PatternTree
 tested always = None
-tested (tests b) = Some b
+tested (tests t b) = Some b
 tested ill = None
 
 abbrev pub is_ill : Condition → Bool
 is_ill always = false
-is_ill (tests b) = false
+is_ill (tests t b) = false
 is_ill ill = true

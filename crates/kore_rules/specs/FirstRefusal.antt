@@ -1,0 +1,85 @@
+-- The first fault of a definition and of a term.
+use Rattle.std.specs.Prelude.{◌≡◌, ℕ, List, [], ◌∷◌, ◌++◌, Bool, true, false, Option, Some, None, Contains}
+use Rattle.kore_text.specs.Trees.{SortTree, SortTrees, PatternTree, element_variable, set_variable, string, symbol_applied, connected, binding, domain_value, folded, PatternTrees, no_patterns, pattern_then, AxiomDeclaration, DefinitionTree}
+use Rattle.rule_core.specs.declared.signature.Signature.{Signature}
+use Rattle.kore_sig.specs.FirstFault.{Fault, ByByte, ByNumber, IsFirstBy, Then, InOrder, when, unless}
+use Rattle.kore_sig.specs.Declared.{axioms_of}
+use Rattle.kore_sig.specs.Signatures.{IsSignatureOf}
+use Rattle.kore_sig.specs.SignatureFaults.{FirstOfSignature}
+use Rattle.kore_sig.specs.SortReferences.{sort_number}
+use Rattle.kore_check.specs.Folds.{Unfolded, Unfoldeds, unfolded}
+use Rattle.kore_check.specs.PatternSorts.{sort_of}
+use Rattle.kore_check.specs.PatternFaults.{all_faults}
+use Rattle.kore_rules.specs.Shapes.{Rewriting, rewriting}
+use Rattle.kore_rules.specs.AxiomClasses.{AxiomClass, refused, orders_sorts, rewrites, equates, passed_over, class_of}
+use Rattle.kore_rules.specs.RuleFaults.{FirstOfRule}
+use Rattle.kore_rules.specs.EquationFaults.{is_one_sort}
+
+-- the first fault of an axiom of this class, where the first rule has this sort
+abbrev pub FirstOfClass : Signature → Option SortTree → AxiomDeclaration → AxiomClass → Option Fault → Type 0
+FirstOfClass sig first a (refused number) r = r ≡ Some (record { number = number; byte = a.at })
+FirstOfClass sig first a orders_sorts r = r ≡ None
+FirstOfClass sig first a (rewrites w) r = FirstOfRule sig first a w r
+FirstOfClass sig first a (equates e) r = r ≡ None
+FirstOfClass sig first a passed_over r = r ≡ None
+
+-- the sort of the first rule, where one was before, or this is it
+abbrev pub first_sort : Option SortTree → AxiomClass → Option SortTree
+first_sort (Some s) class = Some s
+first_sort None (refused number) = None
+first_sort None orders_sorts = None
+first_sort None (rewrites w) = Some w.sort
+first_sort None (equates e) = None
+first_sort None passed_over = None
+
+-- the first fault of the axioms, in their order
+abbrev pub FirstOfAxioms : Signature → List AxiomDeclaration → Option Fault → Type 0
+FirstOfAxioms sig axioms r =
+    InOrder (λ first a. FirstOfClass sig first a (class_of sig a)) (λ first a. first_sort first (class_of sig a)) None axioms r
+
+-- The first fault of a definition: of its declarations, or else of its axioms.
+abbrev pub FirstOfDefinition : DefinitionTree → Option Fault → Type 0
+FirstOfDefinition d r =
+    Then (FirstOfSignature d)
+      (λ r. (sig : Signature) × IsSignatureOf d sig × FirstOfAxioms sig (axioms_of d) r) r
+
+-- 26 at each pattern of a term that is a variable or of another form than an application, a domain value or a fold
+abbrev mutual
+  pub ground_faults : PatternTree → List Fault
+  ground_faults (element_variable at n s) = record { number = 26; byte = at } ∷ []
+  ground_faults (set_variable at n s) = record { number = 26; byte = at } ∷ []
+  ground_faults (string at text) = record { number = 26; byte = at } ∷ []
+  ground_faults (symbol_applied at f ss ps) = all_ground_faults ps
+  ground_faults (connected at op ss ps) = record { number = 26; byte = at } ∷ []
+  ground_faults (binding at b ss x p) = record { number = 26; byte = at } ∷ []
+  ground_faults (domain_value at s text place) = []
+  ground_faults (folded at left p) = folded_ground_faults p
+
+  pub all_ground_faults : PatternTrees → List Fault
+  all_ground_faults no_patterns = []
+  all_ground_faults (pattern_then p ps) = ground_faults p ++ all_ground_faults ps
+
+  -- of what is folded: a connective over one argument is that argument
+  pub folded_ground_faults : PatternTree → List Fault
+  folded_ground_faults (element_variable at n s) = record { number = 26; byte = at } ∷ []
+  folded_ground_faults (set_variable at n s) = record { number = 26; byte = at } ∷ []
+  folded_ground_faults (string at text) = record { number = 26; byte = at } ∷ []
+  folded_ground_faults (symbol_applied at f ss ps) = all_ground_faults ps
+  folded_ground_faults (connected at op ss no_patterns) = record { number = 26; byte = at } ∷ []
+  folded_ground_faults (connected at op ss (pattern_then p no_patterns)) = ground_faults p
+  folded_ground_faults (connected at op ss (pattern_then p (pattern_then q ps))) = record { number = 26; byte = at } ∷ []
+  folded_ground_faults (binding at b ss x p) = record { number = 26; byte = at } ∷ []
+  folded_ground_faults (domain_value at s text place) = record { number = 26; byte = at } ∷ []
+  folded_ground_faults (folded at left p) = record { number = 26; byte = at } ∷ []
+
+-- 19 at the first byte: the term has another sort than the rules, where there are rules
+abbrev pub start_faults : Signature → Option ℕ → Unfolded → List Fault
+start_faults sig None p = []
+start_faults sig (Some s) p = unless (is_one_sort (sort_of sig p) (Some s)) 19 0
+
+-- the first fault of a term, where the rules have this sort
+abbrev pub FirstOfTerm : Signature → Option ℕ → PatternTree → Option Fault → Type 0
+FirstOfTerm sig top p r =
+    Then (IsFirstBy ByByte (Contains (ground_faults p)))
+      (Then (IsFirstBy ByByte (Contains (all_faults sig (unfolded p))))
+        (IsFirstBy ByNumber (Contains (start_faults sig top (unfolded p))))) r
