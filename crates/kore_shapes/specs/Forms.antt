@@ -1,20 +1,25 @@
 -- Which forms stand in a pattern once its folds are read: a fold of one argument is that argument, and its head is
 -- not looked at.
-use Rattle.std.specs.Prelude.{ℕ, List, Bool, true, false, ◌||◌, ◌&&◌}
-use Rattle.kore_text.specs.Trees.{SortTree, SortTrees, PatternTree, element_variable, set_variable, string, symbol_applied, connected, binding, domain_value, folded, PatternTrees, no_patterns, pattern_then}
+use Rattle.std.specs.Prelude.{List, [], ◌∷◌, Bool, true, false, not, ◌||◌, ◌&&◌}
+use Rattle.kore_text.specs.Trees.{PatternTree, element_variable, set_variable, string, symbol_applied, connected, binding, domain_value, folded, PatternTrees, no_patterns, pattern_then, listed_patterns}
 use Rattle.kore_text.specs.declared.names.Op.{Op}
-use Rattle.kore_text.specs.declared.names.Op.TheVariants.{Top, Bottom, Not, Next, And, Or, Implies, Iff, Rewrites, Ceil, Floor, Equals, Member}
+use Rattle.kore_text.specs.declared.names.Op.TheVariants.{And}
 
 abbrev pub is_and : Op → Bool
 is_and And = true
 is_and op = false
 
 abbrev pub is_no_and : Op → Bool
-is_no_and And = false
-is_no_and op = true
+is_no_and op = not (is_and op)
 
 abbrev pub is_any : Op → Bool
 is_any op = true
+
+-- there is one pattern
+abbrev pub is_one : List PatternTree → Bool
+is_one [] = false
+is_one (p ∷ []) = true
+is_one (p ∷ (q ∷ ps)) = false
 
 -- a connective that passes the test stands in the pattern
 abbrev mutual
@@ -38,10 +43,7 @@ abbrev mutual
   fold_has_connective test (set_variable at n s) = false
   fold_has_connective test (string at text) = false
   fold_has_connective test (symbol_applied at n ss ps) = have_connective test ps
-  fold_has_connective test (connected at op ss no_patterns) = test op
-  fold_has_connective test (connected at op ss (pattern_then p no_patterns)) = has_connective test p
-  fold_has_connective test (connected at op ss (pattern_then p (pattern_then q ps))) =
-      test op || (has_connective test p || (has_connective test q || have_connective test ps))
+  fold_has_connective test (connected at op ss ps) = (not (is_one (listed_patterns ps)) && test op) || have_connective test ps
   fold_has_connective test (binding at b ss x p) = has_connective test p
   fold_has_connective test (domain_value at s text place) = false
   fold_has_connective test (folded at left p) = fold_has_connective test p
