@@ -9,7 +9,7 @@ use Rattle.rule_core.specs.declared.signature.SortKind.TheVariants as kind
 use Rattle.kore_sig.specs.FirstFault.{Fault, Then, InOrder, IsFirstBy, ByNumber}
 use Rattle.kore_sig.specs.Attributes.{has_attribute, hook_of, subsort_pairs}
 use Rattle.kore_sig.specs.CountedModules.{counted}
-use Rattle.kore_sig.specs.Declared.{pairs_of, sorts_of}
+use Rattle.kore_sig.specs.Declarations.{pairs_of, sorts_of}
 use Rattle.kore_sig.specs.SortReferences.{sort_entries, sort_reference}
 use Rattle.kore_sig.specs.SymbolKinds.{kind_of, injection_of, ac_names}
 use Rattle.kore_sig.specs.SignatureFaults.{declaration_faults, placed, nothing_declared, FirstOfModules, module_faults}

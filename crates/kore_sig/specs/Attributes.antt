@@ -3,7 +3,7 @@
 use Rattle.std.specs.Prelude.{ℕ, Bool, false, ◌||◌, List, [], ◌∷◌, Option, Some, None, option_map, unwrap_or, find, filter_map, if◌then◌else◌, codes}
 use Rattle.std.specs.List.{list_any}
 use Rattle.std.specs.Str.{bytes_eq}
-use Rattle.kore_text.specs.Trees.{SortTree, no_sorts, sort_then, PatternTree, element_variable, set_variable, string, symbol_applied, connected, binding, domain_value, folded, PatternTrees, no_patterns, pattern_then}
+use Rattle.kore_text.specs.Trees.{SortTree, listed_sorts, PatternTree, element_variable, set_variable, string, symbol_applied, connected, binding, domain_value, folded, listed_patterns}
 
 -- an attribute of this name
 abbrev pub is_named : List ℕ → PatternTree → Bool
@@ -24,18 +24,29 @@ has_attribute name attributes = list_any (is_named name) attributes
 abbrev pub first_of_name : List ℕ → List PatternTree → Option PatternTree
 first_of_name name attributes = find (is_named name) attributes
 
--- the text that is the only argument
-abbrev pub text_argument : PatternTrees → Option (List ℕ)
-text_argument no_patterns = None
-text_argument (pattern_then (string at text) no_patterns) = Some text
-text_argument (pattern_then p ps) = None
+-- the text that a pattern is
+abbrev pub text_itself : PatternTree → Option (List ℕ)
+text_itself (element_variable at n s) = None
+text_itself (set_variable at n s) = None
+text_itself (string at text) = Some text
+text_itself (symbol_applied at n sorts arguments) = None
+text_itself (connected at op sorts arguments) = None
+text_itself (binding at binder sorts variable body) = None
+text_itself (domain_value at sort text place) = None
+text_itself (folded at left p) = None
+
+-- the text that is the only one of these
+abbrev pub only_text : List PatternTree → Option (List ℕ)
+only_text [] = None
+only_text (p ∷ []) = text_itself p
+only_text (p ∷ (q ∷ ps)) = None
 
 -- the text of an attribute whose only argument is a text
 abbrev pub text_of : PatternTree → Option (List ℕ)
 text_of (element_variable at n s) = None
 text_of (set_variable at n s) = None
 text_of (string at text) = None
-text_of (symbol_applied at n sorts arguments) = text_argument arguments
+text_of (symbol_applied at n sorts arguments) = only_text (listed_patterns arguments)
 text_of (connected at op sorts arguments) = None
 text_of (binding at binder sorts variable body) = None
 text_of (domain_value at sort text place) = None
@@ -52,13 +63,15 @@ is_said_ac attributes =
     || has_attribute (codes "unit") attributes || has_attribute (codes "idem") attributes
 
 -- the two sorts of `subsort{A,B}()`: the lower and the upper one
+abbrev pub stated_pair : List ℕ → List SortTree → List PatternTree → Option (SortTree × SortTree)
+stated_pair name (lower ∷ (upper ∷ [])) [] = if bytes_eq name (codes "subsort") then Some (lower, upper) else None
+stated_pair name sorts arguments = None
+
 abbrev pub subsort_sorts : PatternTree → Option (SortTree × SortTree)
 subsort_sorts (element_variable at n s) = None
 subsort_sorts (set_variable at n s) = None
 subsort_sorts (string at text) = None
-subsort_sorts (symbol_applied at n (sort_then lower (sort_then upper no_sorts)) no_patterns) =
-    if bytes_eq n (codes "subsort") then Some (lower, upper) else None
-subsort_sorts (symbol_applied at n sorts arguments) = None
+subsort_sorts (symbol_applied at n sorts arguments) = stated_pair n (listed_sorts sorts) (listed_patterns arguments)
 subsort_sorts (connected at op sorts arguments) = None
 subsort_sorts (binding at binder sorts variable body) = None
 subsort_sorts (domain_value at sort text place) = None

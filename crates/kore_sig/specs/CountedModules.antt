@@ -1,27 +1,25 @@
 -- Which modules count (Kore language document, "Modules and declarations"): the main module, which is the last one of
 -- the definition, and what it reaches by imports. An import names a module that stands earlier.
-use Rattle.std.specs.Prelude.{ℕ, Bool, true, false, List, [], ◌∷◌, flat_map, ◌||◌, if◌then◌else◌}
-use Rattle.std.specs.List.{list_any}
-use Rattle.std.specs.Str.{bytes_eq}
+use Rattle.std.specs.Prelude.{ℕ, Bool, true, List, [], ◌∷◌, Option, Some, None, flat_map, filter_map, if◌then◌else◌}
 use Rattle.kore_text.specs.Trees.{Declaration, import_declaration, sort_declaration, symbol_declaration, alias_declaration, axiom_declaration, claim_declaration, ModuleTree, DefinitionTree}
+use Rattle.kore_sig.specs.Names.{is_among}
 
--- the declaration imports the module of this name
-abbrev pub is_import_of : List ℕ → Declaration → Bool
-is_import_of name (import_declaration d) = bytes_eq d.name name
-is_import_of name (sort_declaration d) = false
-is_import_of name (symbol_declaration d) = false
-is_import_of name (alias_declaration d) = false
-is_import_of name (axiom_declaration d) = false
-is_import_of name (claim_declaration d) = false
+-- the name of the module that a declaration imports
+abbrev pub import_name : Declaration → Option (List ℕ)
+import_name (import_declaration d) = Some d.name
+import_name (sort_declaration d) = None
+import_name (symbol_declaration d) = None
+import_name (alias_declaration d) = None
+import_name (axiom_declaration d) = None
+import_name (claim_declaration d) = None
 
--- one of the modules imports the module of this name
-abbrev pub is_imported : List ℕ → List ModuleTree → Bool
-is_imported name modules = list_any (λ (m : ModuleTree). list_any (is_import_of name) m.declarations) modules
+abbrev pub imports_of : ModuleTree → List (List ℕ)
+imports_of m = filter_map import_name m.declarations
 
--- a module in front of these counts, where so many of them count: it is the last, or one that counts imports it
+-- a module counts, where these stand behind it, of which those count: it is the last, or one that counts imports it
 abbrev pub counts : ModuleTree → List ModuleTree → List ModuleTree → Bool
 counts m [] counted_later = true
-counts m (next ∷ later) counted_later = is_imported m.name counted_later
+counts m (next ∷ later) counted_later = is_among (flat_map imports_of counted_later) m.name
 
 -- the modules that count, in the order of the file
 abbrev pub counted : List ModuleTree → List ModuleTree

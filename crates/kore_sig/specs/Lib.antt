@@ -1,11 +1,18 @@
 -- Believed: what public clauses say, and believed definitions of other crates.
 pub mod FirstFault
+pub mod Names
 pub mod Attributes
 pub mod CountedModules
-pub mod Declared
+pub mod Declarations
 pub mod SortReferences
 pub mod SymbolKinds
 pub mod Signatures
 pub mod SignatureFaults
+pub mod Refusals
 -- Private: what clauses of private functions cite, and how private fields are seen.
+pub mod Sets
+pub mod Placing
+pub mod Knowing
+pub mod UnknownSorts
+pub mod Declaring
 pub mod Noted

@@ -1,5 +1,6 @@
 -- What is left of faults that are noted one by one, of which the first is kept.
 use Rattle.std.specs.Prelude.{ℕ, Bool, ◌&&◌, ◌||◌, ◌==◌, List, [], ◌∷◌, Option, Some, None, if◌then◌else◌, nat_lt, nat_le}
+use Rattle.std.specs.Option.{option_or}
 use Rattle.kore_sig.specs.FirstFault.{Fault}
 
 -- the tests of the two orders
@@ -18,3 +19,12 @@ kept leads (Some f) g = if leads f g then Some f else Some g
 abbrev pub noted : (Fault → Fault → Bool) → Option Fault → List Fault → Option Fault
 noted leads r [] = r
 noted leads r (f ∷ fs) = noted leads (kept leads r f) fs
+
+-- the first fault of a set, by number
+abbrev pub first_by_number : List Fault → Option Fault
+first_by_number fs = noted leads_by_number None fs
+
+-- the first fault of the first thing that has any, where F has the faults of a thing
+abbrev pub first_in : {S A : Type 0} → (S → A → List Fault) → (S → A → S) → S → List A → Option Fault
+first_in F next s [] = None
+first_in F next s (x ∷ xs) = option_or (first_by_number (F s x)) (first_in F next (next s x) xs)

@@ -6,10 +6,10 @@ use Rattle.kore_text.specs.Trees.{SortTree, ImportDeclaration, SortDeclaration, 
 use Rattle.rule_core.specs.Subsorts.{HasNoCycle}
 use Rattle.rule_core.specs.declared.signature.SortInfo.{SortInfo}
 use Rattle.kore_sig.specs.FirstFault.{Fault, when, unless, ByNumber, IsFirstBy, Then, InOrder}
+use Rattle.kore_sig.specs.Names.{is_among}
 use Rattle.kore_sig.specs.CountedModules.{counts, counted}
-use Rattle.kore_sig.specs.Declared.{SubsortPair, pairs_of}
+use Rattle.kore_sig.specs.Declarations.{SubsortPair, pairs_of}
 use Rattle.kore_sig.specs.SortReferences.{sort_entries, sort_reference, sort_number, sort_place}
-use Rattle.kore_sig.specs.SymbolKinds.{is_among}
 
 -- ---- the names of the modules
 

@@ -6,7 +6,7 @@ use Rattle.rule_core.specs.declared.signature.Signature.{Signature}
 use Rattle.rule_core.specs.declared.signature.SortInfo.{SortInfo}
 use Rattle.rule_core.specs.declared.signature.SymInfo.{SymInfo}
 use Rattle.kore_sig.specs.Attributes.{hook_of}
-use Rattle.kore_sig.specs.Declared.{symbols_of, SubsortPair, pairs_of}
+use Rattle.kore_sig.specs.Declarations.{symbols_of, SubsortPair, pairs_of}
 use Rattle.kore_sig.specs.SortReferences.{sort_entries, sort_reference, sort_number}
 use Rattle.kore_sig.specs.SymbolKinds.{injection_of, kind_of, ac_names, is_ac}
 

@@ -2,7 +2,7 @@
 use Rattle.std.specs.Prelude.{ℕ, Bool, List, [], ◌∷◌, Option, Some, None, option_map, map, if◌then◌else◌, codes}
 use Rattle.std.specs.List.{position_from}
 use Rattle.std.specs.Str.{bytes_eq}
-use Rattle.kore_text.specs.Trees.{SortTree, sort_parameter, sort_applied, no_sorts, sort_then, SortDeclaration, DefinitionTree}
+use Rattle.kore_text.specs.Trees.{SortTree, sort_parameter, sort_applied, listed_sorts, SortDeclaration, DefinitionTree}
 use Rattle.rule_core.specs.Named.{number_of}
 use Rattle.rule_core.specs.declared.signature.SortInfo.{SortInfo}
 use Rattle.rule_core.specs.declared.signature.SortKind.{SortKind}
@@ -10,7 +10,7 @@ use Rattle.rule_core.specs.declared.signature.SortKind.TheVariants as kind
 use Rattle.rule_core.specs.declared.signature.SortRef.{SortRef}
 use Rattle.rule_core.specs.declared.signature.SortRef.TheVariants.{Param, Sort}
 use Rattle.kore_sig.specs.Attributes.{hook_of}
-use Rattle.kore_sig.specs.Declared.{sorts_of}
+use Rattle.kore_sig.specs.Declarations.{sorts_of}
 
 -- what the name of a sort's hook says of its domain values
 abbrev pub kind_of_hook : Option (List ℕ) → SortKind
@@ -33,19 +33,22 @@ sort_entries definition = map sort_entry (sorts_of definition)
 abbrev pub parameter_place : List (List ℕ) → List ℕ → Option ℕ
 parameter_place params name = position_from (λ (p : List ℕ). bytes_eq name p) 0 params
 
+-- the number of a declared sort of this name, where it has no arguments
+abbrev pub declared_number : List (List ℕ × SortInfo) → List ℕ → List SortTree → Option ℕ
+declared_number sorts name [] = number_of sorts name
+declared_number sorts name (s ∷ args) = None
+
 -- what a sort means where there are these declared sorts and these sort parameters: one of the parameters, or a
 -- declared sort, which has no arguments
 abbrev pub sort_reference : List (List ℕ × SortInfo) → List (List ℕ) → SortTree → Option SortRef
 sort_reference sorts params (sort_parameter at name) = option_map Param (parameter_place params name)
-sort_reference sorts params (sort_applied at name no_sorts) =
-    option_map (λ (n : ℕ). Sort (record { 0 = n })) (number_of sorts name)
-sort_reference sorts params (sort_applied at name (sort_then s ss)) = None
+sort_reference sorts params (sort_applied at name args) =
+    option_map (λ (n : ℕ). Sort (record { 0 = n })) (declared_number sorts name (listed_sorts args))
 
 -- the number of a sort outside a symbol's declaration, where nothing is a parameter
 abbrev pub sort_number : List (List ℕ × SortInfo) → SortTree → Option ℕ
 sort_number sorts (sort_parameter at name) = None
-sort_number sorts (sort_applied at name no_sorts) = number_of sorts name
-sort_number sorts (sort_applied at name (sort_then s ss)) = None
+sort_number sorts (sort_applied at name args) = declared_number sorts name (listed_sorts args)
 
 -- the byte of a sort's name
 abbrev pub sort_place : SortTree → ℕ

@@ -1,19 +1,15 @@
 -- What a symbol is used for, and whether it is said to be associative, commutative or the like (K framework,
 -- attributes `sortInjection`, `function`, `constructor`, `assoc`, `comm`, `unit` and `idem`).
 use Rattle.std.specs.Prelude.{ℕ, Bool, false, not, ◌&&◌, ◌||◌, ◌==◌, List, [], ◌∷◌, length, Option, Some, None, option_map, find, filter_map, if◌then◌else◌, codes}
-use Rattle.std.specs.List.{list_any}
 use Rattle.std.specs.Str.{bytes_eq}
-use Rattle.kore_text.specs.Trees.{SortTree, sort_parameter, sort_applied, no_sorts, sort_then, PatternTree, element_variable, set_variable, string, symbol_applied, connected, binding, domain_value, folded, PatternTrees, no_patterns, pattern_then, SymbolDeclaration, AxiomDeclaration, DefinitionTree}
+use Rattle.kore_text.specs.Trees.{SortTree, sort_parameter, sort_applied, listed_sorts, PatternTree, element_variable, set_variable, string, symbol_applied, connected, binding, domain_value, folded, listed_patterns, SymbolDeclaration, AxiomDeclaration, DefinitionTree}
 use Rattle.kore_text.specs.declared.names.Op.{Op}
 use Rattle.kore_text.specs.declared.names.Op.TheVariants.{Equals}
 use Rattle.rule_core.specs.declared.signature.SymKind.{SymKind}
 use Rattle.rule_core.specs.declared.signature.SymKind.TheVariants.{Injection, Ctor, Equations, Closed, NoKind}
+use Rattle.kore_sig.specs.Names.{is_among}
 use Rattle.kore_sig.specs.Attributes.{has_attribute, is_said_ac}
-use Rattle.kore_sig.specs.Declared.{symbols_of, axioms_of}
-
--- the name is one of these
-abbrev pub is_among : List (List ℕ) → List ℕ → Bool
-is_among names name = list_any (bytes_eq name) names
+use Rattle.kore_sig.specs.Declarations.{symbols_of, axioms_of}
 
 -- the sort is the parameter of this name
 abbrev pub is_parameter : List ℕ → SortTree → Bool
@@ -52,17 +48,37 @@ kind_of injection d =
     else if has_attribute (codes "constructor") d.attributes && (length d.params == 0) then Ctor
     else NoKind
 
+-- the symbol of an application without sort arguments
+abbrev pub head_of : List ℕ → List SortTree → Option (List ℕ)
+head_of name [] = Some name
+head_of name (s ∷ sorts) = None
+
+abbrev pub applied_symbol : PatternTree → Option (List ℕ)
+applied_symbol (element_variable at n s) = None
+applied_symbol (set_variable at n s) = None
+applied_symbol (string at text) = None
+applied_symbol (symbol_applied at n sorts args) = head_of n (listed_sorts sorts)
+applied_symbol (connected at op sorts args) = None
+applied_symbol (binding at binder sorts variable body) = None
+applied_symbol (domain_value at sort text place) = None
+applied_symbol (folded at left p) = None
+
+-- of the first of these
+abbrev pub first_symbol : List PatternTree → Option (List ℕ)
+first_symbol [] = None
+first_symbol (p ∷ ps) = applied_symbol p
+
 -- the symbol f of `\equals{S,R}(f{}(..),..)`
-abbrev pub equated_head : Op → PatternTrees → Option (List ℕ)
-equated_head Equals (pattern_then (symbol_applied at f no_sorts args) ps) = Some f
-equated_head op ps = None
+abbrev pub equated_by : Op → List PatternTree → Option (List ℕ)
+equated_by Equals args = first_symbol args
+equated_by op args = None
 
 abbrev pub equated_symbol : PatternTree → Option (List ℕ)
 equated_symbol (element_variable at n s) = None
 equated_symbol (set_variable at n s) = None
 equated_symbol (string at text) = None
 equated_symbol (symbol_applied at n sorts args) = None
-equated_symbol (connected at op sorts args) = equated_head op args
+equated_symbol (connected at op sorts args) = equated_by op (listed_patterns args)
 equated_symbol (binding at binder sorts variable body) = None
 equated_symbol (domain_value at sort text place) = None
 equated_symbol (folded at left p) = None

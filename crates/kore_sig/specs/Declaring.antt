@@ -1,0 +1,45 @@
+-- The declarations, one after the other.
+use Rattle.std.specs.Prelude.{◌≡◌, ℕ, List, [], ◌∷◌, ◌++◌, Option, Some, None, map, option_copied}
+use Rattle.std.specs.List.{AllZip}
+use Rattle.rule_core.specs.Named.{names_of}
+use Rattle.rule_core.specs.declared.signature.SortInfo.{SortInfo}
+use Rattle.rule_core.specs.declared.signature.SymInfo.{SymInfo}
+use Rattle.kore_text.specs.Trees.{Declaration}
+use Rattle.kore_sig.specs.FirstFault.{Fault}
+use Rattle.kore_sig.specs.Knowing.{entries_in, symbols_in}
+use Rattle.kore_sig.specs.Noted.{first_in}
+use Rattle.kore_sig.specs.Refusals.{Refuses}
+use Rattle.kore_sig.specs.SignatureFaults.{Placed, Before, declaration_faults, declared_behind, nothing_declared}
+use Rattle.kore_sig.specs.Signatures.{IsSymbolEntry}
+use Rattle.kore_sig.specs.declared.faults.SigFault.{SigFault}
+use Rattle.kore_sig.specs.declared.known.Known.{Known}
+
+-- the answer is this first fault
+abbrev pub Answers : Option Fault → Option SigFault → Type 0
+Answers first None = first ≡ None
+Answers first (Some fault) = Refuses (λ r. first ≡ r) fault
+
+-- the names in front of a declaration, as they are kept
+abbrev pub before_of : List (List ℕ × Unit {0}) → List (List ℕ × SymInfo) → Before
+before_of seen symbols = record { sorts = names_of seen; symbols = names_of symbols }
+
+abbrev pub placed_faults : List (List ℕ × SortInfo) → Before → Placed → List Fault
+placed_faults sorts before p = declaration_faults sorts before p.earlier p.declaration
+
+abbrev pub placed_behind : Before → Placed → Before
+placed_behind before p = declared_behind before p.declaration
+
+-- the first fault of these declarations
+abbrev pub first_declared : List (List ℕ × SortInfo) → Before → List Placed → Option Fault
+first_declared sorts before ps = first_in (placed_faults sorts) placed_behind before ps
+
+-- the symbols that these declarations declare, by what is known of all
+abbrev pub AreSymbols : Known → List Declaration → List (List ℕ × SymInfo) → Type 0
+AreSymbols known ds symbols =
+    AllZip (IsSymbolEntry known.sorts (option_copied known.injection) (names_of known.ac)) (symbols_in ds) symbols
+
+-- what is kept of the declarations so far, with one declaration more
+pub record Grows (known : Known) (seen : List (List ℕ × Unit {0})) (symbols : List (List ℕ × SymInfo)) (seen_behind : List (List ℕ × Unit {0})) (symbols_behind : List (List ℕ × SymInfo)) (d : Declaration) : Type 0 where
+  pub names : before_of seen_behind symbols_behind ≡ declared_behind (before_of seen symbols) d
+  pub declared : (ds : List Declaration) → AreSymbols known ds symbols → AreSymbols known (ds ++ d ∷ []) symbols_behind
+  pub sorts : (ds : List Declaration) → names_of seen ≡ names_of (entries_in ds) → names_of seen_behind ≡ names_of (entries_in (ds ++ d ∷ []))

@@ -1,0 +1,29 @@
+-- What is known of all declarations before each is looked at.
+use Rattle.std.specs.Prelude.{◌≡◌, ℕ, List, map, filter_map, option_copied, option_map}
+use Rattle.rule_core.specs.Named.{names_of, AreDistinct}
+use Rattle.rule_core.specs.declared.signature.SortInfo.{SortInfo}
+use Rattle.kore_text.specs.Trees.{SortDeclaration, SymbolDeclaration, AxiomDeclaration, Declaration}
+use Rattle.kore_sig.specs.Declarations.{sort_declared, symbol_declared, axiom_declared}
+use Rattle.kore_sig.specs.SortReferences.{sort_entry}
+use Rattle.kore_sig.specs.SymbolKinds.{injection_of, said_ac}
+use Rattle.kore_sig.specs.Sets.{Knows}
+use Rattle.kore_sig.specs.declared.known.Known.{Known}
+
+abbrev pub entries_in : List Declaration → List (List ℕ × SortInfo)
+entries_in ds = map sort_entry (filter_map sort_declared ds)
+
+abbrev pub symbols_in : List Declaration → List SymbolDeclaration
+symbols_in ds = filter_map symbol_declared ds
+
+abbrev pub ac_in : List Declaration → List (List ℕ)
+ac_in ds = filter_map said_ac (filter_map axiom_declared ds)
+
+-- the table has a sort under each declared name, and just the declared sorts where no name stands twice
+pub record IsSortTable (ds : List Declaration) (sorts : List (List ℕ × SortInfo)) : Type 0 where
+  pub known : Knows sorts (names_of (entries_in ds))
+  pub same : AreDistinct (names_of (entries_in ds)) → sorts ≡ entries_in ds
+
+pub record IsKnown (ds : List Declaration) (known : Known) : Type 0 where
+  pub sorts : IsSortTable ds known.sorts
+  pub injection : option_copied known.injection ≡ injection_of (symbols_in ds)
+  pub ac : Knows known.ac (ac_in ds)

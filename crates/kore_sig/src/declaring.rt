@@ -1,0 +1,96 @@
+// The first fault of a declaration, where other declarations stand in front of it.
+ghost use Rattle.std.specs.Prelude.{◌≡◌, ◌<◌, ◌^◌, length, take};
+ghost use Rattle.kore_ast.specs.Plain.{plain_declaration, plain_import, plain_sort_decl, plain_symbol_decl};
+ghost use Rattle.rule_core.specs.Named.{names_of};
+ghost use Rattle.kore_sig.specs.Names.{is_among};
+ghost use Rattle.kore_sig.specs.Declaring.{Answers, before_of};
+ghost use Rattle.kore_sig.specs.Noted.{first_by_number};
+ghost use Rattle.kore_sig.specs.SignatureFaults.{import_faults, sort_faults, symbol_faults, declaration_faults};
+
+use crate::counted::Placed;
+use crate::faults::SigFault;
+use crate::names::has_name;
+use crate::references::first_unknown;
+use kore_ast::{Decl, ImportDecl, SortDecl, SymbolDecl, Text};
+use rule_core::{SortInfo, SymInfo, Table};
+
+/// The most arguments of a symbol.
+const MOST_ARGUMENTS: usize = 64;
+
+/// The first fault of a declaration: `modules` are all modules by number, `sorts` all sorts; `seen` has the sorts in
+/// front of the declaration, `symbols` the symbols.
+pub(crate) fn declaration_fault(
+    modules: &Table<()>,
+    sorts: &Table<SortInfo>,
+    seen: &Table<()>,
+    symbols: &Table<SymInfo>,
+    placed: &Placed<'_>,
+) -> Option<SigFault>
+    requires { length sorts.now < 2 ^ 32 }
+    ensures { Answers (first_by_number (declaration_faults sorts.now (before_of seen.now symbols.now) (take placed.now.module_index (names_of modules.now)) (plain_declaration placed.now.decl.now))) result }
+{
+    match placed.decl {
+        Decl::Import(decl) => import_fault(modules, placed.module_index, decl),
+        Decl::SortDecl(decl) => sort_fault(seen, decl),
+        Decl::SymbolDecl(decl) => symbol_fault(sorts, symbols, decl),
+        Decl::Alias(_) | Decl::Axiom(_) | Decl::Claim(_) => None,
+    }
+}
+
+/// An import has a fault where no module in front of its own has the name.
+fn import_fault(modules: &Table<()>, own: usize, decl: &ImportDecl) -> Option<SigFault>
+    ensures { Answers (first_by_number (import_faults (take own (names_of modules.now)) (plain_import decl.now))) result }
+{
+    if is_earlier(modules, own, &decl.name) {
+        None
+    } else {
+        Some(SigFault::Import(decl.at))
+    }
+}
+
+/// Whether a module in front of this one has the name.
+fn is_earlier(modules: &Table<()>, own: usize, name: &Text) -> bool
+    ensures { result ≡ is_among (take own (names_of modules.now)) name.now }
+{
+    match modules.number(name.as_str()) {
+        Some(number) => number < own,
+        None => false,
+    }
+}
+
+/// A sort has a fault where its name is taken, or where it has parameters.
+fn sort_fault(seen: &Table<()>, decl: &SortDecl) -> Option<SigFault>
+    ensures { Answers (first_by_number (sort_faults (names_of seen.now) (plain_sort_decl decl.now))) result }
+{
+    if has_name(seen, &decl.name) {
+        Some(SigFault::Duplicate(decl.at))
+    } else if !decl.params.is_empty() {
+        Some(SigFault::SortParameter(decl.at))
+    } else {
+        None
+    }
+}
+
+/// A symbol has a fault where its name is taken, where it names an unknown sort, or where it has too many arguments.
+fn symbol_fault(
+    sorts: &Table<SortInfo>,
+    symbols: &Table<SymInfo>,
+    decl: &SymbolDecl,
+) -> Option<SigFault>
+    requires { length sorts.now < 2 ^ 32 }
+    ensures { Answers (first_by_number (symbol_faults sorts.now (names_of symbols.now) (plain_symbol_decl decl.now))) result }
+{
+    if has_name(symbols, &decl.name) {
+        return Some(SigFault::Duplicate(decl.at));
+    }
+    if u32::try_from(decl.params.len()).is_err() {
+        return Some(SigFault::Memory);
+    }
+    if let Some(at) = first_unknown(sorts, &decl.params, &decl.args, &decl.result) {
+        return Some(SigFault::UnknownSort(at));
+    }
+    if decl.args.len() > MOST_ARGUMENTS {
+        return Some(SigFault::Arity(decl.at));
+    }
+    None
+}
