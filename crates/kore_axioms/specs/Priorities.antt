@@ -1,5 +1,5 @@
 -- The priority of a rule or an equation (K framework, attribute `priority`): a smaller number is tried first.
-use Rattle.std.specs.Prelude.{ℕ, List, Bool, true, false, ◌&&◌, length, Option, Some, None, if◌then◌else◌, codes, nat_le, is_some}
+use Rattle.std.specs.Prelude.{ℕ, List, Bool, ◌&&◌, length, Option, Some, None, if◌then◌else◌, codes, nat_le, is_some, is_none}
 use Rattle.kore_text.specs.Trees.{PatternTree}
 use Rattle.kore_sig.specs.Attributes.{has_attribute, first_of_name, text_of}
 use Rattle.kore_check.specs.ValueTexts.{number_of_digits}
@@ -21,8 +21,7 @@ stated_priority attributes = first_of_name (codes "priority") attributes
 -- a priority is stated, and not by one text of one to nine digits
 abbrev pub has_bad_priority : List PatternTree → Bool
 has_bad_priority attributes =
-    if is_some (stated_priority attributes)
-    then (if is_some (stated_number (stated_priority attributes)) then false else true) else false
+    is_some (stated_priority attributes) && is_none (stated_number (stated_priority attributes))
 
 -- the number, or else that of a rule without one: 200 for a last resort, 50 for any other
 abbrev pub number_or : Option ℕ → Bool → ℕ

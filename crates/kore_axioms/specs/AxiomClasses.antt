@@ -7,8 +7,8 @@ use Rattle.rule_core.specs.declared.signature.SymKind.{SymKind}
 use Rattle.rule_core.specs.declared.signature.SymKind.TheVariants.{Injection, Ctor, Equations, Hooked, Closed, NoKind}
 use Rattle.kore_sig.specs.Attributes.{has_attribute, is_said_ac, subsort_pairs}
 use Rattle.kore_check.specs.PatternSorts.{symbol_named}
-use Rattle.kore_rules.specs.Shapes.{Rewriting, rewriting}
-use Rattle.kore_rules.specs.Statements.{Statement, statement}
+use Rattle.kore_shapes.specs.Shapes.{Rewriting, rewriting}
+use Rattle.kore_shapes.specs.Statements.{Statement, statement}
 
 -- An axiom is refused with this number; it says that sorts are below others; it is a rewrite rule; it is an equation of
 -- a function; or it is passed over.

@@ -1,0 +1,11 @@
+-- Believed: what public clauses say, and believed definitions of other crates.
+pub mod Conditions
+pub mod Priorities
+pub mod Uses
+pub mod Raised
+pub mod RuleParts
+pub mod RuleForms
+pub mod RuleFaults
+pub mod AxiomClasses
+pub mod EquationFaults
+pub mod Views
