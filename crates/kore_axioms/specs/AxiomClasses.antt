@@ -1,11 +1,12 @@
 -- What an axiom of a module that counts is read as: the first class that fits.
-use Rattle.std.specs.Prelude.{ℕ, ◌==◌, List, [], ◌∷◌, Bool, true, false, not, ◌||◌, ◌&&◌, Option, Some, None, is_none, if◌then◌else◌, codes, length}
+use Rattle.std.specs.Prelude.{ℕ, List, Bool, true, false, not, ◌||◌, ◌&&◌, Option, Some, None, is_none, is_some, if◌then◌else◌, codes}
+use Rattle.std.specs.List.{list_any}
 use Rattle.kore_text.specs.Trees.{PatternTree, AxiomDeclaration}
 use Rattle.rule_core.specs.declared.signature.Signature.{Signature}
 use Rattle.rule_core.specs.declared.signature.SymInfo.{SymInfo}
 use Rattle.rule_core.specs.declared.signature.SymKind.{SymKind}
 use Rattle.rule_core.specs.declared.signature.SymKind.TheVariants.{Injection, Ctor, Equations, Hooked, Closed, NoKind}
-use Rattle.kore_sig.specs.Attributes.{has_attribute, is_said_ac, subsort_pairs}
+use Rattle.kore_sig.specs.Attributes.{has_attribute, is_said_ac, subsort_sorts}
 use Rattle.kore_check.specs.PatternSorts.{symbol_named}
 use Rattle.kore_shapes.specs.Shapes.{Rewriting, rewriting}
 use Rattle.kore_shapes.specs.Statements.{Statement, statement}
@@ -37,6 +38,7 @@ takes_equations (Some info) = is_defined_kind info.kind && is_none info.hook
 abbrev pub is_no_equation : List PatternTree → Bool
 is_no_equation attributes = has_attribute (codes "simplification") attributes || is_said_ac attributes
 
+-- it is an equation of its function, or passed over
 abbrev pub class_of_statement : Signature → List PatternTree → Option Statement → AxiomClass
 class_of_statement sig attributes None = passed_over
 class_of_statement sig attributes (Some e) =
@@ -46,9 +48,13 @@ abbrev pub class_of_pattern : Signature → AxiomDeclaration → Option Rewritin
 class_of_pattern sig a None = class_of_statement sig a.attributes (statement a.pattern)
 class_of_pattern sig a (Some w) = rewrites w
 
+-- an attribute states that a sort is below another
+abbrev pub states_pairs : List PatternTree → Bool
+states_pairs attributes = list_any (λ (a : PatternTree). is_some (subsort_sorts a)) attributes
+
 abbrev pub class_of : Signature → AxiomDeclaration → AxiomClass
 class_of sig a =
     if has_attribute (codes "anywhere") a.attributes then refused 20
     else if has_attribute (codes "overload") a.attributes || has_attribute (codes "symbol-overload") a.attributes then refused 21
-    else if not (length (subsort_pairs a.attributes) == 0) then orders_sorts
+    else if states_pairs a.attributes then orders_sorts
     else class_of_pattern sig a (rewriting a.pattern)

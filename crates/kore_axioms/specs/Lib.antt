@@ -9,3 +9,4 @@ pub mod RuleFaults
 pub mod AxiomClasses
 pub mod EquationFaults
 pub mod Views
+pub mod ClassViews
