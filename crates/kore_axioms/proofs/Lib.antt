@@ -1,2 +1,3 @@
 pub mod DigitTexts
 pub mod RaisedLaws
+pub mod FoldUseLaws

@@ -10,3 +10,6 @@ pub mod AxiomClasses
 pub mod EquationFaults
 pub mod Views
 pub mod ClassViews
+pub mod UsedSymbols
+-- Private: what clauses of private functions cite, and how private fields are seen.
+pub mod FoldUses

@@ -5,8 +5,10 @@ mod classes;
 mod faults;
 mod parts;
 mod priorities;
+mod uses;
 
 pub use classes::{AxiomClass, class_of};
 pub use faults::AxiomFault;
 pub use parts::{RuleParts, rule_parts};
 pub use priorities::{has_bad_priority, priority_of};
+pub use uses::{Symbols, has_symbol};
