@@ -7,7 +7,7 @@ pub mod RuleParts
 pub mod RuleForms
 pub mod RuleFaults
 pub mod AxiomClasses
-pub mod EquationFaults
+pub mod ReadableEquations
 pub mod Views
 pub mod ClassViews
 pub mod UsedSymbols

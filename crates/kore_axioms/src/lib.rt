@@ -2,6 +2,7 @@
 #![tactic(auto)]
 
 mod classes;
+mod equations;
 mod faults;
 mod parts;
 mod priorities;

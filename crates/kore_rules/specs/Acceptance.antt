@@ -10,7 +10,7 @@ use Rattle.term_core.specs.Patterns.{Pattern}
 use Rattle.rule_core.specs.Theories.{RewriteTheory}
 use Rattle.rule_core.specs.declared.signature.Signature.{Signature}
 use Rattle.kore_sig.specs.FirstFault.{Fault}
-use Rattle.kore_sig.specs.Declared.{axioms_of}
+use Rattle.kore_sig.specs.Declarations.{axioms_of}
 use Rattle.kore_sig.specs.Signatures.{IsSignatureOf}
 use Rattle.kore_check.specs.Folds.{unfolded}
 use Rattle.kore_check.specs.PatternMeanings.{Means}

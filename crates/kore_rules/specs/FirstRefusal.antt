@@ -3,17 +3,17 @@ use Rattle.std.specs.Prelude.{◌≡◌, ℕ, List, [], ◌∷◌, ◌++◌, Boo
 use Rattle.kore_text.specs.Trees.{SortTree, SortTrees, PatternTree, element_variable, set_variable, string, symbol_applied, connected, binding, domain_value, folded, PatternTrees, no_patterns, pattern_then, AxiomDeclaration, DefinitionTree}
 use Rattle.rule_core.specs.declared.signature.Signature.{Signature}
 use Rattle.kore_sig.specs.FirstFault.{Fault, ByByte, ByNumber, IsFirstBy, Then, InOrder, when, unless}
-use Rattle.kore_sig.specs.Declared.{axioms_of}
+use Rattle.kore_sig.specs.Declarations.{axioms_of}
 use Rattle.kore_sig.specs.Signatures.{IsSignatureOf}
 use Rattle.kore_sig.specs.SignatureFaults.{FirstOfSignature}
 use Rattle.kore_sig.specs.SortReferences.{sort_number}
 use Rattle.kore_check.specs.Folds.{Unfolded, Unfoldeds, unfolded}
 use Rattle.kore_check.specs.PatternSorts.{sort_of}
 use Rattle.kore_check.specs.PatternFaults.{all_faults}
-use Rattle.kore_rules.specs.Shapes.{Rewriting, rewriting}
-use Rattle.kore_rules.specs.AxiomClasses.{AxiomClass, refused, orders_sorts, rewrites, equates, passed_over, class_of}
-use Rattle.kore_rules.specs.RuleFaults.{FirstOfRule}
-use Rattle.kore_rules.specs.EquationFaults.{is_one_sort}
+use Rattle.kore_shapes.specs.Shapes.{Rewriting, rewriting}
+use Rattle.kore_axioms.specs.AxiomClasses.{AxiomClass, refused, orders_sorts, rewrites, equates, passed_over, class_of}
+use Rattle.kore_axioms.specs.RuleFaults.{FirstOfRule}
+use Rattle.kore_axioms.specs.ReadableEquations.{is_one_sort}
 
 -- the first fault of an axiom of this class, where the first rule has this sort
 abbrev pub FirstOfClass : Signature → Option SortTree → AxiomDeclaration → AxiomClass → Option Fault → Type 0

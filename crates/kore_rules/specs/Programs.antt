@@ -1,7 +1,7 @@
 -- The program that a definition means: its signature, its rewrite rules and the equations of its functions.
 use Rattle.std.specs.Prelude.{◌≡◌, ◌<◌, ℕ, List, [], ◌∷◌, map, Option, Some, None, option_map, Contains, ◌↔◌, ◌⊎◌, length, slice_get, string_bytes, false}
 use Rattle.std.specs.List.{AllZip}
-use Rattle.kore_text.specs.Trees.{SortTree, PatternTree, PatternTrees, pattern_count, AxiomDeclaration, DefinitionTree}
+use Rattle.kore_text.specs.Trees.{SortTree, PatternTree, PatternTrees, AxiomDeclaration, DefinitionTree}
 use Rattle.term_core.specs.HookValues.{Hook, hooks}
 use Rattle.term_core.specs.Patterns.{Pattern, Patterns}
 use Rattle.term_core.specs.declared.ids.HookNo.{HookNo}
@@ -12,19 +12,20 @@ use Rattle.rule_core.specs.declared.signature.Signature.{Signature}
 use Rattle.rule_core.specs.declared.signature.SymInfo.{SymInfo}
 use Rattle.rule_core.specs.declared.signature.SymKind.{SymKind}
 use Rattle.rule_core.specs.declared.signature.SymKind.TheVariants.{Injection, Ctor, Equations, Hooked, Closed, NoKind}
-use Rattle.kore_sig.specs.Declared.{axioms_of}
+use Rattle.kore_sig.specs.Declarations.{axioms_of}
 use Rattle.kore_sig.specs.Signatures.{IsSignatureOf}
 use Rattle.kore_sig.specs.SortReferences.{sort_number}
-use Rattle.kore_check.specs.Folds.{Unfolded, Unfoldeds, unfolded, all_unfolded}
+use Rattle.kore_check.specs.Folds.{Unfolded, Unfoldeds, unfolded}
 use Rattle.kore_check.specs.PatternMeanings.{with_variables, with_all_variables, Means, AllMean}
 use Rattle.kore_check.specs.PatternSorts.{symbol_named}
-use Rattle.kore_rules.specs.Shapes.{Rewriting, Condition, tested}
-use Rattle.kore_rules.specs.Statements.{Statement}
-use Rattle.kore_rules.specs.EquationForms.{EquationParts}
-use Rattle.kore_rules.specs.AxiomClasses.{AxiomClass, rewrites, equates, class_of}
-use Rattle.kore_rules.specs.RuleFaults.{RuleParts, rule_parts}
-use Rattle.kore_rules.specs.EquationFaults.{IsReadable, condition_of_equation}
-use Rattle.kore_rules.specs.Priorities.{priority_of}
+use Rattle.kore_shapes.specs.Shapes.{Rewriting}
+use Rattle.kore_axioms.specs.Conditions.{tested}
+use Rattle.kore_shapes.specs.Statements.{Statement}
+use Rattle.kore_shapes.specs.EquationForms.{EquationParts}
+use Rattle.kore_axioms.specs.AxiomClasses.{AxiomClass, rewrites, equates, class_of}
+use Rattle.kore_axioms.specs.RuleParts.{RuleParts, rule_parts, left_of, right_of}
+use Rattle.kore_axioms.specs.ReadableEquations.{IsReadable, condition_of_equation, all_read}
+use Rattle.kore_axioms.specs.Priorities.{priority_of}
 
 -- what a condition means, where there is one
 abbrev pub MeansTest : Signature → List (List ℕ × ℕ) → Option PatternTree → Option Pattern → Type 0
@@ -38,9 +39,9 @@ pub record IsRuleOf (sig : Signature) (a : AxiomDeclaration) (rule : RewriteRule
   pub shape : Rewriting
   pub class : class_of sig a ≡ rewrites shape
   pub left : PatternTree
-  pub is_left : (rule_parts sig shape).left ≡ Some left
+  pub is_left : left_of (rule_parts sig shape) ≡ Some left
   pub right : PatternTree
-  pub is_right : (rule_parts sig shape).right ≡ Some right
+  pub is_right : right_of (rule_parts sig shape) ≡ Some right
   pub variables : List (List ℕ × ℕ)
   pub numbered : variables ≡ with_variables sig [] (unfolded left)
   pub means_left : Means sig variables (unfolded left) rule.left
@@ -61,9 +62,9 @@ pub record IsEquationOf (sig : Signature) (f : List ℕ) (a : AxiomDeclaration) 
   pub parts : EquationParts
   pub readable : IsReadable sig a info stated parts
   pub variables : List (List ℕ × ℕ)
-  pub numbered : variables ≡ with_all_variables sig [] (all_unfolded parts.patterns)
-  pub parameters : e.parameters ≡ pattern_count parts.parameters
-  pub means_arguments : AllMean sig variables (all_unfolded parts.patterns) e.arguments
+  pub numbered : variables ≡ with_all_variables sig [] (all_read parts.patterns)
+  pub parameters : e.parameters ≡ length parts.parameters
+  pub means_arguments : AllMean sig variables (all_read parts.patterns) e.arguments
   pub means_condition : MeansTest sig variables (tested (condition_of_equation sig stated parts)) e.condition
   pub means_right : Means sig variables (unfolded parts.right) e.right
   pub sorts : e.variables ≡ map (λ (v : List ℕ × ℕ). v.1) variables
