@@ -13,6 +13,7 @@ use Rattle.kore_check.specs.PatternFaults.{all_faults}
 use Rattle.kore_shapes.specs.Shapes.{Rewriting, rewriting}
 use Rattle.kore_axioms.specs.AxiomClasses.{AxiomClass, refused, orders_sorts, rewrites, equates, passed_over, class_of}
 use Rattle.kore_axioms.specs.RuleFaults.{FirstOfRule}
+use Rattle.kore_rules.specs.GroundTerms.{ground_faults}
 use Rattle.kore_axioms.specs.ReadableEquations.{is_one_sort}
 
 -- the first fault of an axiom of this class, where the first rule has this sort
@@ -42,35 +43,6 @@ abbrev pub FirstOfDefinition : DefinitionTree → Option Fault → Type 0
 FirstOfDefinition d r =
     Then (FirstOfSignature d)
       (λ r. (sig : Signature) × IsSignatureOf d sig × FirstOfAxioms sig (axioms_of d) r) r
-
--- 26 at each pattern of a term that is a variable or of another form than an application, a domain value or a fold
-abbrev mutual
-  pub ground_faults : PatternTree → List Fault
-  ground_faults (element_variable at n s) = record { number = 26; byte = at } ∷ []
-  ground_faults (set_variable at n s) = record { number = 26; byte = at } ∷ []
-  ground_faults (string at text) = record { number = 26; byte = at } ∷ []
-  ground_faults (symbol_applied at f ss ps) = all_ground_faults ps
-  ground_faults (connected at op ss ps) = record { number = 26; byte = at } ∷ []
-  ground_faults (binding at b ss x p) = record { number = 26; byte = at } ∷ []
-  ground_faults (domain_value at s text place) = []
-  ground_faults (folded at left p) = folded_ground_faults p
-
-  pub all_ground_faults : PatternTrees → List Fault
-  all_ground_faults no_patterns = []
-  all_ground_faults (pattern_then p ps) = ground_faults p ++ all_ground_faults ps
-
-  -- of what is folded: a connective over one argument is that argument
-  pub folded_ground_faults : PatternTree → List Fault
-  folded_ground_faults (element_variable at n s) = record { number = 26; byte = at } ∷ []
-  folded_ground_faults (set_variable at n s) = record { number = 26; byte = at } ∷ []
-  folded_ground_faults (string at text) = record { number = 26; byte = at } ∷ []
-  folded_ground_faults (symbol_applied at f ss ps) = all_ground_faults ps
-  folded_ground_faults (connected at op ss no_patterns) = record { number = 26; byte = at } ∷ []
-  folded_ground_faults (connected at op ss (pattern_then p no_patterns)) = ground_faults p
-  folded_ground_faults (connected at op ss (pattern_then p (pattern_then q ps))) = record { number = 26; byte = at } ∷ []
-  folded_ground_faults (binding at b ss x p) = record { number = 26; byte = at } ∷ []
-  folded_ground_faults (domain_value at s text place) = record { number = 26; byte = at } ∷ []
-  folded_ground_faults (folded at left p) = record { number = 26; byte = at } ∷ []
 
 -- 19 at the first byte: the term has another sort than the rules, where there are rules
 abbrev pub start_faults : Signature → Option ℕ → Unfolded → List Fault

@@ -1,5 +1,4 @@
 // Acceptance: from the bytes of a definition to a program, or its one first refusal.
 #![tactic(auto)]
 
-/// Does nothing.
-pub fn placeholder() {}
+mod ground;
