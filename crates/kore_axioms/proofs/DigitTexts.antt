@@ -1,14 +1,14 @@
 -- The number that a short text of digits is read as.
-use Rattle.std.proofs.Common.{◌≡◌, ◌<◌, ◌≤◌, ◌^◌, ℕ, suc, Bool, true, List, [], ◌∷◌, length, Option, Some, None, refl, sym, ◌∙◌, ap, arith, rules}
+use Rattle.std.proofs.Common.{◌≡◌, ◌<◌, ◌≤◌, ◌^◌, ℕ, true, List, [], ◌∷◌, length, Some, refl, ◌∙◌, ap, arith, rules}
 use Rattle.std.specs.Prelude.{Result, Ok, Err}
 use Rattle.std.specs.Str.{all_ascii_digits}
-use Rattle.std.specs.Str.Parse.{ParsesUnsigned, digits_value}
+use Rattle.std.specs.Str.Parse.{ParsesUnsigned}
 use Rattle.std.specs.Result.{result_ok}
 use Rattle.std.proofs.lemmas.Bool.{lt-ltb, le-leb}
 use Rattle.std.proofs.lemmas.Int.Digits.{digits_value-lt}
 use Rattle.std.proofs.lemmas.Str.Parse.{IsNumeralModel, numerals_by_fold, parse_digits, parse_gives}
 use native.Mathlib.Nat.{pow-le-pow_right}
-use Rattle.kore_check.specs.ValueTexts.{digits_behind, number_of_digits}
+use Rattle.kore_check.specs.ValueTexts.{digits_behind}
 use Rattle.kore_axioms.specs.Priorities.{short_number}
 
 own : IsNumeralModel (λ ds. all_ascii_digits ds ≡ true) (digits_behind 0)

@@ -1,5 +1,5 @@
 -- Conditions over sorts of truth values.
-use Rattle.std.specs.Prelude.{ℕ, Bool, true, false, if◌then◌else◌, Option, Some, None}
+use Rattle.std.specs.Prelude.{Bool, true, false, if◌then◌else◌, Option, Some, None}
 use Rattle.std.specs.Option.{option_and_then}
 use Rattle.kore_text.specs.Trees.{SortTree, PatternTree}
 use Rattle.rule_core.specs.declared.signature.Signature.{Signature}

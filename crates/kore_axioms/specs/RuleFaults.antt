@@ -98,8 +98,8 @@ use_faults sig first at s w = raised at (use_tests sig first s w)
 abbrev pub FirstOfParts : Signature → Option SortTree → AxiomDeclaration → SortTree → RuleParts → Option Fault → Type 0
 FirstOfParts sig first a s w r =
     Then (IsFirstBy ByNumber (Contains (form_faults a w)))
-      (Then (IsFirstBy ByByte (Contains (sorted_faults sig s w)))
-        (IsFirstBy ByNumber (Contains (use_faults sig first a.at s w)))) r
+    (Then (IsFirstBy ByByte (Contains (sorted_faults sig s w)))
+    (IsFirstBy ByNumber (Contains (use_faults sig first a.at s w)))) r
 
 abbrev pub FirstOfRule : Signature → Option SortTree → AxiomDeclaration → Rewriting → Option Fault → Type 0
 FirstOfRule sig first a w r = FirstOfParts sig first a w.sort (rule_parts sig w) r

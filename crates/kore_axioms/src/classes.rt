@@ -1,6 +1,5 @@
 // What an axiom is read as.
 ghost use Rattle.std.specs.Prelude.{◌≡◌, map, option_map, option_copied, is_some};
-
 ghost use Rattle.kore_ast.specs.Plain.{plain_sort, plain_pattern, plain_axiom_decl};
 ghost use Rattle.kore_sig.specs.Attributes.{is_said_ac as is_ac, subsort_sorts, stated_pair};
 ghost use Rattle.kore_check.specs.PatternSorts.{symbol_named};
@@ -36,7 +35,9 @@ pub fn class_of<'a>(sig: &Signature, decl: &'a AxiomDecl) -> AxiomClass<'a>
 {
     if has_attribute(&decl.attrs, "anywhere") {
         AxiomClass::Refused(AxiomFault::Anywhere)
-    } else if has_attribute(&decl.attrs, "overload") || has_attribute(&decl.attrs, "symbol-overload") {
+    } else if has_attribute(&decl.attrs, "overload")
+        || has_attribute(&decl.attrs, "symbol-overload")
+    {
         AxiomClass::Refused(AxiomFault::Overload)
     } else if states_pairs(&decl.attrs) {
         AxiomClass::OrdersSorts
@@ -55,11 +56,16 @@ fn class_of_pattern<'a>(sig: &Signature, decl: &'a AxiomDecl) -> AxiomClass<'a>
 }
 
 /// An equation of its function, where it has one that takes equations.
-fn class_of_statement<'a>(sig: &Signature, attrs: &[Pat], stated: Option<Statement<'a>>) -> AxiomClass<'a>
+fn class_of_statement<'a>(
+    sig: &Signature,
+    attrs: &[Pat],
+    stated: Option<Statement<'a>>,
+) -> AxiomClass<'a>
     ensures { plain_class result ≡ the_class_of_statement sig.now (map plain_pattern attrs.now) (option_map plain_statement stated.entry) }
 {
     match stated {
-        Some(stated) if !is_no_equation(attrs) && takes_equations(symbol_of(sig, stated.function)) => {
+        Some(stated)
+            if !is_no_equation(attrs) && takes_equations(symbol_of(sig, stated.function)) => {
             AxiomClass::Equates(stated)
         }
         _ => AxiomClass::PassedOver,

@@ -16,17 +16,22 @@ ghost use Rattle.kore_axioms.specs.Conditions.{tested as the_tested};
 ghost use Rattle.kore_axioms.specs.RuleForms.{holds_of};
 ghost use Rattle.kore_axioms.specs.ReadableEquations.{condition_of_equation as the_condition, is_sort_over as is_a_sort_over, is_one_sort as are_one_sort, fits_function as does_fit, has_other_form as has_another_form, has_good_form as is_of_good_form};
 
-
 use crate::parts::{is_ill, over_bool, tested};
 use crate::priorities::has_bad_priority;
 use crate::uses::{Symbols, has_symbol};
 use kore_ast::{AxiomDecl, Pat, Sort, SortForm, Text};
-use kore_shapes::{Condition, Connectives, EquationParts, Statement, given_condition, has_binder, has_connective};
+use kore_shapes::{
+    Condition, Connectives, EquationParts, Statement, given_condition, has_binder, has_connective,
+};
 use kore_sig::sort_number;
 use rule_core::{Signature, SortRef, SymInfo};
 
 /// The condition of an equation.
-fn condition_of<'a>(sig: &Signature, stated: &Statement<'a>, parts: &EquationParts<'a>) -> Condition<'a>
+fn condition_of<'a>(
+    sig: &Signature,
+    stated: &Statement<'a>,
+    parts: &EquationParts<'a>,
+) -> Condition<'a>
     ensures { plain_condition result ≡ the_condition sig.now (plain_statement stated.now) (plain_parts parts.now) }
 {
     over_bool(sig, given_condition(parts.condition, stated.over))
@@ -90,7 +95,12 @@ fn result_sort(symbol: &SymInfo) -> Option<usize>
 
 /// Whether an equation has no form that no equation has, no binder, a condition of the form that conditions have, and no
 /// bad priority.
-fn has_good_form(sig: &Signature, decl: &AxiomDecl, stated: &Statement<'_>, parts: &EquationParts<'_>) -> bool
+fn has_good_form(
+    sig: &Signature,
+    decl: &AxiomDecl,
+    stated: &Statement<'_>,
+    parts: &EquationParts<'_>,
+) -> bool
     ensures { result ≡ is_of_good_form sig.now (plain_axiom_decl decl.now) (plain_statement stated.now) (plain_parts parts.now) }
 {
     let condition = condition_of(sig, stated, parts);

@@ -13,7 +13,10 @@ ghost use Rattle.kore_axioms.specs.Views.{plain_rule_parts, fault_at};
 use crate::faults::{AxiomFault, first_raised};
 use crate::priorities::has_bad_priority;
 use kore_ast::{AxiomDecl, Pat, Sort};
-use kore_shapes::{Companion, Condition, Connectives, Rewriting, Side, given_condition, has_binder, has_connective, side_at};
+use kore_shapes::{
+    Companion, Condition, Connectives, Rewriting, Side, given_condition, has_binder,
+    has_connective, side_at,
+};
 use kore_sig::sort_number;
 use rule_core::{Signature, SortKind};
 
@@ -35,7 +38,11 @@ pub fn rule_parts<'a>(sig: &Signature, rewriting: Rewriting<'a>) -> RuleParts<'a
     let before = side_at(rewriting.before, rewriting.sort, Companion::Condition);
     let after = side_at(rewriting.after, rewriting.sort, Companion::Top);
     let given = given_condition(before.companion(), rewriting.sort);
-    RuleParts { before, after, condition: over_bool(sig, given) }
+    RuleParts {
+        before,
+        after,
+        condition: over_bool(sig, given),
+    }
 }
 
 /// The condition, which is ill where what it tests is over another sort than one of truth values.
@@ -87,7 +94,10 @@ pub(crate) fn form_fault(decl: &AxiomDecl, parts: RuleParts<'_>) -> Option<Axiom
         (has_binder(&decl.pat), AxiomFault::Binder),
         (is_without(parts.after), AxiomFault::Ensures),
         (ill, AxiomFault::Condition),
-        (stands_in(parts.before.main(), Connectives::And), AxiomFault::AsPattern),
+        (
+            stands_in(parts.before.main(), Connectives::And),
+            AxiomFault::AsPattern,
+        ),
         (has_bad_priority(&decl.attrs), AxiomFault::BadPriority),
     ])
 }

@@ -29,7 +29,11 @@ pub fn priority_of(attrs: &[Pat]) -> u32
     {
         return number;
     }
-    if has_attribute(attrs, "owise") { 200 } else { 50 }
+    if has_attribute(attrs, "owise") {
+        200
+    } else {
+        50
+    }
 }
 
 /// The number of an attribute whose only argument is a text of one to nine digits.

@@ -1,5 +1,5 @@
 -- Which bytes are accepted as a definition, and as a term of it.
-use Rattle.std.specs.Prelude.{◌≡◌, ◌⊎◌, ℕ, List, [], ◌∷◌, Option, Some, None, option_map}
+use Rattle.std.specs.Prelude.{◌≡◌, ◌⊎◌, ℕ, List, [], Option, Some, None}
 use Rattle.kore_text.specs.Trees.{PatternTree, DefinitionTree}
 use Rattle.kore_text.specs.TokenStream.{tokens_of, Stream}
 use Rattle.kore_text.specs.Faults.{IsFirstFault, IsPattern, IsDefinition}
@@ -11,7 +11,6 @@ use Rattle.rule_core.specs.Theories.{RewriteTheory}
 use Rattle.rule_core.specs.declared.signature.Signature.{Signature}
 use Rattle.kore_sig.specs.FirstFault.{Fault}
 use Rattle.kore_sig.specs.Declarations.{axioms_of}
-use Rattle.kore_sig.specs.Signatures.{IsSignatureOf}
 use Rattle.kore_check.specs.Folds.{unfolded}
 use Rattle.kore_check.specs.PatternMeanings.{Means}
 use Rattle.kore_rules.specs.FirstRefusal.{FirstOfDefinition, FirstOfTerm}

@@ -1,16 +1,14 @@
 -- The first fault of a definition and of a term.
-use Rattle.std.specs.Prelude.{◌≡◌, ℕ, List, [], ◌∷◌, ◌++◌, Bool, true, false, Option, Some, None, Contains}
-use Rattle.kore_text.specs.Trees.{SortTree, SortTrees, PatternTree, element_variable, set_variable, string, symbol_applied, connected, binding, domain_value, folded, PatternTrees, no_patterns, pattern_then, AxiomDeclaration, DefinitionTree}
+use Rattle.std.specs.Prelude.{◌≡◌, ℕ, List, [], Option, Some, None, Contains}
+use Rattle.kore_text.specs.Trees.{SortTree, PatternTree, AxiomDeclaration, DefinitionTree}
 use Rattle.rule_core.specs.declared.signature.Signature.{Signature}
-use Rattle.kore_sig.specs.FirstFault.{Fault, ByByte, ByNumber, IsFirstBy, Then, InOrder, when, unless}
+use Rattle.kore_sig.specs.FirstFault.{Fault, ByByte, ByNumber, IsFirstBy, Then, InOrder, unless}
 use Rattle.kore_sig.specs.Declarations.{axioms_of}
 use Rattle.kore_sig.specs.Signatures.{IsSignatureOf}
 use Rattle.kore_sig.specs.SignatureFaults.{FirstOfSignature}
-use Rattle.kore_sig.specs.SortReferences.{sort_number}
-use Rattle.kore_check.specs.Folds.{Unfolded, Unfoldeds, unfolded}
+use Rattle.kore_check.specs.Folds.{Unfolded, unfolded}
 use Rattle.kore_check.specs.PatternSorts.{sort_of}
 use Rattle.kore_check.specs.PatternFaults.{all_faults}
-use Rattle.kore_shapes.specs.Shapes.{Rewriting, rewriting}
 use Rattle.kore_axioms.specs.AxiomClasses.{AxiomClass, refused, orders_sorts, rewrites, equates, passed_over, class_of}
 use Rattle.kore_axioms.specs.RuleFaults.{FirstOfRule}
 use Rattle.kore_rules.specs.GroundTerms.{ground_faults}
@@ -42,7 +40,7 @@ FirstOfAxioms sig axioms r =
 abbrev pub FirstOfDefinition : DefinitionTree → Option Fault → Type 0
 FirstOfDefinition d r =
     Then (FirstOfSignature d)
-      (λ r. (sig : Signature) × IsSignatureOf d sig × FirstOfAxioms sig (axioms_of d) r) r
+    (λ r. (sig : Signature) × IsSignatureOf d sig × FirstOfAxioms sig (axioms_of d) r) r
 
 -- 19 at the first byte: the term has another sort than the rules, where there are rules
 abbrev pub start_faults : Signature → Option ℕ → Unfolded → List Fault
@@ -53,5 +51,5 @@ start_faults sig (Some s) p = unless (is_one_sort (sort_of sig p) (Some s)) 19 0
 abbrev pub FirstOfTerm : Signature → Option ℕ → PatternTree → Option Fault → Type 0
 FirstOfTerm sig top p r =
     Then (IsFirstBy ByByte (Contains (ground_faults p)))
-      (Then (IsFirstBy ByByte (Contains (all_faults sig (unfolded p))))
-        (IsFirstBy ByNumber (Contains (start_faults sig top (unfolded p))))) r
+    (Then (IsFirstBy ByByte (Contains (all_faults sig (unfolded p))))
+    (IsFirstBy ByNumber (Contains (start_faults sig top (unfolded p))))) r

@@ -1,29 +1,28 @@
 -- The program that a definition means: its signature, its rewrite rules and the equations of its functions.
-use Rattle.std.specs.Prelude.{◌≡◌, ◌<◌, ℕ, List, [], ◌∷◌, map, Option, Some, None, option_map, Contains, ◌↔◌, ◌⊎◌, length, slice_get, string_bytes, false}
+use Rattle.std.specs.Prelude.{◌≡◌, ℕ, List, [], map, Option, Some, None, option_map, Contains, ◌↔◌, length, slice_get, string_bytes}
 use Rattle.std.specs.List.{AllZip}
-use Rattle.kore_text.specs.Trees.{SortTree, PatternTree, PatternTrees, AxiomDeclaration, DefinitionTree}
+use Rattle.kore_text.specs.Trees.{PatternTree, AxiomDeclaration, DefinitionTree}
 use Rattle.term_core.specs.HookValues.{Hook, hooks}
-use Rattle.term_core.specs.Patterns.{Pattern, Patterns}
-use Rattle.term_core.specs.declared.ids.HookNo.{HookNo}
+use Rattle.term_core.specs.Patterns.{Pattern}
 use Rattle.rule_core.specs.Rules.{RewriteRule, Equation}
 use Rattle.rule_core.specs.Theories.{RewriteTheory, equations_of}
 use Rattle.rule_core.specs.WellSorted.{AreInOrder, FitsHook}
 use Rattle.rule_core.specs.declared.signature.Signature.{Signature}
 use Rattle.rule_core.specs.declared.signature.SymInfo.{SymInfo}
 use Rattle.rule_core.specs.declared.signature.SymKind.{SymKind}
-use Rattle.rule_core.specs.declared.signature.SymKind.TheVariants.{Injection, Ctor, Equations, Hooked, Closed, NoKind}
+use Rattle.rule_core.specs.declared.signature.SymKind.TheVariants.{Equations, Hooked, Closed}
 use Rattle.kore_sig.specs.Declarations.{axioms_of}
 use Rattle.kore_sig.specs.Signatures.{IsSignatureOf}
 use Rattle.kore_sig.specs.SortReferences.{sort_number}
-use Rattle.kore_check.specs.Folds.{Unfolded, Unfoldeds, unfolded}
+use Rattle.kore_check.specs.Folds.{unfolded}
 use Rattle.kore_check.specs.PatternMeanings.{with_variables, with_all_variables, Means, AllMean}
 use Rattle.kore_check.specs.PatternSorts.{symbol_named}
 use Rattle.kore_shapes.specs.Shapes.{Rewriting}
 use Rattle.kore_axioms.specs.Conditions.{tested}
 use Rattle.kore_shapes.specs.Statements.{Statement}
 use Rattle.kore_shapes.specs.EquationForms.{EquationParts}
-use Rattle.kore_axioms.specs.AxiomClasses.{AxiomClass, rewrites, equates, class_of}
-use Rattle.kore_axioms.specs.RuleParts.{RuleParts, rule_parts, left_of, right_of}
+use Rattle.kore_axioms.specs.AxiomClasses.{rewrites, equates, class_of}
+use Rattle.kore_axioms.specs.RuleParts.{rule_parts, left_of, right_of}
 use Rattle.kore_axioms.specs.ReadableEquations.{IsReadable, condition_of_equation, all_read}
 use Rattle.kore_axioms.specs.Priorities.{priority_of}
 

@@ -1,4 +1,4 @@
-use Rattle.std.proofs.Common.{◌≡◌, ℕ, Bool, List, take, get_or, map, ap, sym, ◌∙◌}
+use Rattle.std.proofs.Common.{ℕ, Bool, List, take, get_or, map, ap, sym, ◌∙◌}
 use Rattle.std.proofs.lemmas.List.{take_more, map-append}
 use Rattle.kore_sig.specs.Noted.{first_by_number}
 use Rattle.kore_axioms.specs.Raised.{raised}

@@ -1,4 +1,4 @@
-use Rattle.std.proofs.Common.{◌≡◌, List, drop, ◌+◌, map, ap, sym, ◌∙◌}
+use Rattle.std.proofs.Common.{List, drop, ◌+◌, map, ap, sym, ◌∙◌}
 use Rattle.kore_text.specs.Trees.{pattern_trees}
 use Rattle.kore_ast.specs.declared.tree.Pat.{Pat}
 use Rattle.kore_ast.specs.Plain.{plain_pattern}
