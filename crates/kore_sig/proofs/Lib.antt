@@ -2,10 +2,15 @@
 pub mod CountedLaws
 pub mod DeclaringLaws
 pub mod FaultLaws
+pub mod FirstLaws
 pub mod KnowingLaws
 pub mod ListLaws
 pub mod NotDeclared
+pub mod MeaningLaws
 pub mod NotedLaws
+pub mod OrderLaws
+pub mod PairLaws
 pub mod SetLaws
 pub mod TreeLists
+pub mod WholeLaws
 mod Tried

@@ -4,7 +4,7 @@ use Rattle.std.specs.Prelude.{Option, Some, None, is_some, option_map, find, fil
 use Rattle.std.specs.List.{list_any, cons_option, position_from}
 use Rattle.std.specs.Str.{bytes_eq}
 use Rattle.rule_core.specs.Named.{number_of}
-use Rattle.std.proofs.lemmas.List.{take_more, drop_more, map-append, append-nil}
+use Rattle.std.proofs.lemmas.List.{take_more, drop_more, map-append, append-nil, take-append-drop}
 use Rattle.std.proofs.lemmas.List.Elements.{filter_map-append}
 
 pub is_some-map : {X Y : Type 0} (f : X → Y) (o : Option X) → is_some (option_map f o) ≡ is_some o
@@ -79,3 +79,7 @@ pub flat_nil_at : {X Y Z : Type 0} (F : Y → List Z) (f : X → Y) (xs : List X
 flat_nil_at F f [] i x lt is e = absurd (omega arith)
 flat_nil_at F f (y ∷ ys) zero x lt is e = ap (λ z. F (f z)) is ∙ first_nil (F (f y)) (flat_map F (map f ys)) e
 flat_nil_at F f (y ∷ ys) (suc i) x lt is e = flat_nil_at F f ys i x (omega arith) is (rest_nil (F (f y)) (flat_map F (map f ys)) e)
+
+-- a list by one of its items
+pub split_at : {X : Type 0} (xs : List X) (i : ℕ) (x : X) → i < length xs → x ≡ get_or xs i x → xs ≡ take i xs ++ x ∷ drop (i + 1) xs
+split_at xs i x lt is = sym (take-append-drop i xs) ∙ ap (λ ys. take i xs ++ ys) (drop_step xs i x lt is)

@@ -45,10 +45,12 @@ pub record SubsortPair : Type 0 where
   pub lower : SortTree
   pub upper : SortTree
 
+abbrev pub pair_at : ℕ → SortTree × SortTree → SubsortPair
+pair_at at p = record { at = at; lower = p.0; upper = p.1 }
+
 -- the pairs that an axiom states by its attributes
 abbrev pub pairs_of_axiom : AxiomDeclaration → List SubsortPair
-pairs_of_axiom stated =
-    map (λ (p : SortTree × SortTree). record { at = stated.at; lower = p.0; upper = p.1 }) (subsort_pairs stated.attributes)
+pairs_of_axiom stated = map (pair_at stated.at) (subsort_pairs stated.attributes)
 
 -- the pairs of the axioms
 abbrev pub pairs_of : DefinitionTree → List SubsortPair

@@ -11,8 +11,10 @@ pub mod SignatureFaults
 pub mod Refusals
 -- Private: what clauses of private functions cite, and how private fields are seen.
 pub mod Sets
+pub mod Naming
 pub mod Placing
 pub mod Knowing
 pub mod UnknownSorts
 pub mod Declaring
+pub mod Ordering
 pub mod Noted

@@ -97,10 +97,14 @@ FirstOfDeclarations sorts declarations r =
 
 -- ---- the pairs of sorts
 
+-- 6 at the sort's name: it is not declared, or it is a parameter or has arguments
+abbrev pub number_faults : List (List ℕ × SortInfo) → SortTree → List Fault
+number_faults sorts s = unless (is_some (sort_number sorts s)) 6 (sort_place s)
+
 -- a fault of a pair, where these pairs stand in front of it: 6 at the name of a sort that is not declared or has
 -- arguments, or 24 at the keyword of the axiom, where the pair makes a sort be below itself
 pub data HasPairFault (sorts : List (List ℕ × SortInfo)) (before : List (ℕ × ℕ)) (p : SubsortPair) : Fault → Type 0 where
-  unknown_sort : {f : Fault} → Contains (reference_faults sorts [] p.lower ++ reference_faults sorts [] p.upper) f →
+  unknown_sort : {f : Fault} → Contains (number_faults sorts p.lower ++ number_faults sorts p.upper) f →
       HasPairFault sorts before p f
   cycle : {a b : ℕ} → sort_number sorts p.lower ≡ Some a → sort_number sorts p.upper ≡ Some b →
       (HasNoCycle (before ++ (a, b) ∷ []) → ⊥) → HasPairFault sorts before p (record { number = 24; byte = p.at })

@@ -43,7 +43,11 @@ pub fn counted_declarations(
 }
 
 /// Adds the declarations of the module with this number.
-fn place<'a>(placed: &mut Vec<Placed<'a>>, module_index: usize, decls: &'a [Decl]) -> Result<(), AllocError>
+fn place<'a>(
+    placed: &mut Vec<Placed<'a>>,
+    module_index: usize,
+    decls: &'a [Decl],
+) -> Result<(), AllocError>
     ensures { OnOk result ((names : List (List ℕ)) → map (plain_placed names) placed.new.items ≡ map (plain_placed names) placed.old.items ++ map (placed_at (take module_index names)) (map plain_declaration decls.now)) }
 {
     placed.reserve(decls.len())?;

@@ -2,8 +2,6 @@
 ghost use Rattle.std.specs.Prelude.{◌≡◌, ◌<◌, ◌^◌, ◌++◌, ◌∷◌, [], ℕ, List, map, IfOk, OnOk, option_copied, length, filter_map};
 ghost use Rattle.kore_ast.specs.Plain.{plain_declaration, plain_sort_decl, plain_axiom_decl};
 ghost use Rattle.kore_text.specs.Trees.{Declaration, sort_declaration};
-
-
 ghost use Rattle.kore_sig.specs.SymbolKinds.{injection_of};
 ghost use Rattle.kore_sig.specs.Knowing.{IsKnown, IsSortTable, symbols_in, ac_in as the_ac_in};
 ghost use Rattle.kore_sig.specs.Sets.{Knows};
@@ -52,7 +50,10 @@ fn add_sort(alloc: Global, sorts: &mut Table<SortInfo>, decl: &SortDecl) -> Resu
     ensures { OnOk result ((ds : List Declaration) → IsSortTable ds sorts.old → IsSortTable (ds ++ sort_declaration (plain_sort_decl decl.now) ∷ []) sorts.new) }
 {
     let kind = kind_of_hook(hook_of(&decl.attrs));
-    sorts.insert(String::from_str(alloc, decl.name.as_str())?, SortInfo { kind })?;
+    sorts.insert(
+        String::from_str(alloc, decl.name.as_str())?,
+        SortInfo { kind },
+    )?;
     Ok(())
 }
 

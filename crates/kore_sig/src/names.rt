@@ -17,7 +17,11 @@ pub(crate) fn has_name<V: Drop>(names: &Table<V>, name: &Text) -> bool
 }
 
 /// Adds a name; false where the set has it already.
-pub(crate) fn add_name(alloc: Global, names: &mut Table<()>, name: &Text) -> Result<bool, AllocError>
+pub(crate) fn add_name(
+    alloc: Global,
+    names: &mut Table<()>,
+    name: &Text,
+) -> Result<bool, AllocError>
     ensures fresh { IfOk result (λ fresh. fresh ≡ is_none (number_of names.old name.now)) }
     ensures entries { IfOk result (λ fresh. names.new ≡ (if fresh then names.old ++ (name.now, tt) ∷ [] else names.old)) }
     ensures known { OnOk result ((known : List (List ℕ)) → Knows names.old known → Knows names.new (known ++ name.now ∷ [])) }

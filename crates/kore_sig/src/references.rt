@@ -1,7 +1,7 @@
 // The sorts that are named in a definition.
 ghost use Rattle.std.specs.Prelude.{◌≡◌, ◌<◌, ◌^◌, ◌++◌, ◌∷◌, [], length, map, flat_map, option_map, None, Option, ℕ};
 ghost use Rattle.kore_ast.specs.Plain.{plain_sort};
-ghost use Rattle.kore_sig.specs.SortReferences.{declared_number as the_declared, sort_number as the_number, parameter_place as the_place, sort_reference as the_reference};
+ghost use Rattle.kore_sig.specs.SortReferences.{declared_number as the_declared, sort_number as the_number, parameter_place as the_place, sort_reference as the_reference, sort_place as the_sort_place};
 ghost use Rattle.kore_sig.specs.SignatureFaults.{reference_faults};
 ghost use Rattle.kore_sig.specs.Noted.{noted, leads_by_number, first_by_number};
 ghost use Rattle.kore_sig.specs.UnknownSorts.{unknown_sort_at};
@@ -61,6 +61,16 @@ pub(crate) fn sort_reference(
             Some(number) => Some(SortRef::Sort(SortId(number as u32))),
             None => None,
         },
+    }
+}
+
+/// The byte of a sort's name.
+pub(crate) fn sort_place(sort: &Sort) -> u32
+    ensures { result ≡ the_sort_place (plain_sort sort.now) }
+{
+    match &sort.form {
+        SortForm::Param(_) => sort.at,
+        SortForm::App(..) => sort.at,
     }
 }
 

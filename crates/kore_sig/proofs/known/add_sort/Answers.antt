@@ -20,6 +20,6 @@ returns c =
     let kind : c.kind_of_hook-kind.result ≡ (sort_entry d).1.kind = c.kind_of_hook-kind.ensures ∙ ap kind_of_hook (c.hook_of.ensures ∙ ap (λ (ps : List Pat). hook_of (map plain_pattern ps)) c.deref.ensures.value) in
     let entry : (string_bytes c.in_ok-from_str.field-0, record { kind = c.kind_of_hook-kind.result }) ≡ sort_entry d = entry_same (string_bytes c.in_ok-from_str.field-0) d.name c.kind_of_hook-kind.result (sort_entry d).1.kind name kind in
     λ ds table. sort_more ds d c.in_ok-insert.field-0 c.args.sorts.now c.insert.new.self
-      (c.in_ok-insert.ensures.fresh ∙ ap (λ (n : List ℕ). is_none (number_of c.args.sorts.now n)) name)
-      (c.in_ok-insert.ensures.entries ∙ ap (λ (e : List ℕ × SortInfo). cond c.in_ok-insert.field-0 (c.args.sorts.now ++ e ∷ []) c.args.sorts.now) entry)
-      table
+    (c.in_ok-insert.ensures.fresh ∙ ap (λ (n : List ℕ). is_none (number_of c.args.sorts.now n)) name)
+    (c.in_ok-insert.ensures.entries ∙ ap (λ (e : List ℕ × SortInfo). cond c.in_ok-insert.field-0 (c.args.sorts.now ++ e ∷ []) c.args.sorts.now) entry)
+    table

@@ -1,0 +1,11 @@
+pub mod NotedLaws
+pub mod SortLaws
+pub mod Forms
+pub mod IntegerTexts
+pub mod Places
+pub mod Items
+pub mod Applications
+pub mod SameFaults
+pub mod FoldLaws
+pub mod FoldChecks
+pub mod HeightLaws

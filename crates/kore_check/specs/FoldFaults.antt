@@ -1,0 +1,36 @@
+-- The faults of a fold, where those of its symbol are noted once.
+use Rattle.std.specs.Prelude.{ℕ, Bool, true, false, List, [], ◌++◌, Option, option_map}
+use Rattle.kore_sig.specs.FirstFault.{Fault}
+use Rattle.rule_core.specs.declared.signature.Signature.{Signature}
+use Rattle.kore_check.specs.declared.check.FoldSorts.{FoldSorts}
+use Rattle.kore_check.specs.Folds.{Unfolded, Unfoldeds, no_more, and_more, place}
+use Rattle.kore_check.specs.PatternSorts.{sort_of}
+use Rattle.kore_check.specs.PatternFaults.{pattern_faults, clash_faults}
+use Rattle.kore_check.specs.Notes.{sort_no}
+
+-- the clashes at an argument behind the first one, which stands at this byte and has this sort
+abbrev pub next_faults : Bool → Bool → ℕ → Option ℕ → FoldSorts → List Fault
+next_faults true left at own s = clash_faults at own (option_map sort_no s.upper)
+next_faults false true at own s =
+    clash_faults at own (option_map sort_no s.upper)
+    ++ clash_faults s.at (option_map sort_no s.own) (option_map sort_no s.lower)
+next_faults false false at own s =
+    clash_faults at own (option_map sort_no s.lower)
+    ++ clash_faults s.at (option_map sort_no s.own) (option_map sort_no s.upper)
+
+abbrev pub is_none_more : Unfoldeds → Bool
+is_none_more no_more = true
+is_none_more (and_more p ps) = false
+
+-- of the arguments behind the first one
+abbrev pub rest_faults : Signature → Bool → FoldSorts → Unfoldeds → List Fault
+rest_faults sig left s no_more = []
+rest_faults sig left s (and_more p ps) =
+    pattern_faults sig p ++ (next_faults (is_none_more ps) left (place p) (sort_of sig p) s ++ rest_faults sig left s ps)
+
+-- of all arguments
+abbrev pub folded_faults : Signature → Bool → FoldSorts → Unfoldeds → List Fault
+folded_faults sig left s no_more = []
+folded_faults sig left s (and_more p ps) =
+    pattern_faults sig p
+    ++ (clash_faults (place p) (sort_of sig p) (option_map sort_no s.lower) ++ rest_faults sig left s ps)

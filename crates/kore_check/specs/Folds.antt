@@ -1,0 +1,117 @@
+-- Patterns with their folds read (K framework, Kore language: `\left-assoc{}(f{}(a,b,c))` is `f{}(f{}(a,b),c)`, and
+-- `\right-assoc{}(f{}(a,b,c))` is `f{}(a,f{}(b,c))`; a fold of one argument is that argument).
+use Rattle.std.specs.Prelude.{◌+◌, ℕ, Bool, true, false, List, max}
+use Rattle.kore_text.specs.Trees.{SortTree, PatternTree, element_variable, set_variable, string, symbol_applied, connected, binding, domain_value, folded, PatternTrees, no_patterns, pattern_then, listed_sorts}
+
+mutual
+  -- a pattern of variables, domain values and applications; the first number is the byte at which it stands
+  pub data Unfolded : Type 0 where
+    -- a variable's name and sort
+    named_variable : ℕ → List ℕ → SortTree → Unfolded
+    -- a domain value's sort, its text and the byte of its string
+    written_value : ℕ → SortTree → List ℕ → ℕ → Unfolded
+    -- the byte of a symbol's name, the name, its sort arguments and its arguments
+    applied_symbol : ℕ → ℕ → List ℕ → List SortTree → Unfoldeds → Unfolded
+    -- a pattern of another form
+    other_form : ℕ → Unfolded
+
+  pub data Unfoldeds : Type 0 where
+    no_more : Unfoldeds
+    and_more : Unfolded → Unfoldeds → Unfoldeds
+
+-- the byte at which a pattern stands
+abbrev pub place : Unfolded → ℕ
+place (named_variable at name s) = at
+place (written_value at s text byte) = at
+place (applied_symbol at byte name ss ps) = at
+place (other_form at) = at
+
+-- the pattern, standing there
+abbrev pub standing_at : ℕ → Unfolded → Unfolded
+standing_at there (named_variable at name s) = named_variable there name s
+standing_at there (written_value at s text byte) = written_value there s text byte
+standing_at there (applied_symbol at byte name ss ps) = applied_symbol there byte name ss ps
+standing_at there (other_form at) = other_form there
+
+-- a symbol applied to two patterns by unfolding: it stands at its name
+abbrev pub applied_to_two : ℕ → List ℕ → List SortTree → Unfolded → Unfolded → Unfolded
+applied_to_two byte name ss p q = applied_symbol byte byte name ss (and_more p (and_more q no_more))
+
+-- f applied to the first pattern and the next, to that and the one after it, and so on
+abbrev pub folded_left : ℕ → List ℕ → List SortTree → Unfolded → Unfoldeds → Unfolded
+folded_left byte name ss p no_more = p
+folded_left byte name ss p (and_more q qs) = folded_left byte name ss (applied_to_two byte name ss p q) qs
+
+-- f applied to the first pattern and to f applied to the next, and so on
+abbrev pub folded_right : ℕ → List ℕ → List SortTree → Unfolded → Unfoldeds → Unfolded
+folded_right byte name ss p no_more = p
+folded_right byte name ss p (and_more q qs) = applied_to_two byte name ss p (folded_right byte name ss q qs)
+
+-- the fold of a symbol over patterns, from the left or from the right
+abbrev pub fold_of : Bool → ℕ → List ℕ → List SortTree → Unfoldeds → Unfolded
+fold_of left byte name ss no_more = other_form byte
+fold_of true byte name ss (and_more p ps) = folded_left byte name ss p ps
+fold_of false byte name ss (and_more p ps) = folded_right byte name ss p ps
+
+-- the only one of patterns
+abbrev pub only_of : ℕ → Unfoldeds → Unfolded
+only_of at no_more = other_form at
+only_of at (and_more p no_more) = p
+only_of at (and_more p (and_more q ps)) = other_form at
+
+-- a pattern with its folds read; a fold stands at its own first byte
+abbrev mutual
+  pub unfolded : PatternTree → Unfolded
+  unfolded (element_variable at name s) = named_variable at name s
+  unfolded (set_variable at name s) = other_form at
+  unfolded (string at text) = other_form at
+  unfolded (symbol_applied at name ss ps) = applied_symbol at at name (listed_sorts ss) (all_unfolded ps)
+  unfolded (connected at op ss ps) = other_form at
+  unfolded (binding at binder ss x p) = other_form at
+  unfolded (domain_value at s text byte) = written_value at s text byte
+  unfolded (folded at left p) = standing_at at (inner_fold left p)
+
+  -- what a fold of this stands for
+  pub inner_fold : Bool → PatternTree → Unfolded
+  inner_fold left (element_variable at name s) = other_form at
+  inner_fold left (set_variable at name s) = other_form at
+  inner_fold left (string at text) = other_form at
+  inner_fold left (symbol_applied at name ss ps) = fold_of left at name (listed_sorts ss) (all_unfolded ps)
+  inner_fold left (connected at op ss ps) = only_of at (all_unfolded ps)
+  inner_fold left (binding at binder ss x p) = other_form at
+  inner_fold left (domain_value at s text byte) = other_form at
+  inner_fold left (folded at other p) = other_form at
+
+  pub all_unfolded : PatternTrees → Unfoldeds
+  all_unfolded no_patterns = no_more
+  all_unfolded (pattern_then p ps) = and_more (unfolded p) (all_unfolded ps)
+
+-- how many patterns these are
+abbrev pub count : Unfoldeds → ℕ
+count no_more = 0
+count (and_more p ps) = count ps + 1
+
+-- the height: that of a variable, of a value and of a symbol without arguments is 1
+abbrev mutual
+  pub height : Unfolded → ℕ
+  height (named_variable at name s) = 1
+  height (written_value at s text byte) = 1
+  height (applied_symbol at byte name ss ps) = heights ps + 1
+  height (other_form at) = 1
+
+  -- the greatest of these heights, 0 where there is none
+  pub heights : Unfoldeds → ℕ
+  heights no_more = 0
+  heights (and_more p ps) = max (height p) (heights ps)
+
+-- the pattern has only variables, applications, domain values and folds, each fold with an argument
+abbrev mutual
+  pub IsApplicative : Unfolded → Type 0
+  IsApplicative (named_variable at name s) = Unit {0}
+  IsApplicative (written_value at s text byte) = Unit {0}
+  IsApplicative (applied_symbol at byte name ss ps) = AreApplicative ps
+  IsApplicative (other_form at) = ⊥
+
+  pub AreApplicative : Unfoldeds → Type 0
+  AreApplicative no_more = Unit {0}
+  AreApplicative (and_more p ps) = IsApplicative p × AreApplicative ps

@@ -1,0 +1,11 @@
+-- Believed: what public clauses say, and believed definitions of other crates.
+pub mod Folds
+pub mod ValueTexts
+pub mod PatternSorts
+pub mod PatternFaults
+pub mod PatternMeanings
+pub mod FaultNumbers
+-- Private: what clauses of private functions cite, and how private fields are seen.
+pub mod Notes
+pub mod FoldFaults
+pub mod FoldHeights

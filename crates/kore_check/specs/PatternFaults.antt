@@ -1,0 +1,97 @@
+-- The faults of a pattern, all that are there. Which of them is the first is another matter: `IsFirstFault`.
+use Rattle.std.specs.Prelude.{◌==◌, ◌&&◌, not, ℕ, Bool, true, false, List, [], ◌∷◌, ◌++◌, length, drop, Option, Some, None, is_some, flat_map, Contains, if◌then◌else◌, nat_lt}
+use Rattle.std.specs.Option.{option_and_then}
+use Rattle.kore_text.specs.Trees.{SortTree, PatternTree}
+use Rattle.rule_core.specs.Subsorts.{is_below}
+use Rattle.rule_core.specs.declared.signature.Signature.{Signature}
+use Rattle.rule_core.specs.declared.signature.SortKind.{SortKind}
+use Rattle.rule_core.specs.declared.signature.SymInfo.{SymInfo}
+use Rattle.rule_core.specs.declared.signature.SymKind.{SymKind}
+use Rattle.rule_core.specs.declared.signature.SymKind.TheVariants.{Injection, Ctor, Equations, Hooked, Closed, NoKind}
+use Rattle.rule_core.specs.declared.signature.SortRef.{SortRef}
+use Rattle.kore_sig.specs.FirstFault.{Fault, when, unless}
+use Rattle.kore_sig.specs.SortReferences.{sort_number, sort_place}
+use Rattle.kore_check.specs.Folds.{Unfolded, named_variable, written_value, applied_symbol, other_form, Unfoldeds, no_more, and_more, place, count, height, unfolded}
+use Rattle.kore_check.specs.ValueTexts.{value_of_text}
+use Rattle.kore_check.specs.PatternSorts.{sort_kind, symbol_named, sort_numbers, sort_of, wanted_sort, places_of}
+
+-- 6 at the sort's name: it is not declared, it has arguments, or it is a sort parameter
+abbrev pub sort_faults : Signature → SortTree → List Fault
+sort_faults sig s = unless (is_some (sort_number sig.sorts s)) 6 (sort_place s)
+
+-- 11 at the string: its text is no value of the sort
+abbrev pub text_faults : Option SortKind → List ℕ → ℕ → List Fault
+text_faults None text byte = []
+text_faults (Some kind) text byte = unless (is_some (value_of_text kind text)) 11 byte
+
+-- 9: a sort is another one than the one that is wanted. A pattern without a sort, and a place that wants none, clash
+-- with nothing.
+abbrev pub clash_faults : ℕ → Option ℕ → Option ℕ → List Fault
+clash_faults byte None wanted = []
+clash_faults byte (Some s) None = []
+clash_faults byte (Some s) (Some wanted) = unless (s == wanted) 9 byte
+
+-- the symbol has no kind
+abbrev pub has_no_kind : SymKind → Bool
+has_no_kind Injection = false
+has_no_kind Ctor = false
+has_no_kind Equations = false
+has_no_kind (Hooked row) = false
+has_no_kind Closed = false
+has_no_kind NoKind = true
+
+-- the symbol is the injection
+abbrev pub is_injection : SymKind → Bool
+is_injection Injection = true
+is_injection Ctor = false
+is_injection Equations = false
+is_injection (Hooked row) = false
+is_injection Closed = false
+is_injection NoKind = false
+
+-- an injection goes from a sort to one that it is not below
+abbrev pub goes_astray : Signature → Option (List ℕ) → Bool
+goes_astray sig (Some (a ∷ (b ∷ []))) = not (is_below sig.subsorts a b)
+goes_astray sig ns = false
+
+-- At a symbol: 7, it is not declared; 8, the number of its sort arguments or of its arguments is another one; 9, an
+-- injection goes from a sort to one that it is not below; 25, it has no kind.
+abbrev pub symbol_faults : Signature → ℕ → Option SymInfo → List SortTree → ℕ → List Fault
+symbol_faults sig byte None ss args = record { number = 7; byte = byte } ∷ []
+symbol_faults sig byte (Some info) ss args =
+    unless ((length ss == info.params) && (args == length info.args.items)) 8 byte
+    ++ when (is_injection info.kind && goes_astray sig (sort_numbers sig ss)) 9 byte
+    ++ when (has_no_kind info.kind) 25 byte
+
+-- the sort that the first of these places wants
+abbrev pub first_wanted : Signature → List SortTree → List SortRef → Option ℕ
+first_wanted sig ss [] = None
+first_wanted sig ss (of ∷ refs) = wanted_sort sig ss of
+
+-- the faults of a pattern, but for its height
+abbrev mutual
+  pub pattern_faults : Signature → Unfolded → List Fault
+  pattern_faults sig (named_variable at name s) = sort_faults sig s
+  pattern_faults sig (written_value at s text byte) =
+      sort_faults sig s ++ text_faults (option_and_then (sort_kind sig) (sort_number sig.sorts s)) text byte
+  pattern_faults sig (applied_symbol at byte name ss ps) =
+      flat_map (sort_faults sig) ss
+      ++ (symbol_faults sig byte (symbol_named sig name) ss (count ps)
+      ++ argument_faults sig ss (places_of (symbol_named sig name)) ps)
+  pattern_faults sig (other_form at) = []
+
+  -- of the arguments, which stand at these places; 9 at an argument that has another sort than its place wants
+  pub argument_faults : Signature → List SortTree → List SortRef → Unfoldeds → List Fault
+  argument_faults sig ss refs no_more = []
+  argument_faults sig ss refs (and_more p ps) =
+      pattern_faults sig p
+      ++ (clash_faults (place p) (sort_of sig p) (first_wanted sig ss refs)
+      ++ argument_faults sig ss (drop 1 refs) ps)
+
+-- the greatest height of a pattern of a rule, and of an initial term
+abbrev pub most_height : ℕ
+most_height = 500
+
+-- .. and 3 at the pattern: it is too high
+abbrev pub all_faults : Signature → Unfolded → List Fault
+all_faults sig p = when (nat_lt most_height (height p)) 3 (place p) ++ pattern_faults sig p

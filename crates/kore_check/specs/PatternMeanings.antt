@@ -1,0 +1,83 @@
+-- The rule pattern that a Kore pattern means, and its variables, numbered by name and sort in the order of their first
+-- occurrence.
+use Rattle.std.specs.Prelude.{◌≡◌, ◌==◌, ◌&&◌, ◌++◌, ℕ, List, [], ◌∷◌, Option, Some, None, is_some, map, if◌then◌else◌, string_bytes}
+use Rattle.std.specs.List.{position_from}
+use Rattle.std.specs.Str.{bytes_eq}
+use Rattle.std.specs.Option.{option_and_then}
+use Rattle.kore_text.specs.Trees.{SortTree}
+use Rattle.term_core.specs.Patterns.{Pattern, Patterns, variable, domain_value, application, injection, call, no_pattern, more_patterns}
+use Rattle.rule_core.specs.Named.{number_of}
+use Rattle.rule_core.specs.declared.rules.VarInfo.{VarInfo}
+use Rattle.rule_core.specs.declared.signature.Signature.{Signature}
+use Rattle.rule_core.specs.declared.signature.SymInfo.{SymInfo}
+use Rattle.rule_core.specs.declared.signature.SymKind.{SymKind}
+use Rattle.rule_core.specs.declared.signature.SymKind.TheVariants.{Injection, Ctor, Equations, Hooked, Closed, NoKind}
+use Rattle.term_core.specs.Terms.{DomainValue}
+use Rattle.kore_sig.specs.SortReferences.{sort_number}
+use Rattle.kore_check.specs.Folds.{Unfolded, named_variable, written_value, applied_symbol, other_form, Unfoldeds, no_more, and_more}
+use Rattle.kore_check.specs.ValueTexts.{value_of_text}
+use Rattle.kore_check.specs.PatternSorts.{sort_kind, symbol_info, sort_numbers}
+
+-- the names and sorts of variables, in the order of their numbers
+abbrev pub named_sorts : List VarInfo → List (List ℕ × ℕ)
+named_sorts vars = map (λ (v : VarInfo). (string_bytes v.name, v.sort.0)) vars
+
+-- the number of the variable with this name and this sort
+abbrev pub variable_number : List (List ℕ × ℕ) → List ℕ → ℕ → Option ℕ
+variable_number vars name s = position_from (λ (v : List ℕ × ℕ). bytes_eq name v.0 && (s == v.1)) 0 vars
+
+-- the variables, and this one behind them where it is none of them
+abbrev pub with_variable : List (List ℕ × ℕ) → List ℕ → Option ℕ → List (List ℕ × ℕ)
+with_variable vars name None = vars
+with_variable vars name (Some s) = if is_some (variable_number vars name s) then vars else vars ++ (name, s) ∷ []
+
+-- the variables, and those of the pattern behind them
+abbrev mutual
+  pub with_variables : Signature → List (List ℕ × ℕ) → Unfolded → List (List ℕ × ℕ)
+  with_variables sig vars (named_variable at name s) = with_variable vars name (sort_number sig.sorts s)
+  with_variables sig vars (written_value at s text byte) = vars
+  with_variables sig vars (applied_symbol at byte name ss ps) = with_all_variables sig vars ps
+  with_variables sig vars (other_form at) = vars
+
+  pub with_all_variables : Signature → List (List ℕ × ℕ) → Unfoldeds → List (List ℕ × ℕ)
+  with_all_variables sig vars no_more = vars
+  with_all_variables sig vars (and_more p ps) = with_all_variables sig (with_variables sig vars p) ps
+
+-- the declared symbol with this name has this number and this declaration
+abbrev pub IsNamed : Signature → List ℕ → ℕ → SymInfo → Type 0
+IsNamed sig name f info = (number_of sig.symbols name ≡ Some f) × (symbol_info sig f ≡ Some info)
+
+-- the injection of the only pattern from the one sort to the other
+abbrev pub injected_only : List ℕ → Patterns → Option Pattern
+injected_only (a ∷ (b ∷ [])) (more_patterns p no_pattern) = Some (injection a b p)
+injected_only ns ps = None
+
+-- what a symbol of this kind, with this number and these sort arguments, makes of patterns
+abbrev pub applied_pattern : SymKind → ℕ → List ℕ → Patterns → Option Pattern
+applied_pattern Injection f ns ps = injected_only ns ps
+applied_pattern Ctor f ns ps = Some (application f ps)
+applied_pattern Equations f ns ps = Some (call f ns ps)
+applied_pattern (Hooked row) f ns ps = Some (call f ns ps)
+applied_pattern Closed f ns ps = Some (call f ns ps)
+applied_pattern NoKind f ns ps = None
+
+mutual
+  -- The rule pattern that a pattern means where the variables have these names and sorts: a variable means the variable
+  -- with its number, a domain value the value of its text in its sort, and a symbol what it makes of the meanings of
+  -- its arguments.
+  pub data Means (sig : Signature) (vars : List (List ℕ × ℕ)) : Unfolded → Pattern → Type 0 where
+    by_variable : {at x s : ℕ} {name : List ℕ} {tree : SortTree} → sort_number sig.sorts tree ≡ Some s →
+        variable_number vars name s ≡ Some x → Means sig vars (named_variable at name tree) (variable x)
+    by_value : {at s byte : ℕ} {text : List ℕ} {tree : SortTree} {v : DomainValue} →
+        sort_number sig.sorts tree ≡ Some s →
+        option_and_then (λ kind. value_of_text kind text) (sort_kind sig s) ≡ Some v →
+        Means sig vars (written_value at tree text byte) (domain_value s v)
+    by_symbol : {at byte f : ℕ} {name : List ℕ} {ss : List SortTree} {us : Unfoldeds} {ns : List ℕ} {ps : Patterns} {p : Pattern} {info : SymInfo} →
+        IsNamed sig name f info → sort_numbers sig ss ≡ Some ns → AllMean sig vars us ps →
+        applied_pattern info.kind f ns ps ≡ Some p → Means sig vars (applied_symbol at byte name ss us) p
+
+  -- the same of patterns in order
+  pub data AllMean (sig : Signature) (vars : List (List ℕ × ℕ)) : Unfoldeds → Patterns → Type 0 where
+    none_mean : AllMean sig vars no_more no_pattern
+    more_mean : {u : Unfolded} {us : Unfoldeds} {p : Pattern} {ps : Patterns} → Means sig vars u p →
+        AllMean sig vars us ps → AllMean sig vars (and_more u us) (more_patterns p ps)

@@ -1,0 +1,52 @@
+-- The value that the text of a domain value stands for (K framework, domains `INT.Int` and `BOOL.Bool`): a whole number
+-- of 128 bits by an optional sign and digits, a truth value by its name, and any text in a sort of another kind. So
+-- `007` and `+7` are 7, and `-0` is 0.
+use Rattle.std.specs.Prelude.{◌==◌, ◌&&◌, ◌+◌, ◌*◌, ◌-◌, ◌^◌, ℕ, ℤ, pos, neg_ℤ, Bool, true, false, List, [], ◌∷◌, length, Option, Some, None, option_map, if◌then◌else◌, codes, nat_lt, nat_le}
+use Rattle.std.specs.Str.{is_utf8, bytes_eq, all_ascii_digits}
+use Rattle.term_core.specs.Terms.{DomainValue, integer, truth, text}
+use Rattle.rule_core.specs.declared.signature.SortKind.{SortKind}
+use Rattle.rule_core.specs.declared.signature.SortKind.TheVariants as kind
+
+-- the number that digits stand for behind those of this one
+abbrev pub digits_behind : ℕ → List ℕ → ℕ
+digits_behind n [] = n
+digits_behind n (b ∷ bytes) = digits_behind (n * 10 + (b - 48)) bytes
+
+-- the number of one digit or more
+abbrev pub number_of_digits : List ℕ → Option ℕ
+number_of_digits bytes =
+    if all_ascii_digits bytes && nat_lt 0 (length bytes) then Some (digits_behind 0 bytes) else None
+
+-- the whole number in the range, where there is one
+abbrev pub not_negative : Option ℕ → Option ℤ
+not_negative None = None
+not_negative (Some n) = if nat_lt n (2 ^ 127) then Some (pos n) else None
+
+abbrev pub negated : Option ℕ → Option ℤ
+negated None = None
+negated (Some n) = if nat_le n (2 ^ 127) then Some (neg_ℤ (pos n)) else None
+
+-- an optional sign, `-` or `+`, and digits
+abbrev pub integer_of_text : List ℕ → Option ℤ
+integer_of_text [] = None
+integer_of_text (b ∷ bytes) =
+    if b == 45 then negated (number_of_digits bytes)
+    else if b == 43 then not_negative (number_of_digits bytes)
+    else not_negative (number_of_digits (b ∷ bytes))
+
+abbrev pub truth_of_text : List ℕ → Option Bool
+truth_of_text bytes =
+    if bytes_eq bytes (codes "true") then Some true
+    else if bytes_eq bytes (codes "false") then Some false
+    else None
+
+-- a text is valid UTF-8
+abbrev pub value_of_words : List ℕ → Option DomainValue
+value_of_words bytes = if is_utf8 bytes then Some (text bytes) else None
+
+-- the value of a text in a sort of this kind
+abbrev pub value_of_text : SortKind → List ℕ → Option DomainValue
+value_of_text kind.Int bytes = option_map integer (integer_of_text bytes)
+value_of_text kind.Bool bytes = option_map truth (truth_of_text bytes)
+value_of_text kind.Map bytes = value_of_words bytes
+value_of_text kind.Other bytes = value_of_words bytes

@@ -1,0 +1,102 @@
+// The height of a pattern with its folds read.
+ghost use Rattle.std.specs.Prelude.{◌≡◌, ◌≤◌, ◌+◌, ℕ, true, false, List, length, map};
+ghost use Rattle.kore_text.specs.Trees.{SortTree, pattern_trees};
+ghost use Rattle.kore_ast.specs.Plain.{plain_pattern};
+ghost use Rattle.kore_check.specs.Folds.{unfolded, inner_fold, only_of, fold_of, all_unfolded, height, heights};
+ghost use Rattle.kore_check.specs.FoldHeights.{cut};
+
+use kore_ast::{Pat, PatForm};
+use term_core::MAX_HEIGHT;
+
+
+// The height of a pattern, or 501 where it is greater.
+#[cycle(height)]
+pub(crate) fn height_of(pat: &Pat) -> u32
+    ensures { result ≡ cut (height (unfolded (plain_pattern pat.now))) }
+{
+    match &pat.form {
+        PatForm::Elem(..) | PatForm::Value(..) => 1,
+        PatForm::App(_, _, args) => one_more(highest(args)),
+        PatForm::Fold(left, inner) => fold_height(inner, *left),
+        PatForm::SetVar(..) | PatForm::Text(_) | PatForm::Built(..) | PatForm::Bound(..) => 1,
+    }
+}
+
+// The greatest height of patterns, 0 where there is none, or 501 where it is greater.
+#[cycle(height)]
+fn highest(args: &[Pat]) -> u32
+    ensures { result ≡ cut (heights (all_unfolded (pattern_trees (map plain_pattern args.now)))) }
+{
+    let mut highest: u32 = 0;
+    for i in 0..args.len() {
+        highest = highest.max(height_of(&args[i]));
+    }
+    highest
+}
+
+// The height of a fold of this pattern, or 501 where it is greater.
+#[cycle(height)]
+fn fold_height(inner: &Pat, left: bool) -> u32
+    ensures { result ≡ cut (height (inner_fold left (plain_pattern inner.now))) }
+{
+    match &inner.form {
+        PatForm::App(_, _, args) => {
+            if args.len() < 2 {
+                only_height(args)
+            } else if left {
+                left_height(args)
+            } else {
+                right_height(args)
+            }
+        }
+        PatForm::Built(_, _, args) => only_height(args),
+        PatForm::Elem(..) | PatForm::SetVar(..) | PatForm::Text(_) => 1,
+        PatForm::Bound(..) | PatForm::Value(..) | PatForm::Fold(..) => 1,
+    }
+}
+
+// The height of the only pattern; 1 where there is another number of them.
+#[cycle(height)]
+fn only_height(args: &[Pat]) -> u32
+    ensures { (at : ℕ) → result ≡ cut (height (only_of at (all_unfolded (pattern_trees (map plain_pattern args.now))))) }
+{
+    if args.len() != 1 {
+        return 1;
+    }
+    height_of(&args[0])
+}
+
+// The height of what a fold from the left makes of patterns: each of them adds one to what stands left of it.
+#[cycle(height)]
+fn left_height(args: &[Pat]) -> u32
+    requires { 2 ≤ length args.now }
+    ensures { (byte : ℕ) (name : List ℕ) (ss : List SortTree) → result ≡ cut (height (fold_of true byte name ss (all_unfolded (pattern_trees (map plain_pattern args.now))))) }
+{
+    let mut height = height_of(&args[0]);
+    for i in 1..args.len() {
+        height = one_more(height.max(height_of(&args[i])));
+    }
+    height
+}
+
+// The height of what a fold from the right makes of patterns: each of them adds one to what stands right of it.
+#[cycle(height)]
+fn right_height(args: &[Pat]) -> u32
+    requires { 2 ≤ length args.now }
+    ensures { (byte : ℕ) (name : List ℕ) (ss : List SortTree) → result ≡ cut (height (fold_of false byte name ss (all_unfolded (pattern_trees (map plain_pattern args.now))))) }
+{
+    let mut i = args.len() - 1;
+    let mut height = height_of(&args[i]);
+    'leftward: while 0 < i {
+        i -= 1;
+        height = one_more(height.max(height_of(&args[i])));
+    }
+    height
+}
+
+// A height with one more, or 501 where that is greater.
+fn one_more(height: u32) -> u32
+    ensures { result ≡ cut (height + 1) }
+{
+    if height > MAX_HEIGHT { MAX_HEIGHT + 1 } else { height + 1 }
+}

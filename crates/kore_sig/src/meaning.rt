@@ -1,0 +1,70 @@
+// The signature of a definition, or the first fault of its declarations.
+ghost use Rattle.std.specs.Prelude.{◌≡◌, [], ℕ, None, map, IfOk, IfErr, OnOk};
+ghost use Rattle.kore_ast.specs.Plain.{plain_definition, plain_module};
+ghost use Rattle.rule_core.specs.Named.{names_of};
+ghost use Rattle.rule_core.specs.WellSorted.{IsSignature};
+ghost use Rattle.kore_sig.specs.Naming.{first_module};
+ghost use Rattle.kore_sig.specs.Placing.{names_of_modules};
+ghost use Rattle.kore_sig.specs.Refusals.{IsRefusal, Refuses};
+ghost use Rattle.kore_sig.specs.SignatureFaults.{FirstOfSignature};
+ghost use Rattle.kore_sig.specs.Signatures.{IsSignatureOf, IsNumbered};
+
+use crate::counted::counted_declarations;
+use crate::faults::SigFault;
+use crate::known::learn;
+use crate::names::add_name;
+use crate::pairs::stated_order;
+use crate::symbols::declared_symbols;
+use kore_ast::{Definition, Module};
+use rule_core::{Signature, Table};
+use std::alloc::Global;
+
+/// The signature that a definition declares, or the first fault of its declarations.
+///
+/// The names of all modules come first, then the declarations of the modules that count, then the pairs of sorts that
+/// their axioms state, each in the order of the file. At one declaration the smallest number of a refusal comes first,
+/// of one number the first byte. A function has the kind `Closed` where it has sort parameters, and `Equations`
+/// otherwise, whatever its hook.
+///
+/// It looks at each declaration a few times, and at each name as many times as the logarithm of the number of names;
+/// `Subsorts` tells what the pairs cost. It does not recurse. More than 2^32 sorts, symbols, or parameters of one symbol
+/// are answered as want of memory.
+pub fn signature(alloc: Global, definition: &Definition) -> Result<Signature, SigFault>
+    ensures declared { IfOk result (IsSignatureOf (plain_definition definition.now)) }
+    ensures faultless { OnOk result (FirstOfSignature (plain_definition definition.now) None) }
+    ensures sorted { IfOk result IsSignature }
+    ensures numbered { IfOk result IsNumbered }
+    ensures refused { IfErr result (IsRefusal (plain_definition definition.now)) }
+{
+    let modules = module_names(alloc, &definition.modules)?;
+    let decls = counted_declarations(alloc, definition)?;
+    let known = learn(alloc, &decls)?;
+    if u32::try_from(known.sorts.len()).is_err() {
+        return Err(SigFault::Memory);
+    }
+    let symbols = declared_symbols(alloc, &modules, &known, &decls)?;
+    if u32::try_from(symbols.len()).is_err() {
+        return Err(SigFault::Memory);
+    }
+    let subsorts = stated_order(alloc, &known.sorts, &decls)?;
+    Ok(Signature {
+        sorts: known.sorts,
+        symbols,
+        subsorts,
+    })
+}
+
+/// The names of the modules, in the order of the file, or the first that stands twice.
+fn module_names(alloc: Global, modules: &[Module]) -> Result<Table<()>, SigFault>
+    ensures refused { IfErr result (Refuses (λ r. first_module [] (map plain_module modules.now) ≡ r)) }
+    ensures clear { OnOk result (first_module [] (map plain_module modules.now) ≡ None) }
+    ensures names { IfOk result (λ names. names_of names ≡ names_of_modules modules.now) }
+{
+    let mut names = Table::new(alloc);
+    for module in modules {
+        if !add_name(alloc, &mut names, &module.name)? {
+            return Err(SigFault::Duplicate(module.at));
+        }
+    }
+    Ok(names)
+}
