@@ -1,4 +1,4 @@
-use Rattle.std.proofs.Common.{◌≡◌, ◌+◌, ◌<◌, ◌++◌, ◌∷◌, [], arith, rules, map, drop, take, length, get_or, ap, sym, ◌∙◌, List, ℕ, Vec, Global}
+use Rattle.std.proofs.Common.{◌≡◌, ◌+◌, ◌<◌, ◌++◌, ◌∷◌, [], arith, map, drop, take, length, ap, sym, ◌∙◌, List, ℕ, Vec, Global}
 use Rattle.std.specs.Prelude.{flat_map}
 use Rattle.kore_ast.specs.declared.tree.Decl.{Decl}
 use Rattle.kore_sig.specs.declared.counted.Placed.{Placed as PlacedDecl}
@@ -11,8 +11,8 @@ use Rattle.kore_sig.specs.Placing.{marks_of, plain_placed, names_of_modules}
 use Rattle.kore_sig.specs.SignatureFaults.{Placed, placed, placed_at, name_behind}
 use Rattle.kore_sig.proofs.CountedLaws.{mark_at, length_marks, placed_with, placed_without, placed_counted, declarations_of}
 use Rattle.kore_sig.proofs.ListLaws.{take_step, drop_step}
-use Rattle.kore_sig.proofs.counted.counted_declarations.Goals as goal
-use Rattle.kore_sig.proofs.counted.counted_declarations.Goals.{then-index+in_ok-place, else-index}
+use Rattle.kore_sig.proofs.counted.placed_declarations.Goals as goal
+use Rattle.kore_sig.proofs.counted.placed_declarations.Goals.{then-index+in_ok-place, else-index}
 
 pub index-requires : goal.index-requires
 index-requires c =
