@@ -6,6 +6,7 @@ mod equations;
 mod faults;
 mod parts;
 mod priorities;
+mod sides;
 mod uses;
 
 pub use classes::{AxiomClass, class_of};

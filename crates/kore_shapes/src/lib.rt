@@ -6,6 +6,8 @@ mod forms;
 mod shapes;
 mod sorts;
 mod statements;
+#[cfg(test)]
+mod tests;
 
 pub use equations::{EquationParts, equation_parts};
 pub use forms::{Connectives, has_binder, has_connective};
