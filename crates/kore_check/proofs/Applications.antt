@@ -1,7 +1,7 @@
 -- What the check of an application notes.
-use Rattle.std.proofs.Common.{◌≡◌, ℕ, ◌+◌, Bool, true, false, List, [], ◌∷◌, ◌++◌, length, map, drop, Option, Some, None, Vec, Global, get_or, ◌<◌, append_assoc, refl, sym, ◌∙◌, ap, subst, arith}
+use Rattle.std.proofs.Common.{◌≡◌, ℕ, ◌+◌, List, [], ◌∷◌, ◌++◌, length, map, drop, Option, Vec, Global, get_or, ◌<◌, append_assoc, refl, sym, ◌∙◌, ap, arith}
 use Rattle.std.specs.Prelude.{flat_map}
-use Rattle.kore_text.specs.Trees.{SortTree, PatternTree, pattern_trees}
+use Rattle.kore_text.specs.Trees.{SortTree, pattern_trees}
 use Rattle.kore_ast.specs.declared.tree.Sort.{Sort}
 use Rattle.kore_ast.specs.declared.tree.Pat.{Pat}
 use Rattle.kore_ast.specs.declared.tree.PatForm.TheVariants as form
@@ -12,7 +12,7 @@ use Rattle.rule_core.specs.declared.signature.SortRef.{SortRef}
 use Rattle.kore_sig.specs.FirstFault.{Fault}
 use Rattle.kore_sig.specs.Noted.{noted, leads_by_byte}
 use Rattle.kore_check.specs.declared.faults.PatternFault.{PatternFault}
-use Rattle.kore_check.specs.Folds.{Unfolded, applied_symbol, Unfoldeds, place, count, unfolded, all_unfolded}
+use Rattle.kore_check.specs.Folds.{applied_symbol, Unfoldeds, place, count, unfolded, all_unfolded}
 use Rattle.kore_check.specs.PatternSorts.{sort_numbers, sort_of, result_sort, symbol_named, places_of}
 use Rattle.kore_check.specs.PatternFaults.{sort_faults, symbol_faults, pattern_faults, argument_faults, clash_faults, first_wanted}
 use Rattle.kore_check.specs.Notes.{kept_fault, after}
@@ -57,13 +57,13 @@ application_checked sig p n ss ps symbol xs zs places ys args first second third
     let at_symbol : List Fault = symbol_faults sig p.at (symbol_named sig n) S (count (reads ps.items)) in
     let of_args : List Fault = argument_faults sig S (places_of (symbol_named sig n)) (reads ps.items) in
     let head : kept_fault second ≡ after first (flat_map (sort_faults sig) S ++ symbol_faults sig p.at (symbol_named sig n) S (count (reads ps.items))) =
-      e ∙ ap (λ (zs : List Sort). after first (flat_map (sort_faults sig) (map plain_sort zs) ++ symbol_faults sig p.at symbol (map plain_sort zs) args)) same1
-      ∙ ap (λ s. after first (flat_map (sort_faults sig) S ++ symbol_faults sig p.at s S args)) is
-      ∙ ap (λ k. after first (flat_map (sort_faults sig) S ++ symbol_faults sig p.at (symbol_named sig n) S k)) (many ∙ sym (count-reads ps.items)) in
+    e ∙ ap (λ (zs : List Sort). after first (flat_map (sort_faults sig) (map plain_sort zs) ++ symbol_faults sig p.at symbol (map plain_sort zs) args)) same1
+    ∙ ap (λ s. after first (flat_map (sort_faults sig) S ++ symbol_faults sig p.at s S args)) is
+    ∙ ap (λ k. after first (flat_map (sort_faults sig) S ++ symbol_faults sig p.at (symbol_named sig n) S k)) (many ∙ sym (count-reads ps.items)) in
     let rest : kept_fault third ≡ after second (argument_faults sig S (places_of (symbol_named sig n)) (reads ps.items)) =
-      f ∙ ap (λ (xs : List Sort). after second (argument_faults sig (map plain_sort xs) places (reads ys))) same2
-      ∙ ap (λ refs. after second (argument_faults sig S refs (reads ys))) (at ∙ ap places_of is)
-      ∙ ap (λ (qs : List Pat). after second (argument_faults sig S (places_of (symbol_named sig n)) (reads qs))) same3 in
+    f ∙ ap (λ (xs : List Sort). after second (argument_faults sig (map plain_sort xs) places (reads ys))) same2
+    ∙ ap (λ refs. after second (argument_faults sig S refs (reads ys))) (at ∙ ap places_of is)
+    ∙ ap (λ (qs : List Pat). after second (argument_faults sig S (places_of (symbol_named sig n)) (reads qs))) same3 in
     after-append first second (kept_fault third) (sorts ++ at_symbol) of_args head rest
     ∙ ap (λ (fs : List Fault). after first fs) (append_assoc sorts at_symbol of_args)
     ∙ sym (ap (λ u. after first (pattern_faults sig u)) (application_unfolded p n ss ps h))
@@ -81,11 +81,11 @@ argument_checked sig S places args i arg own wanted first second third target lt
     let own_faults : List Fault = pattern_faults sig (unfolded (plain_pattern arg)) in
     let clashes : List Fault = clash_faults (place (unfolded (plain_pattern arg))) (sort_of sig (unfolded (plain_pattern arg))) (first_wanted sig S (drop i places)) in
     let clash : kept_fault third ≡ after second (clash_faults (place (unfolded (plain_pattern arg))) (sort_of sig (unfolded (plain_pattern arg))) (first_wanted sig S (drop i places))) =
-      f ∙ ap (λ b. after second (clash_faults b own wanted)) (sym at)
-      ∙ ap (λ o. after second (clash_faults (place (unfolded (plain_pattern arg))) o wanted)) sorted
-      ∙ ap (λ o. after second (clash_faults (place (unfolded (plain_pattern arg))) (sort_of sig (unfolded (plain_pattern arg))) o)) want in
+    f ∙ ap (λ b. after second (clash_faults b own wanted)) (sym at)
+    ∙ ap (λ o. after second (clash_faults (place (unfolded (plain_pattern arg))) o wanted)) sorted
+    ∙ ap (λ o. after second (clash_faults (place (unfolded (plain_pattern arg))) (sort_of sig (unfolded (plain_pattern arg))) o)) want in
     let joined : after third rest ≡ after first (pattern_faults sig (unfolded (plain_pattern arg)) ++ (clash_faults (place (unfolded (plain_pattern arg))) (sort_of sig (unfolded (plain_pattern arg))) (first_wanted sig S (drop i places)) ++ rest)) =
-      after-append first second (after third rest) own_faults (clashes ++ rest) e (after-append second third (after third rest) clashes rest clash refl) in
+    after-append first second (after third rest) own_faults (clashes ++ rest) e (after-append second third (after third rest) clashes rest clash refl) in
     joined
     ∙ ap (λ refs. after first (pattern_faults sig (unfolded (plain_pattern arg)) ++ (clash_faults (place (unfolded (plain_pattern arg))) (sort_of sig (unfolded (plain_pattern arg))) (first_wanted sig S (drop i places)) ++ argument_faults sig S refs (reads (drop (i + 1) args))))) (sym (drop-drop places i))
     ∙ ap (λ (qs : List Pat). after first (argument_faults sig S (drop i places) (reads qs))) (sym (drop-item args i arg lt item))

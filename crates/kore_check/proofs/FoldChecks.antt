@@ -1,9 +1,9 @@
 -- What the check of a fold notes.
-use Rattle.std.proofs.Common.{◌≡◌, ◌≤◌, ◌<◌, ℕ, zero, suc, ◌+◌, Bool, true, false, List, [], ◌∷◌, ◌++◌, length, map, drop, get_or, Option, Some, None, option_map, Vec, Global, eq-eqb, length-drop, refl, sym, ◌∙◌, ap, subst, arith}
+use Rattle.std.proofs.Common.{◌≡◌, ◌≤◌, ◌<◌, ℕ, ◌+◌, Bool, true, false, List, [], ◌∷◌, ◌++◌, length, map, drop, get_or, Option, option_map, Vec, Global, eq-eqb, length-drop, refl, sym, ◌∙◌, ap, arith}
 use Rattle.std.specs.Prelude.{flat_map, ◌==◌}
 use Rattle.std.proofs.lemmas.Bool.{eqb-true}
 use Rattle.std.proofs.lemmas.List.{drop_all}
-use Rattle.kore_text.specs.Trees.{SortTree, pattern_trees}
+use Rattle.kore_text.specs.Trees.{SortTree}
 use Rattle.kore_ast.specs.declared.tree.Sort.{Sort}
 use Rattle.kore_ast.specs.declared.tree.Pat.{Pat}
 use Rattle.kore_ast.specs.declared.tree.PatForm.TheVariants as form
@@ -12,17 +12,16 @@ use Rattle.rule_core.specs.declared.signature.Signature.{Signature}
 use Rattle.rule_core.specs.declared.signature.SymInfo.{SymInfo}
 use Rattle.rule_core.specs.declared.signature.SortRef.{SortRef}
 use Rattle.kore_sig.specs.FirstFault.{Fault}
-use Rattle.kore_sig.specs.Noted.{noted, leads_by_byte}
 use Rattle.kore_check.specs.declared.faults.PatternFault.{PatternFault}
 use Rattle.kore_check.specs.declared.check.FoldSorts.{FoldSorts}
-use Rattle.kore_check.specs.Folds.{Unfolded, Unfoldeds, no_more, and_more, other_form, place, unfolded, inner_fold, all_unfolded, only_of, fold_of, folded_left, folded_right, applied_to_two}
+use Rattle.kore_check.specs.Folds.{Unfolded, Unfoldeds, no_more, and_more, other_form, place, unfolded, inner_fold, only_of, fold_of, folded_left, applied_to_two}
 use Rattle.kore_check.specs.PatternSorts.{sort_numbers, sort_of, result_sort, symbol_named, places_of}
 use Rattle.kore_check.specs.PatternFaults.{sort_faults, symbol_faults, pattern_faults, clash_faults, first_wanted}
 use Rattle.kore_check.specs.FoldFaults.{folded_faults, rest_faults, next_faults, is_none_more}
 use Rattle.kore_check.specs.Notes.{kept_fault, after, sort_no}
 use Rattle.kore_check.proofs.NotedLaws.{noted-same}
 use Rattle.kore_check.proofs.SameFaults.{same-sym}
-use Rattle.kore_check.proofs.Forms.{application_is, connective_is, listed_sorts-trees}
+use Rattle.kore_check.proofs.Forms.{application_is, listed_sorts-trees}
 use Rattle.kore_check.proofs.Items.{drop-item}
 use Rattle.kore_check.proofs.Applications.{reads, after-append}
 use Rattle.kore_check.proofs.FoldLaws.{Knows, head_of, fold_faults}
@@ -92,8 +91,8 @@ fold_begun sig left s (p ∷ args) arg own first second third many item at sorte
     let own_faults : List Fault = pattern_faults sig (unfolded (plain_pattern arg)) in
     let clashes : List Fault = clash_faults (place (unfolded (plain_pattern arg))) (sort_of sig (unfolded (plain_pattern arg))) (option_map sort_no s.lower) in
     let clash : kept_fault third ≡ after second clashes =
-      f ∙ ap (λ b. after second (clash_faults b own (option_map sort_no s.lower))) (sym at)
-      ∙ ap (λ o. after second (clash_faults (place (unfolded (plain_pattern arg))) o (option_map sort_no s.lower))) sorted in
+    f ∙ ap (λ b. after second (clash_faults b own (option_map sort_no s.lower))) (sym at)
+    ∙ ap (λ o. after second (clash_faults (place (unfolded (plain_pattern arg))) o (option_map sort_no s.lower))) sorted in
     after-append first second (after third rest) own_faults (clashes ++ rest) e (after-append second third (after third rest) clashes rest clash refl)
     ∙ ap (λ (q : Pat). after first (folded_faults sig left s (reads (q ∷ args)))) item
 
@@ -109,9 +108,9 @@ fold_goes_on sig left is_last s args i arg own first second third target lt item
     let own_faults : List Fault = pattern_faults sig (unfolded (plain_pattern arg)) in
     let clashes : List Fault = next_faults (is_none_more (reads (drop (i + 1) args))) left (place (unfolded (plain_pattern arg))) (sort_of sig (unfolded (plain_pattern arg))) s in
     let clash : kept_fault third ≡ after second clashes =
-      f ∙ ap (λ (b : Bool). after second (next_faults b left arg.at own s)) (last ∙ sym (last_item args i lt))
-      ∙ ap (λ b. after second (next_faults (is_none_more (reads (drop (i + 1) args))) left b own s)) (sym at)
-      ∙ ap (λ o. after second (next_faults (is_none_more (reads (drop (i + 1) args))) left (place (unfolded (plain_pattern arg))) o s)) sorted in
+    f ∙ ap (λ (b : Bool). after second (next_faults b left arg.at own s)) (last ∙ sym (last_item args i lt))
+    ∙ ap (λ b. after second (next_faults (is_none_more (reads (drop (i + 1) args))) left b own s)) (sym at)
+    ∙ ap (λ o. after second (next_faults (is_none_more (reads (drop (i + 1) args))) left (place (unfolded (plain_pattern arg))) o s)) sorted in
     after-append first second (after third rest) own_faults (clashes ++ rest) e (after-append second third (after third rest) clashes rest clash refl)
     ∙ ap (λ (qs : List Pat). after first (rest_faults sig left s (reads qs))) (sym (drop-item args i arg lt item))
     ∙ whole
@@ -151,10 +150,10 @@ pub fold_checked : (sig : Signature) (left : Bool) (p : Pat) (n : List ℕ) (ss 
 fold_checked sig left p n ss ps symbol xs s ys first second third h many is same1 same2 k e f =
     let S : List SortTree = map plain_sort ss.items in
     let head : kept_fault second ≡ after first (head_of sig p.at n S) =
-      e ∙ ap (λ (zs : List Sort). after first (flat_map (sort_faults sig) (map plain_sort zs) ++ symbol_faults sig p.at symbol (map plain_sort zs) 2)) same1
-      ∙ ap (λ o. after first (flat_map (sort_faults sig) S ++ symbol_faults sig p.at o S 2)) is in
+    e ∙ ap (λ (zs : List Sort). after first (flat_map (sort_faults sig) (map plain_sort zs) ++ symbol_faults sig p.at symbol (map plain_sort zs) 2)) same1
+    ∙ ap (λ o. after first (flat_map (sort_faults sig) S ++ symbol_faults sig p.at o S 2)) is in
     let rest : kept_fault third ≡ after second (folded_faults sig left s (reads ps.items)) =
-      f ∙ ap (λ (qs : List Pat). after second (folded_faults sig left s (reads qs))) same2 in
+    f ∙ ap (λ (qs : List Pat). after second (folded_faults sig left s (reads qs))) same2 in
     after-append first second (kept_fault third) (head_of sig p.at n S) (folded_faults sig left s (reads ps.items)) head rest
     ∙ fold_same sig left p.at n S s ps.items first many k
     ∙ sym (ap (λ u. after first (pattern_faults sig u)) (application_folded left p n ss ps h))

@@ -1,17 +1,17 @@
 -- The faults of the patterns that a fold stands for are those of its symbol, which are noted once, and of its arguments.
-use Rattle.std.proofs.Common.{◌≡◌, ℕ, Bool, true, false, List, [], ◌∷◌, ◌++◌, Option, Some, None, option_map, drop, append_assoc, append-nil, refl, sym, ◌∙◌, ap, subst}
+use Rattle.std.proofs.Common.{◌≡◌, ℕ, Bool, true, false, List, [], ◌++◌, Option, option_map, drop, append_assoc, append-nil, sym, ◌∙◌, ap}
 use Rattle.std.specs.Prelude.{flat_map}
 use Rattle.kore_text.specs.Trees.{SortTree}
 use Rattle.rule_core.specs.declared.signature.Signature.{Signature}
 use Rattle.kore_sig.specs.FirstFault.{Fault}
 use Rattle.kore_check.specs.declared.check.FoldSorts.{FoldSorts}
-use Rattle.kore_check.specs.Folds.{Unfolded, applied_symbol, Unfoldeds, no_more, and_more, place, applied_to_two, folded_left, folded_right, fold_of}
+use Rattle.kore_check.specs.Folds.{Unfolded, Unfoldeds, no_more, and_more, place, applied_to_two, folded_left, folded_right, fold_of}
 use Rattle.kore_check.specs.PatternSorts.{sort_of, symbol_named, sort_numbers, result_sort, places_of}
 use Rattle.kore_check.specs.PatternFaults.{pattern_faults, sort_faults, symbol_faults, clash_faults, first_wanted}
-use Rattle.kore_check.specs.FoldFaults.{folded_faults, rest_faults, next_faults}
+use Rattle.kore_check.specs.FoldFaults.{folded_faults, rest_faults}
 use Rattle.kore_check.specs.Notes.{sort_no}
 use Rattle.kore_check.proofs.NotedLaws.{SameFaults}
-use Rattle.kore_check.proofs.SameFaults.{same-refl, same-trans, same-sym, same-eq, same-append, same-swap, same-front, same-twice}
+use Rattle.kore_check.proofs.SameFaults.{same-refl, same-trans, same-eq, same-append, same-swap, same-front, same-twice}
 
 -- the faults of a symbol with two arguments
 abbrev pub head_of : Signature → ℕ → List ℕ → List SortTree → List Fault
@@ -72,12 +72,12 @@ left_built sig byte name ss s u v (and_more q qs) k =
     let last : List Fault = clash sig q (option_map sort_no s.upper) in
     let rest : List Fault = left_rest sig s qs in
     let next : pattern_faults sig (applied_to_two byte name ss w q) ≡ head ++ (built ++ (outer ++ (own ++ (last ++ [])))) =
-      two_faults sig byte name ss s w q k
-      ∙ ap (λ (c : List Fault). head ++ (built ++ (c ++ (own ++ (last ++ []))))) (own_clash sig byte name ss s u v (option_map sort_no s.lower) k) in
+    two_faults sig byte name ss s w q k
+    ∙ ap (λ (c : List Fault). head ++ (built ++ (c ++ (own ++ (last ++ []))))) (own_clash sig byte name ss s u v (option_map sort_no s.lower) k) in
     same-trans _ (pattern_faults sig (applied_to_two byte name ss w q) ++ rest) _ (left_built sig byte name ss s w q qs k)
     (same-trans _ ((head ++ built) ++ (outer ++ (own ++ (last ++ rest)))) _
-      (same-eq _ _ (ap (λ (x : List Fault). x ++ rest) next ∙ regroup head built outer own last rest))
-      (same-append (head ++ built) built (outer ++ (own ++ (last ++ rest))) (outer ++ (own ++ (last ++ rest))) (absorbed head built _ (two_faults sig byte name ss s u v k)) (same-refl _)))
+    (same-eq _ _ (ap (λ (x : List Fault). x ++ rest) next ∙ regroup head built outer own last rest))
+    (same-append (head ++ built) built (outer ++ (own ++ (last ++ rest))) (outer ++ (own ++ (last ++ rest))) (absorbed head built _ (two_faults sig byte name ss s u v k)) (same-refl _)))
 
 left_same : (sig : Signature) (s : FoldSorts) (q : Unfolded) (qs : Unfoldeds)
     → SameFaults (pattern_faults sig q ++ (clash sig q (option_map sort_no s.upper) ++ left_rest sig s qs)) (rest_faults sig true s (and_more q qs))
@@ -103,7 +103,7 @@ regroup_right h p k x y c = simp (append_assoc, append-nil)
 -- from the right: of a pattern that is no first one, and of those behind it
 right_built : (sig : Signature) (byte : ℕ) (name : List ℕ) (ss : List SortTree) (s : FoldSorts) (p : Unfolded) (qs : Unfoldeds) → Knows sig byte name ss s
     → SameFaults (head_of sig byte name ss ++ (pattern_faults sig (folded_right byte name ss p qs) ++ clash sig (folded_right byte name ss p qs) (option_map sort_no s.upper)))
-      (head_of sig byte name ss ++ rest_faults sig false s (and_more p qs))
+    (head_of sig byte name ss ++ rest_faults sig false s (and_more p qs))
 right_built sig byte name ss s p no_more k =
     same-eq _ _ (ap (λ (x : List Fault). head_of sig byte name ss ++ (pattern_faults sig p ++ x)) (sym (append-nil (clash sig p (option_map sort_no s.upper)))))
 right_built sig byte name ss s p (and_more q qs) k =
@@ -116,15 +116,15 @@ right_built sig byte name ss s p (and_more q qs) k =
     let last : List Fault = clash sig inner (option_map sort_no s.upper) in
     let rest : List Fault = rest_faults sig false s (and_more q qs) in
     let whole : pattern_faults sig (applied_to_two byte name ss p inner) ++ clash sig (applied_to_two byte name ss p inner) (option_map sort_no s.upper) ≡ (head ++ (own ++ (first ++ (built ++ (last ++ []))))) ++ outer =
-      ap (λ (x : List Fault). x ++ clash sig (applied_to_two byte name ss p inner) (option_map sort_no s.upper)) (two_faults sig byte name ss s p inner k)
-      ∙ ap (λ (x : List Fault). (head ++ (own ++ (first ++ (built ++ (last ++ []))))) ++ x) (own_clash sig byte name ss s p inner (option_map sort_no s.upper) k) in
+    ap (λ (x : List Fault). x ++ clash sig (applied_to_two byte name ss p inner) (option_map sort_no s.upper)) (two_faults sig byte name ss s p inner k)
+    ∙ ap (λ (x : List Fault). (head ++ (own ++ (first ++ (built ++ (last ++ []))))) ++ x) (own_clash sig byte name ss s p inner (option_map sort_no s.upper) k) in
     same-trans _ (head ++ (head ++ (own ++ (first ++ ((built ++ last) ++ outer))))) _
     (same-eq _ _ (ap (λ (x : List Fault). head ++ x) whole ∙ regroup_right head own first built last outer))
     (same-trans _ (head ++ (own ++ (first ++ ((built ++ last) ++ outer)))) _ (same-twice head (own ++ (first ++ ((built ++ last) ++ outer))))
     (same-trans _ (head ++ ((own ++ (first ++ outer)) ++ (built ++ last))) _
-      (same-append head head _ _ (same-refl head) (same-trans _ (own ++ (first ++ (outer ++ (built ++ last)))) _
-        (same-append own own _ _ (same-refl own) (same-append first first _ _ (same-refl first) (same-swap (built ++ last) outer)))
-        (same-eq _ _ (simp append_assoc))))
+    (same-append head head _ _ (same-refl head) (same-trans _ (own ++ (first ++ (outer ++ (built ++ last)))) _
+    (same-append own own _ _ (same-refl own) (same-append first first _ _ (same-refl first) (same-swap (built ++ last) outer)))
+    (same-eq _ _ (simp append_assoc))))
     (same-trans _ (head ++ ((own ++ (first ++ outer)) ++ rest)) _ (through head (own ++ (first ++ outer)) (built ++ last) rest (right_built sig byte name ss s q qs k))
     (same-eq _ _ (simp append_assoc)))))
 
@@ -142,8 +142,8 @@ fold_faults sig true byte name ss s p q qs k =
     let rest : List Fault = left_rest sig s qs in
     same-trans _ (pattern_faults sig (applied_to_two byte name ss p q) ++ rest) _ (left_built sig byte name ss s p q qs k)
     (same-trans _ (head ++ (own ++ (first ++ (second ++ (last ++ rest))))) _
-      (same-eq _ _ (ap (λ (x : List Fault). x ++ rest) (two_faults sig byte name ss s p q k) ∙ regroup_first head own first second last rest))
-      (same-append head head _ _ (same-refl head) (same-append own own _ _ (same-refl own) (same-append first first _ _ (same-refl first) (left_same sig s q qs)))))
+    (same-eq _ _ (ap (λ (x : List Fault). x ++ rest) (two_faults sig byte name ss s p q k) ∙ regroup_first head own first second last rest))
+    (same-append head head _ _ (same-refl head) (same-append own own _ _ (same-refl own) (same-append first first _ _ (same-refl first) (left_same sig s q qs)))))
 fold_faults sig false byte name ss s p q qs k =
     let inner : Unfolded = folded_right byte name ss q qs in
     let head : List Fault = head_of sig byte name ss in

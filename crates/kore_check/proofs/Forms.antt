@@ -1,17 +1,15 @@
 -- The plain tree of a sort and of a pattern, by its form.
-use Rattle.std.proofs.Common.{◌≡◌, ℕ, Bool, List, [], ◌∷◌, map, refl, ap, sym, ◌∙◌, Vec, Global}
+use Rattle.std.proofs.Common.{◌≡◌, ℕ, Bool, List, [], ◌∷◌, map, refl, ap, ◌∙◌, Vec, Global}
 use Rattle.std.specs.Global.{Box}
 use Rattle.kore_text.specs.declared.names.Op.{Op}
 use Rattle.kore_text.specs.declared.names.Binder.{Binder}
-use Rattle.kore_text.specs.Trees.{SortTree, sort_parameter, sort_applied, sort_trees, listed_sorts, PatternTree, element_variable, set_variable, string, symbol_applied, connected, binding, domain_value, folded, pattern_trees}
+use Rattle.kore_text.specs.Trees.{SortTree, sort_trees, listed_sorts, PatternTree, element_variable, set_variable, string, symbol_applied, connected, binding, domain_value, folded, pattern_trees}
 use Rattle.kore_ast.specs.declared.tree.Sort.{Sort}
-use Rattle.kore_ast.specs.declared.tree.SortForm.{SortForm}
-use Rattle.kore_ast.specs.declared.tree.SortForm.TheVariants as sort_form
 use Rattle.kore_ast.specs.declared.tree.Pat.{Pat}
 use Rattle.kore_ast.specs.declared.tree.PatForm.{PatForm}
 use Rattle.kore_ast.specs.declared.tree.PatForm.TheVariants as form
 use Rattle.kore_ast.specs.Plain.{plain_sort, plain_pattern}
-use Rattle.kore_ast.proofs.PlainLaws.{plain-sort-Param, plain-sort-App, plain-pattern-Elem, plain-pattern-SetVar, plain-pattern-Text, plain-pattern-App, plain-pattern-Built, plain-pattern-Bound, plain-pattern-Value, plain-pattern-Fold}
+use Rattle.kore_ast.proofs.PlainLaws.{plain-pattern-Elem, plain-pattern-SetVar, plain-pattern-Text, plain-pattern-App, plain-pattern-Built, plain-pattern-Bound, plain-pattern-Value, plain-pattern-Fold}
 
 pattern_is : (p : Pat) (f : PatForm) (t : PatternTree) → p.form ≡ f → plain_pattern (record { at = p.at; form = f }) ≡ t → plain_pattern p ≡ t
 pattern_is p f t h e = ap (λ (f : PatForm). plain_pattern (record { at = p.at; form = f })) h ∙ e

@@ -1,9 +1,9 @@
 -- The heights of folds.
-use Rattle.std.proofs.Common.{◌≡◌, ◌≤◌, ◌<◌, ℕ, zero, suc, ◌+◌, Bool, true, false, List, [], ◌∷◌, length, map, drop, get_or, length-drop, max, refl, sym, ◌∙◌, ap, subst, arith}
+use Rattle.std.proofs.Common.{◌≡◌, ◌≤◌, ◌<◌, ℕ, zero, suc, ◌+◌, true, false, List, [], ◌∷◌, length, drop, get_or, length-drop, max, refl, sym, ◌∙◌, ap, arith}
 use Rattle.kore_text.specs.Trees.{SortTree}
 use Rattle.kore_ast.specs.declared.tree.Pat.{Pat}
 use Rattle.kore_ast.specs.Plain.{plain_pattern}
-use Rattle.kore_check.specs.Folds.{Unfolded, Unfoldeds, no_more, and_more, unfolded, height, heights, folded_left, folded_right, applied_to_two, fold_of, only_of}
+use Rattle.kore_check.specs.Folds.{Unfolded, unfolded, height, heights, folded_left, folded_right, applied_to_two, fold_of, only_of}
 use Rattle.kore_check.specs.FoldHeights.{cut}
 use Rattle.kore_check.proofs.Applications.{reads}
 use Rattle.kore_check.proofs.Items.{drop-item}

@@ -9,3 +9,6 @@ pub mod SameFaults
 pub mod FoldLaws
 pub mod FoldChecks
 pub mod HeightLaws
+pub mod BuildLaws
+pub mod BuildSteps
+pub mod CheckLaws

@@ -1,7 +1,6 @@
 -- What is kept of faults that are noted one by one: the first of them, by byte, and at one byte by number.
-use Rattle.std.proofs.Common.{◌≡◌, ◌<◌, ◌≤◌, ◌⊎◌, inl, inr, ℕ, zero, suc, Bool, true, false, List, [], ◌∷◌, ◌++◌, length, Option, Some, None, Contains, refl, sym, ◌∙◌, ap, subst, arith}
-use Rattle.std.specs.Prelude.{◌&&◌, ◌||◌, ◌==◌, nat_lt, nat_le, if◌then◌else◌, ◌↔◌}
-use Rattle.std.proofs.lemmas.List.Elements.{Contains-append_left, Contains-append_right, Contains-append_cases}
+use Rattle.std.proofs.Common.{◌≡◌, ◌<◌, ◌⊎◌, inl, inr, ℕ, zero, suc, Bool, true, false, List, [], ◌∷◌, ◌++◌, Option, Some, None, Contains, refl, sym, ◌∙◌, ap, subst, arith}
+use Rattle.std.specs.Prelude.{◌&&◌, ◌==◌, nat_lt, nat_le, ◌↔◌}
 use Rattle.std.proofs.Common.{eq-eqb}
 use Rattle.std.proofs.lemmas.Bool.{eqb-true, false≢true, ltb-true, lt-ltb, leb-true, le-leb}
 use Rattle.rule_core.proofs.Belows.{either_true, both_true, true_left, true_right, true_both}
@@ -171,7 +170,7 @@ pub first-append : (before fs : List Fault) (q : Option Fault) → IsFirstBy ByB
 first-append before fs q is =
     let same : q ≡ noted leads_by_byte None before = first-one before q (noted leads_by_byte None before) is (noted-first before) in
     let all : noted leads_by_byte None (before ++ fs) ≡ noted leads_by_byte q fs =
-      noted-append None before fs ∙ ap (λ (r : Option Fault). noted leads_by_byte r fs) (sym same) in
+    noted-append None before fs ∙ ap (λ (r : Option Fault). noted leads_by_byte r fs) (sym same) in
     subst (IsFirstBy ByByte (Contains (before ++ fs))) all (noted-first (before ++ fs))
 
 pub first-kept : (before fs : List Fault) (first second : Option PatternFault) → IsFirstOf before first → kept_fault second ≡ after first fs → IsFirstOf (before ++ fs) second

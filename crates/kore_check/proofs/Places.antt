@@ -1,5 +1,5 @@
 -- The place of a pattern is that of its first token.
-use Rattle.std.proofs.Common.{◌≡◌, ℕ, refl, ap, sym, ◌∙◌, subst, rules}
+use Rattle.std.proofs.Common.{◌≡◌, ℕ, refl, ap, ◌∙◌}
 use Rattle.kore_text.specs.Trees.{PatternTree, element_variable, set_variable, string, symbol_applied, connected, binding, domain_value, folded}
 use Rattle.kore_ast.specs.declared.tree.Pat.{Pat, fold-Pat}
 use Rattle.kore_ast.specs.declared.tree.PatForm.{PatForm, map-PatForm, out-PatForm}

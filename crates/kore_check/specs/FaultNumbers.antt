@@ -1,9 +1,11 @@
 -- The numbers of the faults of patterns, and which fault is the first.
-use Rattle.std.specs.Prelude.{ℕ, List, Option, option_map, Contains}
+use Rattle.std.specs.Prelude.{ℕ, List, Option, Some, option_map, Contains}
 use Rattle.kore_sig.specs.FirstFault.{Fault, ByByte, IsFirstBy}
 use Rattle.kore_check.specs.declared.faults.FaultKind.{FaultKind}
 use Rattle.kore_check.specs.declared.faults.FaultKind.TheVariants as kind
 use Rattle.kore_check.specs.declared.faults.PatternFault.{PatternFault}
+use Rattle.kore_check.specs.declared.faults.CheckFault.{CheckFault}
+use Rattle.kore_check.specs.declared.faults.CheckFault.TheVariants as answer
 
 -- the number of the refusal
 abbrev pub fault_number : FaultKind → ℕ
@@ -22,3 +24,27 @@ plain_fault f = record { number = fault_number f.kind; byte = f.at }
 -- none is kept where there is none
 abbrev pub IsFirstOf : List Fault → Option PatternFault → Type 0
 IsFirstOf faults first = IsFirstBy ByByte (Contains faults) (option_map plain_fault first)
+
+-- the fault as the answer of a check
+abbrev pub refusal_of : FaultKind → ℕ → CheckFault
+refusal_of kind.Deep at = answer.Deep at
+refusal_of kind.UnknownSort at = answer.UnknownSort at
+refusal_of kind.UnknownSymbol at = answer.UnknownSymbol at
+refusal_of kind.Arity at = answer.Arity at
+refusal_of kind.SortClash at = answer.SortClash at
+refusal_of kind.BadValue at = answer.BadValue at
+refusal_of kind.NoKind at = answer.NoKind at
+
+abbrev pub as_refusal : PatternFault → CheckFault
+as_refusal f = refusal_of f.kind f.at
+
+-- the answer is the first of these faults, or that memory was wanting
+abbrev pub IsRefusal : List Fault → CheckFault → Type 0
+IsRefusal faults (answer.Deep at) = IsFirstBy ByByte (Contains faults) (Some (record { number = 3; byte = at }))
+IsRefusal faults (answer.UnknownSort at) = IsFirstBy ByByte (Contains faults) (Some (record { number = 6; byte = at }))
+IsRefusal faults (answer.UnknownSymbol at) = IsFirstBy ByByte (Contains faults) (Some (record { number = 7; byte = at }))
+IsRefusal faults (answer.Arity at) = IsFirstBy ByByte (Contains faults) (Some (record { number = 8; byte = at }))
+IsRefusal faults (answer.SortClash at) = IsFirstBy ByByte (Contains faults) (Some (record { number = 9; byte = at }))
+IsRefusal faults (answer.BadValue at) = IsFirstBy ByByte (Contains faults) (Some (record { number = 11; byte = at }))
+IsRefusal faults (answer.NoKind at) = IsFirstBy ByByte (Contains faults) (Some (record { number = 25; byte = at }))
+IsRefusal faults answer.Memory = Unit {0}

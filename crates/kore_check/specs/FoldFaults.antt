@@ -3,7 +3,7 @@ use Rattle.std.specs.Prelude.{ℕ, Bool, true, false, List, [], ◌++◌, Option
 use Rattle.kore_sig.specs.FirstFault.{Fault}
 use Rattle.rule_core.specs.declared.signature.Signature.{Signature}
 use Rattle.kore_check.specs.declared.check.FoldSorts.{FoldSorts}
-use Rattle.kore_check.specs.Folds.{Unfolded, Unfoldeds, no_more, and_more, place}
+use Rattle.kore_check.specs.Folds.{Unfoldeds, no_more, and_more, place}
 use Rattle.kore_check.specs.PatternSorts.{sort_of}
 use Rattle.kore_check.specs.PatternFaults.{pattern_faults, clash_faults}
 use Rattle.kore_check.specs.Notes.{sort_no}

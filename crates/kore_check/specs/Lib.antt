@@ -9,3 +9,4 @@ pub mod FaultNumbers
 pub mod Notes
 pub mod FoldFaults
 pub mod FoldHeights
+pub mod Building

@@ -7,13 +7,12 @@ ghost use Rattle.kore_check.specs.PatternSorts.{sort_of, places_of};
 ghost use Rattle.kore_check.specs.PatternFaults.{pattern_faults, argument_faults, first_wanted};
 ghost use Rattle.kore_check.specs.Notes.{kept_fault, after, sort_no};
 ghost use Rattle.kore_sig.specs.Signatures.{IsNumbered};
-
 ghost use Rattle.kore_check.specs.FoldFaults.{folded_faults, next_faults};
 
+use crate::PatternFault;
 use crate::heads::{check_head, symbol};
 use crate::sorts::{check_clash, check_sort, wanted};
 use crate::values::check_value;
-use crate::PatternFault;
 use kore_ast::{Pat, PatForm, Sort, Text};
 use rule_core::{Signature, SortRef, SymInfo};
 use term_core::SortId;
@@ -82,7 +81,12 @@ fn check_arguments(
 // The sort of a fold of this pattern, from the left or from the right. It notes the faults of the patterns that the fold
 // stands for: those of its symbol once, though it stands for many applications of it.
 #[cycle(check)]
-fn check_fold(inner: &Pat, sig: &Signature, left: bool, first: &mut Option<PatternFault>) -> Option<SortId>
+fn check_fold(
+    inner: &Pat,
+    sig: &Signature,
+    left: bool,
+    first: &mut Option<PatternFault>,
+) -> Option<SortId>
     requires { IsNumbered sig.now }
     ensures sort { option_map sort_no result ≡ sort_of sig.now (inner_fold left (plain_pattern inner.now)) }
     ensures first { kept_fault first.new ≡ after first.old (pattern_faults sig.now (inner_fold left (plain_pattern inner.now))) }
@@ -97,7 +101,18 @@ fn check_fold(inner: &Pat, sig: &Signature, left: bool, first: &mut Option<Patte
             let own = check_head(sig, inner.at, symbol, sorts, 2, first);
             let lower = wanted_at(sig, sorts, places, 0);
             let upper = wanted_at(sig, sorts, places, 1);
-            check_folded(args, sig, left, FoldSorts { at: inner.at, own, lower, upper }, first);
+            check_folded(
+                args,
+                sig,
+                left,
+                FoldSorts {
+                    at: inner.at,
+                    own,
+                    lower,
+                    upper,
+                },
+                first,
+            );
             own
         }
         PatForm::Built(_, _, args) => check_only(args, sig, first),
@@ -121,7 +136,13 @@ fn check_only(args: &[Pat], sig: &Signature, first: &mut Option<PatternFault>) -
 
 // Notes the faults of two or more arguments of a fold.
 #[cycle(check)]
-fn check_folded(args: &[Pat], sig: &Signature, left: bool, sorts: FoldSorts, first: &mut Option<PatternFault>)
+fn check_folded(
+    args: &[Pat],
+    sig: &Signature,
+    left: bool,
+    sorts: FoldSorts,
+    first: &mut Option<PatternFault>,
+)
     requires numbered { IsNumbered sig.now }
     requires some { 2 ≤ length args.now }
     ensures { kept_fault first.new ≡ after first.old (folded_faults sig.now left sorts (all_unfolded (pattern_trees (map plain_pattern args.now)))) }

@@ -1,8 +1,10 @@
 // Faults of patterns, of which the first is kept.
 ghost use Rattle.std.specs.Prelude.{◌≡◌};
 ghost use Rattle.kore_sig.specs.Noted.{leads_by_byte};
+ghost use Rattle.kore_check.specs.declared.faults.CheckFault.TheVariants.{Memory};
 
-
+use std::alloc::AllocError;
+use thiserror::Error;
 
 /// What is wrong with a pattern. As a number each is that of its refusal.
 #[derive(Clone, Copy, PartialEq, Eq, Debug)]
@@ -30,6 +32,61 @@ pub struct PatternFault {
     pub kind: FaultKind,
     /// The byte at which it stands.
     pub at: u32,
+}
+
+/// Why a pattern has no rule pattern.
+#[derive(Debug, Drop, Error)]
+pub enum CheckFault {
+    /// Its height is above 500; at the pattern.
+    #[error("too high at {0}")]
+    Deep(u32),
+    /// A sort is not declared; at its name.
+    #[error("unknown sort at {0}")]
+    UnknownSort(u32),
+    /// A symbol is not declared; at its name.
+    #[error("unknown symbol at {0}")]
+    UnknownSymbol(u32),
+    /// A symbol has another number of sorts or arguments; at its name.
+    #[error("wrong number of sorts or arguments at {0}")]
+    Arity(u32),
+    /// An argument has another sort; at it. An injection goes from a sort that is not below the other; at the symbol.
+    #[error("wrong sort at {0}")]
+    SortClash(u32),
+    /// A text is no value of its sort; at the string.
+    #[error("no value of its sort at {0}")]
+    BadValue(u32),
+    /// A symbol has no kind; at its name.
+    #[error("symbol without a kind at {0}")]
+    NoKind(u32),
+    /// Memory was wanting.
+    #[error("out of memory")]
+    Memory,
+}
+
+impl From<AllocError> for CheckFault {
+    ghost from_gives = { λ _ fault. fault ≡ Memory };
+
+    fn from(_error: AllocError) -> CheckFault {
+        CheckFault::Memory
+    }
+}
+
+impl From<PatternFault> for CheckFault {
+    ghost use Rattle.kore_check.specs.FaultNumbers.{as_refusal};
+
+    ghost from_gives = { λ fault given. given ≡ as_refusal fault };
+
+    fn from(fault: PatternFault) -> CheckFault {
+        match fault.kind {
+            FaultKind::Deep => CheckFault::Deep(fault.at),
+            FaultKind::UnknownSort => CheckFault::UnknownSort(fault.at),
+            FaultKind::UnknownSymbol => CheckFault::UnknownSymbol(fault.at),
+            FaultKind::Arity => CheckFault::Arity(fault.at),
+            FaultKind::SortClash => CheckFault::SortClash(fault.at),
+            FaultKind::BadValue => CheckFault::BadValue(fault.at),
+            FaultKind::NoKind => CheckFault::NoKind(fault.at),
+        }
+    }
 }
 
 impl FaultKind {

@@ -82,7 +82,13 @@ fn check_symbol(
 }
 
 // Notes another number of sort arguments or of arguments.
-fn check_arity(at: u32, symbol: &SymInfo, sorts: &[Sort], args: usize, first: &mut Option<PatternFault>)
+fn check_arity(
+    at: u32,
+    symbol: &SymInfo,
+    sorts: &[Sort],
+    args: usize,
+    first: &mut Option<PatternFault>,
+)
     ensures { kept_fault first.new ≡ after first.old
         (unless ((length (map plain_sort sorts.now) == symbol.now.params) && (args == length symbol.now.args.items)) 8 at) }
 {

@@ -8,7 +8,6 @@ ghost use Rattle.kore_check.specs.FoldHeights.{cut};
 use kore_ast::{Pat, PatForm};
 use term_core::MAX_HEIGHT;
 
-
 // The height of a pattern, or 501 where it is greater.
 #[cycle(height)]
 pub(crate) fn height_of(pat: &Pat) -> u32
@@ -98,5 +97,9 @@ fn right_height(args: &[Pat]) -> u32
 fn one_more(height: u32) -> u32
     ensures { result ≡ cut (height + 1) }
 {
-    if height > MAX_HEIGHT { MAX_HEIGHT + 1 } else { height + 1 }
+    if height > MAX_HEIGHT {
+        MAX_HEIGHT + 1
+    } else {
+        height + 1
+    }
 }

@@ -1,7 +1,9 @@
 // Patterns of a definition: their sorts, their faults, and the rule patterns that they mean.
 #![tactic(auto)]
 
+mod build;
 mod check;
+mod checked;
 mod faults;
 mod heads;
 mod heights;
@@ -11,6 +13,8 @@ mod sorts;
 #[cfg(test)]
 mod tests;
 mod values;
+mod variables;
 
-pub use faults::{FaultKind, PatternFault};
+pub use checked::{build_pattern, check_pattern};
+pub use faults::{CheckFault, FaultKind, PatternFault};
 pub use patterns::{note_clash, note_pattern, note_sort};

@@ -25,7 +25,11 @@ pub(crate) fn declared_sort(sig: &Signature, sort: &Sort) -> Option<SortId>
 }
 
 // The same, where it notes what is no declared sort.
-pub(crate) fn check_sort(sig: &Signature, sort: &Sort, first: &mut Option<PatternFault>) -> Option<SortId>
+pub(crate) fn check_sort(
+    sig: &Signature,
+    sort: &Sort,
+    first: &mut Option<PatternFault>,
+) -> Option<SortId>
     requires { IsNumbered sig.now }
     ensures sort { option_map sort_no result ≡ number_of_sort sig.now.sorts (plain_sort sort.now) }
     ensures first { kept_fault first.new ≡ after first.old (sort_faults sig.now (plain_sort sort.now)) }

@@ -24,7 +24,11 @@ endmodule []
 "#;
 
 // The number and the byte of the fault of each pattern.
-fn expect_faults(rt: &impl Abort, alloc: Global, rows: &[(&str, Option<(u8, u32)>)]) -> Result<(), Fail> {
+fn expect_faults(
+    rt: &impl Abort,
+    alloc: Global,
+    rows: &[(&str, Option<(u8, u32)>)],
+) -> Result<(), Fail> {
     let bytes = DEFINITION.as_bytes();
     assert!(rt; bytes.len() < 10_000);
     let definition = read_definition(alloc, bytes)?;
@@ -35,7 +39,11 @@ fn expect_faults(rt: &impl Abort, alloc: Global, rows: &[(&str, Option<(u8, u32)
         let pat = read_pattern(alloc, bytes)?;
         let mut first = None;
         note_pattern(&sig, &pat, &mut first);
-        assert_eq!(rt; first.map(|fault| (fault.kind.number(), fault.at)), *expected, "{text}");
+        assert_eq!(rt;
+            first.map(|fault| (fault.kind.number(), fault.at)),
+            *expected,
+            "{text}"
+        );
     }
     Ok(())
 }
@@ -52,8 +60,14 @@ fn finds_no_fault(rt: HostRuntime) -> Result<(), Fail> {
         (r#"\dv{Int{}}("007")"#, None),
         (r#"\dv{Int{}}("-0")"#, None),
         (r#"\dv{Int{}}("+7")"#, None),
-        (r#"\dv{Int{}}("170141183460469231731687303715884105727")"#, None),
-        (r#"\dv{Int{}}("-170141183460469231731687303715884105728")"#, None),
+        (
+            r#"\dv{Int{}}("170141183460469231731687303715884105727")"#,
+            None,
+        ),
+        (
+            r#"\dv{Int{}}("-170141183460469231731687303715884105728")"#,
+            None,
+        ),
     ];
     expect_faults(&rt, rt.alloc(), &rows)
 }
@@ -96,8 +110,14 @@ fn finds_texts_that_are_no_values(rt: HostRuntime) -> Result<(), Fail> {
         (r#"\dv{Int{}}("")"#, Some((11, 11))),
         (r#"\dv{Int{}}("-")"#, Some((11, 11))),
         (r#"\dv{Int{}}("+-1")"#, Some((11, 11))),
-        (r#"\dv{Int{}}("170141183460469231731687303715884105728")"#, Some((11, 11))),
-        (r#"\dv{Int{}}("-170141183460469231731687303715884105729")"#, Some((11, 11))),
+        (
+            r#"\dv{Int{}}("170141183460469231731687303715884105728")"#,
+            Some((11, 11)),
+        ),
+        (
+            r#"\dv{Int{}}("-170141183460469231731687303715884105729")"#,
+            Some((11, 11)),
+        ),
         (r#"\dv{Bool{}}("True")"#, Some((11, 12))),
     ];
     expect_faults(&rt, rt.alloc(), &rows)
@@ -128,7 +148,10 @@ fn reads_folds(rt: HostRuntime) -> Result<(), Fail> {
         (r"\left-assoc{}(cons{}(a{}(),a{}(),nil{}()))", Some((9, 14))),
         (r"\left-assoc{}(cons{}(a{}(),nil{}()))", None),
         (r"\right-assoc{}(cons{}(a{}(),a{}()))", Some((9, 28))),
-        (r#"pair{}(\left-assoc{}(b{}(\dv{Int{}}("1"))),a{}())"#, Some((9, 7))),
+        (
+            r#"pair{}(\left-assoc{}(b{}(\dv{Int{}}("1"))),a{}())"#,
+            Some((9, 7)),
+        ),
     ];
     expect_faults(&rt, rt.alloc(), &rows)
 }

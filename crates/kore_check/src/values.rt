@@ -57,7 +57,11 @@ fn is_utf8(text: &Text) -> bool
 }
 
 // The value that a text stands for in a sort of this kind.
-pub(crate) fn value_in(alloc: Global, kind: SortKind, text: &Text) -> Result<Option<Value>, AllocError>
+pub(crate) fn value_in(
+    alloc: Global,
+    kind: SortKind,
+    text: &Text,
+) -> Result<Option<Value>, AllocError>
     ensures { IfOk result (λ value. option_map value_of value ≡ value_of_text kind text.now) }
 {
     match kind {

@@ -1,14 +1,14 @@
-use Rattle.std.proofs.Common.{rules, ◌≡◌, ◌<◌, ℕ, List, length, drop, map, Some, None, sym, ◌∙◌, ap, refl, arith, vec_len}
+use Rattle.std.proofs.Common.{List, length, map, sym, ◌∙◌, ap, refl, arith}
 use Rattle.std.specs.Prelude.{option_map, option_copied, ◌==◌, ◌+◌}
 use Rattle.kore_check.specs.declared.check.FoldSorts.{FoldSorts}
-use Rattle.kore_ast.specs.Plain.{plain_sort, plain_pattern}
+use Rattle.kore_ast.specs.Plain.{plain_sort}
 use Rattle.kore_ast.specs.declared.tree.Pat.{Pat}
-use Rattle.kore_check.specs.Folds.{unfolded, all_unfolded, only_of, fold_of, inner_fold}
+use Rattle.kore_check.specs.Folds.{only_of}
 use Rattle.kore_check.specs.PatternFaults.{pattern_faults}
-use Rattle.kore_check.specs.PatternSorts.{sort_of, places_of}
-use Rattle.kore_check.specs.Notes.{sort_no, after, kept_fault}
+use Rattle.kore_check.specs.PatternSorts.{sort_of}
+use Rattle.kore_check.specs.Notes.{sort_no, after}
 use Rattle.kore_check.proofs.FoldChecks.{application_folded, fold_short, only_other, fold_known, fold_sorted, fold_checked, fold_begun, fold_goes_on, fold_ends}
-use Rattle.kore_check.proofs.Applications.{reads, after-append, application_sorted, application_checked, argument_checked}
+use Rattle.kore_check.proofs.Applications.{reads, application_sorted, application_checked, argument_checked}
 use Rattle.kore_check.proofs.Places.{place-unfolded}
 use Rattle.kore_check.proofs.check.+check.Goals as goal
 
@@ -54,14 +54,14 @@ check_fold-returns-then-len-lt2-clause-sort t c =
     c.check_only.ensures.sort c.args.inner.now.at
     ∙ ap (λ (ps : List Pat). sort_of c.args.sig.now (only_of c.args.inner.now.at (reads ps))) c.deref.ensures.value
     ∙ ap (sort_of c.args.sig.now) (fold_short c.args.left c.args.inner.now.at c.in-App.name (map plain_sort c.in-App.sorts.items) c.in-App.args.items (omega (arith, c.len.ensures, c.if-len-lt2.true))
-      ∙ sym (application_folded c.args.left c.args.inner.now c.in-App.name c.in-App.sorts c.in-App.args c.in-App.is))
+    ∙ sym (application_folded c.args.left c.args.inner.now c.in-App.name c.in-App.sorts c.in-App.args c.in-App.is))
 
 pub check_fold-returns-then-len-lt2-clause-first : goal.check_fold-returns-then-len-lt2-clause-first
 check_fold-returns-then-len-lt2-clause-first t c =
     c.check_only.ensures.first c.args.inner.now.at
     ∙ ap (λ (ps : List Pat). after c.args.first.now (pattern_faults c.args.sig.now (only_of c.args.inner.now.at (reads ps)))) c.deref.ensures.value
     ∙ ap (λ u. after c.args.first.now (pattern_faults c.args.sig.now u)) (fold_short c.args.left c.args.inner.now.at c.in-App.name (map plain_sort c.in-App.sorts.items) c.in-App.args.items (omega (arith, c.len.ensures, c.if-len-lt2.true))
-      ∙ sym (application_folded c.args.left c.args.inner.now c.in-App.name c.in-App.sorts c.in-App.args c.in-App.is))
+    ∙ sym (application_folded c.args.left c.args.inner.now c.in-App.name c.in-App.sorts c.in-App.args c.in-App.is))
 
 pub check_fold-returns-else-len-lt2-clause-sort : goal.check_fold-returns-else-len-lt2-clause-sort
 check_fold-returns-else-len-lt2-clause-sort t c =
@@ -74,5 +74,5 @@ check_fold-returns-else-len-lt2-clause-first t c =
     fold_checked c.args.sig.now c.args.left c.args.inner.now c.in-App.name c.in-App.sorts c.in-App.args (option_copied c.symbol-symbol.result) c.deref-in-App.result.now s c.deref-in-App-4.result.now
     c.args.first.now c.check_head-own.new.first c.check_folded.new.first c.in-App.is (omega (arith, c.len.ensures, c.if-len-lt2.false)) c.symbol-symbol.ensures c.deref-in-App.ensures.value c.deref-in-App-4.ensures.value
     (fold_known c.args.sig.now c.args.inner.now.at c.in-App.name c.in-App.sorts.items c.deref-in-App.result.now c.deref-in-App-2.result.now c.deref-in-App-3.result.now (option_copied c.symbol-symbol.result) c.places-places.result.now s
-      c.symbol-symbol.ensures c.places-places.ensures c.deref-in-App.ensures.value c.deref-in-App-2.ensures.value c.deref-in-App-3.ensures.value refl c.check_head-own.ensures.sort c.wanted_at-lower.ensures c.wanted_at-upper.ensures)
+    c.symbol-symbol.ensures c.places-places.ensures c.deref-in-App.ensures.value c.deref-in-App-2.ensures.value c.deref-in-App-3.ensures.value refl c.check_head-own.ensures.sort c.wanted_at-lower.ensures c.wanted_at-upper.ensures)
     c.check_head-own.ensures.first c.check_folded.ensures

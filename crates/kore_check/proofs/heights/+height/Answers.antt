@@ -1,7 +1,7 @@
 use Rattle.std.proofs.Common.{rules, ◌≡◌, ◌+◌, List, max, drop, sym, ◌∙◌, ap, arith, map}
 use Rattle.kore_ast.specs.declared.tree.Pat.{Pat}
 use Rattle.kore_ast.specs.Plain.{plain_sort, plain_pattern}
-use Rattle.kore_check.specs.Folds.{only_of, height, unfolded, fold_of}
+use Rattle.kore_check.specs.Folds.{only_of, height, unfolded}
 use Rattle.kore_check.specs.FoldHeights.{cut}
 use Rattle.kore_check.proofs.Applications.{reads}
 use Rattle.kore_check.proofs.FoldChecks.{application_folded, fold_short}
@@ -16,7 +16,7 @@ fold_height-returns-then-len-lt2 t c =
     c.only_height.ensures c.args.inner.now.at
     ∙ ap (λ (ps : List Pat). cut (height (only_of c.args.inner.now.at (reads ps)))) c.deref.ensures.value
     ∙ ap (λ u. cut (height u)) (fold_short c.args.left c.args.inner.now.at c.in-App.field-0 (map plain_sort c.in-App.field-1.items) c.in-App.args.items (omega (arith, c.len.ensures, c.if-len-lt2.true))
-      ∙ sym (application_folded c.args.left c.args.inner.now c.in-App.field-0 c.in-App.field-1 c.in-App.args c.in-App.is))
+    ∙ sym (application_folded c.args.left c.args.inner.now c.in-App.field-0 c.in-App.field-1 c.in-App.args c.in-App.is))
 
 pub left_height-loop-i-preserved : goal.left_height-loop-i-preserved
 left_height-loop-i-preserved t c =

@@ -1,4 +1,4 @@
-use Rattle.std.proofs.Common.{◌≡◌, ◌≤◌, ◌<◌, drop, length, max, get_or}
+use Rattle.std.proofs.Common.{◌≡◌, ◌≤◌, ◌<◌, drop, length, max}
 use Rattle.kore_check.specs.Folds.{heights}
 use Rattle.kore_check.specs.FoldHeights.{cut}
 use Rattle.kore_check.proofs.HeightLaws.{grown_left, grown_from}

@@ -11,4 +11,4 @@ pub returns-clause-first : goal.returns-clause-first
 returns-clause-first c = λ before is.
     first-kept before (all_faults c.args.sig.now (unfolded (plain_pattern c.args.pat.now))) c.args.first.now c.check.new.first is
     (after-append c.args.first.now c.check_height.new.first _ (when (nat_lt most_height (height (unfolded (plain_pattern c.args.pat.now)))) 3 (place (unfolded (plain_pattern c.args.pat.now))))
-      (pattern_faults c.args.sig.now (unfolded (plain_pattern c.args.pat.now))) c.check_height.ensures c.check.ensures.first)
+    (pattern_faults c.args.sig.now (unfolded (plain_pattern c.args.pat.now))) c.check_height.ensures c.check.ensures.first)

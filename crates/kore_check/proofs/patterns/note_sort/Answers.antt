@@ -1,7 +1,5 @@
-use Rattle.std.specs.Prelude.{option_map}
 use Rattle.kore_ast.specs.Plain.{plain_sort}
-use Rattle.kore_check.specs.PatternFaults.{sort_faults, clash_faults}
-use Rattle.kore_check.specs.Notes.{sort_no}
+use Rattle.kore_check.specs.PatternFaults.{sort_faults}
 use Rattle.kore_check.proofs.NotedLaws.{first-kept}
 use Rattle.kore_check.proofs.patterns.note_sort.Goals as goal
 

@@ -1,9 +1,9 @@
-use Rattle.std.proofs.Common.{rules, ◌≡◌, ℕ, length, map, Some, None, sym, ◌∙◌, ap, arith, true, false, eq-eqb, refl}
+use Rattle.std.proofs.Common.{rules, ◌≡◌, length, map, Some, sym, ◌∙◌, ap, arith, true, eq-eqb, refl}
 use Rattle.std.specs.Prelude.{◌==◌, is_some, option_copied}
 use Rattle.std.proofs.lemmas.List.{length-map}
 use Rattle.kore_ast.specs.Plain.{plain_sort}
 use Rattle.kore_check.specs.PatternSorts.{sort_numbers, result_sort}
-use Rattle.kore_check.proofs.SortLaws.{result-declared, result-undeclared}
+use Rattle.kore_check.proofs.SortLaws.{result-declared}
 use Rattle.kore_check.proofs.sorts.sort_of_symbol.Goals as goal
 
 pub returns : goal.returns

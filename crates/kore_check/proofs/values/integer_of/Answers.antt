@@ -1,4 +1,4 @@
-use Rattle.std.proofs.Common.{◌∙◌, ap, sym}
+use Rattle.std.proofs.Common.{◌∙◌, ap}
 use Rattle.kore_check.specs.ValueTexts.{integer_of_text}
 use Rattle.kore_check.proofs.IntegerTexts.{parsed}
 use Rattle.kore_check.proofs.values.integer_of.Goals as goal

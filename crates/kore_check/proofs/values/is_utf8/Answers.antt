@@ -1,8 +1,6 @@
-use Rattle.std.proofs.Common.{◌≡◌, List, ℕ, true, refl, sym, ◌∙◌, ap}
-use Rattle.std.specs.Prelude.{is_some}
+use Rattle.std.proofs.Common.{◌≡◌, true, refl, sym, ◌∙◌, ap}
 use Rattle.std.specs.Str.{is_utf8}
 use Rattle.std.proofs.lemmas.Str.{is_utf8-from_IsUtf8}
-use Rattle.kore_check.specs.ValueTexts.{value_of_words}
 use Rattle.kore_check.proofs.values.is_utf8.Goals as goal
 
 pub returns : goal.returns

@@ -1,9 +1,8 @@
-use Rattle.std.proofs.Common.{◌≡◌, List, ℕ, true, Some, refl, sym, ◌∙◌, ap, rules}
+use Rattle.std.proofs.Common.{◌≡◌, List, ℕ, true, Some, sym, ◌∙◌, ap, rules}
 use Rattle.std.specs.Str.{is_utf8}
 use Rattle.std.specs.Rc.{rc_str_bytes}
 use Rattle.std.proofs.lemmas.Str.{is_utf8-from_IsUtf8}
 use Rattle.term_core.specs.Terms.{text}
-use Rattle.kore_check.specs.ValueTexts.{value_of_words}
 use Rattle.kore_check.proofs.values.words.Goals as goal
 
 pub returns : goal.returns

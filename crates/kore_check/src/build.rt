@@ -1,0 +1,298 @@
+// The rule pattern that a pattern means.
+ghost use Rattle.std.specs.Prelude.{◌≡◌, ℕ, List, map, IfOk, option_map};
+ghost use Rattle.kore_text.specs.Trees.{pattern_trees};
+ghost use Rattle.kore_ast.specs.Plain.{plain_sort, plain_pattern as plain_tree};
+ghost use Rattle.term_core.specs.RulePatterns.{plain_pattern, sort_numbers as numbers_of};
+ghost use Rattle.term_core.specs.PatternLists.{plain_patterns};
+ghost use Rattle.rule_core.specs.WellSorted.{IsSignature};
+ghost use Rattle.kore_check.specs.Folds.{named_variable, written_value, unfolded, all_unfolded, inner_fold, only_of};
+ghost use Rattle.kore_check.specs.PatternSorts.{sort_numbers};
+ghost use Rattle.kore_check.specs.PatternMeanings.{named_sorts, applied_pattern, injected_only};
+ghost use Rattle.kore_sig.specs.Signatures.{IsNumbered};
+ghost use Rattle.kore_check.specs.Building.{Built, AllBuilt, Extends, IsHead, left_pattern, right_pattern};
+
+use crate::sorts::declared_sort;
+use crate::values::{kind_of, value_in};
+use crate::variables::number_or_add;
+use kore_ast::{Pat, PatForm, Sort, Text};
+use rule_core::{Signature, SymKind, VarInfo};
+use std::alloc::{AllocError, Global};
+use term_core::{RulePat, SortId, SymId};
+
+// A declared symbol and its sort arguments.
+#[derive(Drop)]
+pub(crate) struct Head {
+    sym: SymId,
+    kind: SymKind,
+    sorts: Vec<SortId>,
+}
+
+// The declared symbol with this name and these sort arguments: none where it or one of them is not declared.
+fn head_of(
+    alloc: Global,
+    sig: &Signature,
+    name: &Text,
+    sorts: &[Sort],
+) -> Result<Option<Head>, AllocError>
+    requires { IsNumbered sig.now }
+    ensures { IfOk result (IsHead sig.now name.now (map plain_sort sorts.now)) }
+{
+    let Some(number) = sig.symbols.number(name.as_str()) else {
+        return Ok(None);
+    };
+    let Some(symbol) = sig.symbols.value(number) else {
+        return Ok(None);
+    };
+    let Some(sorts) = all_declared(alloc, sig, sorts)? else {
+        return Ok(None);
+    };
+    Ok(Some(Head {
+        sym: SymId(number as u32),
+        kind: symbol.kind,
+        sorts,
+    }))
+}
+
+// The declared sorts that these are: none where one of them is not declared.
+fn all_declared(
+    alloc: Global,
+    sig: &Signature,
+    sorts: &[Sort],
+) -> Result<Option<Vec<SortId>>, AllocError>
+    requires { IsNumbered sig.now }
+    ensures { IfOk result (λ found. option_map (λ ss. numbers_of ss.items) found ≡ sort_numbers sig.now (map plain_sort sorts.now)) }
+{
+    let mut declared = Vec::with_capacity(alloc, sorts.len())?;
+    for i in 0..sorts.len() {
+        let Some(sort) = declared_sort(sig, &sorts[i]) else {
+            return Ok(None);
+        };
+        declared.push(sort)?;
+    }
+    Ok(Some(declared))
+}
+
+// What a symbol makes of patterns: none where it has no kind, or is an injection of another number of them.
+fn applied(alloc: Global, head: &Head, args: Vec<RulePat>) -> Result<Option<RulePat>, AllocError>
+    ensures { IfOk result (λ found. option_map plain_pattern found ≡ applied_pattern head.now.kind head.now.sym.0 (numbers_of head.now.sorts.items) (plain_patterns args.items)) }
+{
+    match head.kind {
+        SymKind::Injection => injected(alloc, head, args),
+        SymKind::Ctor => Ok(Some(RulePat::Ctor(head.sym, args))),
+        SymKind::Equations | SymKind::Hooked(_) | SymKind::Closed => {
+            let sorts = Vec::from_slice(alloc, &head.sorts)?;
+            Ok(Some(RulePat::Call(head.sym, sorts, args)))
+        }
+        SymKind::NoKind => Ok(None),
+    }
+}
+
+// The injection of the only pattern.
+fn injected(alloc: Global, head: &Head, args: Vec<RulePat>) -> Result<Option<RulePat>, AllocError>
+    ensures { IfOk result (λ found. option_map plain_pattern found ≡ injected_only (numbers_of head.now.sorts.items) (plain_patterns args.items)) }
+{
+    let mut args = args;
+    if head.sorts.len() != 2 || args.len() != 1 {
+        return Ok(None);
+    }
+    let Some(child) = args.pop() else {
+        return Ok(None);
+    };
+    let child = Box::new(alloc, child)?;
+    Ok(Some(RulePat::Inj(head.sorts[0], head.sorts[1], child)))
+}
+
+// A variable by its number.
+fn build_variable(
+    alloc: Global,
+    sig: &Signature,
+    name: &Text,
+    sort: &Sort,
+    vars: &mut Vec<VarInfo>,
+) -> Result<Option<RulePat>, AllocError>
+    requires { IsNumbered sig.now }
+    ensures built { IfOk result (λ found. (at : ℕ) → Built sig.now (named_sorts vars.old.items) (named_sorts vars.new.items) (named_variable at name.now (plain_sort sort.now)) found) }
+    ensures grows { Extends (named_sorts vars.old.items) (named_sorts vars.new.items) }
+{
+    let Some(sort) = declared_sort(sig, sort) else {
+        return Ok(None);
+    };
+    let number = number_or_add(alloc, vars, name, sort)?;
+    Ok(Some(RulePat::Var(number)))
+}
+
+// A value by its text.
+fn build_value(
+    alloc: Global,
+    sig: &Signature,
+    sort: &Sort,
+    text: &Text,
+) -> Result<Option<RulePat>, AllocError>
+    requires { IsNumbered sig.now }
+    ensures { IfOk result (λ found. (at byte : ℕ) (vars : List (List ℕ × ℕ)) → Built sig.now vars vars (written_value at (plain_sort sort.now) text.now byte) found) }
+{
+    let Some(sort) = declared_sort(sig, sort) else {
+        return Ok(None);
+    };
+    let Some(kind) = kind_of(sig, sort) else {
+        return Ok(None);
+    };
+    let Some(value) = value_in(alloc, kind, text)? else {
+        return Ok(None);
+    };
+    Ok(Some(RulePat::Value(sort, value)))
+}
+
+// The rule pattern that a pattern means: none where it has a fault or another form.
+#[cycle(build)]
+pub(crate) fn build(
+    alloc: Global,
+    sig: &Signature,
+    pat: &Pat,
+    vars: &mut Vec<VarInfo>,
+) -> Result<Option<RulePat>, AllocError>
+    requires numbered { IsNumbered sig.now }
+    requires signature { IsSignature sig.now }
+    ensures built { IfOk result (Built sig.now (named_sorts vars.old.items) (named_sorts vars.new.items) (unfolded (plain_tree pat.now))) }
+    ensures grows { Extends (named_sorts vars.old.items) (named_sorts vars.new.items) }
+{
+    match &pat.form {
+        PatForm::Elem(name, sort) => build_variable(alloc, sig, name, sort, vars),
+        PatForm::Value(sort, text, _) => build_value(alloc, sig, sort, text),
+        PatForm::App(name, sorts, args) => {
+            let Some(args) = build_all(args, alloc, sig, vars)? else {
+                return Ok(None);
+            };
+            let Some(head) = head_of(alloc, sig, name, sorts)? else {
+                return Ok(None);
+            };
+            applied(alloc, &head, args)
+        }
+        PatForm::Fold(left, inner) => build_fold(inner, alloc, sig, *left, vars),
+        PatForm::SetVar(..) | PatForm::Text(_) | PatForm::Built(..) | PatForm::Bound(..) => Ok(
+            None,
+        ),
+    }
+}
+
+// The rule patterns that patterns mean.
+#[cycle(build)]
+fn build_all(
+    args: &[Pat],
+    alloc: Global,
+    sig: &Signature,
+    vars: &mut Vec<VarInfo>,
+) -> Result<Option<Vec<RulePat>>, AllocError>
+    requires numbered { IsNumbered sig.now }
+    requires signature { IsSignature sig.now }
+    ensures built { IfOk result (AllBuilt sig.now (named_sorts vars.old.items) (named_sorts vars.new.items) (all_unfolded (pattern_trees (map plain_tree args.now)))) }
+    ensures grows { Extends (named_sorts vars.old.items) (named_sorts vars.new.items) }
+{
+    let mut pats = Vec::with_capacity(alloc, args.len())?;
+    for i in 0..args.len() {
+        let Some(pat) = build(alloc, sig, &args[i], vars)? else {
+            return Ok(None);
+        };
+        pats.push(pat)?;
+    }
+    Ok(Some(pats))
+}
+
+// The rule pattern that a fold of this pattern means.
+#[cycle(build)]
+fn build_fold(
+    inner: &Pat,
+    alloc: Global,
+    sig: &Signature,
+    left: bool,
+    vars: &mut Vec<VarInfo>,
+) -> Result<Option<RulePat>, AllocError>
+    requires numbered { IsNumbered sig.now }
+    requires signature { IsSignature sig.now }
+    ensures built { IfOk result (Built sig.now (named_sorts vars.old.items) (named_sorts vars.new.items) (inner_fold left (plain_tree inner.now))) }
+    ensures grows { Extends (named_sorts vars.old.items) (named_sorts vars.new.items) }
+{
+    match &inner.form {
+        PatForm::App(name, sorts, args) => {
+            if args.len() < 2 {
+                return build_only(args, alloc, sig, vars);
+            }
+            let Some(args) = build_all(args, alloc, sig, vars)? else {
+                return Ok(None);
+            };
+            let Some(head) = head_of(alloc, sig, name, sorts)? else {
+                return Ok(None);
+            };
+            if left {
+                folded_left(alloc, &head, args)
+            } else {
+                folded_right(alloc, &head, args)
+            }
+        }
+        PatForm::Built(_, _, args) => build_only(args, alloc, sig, vars),
+        PatForm::Elem(..) | PatForm::SetVar(..) | PatForm::Text(_) => Ok(None),
+        PatForm::Bound(..) | PatForm::Value(..) | PatForm::Fold(..) => Ok(None),
+    }
+}
+
+// The rule pattern that the only pattern means: none of another number of them.
+#[cycle(build)]
+fn build_only(
+    args: &[Pat],
+    alloc: Global,
+    sig: &Signature,
+    vars: &mut Vec<VarInfo>,
+) -> Result<Option<RulePat>, AllocError>
+    requires numbered { IsNumbered sig.now }
+    requires signature { IsSignature sig.now }
+    ensures built { IfOk result (λ found. (at : ℕ) → Built sig.now (named_sorts vars.old.items) (named_sorts vars.new.items) (only_of at (all_unfolded (pattern_trees (map plain_tree args.now)))) found) }
+    ensures grows { Extends (named_sorts vars.old.items) (named_sorts vars.new.items) }
+{
+    if args.len() != 1 {
+        return Ok(None);
+    }
+    build(alloc, sig, &args[0], vars)
+}
+
+// What a fold of a symbol from the left makes of patterns.
+fn folded_left(
+    alloc: Global,
+    head: &Head,
+    args: Vec<RulePat>,
+) -> Result<Option<RulePat>, AllocError>
+    ensures { IfOk result (λ found. option_map plain_pattern found ≡ left_pattern head.now.kind head.now.sym.0 (numbers_of head.now.sorts.items) (map plain_pattern args.items)) }
+{
+    let mut rest = args;
+    rest.reverse();
+    let Some(mut made) = rest.pop() else {
+        return Ok(None);
+    };
+    while let Some(next) = rest.pop() {
+        let Some(pair) = applied(alloc, head, vec![in alloc; made, next]?)? else {
+            return Ok(None);
+        };
+        made = pair;
+    }
+    Ok(Some(made))
+}
+
+// What a fold of a symbol from the right makes of patterns.
+fn folded_right(
+    alloc: Global,
+    head: &Head,
+    args: Vec<RulePat>,
+) -> Result<Option<RulePat>, AllocError>
+    ensures { IfOk result (λ found. option_map plain_pattern found ≡ right_pattern head.now.kind head.now.sym.0 (numbers_of head.now.sorts.items) (map plain_pattern args.items)) }
+{
+    let mut rest = args;
+    let Some(mut made) = rest.pop() else {
+        return Ok(None);
+    };
+    while let Some(earlier) = rest.pop() {
+        let Some(pair) = applied(alloc, head, vec![in alloc; earlier, made]?)? else {
+            return Ok(None);
+        };
+        made = pair;
+    }
+    Ok(Some(made))
+}

@@ -1,0 +1,77 @@
+// A pattern with its sort and the rule pattern that it means, or its first fault.
+ghost use Rattle.std.specs.Prelude.{◌≡◌, List, [], ℕ, IfOk, OnOk, IfErr, OnErr, Some};
+ghost use Rattle.kore_ast.specs.Plain.{plain_pattern as plain_tree};
+ghost use Rattle.kore_sig.specs.Signatures.{IsNumbered};
+ghost use Rattle.term_core.specs.RulePatterns.{plain_pattern};
+ghost use Rattle.rule_core.specs.WellSorted.{IsSignature};
+ghost use Rattle.kore_check.specs.Folds.{unfolded, IsApplicative};
+ghost use Rattle.kore_check.specs.PatternSorts.{sort_of};
+ghost use Rattle.kore_check.specs.PatternFaults.{pattern_faults, all_faults};
+ghost use Rattle.kore_check.specs.PatternMeanings.{named_sorts, with_variables, Means};
+ghost use Rattle.kore_check.specs.FaultNumbers.{IsRefusal};
+
+use crate::build::build;
+use crate::{CheckFault, note_pattern};
+use kore_ast::Pat;
+use rule_core::{Signature, VarInfo};
+use std::alloc::{AllocError, Global};
+use term_core::{RulePat, SortId};
+
+/// The rule pattern that a pattern means, and its sort; or the first of its faults, by byte, and at one byte by number.
+/// Its variables stand behind those that were there, numbered by name and sort at their first occurrence. After a fault
+/// the variables are as before.
+///
+/// It takes a time linear in the pattern, up to a logarithm of the numbers of sorts and symbols, and a look at the
+/// variables for each occurrence of one.
+pub fn check_pattern(
+    alloc: Global,
+    sig: &Signature,
+    pat: &Pat,
+    vars: &mut Vec<VarInfo>,
+) -> Result<(RulePat, SortId), CheckFault>
+    requires numbered { IsNumbered sig.now }
+    requires signature { IsSignature sig.now }
+    requires form { IsApplicative (unfolded (plain_tree pat.now)) }
+    ensures faultless { OnOk result (all_faults sig.now (unfolded (plain_tree pat.now)) ≡ []) }
+    ensures sort { IfOk result (λ r. sort_of sig.now (unfolded (plain_tree pat.now)) ≡ Some r.1.0) }
+    ensures vars { OnOk result (named_sorts vars.new.items ≡ with_variables sig.now (named_sorts vars.old.items) (unfolded (plain_tree pat.now))) }
+    ensures means { IfOk result (λ r. Means sig.now (named_sorts vars.new.items) (unfolded (plain_tree pat.now)) (plain_pattern r.0)) }
+    ensures refused { IfErr result (IsRefusal (all_faults sig.now (unfolded (plain_tree pat.now)))) }
+    ensures err { OnErr result (named_sorts vars.new.items ≡ named_sorts vars.old.items) }
+{
+    let mut first = None;
+    let sort = note_pattern(sig, pat, &mut first);
+    if let Some(fault) = first {
+        return Err(CheckFault::from(fault));
+    }
+    let Some(sort) = sort else { unreachable!() };
+    let made = build_pattern(alloc, sig, pat, vars)?;
+    Ok((made, sort))
+}
+
+/// The rule pattern that a pattern without faults means. Its variables stand behind those that were there, numbered by
+/// name and sort at their first occurrence. After `AllocError` the variables are as before.
+pub fn build_pattern(
+    alloc: Global,
+    sig: &Signature,
+    pat: &Pat,
+    vars: &mut Vec<VarInfo>,
+) -> Result<RulePat, AllocError>
+    requires numbered { IsNumbered sig.now }
+    requires signature { IsSignature sig.now }
+    requires form { IsApplicative (unfolded (plain_tree pat.now)) }
+    requires faultless { pattern_faults sig.now (unfolded (plain_tree pat.now)) ≡ [] }
+    ensures vars { OnOk result (named_sorts vars.new.items ≡ with_variables sig.now (named_sorts vars.old.items) (unfolded (plain_tree pat.now))) }
+    ensures means { IfOk result (λ p. Means sig.now (named_sorts vars.new.items) (unfolded (plain_tree pat.now)) (plain_pattern p)) }
+    ensures err { OnErr result (named_sorts vars.new.items ≡ named_sorts vars.old.items) }
+{
+    let before = vars.len();
+    match build(alloc, sig, pat, vars) {
+        Ok(Some(made)) => Ok(made),
+        Ok(None) => unreachable!(),
+        Err(error) => {
+            vars.truncate(before);
+            Err(error)
+        }
+    }
+}
