@@ -19,8 +19,8 @@ pub struct DrillTexts {
 /// `AllocError` says that memory ran out.
 pub fn drill(alloc: Global, steps: u32) -> Result<DrillTexts, AllocError>
     requires { steps ≤ 1000 }
-    ensures definition { IfOk result (λ texts. texts.definition.items ≡ drill_definition steps) }
-    ensures term { IfOk result (λ texts. texts.term.items ≡ drill_term) }
+    ensures definition { IfOk result (λ made. made.definition.items ≡ drill_definition steps) }
+    ensures term { IfOk result (λ made. made.term.items ≡ drill_term) }
 {
     let mut definition = Vec::new(alloc);
     push_first_lines(&mut definition)?;
