@@ -39,9 +39,10 @@ DeclaredHasOnly =
 -- And so it has with an axiom behind it that the program may assume, whatever variables it binds.
 abbrev pub AxiomHasOnly : Type 0
 AxiomHasOnly =
-    (theory : RewriteTheory) (names : List Token) (old new : Kept) (s : Sentence) (p : Pattern) (bytes appended : List ℕ) →
-    IsAssumed theory s → sentence_image theory.sig (take old.named names) s ≡ Some p →
-    Gains names old new appended (claim_variables [] p) (open_assertion false (take old.named names) (length old.stated) (claim_of [] p)) →
+    (theory : RewriteTheory) (names : List Token) (old new : Kept) (s : Sentence) (p : Pattern)
+    (bytes appended : List ℕ) → IsAssumed theory s → sentence_image theory.sig (take old.named names) s ≡ Some p →
+    Gains names old new appended (claim_variables [] p)
+    (open_assertion false (take old.named names) (length old.stated) (claim_of [] p)) →
     Fits names old bytes → HasOnlyAxiomsOf theory bytes → HasOnlyAxiomsOf theory (bytes ++ appended)
 
 -- And with a theorem behind it.
@@ -51,8 +52,8 @@ TheoremHasOnly =
     StatesLemma names old new t text text' → MayProve names old t → Fits names old text → HasOnlyAxiomsOf theory text →
     HasOnlyAxiomsOf theory text'
 
--- Where the theorem says, without hypotheses and variables, that one pattern reaches another, the text with it justifies
--- that.
+-- Where the theorem says, without hypotheses and variables, that one pattern reaches another, the text with it
+-- justifies that.
 abbrev pub TheoremJustifies : Type 0
 TheoremJustifies =
     (theory : RewriteTheory) (names : List Token) (old new : Kept) (t : Theorem) (text text' : List ℕ) (a b : Pattern) →
