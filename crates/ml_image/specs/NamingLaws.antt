@@ -9,11 +9,16 @@ use Rattle.ml_image.specs.Gained.{AreOwnTokens, HasGained}
 
 -- names that have gained tokens have own tokens behind what they were
 abbrev pub GainedAreOwn : Type 0
-GainedAreOwn = (sig : Signature) (old new : List (List ℕ)) → HasGained sig old new → AreOwnTokens sig (drop (length old) new)
+GainedAreOwn =
+    (sig : Signature) (old new : List (List ℕ)) → HasGained sig old new → AreOwnTokens sig (drop (length old) new)
 
 -- an image stays the same when names gain tokens, and so does that of a sentence
 abbrev pub ImageStays : Type 0
-ImageStays = (sig : Signature) (names more : List (List ℕ)) (a : RulePattern) (p : Pattern) → image_of sig names a ≡ Some p → image_of sig (names ++ more) a ≡ Some p
+ImageStays =
+    (sig : Signature) (names more : List (List ℕ)) (a : RulePattern) (p : Pattern) → image_of sig names a ≡ Some p →
+    image_of sig (names ++ more) a ≡ Some p
 
 abbrev pub SentenceStays : Type 0
-SentenceStays = (sig : Signature) (names more : List (List ℕ)) (s : Sentence) (p : Pattern) → sentence_image sig names s ≡ Some p → sentence_image sig (names ++ more) s ≡ Some p
+SentenceStays =
+    (sig : Signature) (names more : List (List ℕ)) (s : Sentence) (p : Pattern) →
+    sentence_image sig names s ≡ Some p → sentence_image sig (names ++ more) s ≡ Some p

@@ -73,7 +73,8 @@ meets k (more_patterns p ps) = and (is_in (term (variable k)) (term p)) (meets (
 -- function of the parameters is the right side.
 abbrev pub kompile_sentence : ℕ → ℕ → Equation → Sentence → Sentence
 kompile_sentence f n e c =
-    for_all 0 e.variables (implies (and c (meets 0 e.arguments)) (equals (apply_all (symbol f) (variables 0 n)) (term e.right)))
+    for_all 0 e.variables
+    (implies (and c (meets 0 e.arguments)) (equals (apply_all (symbol f) (variables 0 n)) (term e.right)))
 
 -- a sort in a declaration that is no parameter
 abbrev pub named : ℕ → SortRef
@@ -117,7 +118,8 @@ pub record SaysTotal (sig : Signature) (f : ℕ) (p : Sentence) : Type 0 where
   pub sorts : List ℕ
   pub sort : ℕ
   pub constructs : IsConstructor sig f info sorts sort
-  pub says : p ≡ for_all 0 sorts (exists (length sorts) sort (equals (term (variable (length sorts))) (of_variables f 0 (length sorts))))
+  pub says : p ≡ for_all 0 sorts
+      (exists (length sorts) sort (equals (term (variable (length sorts))) (of_variables f 0 (length sorts))))
 
 -- Two constructors of one result sort, neither of them said to be associative or the like, make different things.
 pub record SaysApart (sig : Signature) (f g : ℕ) (p : Sentence) : Type 0 where
@@ -130,7 +132,8 @@ pub record SaysApart (sig : Signature) (f g : ℕ) (p : Sentence) : Type 0 where
   pub first : IsConstructor sig f info sorts sort
   pub second : IsConstructor sig g other others sort
   pub no_ac : (info.ac ≡ false) × (other.ac ≡ false)
-  pub says : p ≡ for_all 0 (sorts ++ others) (not (and (of_variables f 0 (length sorts)) (of_variables g (length sorts) (length others))))
+  pub says : p ≡ for_all 0 (sorts ++ others)
+      (not (and (of_variables f 0 (length sorts)) (of_variables g (length sorts) (length others))))
 
 -- A constructor that takes something, and is not said to be associative or the like, is free: it makes the same of the
 -- same arguments alone.
@@ -141,7 +144,9 @@ pub record SaysFree (sig : Signature) (f : ℕ) (p : Sentence) : Type 0 where
   pub constructs : IsConstructor sig f info sorts sort
   pub no_ac : info.ac ≡ false
   pub some : 0 < length sorts
-  pub says : let n : ℕ = length sorts in p ≡ for_all 0 (sorts ++ sorts) (implies (and (of_variables f 0 n) (of_variables f n n)) (apply_all (symbol f) (conjunctions (variables 0 n) (variables n n))))
+  pub says : let n : ℕ = length sorts in p ≡ for_all 0 (sorts ++ sorts)
+      (implies (and (of_variables f 0 n) (of_variables f n n))
+      (apply_all (symbol f) (conjunctions (variables 0 n) (variables n n))))
 
 -- ---- subsorts
 
@@ -154,7 +159,8 @@ pub record SaysSubsort (sig : Signature) (a b : ℕ) (p : Sentence) : Type 0 whe
 pub record SaysCollapse (sig : Signature) (a b c : ℕ) (p : Sentence) : Type 0 where
   pub lower : IsBelow sig.subsorts a b
   pub upper : IsBelow sig.subsorts b c
-  pub says : p ≡ for_all 0 (a ∷ []) (equals (term (injection b c (injection a b (variable 0)))) (term (injection a c (variable 0))))
+  pub says : p ≡ for_all 0 (a ∷ [])
+      (equals (term (injection b c (injection a b (variable 0)))) (term (injection a c (variable 0))))
 
 -- ---- all of them
 

@@ -22,3 +22,6 @@ pub use images::term_image;
 pub use laws::{condition_laws, naming_laws};
 pub use rules::{equation_image, rule_image};
 pub use subsorts::{inj_collapse, inj_total};
+
+#[cfg(test)]
+mod tests;

@@ -1,9 +1,10 @@
 -- Texts that gain allowed assertions, and what stays true when names and statements are added.
-use Rattle.std.proofs.Common.{◌≡◌, ℕ, Bool, true, false, List, [], ◌∷◌, ◌++◌, map, Some, length, take, zero, suc, Option, append-nil, refl, ap, sym, ◌∙◌, subst}
+use Rattle.std.proofs.Common.{◌≡◌, ℕ, Bool, true, false, List, [], ◌∷◌, ◌++◌, map, Some, length, take, drop, zero, suc, Option, append-nil, refl, ap, sym, ◌∙◌, subst}
 use Rattle.std.specs.Prelude.{if◌then◌else◌, bytes_eq}
 use Rattle.ml_pat.specs.Named.{AreDistinct, IsNoneOf}
 use Rattle.mm_claims.specs.Fitting.{AreNames}
 use Rattle.std.proofs.lemmas.Bool.{false≢true}
+use Rattle.std.proofs.Math.Seq.{drop-append_seam}
 use Rattle.mm_text.specs.Bytes.{Token}
 use Rattle.mm_database.specs.Assertions.{Assertion, assertions_of, typings_of}
 use Rattle.mm_database.specs.Frames.{Hypothesis, floating, essential}
@@ -23,7 +24,7 @@ use Rattle.mm_claims.specs.ClaimVariables.{claim_of, claim_variables}
 use Rattle.mm_claims.specs.Keeping.{FitsWhen, Fits, Gains}
 use Rattle.mm_claims.specs.Places.{lemma_statements, more_variables}
 use Rattle.mm_justify.specs.Justifying.{typecode_in, premises_in, SaysNoMore, holds_frame, assumption_of, AreAllowed, AreTypings, HasOnlyAxiomsOf, Justifies}
-use Rattle.mm_justify.specs.JustifyingLaws.{AxiomHasOnly, TheoremHasOnly, TheoremJustifies, RunIsJustified}
+use Rattle.mm_justify.specs.JustifyingLaws.{AxiomHasOnly, TheoremHasOnly, TheoremFitsAnywhere, TheoremJustifies, RunIsJustified}
 use Rattle.mm_claims.proofs.OpenFits.{claims_are_valid}
 use Rattle.mm_claims.proofs.ClosedPatterns.{closed_frame_has_none}
 use Rattle.mm_database.specs.StatementTexts.{written_statements}
@@ -88,10 +89,22 @@ theorem_behind : (theory : RewriteTheory) (names : List Token) (old new : Kept) 
 theorem_behind theory names old new s vs text appended gains fits only =
     has_only_just theory text appended (length old.stated) vs (open_assertion true (take old.named names) (length old.stated) s) only (λ never. absurd (false≢true (sym never)), tt) (gains.just text fits)
 
+-- what was appended to a buffer
+same_appended : (buffer xs ys : List ℕ) → buffer ++ xs ≡ buffer ++ ys → xs ≡ ys
+same_appended buffer xs ys same = sym (drop-append_seam buffer xs) ∙ ap (drop (length buffer)) same ∙ drop-append_seam buffer ys
+
 pub theorem_has_only : TheoremHasOnly
-theorem_has_only theory names old new t text text' states may fits only =
-    subst (HasOnlyAxiomsOf theory) (sym states.appended)
-    (theorem_behind theory names old new (claim_of t.hypotheses t.conclusion) (claim_variables t.hypotheses t.conclusion ++ more_variables old.stated states.place t) text (written_statements (lemma_statements names (length old.stated) old.stated states.place states.premise_place t)) (states.gains may) fits only)
+theorem_has_only theory names old new t buffer buffer' text appended states is may fits only =
+    let written : List ℕ = written_statements (lemma_statements names (length old.stated) old.stated states.place states.premise_place t) in
+    let same : written_statements (lemma_statements names (length old.stated) old.stated states.place states.premise_place t) ≡ appended = same_appended buffer written appended (sym states.appended ∙ is) in
+    subst (λ (bytes : List ℕ). HasOnlyAxiomsOf theory (text ++ bytes)) same
+    (theorem_behind theory names old new (claim_of t.hypotheses t.conclusion) (claim_variables t.hypotheses t.conclusion ++ more_variables old.stated states.place t) text written (states.gains may) fits only)
+
+pub theorem_fits_anywhere : TheoremFitsAnywhere
+theorem_fits_anywhere names old new t buffer buffer' text appended states is may fits =
+    let written : List ℕ = written_statements (lemma_statements names (length old.stated) old.stated states.place states.premise_place t) in
+    let same : written_statements (lemma_statements names (length old.stated) old.stated states.place states.premise_place t) ≡ appended = same_appended buffer written appended (sym states.appended ∙ is) in
+    subst (λ (bytes : List ℕ). Fits names new (text ++ bytes)) same ((states.gains may).fits text fits)
 
 -- what fits is valid
 fits_valid : (names : List Token) (k : Kept) (bytes : List ℕ) → Fits names k bytes → IsValid bytes
@@ -132,12 +145,13 @@ justifies_behind theory names old new c vs text appended a b gains closed fits o
 }
 
 pub theorem_justifies : TheoremJustifies
-theorem_justifies theory names old new t text text' a b states may fits only tokens distinct none concludes closed =
-    let appended : List ℕ = written_statements (lemma_statements names (length old.stated) old.stated states.place states.premise_place t) in
+theorem_justifies theory names old new t buffer buffer' text appended a b states is may fits only tokens distinct none concludes closed =
+    let written : List ℕ = written_statements (lemma_statements names (length old.stated) old.stated states.place states.premise_place t) in
+    let same : written_statements (lemma_statements names (length old.stated) old.stated states.place states.premise_place t) ≡ appended = same_appended buffer written appended (sym states.appended ∙ is) in
     let vs : List Variable = claim_variables t.hypotheses t.conclusion ++ more_variables old.stated states.place t in
-    subst (λ (bytes : List ℕ). Justifies bytes theory (take old.named names) a b) (sym states.appended)
-    (justifies_behind theory names old new t.conclusion vs text appended a b
-    (subst (λ (hs : List Pattern). Gains names old new appended vs (open_assertion true (take old.named names) (length old.stated) (claim_of hs t.conclusion))) none (states.gains may)) closed fits only tokens distinct concludes)
+    subst (λ (bytes : List ℕ). Justifies (text ++ bytes) theory (take old.named names) a b) same
+    (justifies_behind theory names old new t.conclusion vs text written a b
+    (subst (λ (hs : List Pattern). Gains names old new written vs (open_assertion true (take old.named names) (length old.stated) (claim_of hs t.conclusion))) none (states.gains may)) closed fits only tokens distinct concludes)
 
 pub run_is_justified : RunIsJustified
 run_is_justified theory names bytes start end a b from to justifies = record { names = names; from = a; to = b; from_image = from; to_image = to; justifies = justifies }

@@ -13,11 +13,17 @@ use Rattle.mm_claims.specs.OverNames.{closed_over, over_names}
 
 -- the sorts and constants of the image of a sentence are among the names, and it has no pattern variables
 abbrev pub SentenceIsOver : Type 0
-SentenceIsOver = (sig : Signature) (names : List Token) (s : Sentence) (p : Pattern) → sentence_image sig names s ≡ Some p → EachLeaf (over_names names) p
+SentenceIsOver =
+    (sig : Signature) (names : List Token) (s : Sentence) (p : Pattern) → sentence_image sig names s ≡ Some p →
+    EachLeaf (over_names names) p
 
 abbrev pub SentenceHasNoMeta : Type 0
-SentenceHasNoMeta = (sig : Signature) (names : List Token) (s : Sentence) (p : Pattern) → sentence_image sig names s ≡ Some p → HasNoMeta p
+SentenceHasNoMeta =
+    (sig : Signature) (names : List Token) (s : Sentence) (p : Pattern) → sentence_image sig names s ≡ Some p →
+    HasNoMeta p
 
 -- the image of a pattern in which no variable stands is closed over the names
 abbrev pub ImageIsClosed : Type 0
-ImageIsClosed = (sig : Signature) (names : List Token) (a : RulePattern) (p : Pattern) → ((x : ℕ) → StandsIn x a → ⊥) → image_of sig names a ≡ Some p → EachLeaf (closed_over names) p
+ImageIsClosed =
+    (sig : Signature) (names : List Token) (a : RulePattern) (p : Pattern) → ((x : ℕ) → StandsIn x a → ⊥) →
+    image_of sig names a ≡ Some p → EachLeaf (closed_over names) p

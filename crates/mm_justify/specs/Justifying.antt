@@ -1,5 +1,5 @@
--- That a database justifies that one pattern reaches another: it is valid, it assumes nothing but matching logic, what the
--- program's definition says and true facts on built-ins, and its last theorem says just that (Chen and Rosu 2019).
+-- That a database justifies that one pattern reaches another: it is valid, it assumes nothing but matching logic, what
+-- the program's definition says and true facts on built-ins, and its last theorem says just that (Chen and Rosu 2019).
 use Rattle.std.specs.Prelude.{◌≡◌, ℕ, true, false, IsTrue, if◌then◌else◌, List, [], ◌∷◌, ◌++◌, ◌⊎◌, Contains, Option, Some, None, bytes_eq, codes}
 use Rattle.mm_text.specs.Bytes.{Token, has_token}
 use Rattle.mm_database.specs.Frames.{Hypothesis, floating, essential, Frame}
@@ -58,8 +58,8 @@ holds_frame names p = open_frame names 0 (claim_of [] p)
 abbrev pub IsAssumed : RewriteTheory → Sentence → Type 0
 IsAssumed theory s = IsOwnAxiom theory s ⊎ IsTrueFact theory.sig s
 
--- What an axiom may say: a row of the header; that a token is a sort, a symbol or a domain value of the program; or what
--- the program may assume, with the tokens of names.
+-- What an axiom may say: a row of the header; that a token is a sort, a symbol or a domain value of the program; or
+-- what the program may assume, with the tokens of names.
 pub data IsAxiomOf (theory : RewriteTheory) (f : Frame) : Type 0 where
   header_row : (r : Row) (other : Frame) → Contains header_rows r → IsFrameOfRow r other → SaysNoMore f other →
       IsAxiomOf theory f
@@ -81,7 +81,8 @@ typecodes = codes "#Pattern" ∷ codes "#Sort" ∷ codes "#Var" ∷ []
 
 abbrev pub AreTypings : List Hypothesis → Type 0
 AreTypings [] = Unit {0}
-AreTypings (floating label typecode variable ∷ hypotheses) = IsTrue (has_token typecodes typecode) × AreTypings hypotheses
+AreTypings (floating label typecode variable ∷ hypotheses) =
+    IsTrue (has_token typecodes typecode) × AreTypings hypotheses
 AreTypings (essential label statement ∷ hypotheses) = ⊥
 
 -- each `$a` of the text is an axiom of the program, and each `$f` types its variable so
@@ -91,9 +92,9 @@ pub record HasOnlyAxiomsOf (theory : RewriteTheory) (bytes : List ℕ) : Type 0 
 
 -- ---- databases
 
--- A database justifies that a reaches b: it is valid and has only the program's axioms; and the last thing that it states
--- is a `$p` without hypotheses, `|- ( \imp A ( \ev B ) )`. A and B are the texts of a and b, which have no variables and
--- whose sorts and constants are numbers of names: tokens of sorts, symbols and values, each once.
+-- A database justifies that a reaches b: it is valid and has only the program's axioms; and the last thing that it
+-- states is a `$p` without hypotheses, `|- ( \imp A ( \ev B ) )`. A and B are the texts of a and b, which have no
+-- variables and whose sorts and constants are numbers of names: tokens of sorts, symbols and values, each once.
 pub record Justifies (bytes : List ℕ) (theory : RewriteTheory) (names : List Token) (a b : Pattern) : Type 0 where
   pub valid : IsValid bytes
   pub only : HasOnlyAxiomsOf theory bytes

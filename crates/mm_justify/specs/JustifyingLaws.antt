@@ -39,26 +39,38 @@ DeclaredHasOnly =
 -- And so it has with an axiom behind it that the program may assume, whatever variables it binds.
 abbrev pub AxiomHasOnly : Type 0
 AxiomHasOnly =
-    (theory : RewriteTheory) (names : List Token) (old new : Kept) (s : Sentence) (p : Pattern) (bytes appended : List ℕ) →
-    IsAssumed theory s → sentence_image theory.sig (take old.named names) s ≡ Some p →
-    Gains names old new appended (claim_variables [] p) (open_assertion false (take old.named names) (length old.stated) (claim_of [] p)) →
+    (theory : RewriteTheory) (names : List Token) (old new : Kept) (s : Sentence) (p : Pattern)
+    (bytes appended : List ℕ) → IsAssumed theory s → sentence_image theory.sig (take old.named names) s ≡ Some p →
+    Gains names old new appended (claim_variables [] p)
+    (open_assertion false (take old.named names) (length old.stated) (claim_of [] p)) →
     Fits names old bytes → HasOnlyAxiomsOf theory bytes → HasOnlyAxiomsOf theory (bytes ++ appended)
 
--- And with a theorem behind it.
+-- And with a theorem behind it. What was appended to the buffer at hand, in which the lemma was stated, does so behind
+-- every text that fits: so a file is written step by step, and no more of it need be held than the last step.
 abbrev pub TheoremHasOnly : Type 0
 TheoremHasOnly =
-    (theory : RewriteTheory) (names : List Token) (old new : Kept) (t : Theorem) (text text' : List ℕ) →
-    StatesLemma names old new t text text' → MayProve names old t → Fits names old text → HasOnlyAxiomsOf theory text →
-    HasOnlyAxiomsOf theory text'
+    (theory : RewriteTheory) (names : List Token) (old new : Kept) (t : Theorem)
+    (buffer buffer' text appended : List ℕ) → StatesLemma names old new t buffer buffer' →
+    buffer' ≡ buffer ++ appended → MayProve names old t → Fits names old text → HasOnlyAxiomsOf theory text →
+    HasOnlyAxiomsOf theory (text ++ appended)
 
--- Where the theorem says, without hypotheses and variables, that one pattern reaches another, the text with it justifies
--- that.
+-- .. and the text fits what is kept then.
+abbrev pub TheoremFitsAnywhere : Type 0
+TheoremFitsAnywhere =
+    (names : List Token) (old new : Kept) (t : Theorem) (buffer buffer' text appended : List ℕ) →
+    StatesLemma names old new t buffer buffer' → buffer' ≡ buffer ++ appended → MayProve names old t →
+    Fits names old text → Fits names new (text ++ appended)
+
+-- Where the theorem says, without hypotheses and variables, that one pattern reaches another, the text with it
+-- justifies that.
 abbrev pub TheoremJustifies : Type 0
 TheoremJustifies =
-    (theory : RewriteTheory) (names : List Token) (old new : Kept) (t : Theorem) (text text' : List ℕ) (a b : Pattern) →
-    StatesLemma names old new t text text' → MayProve names old t → Fits names old text → HasOnlyAxiomsOf theory text →
+    (theory : RewriteTheory) (names : List Token) (old new : Kept) (t : Theorem)
+    (buffer buffer' text appended : List ℕ) (a b : Pattern) → StatesLemma names old new t buffer buffer' →
+    buffer' ≡ buffer ++ appended → MayProve names old t → Fits names old text → HasOnlyAxiomsOf theory text →
     AreNames names → AreDistinct names → t.hypotheses ≡ [] → t.conclusion ≡ imp a (ev b) →
-    EachLeaf (closed_over (take old.named names)) (imp a (ev b)) → Justifies text' theory (take old.named names) a b
+    EachLeaf (closed_over (take old.named names)) (imp a (ev b)) →
+    Justifies (text ++ appended) theory (take old.named names) a b
 
 -- Where a and b are the images of a start and an end, that justifies the run between them.
 abbrev pub RunIsJustified : Type 0
