@@ -3,7 +3,6 @@ pub mod CountedLaws
 pub mod DeclaringLaws
 pub mod FaultLaws
 pub mod FirstLaws
-pub mod InjectionLaws
 pub mod KnowingLaws
 pub mod ListLaws
 pub mod NotDeclared

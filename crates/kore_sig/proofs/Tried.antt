@@ -1,11 +1,18 @@
 -- The definitions on small trees.
-use Rattle.std.proofs.Common.{◌≡◌, ℕ, refl, List, [], ◌∷◌, codes, false, map}
-use Rattle.kore_text.specs.Trees.{SortTree, sort_parameter, sort_applied, no_sorts, PatternTree, symbol_applied, string, no_patterns, pattern_then, Declaration, import_declaration, sort_declaration, ModuleTree, SymbolDeclaration, SortDeclaration}
-use Rattle.rule_core.specs.declared.signature.SymKind.TheVariants.{Injection}
+use Rattle.std.proofs.Common.{◌≡◌, ℕ, refl, List, [], ◌∷◌, codes, Bool, true, false, map}
+use Rattle.std.specs.Prelude.{Option, Some, None, Contains, ◌⊎◌, ◌↔◌}
+use Rattle.kore_text.specs.Trees.{SortTree, SortTrees, sort_parameter, sort_applied, no_sorts, sort_then, PatternTree, symbol_applied, string, connected, no_patterns, pattern_then, PatternTrees, Declaration, import_declaration, sort_declaration, symbol_declaration, axiom_declaration, ModuleTree, DefinitionTree, SymbolDeclaration, SortDeclaration}
+use Rattle.kore_text.specs.declared.names.Op.TheVariants.{Equals}
+use Rattle.rule_core.specs.declared.signature.SymKind.TheVariants.{Injection, Ctor, Equations, Closed, NoKind}
+use Rattle.rule_core.specs.declared.signature.SortRef.TheVariants.{Param, Sort}
+use Rattle.rule_core.specs.declared.signature.SortKind.TheVariants as kind
+use Rattle.kore_sig.specs.FirstFault.{Fault, Then, InOrder, IsFirstBy, ByNumber}
+use Rattle.kore_sig.specs.Attributes.{has_attribute, hook_of, subsort_pairs}
 use Rattle.kore_sig.specs.CountedModules.{counted}
-use Rattle.kore_sig.specs.Declarations.{sorts_of}
-use Rattle.kore_sig.specs.SymbolKinds.{kind_of, injection_of}
-use Rattle.kore_sig.specs.SignatureFaults.{declaration_faults, nothing_declared}
+use Rattle.kore_sig.specs.Declarations.{pairs_of, sorts_of}
+use Rattle.kore_sig.specs.SortReferences.{sort_entries, sort_reference}
+use Rattle.kore_sig.specs.SymbolKinds.{kind_of, injection_of, ac_names}
+use Rattle.kore_sig.specs.SignatureFaults.{declaration_faults, placed, nothing_declared, FirstOfModules, module_faults}
 
 -- `name{}()`
 attribute : List ℕ → PatternTree

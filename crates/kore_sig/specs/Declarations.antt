@@ -1,6 +1,6 @@
 -- What the modules that count declare, in the order of the file. Names are flat: what one of them declares, each of
 -- them may name.
-use Rattle.std.specs.Prelude.{ℕ, List, map, Option, Some, None, filter_map, flat_map}
+use Rattle.std.specs.Prelude.{ℕ, List, [], ◌∷◌, map, Option, Some, None, filter_map, flat_map}
 use Rattle.kore_text.specs.Trees.{SortTree, SortDeclaration, SymbolDeclaration, AxiomDeclaration, Declaration, import_declaration, sort_declaration, symbol_declaration, alias_declaration, axiom_declaration, claim_declaration, DefinitionTree}
 use Rattle.kore_sig.specs.Attributes.{subsort_pairs}
 use Rattle.kore_sig.specs.CountedModules.{counted_declarations}

@@ -1,5 +1,5 @@
 -- The declarations, one after the other.
-use Rattle.std.specs.Prelude.{◌≡◌, ℕ, List, [], ◌∷◌, ◌++◌, Option, Some, None, option_copied}
+use Rattle.std.specs.Prelude.{◌≡◌, ℕ, List, [], ◌∷◌, ◌++◌, Option, Some, None, map, option_copied}
 use Rattle.std.specs.List.{AllZip}
 use Rattle.rule_core.specs.Named.{names_of}
 use Rattle.rule_core.specs.declared.signature.SortInfo.{SortInfo}
@@ -9,7 +9,7 @@ use Rattle.kore_sig.specs.FirstFault.{Fault}
 use Rattle.kore_sig.specs.Knowing.{entries_in, symbols_in}
 use Rattle.kore_sig.specs.Noted.{first_in}
 use Rattle.kore_sig.specs.Refusals.{Refuses}
-use Rattle.kore_sig.specs.SignatureFaults.{Placed, Before, declaration_faults, declared_behind}
+use Rattle.kore_sig.specs.SignatureFaults.{Placed, Before, declaration_faults, declared_behind, nothing_declared}
 use Rattle.kore_sig.specs.Signatures.{IsSymbolEntry}
 use Rattle.kore_sig.specs.declared.faults.SigFault.{SigFault}
 use Rattle.kore_sig.specs.declared.known.Known.{Known}

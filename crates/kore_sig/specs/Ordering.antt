@@ -1,5 +1,5 @@
 -- The pairs of sorts of declarations.
-use Rattle.std.specs.Prelude.{ℕ, List, ◌++◌, flat_map, filter_map, Option}
+use Rattle.std.specs.Prelude.{◌≡◌, ℕ, List, [], ◌∷◌, ◌++◌, flat_map, filter_map, Option}
 use Rattle.std.specs.List.{AllZip}
 use Rattle.rule_core.specs.Subsorts.{HasNoCycle}
 use Rattle.rule_core.specs.declared.signature.SortInfo.{SortInfo}

@@ -1,7 +1,7 @@
 -- The faults of the declarations of a definition, and the first of them: first the names of all modules, then the
 -- declarations of the modules that count, then the pairs of sorts. Each of these goes in the order of the file. At one
 -- declaration the smallest number comes first, of one number the first byte.
-use Rattle.std.specs.Prelude.{◌≡◌, ◌==◌, ℕ, List, [], ◌∷◌, ◌++◌, length, map, flat_map, Contains, Option, Some, None, is_some, if◌then◌else◌, nat_lt}
+use Rattle.std.specs.Prelude.{◌≡◌, ◌==◌, ℕ, Bool, List, [], ◌∷◌, ◌++◌, length, map, flat_map, Contains, ◌⊎◌, Option, Some, None, is_some, if◌then◌else◌, nat_lt}
 use Rattle.kore_text.specs.Trees.{SortTree, ImportDeclaration, SortDeclaration, SymbolDeclaration, Declaration, import_declaration, sort_declaration, symbol_declaration, alias_declaration, axiom_declaration, claim_declaration, ModuleTree, DefinitionTree}
 use Rattle.rule_core.specs.Subsorts.{HasNoCycle}
 use Rattle.rule_core.specs.declared.signature.SortInfo.{SortInfo}

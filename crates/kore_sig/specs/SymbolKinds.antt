@@ -9,7 +9,7 @@ use Rattle.rule_core.specs.declared.signature.SymKind.{SymKind}
 use Rattle.rule_core.specs.declared.signature.SymKind.TheVariants.{Injection, Ctor, Equations, Closed, NoKind}
 use Rattle.kore_sig.specs.Names.{is_among}
 use Rattle.kore_sig.specs.Attributes.{has_attribute, is_said_ac}
-use Rattle.kore_sig.specs.Declarations.{axioms_of}
+use Rattle.kore_sig.specs.Declarations.{symbols_of, axioms_of}
 
 -- the sort is the parameter of this name
 abbrev pub is_parameter : List ℕ → SortTree → Bool

@@ -1,4 +1,4 @@
-use Rattle.std.proofs.Common.{◌≡◌, ◌+◌, ◌<◌, ◌++◌, ◌∷◌, [], arith, map, drop, take, length, ap, sym, ◌∙◌, List, ℕ, Vec, Global}
+use Rattle.std.proofs.Common.{◌≡◌, ◌+◌, ◌<◌, ◌++◌, ◌∷◌, [], arith, rules, map, drop, take, length, get_or, ap, sym, ◌∙◌, List, ℕ, Vec, Global}
 use Rattle.std.specs.Prelude.{flat_map}
 use Rattle.kore_ast.specs.declared.tree.Decl.{Decl}
 use Rattle.kore_sig.specs.declared.counted.Placed.{Placed as PlacedDecl}
