@@ -8,10 +8,10 @@ use Rattle.term_core.proofs.PatternLaws.{with_first_some, node_some}
 use Rattle.ground_rules.specs.declared.signature.Signature.{Signature}
 use Rattle.ground_rules.specs.declared.rules.Rule.{Rule}
 use Rattle.ground_rules.specs.declared.rules.Program.{Program}
-use Rattle.ml_image.specs.Images.{HasImage, HaveImages, HasImageAt}
-use Rattle.mm_justify.specs.NoVariables.{HasNoVariable, HaveNoVariable}
+use Rattle.ground_image.specs.Images.{HasImage, HaveImages, HasImageAt}
+use Rattle.ground_justify.specs.NoVariables.{HasNoVariable, HaveNoVariable}
 use Rattle.term_core.specs.declared.rule_patterns.RulePat.{RulePat}
-use Rattle.mm_justify.specs.Justifying.{Justifies}
+use Rattle.ground_justify.specs.Justifying.{Justifies}
 use Rattle.prove_run.specs.RunProof.{RunProof}
 use Rattle.prove_run.specs.Proving.{AreGroundAt, Begins, IsAtRule, IsJustified, StepsBy}
 use Rattle.kore_prove.specs.Provable.{IsBuiltOf, AreBuiltOf, IsProvableRule, IsProvable}

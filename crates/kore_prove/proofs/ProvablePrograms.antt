@@ -10,7 +10,7 @@ use Rattle.kore_lex.specs.Tokens.{AllWord, IsName}
 use Rattle.mm_claims.specs.Statements.{is_name_byte}
 use Rattle.kore_text.specs.Trees.{PatternTree, PatternTrees, element_variable, set_variable, string, symbol_applied, connected, binding, domain_value, folded, no_patterns, pattern_then, AxiomDeclaration}
 use Rattle.term_core.specs.Patterns.{Pattern, Patterns}
-use Rattle.ml_image.specs.Tokens.{name_at}
+use Rattle.ground_image.specs.Tokens.{name_at}
 use Rattle.ground_rules.specs.Named.{names_of}
 use Rattle.ground_rules.specs.ProgramView.{rewrite_rule, rewrite_rules}
 use Rattle.ground_rules.specs.Rules.{RewriteRule}

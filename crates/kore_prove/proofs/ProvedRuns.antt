@@ -6,7 +6,7 @@ use Rattle.term_core.specs.Terms.{Tree}
 use Rattle.term_core.specs.Patterns.{Pattern, ground_pattern}
 use Rattle.ground_rules.specs.declared.rules.Outcome.{Outcome}
 use Rattle.ground_rules.specs.declared.rules.Program.{Program}
-use Rattle.mm_justify.specs.Justifying.{Justifies}
+use Rattle.ground_justify.specs.Justifying.{Justifies}
 use Rattle.kore_prove.specs.Words.{IsRun, IsVerifyCommand}
 use Rattle.kore_prove.specs.Outcomes.{run_of}
 use Rattle.kore_prove.specs.Files.{HoldsProgram, HoldsStart}

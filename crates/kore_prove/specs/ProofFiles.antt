@@ -4,7 +4,7 @@ use Rattle.desk_io.specs.Told.{Told, PutsFile, file_of}
 use Rattle.term_core.specs.Patterns.{Pattern, ground_pattern}
 use Rattle.ground_rules.specs.declared.rules.Outcome.{Outcome}
 use Rattle.ground_rules.specs.declared.rules.Program.{Program}
-use Rattle.mm_justify.specs.Justifying.{Justifies}
+use Rattle.ground_justify.specs.Justifying.{Justifies}
 use Rattle.kore_prove.specs.Outcomes.{HasLines}
 
 -- the lines are those of the program's run from this start, and the text justifies it

@@ -7,7 +7,7 @@ use Rattle.term_core.specs.Patterns.{Pattern, instance_of, ground_pattern}
 use Rattle.ground_rules.specs.Runs.{Run, IsRunOf}
 use Rattle.ground_rules.specs.ProgramView.{rewrite_rules}
 use Rattle.ground_rules.specs.declared.rules.Program.{Program}
-use Rattle.mm_justify.specs.Justifying.{Justifies}
+use Rattle.ground_justify.specs.Justifying.{Justifies}
 use Rattle.kore_prove.specs.Words.{IsRunCommand, IsProofCommand}
 use Rattle.kore_prove.specs.Files.{HoldsProgram, HoldsStart}
 use Rattle.kore_prove.specs.Lines.{last_of, lines_of}

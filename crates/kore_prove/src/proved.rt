@@ -6,7 +6,7 @@ ghost use Rattle.term_core.specs.RulePatterns.{plain_pattern};
 ghost use Rattle.ground_rules.specs.Runs.{IsRunOf};
 ghost use Rattle.ground_rules.specs.Trial.{IsInTrialOrder};
 ghost use Rattle.ground_rules.specs.ProgramView.{rewrite_rules};
-ghost use Rattle.mm_justify.specs.Justifying.{Justifies};
+ghost use Rattle.ground_justify.specs.Justifying.{Justifies};
 ghost use Rattle.prove_run.specs.Proving.{IsAtRule, StepsBy};
 ghost use Rattle.kore_prove.specs.Outcomes.{run_of};
 ghost use Rattle.kore_prove.specs.Provable.{IsBuiltOf, IsProvable};

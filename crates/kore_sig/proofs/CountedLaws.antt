@@ -1,8 +1,7 @@
 -- Which modules count, one module more in front.
-use Rattle.std.proofs.Common.{◌≡◌, ℕ, zero, suc, ◌+◌, ◌-◌, ◌<◌, ◌≤◌, Bool, true, false, cond, List, [], ◌∷◌, ◌++◌, map, take, drop, reverse, get_or, length, refl, ap, sym, ◌∙◌, arith, subst}
-use Rattle.std.specs.Prelude.{is_some, flat_map}
-use Rattle.std.proofs.lemmas.List.{reverse-append, drop_all, append_assoc, map-append}
-use Rattle.rule_core.specs.Named.{number_of}
+use Rattle.std.proofs.Common.{◌≡◌, ℕ, zero, suc, ◌+◌, ◌-◌, ◌<◌, ◌≤◌, Bool, true, false, cond, List, [], ◌∷◌, ◌++◌, map, drop, reverse, get_or, length, refl, ap, sym, ◌∙◌, arith}
+use Rattle.std.specs.Prelude.{flat_map}
+use Rattle.std.proofs.lemmas.List.{reverse-append, append_assoc, map-append}
 use Rattle.kore_text.specs.Trees.{Declaration, ModuleTree}
 use Rattle.kore_ast.specs.Plain.{plain_module, plain_declaration}
 use Rattle.kore_ast.specs.declared.tree.Module.{Module}
@@ -10,10 +9,8 @@ use Rattle.kore_sig.specs.CountedModules.{imports_of, counts, counted}
 use Rattle.kore_sig.specs.Names.{is_among}
 use Rattle.kore_sig.specs.declared.counted.Placed.{Placed as PlacedDecl}
 use Rattle.kore_sig.specs.Placing.{marks_of, plain_placed}
-use Rattle.kore_sig.specs.Sets.{Knows}
 use Rattle.kore_sig.specs.SignatureFaults.{Placed, placed_at, placed, name_behind}
 use Rattle.kore_sig.proofs.ListLaws.{drop_step}
-use Rattle.kore_sig.proofs.SetLaws.{knows_swap}
 
 -- the modules behind the one before this place
 pub behind : (modules : List Module) (i : ℕ) (m : Module) → 0 < i → i ≤ length modules → m ≡ get_or modules (i - 1) m → map plain_module (drop (i - 1) modules) ≡ plain_module m ∷ map plain_module (drop i modules)

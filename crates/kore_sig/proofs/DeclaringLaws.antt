@@ -1,16 +1,15 @@
 -- What is kept of the declarations so far, with one declaration more.
-use Rattle.std.proofs.Common.{◌≡◌, ℕ, Bool, true, false, not, cond, List, [], ◌∷◌, ◌++◌, map, refl, ap, sym, ◌∙◌, subst}
-use Rattle.std.specs.Prelude.{Option, Some, None, is_some, is_none, option_copied, if◌then◌else◌, flat_map, nat_lt, length, ◌==◌}
+use Rattle.std.proofs.Common.{◌≡◌, ℕ, Bool, true, false, not, cond, List, [], ◌∷◌, ◌++◌, refl, ap, sym, ◌∙◌, subst}
+use Rattle.std.specs.Prelude.{Some, None, is_none, option_copied, if◌then◌else◌, flat_map, nat_lt, length, ◌==◌}
 use Rattle.std.specs.List.{AllZip}
 use Rattle.std.proofs.lemmas.List.{map-append, append-nil}
 use Rattle.rule_core.specs.Named.{number_of, names_of}
 use Rattle.rule_core.specs.declared.signature.SymInfo.{SymInfo}
-use Rattle.kore_text.specs.Trees.{SortTree, SortDeclaration, SymbolDeclaration, Declaration, sort_declaration, symbol_declaration}
+use Rattle.kore_text.specs.Trees.{SortDeclaration, SymbolDeclaration, Declaration, sort_declaration, symbol_declaration}
 use Rattle.kore_sig.specs.FirstFault.{Fault, when, unless}
 use Rattle.kore_sig.specs.Names.{is_among}
-use Rattle.kore_sig.specs.Noted.{leads_by_number, kept, noted, first_by_number, first_in}
-use Rattle.kore_sig.specs.Declarations.{sort_declared, symbol_declared}
-use Rattle.kore_sig.specs.Declaring.{before_of, AreSymbols, Grows, placed_faults, placed_behind, first_declared}
+use Rattle.kore_sig.specs.Noted.{leads_by_number, noted, first_by_number}
+use Rattle.kore_sig.specs.Declaring.{before_of, Grows}
 use Rattle.kore_sig.specs.Knowing.{entries_in, symbols_in}
 use Rattle.rule_core.specs.declared.signature.SortInfo.{SortInfo}
 use Rattle.std.proofs.lemmas.Grind.{flat_map-append}
@@ -19,7 +18,7 @@ use Rattle.kore_ast.specs.declared.tree.Decl.{Decl}
 use Rattle.kore_ast.specs.declared.tree.Decl.TheVariants as decl
 use Rattle.kore_ast.specs.declared.tree.SortDecl.{SortDecl}
 use Rattle.kore_ast.specs.declared.tree.SymbolDecl.{SymbolDecl}
-use Rattle.kore_sig.specs.SignatureFaults.{Before, declared_behind, declaration_faults, reference_faults, symbol_faults, sort_faults, most_arguments}
+use Rattle.kore_sig.specs.SignatureFaults.{declared_behind, reference_faults, symbol_faults, sort_faults, most_arguments}
 use Rattle.kore_sig.specs.Signatures.{IsSymbolEntry}
 use Rattle.kore_sig.specs.declared.known.Known.{Known}
 use Rattle.kore_sig.proofs.KnowingLaws.{entries_push, symbols_push}

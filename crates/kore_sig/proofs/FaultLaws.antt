@@ -1,5 +1,5 @@
 -- Laws of the faults of one declaration.
-use Rattle.std.proofs.Common.{◌≡◌, ℕ, zero, suc, ◌+◌, ◌<◌, ◌≤◌, Bool, true, false, cond, List, [], ◌∷◌, ◌++◌, map, take, length, Option, Some, None, refl, ap, sym, ◌∙◌, arith}
+use Rattle.std.proofs.Common.{◌≡◌, ℕ, zero, suc, ◌+◌, ◌<◌, ◌≤◌, Bool, true, false, cond, List, [], ◌∷◌, ◌++◌, take, Option, Some, None, refl, ap, sym, ◌∙◌, arith}
 use Rattle.std.specs.Prelude.{nat_lt, nat_le, ◌==◌, ◌||◌, ◌&&◌, flat_map, is_some}
 use Rattle.std.specs.List.{list_any, position_from}
 use Rattle.std.specs.Str.{bytes_eq}
@@ -10,11 +10,10 @@ use Rattle.rule_core.specs.declared.signature.SortInfo.{SortInfo}
 use Rattle.kore_text.specs.Trees.{SortTree}
 use Rattle.kore_sig.specs.FirstFault.{Fault, when, unless}
 use Rattle.kore_sig.specs.Names.{is_among}
-use Rattle.kore_sig.specs.Noted.{leads_by_number, kept, noted, first_by_number}
+use Rattle.kore_sig.specs.Noted.{leads_by_number, noted, first_by_number}
 use Rattle.kore_sig.specs.Refusals.{fault_at}
 use Rattle.kore_sig.specs.SignatureFaults.{reference_faults}
 use Rattle.kore_sig.specs.SortReferences.{sort_reference, sort_place}
-use Rattle.kore_sig.specs.UnknownSorts.{unknown_sort_at}
 use Rattle.kore_sig.proofs.NotedLaws.{noted_append}
 use Rattle.kore_sig.proofs.SetLaws.{any_name}
 

@@ -1,6 +1,6 @@
 -- Laws of what is known of all declarations.
 use Rattle.std.proofs.Common.{◌≡◌, ℕ, Bool, true, false, not, List, [], ◌∷◌, ◌++◌, map, refl, ap, sym, ◌∙◌, subst}
-use Rattle.std.specs.Prelude.{Option, Some, None, is_some, is_none, filter_map, ◌||◌, ◌≢◌, if◌then◌else◌}
+use Rattle.std.specs.Prelude.{None, is_some, is_none, filter_map, ◌||◌, ◌≢◌, if◌then◌else◌}
 use Rattle.std.specs.List.{cons_option}
 use Rattle.std.specs.Str.{bytes_eq}
 use Rattle.std.proofs.lemmas.Slice.Eq.{bytes_eq-Decides}
@@ -12,7 +12,6 @@ use Rattle.kore_text.specs.Trees.{Declaration, sort_declaration, SortDeclaration
 use Rattle.kore_sig.specs.Declarations.{sort_declared, symbol_declared, axiom_declared}
 use Rattle.kore_sig.specs.Knowing.{entries_in, symbols_in, ac_in, IsSortTable}
 use Rattle.kore_sig.specs.Names.{is_among}
-use Rattle.kore_sig.specs.Sets.{Knows}
 use Rattle.kore_sig.specs.SortReferences.{sort_entry}
 use Rattle.kore_sig.specs.SymbolKinds.{said_ac}
 use Rattle.kore_sig.proofs.SetLaws.{knows_more, knows_same}

@@ -12,5 +12,5 @@ pub mod OrderLaws
 pub mod PairLaws
 pub mod SetLaws
 pub mod TreeLists
+pub mod UniqueLaws
 pub mod WholeLaws
-mod Tried

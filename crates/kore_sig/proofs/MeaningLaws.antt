@@ -1,11 +1,10 @@
 -- The signature of a definition from what is known of its declarations.
-use Rattle.std.proofs.Common.{◌≡◌, ℕ, zero, suc, ◌<◌, Bool, List, [], ◌∷◌, ◌++◌, map, length, get_or, slice_get, Option, Some, None, refl, ap, sym, ◌∙◌, arith, inl, inr, subst}
-use Rattle.std.specs.Prelude.{is_some, option_map, option_copied, flat_map, ◌||◌, All, nat_lt}
+use Rattle.std.proofs.Common.{◌≡◌, ℕ, zero, suc, ◌<◌, List, [], ◌∷◌, ◌++◌, map, length, slice_get, Option, Some, None, refl, ap, sym, ◌∙◌, arith, subst}
+use Rattle.std.specs.Prelude.{is_some, option_map, flat_map, ◌||◌, All, nat_lt}
 use Rattle.std.specs.List.{AllZip, AllByRecursion}
 use Rattle.std.specs.Str.{bytes_eq}
 use Rattle.std.proofs.lemmas.List.Elements.{All-from_recursion}
-use Rattle.rule_core.specs.Named.{number_of, names_of, AreDistinct}
-use Rattle.rule_core.specs.Sorting.{IsSymbol}
+use Rattle.rule_core.specs.Named.{number_of, names_of}
 use Rattle.rule_core.specs.Subsorts.{HasNoCycle}
 use Rattle.rule_core.specs.WellSorted.{IsReference, IsDeclaration, IsPair, IsSignature}
 use Rattle.rule_core.specs.declared.signature.Signature.{Signature}
@@ -16,14 +15,14 @@ use Rattle.rule_core.specs.declared.signature.SortRef.TheVariants.{Param, Sort}
 use Rattle.kore_text.specs.Trees.{SortTree, sort_parameter, sort_applied, listed_sorts, SymbolDeclaration, Declaration, import_declaration, sort_declaration, symbol_declaration, alias_declaration, axiom_declaration, claim_declaration}
 use Rattle.kore_sig.specs.Attributes.{is_said_ac}
 use Rattle.kore_sig.specs.Declarations.{SubsortPair}
-use Rattle.kore_sig.specs.FirstFault.{Fault, unless, when}
+use Rattle.kore_sig.specs.FirstFault.{unless, when}
 use Rattle.kore_sig.specs.Names.{is_among}
 use Rattle.kore_sig.specs.Declaring.{first_declared, placed_faults, placed_behind}
 use Rattle.kore_sig.specs.Sets.{Knows}
 use Rattle.kore_sig.specs.SignatureFaults.{Before, Placed, reference_faults, declaration_faults, most_arguments}
 use Rattle.kore_sig.specs.Signatures.{IsSymbolEntry, IsPairOf}
 use Rattle.kore_sig.specs.SortReferences.{sort_reference, declared_number, parameter_place, sort_place}
-use Rattle.kore_sig.specs.SymbolKinds.{kind_of, is_ac}
+use Rattle.kore_sig.specs.SymbolKinds.{kind_of}
 use Rattle.kore_sig.proofs.ListLaws.{is_some-map, number_within, position_within}
 use Rattle.kore_sig.proofs.OrderLaws.{first_in_same}
 use Rattle.kore_sig.proofs.PairLaws.{number_of_sort}

@@ -1,9 +1,9 @@
 -- The first fault of things that come one after the other, computed.
-use Rattle.std.proofs.Common.{◌≡◌, ℕ, Bool, List, [], ◌∷◌, ◌++◌, Option, Some, None, refl, ap, sym, ◌∙◌, inl, inr, subst}
+use Rattle.std.proofs.Common.{◌≡◌, List, [], ◌∷◌, Option, Some, None, refl, ap, ◌∙◌, inl, inr}
 use Rattle.std.specs.Option.{option_or}
 use Rattle.std.specs.Prelude.{Contains}
 use Rattle.kore_sig.specs.FirstFault.{Fault, ByNumber, IsFirstBy, Then, InOrder}
-use Rattle.kore_sig.specs.Noted.{leads_by_number, noted, first_by_number, first_in}
+use Rattle.kore_sig.specs.Noted.{first_by_number, first_in}
 use Rattle.kore_sig.specs.Refusals.{Refuses}
 use Rattle.kore_sig.specs.declared.faults.SigFault.{SigFault}
 use Rattle.kore_sig.specs.declared.faults.SigFault.TheVariants.{Import, Duplicate, UnknownSort, Arity, SortParameter, SubsortCycle, Memory}

@@ -12,7 +12,7 @@ use Rattle.kore_text.specs.Trees.{PatternTree, Declaration, SortTree, sort_param
 use Rattle.kore_sig.specs.Declarations.{SubsortPair, pair_at, pairs_of_axiom, axiom_declared}
 use Rattle.kore_sig.specs.Attributes.{subsort_sorts, subsort_pairs}
 use Rattle.kore_sig.specs.FirstFault.{Fault, unless, ByNumber, IsFirstBy, Then}
-use Rattle.kore_sig.specs.Noted.{leads_by_number, first_by_number}
+use Rattle.kore_sig.specs.Noted.{first_by_number}
 use Rattle.kore_sig.specs.Ordering.{FirstFrom, Passes, pairs_in}
 use Rattle.kore_sig.specs.Refusals.{fault_at, Refuses}
 use Rattle.kore_sig.specs.SignatureFaults.{number_faults, HasPairFault, unknown_sort, cycle, pair_behind, with_numbers}

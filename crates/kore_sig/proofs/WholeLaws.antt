@@ -1,8 +1,8 @@
 -- The stages of a definition, put together.
-use Rattle.std.proofs.Common.{◌≡◌, ℕ, List, [], ◌∷◌, map, Option, None, Some, ap, sym, ◌∙◌, subst, inl, inr, refl}
+use Rattle.std.proofs.Common.{◌≡◌, ℕ, List, [], Option, ap, sym, ◌∙◌, subst}
 use Rattle.std.specs.List.{AllZip}
-use Rattle.std.specs.Prelude.{option_copied, is_some}
-use Rattle.rule_core.specs.Named.{names_of, number_of, AreDistinct}
+use Rattle.std.specs.Prelude.{option_copied}
+use Rattle.rule_core.specs.Named.{names_of, AreDistinct}
 use Rattle.rule_core.specs.Subsorts.{HasNoCycle}
 use Rattle.rule_core.specs.WellSorted.{IsSignature}
 use Rattle.rule_core.specs.declared.signature.Signature.{Signature}
@@ -11,12 +11,11 @@ use Rattle.kore_text.specs.Trees.{Declaration, DefinitionTree}
 use Rattle.kore_sig.specs.CountedModules.{counted_declarations}
 use Rattle.kore_sig.specs.Declarations.{pairs_of, symbols_of}
 use Rattle.kore_sig.specs.Declaring.{AreSymbols, first_declared, placed_faults, placed_behind}
-use Rattle.kore_sig.specs.FirstFault.{Fault, ByNumber, IsFirstBy}
-use Rattle.kore_sig.specs.Knowing.{entries_in, symbols_in, ac_in, IsSortTable, IsKnown}
+use Rattle.kore_sig.specs.FirstFault.{Fault}
+use Rattle.kore_sig.specs.Knowing.{entries_in, symbols_in, ac_in, IsKnown}
 use Rattle.kore_sig.specs.Naming.{first_module}
-use Rattle.kore_sig.specs.Names.{is_among}
 use Rattle.kore_sig.specs.Ordering.{FirstFrom, pairs_in}
-use Rattle.kore_sig.specs.SignatureFaults.{Placed, FirstOfModules, FirstOfDeclarations, FirstOfPairs, FirstOfSignature, module_faults, name_behind, nothing_declared, placed}
+use Rattle.kore_sig.specs.SignatureFaults.{Placed, FirstOfModules, FirstOfDeclarations, FirstOfPairs, module_faults, name_behind, nothing_declared, placed}
 use Rattle.kore_sig.specs.Signatures.{IsSymbolEntry, IsPairOf, IsSignatureOf}
 use Rattle.kore_sig.specs.SortReferences.{sort_entries}
 use Rattle.kore_sig.specs.SymbolKinds.{injection_of, ac_names}

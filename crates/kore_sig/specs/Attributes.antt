@@ -3,18 +3,12 @@
 use Rattle.std.specs.Prelude.{ℕ, Bool, false, ◌||◌, List, [], ◌∷◌, Option, Some, None, option_map, unwrap_or, find, filter_map, if◌then◌else◌, codes}
 use Rattle.std.specs.List.{list_any}
 use Rattle.std.specs.Str.{bytes_eq}
-use Rattle.kore_text.specs.Trees.{SortTree, listed_sorts, PatternTree, element_variable, set_variable, string, symbol_applied, connected, binding, domain_value, folded, listed_patterns}
+use Rattle.kore_text.specs.Trees.{SortTree, listed_sorts, PatternTree, string, symbol_applied, listed_patterns}
 
 -- an attribute of this name
 abbrev pub is_named : List ℕ → PatternTree → Bool
-is_named name (element_variable at n s) = false
-is_named name (set_variable at n s) = false
-is_named name (string at text) = false
 is_named name (symbol_applied at n sorts arguments) = bytes_eq n name
-is_named name (connected at op sorts arguments) = false
-is_named name (binding at binder sorts variable body) = false
-is_named name (domain_value at sort text place) = false
-is_named name (folded at left p) = false
+is_named name p = false
 
 -- some attribute has this name
 abbrev pub has_attribute : List ℕ → List PatternTree → Bool
@@ -26,14 +20,8 @@ first_of_name name attributes = find (is_named name) attributes
 
 -- the text that a pattern is
 abbrev pub text_itself : PatternTree → Option (List ℕ)
-text_itself (element_variable at n s) = None
-text_itself (set_variable at n s) = None
 text_itself (string at text) = Some text
-text_itself (symbol_applied at n sorts arguments) = None
-text_itself (connected at op sorts arguments) = None
-text_itself (binding at binder sorts variable body) = None
-text_itself (domain_value at sort text place) = None
-text_itself (folded at left p) = None
+text_itself p = None
 
 -- the text that is the only one of these
 abbrev pub only_text : List PatternTree → Option (List ℕ)
@@ -43,18 +31,13 @@ only_text (p ∷ (q ∷ ps)) = None
 
 -- the text of an attribute whose only argument is a text
 abbrev pub text_of : PatternTree → Option (List ℕ)
-text_of (element_variable at n s) = None
-text_of (set_variable at n s) = None
-text_of (string at text) = None
 text_of (symbol_applied at n sorts arguments) = only_text (listed_patterns arguments)
-text_of (connected at op sorts arguments) = None
-text_of (binding at binder sorts variable body) = None
-text_of (domain_value at sort text place) = None
-text_of (folded at left p) = None
+text_of p = None
 
 -- the name of the hook; the empty text, which names no hook, where the attribute has no text
 abbrev pub hook_of : List PatternTree → Option (List ℕ)
-hook_of attributes = option_map (λ (a : PatternTree). unwrap_or (text_of a) []) (first_of_name (codes "hook") attributes)
+hook_of attributes =
+    option_map (λ (a : PatternTree). unwrap_or (text_of a) []) (first_of_name (codes "hook") attributes)
 
 -- some attribute says that the symbol is associative, commutative or idempotent, or has a unit
 abbrev pub is_said_ac : List PatternTree → Bool
@@ -68,14 +51,8 @@ stated_pair name (lower ∷ (upper ∷ [])) [] = if bytes_eq name (codes "subsor
 stated_pair name sorts arguments = None
 
 abbrev pub subsort_sorts : PatternTree → Option (SortTree × SortTree)
-subsort_sorts (element_variable at n s) = None
-subsort_sorts (set_variable at n s) = None
-subsort_sorts (string at text) = None
 subsort_sorts (symbol_applied at n sorts arguments) = stated_pair n (listed_sorts sorts) (listed_patterns arguments)
-subsort_sorts (connected at op sorts arguments) = None
-subsort_sorts (binding at binder sorts variable body) = None
-subsort_sorts (domain_value at sort text place) = None
-subsort_sorts (folded at left p) = None
+subsort_sorts p = None
 
 -- the pairs of sorts that the attributes of an axiom state, in order
 abbrev pub subsort_pairs : List PatternTree → List (SortTree × SortTree)

@@ -1,17 +1,13 @@
 -- Which modules count (Kore language document, "Modules and declarations"): the main module, which is the last one of
 -- the definition, and what it reaches by imports. An import names a module that stands earlier.
 use Rattle.std.specs.Prelude.{ℕ, Bool, true, List, [], ◌∷◌, Option, Some, None, flat_map, filter_map, if◌then◌else◌}
-use Rattle.kore_text.specs.Trees.{Declaration, import_declaration, sort_declaration, symbol_declaration, alias_declaration, axiom_declaration, claim_declaration, ModuleTree, DefinitionTree}
+use Rattle.kore_text.specs.Trees.{Declaration, import_declaration, ModuleTree, DefinitionTree}
 use Rattle.kore_sig.specs.Names.{is_among}
 
 -- the name of the module that a declaration imports
 abbrev pub import_name : Declaration → Option (List ℕ)
 import_name (import_declaration d) = Some d.name
-import_name (sort_declaration d) = None
-import_name (symbol_declaration d) = None
-import_name (alias_declaration d) = None
-import_name (axiom_declaration d) = None
-import_name (claim_declaration d) = None
+import_name d = None
 
 abbrev pub imports_of : ModuleTree → List (List ℕ)
 imports_of m = filter_map import_name m.declarations

@@ -1,34 +1,22 @@
 -- What the modules that count declare, in the order of the file. Names are flat: what one of them declares, each of
 -- them may name.
-use Rattle.std.specs.Prelude.{ℕ, List, [], ◌∷◌, map, Option, Some, None, filter_map, flat_map}
-use Rattle.kore_text.specs.Trees.{SortTree, SortDeclaration, SymbolDeclaration, AxiomDeclaration, Declaration, import_declaration, sort_declaration, symbol_declaration, alias_declaration, axiom_declaration, claim_declaration, DefinitionTree}
+use Rattle.std.specs.Prelude.{ℕ, List, map, Option, Some, None, filter_map, flat_map}
+use Rattle.kore_text.specs.Trees.{SortTree, SortDeclaration, SymbolDeclaration, AxiomDeclaration, Declaration, sort_declaration, symbol_declaration, axiom_declaration, DefinitionTree}
 use Rattle.kore_sig.specs.Attributes.{subsort_pairs}
 use Rattle.kore_sig.specs.CountedModules.{counted_declarations}
 
 -- what a declaration declares, where it declares that
 abbrev pub sort_declared : Declaration → Option SortDeclaration
-sort_declared (import_declaration d) = None
 sort_declared (sort_declaration d) = Some d
-sort_declared (symbol_declaration d) = None
-sort_declared (alias_declaration d) = None
-sort_declared (axiom_declaration d) = None
-sort_declared (claim_declaration d) = None
+sort_declared d = None
 
 abbrev pub symbol_declared : Declaration → Option SymbolDeclaration
-symbol_declared (import_declaration d) = None
-symbol_declared (sort_declaration d) = None
 symbol_declared (symbol_declaration d) = Some d
-symbol_declared (alias_declaration d) = None
-symbol_declared (axiom_declaration d) = None
-symbol_declared (claim_declaration d) = None
+symbol_declared d = None
 
 abbrev pub axiom_declared : Declaration → Option AxiomDeclaration
-axiom_declared (import_declaration d) = None
-axiom_declared (sort_declaration d) = None
-axiom_declared (symbol_declaration d) = None
-axiom_declared (alias_declaration d) = None
 axiom_declared (axiom_declaration d) = Some d
-axiom_declared (claim_declaration d) = None
+axiom_declared d = None
 
 abbrev pub sorts_of : DefinitionTree → List SortDeclaration
 sorts_of definition = filter_map sort_declared (counted_declarations definition)

@@ -1,5 +1,5 @@
 -- The declarations, one after the other.
-use Rattle.std.specs.Prelude.{◌≡◌, ℕ, List, [], ◌∷◌, ◌++◌, Option, Some, None, map, option_copied}
+use Rattle.std.specs.Prelude.{◌≡◌, ℕ, List, [], ◌∷◌, ◌++◌, Option, Some, None, option_copied}
 use Rattle.std.specs.List.{AllZip}
 use Rattle.rule_core.specs.Named.{names_of}
 use Rattle.rule_core.specs.declared.signature.SortInfo.{SortInfo}
@@ -9,7 +9,7 @@ use Rattle.kore_sig.specs.FirstFault.{Fault}
 use Rattle.kore_sig.specs.Knowing.{entries_in, symbols_in}
 use Rattle.kore_sig.specs.Noted.{first_in}
 use Rattle.kore_sig.specs.Refusals.{Refuses}
-use Rattle.kore_sig.specs.SignatureFaults.{Placed, Before, declaration_faults, declared_behind, nothing_declared}
+use Rattle.kore_sig.specs.SignatureFaults.{Placed, Before, declaration_faults, declared_behind}
 use Rattle.kore_sig.specs.Signatures.{IsSymbolEntry}
 use Rattle.kore_sig.specs.declared.faults.SigFault.{SigFault}
 use Rattle.kore_sig.specs.declared.known.Known.{Known}
@@ -39,7 +39,9 @@ AreSymbols known ds symbols =
     AllZip (IsSymbolEntry known.sorts (option_copied known.injection) (names_of known.ac)) (symbols_in ds) symbols
 
 -- what is kept of the declarations so far, with one declaration more
-pub record Grows (known : Known) (seen : List (List ℕ × Unit {0})) (symbols : List (List ℕ × SymInfo)) (seen_behind : List (List ℕ × Unit {0})) (symbols_behind : List (List ℕ × SymInfo)) (d : Declaration) : Type 0 where
+pub record Grows (known : Known) (seen : List (List ℕ × Unit {0})) (symbols : List (List ℕ × SymInfo))
+    (seen_behind : List (List ℕ × Unit {0})) (symbols_behind : List (List ℕ × SymInfo)) (d : Declaration) : Type 0 where
   pub names : before_of seen_behind symbols_behind ≡ declared_behind (before_of seen symbols) d
   pub declared : (ds : List Declaration) → AreSymbols known ds symbols → AreSymbols known (ds ++ d ∷ []) symbols_behind
-  pub sorts : (ds : List Declaration) → names_of seen ≡ names_of (entries_in ds) → names_of seen_behind ≡ names_of (entries_in (ds ++ d ∷ []))
+  pub sorts : (ds : List Declaration) → names_of seen ≡ names_of (entries_in ds) →
+      names_of seen_behind ≡ names_of (entries_in (ds ++ d ∷ []))

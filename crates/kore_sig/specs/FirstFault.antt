@@ -34,6 +34,7 @@ Then P Q (Some f) = P (Some f) ⊎ (P None × Q (Some f))
 
 -- The first fault of the first thing that has any. R says what the first fault of a thing is, where some state stands
 -- before it; next gives the state that stands behind it.
-abbrev pub InOrder : {S A : Type 0} → (S → A → Option Fault → Type 0) → (S → A → S) → S → List A → Option Fault → Type 0
+abbrev pub InOrder : {S A : Type 0} → (S → A → Option Fault → Type 0) → (S → A → S) → S → List A → Option Fault →
+    Type 0
 InOrder R next s [] r = r ≡ None
 InOrder R next s (x ∷ xs) r = Then (R s x) (InOrder R next (next s x) xs) r

@@ -1,8 +1,8 @@
 -- What is known of all declarations before each is looked at.
-use Rattle.std.specs.Prelude.{◌≡◌, ℕ, List, map, filter_map, option_copied, option_map}
+use Rattle.std.specs.Prelude.{◌≡◌, ℕ, List, map, filter_map, option_copied}
 use Rattle.rule_core.specs.Named.{names_of, AreDistinct}
 use Rattle.rule_core.specs.declared.signature.SortInfo.{SortInfo}
-use Rattle.kore_text.specs.Trees.{SortDeclaration, SymbolDeclaration, AxiomDeclaration, Declaration}
+use Rattle.kore_text.specs.Trees.{SymbolDeclaration, Declaration}
 use Rattle.kore_sig.specs.Declarations.{sort_declared, symbol_declared, axiom_declared}
 use Rattle.kore_sig.specs.SortReferences.{sort_entry}
 use Rattle.kore_sig.specs.SymbolKinds.{injection_of, said_ac}

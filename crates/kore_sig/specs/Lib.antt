@@ -9,6 +9,8 @@ pub mod SymbolKinds
 pub mod Signatures
 pub mod SignatureFaults
 pub mod Refusals
+-- Laws: what follows from that. Each is a clause of a function that does nothing.
+pub mod SignatureLaws
 -- Private: what clauses of private functions cite, and how private fields are seen.
 pub mod Sets
 pub mod Naming

@@ -1,5 +1,5 @@
 -- The pairs of sorts of declarations.
-use Rattle.std.specs.Prelude.{◌≡◌, ℕ, List, [], ◌∷◌, ◌++◌, flat_map, filter_map, Option}
+use Rattle.std.specs.Prelude.{ℕ, List, ◌++◌, flat_map, filter_map, Option}
 use Rattle.std.specs.List.{AllZip}
 use Rattle.rule_core.specs.Subsorts.{HasNoCycle}
 use Rattle.rule_core.specs.declared.signature.SortInfo.{SortInfo}
@@ -18,7 +18,10 @@ FirstFrom sorts before pairs r =
     InOrder (λ before p. IsFirstBy ByNumber (HasPairFault sorts before p)) (pair_behind sorts) before pairs r
 
 -- these pairs were added without a fault
-pub record Passes (sorts : List (List ℕ × SortInfo)) (before behind : List (ℕ × ℕ)) (pairs : List SubsortPair) : Type 0 where
-  pub first : (rest : List SubsortPair) (r : Option Fault) → FirstFrom sorts behind rest r → FirstFrom sorts before (pairs ++ rest) r
-  pub numbers : (earlier : List SubsortPair) → AllZip (IsPairOf sorts) earlier before → AllZip (IsPairOf sorts) (earlier ++ pairs) behind
+pub record Passes (sorts : List (List ℕ × SortInfo)) (before behind : List (ℕ × ℕ)) (pairs : List SubsortPair) :
+    Type 0 where
+  pub first : (rest : List SubsortPair) (r : Option Fault) → FirstFrom sorts behind rest r →
+      FirstFrom sorts before (pairs ++ rest) r
+  pub numbers : (earlier : List SubsortPair) → AllZip (IsPairOf sorts) earlier before →
+      AllZip (IsPairOf sorts) (earlier ++ pairs) behind
   pub no_cycle : HasNoCycle before → HasNoCycle behind

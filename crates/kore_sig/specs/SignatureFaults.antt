@@ -1,8 +1,8 @@
 -- The faults of the declarations of a definition, and the first of them: first the names of all modules, then the
 -- declarations of the modules that count, then the pairs of sorts. Each of these goes in the order of the file. At one
 -- declaration the smallest number comes first, of one number the first byte.
-use Rattle.std.specs.Prelude.{◌≡◌, ◌==◌, ℕ, Bool, List, [], ◌∷◌, ◌++◌, length, map, flat_map, Contains, ◌⊎◌, Option, Some, None, is_some, if◌then◌else◌, nat_lt}
-use Rattle.kore_text.specs.Trees.{SortTree, ImportDeclaration, SortDeclaration, SymbolDeclaration, Declaration, import_declaration, sort_declaration, symbol_declaration, alias_declaration, axiom_declaration, claim_declaration, ModuleTree, DefinitionTree}
+use Rattle.std.specs.Prelude.{◌≡◌, ◌==◌, ℕ, List, [], ◌∷◌, ◌++◌, length, map, flat_map, Contains, Option, Some, None, is_some, if◌then◌else◌, nat_lt}
+use Rattle.kore_text.specs.Trees.{SortTree, ImportDeclaration, SortDeclaration, SymbolDeclaration, Declaration, import_declaration, sort_declaration, symbol_declaration, ModuleTree, DefinitionTree}
 use Rattle.rule_core.specs.Subsorts.{HasNoCycle}
 use Rattle.rule_core.specs.declared.signature.SortInfo.{SortInfo}
 use Rattle.kore_sig.specs.FirstFault.{Fault, when, unless, ByNumber, IsFirstBy, Then, InOrder}
@@ -38,7 +38,8 @@ placed_at names d = record { earlier = names; declaration = d }
 abbrev pub placed : List (List ℕ) → List ModuleTree → List Placed
 placed names [] = []
 placed names (m ∷ later) =
-    (if counts m later (counted later) then map (placed_at names) m.declarations else []) ++ placed (name_behind names m) later
+    (if counts m later (counted later) then map (placed_at names) m.declarations else [])
+    ++ placed (name_behind names m) later
 
 -- the names that are declared in front of a declaration
 pub record Before : Type 0 where
@@ -74,18 +75,13 @@ abbrev pub declaration_faults : List (List ℕ × SortInfo) → Before → List 
 declaration_faults sorts before earlier (import_declaration d) = import_faults earlier d
 declaration_faults sorts before earlier (sort_declaration d) = sort_faults before.sorts d
 declaration_faults sorts before earlier (symbol_declaration d) = symbol_faults sorts before.symbols d
-declaration_faults sorts before earlier (alias_declaration d) = []
-declaration_faults sorts before earlier (axiom_declaration d) = []
-declaration_faults sorts before earlier (claim_declaration d) = []
+declaration_faults sorts before earlier d = []
 
 -- the names that are declared behind it
 abbrev pub declared_behind : Before → Declaration → Before
-declared_behind before (import_declaration d) = before
 declared_behind before (sort_declaration d) = record before { sorts = before.sorts ++ d.name ∷ [] }
 declared_behind before (symbol_declaration d) = record before { symbols = before.symbols ++ d.name ∷ [] }
-declared_behind before (alias_declaration d) = before
-declared_behind before (axiom_declaration d) = before
-declared_behind before (claim_declaration d) = before
+declared_behind before d = before
 
 abbrev pub nothing_declared : Before
 nothing_declared = record { sorts = []; symbols = [] }
@@ -103,7 +99,8 @@ number_faults sorts s = unless (is_some (sort_number sorts s)) 6 (sort_place s)
 
 -- a fault of a pair, where these pairs stand in front of it: 6 at the name of a sort that is not declared or has
 -- arguments, or 24 at the keyword of the axiom, where the pair makes a sort be below itself
-pub data HasPairFault (sorts : List (List ℕ × SortInfo)) (before : List (ℕ × ℕ)) (p : SubsortPair) : Fault → Type 0 where
+pub data HasPairFault (sorts : List (List ℕ × SortInfo)) (before : List (ℕ × ℕ)) (p : SubsortPair) :
+    Fault → Type 0 where
   unknown_sort : {f : Fault} → Contains (number_faults sorts p.lower ++ number_faults sorts p.upper) f →
       HasPairFault sorts before p f
   cycle : {a b : ℕ} → sort_number sorts p.lower ≡ Some a → sort_number sorts p.upper ≡ Some b →

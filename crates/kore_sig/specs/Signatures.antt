@@ -12,7 +12,8 @@ use Rattle.kore_sig.specs.SymbolKinds.{injection_of, kind_of, ac_names, is_ac}
 
 -- a declared symbol, where there are these sorts, and this injection and these symbols said to be associative or the
 -- like
-pub record IsSymbolEntry (sorts : List (List ℕ × SortInfo)) (injection : Option (List ℕ)) (by_axiom : List (List ℕ)) (d : SymbolDeclaration) (entry : List ℕ × SymInfo) : Type 0 where
+pub record IsSymbolEntry (sorts : List (List ℕ × SortInfo)) (injection : Option (List ℕ)) (by_axiom : List (List ℕ))
+    (d : SymbolDeclaration) (entry : List ℕ × SymInfo) : Type 0 where
   pub name : entry.0 ≡ d.name
   pub kind : entry.1.kind ≡ kind_of injection d
   pub params : entry.1.params ≡ length d.params
@@ -20,6 +21,11 @@ pub record IsSymbolEntry (sorts : List (List ℕ × SortInfo)) (injection : Opti
   pub result : Some entry.1.result ≡ sort_reference sorts d.params d.result
   pub hook : option_map string_bytes entry.1.hook ≡ hook_of d.attributes
   pub ac : entry.1.ac ≡ is_ac by_axiom d
+
+-- a symbol of a definition, where there are these sorts
+abbrev pub IsEntryOf : DefinitionTree → List (List ℕ × SortInfo) → SymbolDeclaration → List ℕ × SymInfo → Type 0
+IsEntryOf definition sorts d entry =
+    IsSymbolEntry sorts (injection_of (symbols_of definition)) (ac_names definition) d entry
 
 -- the numbers of the two sorts of a pair
 pub record IsPairOf (sorts : List (List ℕ × SortInfo)) (pair : SubsortPair) (numbers : ℕ × ℕ) : Type 0 where
@@ -29,7 +35,7 @@ pub record IsPairOf (sorts : List (List ℕ × SortInfo)) (pair : SubsortPair) (
 -- the declared sorts, symbols and pairs, each in the order of the file
 pub record IsSignatureOf (definition : DefinitionTree) (sig : Signature) : Type 0 where
   pub sorts : sig.sorts ≡ sort_entries definition
-  pub symbols : AllZip (IsSymbolEntry sig.sorts (injection_of (symbols_of definition)) (ac_names definition)) (symbols_of definition) sig.symbols
+  pub symbols : AllZip (IsEntryOf definition sig.sorts) (symbols_of definition) sig.symbols
   pub subsorts : AllZip (IsPairOf sig.sorts) (pairs_of definition) sig.subsorts
 
 -- each sort and each symbol has a number of 32 bits

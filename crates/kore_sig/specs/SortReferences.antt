@@ -1,5 +1,5 @@
 -- Declared sorts: what their hooks say, and which of them a sort in the text is (Kore language document, "Sorts").
-use Rattle.std.specs.Prelude.{ℕ, Bool, List, [], ◌∷◌, Option, Some, None, option_map, map, if◌then◌else◌, codes}
+use Rattle.std.specs.Prelude.{ℕ, List, [], ◌∷◌, Option, Some, None, option_map, map, if◌then◌else◌, codes}
 use Rattle.std.specs.List.{position_from}
 use Rattle.std.specs.Str.{bytes_eq}
 use Rattle.kore_text.specs.Trees.{SortTree, sort_parameter, sort_applied, listed_sorts, SortDeclaration, DefinitionTree}

@@ -2,14 +2,14 @@
 -- attributes `sortInjection`, `function`, `constructor`, `assoc`, `comm`, `unit` and `idem`).
 use Rattle.std.specs.Prelude.{ℕ, Bool, false, not, ◌&&◌, ◌||◌, ◌==◌, List, [], ◌∷◌, length, Option, Some, None, option_map, find, filter_map, if◌then◌else◌, codes}
 use Rattle.std.specs.Str.{bytes_eq}
-use Rattle.kore_text.specs.Trees.{SortTree, sort_parameter, sort_applied, listed_sorts, PatternTree, element_variable, set_variable, string, symbol_applied, connected, binding, domain_value, folded, listed_patterns, SymbolDeclaration, AxiomDeclaration, DefinitionTree}
+use Rattle.kore_text.specs.Trees.{SortTree, sort_parameter, sort_applied, listed_sorts, PatternTree, symbol_applied, connected, listed_patterns, SymbolDeclaration, AxiomDeclaration, DefinitionTree}
 use Rattle.kore_text.specs.declared.names.Op.{Op}
 use Rattle.kore_text.specs.declared.names.Op.TheVariants.{Equals}
 use Rattle.rule_core.specs.declared.signature.SymKind.{SymKind}
 use Rattle.rule_core.specs.declared.signature.SymKind.TheVariants.{Injection, Ctor, Equations, Closed, NoKind}
 use Rattle.kore_sig.specs.Names.{is_among}
 use Rattle.kore_sig.specs.Attributes.{has_attribute, is_said_ac}
-use Rattle.kore_sig.specs.Declarations.{symbols_of, axioms_of}
+use Rattle.kore_sig.specs.Declarations.{axioms_of}
 
 -- the sort is the parameter of this name
 abbrev pub is_parameter : List ℕ → SortTree → Bool
@@ -54,14 +54,8 @@ head_of name [] = Some name
 head_of name (s ∷ sorts) = None
 
 abbrev pub applied_symbol : PatternTree → Option (List ℕ)
-applied_symbol (element_variable at n s) = None
-applied_symbol (set_variable at n s) = None
-applied_symbol (string at text) = None
 applied_symbol (symbol_applied at n sorts args) = head_of n (listed_sorts sorts)
-applied_symbol (connected at op sorts args) = None
-applied_symbol (binding at binder sorts variable body) = None
-applied_symbol (domain_value at sort text place) = None
-applied_symbol (folded at left p) = None
+applied_symbol p = None
 
 -- of the first of these
 abbrev pub first_symbol : List PatternTree → Option (List ℕ)
@@ -74,14 +68,8 @@ equated_by Equals args = first_symbol args
 equated_by op args = None
 
 abbrev pub equated_symbol : PatternTree → Option (List ℕ)
-equated_symbol (element_variable at n s) = None
-equated_symbol (set_variable at n s) = None
-equated_symbol (string at text) = None
-equated_symbol (symbol_applied at n sorts args) = None
 equated_symbol (connected at op sorts args) = equated_by op (listed_patterns args)
-equated_symbol (binding at binder sorts variable body) = None
-equated_symbol (domain_value at sort text place) = None
-equated_symbol (folded at left p) = None
+equated_symbol p = None
 
 -- the symbol that an axiom says to be associative, commutative or the like
 abbrev pub said_ac : AxiomDeclaration → Option (List ℕ)

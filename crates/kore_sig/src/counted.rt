@@ -13,18 +13,33 @@ use std::alloc::{AllocError, Global};
 
 /// A declaration of a module that counts.
 #[derive(Clone, Copy)]
-pub struct Placed<'a> {
+pub(crate) struct Placed<'a> {
     /// The number of the module in the file, from 0 on.
-    pub module_index: usize,
-    pub decl: &'a Decl,
+    pub(crate) module_index: usize,
+    pub(crate) decl: &'a Decl,
 }
 
 /// The declarations of the modules that count, in the order of the file. The main module, which is the last one,
 /// counts, and each module that one that counts imports; an import names a module that stands earlier.
 ///
-/// It looks at each declaration at most twice, and at each name that is imported as many times as the logarithm of
-/// their number. `AllocError` says that memory was wanting.
+/// It looks at each declaration a few times, and at each name that is imported as many times as the logarithm of their
+/// number. `AllocError` says that memory was wanting.
 pub fn counted_declarations(
+    alloc: Global,
+    definition: &Definition,
+) -> Result<Vec<&Decl>, AllocError>
+    ensures { IfOk result (λ ds. map (λ d. plain_declaration d.now) ds.items ≡ the_counted (plain_definition definition.now)) }
+{
+    let placed = placed_declarations(alloc, definition)?;
+    let mut decls = Vec::with_capacity(alloc, placed.len())?;
+    for one in &placed {
+        decls.push(one.decl)?;
+    }
+    Ok(decls)
+}
+
+/// The same, each with the number of its module.
+pub(crate) fn placed_declarations(
     alloc: Global,
     definition: &Definition,
 ) -> Result<Vec<Placed<'_>>, AllocError>

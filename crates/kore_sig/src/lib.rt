@@ -12,17 +12,23 @@
 mod attributes;
 mod counted;
 mod declaring;
+#[cfg(test)]
+mod fault_tests;
 mod faults;
 mod kinds;
 mod known;
+mod laws;
 mod meaning;
 mod names;
 mod pairs;
 mod references;
+#[cfg(test)]
+mod signature_tests;
 mod symbols;
 
 pub use attributes::{first_of_name, has_attribute, text_of};
-pub use counted::{Placed, counted_declarations};
+pub use counted::counted_declarations;
 pub use faults::SigFault;
+pub use laws::signature_laws;
 pub use meaning::signature;
 pub use references::sort_number;

@@ -9,7 +9,7 @@ ghost use Rattle.kore_sig.specs.Refusals.{IsRefusal, Refuses};
 ghost use Rattle.kore_sig.specs.SignatureFaults.{FirstOfSignature};
 ghost use Rattle.kore_sig.specs.Signatures.{IsSignatureOf, IsNumbered};
 
-use crate::counted::counted_declarations;
+use crate::counted::placed_declarations;
 use crate::faults::SigFault;
 use crate::known::learn;
 use crate::names::add_name;
@@ -37,7 +37,7 @@ pub fn signature(alloc: Global, definition: &Definition) -> Result<Signature, Si
     ensures refused { IfErr result (IsRefusal (plain_definition definition.now)) }
 {
     let modules = module_names(alloc, &definition.modules)?;
-    let decls = counted_declarations(alloc, definition)?;
+    let decls = placed_declarations(alloc, definition)?;
     let known = learn(alloc, &decls)?;
     if u32::try_from(known.sorts.len()).is_err() {
         return Err(SigFault::Memory);

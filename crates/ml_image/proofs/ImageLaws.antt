@@ -3,16 +3,15 @@ use Rattle.std.proofs.Common.{◌≡◌, ℕ, ◌+◌, ◌<◌, get_or, subst, a
 use Rattle.std.specs.List.{position_from}
 use Rattle.std.proofs.lemmas.Option.{slice_get_within, get_or_from_slice_get}
 use Rattle.std.proofs.lemmas.List.{drop_more}
-use Rattle.ground_rules.specs.declared.signature.SymInfo.{SymInfo}
+use Rattle.rule_core.specs.declared.signature.SymInfo.{SymInfo}
 use Rattle.std.proofs.lemmas.Slice.Eq.{bytes_eq-Decides}
 use Rattle.ml_pat.proofs.NamedLaws.{number_of-push}
-use Rattle.ml_pat.specs.Patterns.{Pattern, top, imp, and, app, at_sort, next, constant}
-use Rattle.ground_rules.specs.Rules.{RewriteRule}
+use Rattle.ml_pat.specs.Patterns.{Pattern, app, at_sort, constant}
 use Rattle.ml_pat.specs.Named.{number_of, IsNumbered}
 use Rattle.term_core.specs.Patterns.{Pattern as RulePattern, Patterns as RulePatterns, variable, domain_value, application, injection, call, no_pattern, more_patterns}
-use Rattle.ground_rules.specs.declared.signature.Signature.{Signature}
+use Rattle.rule_core.specs.declared.signature.Signature.{Signature}
 use Rattle.ml_image.specs.Tokens.{token_of_sort, token_of_symbol, token_of_value, numbered}
-use Rattle.ml_image.specs.Images.{both, symbol_image, at_sorts, image_of, applied, rule_image_of, some_symbol_image, injection_symbol, injection_image, is_injection}
+use Rattle.ml_image.specs.Images.{both, symbol_image, sort_image, at_sorts, image_of, applied, some_symbol_image, injection_symbol, injection_image, is_injection}
 use Rattle.ml_image.specs.Injecting.{IsInjectionAt}
 use Rattle.ml_image.specs.Gained.{IsOwnToken, AreOwnTokens, HasGained}
 
@@ -23,7 +22,7 @@ Keeps {A} old new = (a : A) → old ≡ Some a → new ≡ Some a
 pub none_some : {A : Type 0} (a : A) → None ≡ Some a → ⊥
 none_some a h = cc
 
-some_same : {A : Type 0} (a b : A) → Some a ≡ Some b → a ≡ b
+pub some_same : {A : Type 0} (a b : A) → Some a ≡ Some b → a ≡ b
 some_same a b h = cc
 
 found-append : (f : List ℕ → Bool) (i : ℕ) (es more : List (List ℕ)) → Keeps (position_from f i es) (position_from f i (es ++ more))
@@ -34,12 +33,12 @@ found-append f i (e ∷ es) more n h = first (f e) _ _ (found-append f (i + 1) e
     first true old new k n h = h
     first false old new k n h = k n h
 
-both-keeps : {A B C : Type 0} (f : A → B → C) (a a' : Option A) (b b' : Option B) → Keeps a a' → Keeps b b' → Keeps (both f a b) (both f a' b')
+pub both-keeps : {A B C : Type 0} (f : A → B → C) (a a' : Option A) (b b' : Option B) → Keeps a a' → Keeps b b' → Keeps (both f a b) (both f a' b')
 both-keeps f None a' b b' ka kb c h = absurd (none_some c h)
 both-keeps f (Some x) a' None b' ka kb c h = absurd (none_some c h)
 both-keeps f (Some x) a' (Some y) b' ka kb c h = rw (ka x refl, kb y refl) h
 
-map-keeps : {A B : Type 0} (f : A → B) (a a' : Option A) → Keeps a a' → Keeps (option_map f a) (option_map f a')
+pub map-keeps : {A B : Type 0} (f : A → B) (a a' : Option A) → Keeps a a' → Keeps (option_map f a) (option_map f a')
 map-keeps f None a' k b h = absurd (none_some b h)
 map-keeps f (Some x) a' k b h = rw (k x refl) h
 
@@ -84,8 +83,8 @@ AreOwn-append : (sig : Signature) (ts us : List (List ℕ)) → AreOwnTokens sig
 AreOwn-append sig [] us h k = k
 AreOwn-append sig (t ∷ ts) us h k = (h.0, AreOwn-append sig ts us h.1 k)
 
-pub gained-twice : (sig : Signature) (a b c : List (List ℕ)) → HasGained sig a b → HasGained sig b c → HasGained sig a c
-gained-twice sig a b c h k = record {
+pub gained_twice : (sig : Signature) (a b c : List (List ℕ)) → HasGained sig a b → HasGained sig b c → HasGained sig a c
+gained_twice sig a b c h k = record {
   gained = h.gained ++ k.gained;
   all = k.all ∙ ap (λ (ns : List (List ℕ)). ns ++ k.gained) h.all ∙ append_assoc a h.gained k.gained;
   own = AreOwn-append sig h.gained k.gained h.own k.own;
@@ -119,10 +118,6 @@ gained-by sig old new token n (Some m) own h = record { gained = []; all = h.1 �
 
 pub gained-numbered : (sig : Signature) (old new : List (List ℕ)) (token : List ℕ) (n : ℕ) → IsOwnToken sig token → IsNumbered old new token n → HasGained sig old new
 gained-numbered sig old new token n own h = gained-by sig old new token n (number_of old token) own h
-
--- the image of a rule, from those of its sides
-pub rule_image-sides : (sig : Signature) (names : List (List ℕ)) (r : RewriteRule) (l u : Pattern) → image_of sig names r.left ≡ Some l → image_of sig names r.right ≡ Some u → rule_image_of sig names r ≡ Some (imp (and l top) (next u))
-rule_image-sides sig names r l u left right = rw (left, right) refl
 
 -- what holds of a result also holds where it says more
 pub if_ok : {T E : Type 0} (P Q : T → Type 0) (r : Result T E) → ((x : T) → P x → Q x) → IfOk r P → IfOk r Q

@@ -2,3 +2,10 @@ pub mod ImageLaws
 pub mod LoopLaws
 pub mod HexLaws
 pub mod NamingLaws
+pub mod ClosingLaws
+pub mod SentenceLaws
+pub mod ListedLaws
+pub mod ConditionLaws
+pub mod ConstructorLaws
+pub mod HookLaws
+pub mod WellSortedLaws

@@ -1,10 +1,14 @@
 -- Images stay the same when names gain tokens.
-use Rattle.std.proofs.Common.{◌≡◌, ℕ, List, [], ◌∷◌, ◌++◌, Some, length, drop, refl, ap, ◌∙◌, sym, subst, Option, None, option_map}
-use Rattle.ml_pat.specs.Patterns.{Pattern, top, imp, and, next}
-use Rattle.ml_image.specs.Images.{image_of, both, rule_image_of}
-use Rattle.ml_image.specs.Gained.{AreOwnTokens}
-use Rattle.ml_image.proofs.ImageLaws.{none_some, image-keeps, rule_image-sides}
-use Rattle.ml_image.specs.NamingLaws.{GainedAreOwn, ImageStays, RuleImageStays}
+use Rattle.std.proofs.Common.{◌≡◌, ℕ, List, [], ◌∷◌, ◌++◌, Some, length, drop, refl, ap, ◌∙◌, sym, subst}
+use Rattle.ml_pat.specs.Patterns.{Pattern}
+use Rattle.ml_pat.specs.Patterns as logic
+use Rattle.rule_core.specs.declared.signature.Signature.{Signature}
+use Rattle.ml_image.specs.Tokens.{token_of_sort}
+use Rattle.ml_image.specs.Images.{image_of}
+use Rattle.ml_image.specs.Sentences.{Sentence, term, symbol, apply, top, not, and, implies, equals, is_in, functional, exists, forall, next, sentence_image}
+use Rattle.ml_image.specs.Gained.{AreOwnTokens, HasGained}
+use Rattle.ml_image.proofs.ImageLaws.{Keeps, both-keeps, map-keeps, numbered-keeps, symbol-keeps, image-keeps}
+use Rattle.ml_image.specs.NamingLaws.{GainedAreOwn, ImageStays, SentenceStays}
 
 drop-front : (xs ys : List (List ℕ)) → drop (length xs) (xs ++ ys) ≡ ys
 drop-front [] ys = refl
@@ -17,10 +21,25 @@ gained_are_own sig old new gained =
 pub image_stays : ImageStays
 image_stays sig names more a p h = image-keeps sig names more a p h
 
-pub rule_image_stays : RuleImageStays
-rule_image_stays sig names more r p h = sides (image_of sig names r.left) refl (image_of sig names r.right) refl h
-  where
-    sides : (l : Option Pattern) → image_of sig names r.left ≡ l → (u : Option Pattern) → image_of sig names r.right ≡ u → both imp (option_map (λ (x : Pattern). and x top) l) (option_map next u) ≡ Some p → rule_image_of sig (names ++ more) r ≡ Some p
-    sides None il u iu is = absurd (none_some p is)
-    sides (Some x) il None iu is = absurd (none_some p is)
-    sides (Some x) il (Some y) iu is = rule_image-sides sig (names ++ more) r x y (image-keeps sig names more r.left x il) (image-keeps sig names more r.right y iu) ∙ is
+pub sentence-keeps : (sig : Signature) (names more : List (List ℕ)) (s : Sentence) → Keeps (sentence_image sig names s) (sentence_image sig (names ++ more) s)
+sentence-keeps sig names more (term p) = image-keeps sig names more p
+sentence-keeps sig names more (symbol f) = symbol-keeps sig names more f
+sentence-keeps sig names more (apply p q) = both-keeps logic.app _ _ _ _ (sentence-keeps sig names more p) (sentence-keeps sig names more q)
+sentence-keeps sig names more top = λ m h. h
+sentence-keeps sig names more (not p) = map-keeps logic.not _ _ (sentence-keeps sig names more p)
+sentence-keeps sig names more (and p q) = both-keeps logic.and _ _ _ _ (sentence-keeps sig names more p) (sentence-keeps sig names more q)
+sentence-keeps sig names more (implies p q) = both-keeps logic.imp _ _ _ _ (sentence-keeps sig names more p) (sentence-keeps sig names more q)
+sentence-keeps sig names more (equals p q) = both-keeps logic.equal _ _ _ _ (sentence-keeps sig names more p) (sentence-keeps sig names more q)
+sentence-keeps sig names more (is_in p q) = both-keeps logic.member _ _ _ _ (sentence-keeps sig names more p) (sentence-keeps sig names more q)
+sentence-keeps sig names more (functional p s) = both-keeps logic.fun _ _ _ _ (sentence-keeps sig names more p) (numbered-keeps names more (token_of_sort sig s))
+sentence-keeps sig names more (exists x s p) = both-keeps (logic.ex x) _ _ _ _ (numbered-keeps names more (token_of_sort sig s)) (sentence-keeps sig names more p)
+sentence-keeps sig names more (forall x s p) = both-keeps (logic.all x) _ _ _ _ (numbered-keeps names more (token_of_sort sig s)) (sentence-keeps sig names more p)
+sentence-keeps sig names more (next p) = map-keeps logic.next _ _ (sentence-keeps sig names more p)
+
+pub sentence_stays : SentenceStays
+sentence_stays sig names more s p h = sentence-keeps sig names more s p h
+
+-- what is there under names before is the same under those that have gained tokens
+pub gained-sentence : (sig : Signature) (old new : List (List ℕ)) (s : Sentence) → HasGained sig old new → Keeps (sentence_image sig old s) (sentence_image sig new s)
+gained-sentence sig old new s g =
+    subst (λ (ns : List (List ℕ)). Keeps (sentence_image sig old s) (sentence_image sig ns s)) (sym g.all) (sentence-keeps sig old g.gained s)

@@ -1,18 +1,14 @@
--- The images of rules' patterns and of rules as patterns of matching logic (Chen and Rosu 2019). A constant or a sort of
--- an image is the number of its token among names; where the names lack a token there is no image.
-use Rattle.std.specs.Prelude.{◌≡◌, ◌<◌, ℕ, Bool, true, false, IsTrue, IsSome, List, [], ◌∷◌, length, slice_get, Option, Some, None, option_map}
+-- The images of rules' patterns as patterns of matching logic (Chen and Rosu 2019). A constant or a sort of an image is
+-- the number of its token among names; where the names lack a token there is no image.
+use Rattle.std.specs.Prelude.{ℕ, ◌+◌, Bool, true, false, List, [], ◌∷◌, Option, Some, None, option_map}
 use Rattle.std.specs.List.{position_from}
-use Rattle.ml_pat.specs.Patterns.{Pattern, top, imp, and, app, at_sort, next, var, constant}
+use Rattle.ml_pat.specs.Patterns.{Pattern, app, at_sort, var, constant}
 use Rattle.term_core.specs.Patterns.{Pattern as RulePattern, Patterns as RulePatterns, variable, domain_value, application, injection, call, no_pattern, more_patterns}
-use Rattle.ground_rules.specs.declared.signature.Signature.{Signature}
-use Rattle.ground_rules.specs.declared.signature.SymInfo.{SymInfo}
-use Rattle.ground_rules.specs.declared.signature.SymKind.{SymKind}
-use Rattle.ground_rules.specs.declared.signature.SymKind.TheVariants as kind
-use Rattle.ground_rules.specs.declared.rules.Rule.{Rule}
-use Rattle.ground_rules.specs.declared.rules.Program.{Program}
-use Rattle.ground_rules.specs.Rules.{RewriteRule}
-use Rattle.ground_rules.specs.ProgramView.{rewrite_rule}
-use Rattle.ml_image.specs.Tokens.{token_of_sort, token_of_symbol, token_of_value, numbered, is_value_at}
+use Rattle.rule_core.specs.declared.signature.Signature.{Signature}
+use Rattle.rule_core.specs.declared.signature.SymInfo.{SymInfo}
+use Rattle.rule_core.specs.declared.signature.SymKind.{SymKind}
+use Rattle.rule_core.specs.declared.signature.SymKind.TheVariants as kind
+use Rattle.ml_image.specs.Tokens.{token_of_sort, token_of_symbol, token_of_value, numbered}
 
 -- what two things make, where both are there
 abbrev pub both : {A B C : Type 0} → (A → B → C) → Option A → Option B → Option C
@@ -36,10 +32,14 @@ injection_symbol sig = position_from (λ (e : List ℕ × SymInfo). is_injection
 abbrev pub symbol_image : Signature → List (List ℕ) → ℕ → Option Pattern
 symbol_image sig names f = option_map constant (numbered names (token_of_symbol sig f))
 
+-- the number of a sort
+abbrev pub sort_image : Signature → List (List ℕ) → ℕ → Option ℕ
+sort_image sig names s = numbered names (token_of_sort sig s)
+
 -- the pattern at sort arguments, from the first on
 abbrev pub at_sorts : Signature → List (List ℕ) → Option Pattern → List ℕ → Option Pattern
 at_sorts sig names head [] = head
-at_sorts sig names head (s ∷ ss) = at_sorts sig names (both at_sort head (numbered names (token_of_sort sig s))) ss
+at_sorts sig names head (s ∷ ss) = at_sorts sig names (both at_sort head (sort_image sig names s)) ss
 
 -- the injection symbol, where there is one, at the sort that an injection comes from and the one that it goes to
 abbrev pub some_symbol_image : Signature → List (List ℕ) → Option ℕ → Option Pattern
@@ -64,42 +64,15 @@ abbrev mutual
   applied sig names head no_pattern = head
   applied sig names head (more_patterns p ps) = applied sig names (both app head (image_of sig names p)) ps
 
--- The image of a rule without variables and without a condition: what is its left side makes a step to its right side.
-abbrev pub rule_image_of : Signature → List (List ℕ) → RewriteRule → Option Pattern
-rule_image_of sig names r =
-    both imp (option_map (λ l. and l top) (image_of sig names r.left)) (option_map next (image_of sig names r.right))
-
--- each number is that of a sort
-abbrev pub AreSorts : Signature → List ℕ → Type 0
-AreSorts sig [] = Unit {0}
-AreSorts sig (s ∷ ss) = (s < length sig.sorts) × AreSorts sig ss
-
--- The pattern has an image: its sorts and symbols are the signature's, each domain value is one that its sort has, and it is
--- built of what has images.
+-- the pattern with its variables numbered from k on
 abbrev mutual
-  pub HasImage : Signature → RulePattern → Type 0
-  HasImage sig (variable x) = Unit {0}
-  HasImage sig (domain_value s v) = (s < length sig.sorts) × IsTrue (is_value_at sig s v)
-  HasImage sig (application f ps) = (f < length sig.symbols) × HaveImages sig ps
-  HasImage sig (injection a b p) = IsSome (injection_symbol sig) × (AreSorts sig (a ∷ b ∷ []) × HasImage sig p)
-  HasImage sig (call f ss ps) = (f < length sig.symbols) × (AreSorts sig ss × HaveImages sig ps)
+  pub shifted : ℕ → RulePattern → RulePattern
+  shifted k (variable x) = variable (k + x)
+  shifted k (domain_value s v) = domain_value s v
+  shifted k (application f ps) = application f (all_shifted k ps)
+  shifted k (injection a b p) = injection a b (shifted k p)
+  shifted k (call f ss ps) = call f ss (all_shifted k ps)
 
-  pub HaveImages : Signature → RulePatterns → Type 0
-  HaveImages sig no_pattern = Unit {0}
-  HaveImages sig (more_patterns p ps) = HasImage sig p × HaveImages sig ps
-
--- The rule has no variables, and its sides have images.
-pub record HasRuleImage (sig : Signature) (r : RewriteRule) : Type 0 where
-  pub variables : r.variables ≡ 0
-  pub left : HasImage sig r.left
-  pub right : HasImage sig r.right
-
--- the program has a rule at the place, and it is such a rule
-abbrev pub HasImageAt : Program → ℕ → Type 0
-HasImageAt program i =
-    (r : Rule) × ((slice_get program.rules.items i ≡ Some r) × HasRuleImage program.sig (rewrite_rule r))
-
--- the pattern is the image of the rule at the place
-abbrev pub IsImageAt : Program → List (List ℕ) → ℕ → Pattern → Type 0
-IsImageAt program names i p =
-    (r : Rule) → slice_get program.rules.items i ≡ Some r → rule_image_of program.sig names (rewrite_rule r) ≡ Some p
+  pub all_shifted : ℕ → RulePatterns → RulePatterns
+  all_shifted k no_pattern = no_pattern
+  all_shifted k (more_patterns p ps) = more_patterns (shifted k p) (all_shifted k ps)

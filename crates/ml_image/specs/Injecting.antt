@@ -1,7 +1,7 @@
 -- Which symbol injects, as the code looks for it.
 use Rattle.std.specs.Prelude.{◌≡◌, ℕ, Bool, List, slice_get, Some}
-use Rattle.ground_rules.specs.declared.signature.Signature.{Signature}
-use Rattle.ground_rules.specs.declared.signature.SymInfo.{SymInfo}
+use Rattle.rule_core.specs.declared.signature.Signature.{Signature}
+use Rattle.rule_core.specs.declared.signature.SymInfo.{SymInfo}
 use Rattle.ml_image.specs.Images.{is_injection}
 
 -- whether the symbol with this number injects

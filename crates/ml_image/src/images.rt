@@ -1,82 +1,59 @@
-// The images of patterns and rules.
-ghost use Rattle.std.specs.Prelude.{◌≡◌, ◌<◌, [], ◌∷◌, length, slice_get, IfOk, IfSome, IsSome, Some};
-ghost use Rattle.ml_pat.specs.Patterns.{Pattern, top, imp, and, next};
+// The images of patterns.
+ghost use Rattle.std.specs.Prelude.{◌≡◌, ◌<◌, ◌-◌, ◌^◌, [], ◌∷◌, length, slice_get, IfOk, IfSome, IsSome, Some};
+ghost use Rattle.ml_pat.specs.Patterns.{Pattern};
 ghost use Rattle.term_core.specs.RulePatterns.{plain_pattern, sort_numbers};
 ghost use Rattle.term_core.specs.PatternLists.{plain_patterns};
-ghost use Rattle.ml_image.specs.Images.{image_of, applied, at_sorts, symbol_image, HasImage, HaveImages, AreSorts, HasImageAt, IsImageAt, injection_symbol, injection_image};
+ghost use Rattle.rule_core.specs.Sorting.{AreSorts};
+ghost use Rattle.ml_image.specs.Images.{image_of, applied, at_sorts, symbol_image, injection_symbol, injection_image, shifted, all_shifted};
+ghost use Rattle.ml_image.specs.HasImages.{HasImage, HaveImages};
 ghost use Rattle.ml_image.specs.Injecting.{IsInjectionAt};
 ghost use Rattle.ml_image.specs.Gained.{HasGained};
 
 use crate::tokens::{sort_number, symbol_number, value_number};
-use ground_rules::{Program, Signature, SymKind};
 use ml_pat::{MPat, Names, VarNo};
+use rule_core::{Signature, SymKind};
 use std::alloc::{AllocError, Global};
 use term_core::{RulePat, SortId};
 
-/// The image of a pattern whose sorts and symbols are the program's (Chen and Rosu 2019): a symbol's token, applied to
+/// The image of a pattern whose sorts and symbols are the signature's (Chen and Rosu 2019): a symbol's token, applied to
 /// the sorts' tokens and to the images of the arguments, one after another. An error is want of memory; the names may
 /// have gained tokens then too.
 pub fn term_image(
-    alloc: Global,
-    program: &Program,
-    names: &mut Names,
-    pat: &RulePat,
-) -> Result<MPat, AllocError>
-    requires { HasImage program.now.sig (plain_pattern pat.now) }
-    ensures image { IfOk result (λ p. image_of program.now.sig names.new (plain_pattern pat.now) ≡ Some p) }
-    ensures names { HasGained program.now.sig names.old names.new }
-{
-    image(alloc, &program.sig, names, pat)
-}
-
-/// The image of the rule at this place, which has no variables (Chen and Rosu 2019): `left & top -> next right`, with
-/// the images of its sides. An error is want of memory; the names may have gained tokens then too.
-pub fn rule_image(
-    alloc: Global,
-    program: &Program,
-    names: &mut Names,
-    rule: u32,
-) -> Result<MPat, AllocError>
-    requires { HasImageAt program.now rule }
-    ensures image { IfOk result (IsImageAt program.now names.new rule) }
-    ensures names { HasGained program.now.sig names.old names.new }
-{
-    let rule = &program.rules[rule as usize];
-    let left = image(alloc, &program.sig, names, &rule.left)?;
-    let right = image(alloc, &program.sig, names, &rule.right)?;
-    step_to(alloc, &left, &right)
-}
-
-// `left & top -> next right`.
-fn step_to(alloc: Global, left: &MPat, right: &MPat) -> Result<MPat, AllocError>
-    ensures { IfOk result (λ p. p ≡ imp (and left.now top) (next right.now)) }
-{
-    let from = MPat::and(alloc, left, &MPat::top(alloc)?)?;
-    MPat::imp(alloc, &from, &MPat::next(alloc, right)?)
-}
-
-// The image of a pattern, by its form.
-#[cycle(image)]
-fn image(
     alloc: Global,
     sig: &Signature,
     names: &mut Names,
     pat: &RulePat,
 ) -> Result<MPat, AllocError>
-    requires { HasImage sig.now (plain_pattern pat.now) }
+    requires { HasImage sig.now (2 ^ 32) (plain_pattern pat.now) }
     ensures image { IfOk result (λ p. image_of sig.now names.new (plain_pattern pat.now) ≡ Some p) }
     ensures names { HasGained sig.now names.old names.new }
 {
+    image(alloc, sig, names, 0, pat)
+}
+
+// The image of a pattern whose variables are numbered from `first` on, by its form.
+#[cycle(image)]
+pub(crate) fn image(
+    alloc: Global,
+    sig: &Signature,
+    names: &mut Names,
+    first: u32,
+    pat: &RulePat,
+) -> Result<MPat, AllocError>
+    requires { HasImage sig.now (2 ^ 32 - first) (plain_pattern pat.now) }
+    ensures image { IfOk result (λ p. image_of sig.now names.new (shifted first (plain_pattern pat.now)) ≡ Some p) }
+    ensures names { HasGained sig.now names.old names.new }
+{
     match pat {
-        RulePat::Var(x) => MPat::var(alloc, VarNo(*x)),
+        RulePat::Var(x) => MPat::var(alloc, VarNo(first + *x)),
         RulePat::Ctor(symbol, args) => {
             let head = head_image(alloc, sig, names, symbol.0 as usize)?;
-            applied(alloc, sig, names, head, args)
+            applied(alloc, sig, names, first, head, args)
         }
         RulePat::Call(symbol, sorts, args) => {
             let head = head_image(alloc, sig, names, symbol.0 as usize)?;
             let head = at_sorts(alloc, sig, names, head, sorts)?;
-            applied(alloc, sig, names, head, args)
+            applied(alloc, sig, names, first, head, args)
         }
         RulePat::Value(sort, value) => {
             let number = value_number(alloc, sig, names, *sort, value)?;
@@ -84,7 +61,7 @@ fn image(
         }
         RulePat::Inj(from, to, below) => {
             let head = injection_image(alloc, sig, names, *from, *to)?;
-            let below = image(alloc, sig, names, below)?;
+            let below = image(alloc, sig, names, first, below)?;
             MPat::app(alloc, &head, &below)
         }
     }
@@ -92,27 +69,28 @@ fn image(
 
 // The pattern applied to the images of the arguments, from the first on.
 #[cycle(image)]
-fn applied(
+pub(crate) fn applied(
     alloc: Global,
     sig: &Signature,
     names: &mut Names,
+    first: u32,
     head: MPat,
     args: &[RulePat],
 ) -> Result<MPat, AllocError>
-    requires { HaveImages sig.now (plain_patterns args.now) }
-    ensures image { IfOk result (λ p. applied sig.now names.new (Some head) (plain_patterns args.now) ≡ Some p) }
+    requires { HaveImages sig.now (2 ^ 32 - first) (plain_patterns args.now) }
+    ensures image { IfOk result (λ p. applied sig.now names.new (Some head) (all_shifted first (plain_patterns args.now)) ≡ Some p) }
     ensures names { HasGained sig.now names.old names.new }
 {
     let mut made = head;
     for arg in args {
-        let arg = image(alloc, sig, names, arg)?;
+        let arg = image(alloc, sig, names, first, arg)?;
         made = MPat::app(alloc, &made, &arg)?;
     }
     Ok(made)
 }
 
 // The constant of a symbol.
-fn head_image(
+pub(crate) fn head_image(
     alloc: Global,
     sig: &Signature,
     names: &mut Names,
@@ -147,7 +125,7 @@ fn at_sorts(
 }
 
 // The injection symbol at two sorts.
-fn injection_image(
+pub(crate) fn injection_image(
     alloc: Global,
     sig: &Signature,
     names: &mut Names,

@@ -1,10 +1,20 @@
 // Laws on images and names.
-ghost use Rattle.ml_image.specs.NamingLaws.{GainedAreOwn, ImageStays, RuleImageStays};
+ghost use Rattle.ml_image.specs.ConditionLaws.{ConstructorHasTotality, EquationHasImage, RuleHasImage, SortedHasImage};
+ghost use Rattle.ml_image.specs.NamingLaws.{GainedAreOwn, ImageStays, SentenceStays};
 
-/// Names that have gained tokens have own tokens behind what they were, and an image, and that of a rule, stays the
-/// same then.
+/// Names that have gained tokens have own tokens behind what they were, and an image of a pattern or a sentence stays
+/// the same then.
 pub fn naming_laws()
     ensures gained { GainedAreOwn }
     ensures image { ImageStays }
-    ensures rule { RuleImageStays }
+    ensures sentence { SentenceStays }
+{}
+
+/// What a well-sorted theory says has images: its patterns, its rules, the equations of its functions, and that its
+/// constructors are total. Only the numbers of variables have to be bounded besides.
+pub fn condition_laws()
+    ensures pattern { SortedHasImage }
+    ensures rule { RuleHasImage }
+    ensures equation { EquationHasImage }
+    ensures constructor { ConstructorHasTotality }
 {}

@@ -1,14 +1,15 @@
 // The numbers of the tokens of sorts, symbols and domain values.
-ghost use Rattle.std.specs.Prelude.{◌≡◌, OnOk, ◌<◌, ◌++◌, length, slice_get, string_bytes, option_map, IfOk, IsTrue, Some, codes};
+ghost use Rattle.std.specs.Prelude.{◌≡◌, OnOk, ◌<◌, ◌++◌, length, slice_get, string_bytes, option_map, IfOk, Some, codes};
 ghost use Rattle.std.specs.Char.{digit_char};
 ghost use Rattle.term_core.specs.Values.{value_of};
 ghost use Rattle.ml_pat.specs.Named.{number_of, IsNumbered};
-ghost use Rattle.ml_image.specs.Tokens.{sort_token, symbol_token, name_at, token_of_sort, token_of_symbol, token_of_value, value_token, hexadecimal, numbered, is_value_at};
-ghost use Rattle.ml_image.specs.Gained.{IsOwnToken, HasGained};
+ghost use Rattle.ml_image.specs.Tokens.{sort_token, symbol_token, name_at, token_of_sort, token_of_symbol, token_of_value, value_token, hexadecimal, numbered};
+ghost use Rattle.rule_core.specs.Sorting.{HasValue};
+ghost use Rattle.ml_image.specs.Gained.{HasGained};
 
-use ground_rules::Signature;
 use itoa::Buffer;
-use ml_pat::{ConstNo, MPat, MSort, Names};
+use ml_pat::{ConstNo, MSort, Names};
+use rule_core::Signature;
 use std::alloc::{AllocError, Global};
 use term_core::{SortId, Value};
 
@@ -60,8 +61,7 @@ pub(crate) fn value_number(
     sort: SortId,
     value: &Value,
 ) -> Result<ConstNo, AllocError>
-    requires sort { sort.0 < length sig.now.sorts }
-    requires value { IsTrue (is_value_at sig.now sort.0 (value_of value.now)) }
+    requires { HasValue sig.now sort.0 (value_of value.now) }
     ensures number { IfOk result (λ c. numbered names.new (token_of_value sig.now sort.0 (value_of value.now)) ≡ Some c.0) }
     ensures names { HasGained sig.now names.old names.new }
 {

@@ -9,34 +9,34 @@ use Rattle.mm_frame.specs.Listed.{group_places, shares}
 use Rattle.mm_frame.specs.Places.{passes}
 use Rattle.mm_frame.proofs.Placing.{places-has}
 
-or-left : (a b : Bool) → a ≡ true → (a || b) ≡ true
+pub or-left : (a b : Bool) → a ≡ true → (a || b) ≡ true
 or-left a b is = ap (λ x. x || b) is
 
-or-right : (a b : Bool) → b ≡ true → (a || b) ≡ true
+pub or-right : (a b : Bool) → b ≡ true → (a || b) ≡ true
 or-right true b is = refl
 or-right false b is = is
 
-and-left : (a b : Bool) → (a && b) ≡ true → a ≡ true
+pub and-left : (a b : Bool) → (a && b) ≡ true → a ≡ true
 and-left true b is = refl
 and-left false b is = absurd (cc)
 
-and-right : (a b : Bool) → (a && b) ≡ true → b ≡ true
+pub and-right : (a b : Bool) → (a && b) ≡ true → b ≡ true
 and-right true b is = is
 and-right false b is = absurd (cc)
 
-both : (a b : Bool) → a ≡ true → b ≡ true → (a && b) ≡ true
+pub both : (a b : Bool) → a ≡ true → b ≡ true → (a && b) ≡ true
 both a b e f = rw (e, f) refl
 
 nothing : (b : Bool) → (b && false) ≡ false
 nothing true = refl
 nothing false = refl
 
-same-bool : (a b : Bool) → (a ≡ true → b ≡ true) → (b ≡ true → a ≡ true) → a ≡ b
+pub same-bool : (a b : Bool) → (a ≡ true → b ≡ true) → (b ≡ true → a ≡ true) → a ≡ b
 same-bool true b f g = sym (f refl)
 same-bool false true f g = g refl
 same-bool false false f g = refl
 
-any-there : {X : Type 0} (test : X → Bool) (xs : List X) (i : ℕ) → passes test (slice_get xs i) ≡ true → list_any test xs ≡ true
+pub any-there : {X : Type 0} (test : X → Bool) (xs : List X) (i : ℕ) → passes test (slice_get xs i) ≡ true → list_any test xs ≡ true
 any-there test [] i is = absurd (cc)
 any-there test (x ∷ xs) zero is = or-left (test x) (list_any test xs) is
 any-there test (x ∷ xs) (suc i) is = or-right (test x) (list_any test xs) (any-there test xs i is)

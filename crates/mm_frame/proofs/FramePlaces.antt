@@ -10,7 +10,7 @@ use Rattle.mm_frame.specs.Numbered.{NumberedHypothesis}
 use Rattle.mm_frame.specs.FramesHeld.{has_number}
 use Rattle.mm_frame.specs.Held.{Held}
 use Rattle.mm_frame.specs.HeldTests.{types_in, is_held_typed}
-use Rattle.mm_frame.specs.HeldFrames.{number_stands_in, is_needed_number, is_mandatory_number}
+use Rattle.mm_frame.specs.NeededNumbers.{number_stands_in, is_needed_number, is_mandatory_number}
 use Rattle.mm_frame.specs.Places.{places_from, places_of, passes, found_at}
 use Rattle.mm_frame.proofs.Placing.{places-has, places-filter, dedup-has}
 use Rattle.mm_database.specs.Frames.{floating, essential}
@@ -55,7 +55,7 @@ types-there h placed n i None is types = absurd (cc)
 types-there h placed n i (Some (essential l s)) is types = absurd (cc)
 types-there h placed n i (Some (floating l k v)) is types = let same : v ≡ n = eqb-true v n types in ap (slice_index h.types) (sym same) ∙ placed i l k v is
 
-typed-there : (h : Held) → ArePlaced h → (n i : ℕ) → (is_held_typed h n && nat_eq (slice_index h.types n) i) ≡ types_in n (slice_get h.hypotheses i)
+pub typed-there : (h : Held) → ArePlaced h → (n i : ℕ) → (is_held_typed h n && nat_eq (slice_index h.types n) i) ≡ types_in n (slice_get h.hypotheses i)
 typed-there h placed n i = go (nat_eq (slice_index h.types n) i) refl
   where
     and-true : (b : Bool) → (b && true) ≡ b

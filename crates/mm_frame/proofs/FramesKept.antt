@@ -40,7 +40,7 @@ frames_kept old at closes new h = same-frames old new (closed-frames old new h.0
 frames_kept old at (names_constants tokens) new h = same-frames old new (constants-frames old tokens new h)
 frames_kept old at (names_variables tokens) new h = same-frames old new (variables-frames old tokens new h)
 frames_kept old at (supposes x) new h = same-frames old new (ap (λ (x : Held). x.frames) h.rest)
-frames_kept old at (parts variables) new h = same-frames old new (ap (λ (x : Held). x.frames) h)
+frames_kept old at (parts variables) new h = same-frames old new (ap (λ (x : Held). x.frames) h.rest)
 frames_kept old at (states s) new h =
     ap (λ (fs : List NumberedFrame). take (length old.frames) fs) (ap (λ (x : Held). x.frames) h.2.rest)
     ∙ take_at old.frames (h.0 ∷ []) (length old.frames) refl

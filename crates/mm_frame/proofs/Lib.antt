@@ -8,6 +8,7 @@ pub mod FramePlaces
 pub mod HypothesesKept
 pub mod Listing
 pub mod Apartness
+pub mod Grouped
 pub mod Namings
 pub mod StandTests
 pub mod StandFaults
@@ -18,6 +19,7 @@ pub mod StandStatements
 pub mod Taken
 pub mod StandReads
 pub mod StandSteps
+pub mod SharedFrames
 mod FramesKept
 mod Proposed
 mod KnownEntries

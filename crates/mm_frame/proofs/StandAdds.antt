@@ -1,7 +1,7 @@
 -- What is added to scopes stands for what is added to the context.
 use Rattle.std.proofs.Common.{◌≡◌, ℕ, zero, suc, ◌+◌, ◌≤◌, Bool, true, false, List, [], ◌∷◌, ◌++◌, length, take, reverse, get_or, refl, ap, sym, ◌∙◌, arith, subst}
 use Rattle.std.specs.Prelude.{not, ◌&&◌, ◌||◌, Option, Some, None, bytes_eq, if◌then◌else◌}
-use Rattle.std.proofs.lemmas.List.{take-append-le}
+use Rattle.std.proofs.lemmas.List.{take-append-le, take-take, length-take}
 use Rattle.std.proofs.lemmas.Slice.Eq.{bytes_eq-Decides}
 use Rattle.mm_text.specs.Bytes.{Token}
 use Rattle.mm_database.specs.Frames.{Scope, Frame, label_of}
@@ -41,6 +41,13 @@ length-push (y ∷ xs) x = omega (arith, length-push xs x)
 
 pub one-more : {X : Type 0} (xs : List X) (x : X) → Longer xs (xs ++ x ∷ [])
 one-more xs x = record { keeps = λ k within. take-append-le k xs (x ∷ []) within; more = omega (arith, length-push xs x) }
+
+-- a list that begins with all of another
+pub longer-front : {X : Type 0} (xs ys : List X) → take (length xs) ys ≡ xs → Longer xs ys
+longer-front xs ys front = record {
+  keeps = λ k within. sym (take-take k (length xs) ys within) ∙ ap (take k) front;
+  more = omega (arith, length-take (length xs) ys, ap (λ (zs : List _). length zs) front);
+}
 
 pub blocks-longer : (name : ℕ → Token) (d : Token → Bool) (vs us : List ℕ) (hs gs : List NumberedHypothesis) (ds es : List (List ℕ)) (os : List OpenBlock) (bs : List Block) → Longer vs us → Longer hs gs → Longer ds es → BlocksStand name d vs hs ds os bs → BlocksStand name d us gs es os bs
 blocks-longer name d vs us hs gs ds es [] [] l m n s = tt

@@ -8,7 +8,8 @@ use Rattle.mm_database.specs.Database.{Context, with_frame, with_assertion}
 use Rattle.mm_frame.specs.Numbered.{NumberedHypothesis, NumberedFrame, IsNaming, named_hypothesis, IsNamedFrame}
 use Rattle.mm_frame.specs.FramesHeld.{has_number}
 use Rattle.mm_frame.specs.Held.{Held, symbol_name}
-use Rattle.mm_frame.specs.HeldFrames.{number_stands_in, is_needed_number, is_mandatory_number, IsHeldFrame, Statement}
+use Rattle.mm_frame.specs.HeldFrames.{IsHeldFrame, Statement}
+use Rattle.mm_frame.specs.NeededNumbers.{number_stands_in, is_needed_number, is_mandatory_number}
 use Rattle.mm_frame.specs.HeldSteps.{Renames, AddsAssertion}
 use Rattle.mm_frame.specs.Standing.{names_constant, names_variable, names_label, SymbolStands, NamesSymbols, ScopeStands, FrameStands, StandsUnder, Stands}
 use Rattle.mm_frame.specs.declared.scopes.Name.{Name}

@@ -18,9 +18,9 @@ use Rattle.mm_frame.specs.Standing.{names_constant, names_variable, names_label,
 use Rattle.mm_frame.specs.declared.scopes.Name.{Name}
 use Rattle.mm_frame.specs.declared.scopes.Name.TheVariants.{Hypothesis as HypothesisName}
 use Rattle.mm_frame.specs.declared.scopes.OpenBlock.{OpenBlock}
-use Rattle.mm_frame.proofs.Groups.{in_groups-push, list_any-append}
+use Rattle.mm_frame.proofs.Groups.{list_any-append}
 use Rattle.mm_frame.proofs.Namings.{slice_get-take, slice_get-cases}
-use Rattle.mm_frame.proofs.StandAdds.{same-list, one-more, blocks-longer, other-name, frame-renamed, set-renamed, set-kept}
+use Rattle.mm_frame.proofs.StandAdds.{same-list, one-more, longer-front, blocks-longer, other-name, frame-renamed, set-renamed, set-kept}
 
 -- A variable becomes active.
 
@@ -174,7 +174,7 @@ different-named name naming ns a b =
     ∙ ap (λ x. not (nat_eq a b) && (has_number ns a && x)) (has_token-named name naming ns b)
 
 pub disjoint-added : (old : Held) (c : Context) (ns : List ℕ) (tokens : List Token) (new : Held) → Stands old c → ((name : ℕ → Token) → NamesSymbols name old.symbols → map name ns ≡ tokens) → AddsDisjoint old ns new → Stands new (record c { scope = record c.scope { apart = with_apart c.scope.apart tokens } })
-disjoint-added old c ns tokens new w says adds = subst (λ (h : Held). Stands h (record c { scope = record c.scope { apart = with_apart c.scope.apart tokens } })) (sym adds) (record {
+disjoint-added old c ns tokens new w says adds = subst (λ (h : Held). Stands h (record c { scope = record c.scope { apart = with_apart c.scope.apart tokens } })) (sym adds.rest) (record {
   constants = w.constants;
   variables = w.variables;
   labels = w.labels;
@@ -188,15 +188,15 @@ disjoint-added old c ns tokens new w says adds = subst (λ (h : Held). Stands h 
   under = λ name naming names. under name naming (says name names) (w.under name naming names);
 })
   where
-    under : (name : ℕ → Token) → IsNaming name → map name ns ≡ tokens → StandsUnder name old c → StandsUnder name (record old { disjoint = old.disjoint ++ ns ∷ [] }) (record c { scope = record c.scope { apart = with_apart c.scope.apart tokens } })
+    under : (name : ℕ → Token) → IsNaming name → map name ns ≡ tokens → StandsUnder name old c → StandsUnder name (record old { disjoint = new.disjoint }) (record c { scope = record c.scope { apart = with_apart c.scope.apart tokens } })
     under name naming are u = record {
       scope = record {
         only = u.scope.only;
         active = u.scope.active;
         typed = u.scope.typed;
-        separate = λ a b. ap (λ x. x || are_different_tokens tokens (name a) (name b)) (u.scope.separate a b) ∙ ap (λ (ts : List Token). in_groups old.disjoint a b || are_different_tokens ts (name a) (name b)) (sym are) ∙ ap (λ x. in_groups old.disjoint a b || x) (different-named name naming ns a b) ∙ sym (in_groups-push old.disjoint ns a b);
+        separate = λ a b. ap (λ x. x || are_different_tokens tokens (name a) (name b)) (u.scope.separate a b) ∙ ap (λ (ts : List Token). in_groups old.disjoint a b || are_different_tokens ts (name a) (name b)) (sym are) ∙ ap (λ x. in_groups old.disjoint a b || x) (different-named name naming ns a b) ∙ sym (adds.groups.pairs a b);
       };
-      blocks = blocks-longer name c.variables old.variables old.variables old.hypotheses old.hypotheses old.disjoint _ (reverse old.blocks) c.blocks (same-list old.variables) (same-list old.hypotheses) (one-more old.disjoint ns) u.blocks;
+      blocks = blocks-longer name c.variables old.variables old.variables old.hypotheses old.hypotheses old.disjoint new.disjoint (reverse old.blocks) c.blocks (same-list old.variables) (same-list old.hypotheses) (longer-front old.disjoint new.disjoint adds.groups.front) u.blocks;
       frames = u.frames;
     }
 

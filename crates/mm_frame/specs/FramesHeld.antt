@@ -35,8 +35,8 @@ groups_of groups = map items_of groups
 abbrev pub frame_held : Frame → NumberedFrame
 frame_held f = record {
   label = f.label.now;
-  hypotheses = hypotheses_held f.hyps.items;
-  apart = in_groups (groups_of f.apart.items);
+  hypotheses = hypotheses_held f.mandatory.value.hyps.items;
+  apart = in_groups (groups_of f.mandatory.value.apart.items);
   statement = f.statement.items;
 }
 

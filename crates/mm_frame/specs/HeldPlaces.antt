@@ -1,7 +1,7 @@
 -- Where the hypotheses stand that a frame takes: cited by the clauses of private functions alone.
-use Rattle.std.specs.Prelude.{◌≡◌, ℕ, if◌then◌else◌, List, [], ◌∷◌, slice_get, slice_index, Option, Some, None}
-use Rattle.mm_text.specs.Bytes.{Token}
+use Rattle.std.specs.Prelude.{ℕ, if◌then◌else◌, List, [], ◌∷◌, slice_index, Option, Some, None}
 use Rattle.mm_frame.specs.Numbered.{NumberedHypothesis}
+use Rattle.mm_frame.specs.Sharing.{ArePlacedIn}
 use Rattle.mm_frame.specs.Held.{Held}
 use Rattle.mm_frame.specs.HeldTests.{is_held_typed}
 use Rattle.mm_database.specs.Frames.{floating, essential}
@@ -14,7 +14,7 @@ premise_at (Some (essential label statement)) = statement
 
 -- each active `$f` stands at the place that is kept for its variable
 abbrev pub ArePlaced : Held → Type 0
-ArePlaced h = (i : ℕ) (l : Token) (k v : ℕ) → slice_get h.hypotheses i ≡ Some (floating l k v) → slice_index h.types v ≡ i
+ArePlaced h = ArePlacedIn h.types h.hypotheses
 
 -- the places of the active `$f` of these variables
 abbrev pub typed_places : Held → List ℕ → List ℕ

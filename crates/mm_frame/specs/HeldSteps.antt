@@ -6,6 +6,7 @@ use Rattle.mm_frame.specs.Held.{Held, symbol, symbol_name}
 use Rattle.mm_frame.specs.declared.scopes.Name.{Name}
 use Rattle.mm_frame.specs.declared.scopes.Name.TheVariants.{Constant, Variable, Hypothesis, Assertion}
 use Rattle.mm_frame.specs.declared.scopes.OpenBlock.{OpenBlock}
+use Rattle.mm_frame.specs.Grouping.{Extends}
 use Rattle.mm_database.specs.Frames.{floating, essential, label_of}
 
 -- the token gets a name, and the others keep theirs
@@ -52,8 +53,9 @@ pub record AddsHypothesis (old : Held) (h : NumberedHypothesis) (new : Held) : T
     types = types_with old.types (length old.hypotheses) h;
   }
 
-abbrev pub AddsDisjoint : Held → List ℕ → Held → Type 0
-AddsDisjoint old variables new = new ≡ record old { disjoint = old.disjoint ++ variables ∷ [] }
+pub record AddsDisjoint (old : Held) (variables : List ℕ) (new : Held) : Type 0 where
+  pub groups : Extends old.disjoint variables new.disjoint
+  pub rest : new ≡ record old { disjoint = new.disjoint }
 
 pub record AddsAssertion (old : Held) (f : NumberedFrame) (new : Held) : Type 0 where
   pub names : Renames old.names f.label (Assertion (length old.frames)) new.names

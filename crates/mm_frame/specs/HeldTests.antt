@@ -1,9 +1,10 @@
 -- Tests of tokens by what scopes hold.
-use Rattle.std.specs.Prelude.{ℕ, Bool, true, false, ◌&&◌, nat_eq, if◌then◌else◌, List, [], ◌∷◌, ◌++◌, slice_index, slice_get, Option, Some, None, is_some, is_none}
+use Rattle.std.specs.Prelude.{ℕ, Bool, true, false, not, ◌&&◌, ◌||◌, nat_eq, length, if◌then◌else◌, List, [], ◌∷◌, ◌++◌, slice_index, slice_get, Option, Some, None, is_some, is_none}
 use Rattle.mm_text.specs.Bytes.{Token}
 use Rattle.mm_text.specs.Labels.{is_label}
 use Rattle.mm_frame.specs.Numbered.{NumberedHypothesis}
-use Rattle.mm_frame.specs.FramesHeld.{types_number}
+use Rattle.mm_frame.specs.FramesHeld.{types_number, has_number}
+use Rattle.mm_frame.specs.Listed.{group_places}
 use Rattle.mm_frame.specs.Held.{Held}
 use Rattle.mm_frame.specs.declared.scopes.Name.{Name}
 use Rattle.mm_frame.specs.declared.scopes.Name.TheVariants.{Constant, Variable, Hypothesis, Assertion}
@@ -107,3 +108,7 @@ ahead front (Some numbers) = Some (front ++ numbers)
 abbrev pub first_block : List OpenBlock → Option ℕ
 first_block [] = None
 first_block (block ∷ blocks) = Some block.at
+
+-- it is one of the symbols, or has no `$f` and is in no group
+abbrev pub is_covered : Held → List ℕ → ℕ → Bool
+is_covered h symbols n = has_number symbols n || (not (is_held_typed h n) && nat_eq (length (group_places h.disjoint n)) 0)

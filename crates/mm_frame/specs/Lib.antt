@@ -2,6 +2,7 @@
 pub mod Numbered
 pub mod FormsRead
 pub mod FramesHeld
+pub mod NeededNumbers
 pub mod HypothesesView
 pub mod DisjointView
 pub mod KnownNames
@@ -20,10 +21,12 @@ pub mod StandingLaws
 pub mod FormParts
 pub mod Places
 pub mod Listed
+pub mod Grouping
 pub mod EntriesView
 pub mod HeldTests
 pub mod HeldFaults
 pub mod HeldSteps
 pub mod HeldPlaces
+pub mod Sharing
 pub mod Judging
 pub mod Ending

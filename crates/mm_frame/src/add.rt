@@ -31,6 +31,7 @@ impl<'a> Scopes<'a> {
     fn push_symbol(&mut self, word: &'a [u8], is_variable: bool) -> Result<(), AllocError>
         ensures { IfOk result (λ _. AppendsSymbol (held self.old) word.now is_variable (held self.new)) }
     {
+        self.shared = None;
         self.places.push(0)?;
         self.types.push(0)?;
         self.symbols.push(Symbol {
@@ -66,6 +67,7 @@ impl<'a> Scopes<'a> {
     {
         let place = self.hyps.len();
         self.rename(hyp.label(), Name::Hypothesis(place))?;
+        self.shared = None;
         if let Hyp::Floating(_, _, variable) = &hyp {
             let n = *variable as usize;
             if n < self.types.len() {
@@ -86,12 +88,26 @@ impl<'a> Scopes<'a> {
     ) -> Result<(), AllocError>
         ensures { IfOk result (λ _. AddsDisjoint (held self.old) variables.items (held self.new)) }
     {
+        self.shared = None;
         self.disjoint.push(alloc, variables)?;
         Ok(())
     }
 
     /// Adds the frame of an assertion.
-    pub(crate) fn add_assertion(&mut self, frame: Frame<'a>) -> Result<(), AllocError>
+    pub(crate) fn add_assertion(
+        &mut self,
+        alloc: Global,
+        frame: Frame<'a>,
+    ) -> Result<(), AllocError>
+        ensures { IfOk result (λ _. AddsAssertion (held self.old) (frame_held frame.entry) (held self.new)) }
+    {
+        self.push_frame(frame)?;
+        self.share(alloc)?;
+        Ok(())
+    }
+
+    /// Appends the frame of an assertion.
+    fn push_frame(&mut self, frame: Frame<'a>) -> Result<(), AllocError>
         ensures { IfOk result (λ _. AddsAssertion (held self.old) (frame_held frame.entry) (held self.new)) }
     {
         let place = self.frames.len();
@@ -120,6 +136,7 @@ impl<'a> Scopes<'a> {
         ensures { ClosesBlock (held self.old) (held self.new) result }
     {
         let block = self.blocks.pop()?;
+        self.shared.take();
         self.variables.truncate(block.variables);
         self.hyps.truncate(block.hyps);
         self.disjoint.truncate(block.disjoint);

@@ -173,7 +173,7 @@ impl<'a> Scopes<'a> {
             Said::Disjoint(variables) => self.add_disjoint(alloc, variables),
             Said::Assertion(stated) => {
                 let frame = self.frame(alloc, stated)?;
-                self.add_assertion(frame)
+                self.add_assertion(alloc, frame)
             }
         }
     }

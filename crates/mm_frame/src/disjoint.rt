@@ -1,24 +1,37 @@
 // The active `$d`.
 
-ghost use Rattle.std.specs.Prelude.{◌≡◌, ℕ, ◌<◌, ◌||◌, ◌&&◌, false, nat_eq, IfOk, filter, flat_map, option_map, slice_get, if◌then◌else◌, ◌++◌, ◌∷◌, [], vec_len};
+ghost use Rattle.std.specs.Prelude.{◌≡◌, ℕ, ◌<◌, ◌||◌, ◌&&◌, false, true, nat_eq, IfOk, filter, flat_map, option_map, slice_get, if◌then◌else◌, ◌++◌, ◌∷◌, [], vec_len};
 ghost use Rattle.std.specs.List.Sorted.{IsStrictlyIncreasing};
-ghost use Rattle.std.specs.List.{list_any};
+ghost use Rattle.std.specs.List.{list_any, list_all};
 ghost use Rattle.mm_frame.specs.FramesHeld.{has_number, in_group, in_groups, items_of, groups_of};
+ghost use Rattle.mm_frame.specs.Grouping.{Extends, is_apart_or_same, is_pair_of};
 ghost use Rattle.mm_frame.specs.Listed.{list_of, group_places, AreListed, ends_with, with_place, without_place, shares};
 ghost use Rattle.mm_frame.specs.Places.{passes};
 
 use std::alloc::{AllocError, Global};
+use std::collections::BTreeMap;
+
+/// Of a group of more variables no pair is noted.
+const SMALL: usize = 16;
+
+/// In so many groups a variable is before its pairs are noted.
+const FEW: usize = 16;
 
 /// Groups of variables that are kept apart from each other, one for each `$d`, in the order in which
 /// they came, and for each variable the places of the groups that it is in, ascending.
 ///
+/// A group adds nothing where each of its pairs is in a group already: of a group of few variables this
+/// is looked for pair by pair, and of a larger one in the last group of its first variable.
+///
 /// Appending a group takes time in its length, and cutting the list that of what is cut. Whether two
-/// variables are kept apart takes a search in the longer of their two lists for each place of the
-/// shorter one.
+/// variables are kept apart takes one look-up where their pair is noted. Else it takes a search in the
+/// longer of their two lists for each place of the shorter one: these are few, or their groups are
+/// large. What is noted is trusted for nothing: it counts where the place is still in both lists.
 #[derive(Drop)]
 pub(crate) struct Disjoint {
     groups: Vec<Vec<u32>>,
     places: Vec<Vec<usize>>,
+    noted: BTreeMap<(u32, u32), usize>,
     ghost listed: { AreListed (groups_of groups.items) places.items },
 }
 
@@ -33,6 +46,7 @@ impl Disjoint {
         Disjoint {
             groups: Vec::new(alloc),
             places: Vec::new(alloc),
+            noted: BTreeMap::new(alloc),
         }
     }
 
@@ -43,11 +57,22 @@ impl Disjoint {
         self.groups.len()
     }
 
-    /// Appends a group. After want of memory no group is left.
+    /// Keeps the variables of a group apart from each other. After want of memory no groups may be left.
     pub(crate) fn push(&mut self, alloc: Global, group: Vec<u32>) -> Result<(), AllocError>
+        ensures { IfOk result (λ _. Extends (groups_in self.old) group.items (groups_in self.new)) }
+    {
+        if self.has_pairs_of(&group) {
+            return Ok(());
+        }
+        self.append(alloc, group)
+    }
+
+    /// Appends a group. After want of memory no groups may be left.
+    fn append(&mut self, alloc: Global, group: Vec<u32>) -> Result<(), AllocError>
         ensures { IfOk result (λ _. groups_in self.new ≡ groups_in self.old ++ group.items ∷ []) }
     {
         let place = self.groups.len();
+        note_pairs(&mut self.noted, &self.places, &group, place)?;
         let is_listed = list_all(&mut self.places, alloc, &group, place).is_ok();
         if is_listed && self.groups.push(group).is_ok() {
             return Ok(());
@@ -93,8 +118,92 @@ impl Disjoint {
         }
     }
 
+    /// Whether each pair of the group is known to be in a group already.
+    fn has_pairs_of(&self, group: &[u32]) -> bool
+        ensures { result ≡ true → (a b : ℕ) → in_group a b group.now ≡ true → in_groups (groups_in self.now) a b ≡ true }
+    {
+        if group.len() <= SMALL {
+            return self.are_all_apart(group);
+        }
+        match self.listed(group[0]).last() {
+            None => false,
+            Some(place) => self.are_listed(group, *place),
+        }
+    }
+
+    /// Whether each two of the variables that differ are in a group.
+    fn are_all_apart(&self, group: &[u32]) -> bool
+        ensures { result ≡ list_all (λ a. list_all (is_apart_or_same (groups_in self.now) a) group.now) group.now }
+    {
+        for a in group {
+            if !self.is_apart_from(*a, group) {
+                return false;
+            }
+        }
+        true
+    }
+
+    /// Whether a variable is in a group with each of others that is another one.
+    fn is_apart_from(&self, a: u32, others: &[u32]) -> bool
+        ensures { result ≡ list_all (is_apart_or_same (groups_in self.now) a) others.now }
+    {
+        for b in others {
+            if a != *b && !self.are_apart(a, *b) {
+                return false;
+            }
+        }
+        true
+    }
+
+    /// Whether the group at a place has all the variables.
+    fn are_listed(&self, variables: &[u32], place: usize) -> bool
+        ensures { result ≡ list_all (λ n. has_number (group_places (groups_in self.now) n) place) variables.now }
+    {
+        for n in variables {
+            if !self.is_listed(*n, place) {
+                return false;
+            }
+        }
+        true
+    }
+
+    /// Whether a variable is in no group.
+    pub(crate) fn is_free(&self, n: u32) -> bool
+        ensures { result ≡ nat_eq (length (group_places (groups_in self.now) n)) 0 }
+    {
+        self.listed(n).is_empty()
+    }
+
     /// Whether two variables are different ones of a group.
     pub(crate) fn are_apart(&self, a: u32, b: u32) -> bool
+        ensures { result ≡ in_groups (groups_in self.now) a b }
+    {
+        self.is_noted(a, b) || self.have_group(a, b)
+    }
+
+    /// Whether a group is noted for the two variables.
+    fn is_noted(&self, a: u32, b: u32) -> bool
+        ensures { result ≡ true → in_groups (groups_in self.now) a b ≡ true }
+    {
+        let pair = if a < b { (a, b) } else { (b, a) };
+        match self.noted.get(&pair) {
+            None => false,
+            Some(place) => self.has_both(a, b, *place),
+        }
+    }
+
+    /// Whether the group at a place has two variables that differ.
+    fn has_both(&self, a: u32, b: u32, place: usize) -> bool
+        ensures { result ≡ true → in_groups (groups_in self.now) a b ≡ true }
+    {
+        if a == b {
+            return false;
+        }
+        self.is_listed(a, place) && self.is_listed(b, place)
+    }
+
+    /// Whether two variables are different ones of a group, by their lists.
+    fn have_group(&self, a: u32, b: u32) -> bool
         ensures { result ≡ in_groups (groups_in self.now) a b }
     {
         let first = self.listed(a);
@@ -107,11 +216,61 @@ impl Disjoint {
             }
     }
 
+    /// Groups with the pairs of these numbers, which ascend, that are in groups here: what each group has
+    /// of them, or the pairs themselves, where there are fewer of these than places in the numbers'
+    /// lists.
+    pub(crate) fn within(&self, alloc: Global, numbers: &[u32]) -> Result<Vec<Vec<u32>>, AllocError>
+        requires { IsStrictlyIncreasing numbers.now }
+        ensures { IfOk result (λ v. (a b : ℕ) → in_groups (groups_of v.items) a b ≡ (in_groups (groups_in self.now) a b && (has_number numbers.now a && has_number numbers.now b))) }
+    {
+        if numbers.len().saturating_mul(numbers.len()) < self.count_places(numbers) {
+            self.pairs_within(alloc, numbers)
+        } else {
+            self.groups_within(alloc, numbers)
+        }
+    }
+
+    /// How many places stand in the lists of these numbers.
+    fn count_places(&self, numbers: &[u32]) -> usize {
+        let mut count: usize = 0;
+        for n in numbers {
+            count = count.saturating_add(self.listed(*n).len());
+        }
+        count
+    }
+
+    /// The pairs of these numbers that are in groups, each as a group of its own.
+    fn pairs_within(&self, alloc: Global, numbers: &[u32]) -> Result<Vec<Vec<u32>>, AllocError>
+        ensures { IfOk result (λ v. (a b : ℕ) → in_groups (groups_of v.items) a b ≡ (in_groups (groups_in self.now) a b && (has_number numbers.now a && has_number numbers.now b))) }
+    {
+        let mut groups = Vec::new(alloc);
+        for i in 0..numbers.len() {
+            self.push_pairs(alloc, &mut groups, numbers[i], &numbers[i + 1..])?;
+        }
+        Ok(groups)
+    }
+
+    /// Appends the pairs of a number with others.
+    fn push_pairs(
+        &self,
+        alloc: Global,
+        groups: &mut Vec<Vec<u32>>,
+        n: u32,
+        others: &[u32],
+    ) -> Result<(), AllocError>
+        ensures { IfOk result (λ _. (a b : ℕ) → in_groups (groups_of groups.new.items) a b ≡ (in_groups (groups_of groups.old.items) a b || list_any (is_pair_of (groups_in self.now) n a b) others.now)) }
+    {
+        for other in others {
+            push_pair(alloc, groups, n, *other, self.are_apart(n, *other))?;
+        }
+        Ok(())
+    }
+
     /// What each group has of these numbers, which ascend, where it has two or more of them.
     ///
     /// The groups are found by the numbers' own lists. Each of them then takes as many searches as there
     /// are numbers, or as it has variables, where these are fewer.
-    pub(crate) fn within(&self, alloc: Global, numbers: &[u32]) -> Result<Vec<Vec<u32>>, AllocError>
+    fn groups_within(&self, alloc: Global, numbers: &[u32]) -> Result<Vec<Vec<u32>>, AllocError>
         requires { IsStrictlyIncreasing numbers.now }
         ensures { IfOk result (λ v. (a b : ℕ) → in_groups (groups_of v.items) a b ≡ (in_groups (groups_in self.now) a b && (has_number numbers.now a && has_number numbers.now b))) }
     {
@@ -173,6 +332,34 @@ impl Disjoint {
         ensures { result ≡ has_number (group_places (groups_in self.now) n) place }
     {
         has_place(self.listed(n), place)
+    }
+}
+
+/// Notes the place for those pairs of a small group of which one variable is in many groups.
+fn note_pairs(
+    noted: &mut BTreeMap<(u32, u32), usize>,
+    lists: &[Vec<usize>],
+    group: &[u32],
+    place: usize,
+) -> Result<(), AllocError> {
+    if group.len() > SMALL {
+        return Ok(());
+    }
+    for a in group {
+        for b in group {
+            if a < b && (is_long(lists, *a) || is_long(lists, *b)) {
+                noted.insert((*a, *b), place)?;
+            }
+        }
+    }
+    Ok(())
+}
+
+/// Whether a variable is in many groups.
+fn is_long(lists: &[Vec<usize>], n: u32) -> bool {
+    match list_at(lists, n as usize) {
+        None => false,
+        Some(list) => list.len() > FEW,
     }
 }
 
@@ -292,7 +479,7 @@ fn has_place(places: &[usize], place: usize) -> bool
 }
 
 /// Whether the number is among others, which ascend.
-fn is_among(numbers: &[u32], n: u32) -> bool
+pub(crate) fn is_among(numbers: &[u32], n: u32) -> bool
     requires { IsStrictlyIncreasing numbers.now }
     ensures { result ≡ has_number numbers.now n }
 {
@@ -329,6 +516,26 @@ fn push_group(groups: &mut Vec<Vec<u32>>, group: Vec<u32>) -> Result<(), AllocEr
         return Ok(());
     }
     if groups.push(group).is_err() {
+        return Err(AllocError);
+    }
+    Ok(())
+}
+
+/// Appends two numbers as a group, where they are to be kept.
+fn push_pair(
+    alloc: Global,
+    groups: &mut Vec<Vec<u32>>,
+    n: u32,
+    other: u32,
+    keeps: bool,
+) -> Result<(), AllocError>
+    ensures { IfOk result (λ _. (a b : ℕ) → in_groups (groups_of groups.new.items) a b ≡ (in_groups (groups_of groups.old.items) a b || (keeps && in_group a b (n ∷ (other ∷ []))))) }
+{
+    if !keeps {
+        return Ok(());
+    }
+    let pair = Vec::from_slice(alloc, &[n, other])?;
+    if groups.push(pair).is_err() {
         return Err(AllocError);
     }
     Ok(())

@@ -5,6 +5,8 @@ ghost use Rattle.mm_frame.specs.FramesHeld.{types_number, hypothesis_held};
 ghost use Rattle.mm_database.specs.Frames.{label_of};
 ghost use Rattle.mm_frame.specs.Listed.{is_essential};
 
+use std::rc::Rc;
+
 /// A hypothesis, whose symbols are numbers.
 #[derive(Drop)]
 pub enum Hyp<'a> {
@@ -14,13 +16,20 @@ pub enum Hyp<'a> {
     Essential(&'a [u8], Vec<u32>),
 }
 
-/// The frame of an assertion: its label, its mandatory hypotheses in order, the variables that have to
-/// stay apart from each other, as one list for each `$d`, and its statement.
+/// What an assertion asks for: its mandatory hypotheses in order, and the variables that have to stay
+/// apart from each other, as lists.
+#[derive(Drop)]
+pub struct Mandatory<'a> {
+    pub hyps: Vec<Hyp<'a>>,
+    pub apart: Vec<Vec<u32>>,
+}
+
+/// The frame of an assertion: its label, what it asks for, and its statement. Assertions of one place may
+/// share what they ask for.
 #[derive(Drop)]
 pub struct Frame<'a> {
     pub label: &'a [u8],
-    pub hyps: Vec<Hyp<'a>>,
-    pub apart: Vec<Vec<u32>>,
+    pub mandatory: Rc<Mandatory<'a>>,
     pub statement: Vec<u32>,
 }
 

@@ -8,6 +8,12 @@ ghost use Rattle.mm_frame.specs.Listed.{is_essential};
 use crate::frames::Hyp;
 use std::alloc::{AllocError, Global};
 
+/// With so many symbols the active `$e` are long, each counted as if it had some more.
+const LONG: usize = 256;
+
+/// As how many symbols a hypothesis counts beside those that it has.
+const ONE: usize = 8;
+
 /// Hypotheses in the order in which they came, and the places of the `$e` among them. Appending one
 /// takes time that does not depend on how many there are, and cutting the list that of what is cut.
 #[derive(Drop)]
@@ -51,6 +57,20 @@ impl<'a> Hypotheses<'a> {
         ensures { result.now ≡ places_of is_essential (hypotheses_in self.now) }
     {
         &self.essentials
+    }
+
+    /// Whether the `$e` are long, all together. It looks at few of them.
+    pub(crate) fn is_heavy(&self) -> bool {
+        let mut weight: usize = 0;
+        for place in &self.essentials {
+            if let Some(Hyp::Essential(_, statement)) = self.all.get(*place) {
+                weight = weight.saturating_add(statement.len()).saturating_add(ONE);
+            }
+            if weight >= LONG {
+                return true;
+            }
+        }
+        false
     }
 
     /// Appends a hypothesis.

@@ -42,7 +42,7 @@ impl<'a> Scopes<'a> {
     ) -> Result<Option<Vec<u32>>, AllocError>
         ensures { IfOk result (λ r. option_map items_of r ≡ numbers_in (held self.now) need (words_of bytes.now tokens.now)) }
     {
-        let mut numbers = Vec::new(alloc);
+        let mut numbers = Vec::with_capacity(alloc, tokens.len())?;
         for token in tokens {
             match self.number(need, token.word(bytes)) {
                 None => return Ok(None),

@@ -16,12 +16,14 @@ mod judge;
 mod laws;
 mod mandatory;
 mod names;
+mod reads;
 mod scopes;
+mod sharing;
 mod theorem;
 
 pub use declare::{Added, FrameEnd};
 pub use forms::{Form, Keyword, Plain, read_form};
-pub use frames::{Cited, Frame, Hyp};
+pub use frames::{Cited, Frame, Hyp, Mandatory};
 pub use laws::{number_laws, scope_laws};
 pub use scopes::Scopes;
 pub use theorem::Theorem;

@@ -5,32 +5,52 @@ ghost use Rattle.std.specs.List.Sorted.{IsStrictlyIncreasing};
 ghost use Rattle.mm_frame.specs.Held.{held};
 ghost use Rattle.mm_frame.specs.FramesHeld.{has_number, in_group, in_groups, items_of, groups_of, hypothesis_held, hypotheses_held, frame_held};
 ghost use Rattle.mm_frame.specs.HeldFaults.{stated_held};
-ghost use Rattle.mm_frame.specs.HeldFrames.{is_needed_number, is_mandatory_number, IsHeldFrame};
+ghost use Rattle.mm_frame.specs.HeldFrames.{IsHeldFrame};
+ghost use Rattle.mm_frame.specs.NeededNumbers.{is_needed_number, is_mandatory_number};
 ghost use Rattle.mm_frame.specs.Places.{places_of, found_at};
+ghost use Rattle.mm_frame.specs.Sharing.{IsMandatory};
 ghost use Rattle.mm_frame.specs.Listed.{is_essential};
 ghost use Rattle.mm_frame.specs.HeldPlaces.{premise_at, ArePlaced, typed_places};
 
-use crate::frames::{Frame, Hyp};
+use crate::frames::{Frame, Hyp, Mandatory};
 use crate::judge::Stated;
 use crate::scopes::Scopes;
 use std::alloc::{AllocError, Global};
+use std::rc::Rc;
 
 impl<'a> Scopes<'a> {
     /// The frame of an assertion with this label and these symbols.
     pub(crate) fn frame(&self, alloc: Global, stated: Stated<'a>) -> Result<Frame<'a>, AllocError>
         ensures { IfOk result (λ f. ArePlaced (held self.now) → IsHeldFrame (held self.now) (stated_held stated.entry) (frame_held f)) }
     {
-        let needed = self.needed(alloc, &stated.statement)?;
+        let mandatory = match self.shared_for(&stated.statement) {
+            Some(shared) => shared.clone()?,
+            None => Rc::new(alloc, self.mandatory_for(alloc, &stated.statement)?)?,
+        };
         Ok(Frame {
             label: stated.label,
-            hyps: self.mandatory(alloc, &needed)?,
-            apart: self.disjoint.within(alloc, &needed)?,
+            mandatory,
             statement: stated.statement,
         })
     }
 
+    /// What an assertion with this statement asks for.
+    pub(crate) fn mandatory_for(
+        &self,
+        alloc: Global,
+        statement: &[u32],
+    ) -> Result<Mandatory<'a>, AllocError>
+        ensures { IfOk result (λ m. ArePlaced (held self.now) → IsMandatory (held self.now).hypotheses (held self.now).disjoint statement.now m) }
+    {
+        let needed = self.needed(alloc, statement)?;
+        Ok(Mandatory {
+            hyps: self.mandatory(alloc, &needed)?,
+            apart: self.disjoint.within(alloc, &needed)?,
+        })
+    }
+
     /// The symbols of a statement and of the active `$e`, ascending and each once.
-    fn needed(&self, alloc: Global, statement: &[u32]) -> Result<Vec<u32>, AllocError>
+    pub(crate) fn needed(&self, alloc: Global, statement: &[u32]) -> Result<Vec<u32>, AllocError>
         ensures ascending { IfOk result (λ v. IsStrictlyIncreasing v.items) }
         ensures symbols { IfOk result (λ v. (n : ℕ) → has_number v.items n ≡ is_needed_number (held self.now).hypotheses statement.now n) }
     {

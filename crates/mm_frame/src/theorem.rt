@@ -63,11 +63,11 @@ impl<'a> Scopes<'a> {
 
     /// Adds a theorem as it was proposed. After want of memory the scopes may have a part of it, and are
     /// to be let go.
-    pub fn add_theorem(&mut self, theorem: Theorem<'a, '_>) -> Result<(), AllocError>
+    pub fn add_theorem(&mut self, alloc: Global, theorem: Theorem<'a, '_>) -> Result<(), AllocError>
         ensures stands { IfOk result (λ _. (bytes : List ℕ) (c : Context) (s : Statement) → Stands (held self.old) c → IsProposed bytes (held self.old) c s theorem.entry → Stands (held self.new) (context_after c s)) }
         ensures frames { IfOk result (λ _. KeepsFrames (held self.old) (held self.new)) }
     {
-        match self.add_assertion(theorem.frame) {
+        match self.add_assertion(alloc, theorem.frame) {
             Err(_) => Err(AllocError),
             Ok(()) => Ok(()),
         }

@@ -12,7 +12,7 @@ use Rattle.mm_database.specs.FrameLaws.{Adds}
 use Rattle.mm_database.proofs.WrittenForms.{plain_tokens_say}
 use Rattle.mm_database.proofs.Stated.{appended_states}
 use Rattle.ml_pat.specs.Named.{AreDistinct, IsNoneOf}
-use Rattle.ground_rules.specs.declared.rules.Program.{Program}
+use Rattle.rule_core.specs.Theories.{RewriteTheory}
 use Rattle.ml_image.specs.Gained.{AreOwnTokens}
 use Rattle.mm_proof.specs.Labels.{name_label}
 use Rattle.mm_claims.specs.Statements.{typecode_of, all_name_statements}
@@ -91,28 +91,28 @@ declared_states done (t ∷ more) c at w closed names distinct few =
     AreDistinct-front [] ys h = tt
     AreDistinct-front (x ∷ xs) ys h = (IsNoneOf-front x xs ys h.0, AreDistinct-front xs ys h.1)
 
-names_allowed : (program : Program) (i : ℕ) (ts : List Token) → AreOwnTokens program.sig ts → AreAllowed program (name_assertions i ts)
-names_allowed program i [] own = tt
-names_allowed program i (t ∷ ts) own = (λ is. declaration t own.0 (record { no_hypotheses = refl; statement = refl }), names_allowed program (i + 1) ts own.1)
+names_allowed : (theory : RewriteTheory) (i : ℕ) (ts : List Token) → AreOwnTokens theory.sig ts → AreAllowed theory (name_assertions i ts)
+names_allowed theory i [] own = tt
+names_allowed theory i (t ∷ ts) own = (λ is. declaration t own.0 (record { statement = refl; premises = refl; types = λ v. refl; apart = λ x y h. h }), names_allowed theory (i + 1) ts own.1)
 
 -- behind a text
-pub declared_behind : (program : Program) (done more : List Token) (claims : List Claim) (bytes : List ℕ) → FitsClaims done claims bytes → AreNames (done ++ more) → AreDistinct (done ++ more) → length (done ++ more) < 2 ^ 64
-    → AreOwnTokens program.sig more → HasOnlyAxiomsOf program bytes → HasOnlyAxiomsOf program (bytes ++ written_statements (all_name_statements (length done) more))
-declared_behind program done more claims bytes (c, leaves, w) names distinct few own only =
+pub declared_behind : (theory : RewriteTheory) (done more : List Token) (claims : List Claim) (bytes : List ℕ) → FitsClaims done claims bytes → AreNames (done ++ more) → AreDistinct (done ++ more) → length (done ++ more) < 2 ^ 64
+    → AreOwnTokens theory.sig more → HasOnlyAxiomsOf theory bytes → HasOnlyAxiomsOf theory (bytes ++ written_statements (all_name_statements (length done) more))
+declared_behind theory done more claims bytes (c, leaves, w) names distinct few own only =
     let appended : List ℕ = written_statements (all_name_statements (length done) more) in
     let gains : (assertions_of (bytes ++ appended) ≡ assertions_of bytes ++ assertions_in c (statements_from (length bytes) appended)) × (typings_of (bytes ++ appended) ≡ typings_of bytes ++ typings_in (statements_from (length bytes) appended)) =
     appended_states bytes appended c leaves.white leaves.fine in
     let states : StatesJust c (statements_from (length bytes) appended) (name_assertions (length done) more) = declared_states done more c (length bytes) w.base leaves.closed names distinct few in
-    has_only_more program bytes appended (name_assertions (length done) more) [] only (names_allowed program (length done) more own) tt
+    has_only_more theory bytes appended (name_assertions (length done) more) [] only (names_allowed theory (length done) more own) tt
     (gains.0 ∙ ap (λ (others : List Assertion). assertions_of bytes ++ others) states.0)
     (gains.1 ∙ ap (λ (hs : List Hypothesis). typings_of bytes ++ hs) states.1)
 
 pub declared_has_only : DeclaredHasOnly
-declared_has_only program names k bytes each distinct few begun within own fits only = go k.begun begun fits
+declared_has_only theory names k bytes each distinct few begun within own fits only = go k.begun begun fits
   where
-    go : (b : Bool) → b ≡ true → FitsWhen b (take k.named names) k.stated bytes → HasOnlyAxiomsOf program (bytes ++ written_statements (all_name_statements k.named (drop k.named names)))
+    go : (b : Bool) → b ≡ true → FitsWhen b (take k.named names) k.stated bytes → HasOnlyAxiomsOf theory (bytes ++ written_statements (all_name_statements k.named (drop k.named names)))
     go false never fit = absurd (false≢true never)
     go true is fit =
         let whole : take k.named names ++ drop k.named names ≡ names = take-drop k.named names in
-        subst (λ (n : ℕ). HasOnlyAxiomsOf program (bytes ++ written_statements (all_name_statements n (drop k.named names)))) (length-front k.named names within)
-        (declared_behind program (take k.named names) (drop k.named names) k.stated bytes fit (subst AreNames (sym whole) each) (subst AreDistinct (sym whole) distinct) (subst (λ (ts : List Token). length ts < 2 ^ 64) (sym whole) few) own only)
+        subst (λ (n : ℕ). HasOnlyAxiomsOf theory (bytes ++ written_statements (all_name_statements n (drop k.named names)))) (length-front k.named names within)
+        (declared_behind theory (take k.named names) (drop k.named names) k.stated bytes fit (subst AreNames (sym whole) each) (subst AreDistinct (sym whole) distinct) (subst (λ (ts : List Token). length ts < 2 ^ 64) (sym whole) few) own only)

@@ -10,7 +10,7 @@ use Rattle.mm_header.specs.HeaderText.{header_bytes}
 use Rattle.mm_header.specs.HeaderContext.{header_context, header_labels, header_types, IsFrameOfRow, frame_of_row}
 use Rattle.mm_header.specs.HeaderLaws.{HasRow}
 use Rattle.mm_header.proofs.HeaderFrames.{header_frames}
-use Rattle.ground_rules.specs.declared.rules.Program.{Program}
+use Rattle.rule_core.specs.Theories.{RewriteTheory}
 use Rattle.mm_justify.specs.Justifying.{SaysNoMore, IsAxiomOf, header_row, AreAllowed, AreTypings}
 use Rattle.mm_justify.specs.JustifyingLaws.{HeaderHasOnly}
 
@@ -46,19 +46,19 @@ row_frame r has kept = subst (λ (f : Frame). IsFrameOfRow r f) (same_frame has.
 itself : (f : Frame) → SaysNoMore f f
 itself f = record { statement = refl; premises = refl; types = λ v. refl; apart = λ x y h. h }
 
-all_rows : (program : Program) (rows : List Row) → ((k : ℕ) (d : Row) → k < length rows → IsAxiomOf program (frame_of_row (slice_index_or rows k d))) → AreAllowed program (map row_assertion rows)
-all_rows program [] each = tt
-all_rows program (r ∷ rows) each = (λ proved. each 0 r (omega arith), all_rows program rows (λ k d lt. each (suc k) d (omega (arith, lt))))
+all_rows : (theory : RewriteTheory) (rows : List Row) → ((k : ℕ) (d : Row) → k < length rows → IsAxiomOf theory (frame_of_row (slice_index_or rows k d))) → AreAllowed theory (map row_assertion rows)
+all_rows theory [] each = tt
+all_rows theory (r ∷ rows) each = (λ proved. each 0 r (omega arith), all_rows theory rows (λ k d lt. each (suc k) d (omega (arith, lt))))
 
-header_allowed : (program : Program) → AreAllowed program (map row_assertion header_rows)
-header_allowed program = all_rows program header_rows (λ k d lt. header_row (slice_index_or header_rows k d) (frame_of_row (slice_index_or header_rows k d)) (All-contains_itself header_rows k d lt)
+header_allowed : (theory : RewriteTheory) → AreAllowed theory (map row_assertion header_rows)
+header_allowed theory = all_rows theory header_rows (λ k d lt. header_row (slice_index_or header_rows k d) (frame_of_row (slice_index_or header_rows k d)) (All-contains_itself header_rows k d lt)
     (row_frame (slice_index_or header_rows k d) (header_frames k d lt) (row_kept k d lt)) (itself (frame_of_row (slice_index_or header_rows k d))))
 
 header_typed : AreTypings header_types
 header_typed = (refl, (refl, (refl, (refl, (refl, (refl, (refl, (refl, (refl, tt)))))))))
 
 pub header_has_only : HeaderHasOnly
-header_has_only program = record {
-  axioms = subst (AreAllowed program) (sym header_assertions) (header_allowed program);
+header_has_only theory = record {
+  axioms = subst (AreAllowed theory) (sym header_assertions) (header_allowed theory);
   types = subst AreTypings (sym header_typings) header_typed;
 }

@@ -1,34 +1,26 @@
 -- The leaves of images: tokens that are among the names.
-use Rattle.std.proofs.Common.{◌≡◌, ℕ, ◌+◌, ◌<◌, Bool, true, false, cond, List, [], ◌∷◌, length, suc, Option, Some, None, option_map, refl, sym, ap, ◌∙◌, subst, arith}
+use Rattle.std.proofs.Common.{◌≡◌, ℕ, ◌+◌, ◌<◌, Bool, true, false, cond, List, [], ◌∷◌, length, suc, Option, Some, None, option_map, inl, inr, refl, sym, ap, ◌∙◌, subst, arith}
 use Rattle.std.specs.Prelude.{codes, bytes_eq}
 use Rattle.std.specs.List.{position_from}
-use Rattle.std.proofs.lemmas.Option.{slice_get_within, get_or_from_slice_get}
 use Rattle.std.proofs.lemmas.Slice.Eq.{bytes_eq-Decides}
 use Rattle.mm_text.specs.Bytes.{Token}
-use Rattle.ml_pat.specs.Patterns.{Pattern, top, imp, and, app, at_sort, next, constant}
+use Rattle.ml_pat.specs.Patterns.{Pattern, app, at_sort, constant}
+use Rattle.ml_pat.specs.Patterns as logic
+use Rattle.ml_pat.specs.Leaves.{LeafFacts, EachLeaf}
 use Rattle.ml_pat.specs.Named.{number_of}
+use Rattle.ml_kernel.specs.Lemmas.{HasNoMeta}
 use Rattle.term_core.specs.Terms.{DomainValue}
 use Rattle.term_core.specs.Patterns.{Pattern as RulePattern, Patterns as RulePatterns, variable, domain_value, application, injection, call, no_pattern, more_patterns}
-use Rattle.term_core.specs.GroundPatterns.{IsGround, AreGround}
-use Rattle.ground_rules.specs.declared.signature.Signature.{Signature}
-use Rattle.ground_rules.specs.ProgramView.{rewrite_rule}
+use Rattle.rule_core.specs.Matching.{StandsIn, StandsInSome}
+use Rattle.rule_core.specs.declared.signature.Signature.{Signature}
 use Rattle.ml_image.specs.Tokens.{sort_token, symbol_token, value_token, name_at, token_of_sort, token_of_symbol, token_of_value, numbered}
-use Rattle.ml_image.specs.Images.{both, symbol_image, at_sorts, injection_symbol, some_symbol_image, injection_image, image_of, applied}
-use Rattle.ml_image.proofs.ImageLaws.{numbered-keeps}
+use Rattle.ml_image.specs.Images.{both, symbol_image, sort_image, at_sorts, injection_symbol, some_symbol_image, injection_image, image_of, applied}
+use Rattle.ml_image.specs.Sentences.{Sentence, term, symbol, apply, top, not, and, implies, equals, is_in, functional, exists, forall, next, sentence_image}
+use Rattle.ml_image.proofs.ImageLaws.{none_some, some_same}
 use Rattle.mm_proof.specs.Tokens.{name_of}
-use Rattle.ml_pat.specs.Leaves.{EachLeaf}
 use Rattle.mm_claims.specs.Statements.{typecode_of}
-use Rattle.mm_claims.specs.OverNames.{closed_over}
-use Rattle.mm_justify.specs.Justifying.{rule_image, value_fact}
-use Rattle.mm_justify.specs.NoVariables.{HasNoVariable, HaveNoVariable}
-use Rattle.mm_justify.specs.ImageLaws.{GroundHasNone, ImageIsClosed, RuleImageIsClosed, OwnAxiomStays, RuleImageIsOwn}
-use Rattle.ml_image.proofs.NamingLaws.{rule_image_stays}
-
-pub none_some : {A : Type 0} (a : A) → None ≡ Some a → ⊥
-none_some a h = cc
-
-some_same : {A : Type 0} (a b : A) → Some a ≡ Some b → a ≡ b
-some_same a b h = cc
+use Rattle.mm_claims.specs.OverNames.{closed_over, over_names}
+use Rattle.mm_justify.specs.ImageLaws.{SentenceIsOver, SentenceHasNoMeta, ImageIsClosed}
 
 -- a number that was found is that of the token
 found : (token : Token) (i : ℕ) (names : List Token) (n : ℕ) → position_from (λ (other : Token). bytes_eq token other) i names ≡ Some n → (k : ℕ) × ((n ≡ i + k) × ((k < length names) × (name_of names k ≡ token)))
@@ -71,82 +63,118 @@ symbol_leaf sig names f n h = named names symbol_token (codes "#Pattern") (name_
 value_leaf : (sig : Signature) (names : List Token) (s : ℕ) (v : DomainValue) (n : ℕ) → numbered names (token_of_value sig s v) ≡ Some n → IsNumber names (codes "#Pattern") n
 value_leaf sig names s v n h = named names (λ (name : Token). value_token name v) (codes "#Pattern") (name_at sig.sorts s) n (λ name. refl) h
 
--- what is there is closed over the names
-abbrev AreClosed : List Token → Option Pattern → Type 0
-AreClosed names o = (p : Pattern) → o ≡ Some p → EachLeaf (closed_over names) p
+-- ---- facts about leaves that numbers of tokens have
 
-constant_closed : (names : List Token) (o : Option ℕ) → ((n : ℕ) → o ≡ Some n → IsNumber names (codes "#Pattern") n) → AreClosed names (option_map constant o)
-constant_closed names None each p h = absurd (none_some p h)
-constant_closed names (Some n) each p h = subst (EachLeaf (closed_over names)) (some_same (constant n) p h) (each n refl)
+-- facts that the numbers of sorts' tokens and of symbols' and values' tokens have, and that each object variable has
+pub record Known (names : List Token) (f : LeafFacts) : Type 0 where
+  pub sorts : (n : ℕ) → IsNumber names (codes "#Sort") n → f.sort n
+  pub constants : (n : ℕ) → IsNumber names (codes "#Pattern") n → f.constant n
 
-app_closed : (names : List Token) (a b : Option Pattern) → AreClosed names a → AreClosed names b → AreClosed names (both app a b)
-app_closed names None b ka kb p h = absurd (none_some p h)
-app_closed names (Some x) None ka kb p h = absurd (none_some p h)
-app_closed names (Some x) (Some y) ka kb p h = subst (EachLeaf (closed_over names)) (some_same (app x y) p h) (ka x refl, kb y refl)
+abbrev Each : LeafFacts → Option Pattern → Type 0
+Each f o = (p : Pattern) → o ≡ Some p → EachLeaf f p
 
-at_closed : (names : List Token) (a : Option Pattern) (s : Option ℕ) → AreClosed names a → ((n : ℕ) → s ≡ Some n → IsNumber names (codes "#Sort") n) → AreClosed names (both at_sort a s)
-at_closed names None s ka ks p h = absurd (none_some p h)
-at_closed names (Some x) None ka ks p h = absurd (none_some p h)
-at_closed names (Some x) (Some n) ka ks p h = subst (EachLeaf (closed_over names)) (some_same (at_sort x n) p h) (ka x refl, ks n refl)
+abbrev EachSort : LeafFacts → Option ℕ → Type 0
+EachSort f o = (n : ℕ) → o ≡ Some n → f.sort n
 
-symbol_closed : (sig : Signature) (names : List Token) (f : ℕ) → AreClosed names (symbol_image sig names f)
-symbol_closed sig names f = constant_closed names (numbered names (token_of_symbol sig f)) (symbol_leaf sig names f)
+constant_leaves : (f : LeafFacts) (o : Option ℕ) → ((n : ℕ) → o ≡ Some n → f.constant n) → Each f (option_map constant o)
+constant_leaves f None each p h = absurd (none_some p h)
+constant_leaves f (Some n) each p h = subst (EachLeaf f) (some_same (constant n) p h) (each n refl)
 
-sorts_closed : (sig : Signature) (names : List Token) (ss : List ℕ) (head : Option Pattern) → AreClosed names head → AreClosed names (at_sorts sig names head ss)
-sorts_closed sig names [] head k = k
-sorts_closed sig names (s ∷ ss) head k = sorts_closed sig names ss (both at_sort head (numbered names (token_of_sort sig s))) (at_closed names head (numbered names (token_of_sort sig s)) k (sort_leaf sig names s))
+-- of two patterns, where a connective keeps the facts
+two_leaves : (f : LeafFacts) (k : Pattern → Pattern → Pattern) → ((x y : Pattern) → EachLeaf f x → EachLeaf f y → EachLeaf f (k x y)) → (a b : Option Pattern) → Each f a → Each f b → Each f (both k a b)
+two_leaves f k keeps None b ka kb p h = absurd (none_some p h)
+two_leaves f k keeps (Some x) None ka kb p h = absurd (none_some p h)
+two_leaves f k keeps (Some x) (Some y) ka kb p h = subst (EachLeaf f) (some_same (k x y) p h) (keeps x y (ka x refl) (kb y refl))
 
-some_closed : (sig : Signature) (names : List Token) (o : Option ℕ) → AreClosed names (some_symbol_image sig names o)
-some_closed sig names None p h = absurd (none_some p h)
-some_closed sig names (Some f) p h = symbol_closed sig names f p h
+one_leaves : (f : LeafFacts) (k : Pattern → Pattern) → ((x : Pattern) → EachLeaf f x → EachLeaf f (k x)) → (a : Option Pattern) → Each f a → Each f (option_map k a)
+one_leaves f k keeps None ka p h = absurd (none_some p h)
+one_leaves f k keeps (Some x) ka p h = subst (EachLeaf f) (some_same (k x) p h) (keeps x (ka x refl))
 
+sorted_leaves : (f : LeafFacts) (k : Pattern → ℕ → Pattern) → ((x : Pattern) (n : ℕ) → EachLeaf f x → f.sort n → EachLeaf f (k x n)) → (a : Option Pattern) (s : Option ℕ) → Each f a → EachSort f s → Each f (both k a s)
+sorted_leaves f k keeps None s ka ks p h = absurd (none_some p h)
+sorted_leaves f k keeps (Some x) None ka ks p h = absurd (none_some p h)
+sorted_leaves f k keeps (Some x) (Some n) ka ks p h = subst (EachLeaf f) (some_same (k x n) p h) (keeps x n (ka x refl) (ks n refl))
+
+bound_leaves : (f : LeafFacts) (k : ℕ → Pattern → Pattern) → ((n : ℕ) (x : Pattern) → f.sort n → EachLeaf f x → EachLeaf f (k n x)) → (s : Option ℕ) (a : Option Pattern) → EachSort f s → Each f a → Each f (both k s a)
+bound_leaves f k keeps None a ks ka p h = absurd (none_some p h)
+bound_leaves f k keeps (Some n) None ks ka p h = absurd (none_some p h)
+bound_leaves f k keeps (Some n) (Some x) ks ka p h = subst (EachLeaf f) (some_same (k n x) p h) (keeps n x (ks n refl) (ka x refl))
+
+sort_fact : (sig : Signature) (names : List Token) (f : LeafFacts) → Known names f → (s : ℕ) → EachSort f (sort_image sig names s)
+sort_fact sig names f known s n h = known.sorts n (sort_leaf sig names s n h)
+
+symbol_leaves : (sig : Signature) (names : List Token) (f : LeafFacts) → Known names f → (g : ℕ) → Each f (symbol_image sig names g)
+symbol_leaves sig names f known g = constant_leaves f (numbered names (token_of_symbol sig g)) (λ n h. known.constants n (symbol_leaf sig names g n h))
+
+sorts_leaves : (sig : Signature) (names : List Token) (f : LeafFacts) → Known names f → (ss : List ℕ) (head : Option Pattern) → Each f head → Each f (at_sorts sig names head ss)
+sorts_leaves sig names f known [] head k = k
+sorts_leaves sig names f known (s ∷ ss) head k = sorts_leaves sig names f known ss (both at_sort head (sort_image sig names s)) (sorted_leaves f at_sort (λ x n hx hn. (hx, hn)) head (sort_image sig names s) k (sort_fact sig names f known s))
+
+some_leaves : (sig : Signature) (names : List Token) (f : LeafFacts) → Known names f → (o : Option ℕ) → Each f (some_symbol_image sig names o)
+some_leaves sig names f known None p h = absurd (none_some p h)
+some_leaves sig names f known (Some g) p h = symbol_leaves sig names f known g p h
+
+-- the image of a pattern whose variables have their fact
 mutual
-  closed_image : (sig : Signature) (names : List Token) (a : RulePattern) → HasNoVariable a → AreClosed names (image_of sig names a)
-  closed_image sig names (variable x) none p h = absurd none
-  closed_image sig names (domain_value s v) none p h = constant_closed names (numbered names (token_of_value sig s v)) (value_leaf sig names s v) p h
-  closed_image sig names (application f ps) none p h = closed_applied sig names ps (symbol_image sig names f) none (symbol_closed sig names f) p h
-  closed_image sig names (injection a b q) none p h =
-      app_closed names (injection_image sig names a b) (image_of sig names q) (sorts_closed sig names (a ∷ b ∷ []) (some_symbol_image sig names (injection_symbol sig)) (some_closed sig names (injection_symbol sig))) (closed_image sig names q none) p h
-  closed_image sig names (call f ss ps) none p h = closed_applied sig names ps (at_sorts sig names (symbol_image sig names f) ss) none (sorts_closed sig names ss (symbol_image sig names f) (symbol_closed sig names f)) p h
+  term_leaves : (sig : Signature) (names : List Token) (f : LeafFacts) → Known names f → (a : RulePattern) → ((x : ℕ) → StandsIn x a → f.object x) → Each f (image_of sig names a)
+  term_leaves sig names f known (variable x) objects p h = subst (EachLeaf f) (some_same (logic.var x) p h) (objects x refl)
+  term_leaves sig names f known (domain_value s v) objects p h = constant_leaves f (numbered names (token_of_value sig s v)) (λ n k. known.constants n (value_leaf sig names s v n k)) p h
+  term_leaves sig names f known (application g ps) objects p h = applied_leaves sig names f known ps (symbol_image sig names g) objects (symbol_leaves sig names f known g) p h
+  term_leaves sig names f known (injection a b q) objects p h =
+      two_leaves f app (λ x y hx hy. (hx, hy)) (injection_image sig names a b) (image_of sig names q) (sorts_leaves sig names f known (a ∷ b ∷ []) (some_symbol_image sig names (injection_symbol sig)) (some_leaves sig names f known (injection_symbol sig))) (term_leaves sig names f known q objects) p h
+  term_leaves sig names f known (call g ss ps) objects p h = applied_leaves sig names f known ps (at_sorts sig names (symbol_image sig names g) ss) objects (sorts_leaves sig names f known ss (symbol_image sig names g) (symbol_leaves sig names f known g)) p h
 
-  closed_applied : (sig : Signature) (names : List Token) (ps : RulePatterns) (head : Option Pattern) → HaveNoVariable ps → AreClosed names head → AreClosed names (applied sig names head ps)
-  closed_applied sig names no_pattern head none k p h = k p h
-  closed_applied sig names (more_patterns q qs) head none k p h =
-      closed_applied sig names qs (both app head (image_of sig names q)) none.1 (app_closed names head (image_of sig names q) k (closed_image sig names q none.0)) p h
+  applied_leaves : (sig : Signature) (names : List Token) (f : LeafFacts) → Known names f → (ps : RulePatterns) (head : Option Pattern) → ((x : ℕ) → StandsInSome x ps → f.object x) → Each f head → Each f (applied sig names head ps)
+  applied_leaves sig names f known no_pattern head objects k p h = k p h
+  applied_leaves sig names f known (more_patterns q qs) head objects k p h =
+      applied_leaves sig names f known qs (both app head (image_of sig names q)) (λ x s. objects x (inr s)) (two_leaves f app (λ x y hx hy. (hx, hy)) head (image_of sig names q) k (term_leaves sig names f known q (λ x s. objects x (inl s)))) p h
+
+-- the image of a sentence, where each object variable has the fact
+sentence_leaves : (sig : Signature) (names : List Token) (f : LeafFacts) → Known names f → ((x : ℕ) → f.object x) → (s : Sentence) → Each f (sentence_image sig names s)
+sentence_leaves sig names f known objects (term a) = term_leaves sig names f known a (λ x h. objects x)
+sentence_leaves sig names f known objects (symbol g) = symbol_leaves sig names f known g
+sentence_leaves sig names f known objects (apply a b) = two_leaves f logic.app (λ x y hx hy. (hx, hy)) _ _ (sentence_leaves sig names f known objects a) (sentence_leaves sig names f known objects b)
+sentence_leaves sig names f known objects top = λ p h. subst (EachLeaf f) (some_same logic.top p h) tt
+sentence_leaves sig names f known objects (not a) = one_leaves f logic.not (λ x hx. hx) _ (sentence_leaves sig names f known objects a)
+sentence_leaves sig names f known objects (and a b) = two_leaves f logic.and (λ x y hx hy. (hx, hy)) _ _ (sentence_leaves sig names f known objects a) (sentence_leaves sig names f known objects b)
+sentence_leaves sig names f known objects (implies a b) = two_leaves f logic.imp (λ x y hx hy. (hx, hy)) _ _ (sentence_leaves sig names f known objects a) (sentence_leaves sig names f known objects b)
+sentence_leaves sig names f known objects (equals a b) = two_leaves f logic.equal (λ x y hx hy. (hx, hy)) _ _ (sentence_leaves sig names f known objects a) (sentence_leaves sig names f known objects b)
+sentence_leaves sig names f known objects (is_in a b) = two_leaves f logic.member (λ x y hx hy. (hx, hy)) _ _ (sentence_leaves sig names f known objects a) (sentence_leaves sig names f known objects b)
+sentence_leaves sig names f known objects (functional a s) = sorted_leaves f logic.fun (λ x n hx hn. (hx, hn)) _ _ (sentence_leaves sig names f known objects a) (sort_fact sig names f known s)
+sentence_leaves sig names f known objects (exists x s a) = bound_leaves f (logic.ex x) (λ n y hn hy. (hy, (objects x, hn))) _ _ (sort_fact sig names f known s) (sentence_leaves sig names f known objects a)
+sentence_leaves sig names f known objects (forall x s a) = bound_leaves f (logic.all x) (λ n y hn hy. (hy, (objects x, hn))) _ _ (sort_fact sig names f known s) (sentence_leaves sig names f known objects a)
+sentence_leaves sig names f known objects (next a) = one_leaves f logic.next (λ x hx. hx) _ (sentence_leaves sig names f known objects a)
+
+pub sentence_is_over : SentenceIsOver
+sentence_is_over sig names s p h = sentence_leaves sig names (over_names names) (record { sorts = λ n k. k; constants = λ n k. k }) (λ x. tt) s p h
 
 pub image_is_closed : ImageIsClosed
-image_is_closed sig names a p none h = closed_image sig names a none p h
+image_is_closed sig names a p none h = term_leaves sig names (closed_over names) (record { sorts = λ n k. k; constants = λ n k. k }) a none p h
 
-pub rule_image_is_closed : RuleImageIsClosed
-rule_image_is_closed sig names r p left right h = sides (image_of sig names r.left) (image_of sig names r.right) (closed_image sig names r.left left) (closed_image sig names r.right right) h
-  where
-    sides : (l u : Option Pattern) → AreClosed names l → AreClosed names u → both imp (option_map (λ (x : Pattern). and x top) l) (option_map next u) ≡ Some p → EachLeaf (closed_over names) p
-    sides None u kl ku is = absurd (none_some p is)
-    sides (Some x) None kl ku is = absurd (none_some p is)
-    sides (Some x) (Some y) kl ku is = subst (EachLeaf (closed_over names)) (some_same (imp (and x top) (next y)) p is) ((kl x refl, tt), ku y refl)
+-- ---- no pattern variables
 
-mutual
-  ground_none : (a : RulePattern) → IsGround a → HasNoVariable a
-  ground_none (variable x) g = absurd g
-  ground_none (domain_value s v) g = tt
-  ground_none (application f ps) g = grounds_none ps g
-  ground_none (injection a b p) g = ground_none p g
-  ground_none (call f ss ps) g = absurd g
+abbrev no_metas : LeafFacts
+no_metas = record { sort = λ n. Unit {0}; constant = λ n. Unit {0}; object = λ n. Unit {0}; meta = λ n. ⊥ }
 
-  grounds_none : (ps : RulePatterns) → AreGround ps → HaveNoVariable ps
-  grounds_none no_pattern g = tt
-  grounds_none (more_patterns p ps) g = (ground_none p g.0, grounds_none ps g.1)
+without_metas : (p : Pattern) → EachLeaf no_metas p → HasNoMeta p
+without_metas logic.bot h = tt
+without_metas logic.top h = tt
+without_metas (logic.imp p q) h = (without_metas p h.0, without_metas q h.1)
+without_metas (logic.not p) h = without_metas p h
+without_metas (logic.and p q) h = (without_metas p h.0, without_metas q h.1)
+without_metas (logic.or p q) h = (without_metas p h.0, without_metas q h.1)
+without_metas (logic.equal p q) h = (without_metas p h.0, without_metas q h.1)
+without_metas (logic.member p q) h = (without_metas p h.0, without_metas q h.1)
+without_metas (logic.fun p s) h = without_metas p h.0
+without_metas (logic.ex x s p) h = without_metas p h.0
+without_metas (logic.all x s p) h = without_metas p h.0
+without_metas (logic.app p q) h = (without_metas p h.0, without_metas q h.1)
+without_metas (logic.at_sort p s) h = without_metas p h.0
+without_metas (logic.next p) h = without_metas p h
+without_metas (logic.ev p) h = without_metas p h
+without_metas (logic.var x) h = tt
+without_metas (logic.meta i) h = absurd h
+without_metas (logic.constant c) h = tt
 
-pub ground_has_none : GroundHasNone
-ground_has_none a g = ground_none a g
-
-pub own_axiom_stays : OwnAxiomStays
-own_axiom_stays program names more p (rule_image r q there none is) = rule_image r q there none (rule_image_stays program.sig names more (rewrite_rule r) q is)
-own_axiom_stays program names more p (value_fact s n c v has value sort) =
-    value_fact s n c v has (numbered-keeps names more (token_of_value program.sig s v) c value) (numbered-keeps names more (token_of_sort program.sig s) n sort)
-
--- the image of the rule at a place
-
-pub rule_image_is_own : RuleImageIsOwn
-rule_image_is_own program names i p (r, (there, has)) image =
-    rule_image r p (i, slice_get_within program.rules.items i r there, get_or_from_slice_get program.rules.items i r r there) has.variables (image r there)
+pub sentence_has_no_meta : SentenceHasNoMeta
+sentence_has_no_meta sig names s p h = without_metas p (sentence_leaves sig names no_metas (record { sorts = λ n k. tt; constants = λ n k. tt }) (λ x. tt) s p h)

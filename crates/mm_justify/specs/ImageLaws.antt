@@ -1,35 +1,29 @@
--- A program's own axioms, and images that are closed over the names.
-use Rattle.std.specs.Prelude.{◌≡◌, ℕ, List, ◌++◌, Some}
+-- The leaves of images: what a text declares before it states them.
+use Rattle.std.specs.Prelude.{◌≡◌, ℕ, List, Some}
 use Rattle.mm_text.specs.Bytes.{Token}
 use Rattle.ml_pat.specs.Patterns.{Pattern}
-use Rattle.term_core.specs.Patterns.{Pattern as RulePattern}
-use Rattle.term_core.specs.GroundPatterns.{IsGround}
-use Rattle.ground_rules.specs.declared.signature.Signature.{Signature}
-use Rattle.ground_rules.specs.declared.rules.Program.{Program}
-use Rattle.ground_rules.specs.Rules.{RewriteRule}
-use Rattle.ml_image.specs.Images.{image_of, rule_image_of, HasImageAt, IsImageAt}
 use Rattle.ml_pat.specs.Leaves.{EachLeaf}
-use Rattle.mm_claims.specs.OverNames.{closed_over}
-use Rattle.mm_justify.specs.Justifying.{IsOwnAxiom}
-use Rattle.mm_justify.specs.NoVariables.{HasNoVariable}
+use Rattle.ml_kernel.specs.Lemmas.{HasNoMeta}
+use Rattle.term_core.specs.Patterns.{Pattern as RulePattern}
+use Rattle.rule_core.specs.declared.signature.Signature.{Signature}
+use Rattle.rule_core.specs.Matching.{StandsIn}
+use Rattle.ml_image.specs.Images.{image_of}
+use Rattle.ml_image.specs.Sentences.{Sentence, sentence_image}
+use Rattle.mm_claims.specs.OverNames.{closed_over, over_names}
 
--- what is an axiom of a program stays one when names gain tokens
-abbrev pub OwnAxiomStays : Type 0
-OwnAxiomStays = (program : Program) (names more : List Token) (p : Pattern) → IsOwnAxiom program names p → IsOwnAxiom program (names ++ more) p
+-- the sorts and constants of the image of a sentence are among the names, and it has no pattern variables
+abbrev pub SentenceIsOver : Type 0
+SentenceIsOver =
+    (sig : Signature) (names : List Token) (s : Sentence) (p : Pattern) → sentence_image sig names s ≡ Some p →
+    EachLeaf (over_names names) p
 
--- the image of the rule at a place is an axiom of the program
-abbrev pub RuleImageIsOwn : Type 0
-RuleImageIsOwn = (program : Program) (names : List Token) (i : ℕ) (p : Pattern) → HasImageAt program i → IsImageAt program names i p → IsOwnAxiom program names p
+abbrev pub SentenceHasNoMeta : Type 0
+SentenceHasNoMeta =
+    (sig : Signature) (names : List Token) (s : Sentence) (p : Pattern) → sentence_image sig names s ≡ Some p →
+    HasNoMeta p
 
--- no variable stands in a ground pattern
-abbrev pub GroundHasNone : Type 0
-GroundHasNone = (a : RulePattern) → IsGround a → HasNoVariable a
-
--- the image of a pattern without variables, and of a rule with such sides, is closed over the names
+-- the image of a pattern in which no variable stands is closed over the names
 abbrev pub ImageIsClosed : Type 0
-ImageIsClosed = (sig : Signature) (names : List Token) (a : RulePattern) (p : Pattern) → HasNoVariable a → image_of sig names a ≡ Some p → EachLeaf (closed_over names) p
-
-abbrev pub RuleImageIsClosed : Type 0
-RuleImageIsClosed =
-    (sig : Signature) (names : List Token) (r : RewriteRule) (p : Pattern) → HasNoVariable r.left → HasNoVariable r.right → rule_image_of sig names r ≡ Some p →
-    EachLeaf (closed_over names) p
+ImageIsClosed =
+    (sig : Signature) (names : List Token) (a : RulePattern) (p : Pattern) → ((x : ℕ) → StandsIn x a → ⊥) →
+    image_of sig names a ≡ Some p → EachLeaf (closed_over names) p

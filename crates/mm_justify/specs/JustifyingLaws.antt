@@ -1,15 +1,18 @@
--- How a text that is written statement by statement comes to justify a run.
+-- How a text that is written statement by statement comes to justify a run. The laws hold of every text that fits, and
+-- of the bytes that are appended to it.
 use Rattle.std.specs.Prelude.{◌≡◌, ℕ, ◌<◌, ◌≤◌, ◌^◌, true, false, List, [], ◌++◌, length, take, drop, Some}
 use Rattle.mm_text.specs.Bytes.{Token}
 use Rattle.mm_header.specs.HeaderText.{header_bytes}
+use Rattle.mm_database.specs.StatementTexts.{written_statements}
 use Rattle.ml_pat.specs.Patterns.{Pattern, imp, ev}
 use Rattle.ml_pat.specs.Named.{AreDistinct}
+use Rattle.ml_pat.specs.Leaves.{EachLeaf}
 use Rattle.ml_kernel.specs.Theorems.{Theorem}
 use Rattle.term_core.specs.Patterns.{Pattern as RulePattern}
-use Rattle.ground_rules.specs.declared.rules.Program.{Program}
+use Rattle.rule_core.specs.Theories.{RewriteTheory}
 use Rattle.ml_image.specs.Images.{image_of}
+use Rattle.ml_image.specs.Sentences.{Sentence, sentence_image}
 use Rattle.ml_image.specs.Gained.{AreOwnTokens}
-use Rattle.ml_pat.specs.Leaves.{EachLeaf}
 use Rattle.mm_claims.specs.Kept.{Kept}
 use Rattle.mm_claims.specs.Statements.{all_name_statements}
 use Rattle.mm_claims.specs.Fitting.{AreNames}
@@ -18,41 +21,60 @@ use Rattle.mm_claims.specs.Blocks.{open_assertion}
 use Rattle.mm_claims.specs.ClaimVariables.{claim_of, claim_variables}
 use Rattle.mm_claims.specs.Keeping.{Fits, Gains}
 use Rattle.mm_claims.specs.Places.{MayProve, StatesLemma}
-use Rattle.mm_justify.specs.Justifying.{IsOwnAxiom, HasOnlyAxiomsOf, Justifies}
-use Rattle.mm_database.specs.StatementTexts.{written_statements}
+use Rattle.mm_justify.specs.Justifying.{IsAssumed, HasOnlyAxiomsOf, Justifies, JustifiesRun}
 
 -- the header has only axioms of each program
 abbrev pub HeaderHasOnly : Type 0
-HeaderHasOnly = (program : Program) → HasOnlyAxiomsOf program header_bytes
+HeaderHasOnly = (theory : RewriteTheory) → HasOnlyAxiomsOf theory header_bytes
 
 -- A text that fits and has only a program's axioms still has only these with the declarations of more names behind it,
 -- which are the program's own tokens.
 abbrev pub DeclaredHasOnly : Type 0
 DeclaredHasOnly =
-    (program : Program) (names : List Token) (k : Kept) (bytes : List ℕ) → AreNames names → AreDistinct names → length names < 2 ^ 64 → k.begun ≡ true → k.named ≤ length names →
-    AreOwnTokens program.sig (drop k.named names) → Fits names k bytes → HasOnlyAxiomsOf program bytes →
-    HasOnlyAxiomsOf program (bytes ++ written_statements (all_name_statements k.named (drop k.named names)))
+    (theory : RewriteTheory) (names : List Token) (k : Kept) (bytes : List ℕ) → AreNames names → AreDistinct names →
+    length names < 2 ^ 64 → k.begun ≡ true → k.named ≤ length names → AreOwnTokens theory.sig (drop k.named names) →
+    Fits names k bytes → HasOnlyAxiomsOf theory bytes →
+    HasOnlyAxiomsOf theory (bytes ++ written_statements (all_name_statements k.named (drop k.named names)))
 
--- And so it has with an axiom behind it that the program's definition says, without variables.
+-- And so it has with an axiom behind it that the program may assume, whatever variables it binds.
 abbrev pub AxiomHasOnly : Type 0
 AxiomHasOnly =
-    (program : Program) (names : List Token) (old new : Kept) (p : Pattern) (bytes appended : List ℕ) → EachLeaf (closed_over (take old.named names)) p →
-    Gains names old new appended (claim_variables [] p) (open_assertion false (take old.named names) (length old.stated) (claim_of [] p)) →
-    IsOwnAxiom program (take old.named names) p → Fits names old bytes → HasOnlyAxiomsOf program bytes →
-    HasOnlyAxiomsOf program (bytes ++ appended)
+    (theory : RewriteTheory) (names : List Token) (old new : Kept) (s : Sentence) (p : Pattern)
+    (bytes appended : List ℕ) → IsAssumed theory s → sentence_image theory.sig (take old.named names) s ≡ Some p →
+    Gains names old new appended (claim_variables [] p)
+    (open_assertion false (take old.named names) (length old.stated) (claim_of [] p)) →
+    Fits names old bytes → HasOnlyAxiomsOf theory bytes → HasOnlyAxiomsOf theory (bytes ++ appended)
 
--- And with a theorem behind it.
+-- And with a theorem behind it. What was appended to the buffer at hand, in which the lemma was stated, does so behind
+-- every text that fits: so a file is written step by step, and no more of it need be held than the last step.
 abbrev pub TheoremHasOnly : Type 0
 TheoremHasOnly =
-    (program : Program) (names : List Token) (old new : Kept) (t : Theorem) (text text' : List ℕ) →
-    StatesLemma names old new t text text' → MayProve names old t → Fits names old text → HasOnlyAxiomsOf program text →
-    HasOnlyAxiomsOf program text'
+    (theory : RewriteTheory) (names : List Token) (old new : Kept) (t : Theorem)
+    (buffer buffer' text appended : List ℕ) → StatesLemma names old new t buffer buffer' →
+    buffer' ≡ buffer ++ appended → MayProve names old t → Fits names old text → HasOnlyAxiomsOf theory text →
+    HasOnlyAxiomsOf theory (text ++ appended)
 
--- Where the theorem says, without hypotheses and variables, that one pattern's image reaches another's, the text with
--- it justifies the run.
+-- .. and the text fits what is kept then.
+abbrev pub TheoremFitsAnywhere : Type 0
+TheoremFitsAnywhere =
+    (names : List Token) (old new : Kept) (t : Theorem) (buffer buffer' text appended : List ℕ) →
+    StatesLemma names old new t buffer buffer' → buffer' ≡ buffer ++ appended → MayProve names old t →
+    Fits names old text → Fits names new (text ++ appended)
+
+-- Where the theorem says, without hypotheses and variables, that one pattern reaches another, the text with it
+-- justifies that.
 abbrev pub TheoremJustifies : Type 0
 TheoremJustifies =
-    (program : Program) (names : List Token) (old new : Kept) (t : Theorem) (text text' : List ℕ) (a b : RulePattern) (p q : Pattern) →
-    StatesLemma names old new t text text' → MayProve names old t → Fits names old text → HasOnlyAxiomsOf program text →
-    image_of program.sig (take old.named names) a ≡ Some p → image_of program.sig (take old.named names) b ≡ Some q → t.hypotheses ≡ [] → t.conclusion ≡ imp p (ev q) →
-    EachLeaf (closed_over (take old.named names)) (imp p (ev q)) → Justifies text' program a b
+    (theory : RewriteTheory) (names : List Token) (old new : Kept) (t : Theorem)
+    (buffer buffer' text appended : List ℕ) (a b : Pattern) → StatesLemma names old new t buffer buffer' →
+    buffer' ≡ buffer ++ appended → MayProve names old t → Fits names old text → HasOnlyAxiomsOf theory text →
+    AreNames names → AreDistinct names → t.hypotheses ≡ [] → t.conclusion ≡ imp a (ev b) →
+    EachLeaf (closed_over (take old.named names)) (imp a (ev b)) →
+    Justifies (text ++ appended) theory (take old.named names) a b
+
+-- Where a and b are the images of a start and an end, that justifies the run between them.
+abbrev pub RunIsJustified : Type 0
+RunIsJustified =
+    (theory : RewriteTheory) (names : List Token) (bytes : List ℕ) (start end : RulePattern) (a b : Pattern) →
+    image_of theory.sig names start ≡ Some a → image_of theory.sig names end ≡ Some b →
+    Justifies bytes theory names a b → JustifiesRun bytes theory start end

@@ -1,32 +1,36 @@
-// Laws on what justifies a run, and the definition tried on small texts.
-ghost use Rattle.mm_justify.specs.ImageLaws.{GroundHasNone, ImageIsClosed, OwnAxiomStays, RuleImageIsClosed, RuleImageIsOwn};
-ghost use Rattle.mm_justify.specs.JustifyingCases.{ConclusionIsNoAxiom, SmallJustifies};
-ghost use Rattle.mm_justify.specs.JustifyingLaws.{AxiomHasOnly, DeclaredHasOnly, HeaderHasOnly, TheoremHasOnly, TheoremJustifies};
+// Laws on what justifies a run, and the definition tried on small texts and frames.
+ghost use Rattle.mm_justify.specs.ImageCases.{TriedImages};
+ghost use Rattle.mm_justify.specs.ImageLaws.{ImageIsClosed, SentenceHasNoMeta, SentenceIsOver};
+ghost use Rattle.mm_justify.specs.JustifyingCases.{ConclusionIsNoAxiom, SmallJustifies, TriedFrames};
+ghost use Rattle.mm_justify.specs.JustifyingLaws.{AxiomHasOnly, DeclaredHasOnly, HeaderHasOnly, RunIsJustified, TheoremFitsAnywhere, TheoremHasOnly, TheoremJustifies};
 
-/// The definition says of a small text that it justifies a run, and of an axiom that says that one symbol reaches
-/// another that no program has it.
+/// The definition says of a small text that it justifies a run; of an axiom that says that one symbol reaches another
+/// that no program has it; and of frames of an axiom with two variables which of them are taken.
+/// The images of what four small definitions say have the tokens that they should have.
 pub fn tried()
     ensures justifies { SmallJustifies }
     ensures refuses { ConclusionIsNoAxiom }
+    ensures frames { TriedFrames }
+    ensures images { TriedImages }
 {}
 
-/// A text that fits and whose axioms are the header's rows, declarations and axioms of a program still has only these
-/// behind declarations of the program's tokens, axioms that its definition says and theorems. It justifies a run of the
-/// program where its last theorem says that the start reaches the end.
+/// A text that fits and whose axioms are the header's rows, declarations and what a program may assume still has only
+/// these behind declarations of the program's tokens, images of what it may assume, and theorems. It justifies a run of
+/// the program where its last theorem says that the start reaches the end.
 pub fn justifying_laws()
     ensures header { HeaderHasOnly }
     ensures declared { DeclaredHasOnly }
     ensures axiomatic { AxiomHasOnly }
     ensures theorem { TheoremHasOnly }
+    ensures anywhere { TheoremFitsAnywhere }
     ensures justifies { TheoremJustifies }
+    ensures run { RunIsJustified }
 {}
 
-/// The image of a rule is an axiom of its program, and what is one stays one when names gain tokens. The images of
-/// patterns without variables, and of rules with such sides, are closed over the names.
+/// The image of a sentence has its sorts and constants among the names, and no pattern variables; that of a pattern
+/// without variables is closed over the names.
 pub fn image_laws()
-    ensures own { RuleImageIsOwn }
-    ensures stays { OwnAxiomStays }
-    ensures ground { GroundHasNone }
-    ensures image { ImageIsClosed }
-    ensures rule { RuleImageIsClosed }
+    ensures over { SentenceIsOver }
+    ensures metas { SentenceHasNoMeta }
+    ensures closed { ImageIsClosed }
 {}

@@ -12,7 +12,7 @@ use Rattle.mm_database.specs.FrameLaws.{FaultlessIsFine}
 use Rattle.mm_database.specs.Orderly.{IsOrderly, OrderlyAfter}
 use Rattle.mm_frame.specs.FramesHeld.{frame_held}
 use Rattle.mm_frame.specs.Held.{Held, held}
-use Rattle.mm_frame.specs.HeldFrames.{is_needed_number, is_mandatory_number}
+use Rattle.mm_frame.specs.NeededNumbers.{is_needed_number, is_mandatory_number}
 use Rattle.mm_frame.specs.Standing.{Stands}
 use Rattle.mm_frame.specs.StandingLaws.{place_of, NamingExists}
 use Rattle.mm_frame.specs.Takes.{Takes}

@@ -1,5 +1,5 @@
-mod Alone
 mod Apartness
+mod Spreading
 mod Clashing
 mod Scattering
 mod Cuts

@@ -1,13 +1,13 @@
 -- Laws on the places of variables.
-use Rattle.std.proofs.Common.{◌≡◌, ℕ, suc, ◌+◌, ◌<◌, Bool, true, false, List, [], ◌∷◌, ◌++◌, length, take, get_or, map, Option, Some, None, cond, refl, ap, ◌∙◌, sym, arith}
-use Rattle.std.proofs.lemmas.List.{take_more, length-take-le}
+use Rattle.std.proofs.Common.{◌≡◌, ℕ, suc, ◌+◌, ◌<◌, Bool, true, false, List, [], ◌∷◌, ◌++◌, length, take, drop, get_or, map, Some, None, cond, refl, ap, ◌∙◌, sym, arith}
+use Rattle.std.proofs.lemmas.List.{take_more, drop_more, length-take-le}
 use Rattle.std.specs.List.{position_from}
-use Rattle.std.specs.Ordering.{nat_cmp}
-use Rattle.std.specs.BTreeMap.{BTreeMap, get}
 use Rattle.mm_frame.specs.Numbered.{NumberedHypothesis}
-use Rattle.mm_frame.specs.FramesHeld.{types_number}
+use Rattle.mm_frame.specs.FramesHeld.{types_number, hypotheses_held}
 use Rattle.mm_verify.specs.declared.parts.Part.{Part}
-use Rattle.mm_verify.specs.Places.{first_place, place_of, symbol_of, ArePlaced, AreLocated, Locates}
+use Rattle.mm_verify.specs.Places.{first_place, place_of, symbol_of, ArePlaced}
+use Rattle.mm_verify.specs.Locating.{AreLocated}
+use Rattle.mm_verify.specs.declared.finding.Places.{Places}
 
 pub position_from-push : {K : Type 0} (t : K → Bool) (i : ℕ) (xs : List K) (x : K) → position_from t i (xs ++ x ∷ []) ≡ first_place (position_from t i xs) (t x) (i + length xs)
 position_from-push t i [] x = here (t x)
@@ -21,12 +21,8 @@ position_from-push t i (y ∷ ys) x = go (t y) (position_from-push t (i + 1) ys 
     go true h = refl
     go false h = h ∙ ap (λ (n : ℕ). first_place (position_from t (i + 1) ys) (t x) n) (omega arith)
 
-pub placed : (m : BTreeMap ℕ ℕ) (hypotheses others : List NumberedHypothesis) (parts : List Part) → Locates m hypotheses → others ≡ hypotheses → AreLocated m parts → ArePlaced others parts
-placed m hypotheses others parts locates same located = located ∙ all (map symbol_of parts) ∙ ap (λ (h : List NumberedHypothesis). map (place_of h) (map symbol_of parts)) (sym same)
-  where
-    all : (symbols : List ℕ) → map (get nat_cmp m) symbols ≡ map (place_of hypotheses) symbols
-    all [] = refl
-    all (s ∷ ss) = ap (λ (o : Option ℕ). o ∷ map (get nat_cmp m) ss) (locates s) ∙ ap (λ (os : List (Option ℕ)). place_of hypotheses s ∷ os) (all ss)
+pub placed : (p : Places) (others : List NumberedHypothesis) (parts : List Part) → others ≡ hypotheses_held p.hyps.now → AreLocated p parts → ArePlaced others parts
+placed p others parts same located = located ∙ ap (λ (h : List NumberedHypothesis). map (place_of h) (map symbol_of parts)) (sym same)
 
 -- one more hypothesis
 pub place_more : (all : List NumberedHypothesis) (i : ℕ) (h : NumberedHypothesis) (symbol : ℕ) → i < length all → h ≡ get_or all i h → first_place (place_of (take i all) symbol) (types_number symbol h) i ≡ place_of (take (i + 1) all) symbol
@@ -37,3 +33,17 @@ place_more all i h symbol lt is =
     ∙ ap (λ (x : NumberedHypothesis). position_from t 0 (take i all ++ x ∷ [])) (sym is)
     ∙ position_from-push t 0 (take i all) h
     ∙ ap (λ (n : ℕ). first_place (position_from t 0 (take i all)) (t h) n) len)
+
+-- a hypothesis that is looked at is the one, or the others have it
+pub place-here : (all : List NumberedHypothesis) (symbol i : ℕ) (h : NumberedHypothesis) → i < length all → h ≡ get_or all i h → types_number symbol h ≡ true → position_from (types_number symbol) i (drop i all) ≡ place_of all symbol → Some i ≡ place_of all symbol
+place-here all symbol i h lt is types was =
+    sym (ap (λ (hs : List NumberedHypothesis). position_from (types_number symbol) i hs) (drop_more all i h lt ∙ ap (λ (g : NumberedHypothesis). g ∷ drop (i + 1) all) (sym is))
+    ∙ ap (λ (b : Bool). cond b (Some i) (position_from (types_number symbol) (i + 1) (drop (i + 1) all))) types) ∙ was
+
+pub place-behind : (all : List NumberedHypothesis) (symbol i : ℕ) (h : NumberedHypothesis) → i < length all → h ≡ get_or all i h → types_number symbol h ≡ false → position_from (types_number symbol) i (drop i all) ≡ place_of all symbol → position_from (types_number symbol) (i + 1) (drop (i + 1) all) ≡ place_of all symbol
+place-behind all symbol i h lt is types was =
+    sym (ap (λ (hs : List NumberedHypothesis). position_from (types_number symbol) i hs) (drop_more all i h lt ∙ ap (λ (g : NumberedHypothesis). g ∷ drop (i + 1) all) (sym is))
+    ∙ ap (λ (b : Bool). cond b (Some i) (position_from (types_number symbol) (i + 1) (drop (i + 1) all))) types) ∙ was
+
+pub place-nowhere : (all : List NumberedHypothesis) (symbol i : ℕ) → drop i all ≡ [] → position_from (types_number symbol) i (drop i all) ≡ place_of all symbol → None ≡ place_of all symbol
+place-nowhere all symbol i none was = sym (ap (λ (hs : List NumberedHypothesis). position_from (types_number symbol) i hs) none) ∙ was

@@ -16,11 +16,11 @@ use Rattle.mm_verify.specs.declared.ends.Stated.{Stated}
 use Rattle.mm_verify.specs.declared.ends.Stated.TheVariants as stated
 use Rattle.mm_verify.specs.declared.ends.VerifyEnd.{VerifyEnd}
 use Rattle.mm_verify.specs.declared.ends.VerifyEnd.TheVariants.{Invalid, Memory}
-use Rattle.mm_verify.specs.AssertionView.{assertion_frame}
+use Rattle.mm_verify.specs.KeptView.{kept_frame}
 use Rattle.mm_database.specs.ComputedFault.{statement_fault}
 
 abbrev pub HasFrames : Checker → Type 0
-HasFrames k = map assertion_frame k.assertions.items ≡ (held k.scopes).frames
+HasFrames k = map kept_frame k.assertions.items ≡ (held k.scopes).frames
 
 -- the checker stands for what statements have declared
 pub record IsBehind (k : Checker) (c : Context) : Type 0 where

@@ -16,6 +16,11 @@ use Rattle.mm_frame.specs.NumberedSteps.{NumberedPlace, same_numbers, begins_wit
 abbrev pub text_at : List (List ℕ) → ℕ → List ℕ
 text_at entries i = behind_first (slice_index_or entries i [])
 
+-- the text of the entry at a place, if there is one
+abbrev pub text_for : List (List ℕ) → Option ℕ → List ℕ
+text_for entries None = []
+text_for entries (Some i) = text_at entries i
+
 abbrev pub part_text : List (List ℕ) → Part → List ℕ
 part_text entries (part.Kept symbol) = symbol ∷ []
 part_text entries (part.Replaced symbol place) = text_at entries place

@@ -2,9 +2,13 @@
 pub mod Cut
 pub mod StackView
 pub mod Places
+pub mod Locating
 pub mod Resolved
 pub mod AssertionView
+pub mod KeptView
 pub mod Filling
+pub mod Pairs
+pub mod Turned
 pub mod Applied
 pub mod Running
 pub mod Digits

@@ -4,7 +4,7 @@ use Rattle.mm_text.specs.Bytes.{Token, has_token}
 
 abbrev pub mark_behind : ℕ → Token → ℕ
 mark_behind sum [] = sum
-mark_behind sum (byte ∷ bytes) = mark_behind ((sum * 1597 + byte) % 4096) bytes
+mark_behind sum (byte ∷ bytes) = mark_behind ((sum * 1597 + byte) % 16384) bytes
 
 abbrev pub mark_of : Token → ℕ
 mark_of label = mark_behind 0 label

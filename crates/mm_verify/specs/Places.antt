@@ -36,10 +36,6 @@ place_in (part.Replaced symbol place) = Some place
 abbrev pub ArePlaced : List NumberedHypothesis → List Part → Type 0
 ArePlaced hypotheses parts = map place_in parts ≡ map (place_of hypotheses) (map symbol_of parts)
 
--- each part has the place that a table gives its symbol
-abbrev pub AreLocated : BTreeMap ℕ ℕ → List Part → Type 0
-AreLocated places parts = map place_in parts ≡ map (get nat_cmp places) (map symbol_of parts)
-
 -- the parts of a group, and their symbols
 abbrev pub parts_of : Vec Part → List Part
 parts_of group = group.items
@@ -48,5 +44,5 @@ abbrev pub symbols_in : Vec Part → List ℕ
 symbols_in group = map symbol_of group.items
 
 -- the table has the places of these hypotheses
-abbrev pub Locates : BTreeMap ℕ ℕ → List NumberedHypothesis → Type 0
-Locates places hypotheses = (symbol : ℕ) → get nat_cmp places symbol ≡ place_of hypotheses symbol
+abbrev pub IsTable : BTreeMap ℕ ℕ → List NumberedHypothesis → Type 0
+IsTable places hypotheses = (symbol : ℕ) → get nat_cmp places symbol ≡ place_of hypotheses symbol

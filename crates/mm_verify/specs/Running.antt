@@ -16,11 +16,11 @@ use Rattle.mm_verify.specs.declared.machine.Step.{Step}
 use Rattle.mm_verify.specs.declared.machine.Step.TheVariants as step
 use Rattle.mm_verify.specs.declared.machine.ProofFault.{ProofFault}
 use Rattle.mm_verify.specs.declared.machine.ProofFault.TheVariants as fault
-use Rattle.mm_verify.specs.AssertionView.{assertion_frame}
+use Rattle.mm_verify.specs.KeptView.{kept_frame}
 
 abbrev pub citation_of : Citation → numbered.Citation
 citation_of (citation.Gives hyp) = gives (statement_of (hypothesis_held hyp.now))
-citation_of (citation.Applies assertion) = applies (assertion_frame assertion.now)
+citation_of (citation.Applies assertion) = applies (kept_frame assertion.now)
 
 abbrev pub step_of : Step → steps.Step numbered.Citation
 step_of (step.Cites x) = cites (citation_of x)

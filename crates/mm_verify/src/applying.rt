@@ -8,13 +8,15 @@ ghost use Rattle.mm_verify.specs.Applied.{bindings_in, Answers};
 use crate::assertion::Assertion;
 use crate::place::Place;
 use crate::stack::Stack;
-use std::alloc::AllocError;
+use std::alloc::{AllocError, Global};
 
 /// Applies an assertion: the last entries of the stack, one for each mandatory hypothesis, give way to
 /// what the assertion gives from them. Answers whether it does; where not, the stack is as before. The
-/// buffer is for the new entry, so that a step need not ask for room of its own. It takes time in the
-/// length of the entries and of the new one, but for what `$d` asks for.
+/// buffer is for the new entry, so that a step need not ask for room of its own. Room for the whole entry
+/// is asked for before any of it is written. It takes time in the length of the entries and of the new
+/// one, but for what `$d` asks for.
 pub(crate) fn apply<P: Place>(
+    alloc: Global,
     place: &P,
     assertion: &Assertion<'_>,
     stack: &mut Stack,
@@ -27,10 +29,13 @@ pub(crate) fn apply<P: Place>(
         return Ok(false);
     }
     let base = stack.len() - count;
-    if !assertion.is_met(place, stack, base) {
+    if !assertion.is_met(alloc, place, stack, base)? {
         return Ok(false);
     }
+    let length = assertion.length(stack, base);
+    stack.reserve(length)?;
     buffer.clear();
+    buffer.reserve(length)?;
     assertion.conclude(stack, base, buffer)?;
     stack.truncate(base);
     stack.push(buffer)?;

@@ -3,10 +3,12 @@ ghost use Rattle.std.specs.Prelude.{flat_map};
 ghost use Rattle.mm_verify.specs.Places.{ArePlaced, parts_of};
 ghost use Rattle.mm_verify.specs.Resolved.{hypotheses_of, parts_in};
 
-use crate::checking::{are_groups_apart, are_wanted};
-use crate::filling::fill;
-use crate::parts::{Part, Wanted, all_wanted, groups_located, located, places};
+use crate::checking::are_wanted;
+use crate::filling::{fill, filled_length};
+use crate::finding::find_places;
+use crate::parts::{Part, Wanted, all_wanted, groups_located, located};
 use crate::place::Place;
+use crate::spreads::are_groups_apart;
 use crate::stack::Stack;
 use mm_frame::Frame;
 use std::alloc::{AllocError, Global};
@@ -36,10 +38,11 @@ impl<'a> Assertion<'a> {
     pub(crate) fn of(alloc: Global, frame: &Frame<'a>) -> Result<Assertion<'a>, AllocError>
         ensures { IfOk result (λ a. assertion_frame a ≡ frame_held frame.now) }
     {
-        let places = places(alloc, &frame.hyps)?;
+        let mandatory = &*frame.mandatory;
+        let places = find_places(alloc, &mandatory.hyps)?;
         let conclusion = located(alloc, &places, &frame.statement)?;
-        let apart = groups_located(alloc, &places, &frame.apart)?;
-        let wanted = all_wanted(alloc, &places, &frame.hyps)?;
+        let apart = groups_located(alloc, &places, &mandatory.apart)?;
+        let wanted = all_wanted(alloc, &places, &mandatory.hyps)?;
         Ok(Assertion {
             label: frame.label,
             wanted,
@@ -56,11 +59,21 @@ impl<'a> Assertion<'a> {
     }
 
     /// Whether the entries from `base` on, one for each mandatory hypothesis, are what it asks for.
-    pub(crate) fn is_met<P: Place>(&self, place: &P, stack: &Stack, base: usize) -> bool
+    pub(crate) fn is_met<P: Place>(
+        &self,
+        alloc: Global,
+        place: &P,
+        stack: &Stack,
+        base: usize,
+    ) -> Result<bool, AllocError>
         requires { length (assertion_frame self.now).hypotheses ≡ length (drop base stack.now) }
-        ensures { result ≡ met (P.place place.now) (assertion_frame self.now) (drop base stack.now) }
+        ensures { IfOk result (λ r. r ≡ met (P.place place.now) (assertion_frame self.now) (drop base stack.now)) }
     {
-        self.agrees(stack, base) && self.is_apart(place, stack, base)
+        if self.agrees(stack, base) {
+            self.is_apart(alloc, place, stack, base)
+        } else {
+            Ok(false)
+        }
     }
 
     /// Whether the entries are of the right typecodes and what the `$e` ask for.
@@ -72,11 +85,24 @@ impl<'a> Assertion<'a> {
     }
 
     /// Whether the texts keep apart what `$d` asks for.
-    fn is_apart<P: Place>(&self, place: &P, stack: &Stack, base: usize) -> bool
+    fn is_apart<P: Place>(
+        &self,
+        alloc: Global,
+        place: &P,
+        stack: &Stack,
+        base: usize,
+    ) -> Result<bool, AllocError>
         requires { length (assertion_frame self.now).hypotheses ≡ length (drop base stack.now) }
-        ensures { result ≡ keeps_apart (numbers_apart (P.place place.now)) (assertion_frame self.now) (bindings_in (assertion_frame self.now) (drop base stack.now)) }
+        ensures { IfOk result (λ r. r ≡ keeps_apart (numbers_apart (P.place place.now)) (assertion_frame self.now) (bindings_in (assertion_frame self.now) (drop base stack.now))) }
     {
-        are_groups_apart(place, &self.apart, stack, base)
+        are_groups_apart(alloc, place, &self.apart, stack, base)
+    }
+
+    /// How long its statement is, with the texts that the entries from `base` on give its variables.
+    pub(crate) fn length(&self, stack: &Stack, base: usize) -> usize
+        requires { length (assertion_frame self.now).hypotheses ≡ length (drop base stack.now) }
+    {
+        filled_length(&self.conclusion, stack, base)
     }
 
     /// Appends its statement, with the texts that the entries from `base` on give its variables.

@@ -1,8 +1,8 @@
 // Statements of a database, checked one after another.
 
 use crate::answers::{first_byte, stated, verify_end};
-use crate::assertion::Assertion;
 use crate::ends::{Stated, VerifyEnd};
+use crate::kept::Kept;
 use crate::proof_fault::{add_assertions, proof_fault};
 use mm_frame::{Added, Scopes, Theorem};
 use mm_text::{MmFault, MmToken};
@@ -12,7 +12,7 @@ use std::alloc::Global;
 #[derive(Drop)]
 pub(crate) struct Checker<'a> {
     scopes: Scopes<'a>,
-    assertions: Vec<Assertion<'a>>,
+    assertions: Vec<Kept<'a>>,
 }
 
 impl<'a> Checker<'a> {
@@ -94,7 +94,7 @@ impl<'a> Checker<'a> {
         ensures added { IfOk result (λ _. Adds self.old theorem.entry self.new) }
         ensures memory { IfErr result (λ end. end ≡ Memory) }
     {
-        match self.scopes.add_theorem(theorem) {
+        match self.scopes.add_theorem(alloc, theorem) {
             Err(_) => return Err(VerifyEnd::Memory),
             Ok(()) => {}
         }

@@ -54,7 +54,11 @@ pub(crate) fn extended(value: u64, factor: u64, digit: u8) -> Option<u64>
 }
 
 /// The step that a number from 1 on stands for: it cites what the table has, or is a saved step again.
-pub(crate) fn meaning<'a>(table: &[Citation<'a>], saved: usize, number: u64) -> Option<Step<'a>>
+pub(crate) fn meaning<'s, 'a>(
+    table: &[Citation<'s, 'a>],
+    saved: usize,
+    number: u64,
+) -> Option<Step<'s, 'a>>
     requires { 1 ≤ number }
     ensures { option_map step_of result ≡ meaning_in (map citation_of table.now) saved (number - 1) }
 {

@@ -31,6 +31,17 @@ fn behind_typecode(entry: &[u32]) -> &[u32]
     }
 }
 
+/// How long the statement of some parts is, with the texts of the entries from `base` on.
+pub(crate) fn filled_length(parts: &[Part], stack: &Stack, base: usize) -> usize
+    requires within { AreWithin (length (drop base stack.now)) parts.now }
+{
+    let mut length: usize = 0;
+    for part in parts {
+        length = length.saturating_add(text_of(part, stack, base).len());
+    }
+    length
+}
+
 /// Appends the statement of some parts, with the texts of the entries from `base` on. It takes time in
 /// the length of what is appended.
 pub(crate) fn fill(

@@ -1,9 +1,9 @@
 // What a proof may cite.
 ghost use Rattle.std.specs.Prelude.{◌≡◌, map};
 ghost use Rattle.mm_frame.specs.Held.{held};
-ghost use Rattle.mm_verify.specs.AssertionView.{assertion_frame};
+ghost use Rattle.mm_verify.specs.KeptView.{kept_frame};
 
-use crate::assertion::Assertion;
+use crate::kept::Kept;
 use crate::machine::Citation;
 use crate::place::Place;
 use mm_frame::{Cited, Scopes};
@@ -12,8 +12,8 @@ use mm_frame::{Cited, Scopes};
 #[derive(Drop)]
 pub(crate) struct Known<'s, 'a> {
     scopes: &'s Scopes<'a>,
-    assertions: &'s [Assertion<'a>],
-    ghost same: { map assertion_frame assertions.now ≡ (held scopes.now).frames },
+    assertions: &'s [Kept<'a>],
+    ghost same: { map kept_frame assertions.now ≡ (held scopes.now).frames },
 }
 
 impl<'s, 'a> Known<'s, 'a> {
@@ -22,15 +22,15 @@ impl<'s, 'a> Known<'s, 'a> {
     ghost use Rattle.mm_verify.specs.Citing.{cited_at};
 
     /// What is known of these scopes, whose assertions these are.
-    pub(crate) fn new(scopes: &'s Scopes<'a>, assertions: &'s [Assertion<'a>]) -> Known<'s, 'a>
-        requires { map assertion_frame assertions.now ≡ (held scopes.now).frames }
+    pub(crate) fn new(scopes: &'s Scopes<'a>, assertions: &'s [Kept<'a>]) -> Known<'s, 'a>
+        requires { map kept_frame assertions.now ≡ (held scopes.now).frames }
         ensures { result.scopes.now ≡ scopes.now }
     {
         Known { scopes, assertions }
     }
 
     /// What a label cites: none exactly where it is of no active hypothesis and of no assertion.
-    pub(crate) fn cite(&self, label: &'a [u8]) -> Option<Citation<'s>>
+    pub(crate) fn cite(&self, label: &'a [u8]) -> Option<Citation<'s, 'a>>
         ensures { option_map citation_of result ≡ cited_at (held self.now.scopes.now) label.now }
     {
         match self.scopes.cited(label)? {
@@ -45,8 +45,11 @@ impl<'s, 'a> Known<'s, 'a> {
 
 impl Place for Known<'_, '_> {
     ghost use Rattle.mm_frame.specs.StandingLaws.{place_of};
+    ghost use Rattle.mm_verify.specs.Turned.{in_groups-turned};
 
     ghost place = { λ known. place_of (held known.scopes.now) };
+
+    ghost turned = { λ known a b. in_groups-turned (held known.scopes.now).disjoint a b };
 
     fn is_variable(&self, symbol: u32) -> bool {
         self.scopes.is_variable(symbol)

@@ -8,15 +8,15 @@ use std::alloc::{AllocError, Global};
 
 /// The steps that letters stand for, as far as they are read. The table has what the first numbers cite.
 #[derive(Drop)]
-pub(crate) struct ReadSteps<'a> {
-    table: Vec<Citation<'a>>,
-    steps: Vec<Step<'a>>,
+pub(crate) struct ReadSteps<'s, 'a> {
+    table: Vec<Citation<'s, 'a>>,
+    steps: Vec<Step<'s, 'a>>,
     behind: Behind,
     saved: usize,
     ghost few: { saved ≤ length steps.items },
 }
 
-impl<'a> ReadSteps<'a> {
+impl<'s, 'a> ReadSteps<'s, 'a> {
     ghost use Rattle.mm_verify.specs.declared.digits.Behind.TheVariants.{Nothing};
     ghost use Rattle.std.specs.Prelude.{◌≡◌, ℕ, ◌∷◌, [], IfOk, map};
     ghost use Rattle.mm_text.specs.Compressed.{letter_of, last_digit, digit, saves};
@@ -25,19 +25,23 @@ impl<'a> ReadSteps<'a> {
     ghost use Rattle.mm_verify.specs.Running.{steps_in};
     ghost use Rattle.mm_verify.specs.Reading.{meant, letters_of, ReadsOn};
 
-    /// Nothing is read.
-    pub(crate) fn new(alloc: Global, table: Vec<Citation<'a>>) -> ReadSteps<'a>
-        ensures table { result.table ≡ table.entry }
-        ensures steps { result.steps.items ≡ [] }
-        ensures behind { result.behind ≡ Nothing }
-        ensures saved { result.saved ≡ 0 }
+    /// Nothing is read. There is room for this many steps.
+    pub(crate) fn new(
+        alloc: Global,
+        table: Vec<Citation<'s, 'a>>,
+        count: usize,
+    ) -> Result<ReadSteps<'s, 'a>, AllocError>
+        ensures table { IfOk result (λ r. r.table ≡ table.entry) }
+        ensures steps { IfOk result (λ r. r.steps.items ≡ []) }
+        ensures behind { IfOk result (λ r. r.behind ≡ Nothing) }
+        ensures saved { IfOk result (λ r. r.saved ≡ 0) }
     {
-        ReadSteps {
+        Ok(ReadSteps {
             table,
-            steps: Vec::new(alloc),
+            steps: Vec::with_capacity(alloc, count)?,
             behind: Behind::Nothing,
             saved: 0,
-        }
+        })
     }
 
     /// Reads a letter, where it may stand and what it completes stands for a step.
@@ -125,7 +129,7 @@ impl<'a> ReadSteps<'a> {
     }
 
     /// All steps, where the letters may end here.
-    pub(crate) fn ended(self) -> Option<Vec<Step<'a>>>
+    pub(crate) fn ended(self) -> Option<Vec<Step<'s, 'a>>>
         ensures { option_map steps_in result ≡ meant self.entry [] }
     {
         match self.behind {

@@ -16,6 +16,8 @@ mod counting;
 mod digits;
 mod ends;
 mod filling;
+mod finding;
+mod kept;
 mod known;
 mod letters;
 mod machine;
@@ -24,6 +26,7 @@ mod place;
 mod proof_fault;
 mod proof_text;
 mod scattered;
+mod spreads;
 mod stack;
 #[cfg(test)]
 mod tests;

@@ -9,8 +9,7 @@ ghost use Rattle.mm_verify.specs.Applied.{Answers};
 ghost use Rattle.mm_verify.specs.Running.{step_of, saving_of, numbered_step, left_fault as left_fault_of, steps_fault};
 ghost use Rattle.mm_database.specs.Frames.{statement_of};
 
-use crate::applying::apply;
-use crate::assertion::Assertion;
+use crate::kept::Kept;
 use crate::place::Place;
 use crate::stack::Stack;
 use mm_frame::Hyp;
@@ -18,18 +17,18 @@ use std::alloc::{AllocError, Global};
 
 /// What a label cites, by what it does to the stack.
 #[derive(Clone, Copy)]
-pub(crate) enum Citation<'a> {
+pub(crate) enum Citation<'s, 'a> {
     /// Puts the statement of a hypothesis on top.
-    Gives(&'a Hyp<'a>),
+    Gives(&'s Hyp<'a>),
     /// Applies an assertion to the last entries.
-    Applies(&'a Assertion<'a>),
+    Applies(&'s Kept<'a>),
 }
 
 /// A step of a proof.
 #[derive(Clone, Copy)]
-pub(crate) enum Step<'a> {
+pub(crate) enum Step<'s, 'a> {
     /// Does what is cited.
-    Cites(Citation<'a>),
+    Cites(Citation<'s, 'a>),
     /// Saves the last entry.
     Saves,
     /// Puts the saved entry with this number, from 0, on top.
@@ -55,24 +54,29 @@ pub(crate) enum ProofFault {
 
 impl Machine {
     /// Nothing on the stack, and nothing saved.
-    fn new(alloc: Global) -> Machine
-        ensures { saving_of result ≡ saving [] [] }
+    fn new(alloc: Global) -> Result<Machine, AllocError>
+        ensures { IfOk result (λ m. saving_of m ≡ saving [] []) }
     {
-        Machine {
-            stack: Stack::new(alloc),
-            saved: Stack::new(alloc),
+        Ok(Machine {
+            stack: Stack::new(alloc)?,
+            saved: Stack::new(alloc)?,
             buffer: Vec::new(alloc),
-        }
+        })
     }
 
     /// Does a step. Answers whether it fits; where not, nothing changes.
-    fn take<P: Place>(&mut self, place: &P, step: Step<'_>) -> Result<bool, AllocError>
+    fn take<P: Place>(
+        &mut self,
+        alloc: Global,
+        place: &P,
+        step: Step<'_, '_>,
+    ) -> Result<bool, AllocError>
         ensures { IfOk result (Answers (numbered_step (P.place place.now) (step_of step.entry) (saving_of self.old)) (saving_of self.old) (saving_of self.new)) }
     {
         match step {
             Step::Cites(Citation::Gives(hyp)) => self.give(place, hyp),
-            Step::Cites(Citation::Applies(assertion)) => {
-                apply(place, assertion, &mut self.stack, &mut self.buffer)
+            Step::Cites(Citation::Applies(kept)) => {
+                kept.apply(alloc, place, &mut self.stack, &mut self.buffer)
             }
             Step::Saves => self.save(place),
             Step::Repeats(number) => self.repeat(place, number),
@@ -129,14 +133,14 @@ impl Machine {
 pub(crate) fn check_steps<P: Place>(
     alloc: Global,
     place: &P,
-    steps: &[Step<'_>],
+    steps: &[Step<'_, '_>],
     conclusion: &[u32],
 ) -> Result<Option<ProofFault>, AllocError>
     ensures { IfOk result (λ f. f ≡ steps_fault (P.place place.now) (map step_of steps.now) conclusion.now) }
 {
-    let mut machine = Machine::new(alloc);
+    let mut machine = Machine::new(alloc)?;
     for step in steps {
-        if !machine.take(place, *step)? {
+        if !machine.take(alloc, place, *step)? {
             return Ok(Some(ProofFault::Step));
         }
     }

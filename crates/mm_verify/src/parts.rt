@@ -1,14 +1,13 @@
 // The symbols of assertions, with the places of their variables.
-ghost use Rattle.std.specs.Prelude.{◌≡◌, ℕ, IfOk, OnOk, map, flat_map};
-ghost use Rattle.std.specs.Ordering.{nat_cmp};
-ghost use Rattle.std.specs.BTreeMap.{get as found};
-ghost use Rattle.mm_frame.specs.FramesHeld.{hypothesis_held, hypotheses_held, groups_of, types_number};
-ghost use Rattle.mm_verify.specs.Places.{first_place, is_this, symbol_of, place_in, symbols_in, parts_of, AreLocated, Locates};
+ghost use Rattle.std.specs.Prelude.{◌≡◌, IfOk, map, flat_map};
+ghost use Rattle.mm_frame.specs.FramesHeld.{hypothesis_held, hypotheses_held, groups_of};
+ghost use Rattle.mm_verify.specs.Places.{symbol_of, place_in, symbols_in, parts_of};
+ghost use Rattle.mm_verify.specs.Locating.{place_by, AreLocated};
 ghost use Rattle.mm_verify.specs.Resolved.{wanted_hypothesis, hypotheses_of, parts_in};
 
+use crate::finding::Places;
 use mm_frame::Hyp;
 use std::alloc::{AllocError, Global};
-use std::collections::BTreeMap;
 
 /// A symbol of an assertion.
 #[derive(Clone, Copy, PartialEq, Eq)]
@@ -29,47 +28,13 @@ pub(crate) enum Wanted<'a> {
     Stated(&'a [u8], Vec<Part>),
 }
 
-/// The places of the `$f` of variables.
-pub(crate) fn places(alloc: Global, hyps: &[Hyp<'_>]) -> Result<BTreeMap<u32, usize>, AllocError>
-    ensures { IfOk result (λ m. Locates m (hypotheses_held hyps.now)) }
-{
-    let mut places = BTreeMap::new(alloc);
-    for i in 0..hyps.len() {
-        let hyp = &hyps[i];
-        add_place(&mut places, hyp, i)?;
-    }
-    Ok(places)
-}
-
-/// Gives the variable of a `$f` its place, where it has none yet.
-fn add_place(places: &mut BTreeMap<u32, usize>, hyp: &Hyp<'_>, i: usize) -> Result<(), AllocError>
-    ensures { OnOk result ((symbol : ℕ) → found nat_cmp places.new symbol ≡ first_place (found nat_cmp places.old symbol) (types_number symbol (hypothesis_held hyp.now)) i) }
-{
-    if let Some(variable) = typed_variable(hyp) {
-        if !places.contains_key(&variable) {
-            places.insert(variable, i)?;
-        }
-    }
-    Ok(())
-}
-
-/// The variable of a `$f`.
-fn typed_variable(hyp: &Hyp<'_>) -> Option<u32>
-    ensures { (symbol : ℕ) → types_number symbol (hypothesis_held hyp.now) ≡ is_this symbol result }
-{
-    match hyp {
-        Hyp::Floating(_label, _typecode, variable) => Some(*variable),
-        Hyp::Essential(_label, _statement) => None,
-    }
-}
-
 /// The symbol with the place that its variable has.
-fn part_of(places: &BTreeMap<u32, usize>, symbol: u32) -> Part
+fn part_of(places: &Places<'_, '_>, symbol: u32) -> Part
     ensures symbol { symbol_of result ≡ symbol }
-    ensures place { place_in result ≡ found nat_cmp places.now symbol }
+    ensures place { place_in result ≡ place_by places.now symbol }
 {
-    match places.get(&symbol) {
-        Some(place) => Part::Replaced(symbol, *place),
+    match places.get(symbol) {
+        Some(place) => Part::Replaced(symbol, place),
         None => Part::Kept(symbol),
     }
 }
@@ -77,11 +42,11 @@ fn part_of(places: &BTreeMap<u32, usize>, symbol: u32) -> Part
 /// The symbols, each with its place.
 pub(crate) fn located(
     alloc: Global,
-    places: &BTreeMap<u32, usize>,
+    places: &Places<'_, '_>,
     symbols: &[u32],
 ) -> Result<Vec<Part>, AllocError>
     ensures symbols { IfOk result (λ v. map symbol_of v.items ≡ symbols.now) }
-    ensures places { IfOk result (λ v. map place_in v.items ≡ map (found nat_cmp places.now) symbols.now) }
+    ensures places { IfOk result (λ v. map place_in v.items ≡ map (place_by places.now) symbols.now) }
 {
     let mut parts = Vec::with_capacity(alloc, symbols.len())?;
     for symbol in symbols {
@@ -93,7 +58,7 @@ pub(crate) fn located(
 /// Groups of symbols, each with its place.
 pub(crate) fn groups_located(
     alloc: Global,
-    places: &BTreeMap<u32, usize>,
+    places: &Places<'_, '_>,
     groups: &[Vec<u32>],
 ) -> Result<Vec<Vec<Part>>, AllocError>
     ensures symbols { IfOk result (λ v. map symbols_in v.items ≡ groups_of groups.now) }
@@ -109,7 +74,7 @@ pub(crate) fn groups_located(
 /// What a hypothesis asks for.
 fn wanted_by<'a>(
     alloc: Global,
-    places: &BTreeMap<u32, usize>,
+    places: &Places<'_, '_>,
     hyp: &Hyp<'a>,
 ) -> Result<Wanted<'a>, AllocError>
     ensures hypothesis { IfOk result (λ w. wanted_hypothesis w ≡ hypothesis_held hyp.now) }
@@ -127,7 +92,7 @@ fn wanted_by<'a>(
 /// What hypotheses ask for, in order.
 pub(crate) fn all_wanted<'a>(
     alloc: Global,
-    places: &BTreeMap<u32, usize>,
+    places: &Places<'_, '_>,
     hyps: &[Hyp<'a>],
 ) -> Result<Vec<Wanted<'a>>, AllocError>
     ensures hypotheses { IfOk result (λ v. hypotheses_of v.items ≡ hypotheses_held hyps.now) }

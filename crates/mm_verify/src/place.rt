@@ -1,5 +1,5 @@
 // What a step of a proof asks of the place where the proof stands.
-ghost use Rattle.std.specs.Prelude.{◌≡◌};
+ghost use Rattle.std.specs.Prelude.{◌≡◌, ℕ};
 
 /// The place of a proof in a database.
 pub(crate) trait Place {
@@ -15,4 +15,7 @@ pub(crate) trait Place {
     /// Whether the two symbols are a pair of an active `$d`.
     fn apart(&self, a: u32, b: u32) -> bool
         ensures { result ≡ (place self.now).apart a b };
+
+    // It does not matter in which order they are named.
+    ghost turned: { (s : Self) (a b : ℕ) → (place s).apart a b ≡ (place s).apart b a };
 }

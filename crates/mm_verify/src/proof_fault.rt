@@ -5,11 +5,11 @@ ghost use Rattle.mm_database.specs.Database.{Context};
 ghost use Rattle.mm_frame.specs.Held.{held};
 ghost use Rattle.mm_frame.specs.FramesHeld.{frame_held};
 ghost use Rattle.mm_frame.specs.StandingLaws.{place_of};
-ghost use Rattle.mm_verify.specs.AssertionView.{assertion_frame};
+ghost use Rattle.mm_verify.specs.KeptView.{kept_frame};
 ghost use Rattle.mm_verify.specs.ProofSteps.{steps_named};
 ghost use Rattle.mm_verify.specs.Judging.{kind_of, proof_kind};
 
-use crate::assertion::Assertion;
+use crate::kept::Kept;
 use crate::known::Known;
 use crate::machine::{ProofFault, check_steps};
 use crate::proof_text::read_proof;
@@ -28,15 +28,21 @@ const BAD_CONCLUSION: u8 = 14;
 pub(crate) fn proof_fault<'a>(
     alloc: Global,
     scopes: &Scopes<'a>,
-    assertions: &[Assertion<'a>],
+    assertions: &[Kept<'a>],
     bytes: &'a [u8],
     theorem: &Theorem<'a, '_>,
 ) -> Result<Option<u8>, AllocError>
-    requires same { map assertion_frame assertions.now ≡ (held scopes.now).frames }
+    requires same { map kept_frame assertions.now ≡ (held scopes.now).frames }
     ensures { IfOk result (λ k. k ≡ proof_kind (place_of (held scopes.now)) (frame_held theorem.now.frame).statement (steps_named (held scopes.now) (frame_held theorem.now.frame).hypotheses (words_of bytes.now theorem.now.proof.now))) }
 {
     let known = Known::new(scopes, assertions);
-    match read_proof(alloc, &known, bytes, &theorem.frame.hyps, theorem.proof)? {
+    match read_proof(
+        alloc,
+        &known,
+        bytes,
+        &theorem.frame.mandatory.hyps,
+        theorem.proof,
+    )? {
         None => Ok(Some(BAD_PROOF_TEXT)),
         Some(steps) => Ok(kind(check_steps(alloc, &known, &steps, &theorem.frame.statement)?)),
     }
@@ -57,15 +63,15 @@ fn kind(fault: Option<ProofFault>) -> Option<u8>
 pub(crate) fn add_assertions<'a>(
     alloc: Global,
     scopes: &Scopes<'a>,
-    assertions: &mut Vec<Assertion<'a>>,
+    assertions: &mut Vec<Kept<'a>>,
 ) -> Result<(), AllocError>
-    requires front { map assertion_frame assertions.old.items ≡ take (length assertions.old.items) (held scopes.now).frames }
-    ensures { OnOk result (map assertion_frame assertions.new.items ≡ (held scopes.now).frames) }
+    requires front { map kept_frame assertions.old.items ≡ take (length assertions.old.items) (held scopes.now).frames }
+    ensures { OnOk result (map kept_frame assertions.new.items ≡ (held scopes.now).frames) }
 {
     let frames = scopes.frames();
     while assertions.len() < frames.len() {
         let frame = &frames[assertions.len()];
-        assertions.push(Assertion::of(alloc, frame)?)?;
+        assertions.push(Kept::of(alloc, frame)?)?;
     }
     Ok(())
 }

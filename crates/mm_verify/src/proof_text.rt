@@ -33,7 +33,7 @@ pub(crate) fn read_proof<'s, 'a>(
     bytes: &'a [u8],
     hyps: &'s [Hyp<'a>],
     proof: &[MmToken],
-) -> Result<Option<Vec<Step<'s>>>, AllocError>
+) -> Result<Option<Vec<Step<'s, 'a>>>, AllocError>
     ensures { IfOk result (λ r. option_map steps_in r ≡ steps_named (held known.now.scopes.now) (hypotheses_held hyps.now) (words_of bytes.now proof.now)) }
 {
     match proof {
@@ -54,7 +54,7 @@ fn read_normal<'s, 'a>(
     known: &Known<'s, 'a>,
     bytes: &'a [u8],
     proof: &[MmToken],
-) -> Result<Option<Vec<Step<'s>>>, AllocError>
+) -> Result<Option<Vec<Step<'s, 'a>>>, AllocError>
     ensures { IfOk result (λ r. option_map steps_in r ≡ option_map citing_all (all_cited (held known.now.scopes.now) (words_of bytes.now proof.now))) }
 {
     let mut citations = Vec::new(alloc);
@@ -66,7 +66,10 @@ fn read_normal<'s, 'a>(
 }
 
 /// The steps that only cite.
-fn citing<'s>(alloc: Global, citations: &[Citation<'s>]) -> Result<Vec<Step<'s>>, AllocError>
+fn citing<'s, 'a>(
+    alloc: Global,
+    citations: &[Citation<'s, 'a>],
+) -> Result<Vec<Step<'s, 'a>>, AllocError>
     ensures { IfOk result (λ v. map step_of v.items ≡ citing_all (map citation_of citations.now)) }
 {
     let mut steps = Vec::with_capacity(alloc, citations.len())?;
@@ -81,10 +84,11 @@ fn cite_all<'s, 'a>(
     known: &Known<'s, 'a>,
     bytes: &'a [u8],
     labels: &[MmToken],
-    citations: &mut Vec<Citation<'s>>,
+    citations: &mut Vec<Citation<'s, 'a>>,
 ) -> Result<bool, AllocError>
     ensures { IfOk result (λ all. behind_items (map citation_of citations.old.items) (all_cited (held known.now.scopes.now) (words_of bytes.now labels.now)) ≡ (if all then Some (map citation_of citations.new.items) else None)) }
 {
+    citations.reserve(labels.len())?;
     for label in labels {
         match known.cite(label.word(bytes)) {
             None => return Ok(false),
@@ -101,7 +105,7 @@ fn read_compressed<'s, 'a>(
     bytes: &'a [u8],
     hyps: &'s [Hyp<'a>],
     tokens: &[MmToken],
-) -> Result<Option<Vec<Step<'s>>>, AllocError>
+) -> Result<Option<Vec<Step<'s, 'a>>>, AllocError>
     ensures { IfOk result (λ r. option_map steps_in r ≡ compressed_proof (held known.now.scopes.now) (hypotheses_held hyps.now) (words_of bytes.now tokens.now)) }
 {
     match split_at_close(bytes, tokens) {
@@ -133,7 +137,7 @@ fn split_at_close<'t>(bytes: &[u8], tokens: &'t [MmToken]) -> Option<(&'t [MmTok
 }
 
 /// What the labels of mandatory hypotheses cite.
-fn given<'s, 'a>(alloc: Global, hyps: &'s [Hyp<'a>]) -> Result<Vec<Citation<'s>>, AllocError>
+fn given<'s, 'a>(alloc: Global, hyps: &'s [Hyp<'a>]) -> Result<Vec<Citation<'s, 'a>>, AllocError>
     ensures { IfOk result (λ v. map citation_of v.items ≡ given_by (hypotheses_held hyps.now)) }
 {
     let mut citations = Vec::with_capacity(alloc, hyps.len())?;
@@ -151,7 +155,7 @@ fn read_listed<'s, 'a>(
     bytes: &'a [u8],
     hyps: &'s [Hyp<'a>],
     listed: &[MmToken],
-    table: &mut Vec<Citation<'s>>,
+    table: &mut Vec<Citation<'s, 'a>>,
 ) -> Result<bool, AllocError>
     ensures { IfOk result (λ all. behind_items (map citation_of table.old.items) (listed_citations (held known.now.scopes.now) (hypotheses_held hyps.now) (words_of bytes.now listed.now)) ≡ (if all then Some (map citation_of table.new.items) else None)) }
 {
@@ -198,18 +202,27 @@ fn own_labels<'a>(alloc: Global, hyps: &[Hyp<'a>]) -> Result<BTreeMap<&'a [u8], 
 /// The steps that the letters of some tokens stand for: none exactly where they stand for none. The
 /// table has what the first numbers cite; the next numbers are those of the saved steps, in order.
 /// It takes time in the number of letters.
-pub(crate) fn read_letters<'a>(
+pub(crate) fn read_letters<'s, 'a>(
     alloc: Global,
-    table: Vec<Citation<'a>>,
+    table: Vec<Citation<'s, 'a>>,
     bytes: &[u8],
     tokens: &[MmToken],
-) -> Result<Option<Vec<Step<'a>>>, AllocError>
+) -> Result<Option<Vec<Step<'s, 'a>>>, AllocError>
     ensures { IfOk result (λ r. option_map steps_in r ≡ lettered_steps (map citation_of table.entry.items) (letters_of bytes.now tokens.now)) }
 {
-    let mut read = ReadSteps::new(alloc, table);
+    let mut read = ReadSteps::new(alloc, table, count_letters(tokens))?;
     if read.take_words(bytes, tokens)? {
         Ok(read.ended())
     } else {
         Ok(None)
     }
+}
+
+/// How many letters tokens have, which are at least as many as the steps that they stand for.
+fn count_letters(tokens: &[MmToken]) -> usize {
+    let mut count: usize = 0;
+    for token in tokens {
+        count = count.saturating_add(token.to.saturating_sub(token.from));
+    }
+    count
 }

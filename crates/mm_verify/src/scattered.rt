@@ -14,7 +14,7 @@ use mm_text::MmToken;
 pub(crate) fn are_scattered(bytes: &[u8], hyps: &[Hyp<'_>], labels: &[MmToken]) -> bool
     ensures { result ≡ true → clashes (labels_in (hypotheses_held hyps.now)) (words_of bytes.now labels.now) ≡ false }
 {
-    let mut marks = [false; 4096];
+    let mut marks = [false; 16384];
     mark_hypotheses(hyps, &mut marks);
     let mut at = labels.len();
     while at > 0 {
@@ -29,7 +29,7 @@ pub(crate) fn are_scattered(bytes: &[u8], hyps: &[Hyp<'_>], labels: &[MmToken]) 
 }
 
 /// Sets the marks of the labels of hypotheses.
-fn mark_hypotheses(hyps: &[Hyp<'_>], marks: &mut [bool; 4096])
+fn mark_hypotheses(hyps: &[Hyp<'_>], marks: &mut [bool; 16384])
     ensures { AreMarked (labels_in (hypotheses_held hyps.now)) marks.new }
 {
     for hyp in hyps {
@@ -41,11 +41,11 @@ fn mark_hypotheses(hyps: &[Hyp<'_>], marks: &mut [bool; 4096])
 /// The mark of a label, by its bytes.
 fn mark(label: &[u8]) -> usize
     ensures is { result ≡ mark_of label.now }
-    ensures within { result < 4096 }
+    ensures within { result < 16384 }
 {
     let mut sum: usize = 0;
     for byte in label {
-        sum = (sum * 1597 + *byte as usize) % 4096;
+        sum = (sum * 1597 + *byte as usize) % 16384;
     }
     sum
 }

@@ -1,5 +1,5 @@
 // A stack of expressions, which are lists of symbols, each symbol by its number.
-ghost use Rattle.std.specs.Prelude.{◌≡◌, ◌<◌, ◌≤◌, [], ◌∷◌, ◌++◌, length, take, drop, OnOk, OnErr, slice_index_or};
+ghost use Rattle.std.specs.Prelude.{◌≡◌, ◌<◌, ◌≤◌, [], ◌∷◌, ◌++◌, length, take, drop, IfOk, OnOk, OnErr, slice_index_or};
 ghost use Rattle.mm_verify.specs.Cut.{cut, start_of, AreEnds};
 
 use std::alloc::{AllocError, Global};
@@ -26,14 +26,14 @@ impl Model for Stack {
 }
 
 impl Stack {
-    /// Nothing.
-    pub(crate) fn new(alloc: Global) -> Stack
-        ensures { result ≡ [] }
+    /// Nothing, with room for what most proofs need.
+    pub(crate) fn new(alloc: Global) -> Result<Stack, AllocError>
+        ensures { IfOk result (λ s. s ≡ []) }
     {
-        Stack {
-            symbols: Vec::new(alloc),
-            ends: Vec::new(alloc),
-        }
+        Ok(Stack {
+            symbols: Vec::with_capacity(alloc, 1024)?,
+            ends: Vec::with_capacity(alloc, 64)?,
+        })
     }
 
     /// How many expressions there are.
@@ -71,6 +71,14 @@ impl Stack {
         self.symbols.extend_from_slice(expression)?;
         self.ends.push(self.symbols.len()).unwrap();
         Ok(())
+    }
+
+    /// Asks for room for one more expression of this length.
+    pub(crate) fn reserve(&mut self, length: usize) -> Result<(), AllocError>
+        ensures { self.new ≡ self.old }
+    {
+        self.ends.reserve(1)?;
+        self.symbols.reserve(length)
     }
 
     /// Keeps the lowest `n` expressions.

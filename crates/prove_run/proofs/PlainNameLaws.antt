@@ -6,8 +6,8 @@ use Rattle.std.specs.List.{list_all}
 use Rattle.mm_text.specs.Bytes.{Token}
 use Rattle.ground_rules.specs.declared.signature.Signature.{Signature}
 use Rattle.term_core.specs.Terms.{DomainValue}
-use Rattle.ml_image.specs.Tokens.{name_at, sort_token, symbol_token, value_token, hexadecimal, value_text, is_byte, is_value_at}
-use Rattle.ml_image.specs.Gained.{IsOwnToken, AreOwnTokens}
+use Rattle.ground_image.specs.Tokens.{name_at, sort_token, symbol_token, value_token, hexadecimal, value_text, is_byte, is_value_at}
+use Rattle.ground_image.specs.Gained.{IsOwnToken, AreOwnTokens}
 use Rattle.mm_claims.specs.Statements.{sort_name, symbol_name, value_name, is_name_byte, IsName}
 use Rattle.mm_claims.specs.Fitting.{AreNames}
 use Rattle.ml_pat.proofs.LeafLaws.{both_true, split_true}

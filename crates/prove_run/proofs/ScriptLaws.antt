@@ -11,10 +11,10 @@ use Rattle.ground_rules.specs.declared.signature.Signature.{Signature}
 use Rattle.ground_rules.specs.declared.rules.Program.{Program}
 use Rattle.ground_rules.specs.Rules.{RewriteRule}
 use Rattle.ground_rules.specs.ProgramView.{rewrite_rule}
-use Rattle.ml_image.specs.Gained.{HasGained}
+use Rattle.ground_image.specs.Gained.{HasGained}
 use Rattle.term_core.specs.Patterns.{Pattern as RulePattern}
 use Rattle.term_core.specs.RulePatterns.{plain_pattern}
-use Rattle.ml_image.specs.Images.{both, image_of, rule_image_of, HasImageAt, IsImageAt}
+use Rattle.ground_image.specs.Images.{both, image_of, rule_image_of, HasImageAt, IsImageAt}
 use Rattle.mm_claims.specs.Keeping.{Fits, axiom_at, with_stated}
 use Rattle.ml_kernel.specs.Theorems.{Theorem}
 use Rattle.std.specs.Global.{Vec}
@@ -22,15 +22,15 @@ use Rattle.std.specs.Option.{is_some}
 use Rattle.mm_claims.specs.Kept.{Kept}
 use Rattle.mm_claims.specs.Places.{IsStated, MayProve, StatesLemma}
 use Rattle.mm_claims.proofs.LaterLaws.{fits_later, stated_stays}
-use Rattle.mm_justify.proofs.Allowing.{theorem_has_only}
+use Rattle.ground_justify.proofs.Allowing.{theorem_has_only}
 use Rattle.ml_pat.specs.Leaves.{EachLeaf}
 use Rattle.mm_claims.specs.OverNames.{closed_over}
 use Rattle.mm_claims.specs.Blocks.{open_assertion}
 use Rattle.mm_claims.specs.ClaimVariables.{claim_of}
 use Rattle.mm_database.specs.Assertions.{assertions_of}
-use Rattle.mm_justify.specs.NoVariables.{HasNoVariable}
-use Rattle.ml_image.proofs.NamingLaws.{image_stays, rule_image_stays}
-use Rattle.mm_justify.proofs.ImageLeaves.{rule_image_is_closed}
+use Rattle.ground_justify.specs.NoVariables.{HasNoVariable}
+use Rattle.ground_image.proofs.NamingLaws.{image_stays, rule_image_stays}
+use Rattle.ground_justify.proofs.ImageLeaves.{rule_image_is_closed}
 use Rattle.prove_run.specs.declared.script.Script.{Script}
 use Rattle.prove_run.specs.Scripts.{HasStated, AreStated, IsSound, IsDeclared, Extends, Continues}
 use Rattle.prove_run.specs.Proving.{AreGroundAt, GainsTheorem}

@@ -4,10 +4,10 @@ use Rattle.term_core.specs.Patterns.{Pattern as RulePattern}
 use Rattle.term_core.specs.RulePatterns.{plain_pattern}
 use Rattle.ml_pat.specs.Patterns.{Pattern, imp, ev}
 use Rattle.ml_kernel.specs.Theorems.{Theorem}
-use Rattle.ml_image.specs.Images.{image_of}
+use Rattle.ground_image.specs.Images.{image_of}
 use Rattle.mm_claims.specs.Places.{IsStated}
-use Rattle.mm_justify.specs.Justifying.{Justifies}
-use Rattle.mm_justify.specs.NoVariables.{HasNoVariable}
+use Rattle.ground_justify.specs.Justifying.{Justifies}
+use Rattle.ground_justify.specs.NoVariables.{HasNoVariable}
 use Rattle.prove_run.specs.RunProof.{RunProof}
 use Rattle.prove_run.specs.declared.script.Script.{Script}
 use Rattle.prove_run.specs.declared.proof.Proof.TheInside.{Inside}

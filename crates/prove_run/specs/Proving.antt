@@ -5,8 +5,8 @@ use Rattle.term_core.specs.RulePatterns.{plain_pattern}
 use Rattle.ground_rules.specs.declared.rules.Rule.{Rule}
 use Rattle.ground_rules.specs.declared.rules.Program.{Program}
 use Rattle.mm_database.specs.Assertions.{Assertion, assertions_of}
-use Rattle.mm_justify.specs.Justifying.{Justifies}
-use Rattle.mm_justify.specs.NoVariables.{HasNoVariable}
+use Rattle.ground_justify.specs.Justifying.{Justifies}
+use Rattle.ground_justify.specs.NoVariables.{HasNoVariable}
 use Rattle.prove_run.specs.RunProof.{RunProof}
 
 -- a proof that a start reaches itself, by no step

@@ -6,13 +6,13 @@ use Rattle.term_core.specs.Patterns.{Pattern as RulePattern}
 use Rattle.ml_pat.specs.Patterns.{Pattern, imp, ev}
 use Rattle.ml_kernel.specs.declared.derivations.AxiomNo.{AxiomNo}
 use Rattle.ml_kernel.specs.Theorems.{Theorem}
-use Rattle.ml_image.specs.Images.{image_of, IsImageAt}
-use Rattle.ml_image.specs.Gained.{AreOwnTokens}
+use Rattle.ground_image.specs.Images.{image_of, IsImageAt}
+use Rattle.ground_image.specs.Gained.{AreOwnTokens}
 use Rattle.ml_pat.specs.Leaves.{EachLeaf}
 use Rattle.mm_claims.specs.OverNames.{closed_over}
 use Rattle.mm_claims.specs.Keeping.{Fits, axiom_at}
 use Rattle.mm_claims.specs.Places.{IsStated}
-use Rattle.mm_justify.specs.Justifying.{HasOnlyAxiomsOf, Justifies}
+use Rattle.ground_justify.specs.Justifying.{HasOnlyAxiomsOf, Justifies}
 use Rattle.prove_run.specs.declared.script.Script.{Script}
 
 -- the axiom with this number is the image of the rule at a place, and it was stated

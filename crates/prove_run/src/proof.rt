@@ -1,16 +1,16 @@
 // A proof of a run, step by step.
 ghost use Rattle.std.specs.Prelude.{◌≡◌, IfOk};
 ghost use Rattle.term_core.specs.RulePatterns.{plain_pattern};
-ghost use Rattle.ml_image.specs.Images.{HasImage, HasImageAt};
-ghost use Rattle.mm_justify.specs.NoVariables.{HasNoVariable};
+ghost use Rattle.ground_image.specs.Images.{HasImage, HasImageAt};
+ghost use Rattle.ground_justify.specs.NoVariables.{HasNoVariable};
 ghost use Rattle.prove_run.specs.PlainNames.{HasPlainNames};
 ghost use Rattle.prove_run.specs.Proving.{AreGroundAt, Begins, GainsTheorem, IsAtRule, IsJustified, IsUsed, StepsBy};
 
 use crate::script::Script;
+use ground_justify::image_laws;
 use ground_rules::Program;
 use ml_derived::{free_of_top, reach_here, reach_step};
 use ml_kernel::{Lemma, Thm};
-use mm_justify::image_laws;
 use std::alloc::{AllocError, Global};
 use std::marker::Model;
 use term_core::RulePat;

@@ -1,18 +1,18 @@
 // What is written of a proof: names, axioms and theorems, and the text that states them.
 ghost use Rattle.std.specs.Prelude.{◌≡◌, IfOk, OnOk, Some, false, length, replicate, slice_get, slice_set, true};
 ghost use Rattle.term_core.specs.RulePatterns.{plain_pattern};
-ghost use Rattle.ml_image.specs.Images.{HasImage, HasImageAt, IsImageAt, image_of};
+ghost use Rattle.ground_image.specs.Images.{HasImage, HasImageAt, IsImageAt, image_of};
 ghost use Rattle.mm_claims.specs.Places.{IsStated, MayProve};
 ghost use Rattle.prove_run.specs.PlainNames.{HasPlainNames};
 ghost use Rattle.prove_run.specs.Proving.{AreGroundAt, GainsTheorem};
 ghost use Rattle.prove_run.specs.Scripts.{Continues, HasStated, IsDeclared, IsSound, Justified, rules_used};
 
+use ground_image::{naming_laws, rule_image, term_image};
+use ground_justify::{image_laws, justifying_laws};
 use ground_rules::Program;
-use ml_image::{naming_laws, rule_image, term_image};
 use ml_kernel::{AxiomNo, Lemma, Theory, Thm};
 use ml_pat::{MPat, Names};
 use mm_claims::{closed_laws, later_laws};
-use mm_justify::{image_laws, justifying_laws};
 use mm_render::Renderer;
 use std::alloc::{AllocError, Global};
 use term_core::RulePat;

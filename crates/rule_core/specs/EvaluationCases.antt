@@ -109,7 +109,7 @@ pub record TriedIntegers (sig : Signature) : Type 0 where
 -- ---- a function without arguments, of three forms: no equation, a value, and a constructor
 
 abbrev pub always : Pattern → Equation
-always right = record { arguments = no_pattern; condition = None; right = right; variables = []; priority = 50; place = 0 }
+always right = record { parameters = 0; arguments = no_pattern; condition = None; right = right; variables = []; priority = 50; place = 0 }
 
 abbrev pub defined_by : Signature → List Equation → RewriteTheory
 defined_by sig es = record { sig = sig; rules = []; equations = es ∷ [] }
@@ -203,6 +203,7 @@ pub record DeclaresLists (sig : Signature) : Type 0 where
 -- nothing in front of a list is the list
 abbrev pub append_empty : Equation
 append_empty = record {
+  parameters = 2;
   arguments = two (application 1 no_pattern) (variable 0);
   condition = None;
   right = variable 0;
@@ -214,6 +215,7 @@ append_empty = record {
 -- an item and a list in front of another one are the item in front of both lists
 abbrev pub append_more : Equation
 append_more = record {
+  parameters = 2;
   arguments = two (application 2 (two (variable 0) (variable 1))) (variable 2);
   condition = None;
   right = application 2 (two (variable 0) (call 0 [] (two (variable 1) (variable 2))));

@@ -30,6 +30,7 @@ rewrite_rules rules = map rewrite_rule rules
 
 abbrev pub function_equation : Equation → plain.Equation
 function_equation e = record {
+  parameters = e.params;
   arguments = plain_patterns e.args.items;
   condition = option_map plain_pattern e.cond;
   right = plain_pattern e.right;

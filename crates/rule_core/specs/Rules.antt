@@ -14,8 +14,10 @@ pub record RewriteRule : Type 0 where
   pub priority : ℕ
   pub place : ℕ
 
--- An equation gives a function, at the instances of these arguments, the value of its right side; else as a rule.
+-- An equation gives a function, at the instances of these arguments, the value of its right side; else as a rule. Its
+-- text may give the function so many parameters, of which a guard says what they match; 0 where it has none.
 pub record Equation : Type 0 where
+  pub parameters : ℕ
   pub arguments : Patterns
   pub condition : Option Pattern
   pub right : Pattern

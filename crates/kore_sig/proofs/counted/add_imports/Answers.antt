@@ -1,4 +1,4 @@
-use Rattle.std.proofs.Common.{rules, arith, ◌<◌, ◌++◌, ◌∷◌, [], length, ap, sym, ◌∙◌, map, take}
+use Rattle.std.proofs.Common.{arith, ◌<◌, ◌++◌, ◌∷◌, [], length, ap, sym, ◌∙◌, map, take}
 use Rattle.std.specs.Prelude.{filter_map}
 use Rattle.std.proofs.lemmas.List.{append_assoc}
 use Rattle.kore_ast.specs.Plain.{plain_declaration}

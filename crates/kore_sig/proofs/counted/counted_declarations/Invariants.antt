@@ -1,10 +1,10 @@
-use Rattle.std.proofs.Common.{◌≡◌, ◌++◌, [], map, take, drop}
-use Rattle.kore_ast.specs.Plain.{plain_module}
-use Rattle.kore_sig.specs.Placing.{plain_placed, names_of_modules}
-use Rattle.kore_sig.specs.SignatureFaults.{placed}
+use Rattle.std.proofs.Common.{◌≡◌, map, take}
+use Rattle.std.specs.Borrow.{Bor}
+use Rattle.kore_ast.specs.declared.tree.Decl.{Decl}
+use Rattle.kore_ast.specs.Plain.{plain_declaration}
+use Rattle.kore_sig.specs.declared.counted.Placed.{Placed}
 use Rattle.kore_sig.proofs.counted.counted_declarations.Given as goal
 
-abbrev pub invariant-loop-i : goal.invariant-loop-i
-invariant-loop-i l =
-    map (plain_placed (names_of_modules l.module-items)) l.placed.items ++ placed (take l.i (names_of_modules l.module-items)) (map plain_module (drop l.i l.module-items))
-    ≡ placed [] (map plain_module l.module-items)
+abbrev pub invariant-loop-one : goal.invariant-loop-one
+invariant-loop-one l =
+    map (λ (d : Bor Decl). plain_declaration d.now) l.decls.items ≡ map (λ (p : Placed). plain_declaration p.decl.now) (take l.one-index l.one-items)

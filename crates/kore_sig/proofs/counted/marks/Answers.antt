@@ -1,11 +1,9 @@
-use Rattle.std.proofs.Common.{◌≡◌, ◌-◌, ◌+◌, rules, arith, ◌<◌, ◌≤◌, ◌++◌, ◌∷◌, Bool, [], length, ap, sym, ◌∙◌, map, drop, reverse, subst, List, refl, eq-eqb}
+use Rattle.std.proofs.Common.{◌≡◌, ◌-◌, ◌+◌, arith, ◌<◌, ◌++◌, ◌∷◌, length, ap, sym, ◌∙◌, map, drop, reverse, refl, eq-eqb}
 use Rattle.std.specs.Prelude.{flat_map, filter_map}
 use Rattle.std.proofs.lemmas.List.{length-drop, length-map, drop_all}
-use Rattle.kore_text.specs.Trees.{ModuleTree}
 use Rattle.kore_ast.specs.Plain.{plain_module, plain_declaration}
 use Rattle.kore_sig.specs.CountedModules.{import_name, imports_of, counts, counted}
 use Rattle.kore_sig.specs.Placing.{marks_of}
-use Rattle.kore_sig.specs.Sets.{Knows}
 use Rattle.kore_sig.proofs.CountedLaws.{behind, counts_main, counts_imported, marks_more, counted_with, counted_without}
 use Rattle.kore_sig.proofs.SetLaws.{knows_same, knows_swap}
 use Rattle.kore_sig.proofs.counted.marks.Goals as goal

@@ -1,4 +1,4 @@
-use Rattle.std.proofs.Common.{◌≡◌, ◌∙◌, ap, sym, ℕ, List, Some, None}
+use Rattle.std.proofs.Common.{◌∙◌, ap, sym, ℕ, List}
 use Rattle.rule_core.specs.Named.{number_of}
 use Rattle.kore_sig.proofs.FaultLaws.{earlier_some, earlier_none}
 use Rattle.kore_sig.proofs.declaring.is_earlier.Goals as goal

@@ -1,12 +1,11 @@
-use Rattle.std.proofs.Common.{◌≡◌, ◌+◌, ◌<◌, ◌++◌, ◌∷◌, [], arith, ap, sym, ◌∙◌, List, ℕ, map, take, length, Option, None, Some}
+use Rattle.std.proofs.Common.{◌≡◌, ◌+◌, ◌<◌, ◌++◌, ◌∷◌, [], arith, ap, sym, ◌∙◌, List, ℕ, map, take, length, Option}
 use Rattle.std.specs.List.{cons_option}
 use Rattle.std.specs.Prelude.{filter_map, option_copied}
 use Rattle.std.proofs.lemmas.List.{append-nil}
 use Rattle.kore_text.specs.Trees.{Declaration, AxiomDeclaration}
-use Rattle.kore_ast.specs.Plain.{plain_declaration, plain_axiom_decl}
+use Rattle.kore_ast.specs.Plain.{plain_declaration}
 use Rattle.kore_ast.specs.declared.tree.Decl.{Decl}
 use Rattle.kore_sig.specs.declared.counted.Placed.{Placed}
-use Rattle.kore_sig.specs.Declarations.{axiom_declared}
 use Rattle.kore_sig.specs.Knowing.{ac_in}
 use Rattle.kore_sig.specs.SymbolKinds.{said_ac}
 use Rattle.kore_sig.proofs.KnowingLaws.{ac_push}

@@ -1,4 +1,4 @@
-use Rattle.std.proofs.Common.{◌≡◌, ap, sym, ◌∙◌, cond, ◌++◌, ◌∷◌, [], List, ℕ, map, Option, string_bytes}
+use Rattle.std.proofs.Common.{◌≡◌, ap, ◌∙◌, cond, ◌++◌, ◌∷◌, [], List, ℕ, map, string_bytes}
 use Rattle.std.specs.Prelude.{is_none}
 use Rattle.rule_core.specs.Named.{number_of}
 use Rattle.rule_core.specs.declared.signature.SortInfo.{SortInfo}

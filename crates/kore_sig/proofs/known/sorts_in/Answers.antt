@@ -1,5 +1,4 @@
-use Rattle.std.proofs.Common.{◌≡◌, ◌+◌, ◌<◌, ◌++◌, ◌∷◌, [], arith, ap, sym, ◌∙◌, List, ℕ, map, take, length, subst}
-use Rattle.rule_core.specs.declared.signature.SortInfo.{SortInfo}
+use Rattle.std.proofs.Common.{◌≡◌, ◌+◌, ◌<◌, ◌++◌, ◌∷◌, [], arith, ap, ◌∙◌, map, take, length}
 use Rattle.kore_text.specs.Trees.{Declaration}
 use Rattle.kore_ast.specs.Plain.{plain_declaration}
 use Rattle.kore_sig.specs.declared.counted.Placed.{Placed}

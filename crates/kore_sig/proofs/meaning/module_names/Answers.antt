@@ -1,16 +1,13 @@
-use Rattle.std.proofs.Common.{◌≡◌, ◌+◌, ◌<◌, ◌++◌, ◌∷◌, [], arith, ap, sym, ◌∙◌, List, ℕ, map, take, drop, length, get_or, refl, Option, None, Some, not, Bool, true, false, cond}
+use Rattle.std.proofs.Common.{◌≡◌, ◌+◌, ◌<◌, ◌++◌, ◌∷◌, [], arith, ap, sym, ◌∙◌, List, ℕ, map, drop, length, get_or, refl, not, Bool, true, false, cond}
 use Rattle.std.specs.Option.{option_or}
-use Rattle.std.specs.Prelude.{is_none, is_some}
+use Rattle.std.specs.Prelude.{is_some}
 use Rattle.rule_core.specs.Named.{number_of, names_of}
-use Rattle.kore_text.specs.Trees.{ModuleTree}
 use Rattle.kore_ast.specs.declared.tree.Module.{Module}
 use Rattle.kore_ast.specs.Plain.{plain_module}
 use Rattle.kore_sig.specs.FirstFault.{when}
 use Rattle.kore_sig.specs.Names.{is_among}
 use Rattle.kore_sig.specs.Naming.{first_module}
 use Rattle.kore_sig.specs.Noted.{first_by_number}
-use Rattle.kore_sig.specs.Placing.{names_of_modules}
-use Rattle.kore_sig.specs.Refusals.{fault_at}
 use Rattle.kore_sig.proofs.ListLaws.{drop_step, map_step}
 use Rattle.kore_sig.proofs.SetLaws.{number_among, names_push}
 use Rattle.kore_sig.proofs.meaning.module_names.Goals as goal

@@ -1,4 +1,4 @@
-use Rattle.std.proofs.Common.{◌≡◌, [], ap, sym, ◌∙◌, List, ℕ, map, Option, None, Some, subst, inl, inr, refl}
+use Rattle.std.proofs.Common.{◌≡◌, [], ap, sym, ◌∙◌, List, ℕ, map, None, Some, subst, inl, inr, refl}
 use Rattle.std.specs.List.{AllZip}
 use Rattle.std.proofs.lemmas.Result.{err_from_is_err_and}
 use Rattle.rule_core.specs.Named.{names_of, AreDistinct}
@@ -7,13 +7,12 @@ use Rattle.kore_ast.specs.declared.tree.Module.{Module}
 use Rattle.kore_ast.specs.Plain.{plain_definition, plain_module, plain_declaration}
 use Rattle.kore_sig.specs.CountedModules.{counted_declarations}
 use Rattle.kore_sig.specs.Declaring.{AreSymbols, first_declared}
-use Rattle.kore_sig.specs.FirstFault.{Fault}
 use Rattle.kore_sig.specs.Knowing.{entries_in, IsKnown}
 use Rattle.kore_sig.specs.Naming.{first_module}
 use Rattle.kore_sig.specs.Ordering.{FirstFrom, pairs_in}
 use Rattle.kore_sig.specs.Placing.{plain_placed, names_of_modules}
-use Rattle.kore_sig.specs.SignatureFaults.{Placed, FirstOfSignature, nothing_declared, placed}
-use Rattle.kore_sig.specs.Signatures.{IsPairOf, IsSignatureOf}
+use Rattle.kore_sig.specs.SignatureFaults.{FirstOfSignature, nothing_declared, placed}
+use Rattle.kore_sig.specs.Signatures.{IsPairOf}
 use Rattle.kore_sig.specs.SortReferences.{sort_entries}
 use Rattle.kore_sig.specs.declared.counted.Placed.{Placed as PlacedDecl}
 use Rattle.kore_sig.proofs.OrderLaws.{refuses_some}

@@ -1,4 +1,4 @@
-use Rattle.std.proofs.Common.{◌≡◌, ◌∙◌, ap, Option, ℕ, List}
+use Rattle.std.proofs.Common.{◌∙◌, ap, ℕ, List}
 use Rattle.std.specs.Prelude.{is_some}
 use Rattle.rule_core.specs.Named.{number_of}
 use Rattle.kore_sig.proofs.SetLaws.{number_among}

@@ -1,7 +1,5 @@
-use Rattle.std.proofs.Common.{◌≡◌, ◌∙◌, ap, sym, ℕ, List, [], ◌∷◌, ◌++◌, Some, None, arith, inl, subst, Bool, true, false, cond, min}
-use Rattle.rule_core.specs.Subsorts.{HasNoCycle}
+use Rattle.std.proofs.Common.{◌∙◌, ap, sym, ℕ, [], ◌∷◌, ◌++◌, arith, inl, Bool, cond, min}
 use Rattle.kore_ast.specs.Plain.{plain_sort}
-use Rattle.kore_sig.specs.Declarations.{SubsortPair}
 use Rattle.kore_sig.specs.Refusals.{fault_at}
 use Rattle.kore_sig.specs.SortReferences.{sort_place}
 use Rattle.kore_sig.proofs.PairLaws.{number_of_sort, lower_fault, upper_fault, earlier_fault, first_unknown_sort, first_cycle, passes_pair}

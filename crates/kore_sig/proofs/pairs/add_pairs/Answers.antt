@@ -1,16 +1,14 @@
-use Rattle.std.proofs.Common.{◌≡◌, ◌+◌, ◌<◌, ◌++◌, ◌∷◌, [], arith, ap, sym, ◌∙◌, List, ℕ, map, take, drop, get_or, length, Option, None, Some, subst}
+use Rattle.std.proofs.Common.{◌≡◌, ◌+◌, ◌<◌, ◌++◌, ◌∷◌, [], arith, ap, sym, ◌∙◌, List, map, take, drop, get_or, length, Option, subst}
 use Rattle.std.specs.List.{cons_option}
-use Rattle.std.specs.Prelude.{option_map}
 use Rattle.std.proofs.lemmas.Result.{err_from_is_err_and}
-use Rattle.std.proofs.lemmas.List.{append-nil, append_assoc, take-append-drop, map-append}
+use Rattle.std.proofs.lemmas.List.{append-nil, append_assoc}
 use Rattle.kore_text.specs.Trees.{SortTree, PatternTree}
 use Rattle.kore_ast.specs.declared.tree.Pat.{Pat}
 use Rattle.kore_ast.specs.Plain.{plain_pattern, plain_sort, plain_axiom_decl}
-use Rattle.kore_sig.specs.Attributes.{subsort_pairs, subsort_sorts}
+use Rattle.kore_sig.specs.Attributes.{subsort_pairs}
 use Rattle.kore_sig.specs.Declarations.{SubsortPair, pair_at, pairs_of_axiom}
-use Rattle.kore_sig.specs.Ordering.{FirstFrom, Passes}
-use Rattle.kore_sig.specs.Refusals.{Refuses}
-use Rattle.kore_sig.proofs.ListLaws.{map_step, drop_step, none_from}
+use Rattle.kore_sig.specs.Ordering.{FirstFrom}
+use Rattle.kore_sig.proofs.ListLaws.{map_step}
 use Rattle.kore_sig.proofs.PairLaws.{passes_then, passes_at, attribute_pairs, split_pairs, refuses_map}
 use Rattle.kore_sig.proofs.pairs.add_pairs.Goals as goal
 use Rattle.kore_sig.proofs.pairs.add_pairs.Goals.{in-Some+in_ok-add_pair, in_default}

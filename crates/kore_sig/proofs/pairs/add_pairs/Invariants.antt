@@ -1,5 +1,4 @@
-use Rattle.std.proofs.Common.{map, take, ℕ}
-use Rattle.kore_text.specs.Trees.{SortTree}
+use Rattle.std.proofs.Common.{map, take}
 use Rattle.kore_ast.specs.Plain.{plain_pattern}
 use Rattle.kore_sig.specs.Attributes.{subsort_pairs}
 use Rattle.kore_sig.specs.Declarations.{pair_at}

@@ -1,14 +1,14 @@
-use Rattle.std.proofs.Common.{◌≡◌, ◌+◌, ◌<◌, ◌++◌, ◌∷◌, [], arith, ap, sym, ◌∙◌, List, ℕ, map, take, drop, length, Option, None, Some, subst, refl}
+use Rattle.std.proofs.Common.{◌≡◌, ◌+◌, ◌<◌, ◌++◌, ◌∷◌, [], arith, ap, sym, ◌∙◌, List, map, take, drop, length, Option, None, subst, refl}
 use Rattle.std.specs.List.{cons_option, AllZip}
 use Rattle.kore_sig.specs.Signatures.{IsPairOf}
 use Rattle.std.specs.Prelude.{flat_map}
 use Rattle.std.proofs.lemmas.Result.{err_from_is_err_and}
-use Rattle.std.proofs.lemmas.List.{append-nil, append_assoc, drop_all, take_all}
+use Rattle.std.proofs.lemmas.List.{append-nil, take_all}
 use Rattle.kore_text.specs.Trees.{Declaration, AxiomDeclaration}
 use Rattle.kore_ast.specs.declared.tree.Decl.{Decl}
 use Rattle.kore_ast.specs.Plain.{plain_declaration, plain_axiom_decl}
 use Rattle.kore_sig.specs.Declarations.{SubsortPair, pairs_of_axiom}
-use Rattle.kore_sig.specs.Ordering.{FirstFrom, Passes, pairs_in}
+use Rattle.kore_sig.specs.Ordering.{FirstFrom, pairs_in}
 use Rattle.kore_sig.specs.declared.counted.Placed.{Placed}
 use Rattle.kore_sig.proofs.ListLaws.{map_step}
 use Rattle.kore_sig.proofs.NotDeclared.{no_axiom}

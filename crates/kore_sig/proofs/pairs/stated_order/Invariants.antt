@@ -1,4 +1,4 @@
-use Rattle.std.proofs.Common.{◌≡◌, [], map, take, drop}
+use Rattle.std.proofs.Common.{[], map, take}
 use Rattle.kore_ast.specs.Plain.{plain_declaration}
 use Rattle.kore_sig.specs.declared.counted.Placed.{Placed}
 use Rattle.kore_sig.specs.Ordering.{Passes, pairs_in}

@@ -1,4 +1,4 @@
-use Rattle.std.proofs.Common.{◌≡◌, [], List, ap, sym, ◌∙◌, arith, drop, map, Some}
+use Rattle.std.proofs.Common.{◌≡◌, [], List, ap, sym, ◌∙◌, arith, drop, map}
 use Rattle.std.specs.Prelude.{flat_map}
 use Rattle.std.proofs.lemmas.List.{drop_all}
 use Rattle.kore_ast.specs.declared.tree.Sort.{Sort}

@@ -1,8 +1,5 @@
-use Rattle.std.proofs.Common.{◌≡◌, ◌<◌, ◌∷◌, [], List, ℕ, length, ap, sym, ◌∙◌, arith, Some, Fits, w32}
+use Rattle.std.proofs.Common.{◌≡◌, ◌<◌, ◌∷◌, [], List, ℕ, length, sym, arith, Some}
 use Rattle.std.specs.Str.{bytes_eq}
-use Rattle.rule_core.specs.Named.{number_of}
-use Rattle.kore_ast.specs.declared.tree.Sort.{Sort}
-use Rattle.kore_ast.specs.Plain.{plain_sort}
 use Rattle.rule_core.specs.declared.signature.SortInfo.{SortInfo}
 use Rattle.kore_text.specs.Trees.{SortTree}
 use Rattle.kore_sig.specs.SortReferences.{declared_number}

@@ -1,15 +1,12 @@
-use Rattle.std.proofs.Common.{◌≡◌, ◌∙◌, ◌++◌, ◌∷◌, [], ap, sym, ℕ, List, None, subst, string_bytes, cond}
+use Rattle.std.proofs.Common.{◌≡◌, ◌∙◌, ◌++◌, ◌∷◌, [], ap, sym, ℕ, List, subst, string_bytes, cond}
 use Rattle.std.specs.Prelude.{is_none}
 use Rattle.rule_core.specs.Named.{number_of, names_of}
-use Rattle.rule_core.specs.declared.signature.SymInfo.{SymInfo}
 use Rattle.kore_ast.specs.declared.tree.Decl.{Decl}
-use Rattle.kore_ast.specs.declared.tree.SortDecl.{SortDecl}
-use Rattle.kore_ast.specs.declared.tree.SymbolDecl.{SymbolDecl}
 use Rattle.kore_ast.specs.Plain.{plain_declaration, plain_sort_decl, plain_symbol_decl}
 use Rattle.kore_sig.specs.Declaring.{Grows, before_of}
 use Rattle.kore_sig.specs.Noted.{first_by_number}
 use Rattle.kore_sig.specs.SignatureFaults.{declaration_faults}
-use Rattle.kore_sig.proofs.DeclaringLaws.{IsClearSymbol, clear_symbol, clear_sort, added, grows_sort, grows_symbol, grows_other}
+use Rattle.kore_sig.proofs.DeclaringLaws.{clear_symbol, clear_sort, added, grows_sort, grows_symbol, grows_other}
 use Rattle.kore_sig.proofs.symbols.declare.Goals as goal
 
 pub symbol_info-requires-clause-args : goal.symbol_info-requires-clause-args

@@ -1,5 +1,5 @@
-use Rattle.std.proofs.Common.{◌≡◌, ◌+◌, ◌<◌, ◌++◌, ◌∷◌, [], arith, ap, sym, ◌∙◌, List, ℕ, map, length, None, Some, Option}
-use Rattle.std.specs.Prelude.{is_some, flat_map}
+use Rattle.std.proofs.Common.{◌≡◌, ◌<◌, [], arith, ap, sym, length, None, Option}
+use Rattle.std.specs.Prelude.{is_some}
 use Rattle.rule_core.specs.declared.signature.SortRef.{SortRef}
 use Rattle.kore_ast.specs.Plain.{plain_sort}
 use Rattle.kore_sig.specs.SignatureFaults.{reference_faults}

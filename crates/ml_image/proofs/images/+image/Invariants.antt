@@ -2,7 +2,7 @@ use Rattle.std.proofs.Common.{◌≡◌, ◌+◌, ◌*◌, Some, take}
 use Rattle.term_core.specs.RulePatterns.{plain_pattern}
 use Rattle.term_core.specs.PatternLists.{plain_patterns}
 use Rattle.term_core.proofs.PatternLaws.{depth, depths}
-use Rattle.ml_image.specs.Images.{applied}
+use Rattle.ml_image.specs.Images.{applied, all_shifted}
 use Rattle.ml_image.specs.Gained.{HasGained}
 use Rattle.ml_image.proofs.images.+image.Given as goal
 
@@ -13,4 +13,4 @@ abbrev pub decreases-applied : goal.decreases-applied
 decreases-applied l = 2 * depths (plain_patterns l.args.now) + 1
 
 abbrev pub invariant-applied-loop-arg : goal.invariant-applied-loop-arg
-invariant-applied-loop-arg l = (applied l.sig l.names (Some l.initial.made) (plain_patterns (take l.arg-index l.args)) ≡ Some l.made) × HasGained l.sig l.initial.names l.names
+invariant-applied-loop-arg l = (applied l.sig l.names (Some l.initial.made) (all_shifted l.first (plain_patterns (take l.arg-index l.args))) ≡ Some l.made) × HasGained l.sig l.initial.names l.names

@@ -1,7 +1,7 @@
 use Rattle.std.proofs.Common.{◌≡◌, ℕ, Option, Some, IfOk, [], ◌∷◌, sym, ◌∙◌, ap, subst, rules}
 use Rattle.ml_pat.specs.Patterns.{Pattern}
 use Rattle.ml_image.specs.Images.{at_sorts, symbol_image, some_symbol_image, injection_symbol, injection_image}
-use Rattle.ml_image.proofs.ImageLaws.{gained-twice, gained-symbol}
+use Rattle.ml_image.proofs.ImageLaws.{gained_twice, gained-symbol}
 use Rattle.ml_image.proofs.images.injection_image.Goals as goal
 
 pub returns-clause-image : goal.returns-clause-image
@@ -15,4 +15,4 @@ returns-clause-image c =
     subst (λ (o : Option Pattern). IfOk c.at_sorts.result (λ p. o ≡ Some p)) (sym whole) c.at_sorts.ensures.image
 
 pub returns-clause-names : goal.returns-clause-names
-returns-clause-names c = gained-twice _ _ _ _ c.head_image.ensures.names c.at_sorts.ensures.names
+returns-clause-names c = gained_twice _ _ _ _ c.head_image.ensures.names c.at_sorts.ensures.names

@@ -1,6 +1,6 @@
 use Rattle.std.proofs.Common.{◌≡◌, ◌+◌, ◌<◌, ℕ, Bool, true, false, cond, List, Some, drop, length, sym, ◌∙◌, ap, arith, rules}
 use Rattle.std.specs.List.{position_from}
-use Rattle.ground_rules.specs.declared.signature.SymInfo.{SymInfo}
+use Rattle.rule_core.specs.declared.signature.SymInfo.{SymInfo}
 use Rattle.ml_image.specs.Images.{is_injection}
 use Rattle.ml_image.proofs.ImageLaws.{injection-step}
 use Rattle.ml_image.proofs.images.injection_symbol.Goals as goal

@@ -1,6 +1,6 @@
 use Rattle.std.proofs.Common.{◌≡◌, ℕ, List, drop}
 use Rattle.std.specs.List.{position_from}
-use Rattle.ground_rules.specs.declared.signature.SymInfo.{SymInfo}
+use Rattle.rule_core.specs.declared.signature.SymInfo.{SymInfo}
 use Rattle.ml_image.specs.Images.{is_injection, injection_symbol}
 use Rattle.ml_image.proofs.images.injection_symbol.Given as goal
 

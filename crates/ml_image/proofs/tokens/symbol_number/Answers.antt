@@ -1,5 +1,6 @@
-use Rattle.std.proofs.Common.{◌≡◌, List, ℕ, Some, Option, ap, ◌∙◌, rules, inl, inr}
+use Rattle.std.proofs.Common.{◌≡◌, List, ℕ, Some, Option, ap, ◌∙◌, rules}
 use Rattle.ml_image.specs.Tokens.{token_of_symbol, numbered}
+use Rattle.ml_image.specs.Gained.{of_symbol}
 use Rattle.ml_image.proofs.ImageLaws.{number_of-numbered, gained-numbered}
 use Rattle.ml_image.proofs.tokens.symbol_number.Goals as goal
 
@@ -11,4 +12,4 @@ returns-clause-number c =
 pub returns-clause-names : goal.returns-clause-names
 returns-clause-names c =
     let token : token_of_symbol c.args.sig.now c.args.symbol ≡ Some c.as_str.result.now = search rules in
-    gained-numbered c.args.sig.now c.args.names.now c.number.new.self c.as_str.result.now c.in_ok-number-in-Some.field-0 (inr (inl (c.args.symbol, token))) c.in_ok-number-in-Some.ensures.number
+    gained-numbered c.args.sig.now c.args.names.now c.number.new.self c.as_str.result.now c.in_ok-number-in-Some.field-0 (of_symbol c.args.symbol token) c.in_ok-number-in-Some.ensures.number

@@ -1,6 +1,7 @@
-use Rattle.std.proofs.Common.{◌≡◌, List, ℕ, Some, Option, ap, ◌∙◌, rules, inr}
+use Rattle.std.proofs.Common.{◌≡◌, List, ℕ, Some, Option, ap, ◌∙◌, rules}
 use Rattle.term_core.specs.Values.{value_of}
 use Rattle.ml_image.specs.Tokens.{token_of_value, numbered}
+use Rattle.ml_image.specs.Gained.{of_value}
 use Rattle.ml_image.proofs.ImageLaws.{number_of-numbered, gained-numbered}
 use Rattle.ml_image.proofs.tokens.value_number.Goals as goal
 
@@ -12,4 +13,4 @@ returns-clause-number c =
 pub returns-clause-names : goal.returns-clause-names
 returns-clause-names c =
     let token : token_of_value c.args.sig.now c.args.sort.0 (value_of c.args.value.now) ≡ Some c.as_str.result.now = search rules in
-    gained-numbered c.args.sig.now c.args.names.now c.number.new.self c.as_str.result.now c.in_ok-number-in-Some.field-0 (inr (inr (c.args.sort.0, (value_of c.args.value.now, (c.requires.value, token))))) c.in_ok-number-in-Some.ensures.number
+    gained-numbered c.args.sig.now c.args.names.now c.number.new.self c.as_str.result.now c.in_ok-number-in-Some.field-0 (of_value c.args.sort.0 (value_of c.args.value.now) c.requires token) c.in_ok-number-in-Some.ensures.number

@@ -1,3 +1,5 @@
+use Rattle.mm_justify.proofs.ImageTexts.{tried_images}
+use Rattle.mm_justify.proofs.FrameCases.{tried_frames}
 use Rattle.mm_justify.proofs.SmallTexts.{small_justifies, conclusion_is_no_axiom}
 use Rattle.mm_justify.proofs.laws.tried.Goals as goal
 
@@ -6,3 +8,9 @@ returns-clause-justifies a = small_justifies
 
 pub returns-clause-refuses : goal.returns-clause-refuses
 returns-clause-refuses a = conclusion_is_no_axiom
+
+pub returns-clause-frames : goal.returns-clause-frames
+returns-clause-frames a = tried_frames
+
+pub returns-clause-images : goal.returns-clause-images
+returns-clause-images a = tried_images

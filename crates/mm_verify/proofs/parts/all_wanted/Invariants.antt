@@ -1,6 +1,6 @@
 use Rattle.std.specs.Prelude.{◌≡◌, flat_map, take}
 use Rattle.mm_frame.specs.FramesHeld.{hypotheses_held}
-use Rattle.mm_verify.specs.Places.{AreLocated}
+use Rattle.mm_verify.specs.Locating.{AreLocated}
 use Rattle.mm_verify.specs.Resolved.{hypotheses_of, parts_in}
 use Rattle.mm_verify.proofs.parts.all_wanted.Given as goal
 

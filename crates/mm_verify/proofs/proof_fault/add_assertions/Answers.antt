@@ -1,7 +1,7 @@
 use Rattle.std.proofs.Common.{rules, ◌≡◌, ◌<◌, ◌++◌, ◌∷◌, [], List, length, take, map, get_or, subst, sym}
 use Rattle.mm_frame.specs.Held.{held}
-use Rattle.mm_verify.specs.declared.assertion.Assertion.{Assertion}
-use Rattle.mm_verify.specs.AssertionView.{assertion_frame}
+use Rattle.mm_verify.specs.declared.kept.Kept.{Kept}
+use Rattle.mm_verify.specs.KeptView.{kept_frame}
 use Rattle.mm_verify.proofs.MoreFrames.{more_frames}
 use Rattle.mm_verify.proofs.proof_fault.add_assertions.Goals as goal
 
@@ -10,5 +10,5 @@ loop-frames-preserved c =
     let pushed : c.push.new.self.items ≡ c.loop-frames.assertions.items ++ c.in_ok-of.field-0 ∷ [] = search rules in
     let lt : length c.loop-frames.assertions.items < length c.frames-frames.result.now = search rules in
     let at : c.index-frames-len.result ≡ get_or c.frames-frames.result.now (length c.loop-frames.assertions.items) c.index-frames-len.result = search rules in
-    subst (λ (xs : List Assertion). map assertion_frame xs ≡ take (length xs) (held c.args.scopes.now).frames) (sym pushed)
+    subst (λ (xs : List Kept). map kept_frame xs ≡ take (length xs) (held c.args.scopes.now).frames) (sym pushed)
     (more_frames c.loop-frames.assertions.items c.in_ok-of.field-0 c.frames-frames.result.now (held c.args.scopes.now).frames c.index-frames-len.result c.frames-frames.ensures c.loop-frames.invariant lt at c.in_ok-of.ensures)

@@ -8,7 +8,7 @@ use Rattle.mm_verify.proofs.scattered.are_scattered.Given as goal
 
 abbrev pub invariant-loop-at : goal.invariant-loop-at
 invariant-loop-at l = record {
-  room : length l.marks ≡ 4096;
+  room : length l.marks ≡ 16384;
   within : l.at ≤ length l.labels;
   tail : clashes (labels_in (hypotheses_held l.hyps)) (words_of l.bytes (drop l.at l.labels)) ≡ false;
   marked : (t : Token) → slice_index_or l.marks (mark_of t) false ≡ false → (has_token (labels_in (hypotheses_held l.hyps)) t || has_token (words_of l.bytes (drop l.at l.labels)) t) ≡ false;

@@ -1,6 +1,7 @@
 use Rattle.std.proofs.Common.{◌∙◌, ap, subst, sym, refl, List, drop, length}
 use Rattle.std.specs.Prelude.{All}
 use Rattle.std.specs.Global.{Vec}
+use Rattle.std.proofs.lemmas.Result.{IfOk-weaker}
 use Rattle.mm_verify.specs.declared.parts.Part.{Part}
 use Rattle.mm_verify.specs.Places.{parts_of}
 use Rattle.mm_verify.specs.Resolved.{hypotheses_of}
@@ -19,6 +20,8 @@ are_groups_apart-requires g c = record {
 
 pub returns : goal.returns
 returns g c =
-    c.are_groups_apart.ensures
+    IfOk-weaker c.are_groups_apart.result _ _
+    (λ r is. is
     ∙ ap (λ (gs : List (Vec Part)). are_groups_apart (g.P.Place.place c.args.place.now) (drop c.args.base c.args.stack.now) gs) c.deref.ensures.value
-    ∙ groups-apart-is (g.P.Place.place c.args.place.now) (assertion_frame c.args.self.now) (drop c.args.base c.args.stack.now) c.args.self.now.apart.items c.requires c.args.self.now.apart_placed (λ a b. refl)
+    ∙ groups-apart-is (g.P.Place.place c.args.place.now) (assertion_frame c.args.self.now) (drop c.args.base c.args.stack.now) c.args.self.now.apart.items c.requires c.args.self.now.apart_placed (λ a b. refl))
+    c.are_groups_apart.ensures

@@ -2,7 +2,7 @@ use Rattle.std.proofs.Common.{◌≡◌, Option, [], map, refl, Some, ap, ◌∙
 use Rattle.ground_rules.specs.declared.rules.Program.{Program}
 use Rattle.term_core.specs.RulePatterns.{plain_pattern}
 use Rattle.ml_kernel.specs.Theorems.{Theorem}
-use Rattle.ml_image.specs.Images.{image_of}
+use Rattle.ground_image.specs.Images.{image_of}
 use Rattle.ml_pat.specs.Leaves.{EachLeaf}
 use Rattle.mm_claims.specs.OverNames.{closed_over}
 use Rattle.mm_claims.specs.Places.{IsStated}
@@ -10,7 +10,7 @@ use Rattle.std.specs.Global.{Vec}
 use Rattle.std.specs.Option.{is_some}
 use Rattle.ml_kernel.specs.declared.derivations.AxiomNo.{AxiomNo}
 use Rattle.mm_claims.proofs.ClosedPatterns.{closed_is_over}
-use Rattle.mm_justify.proofs.ImageLeaves.{image_is_closed}
+use Rattle.ground_justify.proofs.ImageLeaves.{image_is_closed}
 use Rattle.prove_run.proofs.ScriptLaws.{image_later}
 use Rattle.prove_run.proofs.ProofLaws.{none_left, may_begin}
 use Rattle.prove_run.proofs.proof.Proof.begin.Goals as goal

@@ -7,10 +7,10 @@ use Rattle.term_core.specs.RulePatterns.{plain_pattern}
 use Rattle.ml_pat.specs.Patterns.{next}
 use Rattle.ml_kernel.specs.Theorems.{Theorem}
 use Rattle.ml_kernel.specs.declared.derivations.AxiomNo.{AxiomNo}
-use Rattle.ml_image.specs.Images.{HasImageAt}
+use Rattle.ground_image.specs.Images.{HasImageAt}
 use Rattle.mm_claims.specs.Places.{IsStated}
-use Rattle.mm_justify.specs.Justifying.{Justifies}
-use Rattle.mm_justify.proofs.ImageLeaves.{image_is_closed}
+use Rattle.ground_justify.specs.Justifying.{Justifies}
+use Rattle.ground_justify.proofs.ImageLeaves.{image_is_closed}
 use Rattle.prove_run.specs.PlainNames.{HasPlainNames}
 use Rattle.prove_run.specs.RunProof.{RunProof}
 use Rattle.prove_run.specs.Proving.{AreGroundAt}

@@ -5,18 +5,18 @@ use Rattle.std.proofs.lemmas.Option.{slice_get_within}
 use Rattle.mm_text.specs.Bytes.{Token}
 use Rattle.ml_pat.specs.Patterns.{Pattern}
 use Rattle.ground_rules.specs.ProgramView.{rewrite_rule}
-use Rattle.ml_image.specs.Images.{rule_image_of}
+use Rattle.ground_image.specs.Images.{rule_image_of}
 use Rattle.mm_claims.specs.Kept.{Kept}
 use Rattle.ml_pat.specs.Leaves.{EachLeaf}
 use Rattle.mm_claims.specs.OverNames.{closed_over}
 use Rattle.mm_claims.specs.Keeping.{Fits, MayState, axiom_at, with_stated}
 use Rattle.mm_claims.specs.Places.{IsStated}
 use Rattle.mm_claims.specs.ClaimVariables.{claim_of}
-use Rattle.mm_justify.specs.Justifying.{HasOnlyAxiomsOf, IsOwnAxiom}
-use Rattle.mm_justify.proofs.Allowing.{axiom_has_only}
+use Rattle.ground_justify.specs.Justifying.{HasOnlyAxiomsOf, IsOwnAxiom}
+use Rattle.ground_justify.proofs.Allowing.{axiom_has_only}
 use Rattle.mm_claims.proofs.ClosedPatterns.{closed_has_no_meta, closed_is_over}
 use Rattle.mm_claims.proofs.LaterLaws.{last_is_stated, stated_stays}
-use Rattle.mm_justify.proofs.ImageLeaves.{rule_image_is_own}
+use Rattle.ground_justify.proofs.ImageLeaves.{rule_image_is_own}
 use Rattle.prove_run.proofs.ScriptLaws.{take_all, kept_stay, kept_set, axiom_last, axiom_before, image_closed}
 use Rattle.prove_run.proofs.script.Script.assume.Goals as goal
 

@@ -2,9 +2,9 @@ use Rattle.std.proofs.Common.{◌≡◌, ℕ, ◌≤◌, List, [], ◌++◌, len
 use Rattle.mm_header.specs.HeaderText.{header_bytes}
 use Rattle.mm_claims.specs.Kept.{Kept}
 use Rattle.mm_claims.specs.Keeping.{Fits}
-use Rattle.mm_justify.specs.Justifying.{HasOnlyAxiomsOf}
-use Rattle.ml_image.specs.Gained.{AreOwnTokens}
-use Rattle.mm_justify.proofs.HeaderStates.{header_has_only}
+use Rattle.ground_justify.specs.Justifying.{HasOnlyAxiomsOf}
+use Rattle.ground_image.specs.Gained.{AreOwnTokens}
+use Rattle.ground_justify.proofs.HeaderStates.{header_has_only}
 use Rattle.std.specs.Prelude.{replicate}
 use Rattle.std.specs.Option.{is_some}
 use Rattle.prove_run.specs.Scripts.{AreStated}

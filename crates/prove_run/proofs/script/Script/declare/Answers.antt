@@ -2,8 +2,8 @@ use Rattle.std.proofs.Common.{ℕ, ◌≤◌, ◌<◌, ◌^◌, List, [], length
 use Rattle.mm_claims.specs.Kept.{Kept}
 use Rattle.mm_claims.specs.Keeping.{Fits, axiom_at}
 use Rattle.mm_claims.specs.Places.{IsStated}
-use Rattle.mm_justify.specs.Justifying.{HasOnlyAxiomsOf}
-use Rattle.mm_justify.proofs.DeclaredStates.{declared_has_only}
+use Rattle.ground_justify.specs.Justifying.{HasOnlyAxiomsOf}
+use Rattle.ground_justify.proofs.DeclaredStates.{declared_has_only}
 use Rattle.prove_run.proofs.PlainNameLaws.{own_names, own_behind}
 use Rattle.prove_run.proofs.ScriptLaws.{on_all, kept_stay}
 use Rattle.prove_run.proofs.script.Script.declare.Goals as goal

@@ -5,7 +5,7 @@ use Rattle.std.proofs.lemmas.Bool.{false≢true}
 use Rattle.std.proofs.lemmas.Option.{slice_get_within, slice_get-get_or, slice_get-map}
 use Rattle.ml_kernel.specs.declared.derivations.AxiomNo.{AxiomNo}
 use Rattle.prove_run.proofs.ScriptLaws.{kept_at, set_same, some_same}
-use Rattle.ml_image.specs.Images.{HasImageAt}
+use Rattle.ground_image.specs.Images.{HasImageAt}
 use Rattle.prove_run.specs.declared.script.Script.{Script}
 use Rattle.prove_run.specs.Scripts.{rules_used}
 use Rattle.prove_run.proofs.script.Script.rule.Goals as goal

@@ -4,9 +4,9 @@ use Rattle.ml_pat.specs.Patterns.{imp, ev}
 use Rattle.ml_kernel.specs.Theorems.{Theorem}
 use Rattle.ml_pat.specs.Leaves.{EachLeaf}
 use Rattle.mm_claims.specs.OverNames.{closed_over}
-use Rattle.ml_image.specs.Images.{image_of}
+use Rattle.ground_image.specs.Images.{image_of}
 use Rattle.mm_claims.specs.Places.{MayProve, StatesLemma}
-use Rattle.mm_justify.proofs.Allowing.{theorem_justifies}
+use Rattle.ground_justify.proofs.Allowing.{theorem_justifies}
 use Rattle.prove_run.proofs.ScriptLaws.{take_all, sound_stated, gains_theorem}
 use Rattle.prove_run.proofs.script.Script.state.Goals as goal
 

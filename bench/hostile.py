@@ -1,0 +1,183 @@
+#!/usr/bin/env python3
+"""Writes databases that are costly for a naive verifier, verifies each at sizes n, 2n and 4n, and prints how time grows.
+
+    bench/hostile.py [--program FILE] [--only NAME] [--scale F] [--limit MEGABYTES] [--keep FOLDER]
+
+Each line has the bytes of the smallest database, the seconds and megabytes at each size, and the growth of the seconds
+from one size to the next: about 2 is linear, about 4 is quadratic. Each database is valid, but `doubling` is to end as
+out of memory. Not part of the gate."""
+import argparse
+import os
+import resource
+import subprocess
+import sys
+import tempfile
+import time
+
+TOP = os.path.join(os.path.dirname(os.path.abspath(__file__)), "..")
+HEAD = "$c t u $. $v x y $. fx $f t x $. fy $f t y $. "
+
+
+def number(n):
+    """The letters of a compressed proof that stand for the number n, from 1."""
+    n -= 1
+    letters = chr(ord("A") + n % 20)
+    n //= 20
+    while n > 0:
+        n -= 1
+        letters = chr(ord("U") + n % 5) + letters
+        n //= 5
+    return letters
+
+
+def variables(n, name="v"):
+    """The declarations of n variables, with their types."""
+    names = [f"{name}{i}" for i in range(n)]
+    return names, "$v " + " ".join(names) + " $.\n" + "".join(f"f{v} $f t {v} $.\n" for v in names)
+
+
+def long_texts(n):
+    """Two texts of n symbols, each of one variable, that have to stay apart."""
+    steps = n.bit_length() - 1
+    double = "dx $a t x x $. ${ $d x y $. ax $a u x y $. $}\n"
+    text = " ".join(["x"] * 2**steps + ["y"] * 2**steps)
+    return HEAD + double + f"$d x y $. th $p u {text} $= ( dx ax ) A{'C' * steps}B{'C' * steps}D $.\n"
+
+
+def many_premises(n):
+    """n active `$e`, and n axioms under them."""
+    premises = "".join(f"e{i} $e t u $.\n" for i in range(n))
+    return HEAD + "${\n" + premises + "".join(f"a{i} $a t u $.\n" for i in range(n)) + "$}\n"
+
+
+def premises_between(n):
+    """n active `$e`, each with an axiom behind it."""
+    return HEAD + "${\n" + "".join(f"e{i} $e t u $. a{i} $a t u $.\n" for i in range(n)) + "$}\n"
+
+
+def repeated_groups(n):
+    """The same `$d` n times, and n axioms."""
+    return HEAD + "$d x y $.\n" * n + "".join(f"a{i} $a t x y $.\n" for i in range(n))
+
+
+def repeated_groups_between(n):
+    """The same `$d` n times, between those of other variables, and n axioms."""
+    names, declared = variables(n)
+    groups = "".join(f"$d x y $. $d x {v} $. $d y {v} $.\n" for v in names)
+    return HEAD + declared + groups + "".join(f"a{i} $a t x y $.\n" for i in range(n))
+
+
+def doubling(n):
+    """A step that doubles an expression, n times."""
+    return HEAD + f"dx $a t x x $. th $p t x $= ( dx ) A{'B' * n} $.\n"
+
+
+def many_pairs(n):
+    """Two variables in n groups of two each, the pair of both last, and n citations that ask for it."""
+    names, declared = variables(n)
+    pairs = "".join(f"$d x {v} $. $d y {v} $.\n" for v in names) + "$d x y $.\n"
+    rules = "${ $d x y $. ax $a u x y $. $}\n${ $d x y $. e $e u x y $. go $a u x y $. $}\n"
+    return HEAD + declared + pairs + rules + "th $p u x y $= " + "fx fy " * n + "fx fy ax " + "go " * n + "$.\n"
+
+
+def one_group(n):
+    """A group of many variables, and citations that ask for all its pairs."""
+    many = max(int(n**0.5), 2)
+    names, declared = variables(many)
+    text = " ".join(names)
+    rules = f"${{ $d {text} $. ax $a u {text} $. $}}\n${{ $d {text} $. e $e u {text} $. go $a u {text} $. $}}\n"
+    given = " ".join("f" + v for v in names)
+    return HEAD + declared + f"$d {text} $.\n" + rules + f"th $p u {text} $= " + (given + " ") * many + given + " ax " + "go " * many + "$.\n"
+
+
+def wide_group(n):
+    """One group of n variables, one axiom that asks for it, and one citation."""
+    names, declared = variables(n)
+    text = " ".join(names)
+    given = " ".join("f" + v for v in names)
+    return HEAD + declared + f"$d {text} $.\nax $a u {text} $.\nth $p u {text} $= {given} ax $.\n"
+
+
+def letters_alone(n):
+    """Proofs without listed labels, of hypotheses and saved steps alone."""
+    return HEAD + "".join(f"p{i} $p t x $= ( ) A $.\n" for i in range(n))
+
+
+def one_long_proof(n):
+    """A proof of n saved steps, each used again."""
+    double = "wx $a t x $.\n"
+    return HEAD + double + "th $p t x $= ( wx ) AB" + "".join("Z" + "B" for _ in range(n)) + " $.\n"
+
+
+def listed_labels(n):
+    """A proof that lists n labels."""
+    names = [f"a{i}" for i in range(n)]
+    return HEAD + "".join(f"{a} $a t x $.\n" for a in names) + "th $p t x $= ( " + " ".join(names) + " ) AB $.\n"
+
+
+def open_blocks(n):
+    """n blocks, one in the other, with a variable each."""
+    return "$c t $.\n" + "".join(f"${{ $v v{i} $. f{i} $f t v{i} $. a{i} $a t v{i} $.\n" for i in range(n)) + "$} " * n + "\n"
+
+
+CASES = {
+    "long_texts": (long_texts, 2**17),
+    "many_premises": (many_premises, 12500),
+    "premises_between": (premises_between, 6000),
+    "repeated_groups": (repeated_groups, 12500),
+    "repeated_groups_between": (repeated_groups_between, 6000),
+    "many_pairs": (many_pairs, 12500),
+    "one_group": (one_group, 20000),
+    "wide_group": (wide_group, 1000),
+    "letters_alone": (letters_alone, 25000),
+    "one_long_proof": (one_long_proof, 200000),
+    "listed_labels": (listed_labels, 50000),
+    "open_blocks": (open_blocks, 25000),
+    "doubling": (doubling, 100),
+}
+
+
+def verified(program, file, limit):
+    def bounds():
+        resource.setrlimit(resource.RLIMIT_AS, (limit * 2**20, limit * 2**20))
+
+    before = time.monotonic()
+    ran = subprocess.Popen([*program, file], stdout=subprocess.PIPE, stderr=subprocess.DEVNULL, preexec_fn=bounds)
+    said = ran.stdout.read().decode().strip()
+    _, status, used = os.wait4(ran.pid, 0)
+    return time.monotonic() - before, used.ru_maxrss // 1024, said or f"status {status}"
+
+
+def main():
+    words = argparse.ArgumentParser()
+    words.add_argument("--program", default=f"{TOP}/crates/kore_prove/out/kore_prove verify")
+    words.add_argument("--only")
+    words.add_argument("--scale", type=float, default=1)
+    words.add_argument("--limit", type=int, default=8000, help="megabytes of address space")
+    words.add_argument("--keep")
+    words = words.parse_args()
+    folder = words.keep or tempfile.mkdtemp(prefix="hostile-")
+    os.makedirs(folder, exist_ok=True)
+    print(f"{'database':24} {'bytes':>9} " + " ".join(f"{'seconds':>8} {'MB':>6}" for _ in range(3)) + "  growth      answer")
+    for name, (make, n) in CASES.items():
+        if words.only and words.only != name:
+            continue
+        n = max(int(n * words.scale), 2)
+        seconds, line = [], f"{name:24} "
+        for size in (n, 2 * n, 4 * n):
+            file = f"{folder}/{name}-{size}.mm"
+            with open(file, "w") as it:
+                it.write(make(size))
+            if size == n:
+                line += f"{os.path.getsize(file):9} "
+            took, megabytes, said = verified(words.program.split(), file, words.limit)
+            seconds.append(took)
+            line += f"{took:8.2f} {megabytes:6} "
+            if not words.keep:
+                os.remove(file)
+        growth = " ".join(f"{b / a:5.1f}" for a, b in zip(seconds, seconds[1:]))
+        print(f"{line} {growth}  {said}", flush=True)
+
+
+if __name__ == "__main__":
+    sys.exit(main())

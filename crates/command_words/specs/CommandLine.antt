@@ -1,0 +1,77 @@
+-- The words of the command line: a command's name, and then what clap's definition of that command takes. The first of
+-- the words stands where clap expects a program's name.
+use Rattle.std.specs.Prelude.{ℕ, Bool, true, false, not, ◌&&◌, List, [], ◌∷◌, length, Option, Some, is_some, if◌then◌else◌, codes, nat_le}
+use Rattle.std.specs.Option.{option_map_or}
+use Rattle.std.specs.Str.{bytes_eq, all_ascii_digits}
+use Rattle.std.specs.Str.Parse.{digits_value}
+use Rattle.clap.specs.Walk.{Rule, Text, first_of}
+use Rattle.clap.specs.Simple.{App, new_rule, new_app, on_top, with_rule, matches_of}
+use Rattle.clap.specs.Takes.{takes}
+use Rattle.clap.specs.declared.builder.action.ArgAction.TheVariants.{Set}
+
+-- a word that no option precedes, and that has to be there
+abbrev pub positional_rule : Text → Rule
+positional_rule id = record (new_rule id) { action = Some Set; required = true }
+
+-- `--NAME VALUE`
+abbrev pub option_rule : Text → Bool → Rule
+option_rule id is_required = record (new_rule id) { long = Some id; action = Some Set; required = is_required }
+
+-- a command without arguments, and without help
+abbrev pub bare_app : Text → App
+bare_app name = on_top (λ s. record s { disable_help_flag = true }) (new_app name)
+
+-- `run DEF TERM --limit N`, with `--calls N` and `--proof FILE` where they are wanted
+abbrev pub run_app : App
+run_app =
+    with_rule (with_rule (with_rule (with_rule (with_rule (bare_app (codes "run"))
+    (positional_rule (codes "def"))) (positional_rule (codes "term"))) (option_rule (codes "limit") true))
+    (option_rule (codes "calls") false)) (option_rule (codes "proof") false)
+
+-- `verify FILE`
+abbrev pub verify_app : App
+verify_app = with_rule (bare_app (codes "verify")) (positional_rule (codes "file"))
+
+-- the value that the words give an argument, where they give it one
+abbrev pub value_of : App → List Text → Text → Option Text
+value_of app words id = first_of id (matches_of app words)
+
+-- a number is one to eight ASCII digits
+abbrev pub is_number : Text → Bool
+is_number word = (nat_le 1 (length word) && nat_le (length word) 8) && all_ascii_digits word
+
+-- .. of a number that is not greater than this one
+abbrev pub is_number_to : ℕ → Text → Bool
+is_number_to most word = is_number word && nat_le (digits_value 10 word) most
+
+-- the greatest limit of steps, the greatest number of calls, and the number of calls where none is stated
+abbrev pub most_steps : ℕ
+most_steps = 1000000
+
+abbrev pub most_calls : ℕ
+most_calls = 10000000
+
+abbrev pub usual_calls : ℕ
+usual_calls = 1000000
+
+-- the first word is this one
+abbrev pub is_named : Text → List Text → Bool
+is_named name [] = false
+is_named name (word ∷ words) = bytes_eq word name
+
+-- the words name the two files, and the numbers are good
+abbrev pub is_run : List Text → Bool
+is_run words = takes run_app words
+    && ((is_some (value_of run_app words (codes "def")) && is_some (value_of run_app words (codes "term")))
+    && (option_map_or (is_number_to most_steps) (value_of run_app words (codes "limit")) false
+    && option_map_or (is_number_to most_calls) (value_of run_app words (codes "calls")) true))
+
+abbrev pub is_verify : List Text → Bool
+is_verify words = takes verify_app words && is_some (value_of verify_app words (codes "file"))
+
+-- no command takes the words
+abbrev pub are_bad : List Text → Bool
+are_bad words =
+    if is_named (codes "run") words then not (is_run words)
+    else if is_named (codes "verify") words then not (is_verify words)
+    else true

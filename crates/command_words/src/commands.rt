@@ -1,0 +1,193 @@
+// What the words of the command line ask for.
+ghost use Rattle.std.specs.Prelude.{◌≡◌, map, IfOk, IfSome, IfNone, Err, true, false, string_bytes, option_copied, option_map, codes, Some};
+ghost use Rattle.std.specs.Option.{option_map_or};
+ghost use Rattle.std.specs.Str.Parse.{digits_value};
+ghost use Rattle.command_words.specs.CommandLine.{is_named, is_run, is_verify, are_bad, is_number_to};
+ghost use Rattle.command_words.specs.Commands.{Gives, GivesRun, GivesFile};
+ghost use Rattle.command_words.specs.Plain.{is_plain, IsReadBy};
+ghost use Rattle.clap.specs.Simple.{app_of};
+ghost use Rattle.clap.specs.Takes.{takes};
+
+use crate::definitions::{run_definition, verify_definition};
+use crate::numbers::number_to;
+use clap::ArgMatches;
+use clap::error::ErrorKind;
+use std::alloc::{AllocError, Global};
+use thiserror::Error;
+
+/// What the words ask for.
+#[derive(Clone, Copy)]
+pub enum Command<'a> {
+    /// To run a term.
+    Run(RunWords<'a>),
+    /// To verify the database in the file of this name.
+    Verify(&'a str),
+}
+
+/// What a call is to run.
+#[derive(Clone, Copy)]
+pub struct RunWords<'a> {
+    /// The name of the file with the definition.
+    pub definition: &'a str,
+    /// The name of the file with the term.
+    pub term: &'a str,
+    /// The greatest number of steps, at most 1,000,000.
+    pub limit: u32,
+    /// The greatest number of calls of functions, at most 10,000,000.
+    pub calls: u32,
+    /// The name of the file for the proof, where one is wanted.
+    pub proof: Option<&'a str>,
+}
+
+/// Why the words were not read.
+#[derive(Debug, Drop, PartialEq, Eq, Clone, Copy, Error)]
+pub enum WordsEnd {
+    /// No command takes the words.
+    #[error("bad words")]
+    Bad,
+    /// Memory ran out.
+    #[error("out of memory")]
+    Memory,
+}
+
+/// The greatest number of steps that words may name.
+const MAX_STEPS: u32 = 1_000_000;
+
+/// The greatest number of calls that words may name.
+const MAX_CALLS: u32 = 10_000_000;
+
+/// The number of calls where the words state none.
+const USUAL_CALLS: u32 = 1_000_000;
+
+impl From<AllocError> for WordsEnd {
+    ghost use Rattle.command_words.specs.declared.commands.WordsEnd.TheVariants.{Memory};
+
+    ghost from_gives = { λ _ end. end ≡ Memory };
+
+    fn from(_error: AllocError) -> Self {
+        WordsEnd::Memory
+    }
+}
+
+/// What the words ask for. `Bad` comes exactly where no command takes them, and `Memory` where memory ran out. What
+/// is answered borrows from the words.
+pub fn read_words<'a>(alloc: Global, words: &'a [String]) -> Result<Command<'a>, WordsEnd>
+    ensures good { IfOk result (λ c. (are_bad (map string_bytes words.entry.now) ≡ false) × Gives (map string_bytes words.entry.now) c) }
+    ensures bad { result ≡ Err WordsEnd.Bad → are_bad (map string_bytes words.entry.now) ≡ true }
+{
+    if is_named("run", words) {
+        match run_words(alloc, words) {
+            Ok(run) => Ok(Command::Run(run)),
+            Err(end) => Err(end),
+        }
+    } else if is_named("verify", words) {
+        match verify_words(alloc, words) {
+            Ok(file) => Ok(Command::Verify(file)),
+            Err(end) => Err(end),
+        }
+    } else {
+        Err(WordsEnd::Bad)
+    }
+}
+
+// Whether the first word is this one.
+fn is_named(name: &str, words: &[String]) -> bool
+    ensures { result ≡ is_named name.now (map string_bytes words.now) }
+{
+    match words {
+        [] => false,
+        [first, ..] => first.as_str() == name,
+    }
+}
+
+// What a run command asks for.
+fn run_words<'a>(alloc: Global, words: &'a [String]) -> Result<RunWords<'a>, WordsEnd>
+    requires { is_named (codes "run") (map string_bytes words.now) ≡ true }
+    ensures good { IfOk result (λ r. (is_run (map string_bytes words.entry.now) ≡ true) × GivesRun (map string_bytes words.entry.now) r) }
+    ensures bad { result ≡ Err WordsEnd.Bad → is_run (map string_bytes words.entry.now) ≡ false }
+{
+    let command = run_definition(alloc)?;
+    let matches = match matches_for(command, words) {
+        Ok(matches) => matches,
+        Err(end) => return Err(end),
+    };
+    let Some(definition) = matches.get_str("def") else {
+        return Err(WordsEnd::Bad);
+    };
+    let Some(term) = matches.get_str("term") else {
+        return Err(WordsEnd::Bad);
+    };
+    let Some(limit) = number_in(MAX_STEPS, matches.get_str("limit")) else {
+        return Err(WordsEnd::Bad);
+    };
+    let Some(calls) = number_or(MAX_CALLS, matches.get_str("calls"), USUAL_CALLS) else {
+        return Err(WordsEnd::Bad);
+    };
+    let proof = matches.get_str("proof");
+    Ok(RunWords {
+        definition,
+        term,
+        limit,
+        calls,
+        proof,
+    })
+}
+
+// The file that a verify command names.
+fn verify_words<'a>(alloc: Global, words: &'a [String]) -> Result<&'a str, WordsEnd>
+    requires { is_named (codes "verify") (map string_bytes words.now) ≡ true }
+    ensures good { IfOk result (λ file. (is_verify (map string_bytes words.entry.now) ≡ true) × GivesFile (map string_bytes words.entry.now) file.now) }
+    ensures bad { result ≡ Err WordsEnd.Bad → is_verify (map string_bytes words.entry.now) ≡ false }
+{
+    let command = verify_definition(alloc)?;
+    let matches = match matches_for(command, words) {
+        Ok(matches) => matches,
+        Err(end) => return Err(end),
+    };
+    match matches.get_str("file") {
+        Some(file) => Ok(file),
+        None => Err(WordsEnd::Bad),
+    }
+}
+
+// The number that stands there, no greater than this; none where there is no word, or another one.
+fn number_in(most: u32, word: Option<&str>) -> Option<u32>
+    ensures number { IfSome result (λ n. option_map (digits_value 10) (option_copied word.entry) ≡ Some n) }
+    ensures good { IfSome result (λ n. option_map_or (is_number_to most) (option_copied word.entry) false ≡ true) }
+    ensures bad { IfNone result (option_map_or (is_number_to most) (option_copied word.entry) false ≡ false) }
+{
+    match word {
+        Some(word) => number_to(most, word),
+        None => None,
+    }
+}
+
+// The same, and the usual number where there is no word.
+fn number_or(most: u32, word: Option<&str>, usual: u32) -> Option<u32>
+    ensures number { IfSome result (λ n. n ≡ option_map_or (digits_value 10) (option_copied word.entry) usual) }
+    ensures good { IfSome result (λ n. option_map_or (is_number_to most) (option_copied word.entry) true ≡ true) }
+    ensures bad { IfNone result (option_map_or (is_number_to most) (option_copied word.entry) true ≡ false) }
+{
+    match word {
+        Some(word) => number_to(most, word),
+        None => Some(usual),
+    }
+}
+
+// What a command without subcommands makes of the words. `Bad` comes only where its definition does not take them.
+fn matches_for<'a>(
+    command: clap::Command<'a>,
+    words: &'a [String],
+) -> Result<ArgMatches<'a>, WordsEnd>
+    requires { is_plain (app_of command) ≡ true }
+    ensures read { IfOk result (IsReadBy (app_of command.entry) (map string_bytes words.entry.now)) }
+    ensures bad { result ≡ Err WordsEnd.Bad → takes (app_of command.entry) (map string_bytes words.entry.now) ≡ false }
+{
+    match command.try_get_matches_from(words) {
+        Ok(matches) => Ok(matches),
+        Err(error) => match error.kind() {
+            ErrorKind::OutOfMemory => Err(WordsEnd::Memory),
+            _ => Err(WordsEnd::Bad),
+        },
+    }
+}

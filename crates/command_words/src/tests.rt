@@ -1,0 +1,86 @@
+// Words that are good and words that are bad.
+use crate::{Command, WordsEnd, read_words};
+use std::alloc::{AllocError, Global};
+use std::test::Fail;
+
+// The words of a line, apart by spaces.
+fn words_of(alloc: Global, line: &str) -> Result<Vec<String>, AllocError> {
+    let mut words = Vec::new(alloc);
+    for word in line.split(' ') {
+        words.push(String::from_str(alloc, word)?)?;
+    }
+    Ok(words)
+}
+
+#[test]
+fn reads_a_run_with_its_options_in_any_place(rt: HostRuntime) -> Result<(), Fail> {
+    let words = words_of(
+        rt.alloc(),
+        "run --limit=5 d.kore --proof=-x t.kore --calls 00000007",
+    )?;
+    match read_words(rt.alloc(), words.as_slice()) {
+        Ok(Command::Run(run)) => {
+            assert_eq!(rt; run.definition, "d.kore");
+            assert_eq!(rt; run.term, "t.kore");
+            assert_eq!(rt; run.limit, 5);
+            assert_eq!(rt; run.calls, 7);
+            assert_eq!(rt; run.proof, Some("-x"));
+        }
+        Ok(Command::Verify(_file)) => assert!(rt; false),
+        Err(_end) => assert!(rt; false),
+    }
+    Ok(())
+}
+
+#[test]
+fn takes_a_million_calls_where_none_are_stated(rt: HostRuntime) -> Result<(), Fail> {
+    let words = words_of(rt.alloc(), "run d t --limit 0")?;
+    match read_words(rt.alloc(), words.as_slice()) {
+        Ok(Command::Run(run)) => {
+            assert_eq!(rt; run.calls, 1_000_000);
+            assert!(rt; run.proof.is_none());
+        }
+        Ok(Command::Verify(_file)) => assert!(rt; false),
+        Err(_end) => assert!(rt; false),
+    }
+    Ok(())
+}
+
+#[test]
+fn refuses_bad_words(rt: HostRuntime) -> Result<(), Fail> {
+    for line in [
+        "",
+        "Run d t --limit 5",
+        "run d t",
+        "run d --limit 5",
+        "run d t u --limit 5",
+        "run d t --limit 1000001",
+        "run d t --limit 000000005",
+        "run d t --limit +5",
+        "run d t --limit 5 --limit 5",
+        "run d t --lim 5",
+        "run d t --limit 5 --calls 10000001",
+        "run d t --limit 5 --proof",
+        "run d t --limit 5 --proof -x",
+        "run d t --limit 5 --help",
+        "verify",
+        "verify a b",
+        "verify -h",
+    ] {
+        let words = words_of(rt.alloc(), line)?;
+        let is_bad = matches!(read_words(rt.alloc(), words.as_slice()), Err(WordsEnd::Bad));
+        assert!(rt; is_bad, "{line}");
+    }
+    Ok(())
+}
+
+#[test]
+fn reads_the_file_to_be_verified(rt: HostRuntime) -> Result<(), Fail> {
+    let words = words_of(rt.alloc(), "verify -- --help")?;
+    match read_words(rt.alloc(), words.as_slice()) {
+        Ok(Command::Verify(file)) => assert_eq!(rt; file, "--help"),
+        Ok(Command::Run(_run)) => assert!(rt; false),
+        Err(_end) => assert!(rt; false),
+    }
+    Ok(())
+}

@@ -1,0 +1,11 @@
+pub mod Comings
+pub mod Goings
+pub mod Evaluable
+pub mod Values
+pub mod Recordings
+pub mod Trials
+pub mod Roots
+pub mod Calls
+pub mod PlainRecords
+pub mod Matches
+pub mod Injections

@@ -1,0 +1,11 @@
+-- Believed: what public clauses say, and believed definitions of other crates.
+pub mod Evaluable
+pub mod EvalEnds
+pub mod Recorded
+pub mod RecordLists
+-- Private: what clauses of private functions cite, and how private fields are seen.
+pub mod EngineView
+pub mod Injections
+pub mod Roots
+pub mod Giving
+pub mod Equations

@@ -1,0 +1,150 @@
+// The engine of evaluation.
+ghost use Rattle.std.specs.Prelude.{◌≡◌, ◌≤◌, ◌<◌, IfOk, IfErr, OnErr, Some};
+ghost use Rattle.term_core.specs.RulePatterns.{plain_pattern};
+ghost use Rattle.rule_core.specs.Evaluation.{Evaluated, Evaluates, value};
+ghost use Rattle.rule_core.specs.FirstRule.{most_nesting};
+ghost use Rattle.rule_core.specs.ProgramView.{theory_of};
+ghost use Rattle.rule_core.specs.Records.{Records, result_of};
+ghost use Rattle.rule_core.specs.RecordView.{plain_record};
+ghost use Rattle.rule_core.specs.WellSorted.{IsWellSorted};
+ghost use Rattle.fun_eval.specs.Evaluable.{IsEvaluable, HasNumbers};
+ghost use Rattle.fun_eval.specs.EvalEnds.{EndsBy};
+ghost use Rattle.fun_eval.specs.Recorded.{IsRecorded};
+ghost use Rattle.fun_eval.specs.Injections.{Injects};
+
+use crate::answer::{Answer, EvalEnd};
+use crate::evaluation::evaluate;
+use crate::functions::symbol;
+use crate::recording::Recording;
+use rule_core::{EvalRecord, Program, SymKind};
+use std::alloc::Global;
+use std::marker::Model;
+use term_core::{RulePat, Subst, SymId};
+
+/// The greatest nesting of an evaluation: that of a condition or a right side of a rewrite rule. With `MAX_HEIGHT` it
+/// bounds how deep an evaluation recurses.
+pub const MAX_NESTING: u32 = 2_000;
+
+/// How many calls of functions are left.
+#[derive(Clone, Copy, PartialEq, Eq, Debug)]
+pub struct Budget {
+    pub calls: u32,
+}
+
+/// An engine that evaluates patterns by the functions of a program. Contracts see it as the program.
+#[derive(Drop)]
+pub struct Engine<'p> {
+    program: &'p Program,
+    // The first symbol that injects, where one does.
+    injection: Option<SymId>,
+}
+
+impl<'p> Model for Engine<'p> {
+    ghost use Rattle.std.specs.Coded.{codes};
+    ghost use Rattle.term_core.specs.contracts.rule_patterns.RulePat as rule_pattern;
+    ghost use Rattle.rule_core.specs.declared.rules.Program.{Program};
+
+    ghost Value = { Program };
+
+    ghost coded = { Prim.hlevel (codes, rule_pattern.the_row.coded) };
+
+    ghost use Rattle.fun_eval.specs.EngineView.{program_of, IsEngine};
+
+    ghost view = { program_of };
+
+    ghost invariant = { IsEngine };
+}
+
+impl<'p> Engine<'p> {
+    /// The engine of a well-sorted program. It looks at the program's symbols once, up to the first that injects.
+    pub fn new(program: &'p Program) -> Engine<'p>
+        requires sorted { IsWellSorted (theory_of program.now) }
+        requires numbers { HasNumbers (theory_of program.now) }
+        ensures { result ≡ program.now }
+    {
+        let injection = first_injection(program);
+        Engine { program, injection }
+    }
+
+    /// The program.
+    pub fn program(&self) -> &'p Program
+        ensures program { result.now ≡ self.now }
+        ensures sorted { IsWellSorted (theory_of self.now) }
+        ensures numbers { HasNumbers (theory_of self.now) }
+    {
+        self.program
+    }
+
+    // The symbol that a node of an injection has.
+    pub(crate) fn injection(&self) -> Option<SymId>
+        ensures { Injects (theory_of self.now).sig result }
+    {
+        self.injection
+    }
+
+    /// The value of a pattern under a substitution, as a record of its evaluation, which takes its calls from the
+    /// budget. `nest` is the nesting that is left. `Blocked` says why there is no value. After an error the budget is
+    /// as before.
+    ///
+    /// It recurses no deeper than the nesting and the height of terms. Its time is that of trying each equation of a
+    /// called function, one by one, at one look at each argument's root where that cannot match.
+    pub fn eval(
+        &self,
+        alloc: Global,
+        pat: &RulePat,
+        subst: &Subst,
+        budget: &mut Budget,
+        nest: u32,
+    ) -> Result<EvalRecord, EvalEnd>
+        requires fits { IsEvaluable (theory_of self.now) subst.now (plain_pattern pat.now) }
+        requires nest { nest ≤ most_nesting }
+        ensures value { IfOk result (λ r. Evaluates (theory_of self.now) nest subst.now (plain_pattern pat.now) budget.old.calls (value (result_of (plain_record r)) budget.new.calls)) }
+        ensures recorded { IfOk result (λ r. Records (theory_of self.now) subst.now (plain_pattern pat.now) (plain_record r)) }
+        ensures blocked { IfErr result (EndsBy (Evaluates (theory_of self.now) nest subst.now (plain_pattern pat.now) budget.old.calls)) }
+        ensures budget { OnErr result (budget.new ≡ budget.old) }
+    {
+        match self.eval_as::<EvalRecord>(alloc, pat, subst, budget, nest) {
+            Ok(answer) => Ok(answer.recorded),
+            Err(end) => Err(end),
+        }
+    }
+
+    /// The same with another recording: the value, and what is recorded of it.
+    pub fn eval_as<R: Recording>(
+        &self,
+        alloc: Global,
+        pat: &RulePat,
+        subst: &Subst,
+        budget: &mut Budget,
+        nest: u32,
+    ) -> Result<Answer<R>, EvalEnd>
+        requires fits { IsEvaluable (theory_of self.now) subst.now (plain_pattern pat.now) }
+        requires nest { nest ≤ most_nesting }
+        ensures value { IfOk result (λ a. Evaluates (theory_of self.now) nest subst.now (plain_pattern pat.now) budget.old.calls (value a.term budget.new.calls)) }
+        ensures recorded { IfOk result (λ a. IsRecorded (R.tells a.recorded) (theory_of self.now) subst.now (plain_pattern pat.now) a.term) }
+        ensures blocked { IfErr result (EndsBy (Evaluates (theory_of self.now) nest subst.now (plain_pattern pat.now) budget.old.calls)) }
+        ensures budget { OnErr result (budget.new ≡ budget.old) }
+    {
+        match evaluate(alloc, self, pat, subst, budget.calls, nest) {
+            Ok((answer, left)) => {
+                budget.calls = left;
+                Ok(answer)
+            }
+            Err(end) => Err(end),
+        }
+    }
+}
+
+// The first symbol of a program that injects.
+fn first_injection(program: &Program) -> Option<SymId>
+    requires { HasNumbers (theory_of program.now) }
+    ensures { Injects program.now.sig result }
+{
+    for i in 0..program.sig.symbols.len() {
+        let sym = SymId(i as u32);
+        if let SymKind::Injection = symbol(program, sym).kind {
+            return Some(sym);
+        }
+    }
+    None
+}

@@ -1,0 +1,345 @@
+// The evaluation of a pattern: each function takes the calls that are left, and answers those that are left then.
+//
+// It recurses on the nesting: a node takes one, and so do a condition and a right side of an equation.
+ghost use Rattle.std.specs.Prelude.{◌≡◌, ◌≢◌, ◌≤◌, ℕ, List};
+ghost use Rattle.term_core.specs.Terms.{forest};
+ghost use Rattle.term_core.specs.Patterns.{variable, domain_value, application, injection, call};
+ghost use Rattle.term_core.specs.Values.{value_of};
+ghost use Rattle.rule_core.specs.Sorting.{HasInjection};
+ghost use Rattle.term_core.specs.RulePatterns.{plain_pattern};
+ghost use Rattle.term_core.specs.PatternLists.{plain_patterns};
+ghost use Rattle.rule_core.specs.FirstRule.{most_nesting};
+ghost use Rattle.rule_core.specs.ProgramView.{theory_of, function_equation};
+ghost use Rattle.fun_eval.specs.Evaluable.{IsEvaluable};
+ghost use Rattle.fun_eval.specs.Giving.{Gives, GivesWithin, AllGive, AreEvaluable, AreArguments, IsBound, IsCallEvaluable, Calls};
+ghost use Rattle.fun_eval.specs.Equations.{CallsByEquations, Chooses, IsDefined, IsTriable, Tries};
+
+use crate::answer::{Answer, Answers, EvalEnd};
+use crate::engine::Engine;
+use crate::equations::{Choice, Trial, equations_of, match_equation};
+use crate::functions::{call_hook, construct, inject, result_sort, symbol};
+use crate::recording::Recording;
+use crate::terms::is_true;
+use rule_core::{Blocked, Equation, SymKind};
+use std::alloc::Global;
+use term_core::{RulePat, SortId, Subst, SymId, Term, Value};
+
+// The value of a pattern.
+#[cycle(evaluation)]
+pub(crate) fn evaluate<R: Recording>(
+    alloc: Global,
+    engine: &Engine<'_>,
+    pat: &RulePat,
+    subst: &Subst,
+    calls: u32,
+    nest: u32,
+) -> Result<(Answer<R>, u32), EvalEnd>
+    requires fits { IsEvaluable (theory_of engine.now) subst.now (plain_pattern pat.now) }
+    requires nest { nest ≤ most_nesting }
+    ensures { Gives R.tells (theory_of engine.now) nest subst.now (plain_pattern pat.now) calls result }
+{
+    match pat {
+        RulePat::Var(var) => bound(*var, subst, calls),
+        RulePat::Value(sort, value) => itself(alloc, *sort, value, calls),
+        RulePat::Ctor(sym, args) => evaluate_ctor(alloc, engine, *sym, args, subst, calls, nest),
+        RulePat::Inj(from, to, below) => {
+            evaluate_inj(alloc, engine, *from, *to, below, subst, calls, nest)
+        }
+        RulePat::Call(sym, _, args) => evaluate_call(alloc, engine, *sym, args, subst, calls, nest),
+    }
+}
+
+// A variable.
+fn bound<R: Recording>(var: u32, subst: &Subst, calls: u32) -> Result<(Answer<R>, u32), EvalEnd>
+    requires { IsBound subst.now var }
+    ensures { (theory : _) (n : ℕ) → Gives R.tells theory n subst.now (variable var) calls result }
+{
+    let Some(term) = subst.get(var) else {
+        unreachable!()
+    };
+    let term = term.share()?;
+    let recorded = R::bound(var, &term)?;
+    Ok((Answer { term, recorded }, calls))
+}
+
+// A domain value.
+fn itself<R: Recording>(
+    alloc: Global,
+    sort: SortId,
+    value: &Value,
+    calls: u32,
+) -> Result<(Answer<R>, u32), EvalEnd>
+    ensures { (theory : _) (n : ℕ) (theta : _) → Gives R.tells theory n theta (domain_value sort.0 (value_of value.now)) calls result }
+{
+    let term = Term::value(alloc, sort, value.share()?)?;
+    let recorded = R::value(&term)?;
+    Ok((Answer { term, recorded }, calls))
+}
+
+// A constructor applied to patterns.
+#[cycle(evaluation)]
+fn evaluate_ctor<R: Recording>(
+    alloc: Global,
+    engine: &Engine<'_>,
+    sym: SymId,
+    args: &[RulePat],
+    subst: &Subst,
+    calls: u32,
+    nest: u32,
+) -> Result<(Answer<R>, u32), EvalEnd>
+    requires fits { AreEvaluable (theory_of engine.now) subst.now (plain_patterns args.now) }
+    requires nest { nest ≤ most_nesting }
+    ensures { Gives R.tells (theory_of engine.now) nest subst.now (application sym.0 (plain_patterns args.now)) calls result }
+{
+    if nest == 0 {
+        return Err(EvalEnd::Blocked(Blocked::Nest(sym)));
+    }
+    match evaluate_all(alloc, engine, args, subst, calls, nest - 1) {
+        Ok((args, left)) => construct(alloc, sym, args, left),
+        Err(end) => Err(end),
+    }
+}
+
+// An injection of a pattern.
+#[cycle(evaluation)]
+fn evaluate_inj<R: Recording>(
+    alloc: Global,
+    engine: &Engine<'_>,
+    from: SortId,
+    to: SortId,
+    below: &RulePat,
+    subst: &Subst,
+    calls: u32,
+    nest: u32,
+) -> Result<(Answer<R>, u32), EvalEnd>
+    requires symbol { HasInjection (theory_of engine.now).sig }
+    requires fits { IsEvaluable (theory_of engine.now) subst.now (plain_pattern below.now) }
+    requires nest { nest ≤ most_nesting }
+    ensures { Gives R.tells (theory_of engine.now) nest subst.now (injection from.0 to.0 (plain_pattern below.now)) calls result }
+{
+    let Some(sym) = engine.injection() else {
+        unreachable!()
+    };
+    if nest == 0 {
+        return Err(EvalEnd::Blocked(Blocked::Nest(sym)));
+    }
+    match evaluate(alloc, engine, below, subst, calls, nest - 1) {
+        Ok((below, left)) => inject(alloc, sym, from, to, below, left),
+        Err(end) => Err(end),
+    }
+}
+
+// A function, called at the values of patterns.
+#[cycle(evaluation)]
+fn evaluate_call<R: Recording>(
+    alloc: Global,
+    engine: &Engine<'_>,
+    sym: SymId,
+    args: &[RulePat],
+    subst: &Subst,
+    calls: u32,
+    nest: u32,
+) -> Result<(Answer<R>, u32), EvalEnd>
+    requires fits { IsCallEvaluable (theory_of engine.now) subst.now sym.0 (plain_patterns args.now) }
+    requires nest { nest ≤ most_nesting }
+    ensures { (sorts : List ℕ) → Gives R.tells (theory_of engine.now) nest subst.now (call sym.0 sorts (plain_patterns args.now)) calls result }
+{
+    if nest == 0 {
+        return Err(EvalEnd::Blocked(Blocked::Nest(sym)));
+    }
+    match evaluate_all(alloc, engine, args, subst, calls, nest - 1) {
+        Ok((args, left)) => apply(alloc, engine, sym, args, left, nest - 1),
+        Err(end) => Err(end),
+    }
+}
+
+// The values of some patterns, one after another.
+#[cycle(evaluation)]
+fn evaluate_all<R: Recording>(
+    alloc: Global,
+    engine: &Engine<'_>,
+    pats: &[RulePat],
+    subst: &Subst,
+    calls: u32,
+    nest: u32,
+) -> Result<(Answers<R>, u32), EvalEnd>
+    requires fits { AreEvaluable (theory_of engine.now) subst.now (plain_patterns pats.now) }
+    requires nest { nest ≤ most_nesting }
+    ensures { AllGive R.all_tell (theory_of engine.now) nest subst.now (plain_patterns pats.now) calls result }
+{
+    let mut terms = Vec::with_capacity(alloc, pats.len())?;
+    let mut records = R::none(alloc);
+    let mut left = calls;
+    for pat in pats {
+        match evaluate::<R>(alloc, engine, pat, subst, left, nest) {
+            Ok((answer, rest)) => {
+                terms.push(answer.term)?;
+                R::push(&mut records, answer.recorded)?;
+                left = rest;
+            }
+            Err(end) => return Err(end),
+        }
+    }
+    Ok((Answers { terms, records }, left))
+}
+
+// The value of a function at terms.
+#[cycle(evaluation)]
+fn apply<R: Recording>(
+    alloc: Global,
+    engine: &Engine<'_>,
+    sym: SymId,
+    args: Answers<R>,
+    calls: u32,
+    nest: u32,
+) -> Result<(Answer<R>, u32), EvalEnd>
+    requires fits { AreArguments (theory_of engine.now) sym.0 (forest args.terms.items) }
+    requires nest { nest ≤ most_nesting }
+    ensures { Calls R.tells R.all_tell (theory_of engine.now) nest sym.0 args calls result }
+{
+    let info = symbol(engine.program(), sym);
+    if let SymKind::Closed = info.kind {
+        return Err(EvalEnd::Blocked(Blocked::Closed(sym)));
+    }
+    if calls == 0 {
+        return Err(EvalEnd::Blocked(Blocked::Calls(sym)));
+    }
+    match info.kind {
+        SymKind::Hooked(hook) => {
+            let sort = result_sort(info.result);
+            call_hook(alloc, sym, hook, sort, args, calls - 1)
+        }
+        SymKind::Equations => apply_equations(alloc, engine, sym, args, calls - 1, nest),
+        _ => unreachable!(),
+    }
+}
+
+// The value that the first equation of a function that is used gives at terms.
+#[cycle(evaluation)]
+fn apply_equations<R: Recording>(
+    alloc: Global,
+    engine: &Engine<'_>,
+    sym: SymId,
+    args: Answers<R>,
+    calls: u32,
+    nest: u32,
+) -> Result<(Answer<R>, u32), EvalEnd>
+    requires fits { IsDefined (theory_of engine.now) sym.0 (forest args.terms.items) }
+    requires nest { nest ≤ most_nesting }
+    ensures { CallsByEquations R.tells R.all_tell (theory_of engine.now) nest sym.0 args calls result }
+{
+    let Answers { terms, records } = args;
+    let (chosen, left) = match choose_equation(alloc, engine, sym, &terms, calls, nest) {
+        Ok(found) => found,
+        Err(end) => return Err(end),
+    };
+    let Some(chosen) = chosen else {
+        return Err(EvalEnd::Blocked(Blocked::NoEquation(sym)));
+    };
+    let Choice {
+        number,
+        subst,
+        cond,
+    } = chosen;
+    let right = &equations_of(engine.program(), sym)[number as usize].right;
+    match evaluate_in::<R>(alloc, engine, sym, right, &subst, left, nest) {
+        Ok((body, rest)) => {
+            let Answer { term, recorded } = body;
+            let recorded = R::by_equation(alloc, sym, records, number, subst, cond, recorded)?;
+            Ok((Answer { term, recorded }, rest))
+        }
+        Err(end) => Err(end),
+    }
+}
+
+// The first equation of a function that is used at terms.
+#[cycle(evaluation)]
+fn choose_equation<R: Recording>(
+    alloc: Global,
+    engine: &Engine<'_>,
+    sym: SymId,
+    terms: &[Term],
+    calls: u32,
+    nest: u32,
+) -> Result<(Option<Choice<R>>, u32), EvalEnd>
+    requires fits { IsDefined (theory_of engine.now) sym.0 (forest terms.now) }
+    requires nest { nest ≤ most_nesting }
+    ensures { Chooses R.tells (theory_of engine.now) nest sym.0 (forest terms.now) calls result }
+{
+    let equations = equations_of(engine.program(), sym);
+    let mut left = calls;
+    for i in 0..equations.len() {
+        match try_equation(alloc, engine, sym, &equations[i], terms, left, nest) {
+            Ok((trial, rest)) => match trial {
+                Trial::Unused => left = rest,
+                Trial::Used(subst, cond) => {
+                    let number = i as u32;
+                    return Ok((
+                        Some(Choice {
+                            number,
+                            subst,
+                            cond,
+                        }),
+                        rest,
+                    ));
+                }
+            },
+            Err(end) => return Err(end),
+        }
+    }
+    Ok((None, left))
+}
+
+// Whether an equation of a function is used at terms.
+#[cycle(evaluation)]
+fn try_equation<R: Recording>(
+    alloc: Global,
+    engine: &Engine<'_>,
+    sym: SymId,
+    equation: &Equation,
+    terms: &[Term],
+    calls: u32,
+    nest: u32,
+) -> Result<(Trial<R>, u32), EvalEnd>
+    requires fits { IsTriable (theory_of engine.now) (function_equation equation.now) (forest terms.now) }
+    requires nest { nest ≤ most_nesting }
+    ensures { Tries R.tells (theory_of engine.now) nest sym.0 (function_equation equation.now) (forest terms.now) calls result }
+{
+    let Some(subst) = match_equation(alloc, engine.program(), equation, terms)? else {
+        return Ok((Trial::Unused, calls));
+    };
+    let Some(cond) = &equation.cond else {
+        return Ok((Trial::Used(subst, None), calls));
+    };
+    match evaluate_in::<R>(alloc, engine, sym, cond, &subst, calls, nest) {
+        Ok((answer, left)) => {
+            if is_true(&answer.term) {
+                Ok((Trial::Used(subst, Some(answer.recorded)), left))
+            } else {
+                Ok((Trial::Unused, left))
+            }
+        }
+        Err(end) => Err(end),
+    }
+}
+
+// The value of a condition or a right side of an equation of a function.
+#[cycle(evaluation)]
+fn evaluate_in<R: Recording>(
+    alloc: Global,
+    engine: &Engine<'_>,
+    sym: SymId,
+    pat: &RulePat,
+    subst: &Subst,
+    calls: u32,
+    nest: u32,
+) -> Result<(Answer<R>, u32), EvalEnd>
+    requires fits { IsEvaluable (theory_of engine.now) subst.now (plain_pattern pat.now) }
+    requires nest { nest ≤ most_nesting }
+    ensures { GivesWithin R.tells (theory_of engine.now) nest sym.0 subst.now (plain_pattern pat.now) calls result }
+{
+    if nest == 0 {
+        return Err(EvalEnd::Blocked(Blocked::Nest(sym)));
+    }
+    evaluate(alloc, engine, pat, subst, calls, nest - 1)
+}

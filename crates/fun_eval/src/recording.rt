@@ -1,0 +1,210 @@
+// What is kept of an evaluation beside its value.
+ghost use Rattle.std.specs.Prelude.{◌≡◌, List, IfOk, OnOk, map, option_map};
+ghost use Rattle.rule_core.specs.Records.{Record, RecordList, OptionalRecord, no_record, more_records, bound as bound_record, itself, made, by_hook as hook_record, by_equation as equation_record};
+ghost use Rattle.rule_core.specs.RecordView.{optional, plain_record, records};
+ghost use Rattle.rule_core.specs.declared.records.EvalRecord.{EvalRecord};
+ghost use Rattle.std.specs.Global.{Box};
+ghost use Rattle.fun_eval.specs.RecordLists.{at_end, TellsOption};
+
+use rule_core::{EqRecord, EvalRecord};
+use std::alloc::{AllocError, Global};
+use term_core::{SortId, Subst, SymId, Term};
+
+/// What is recorded of an evaluation. It is made of the parts of a record as they come: what a node's arguments gave
+/// comes before the node. `EvalRecord` keeps all of them, `Unrecorded` nothing. The error of each call is want of
+/// memory.
+pub trait Recording: Drop {
+    // It tells this record, or nothing at all.
+    ghost tells: { Self → Record → Type 0 };
+
+    // So do these, in order.
+    ghost all_tell: { List Self → RecordList → Type 0 };
+
+    /// No record. It takes no memory.
+    fn none(alloc: Global) -> Vec<Self>
+        ensures { all_tell result.items no_record };
+
+    /// One more record, behind the others.
+    fn push(others: &mut Vec<Self>, one: Self) -> Result<(), AllocError>
+        ensures { OnOk result ((rs : RecordList) (r : Record) → all_tell others.old.items rs → tells one r → all_tell others.new.items (at_end rs r)) };
+
+    /// The variable with this number stands for the term.
+    fn bound(var: u32, term: &Term) -> Result<Self, AllocError>
+        ensures { IfOk result (λ made_now. tells made_now (bound_record var term.now)) };
+
+    /// A domain value is itself.
+    fn value(term: &Term) -> Result<Self, AllocError>
+        ensures { IfOk result (λ made_now. tells made_now (itself term.now)) };
+
+    /// A constructor made the term of its arguments.
+    fn ctor(sym: SymId, args: Vec<Self>, term: &Term) -> Result<Self, AllocError>
+        ensures { IfOk result (λ made_now. (rs : RecordList) → all_tell args.items rs → tells made_now (made rs term.now)) };
+
+    /// The injection from a sort to another made the term.
+    fn inj(
+        alloc: Global,
+        from: SortId,
+        to: SortId,
+        below: Self,
+        term: &Term,
+    ) -> Result<Self, AllocError>
+        ensures { IfOk result (λ made_now. (r : Record) → tells below r → tells made_now (made (more_records r no_record) term.now)) };
+
+    /// The hook of a function gave the term.
+    fn by_hook(sym: SymId, args: Vec<Self>, term: &Term) -> Result<Self, AllocError>
+        ensures { IfOk result (λ made_now. (rs : RecordList) → all_tell args.items rs → tells made_now (hook_record rs term.now)) };
+
+    /// The equation with this number, among those of the function, was used.
+    fn by_equation(
+        alloc: Global,
+        sym: SymId,
+        args: Vec<Self>,
+        equation: u32,
+        subst: Subst,
+        cond: Option<Self>,
+        body: Self,
+    ) -> Result<Self, AllocError>
+        ensures { IfOk result (λ made_now. (rs : RecordList) (o : OptionalRecord) (r : Record) → all_tell args.items rs → TellsOption tells cond o → tells body r → tells made_now (equation_record rs equation subst o r)) };
+}
+
+/// Nothing is recorded, and no memory is taken for it.
+#[derive(Clone, Copy, Drop)]
+pub struct Unrecorded;
+
+impl Recording for Unrecorded {
+    ghost tells = { λ _ _. Unit {0} };
+
+    ghost all_tell = { λ _ _. Unit {0} };
+
+    fn none(alloc: Global) -> Vec<Unrecorded> {
+        Vec::new(alloc)
+    }
+
+    fn push(_others: &mut Vec<Unrecorded>, _one: Unrecorded) -> Result<(), AllocError> {
+        Ok(())
+    }
+
+    fn bound(_var: u32, _term: &Term) -> Result<Unrecorded, AllocError>
+        ensures { IfOk result (λ _. (rs : RecordList) → Unit {0} → Unit {0}) }
+    {
+        Ok(Unrecorded)
+    }
+
+    fn value(_term: &Term) -> Result<Unrecorded, AllocError> {
+        Ok(Unrecorded)
+    }
+
+    fn ctor(_sym: SymId, _args: Vec<Unrecorded>, _term: &Term) -> Result<Unrecorded, AllocError>
+        ensures { IfOk result (λ _. (rs : RecordList) → Unit {0} → Unit {0}) }
+    {
+        Ok(Unrecorded)
+    }
+
+    fn inj(
+        _alloc: Global,
+        _from: SortId,
+        _to: SortId,
+        below: Unrecorded,
+        _term: &Term,
+    ) -> Result<Unrecorded, AllocError> {
+        Ok(below)
+    }
+
+    fn by_hook(_sym: SymId, _args: Vec<Unrecorded>, _term: &Term) -> Result<Unrecorded, AllocError>
+        ensures { IfOk result (λ _. (rs : RecordList) → Unit {0} → Unit {0}) }
+    {
+        Ok(Unrecorded)
+    }
+
+    fn by_equation(
+        _alloc: Global,
+        _sym: SymId,
+        _args: Vec<Unrecorded>,
+        _equation: u32,
+        _subst: Subst,
+        cond: Option<Unrecorded>,
+        body: Unrecorded,
+    ) -> Result<Unrecorded, AllocError>
+        ensures { IfOk result (λ _. (rs : RecordList) (o : OptionalRecord) (r : Record) → Unit {0} → TellsOption (λ (_ : _) (_ : Record). Unit {0}) cond o → Unit {0} → Unit {0}) }
+    {
+        Ok(body)
+    }
+}
+
+impl Recording for EvalRecord {
+    ghost tells = { λ one r. plain_record one ≡ r };
+
+    ghost all_tell = { λ kept rs. records (map plain_record kept) ≡ rs };
+
+    fn none(alloc: Global) -> Vec<EvalRecord> {
+        Vec::new(alloc)
+    }
+
+    fn push(others: &mut Vec<EvalRecord>, one: EvalRecord) -> Result<(), AllocError> {
+        others.push(one)?;
+        Ok(())
+    }
+
+    fn bound(var: u32, term: &Term) -> Result<EvalRecord, AllocError> {
+        Ok(EvalRecord::Bound(var, term.share()?))
+    }
+
+    fn value(term: &Term) -> Result<EvalRecord, AllocError> {
+        Ok(EvalRecord::Value(term.share()?))
+    }
+
+    fn ctor(sym: SymId, args: Vec<EvalRecord>, term: &Term) -> Result<EvalRecord, AllocError>
+        ensures { IfOk result (λ made_now. (rs : RecordList) → records (map plain_record args.items) ≡ rs → plain_record made_now ≡ made rs term.now) }
+    {
+        Ok(EvalRecord::Ctor(sym, args, term.share()?))
+    }
+
+    fn inj(
+        alloc: Global,
+        from: SortId,
+        to: SortId,
+        below: EvalRecord,
+        term: &Term,
+    ) -> Result<EvalRecord, AllocError> {
+        Ok(EvalRecord::Inj(from, to, Box::new(alloc, below)?, term.share()?))
+    }
+
+    fn by_hook(sym: SymId, args: Vec<EvalRecord>, term: &Term) -> Result<EvalRecord, AllocError>
+        ensures { IfOk result (λ made_now. (rs : RecordList) → records (map plain_record args.items) ≡ rs → plain_record made_now ≡ hook_record rs term.now) }
+    {
+        Ok(EvalRecord::ByHook(sym, args, term.share()?))
+    }
+
+    fn by_equation(
+        alloc: Global,
+        fun: SymId,
+        args: Vec<EvalRecord>,
+        equation: u32,
+        subst: Subst,
+        cond: Option<EvalRecord>,
+        body: EvalRecord,
+    ) -> Result<EvalRecord, AllocError>
+        ensures { IfOk result (λ made_now. (rs : RecordList) (o : OptionalRecord) (r : Record) → records (map plain_record args.items) ≡ rs → TellsOption (λ one k. plain_record one ≡ k) cond o → plain_record body ≡ r → plain_record made_now ≡ equation_record rs equation subst o r) }
+    {
+        let cond = boxed(alloc, cond)?;
+        let body = Box::new(alloc, body)?;
+        Ok(EvalRecord::ByEquation(EqRecord {
+            fun,
+            args,
+            equation,
+            subst,
+            cond,
+            body,
+        }))
+    }
+}
+
+// The record of a condition, where it has one, in a box.
+fn boxed(alloc: Global, cond: Option<EvalRecord>) -> Result<Option<Box<EvalRecord>>, AllocError>
+    ensures { IfOk result (λ kept. (o : OptionalRecord) → TellsOption (λ one r. plain_record one ≡ r) cond o → optional (option_map (λ (b : Box EvalRecord). plain_record b.value) kept) ≡ o) }
+{
+    match cond {
+        Some(met) => Ok(Some(Box::new(alloc, met)?)),
+        None => Ok(None),
+    }
+}

@@ -1,0 +1,151 @@
+// Looks at terms, and matching, where nobody counts the looks.
+ghost use Rattle.std.specs.Prelude.{◌≡◌, ◌<◌, ◌↔◌, length, IsTrue, IfOk, Some};
+ghost use Rattle.term_core.specs.Terms.{leaf, forest, no_tree, more_trees};
+ghost use Rattle.term_core.specs.Heads.{Shows};
+ghost use Rattle.term_core.specs.Values.{scalar_value, value_of};
+ghost use Rattle.term_core.specs.Patterns.{no_pattern, more_patterns};
+ghost use Rattle.term_core.specs.RulePatterns.{plain_pattern};
+ghost use Rattle.term_core.specs.PatternLists.{plain_patterns};
+ghost use Rattle.rule_core.specs.Evaluation.{IsTrueValue};
+ghost use Rattle.rule_core.specs.MatchSearch.{FindsMatch};
+ghost use Rattle.rule_core.specs.Matching.{UseFirst};
+ghost use Rattle.fun_eval.specs.Roots.{IsScalar, MayMatch};
+
+use rule_core::{Subsorts, find_match, find_match_all};
+use std::alloc::{AllocError, Global};
+use std::marker::Brand;
+use std::sync::ledger::{Blank, Ledger};
+use term_core::{RulePat, Scalar, Steps, Subst, Term, Value, View};
+
+// What stands at the root of a term.
+fn root(term: &Term) -> View<'_>
+    ensures { Shows term.now result }
+{
+    counted_root::<Brand>(term, Blank::new(1))
+}
+
+fn counted_root<L: Ledger>(term: &Term, blank: Blank) -> View<'_>
+    requires name { blank.name ≡ L.name }
+    requires parts { blank.parts ≡ L.parts }
+    requires some { 0 < L.parts }
+    ensures { Shows term.now result }
+{
+    let mut steps = Steps::<L>::new(blank);
+    term.view(&mut steps)
+}
+
+/// Whether a term is the truth value `true`. It takes no memory.
+pub fn is_true(term: &Term) -> bool
+    ensures { IsTrue result ↔ IsTrueValue term.now }
+{
+    matches!(root(term), View::Value(_, Value::Bool(true)))
+}
+
+// The whole number or the truth value that a term is.
+pub(crate) fn scalar_of(term: &Term) -> Scalar
+    requires { IsScalar term.now }
+    ensures { (sort : _) × (term.now ≡ leaf sort (scalar_value result)) }
+{
+    match root(term) {
+        View::Value(_, Value::Int(n)) => Scalar::Int(*n),
+        View::Value(_, Value::Bool(b)) => Scalar::Bool(*b),
+        _ => unreachable!(),
+    }
+}
+
+// Whether the root of a term is such that a pattern may become the term. It takes no memory, and looks at the root
+// alone.
+fn may_match(pat: &RulePat, term: &Term) -> bool
+    ensures { MayMatch (plain_pattern pat.now) term.now result }
+{
+    match pat {
+        RulePat::Var(_) => true,
+        RulePat::Value(sort, value) => match root(term) {
+            View::Value(own_sort, own_value) => *sort == own_sort && value.same(own_value),
+            _ => false,
+        },
+        RulePat::Ctor(sym, _) => match root(term) {
+            View::Ctor(own_sym, _) => *sym == own_sym,
+            _ => false,
+        },
+        RulePat::Inj(_, to, _) => match root(term) {
+            View::Inj(_, own_to) => *to == own_to,
+            _ => false,
+        },
+        RulePat::Call(..) => false,
+    }
+}
+
+/// As `find_match`, but a pattern whose root is another than the term's costs one look and no memory.
+pub fn match_term(
+    alloc: Global,
+    pat: &RulePat,
+    vars: usize,
+    subsorts: &Subsorts,
+    term: &Term,
+) -> Result<Option<Subst>, AllocError>
+    requires { UseFirst vars (more_patterns (plain_pattern pat.now) no_pattern) }
+    ensures { IfOk result (FindsMatch subsorts.now vars (more_patterns (plain_pattern pat.now) no_pattern) (more_trees term.now no_tree)) }
+{
+    if !may_match(pat, term) {
+        return Ok(None);
+    }
+    counted_match::<Brand>(alloc, pat, vars, subsorts, term, Blank::new(1))
+}
+
+fn counted_match<L: Ledger>(
+    alloc: Global,
+    pat: &RulePat,
+    vars: usize,
+    subsorts: &Subsorts,
+    term: &Term,
+    blank: Blank,
+) -> Result<Option<Subst>, AllocError>
+    requires scoped { UseFirst vars (more_patterns (plain_pattern pat.now) no_pattern) }
+    requires name { blank.name ≡ L.name }
+    requires parts { blank.parts ≡ L.parts }
+    requires some { 0 < L.parts }
+    ensures { IfOk result (FindsMatch subsorts.now vars (more_patterns (plain_pattern pat.now) no_pattern) (more_trees term.now no_tree)) }
+{
+    let mut steps = Steps::<L>::new(blank);
+    find_match(alloc, pat, vars, subsorts, term, &mut steps)
+}
+
+// As `find_match_all`, but where a root is another than that of its pattern, it takes no memory.
+pub(crate) fn match_terms(
+    alloc: Global,
+    pats: &[RulePat],
+    vars: usize,
+    subsorts: &Subsorts,
+    terms: &[Term],
+) -> Result<Option<Subst>, AllocError>
+    requires scoped { UseFirst vars (plain_patterns pats.now) }
+    requires count { length pats.now ≡ length terms.now }
+    ensures { IfOk result (FindsMatch subsorts.now vars (plain_patterns pats.now) (forest terms.now)) }
+{
+    for i in 0..pats.len() {
+        if !may_match(&pats[i], &terms[i]) {
+            return Ok(None);
+        }
+    }
+    counted_match_all::<Brand>(alloc, pats, vars, subsorts, terms, Blank::new(1))
+}
+
+fn counted_match_all<L: Ledger>(
+    alloc: Global,
+    pats: &[RulePat],
+    vars: usize,
+    subsorts: &Subsorts,
+    terms: &[Term],
+    blank: Blank,
+) -> Result<Option<Subst>, AllocError>
+    requires scoped { UseFirst vars (plain_patterns pats.now) }
+    requires count { length pats.now ≡ length terms.now }
+    requires name { blank.name ≡ L.name }
+    requires parts { blank.parts ≡ L.parts }
+    requires some { 0 < L.parts }
+    ensures { IfOk result (FindsMatch subsorts.now vars (plain_patterns pats.now) (forest terms.now)) }
+{
+    let mut steps = Steps::<L>::new(blank);
+    find_match_all(alloc, pats, vars, subsorts, terms, &mut steps)
+}

@@ -1,0 +1,4 @@
+pub mod ImageLaws
+pub mod LoopLaws
+pub mod HexLaws
+pub mod NamingLaws

@@ -1,0 +1,200 @@
+// The images of patterns and rules.
+ghost use Rattle.std.specs.Prelude.{◌≡◌, ◌<◌, [], ◌∷◌, length, slice_get, IfOk, IfSome, IsSome, Some};
+ghost use Rattle.ml_pat.specs.Patterns.{Pattern, top, imp, and, next};
+ghost use Rattle.term_core.specs.RulePatterns.{plain_pattern, sort_numbers};
+ghost use Rattle.term_core.specs.PatternLists.{plain_patterns};
+ghost use Rattle.ground_image.specs.Images.{image_of, applied, at_sorts, symbol_image, HasImage, HaveImages, AreSorts, HasImageAt, IsImageAt, injection_symbol, injection_image};
+ghost use Rattle.ground_image.specs.Injecting.{IsInjectionAt};
+ghost use Rattle.ground_image.specs.Gained.{HasGained};
+
+use crate::tokens::{sort_number, symbol_number, value_number};
+use ground_rules::{Program, Signature, SymKind};
+use ml_pat::{MPat, Names, VarNo};
+use std::alloc::{AllocError, Global};
+use term_core::{RulePat, SortId};
+
+/// The image of a pattern whose sorts and symbols are the program's (Chen and Rosu 2019): a symbol's token, applied to
+/// the sorts' tokens and to the images of the arguments, one after another. An error is want of memory; the names may
+/// have gained tokens then too.
+pub fn term_image(
+    alloc: Global,
+    program: &Program,
+    names: &mut Names,
+    pat: &RulePat,
+) -> Result<MPat, AllocError>
+    requires { HasImage program.now.sig (plain_pattern pat.now) }
+    ensures image { IfOk result (λ p. image_of program.now.sig names.new (plain_pattern pat.now) ≡ Some p) }
+    ensures names { HasGained program.now.sig names.old names.new }
+{
+    image(alloc, &program.sig, names, pat)
+}
+
+/// The image of the rule at this place, which has no variables (Chen and Rosu 2019): `left & top -> next right`, with
+/// the images of its sides. An error is want of memory; the names may have gained tokens then too.
+pub fn rule_image(
+    alloc: Global,
+    program: &Program,
+    names: &mut Names,
+    rule: u32,
+) -> Result<MPat, AllocError>
+    requires { HasImageAt program.now rule }
+    ensures image { IfOk result (IsImageAt program.now names.new rule) }
+    ensures names { HasGained program.now.sig names.old names.new }
+{
+    let rule = &program.rules[rule as usize];
+    let left = image(alloc, &program.sig, names, &rule.left)?;
+    let right = image(alloc, &program.sig, names, &rule.right)?;
+    step_to(alloc, &left, &right)
+}
+
+// `left & top -> next right`.
+fn step_to(alloc: Global, left: &MPat, right: &MPat) -> Result<MPat, AllocError>
+    ensures { IfOk result (λ p. p ≡ imp (and left.now top) (next right.now)) }
+{
+    let from = MPat::and(alloc, left, &MPat::top(alloc)?)?;
+    MPat::imp(alloc, &from, &MPat::next(alloc, right)?)
+}
+
+// The image of a pattern, by its form.
+#[cycle(image)]
+fn image(
+    alloc: Global,
+    sig: &Signature,
+    names: &mut Names,
+    pat: &RulePat,
+) -> Result<MPat, AllocError>
+    requires { HasImage sig.now (plain_pattern pat.now) }
+    ensures image { IfOk result (λ p. image_of sig.now names.new (plain_pattern pat.now) ≡ Some p) }
+    ensures names { HasGained sig.now names.old names.new }
+{
+    match pat {
+        RulePat::Var(x) => MPat::var(alloc, VarNo(*x)),
+        RulePat::Ctor(symbol, args) => {
+            let head = head_image(alloc, sig, names, symbol.0 as usize)?;
+            applied(alloc, sig, names, head, args)
+        }
+        RulePat::Call(symbol, sorts, args) => {
+            let head = head_image(alloc, sig, names, symbol.0 as usize)?;
+            let head = at_sorts(alloc, sig, names, head, sorts)?;
+            applied(alloc, sig, names, head, args)
+        }
+        RulePat::Value(sort, value) => {
+            let number = value_number(alloc, sig, names, *sort, value)?;
+            MPat::constant(alloc, number)
+        }
+        RulePat::Inj(from, to, below) => {
+            let head = injection_image(alloc, sig, names, *from, *to)?;
+            let below = image(alloc, sig, names, below)?;
+            MPat::app(alloc, &head, &below)
+        }
+    }
+}
+
+// The pattern applied to the images of the arguments, from the first on.
+#[cycle(image)]
+fn applied(
+    alloc: Global,
+    sig: &Signature,
+    names: &mut Names,
+    head: MPat,
+    args: &[RulePat],
+) -> Result<MPat, AllocError>
+    requires { HaveImages sig.now (plain_patterns args.now) }
+    ensures image { IfOk result (λ p. applied sig.now names.new (Some head) (plain_patterns args.now) ≡ Some p) }
+    ensures names { HasGained sig.now names.old names.new }
+{
+    let mut made = head;
+    for arg in args {
+        let arg = image(alloc, sig, names, arg)?;
+        made = MPat::app(alloc, &made, &arg)?;
+    }
+    Ok(made)
+}
+
+// The constant of a symbol.
+fn head_image(
+    alloc: Global,
+    sig: &Signature,
+    names: &mut Names,
+    symbol: usize,
+) -> Result<MPat, AllocError>
+    requires { symbol < length sig.now.symbols }
+    ensures image { IfOk result (λ p. symbol_image sig.now names.new symbol ≡ Some p) }
+    ensures names { HasGained sig.now names.old names.new }
+{
+    let number = symbol_number(alloc, sig, names, symbol)?;
+    MPat::constant(alloc, number)
+}
+
+// The pattern at sort arguments, from the first on.
+fn at_sorts(
+    alloc: Global,
+    sig: &Signature,
+    names: &mut Names,
+    head: MPat,
+    sorts: &[SortId],
+) -> Result<MPat, AllocError>
+    requires { AreSorts sig.now (sort_numbers sorts.now) }
+    ensures image { IfOk result (λ p. at_sorts sig.now names.new (Some head) (sort_numbers sorts.now) ≡ Some p) }
+    ensures names { HasGained sig.now names.old names.new }
+{
+    let mut made = head;
+    for sort in sorts {
+        let number = sort_number(alloc, sig, names, *sort)?;
+        made = MPat::at(alloc, &made, number)?;
+    }
+    Ok(made)
+}
+
+// The injection symbol at two sorts.
+fn injection_image(
+    alloc: Global,
+    sig: &Signature,
+    names: &mut Names,
+    from: SortId,
+    to: SortId,
+) -> Result<MPat, AllocError>
+    requires symbol { IsSome (injection_symbol sig.now) }
+    requires sorts { AreSorts sig.now (from.0 ∷ to.0 ∷ []) }
+    ensures image { IfOk result (λ p. injection_image sig.now names.new from.0 to.0 ≡ Some p) }
+    ensures names { HasGained sig.now names.old names.new }
+{
+    match injection_symbol(sig) {
+        Some(symbol) => {
+            let head = head_image(alloc, sig, names, symbol)?;
+            at_sorts(alloc, sig, names, head, &[from, to])
+        }
+        None => unreachable!(),
+    }
+}
+
+// The number of the injection symbol. It looks at the symbols up to this one, which definitions declare early.
+pub(crate) fn injection_symbol(sig: &Signature) -> Option<usize>
+    ensures symbol { result ≡ injection_symbol sig.now }
+    ensures within { IfSome result (λ symbol. symbol < length sig.now.symbols) }
+{
+    for symbol in 0..sig.symbols.len() {
+        if is_injection(sig, symbol) {
+            return Some(symbol);
+        }
+    }
+    None
+}
+
+// Whether the symbol with this number injects.
+fn is_injection(sig: &Signature, symbol: usize) -> bool
+    requires { symbol < length sig.now.symbols }
+    ensures { IsInjectionAt sig.now symbol result }
+{
+    match sig.symbols.value(symbol) {
+        Some(info) => match info.kind {
+            SymKind::Injection => true,
+            SymKind::Ctor
+            | SymKind::Equations
+            | SymKind::Hooked(_)
+            | SymKind::Closed
+            | SymKind::NoKind => false,
+        },
+        None => unreachable!(),
+    }
+}

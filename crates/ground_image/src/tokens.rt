@@ -1,0 +1,123 @@
+// The numbers of the tokens of sorts, symbols and domain values.
+ghost use Rattle.std.specs.Prelude.{◌≡◌, OnOk, ◌<◌, ◌++◌, length, slice_get, string_bytes, option_map, IfOk, IsTrue, Some, codes};
+ghost use Rattle.std.specs.Char.{digit_char};
+ghost use Rattle.term_core.specs.Values.{value_of};
+ghost use Rattle.ml_pat.specs.Named.{number_of, IsNumbered};
+ghost use Rattle.ground_image.specs.Tokens.{sort_token, symbol_token, name_at, token_of_sort, token_of_symbol, token_of_value, value_token, hexadecimal, numbered, is_value_at};
+ghost use Rattle.ground_image.specs.Gained.{IsOwnToken, HasGained};
+
+use ground_rules::Signature;
+use itoa::Buffer;
+use ml_pat::{ConstNo, MPat, MSort, Names};
+use std::alloc::{AllocError, Global};
+use term_core::{SortId, Value};
+
+// The number of a sort's token.
+pub(crate) fn sort_number(
+    alloc: Global,
+    sig: &Signature,
+    names: &mut Names,
+    sort: SortId,
+) -> Result<MSort, AllocError>
+    requires { sort.0 < length sig.now.sorts }
+    ensures number { IfOk result (λ s. numbered names.new (token_of_sort sig.now sort.0) ≡ Some s.0) }
+    ensures names { HasGained sig.now names.old names.new }
+{
+    match sig.sorts.name(sort.0 as usize) {
+        Some(name) => {
+            let token = prefixed(alloc, "s:", name)?;
+            Ok(MSort(names.number(token.as_str())?))
+        }
+        None => unreachable!(),
+    }
+}
+
+// The number of a symbol's token.
+pub(crate) fn symbol_number(
+    alloc: Global,
+    sig: &Signature,
+    names: &mut Names,
+    symbol: usize,
+) -> Result<ConstNo, AllocError>
+    requires { symbol < length sig.now.symbols }
+    ensures number { IfOk result (λ c. numbered names.new (token_of_symbol sig.now symbol) ≡ Some c.0) }
+    ensures names { HasGained sig.now names.old names.new }
+{
+    match sig.symbols.name(symbol) {
+        Some(name) => {
+            let token = prefixed(alloc, "f:", name)?;
+            Ok(ConstNo(names.number(token.as_str())?))
+        }
+        None => unreachable!(),
+    }
+}
+
+// The number of the token of a domain value that the sort has.
+pub(crate) fn value_number(
+    alloc: Global,
+    sig: &Signature,
+    names: &mut Names,
+    sort: SortId,
+    value: &Value,
+) -> Result<ConstNo, AllocError>
+    requires sort { sort.0 < length sig.now.sorts }
+    requires value { IsTrue (is_value_at sig.now sort.0 (value_of value.now)) }
+    ensures number { IfOk result (λ c. numbered names.new (token_of_value sig.now sort.0 (value_of value.now)) ≡ Some c.0) }
+    ensures names { HasGained sig.now names.old names.new }
+{
+    match sig.sorts.name(sort.0 as usize) {
+        Some(name) => {
+            let token = value_token(alloc, name, value)?;
+            Ok(ConstNo(names.number(token.as_str())?))
+        }
+        None => unreachable!(),
+    }
+}
+
+// The token of a domain value of the sort with this name.
+fn value_token(alloc: Global, name: &str, value: &Value) -> Result<String, AllocError>
+    ensures { IfOk result (λ token. string_bytes token ≡ value_token name.now (value_of value.now)) }
+{
+    let mut token = prefixed(alloc, "d:", name)?;
+    token.push_str(":")?;
+    match value {
+        Value::Int(n) => push_hexadecimal(&mut token, Buffer::new().format(*n).as_bytes())?,
+        Value::Bool(true) => push_hexadecimal(&mut token, b"true")?,
+        Value::Bool(false) => push_hexadecimal(&mut token, b"false")?,
+        Value::Text(words) => push_hexadecimal(&mut token, words.as_bytes())?,
+    }
+    Ok(token)
+}
+
+// Adds the bytes in hexadecimal digits.
+fn push_hexadecimal(token: &mut String, bytes: &[u8]) -> Result<(), AllocError>
+    ensures { OnOk result (string_bytes token.new ≡ string_bytes token.old ++ hexadecimal bytes.now) }
+{
+    for byte in bytes {
+        token.push(digit(*byte / 16))?;
+        token.push(digit(*byte % 16))?;
+    }
+    Ok(())
+}
+
+// A digit below 16.
+fn digit(n: u8) -> char
+    requires { n < 16 }
+    ensures value { result ≡ digit_char n }
+    ensures ascii { result < 128 }
+{
+    if n < 10 {
+        (b'0' + n) as char
+    } else {
+        (b'a' - 10 + n) as char
+    }
+}
+
+// A name behind the letters that say what it names.
+fn prefixed(alloc: Global, prefix: &str, name: &str) -> Result<String, AllocError>
+    ensures { IfOk result (λ token. string_bytes token ≡ prefix.now ++ name.now) }
+{
+    let mut token = String::from_str(alloc, prefix)?;
+    token.push_str(name)?;
+    Ok(token)
+}

@@ -1,0 +1,5 @@
+pub mod Allowing
+pub mod DeclaredStates
+pub mod HeaderStates
+pub mod ImageLeaves
+pub mod SmallTexts

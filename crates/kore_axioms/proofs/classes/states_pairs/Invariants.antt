@@ -1,0 +1,7 @@
+use Rattle.std.proofs.Common.{◌≡◌, drop, map}
+use Rattle.kore_ast.specs.Plain.{plain_pattern}
+use Rattle.kore_axioms.specs.AxiomClasses.{states_pairs}
+use Rattle.kore_axioms.proofs.classes.states_pairs.Given as goal
+
+abbrev pub invariant-loop-attr : goal.invariant-loop-attr
+invariant-loop-attr l = states_pairs (map plain_pattern (drop l.attr-index l.attrs)) ≡ states_pairs (map plain_pattern l.attrs)

@@ -1,0 +1,41 @@
+-- Conditions over sorts of truth values.
+use Rattle.std.specs.Prelude.{Bool, true, false, if◌then◌else◌, Option, Some, None}
+use Rattle.std.specs.Option.{option_and_then}
+use Rattle.kore_text.specs.Trees.{SortTree, PatternTree}
+use Rattle.rule_core.specs.declared.signature.Signature.{Signature}
+use Rattle.rule_core.specs.declared.signature.SortKind.{SortKind}
+use Rattle.rule_core.specs.declared.signature.SortKind.TheVariants as kind
+use Rattle.kore_sig.specs.SortReferences.{sort_number}
+use Rattle.kore_check.specs.PatternSorts.{sort_kind}
+use Rattle.kore_shapes.specs.Shapes.{Condition, always, tests, ill}
+
+abbrev pub is_bool_kind : SortKind → Bool
+is_bool_kind kind.Int = false
+is_bool_kind kind.Bool = true
+is_bool_kind kind.Map = false
+is_bool_kind kind.Other = false
+
+abbrev pub is_some_bool : Option SortKind → Bool
+is_some_bool None = false
+is_some_bool (Some kind) = is_bool_kind kind
+
+-- the sort is a declared sort of truth values
+abbrev pub is_bool : Signature → SortTree → Bool
+is_bool sig s = is_some_bool (option_and_then (sort_kind sig) (sort_number sig.sorts s))
+
+-- the condition, which is ill where what it tests is over another sort than one of truth values
+abbrev pub over_bool : Signature → Condition → Condition
+over_bool sig always = always
+over_bool sig (tests t b) = if is_bool sig t then tests t b else ill
+over_bool sig ill = ill
+
+-- what a condition tests
+abbrev pub tested : Condition → Option PatternTree
+tested always = None
+tested (tests t b) = Some b
+tested ill = None
+
+abbrev pub is_ill : Condition → Bool
+is_ill always = false
+is_ill (tests t b) = false
+is_ill ill = true

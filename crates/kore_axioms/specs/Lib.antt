@@ -1,0 +1,16 @@
+-- Believed: what public clauses say, and believed definitions of other crates.
+pub mod Conditions
+pub mod Priorities
+pub mod Uses
+pub mod Raised
+pub mod RuleParts
+pub mod RuleForms
+pub mod RuleFaults
+pub mod AxiomClasses
+pub mod ReadableEquations
+pub mod Views
+pub mod ClassViews
+pub mod UsedSymbols
+-- Private: what clauses of private functions cite, and how private fields are seen.
+pub mod FoldUses
+pub mod Noting

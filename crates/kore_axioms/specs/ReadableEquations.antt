@@ -1,0 +1,108 @@
+-- Which equations are readable. One that is not closes its function; it is no fault of the definition, so it matters
+-- only whether it has a fault, and not which is the first.
+use Rattle.std.specs.Prelude.{◌≡◌, ◌==◌, ◌+◌, ℕ, List, [], ◌∷◌, ◌++◌, Bool, true, false, not, ◌||◌, ◌&&◌, Option, Some, None, is_some, length, codes, nat_le}
+use Rattle.std.specs.List.{list_any}
+use Rattle.std.specs.Str.{bytes_eq}
+use Rattle.kore_text.specs.Trees.{SortTree, sort_parameter, sort_applied, PatternTree, pattern_trees, AxiomDeclaration}
+use Rattle.rule_core.specs.Sorting.{sort_at}
+use Rattle.rule_core.specs.declared.signature.Signature.{Signature}
+use Rattle.rule_core.specs.declared.signature.SymInfo.{SymInfo}
+use Rattle.kore_sig.specs.FirstFault.{Fault}
+use Rattle.kore_sig.specs.Attributes.{has_attribute}
+use Rattle.kore_sig.specs.SortReferences.{sort_number}
+use Rattle.kore_check.specs.Folds.{Unfoldeds, unfolded, all_unfolded, heights}
+use Rattle.kore_check.specs.PatternFaults.{argument_faults, most_height}
+use Rattle.kore_shapes.specs.Forms.{is_any, has_connective, has_binder}
+use Rattle.kore_shapes.specs.Shapes.{Condition, given_condition}
+use Rattle.kore_shapes.specs.Statements.{Statement}
+use Rattle.kore_shapes.specs.EquationForms.{EquationParts, equation_parts}
+use Rattle.kore_axioms.specs.Conditions.{over_bool, tested, is_ill}
+use Rattle.kore_axioms.specs.Uses.{have_symbol, is_plain_function, is_ac_symbol}
+use Rattle.kore_axioms.specs.Priorities.{has_bad_priority}
+use Rattle.kore_axioms.specs.RuleForms.{holds_of}
+use Rattle.kore_axioms.specs.RuleFaults.{faults_at_sort, condition_faults, is_bound}
+
+-- patterns with their folds read
+abbrev pub all_read : List PatternTree → Unfoldeds
+all_read ps = all_unfolded (pattern_trees ps)
+
+abbrev pub condition_of_equation : Signature → Statement → EquationParts → Condition
+condition_of_equation sig e q = over_bool sig (given_condition e.over q.condition)
+
+-- ---- its function
+
+-- the sort that an equation is over: a sort parameter of the axiom, or a declared sort
+abbrev pub is_sort_over : Signature → List (List ℕ) → SortTree → Bool
+is_sort_over sig params (sort_parameter at name) = list_any (bytes_eq name) params
+is_sort_over sig params (sort_applied at name ss) = is_some (sort_number sig.sorts (sort_applied at name ss))
+
+-- the sorts are declared, and the same
+abbrev pub is_one_sort : Option ℕ → Option ℕ → Bool
+is_one_sort None s = false
+is_one_sort (Some n) None = false
+is_one_sort (Some n) (Some m) = n == m
+
+-- it is over a sort, of its function's result sort, and has as many patterns as its function has arguments
+abbrev pub fits_function : Signature → AxiomDeclaration → SymInfo → Statement → EquationParts → Bool
+fits_function sig a info e q =
+    is_sort_over sig a.params e.over
+    && (is_one_sort (sort_number sig.sorts e.sort) (sort_at [] info.result)
+    && (length q.patterns == length info.args.items))
+
+-- ---- its form
+
+-- a pattern has a form that none of an equation has
+abbrev pub has_other_form : Signature → Statement → EquationParts → Bool
+has_other_form sig e q =
+    list_any (has_connective is_any) q.patterns
+    || (holds_of (has_connective is_any) (tested (condition_of_equation sig e q)) || has_connective is_any q.right)
+
+-- it has no such form, no binder, a condition of the form that conditions have, and no bad priority
+abbrev pub has_good_form : Signature → AxiomDeclaration → Statement → EquationParts → Bool
+has_good_form sig a e q =
+    not (has_other_form sig e q)
+    && (not (has_binder a.pattern)
+    && (not (is_ill (condition_of_equation sig e q)) && not (has_bad_priority a.attributes)))
+
+-- ---- its sorts
+
+-- the faults of the variables of its left side and of the patterns, which are to have the sorts of the function's
+-- arguments, of the condition, and of the right side
+abbrev pub equation_faults : Signature → SymInfo → Statement → EquationParts → List Fault
+equation_faults sig info e q =
+    argument_faults sig [] info.args.items (all_read q.parameters)
+    ++ (argument_faults sig [] info.args.items (all_read q.patterns)
+    ++ (condition_faults sig (condition_of_equation sig e q)
+    ++ faults_at_sort sig (sort_at [] info.result) (unfolded q.right)))
+
+abbrev pub is_empty : List Fault → Bool
+is_empty [] = true
+is_empty (f ∷ fs) = false
+
+-- there is none, and the function at the patterns is not too high
+abbrev pub is_sorted : Signature → SymInfo → Statement → EquationParts → Bool
+is_sorted sig info e q =
+    is_empty (equation_faults sig info e q) && nat_le (heights (all_read q.patterns) + 1) most_height
+
+-- ---- its uses
+
+-- the patterns use no function and no AC symbol, the function is not AC, and the patterns have each variable of the
+-- condition and of the right side
+abbrev pub has_good_uses : Signature → SymInfo → Statement → EquationParts → Bool
+has_good_uses sig info e q =
+    not (have_symbol (is_plain_function sig) (all_read q.patterns))
+    && (not (info.ac || have_symbol (is_ac_symbol sig) (all_read q.patterns))
+    && (is_bound (all_read q.patterns) (tested (condition_of_equation sig e q))
+    && is_bound (all_read q.patterns) (Some q.right)))
+
+-- ---- the equation
+
+-- The equation of the function with this declaration has one of the two forms, with these parts, none of which has a
+-- fault, and is no last resort.
+pub record IsReadable (sig : Signature) (a : AxiomDeclaration) (info : SymInfo) (e : Statement) (q : EquationParts) : Type 0 where
+  pub no_last_resort : has_attribute (codes "owise") a.attributes ≡ false
+  pub form : equation_parts e ≡ Some q
+  pub function : fits_function sig a info e q ≡ true
+  pub good_form : has_good_form sig a e q ≡ true
+  pub sorted : is_sorted sig info e q ≡ true
+  pub good_uses : has_good_uses sig info e q ≡ true

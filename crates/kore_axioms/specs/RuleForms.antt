@@ -1,0 +1,50 @@
+-- What is wrong with the form of a rewrite rule.
+use Rattle.std.specs.Prelude.{ℕ, List, [], ◌∷◌, Bool, true, false, ◌||◌, Option, Some, None}
+use Rattle.kore_text.specs.Trees.{PatternTree, AxiomDeclaration}
+use Rattle.kore_sig.specs.FirstFault.{Fault}
+use Rattle.kore_shapes.specs.Forms.{is_and, is_no_and, is_any, has_connective, has_binder}
+use Rattle.kore_shapes.specs.Shapes.{Side, alone, beside, without, misshapen}
+use Rattle.kore_axioms.specs.Conditions.{tested, is_ill}
+use Rattle.kore_axioms.specs.RuleParts.{RuleParts, left_of, right_of}
+use Rattle.kore_axioms.specs.Priorities.{has_bad_priority}
+use Rattle.kore_axioms.specs.Raised.{raised}
+
+-- the test holds of the pattern, where there is one
+abbrev pub holds_of : (PatternTree → Bool) → Option PatternTree → Bool
+holds_of test None = false
+holds_of test (Some p) = test p
+
+abbrev pub is_misshapen : Side → Bool
+is_misshapen (alone p) = false
+is_misshapen (beside p q) = false
+is_misshapen without = false
+is_misshapen misshapen = true
+
+abbrev pub is_without : Side → Bool
+is_without (alone p) = false
+is_without (beside p q) = false
+is_without without = true
+is_without misshapen = false
+
+-- a side is an `\and` of another sort or number, or has a form that no rule has; an `\and` in the left side is a fault
+-- of its own
+abbrev pub has_bad_form : RuleParts → Bool
+has_bad_form w =
+    (is_misshapen w.before || is_misshapen w.after)
+    || (holds_of (has_connective is_no_and) (left_of w)
+    || (holds_of (has_connective is_any) (tested w.condition) || holds_of (has_connective is_any) (right_of w)))
+
+-- The form, at the axiom: 13, a side has a bad form; 15, a binder or a set variable stands somewhere; 16, what stands
+-- beside the right side is no `\top`; 17, the condition is missing or of another form; 22, an `\and` stands in the left
+-- side; 23, the priority is no number.
+abbrev pub form_tests : AxiomDeclaration → RuleParts → List (Bool × ℕ)
+form_tests a w =
+    (has_bad_form w, 13)
+    ∷ ((has_binder a.pattern, 15)
+    ∷ ((is_without w.after, 16)
+    ∷ ((is_without w.before || is_ill w.condition, 17)
+    ∷ ((holds_of (has_connective is_and) (left_of w), 22)
+    ∷ ((has_bad_priority a.attributes, 23) ∷ [])))))
+
+abbrev pub form_faults : AxiomDeclaration → RuleParts → List Fault
+form_faults a w = raised a.at (form_tests a w)

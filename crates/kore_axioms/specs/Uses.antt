@@ -1,0 +1,71 @@
+-- Which symbols and variables a pattern uses, once its folds are read.
+use Rattle.std.specs.Prelude.{ℕ, List, Bool, true, false, not, ◌||◌, ◌&&◌, Option, Some, None}
+use Rattle.std.specs.Str.{bytes_eq}
+use Rattle.kore_text.specs.Trees.{SortTree}
+use Rattle.rule_core.specs.declared.signature.Signature.{Signature}
+use Rattle.rule_core.specs.declared.signature.SymInfo.{SymInfo}
+use Rattle.rule_core.specs.declared.signature.SymKind.{SymKind}
+use Rattle.rule_core.specs.declared.signature.SymKind.TheVariants.{Injection, Ctor, Equations, Hooked, Closed, NoKind}
+use Rattle.kore_check.specs.Folds.{Unfolded, named_variable, written_value, applied_symbol, other_form, Unfoldeds, no_more, and_more}
+use Rattle.kore_check.specs.PatternSorts.{symbol_named}
+use Rattle.kore_shapes.specs.SameSorts.{same_sort}
+
+-- a symbol that passes the test stands in the pattern
+abbrev mutual
+  pub has_symbol : (List ℕ → Bool) → Unfolded → Bool
+  has_symbol test (named_variable at name s) = false
+  has_symbol test (written_value at s text byte) = false
+  has_symbol test (applied_symbol at byte name ss ps) = test name || have_symbol test ps
+  has_symbol test (other_form at) = false
+
+  pub have_symbol : (List ℕ → Bool) → Unfoldeds → Bool
+  have_symbol test no_more = false
+  have_symbol test (and_more p ps) = has_symbol test p || have_symbol test ps
+
+-- a variable of this name and sort stands in one of the patterns
+abbrev mutual
+  pub stands_in : List ℕ → SortTree → Unfolded → Bool
+  stands_in name s (named_variable at n t) = bytes_eq name n && same_sort s t
+  stands_in name s (written_value at t text byte) = false
+  stands_in name s (applied_symbol at byte f ss ps) = stands_in_some name s ps
+  stands_in name s (other_form at) = false
+
+  pub stands_in_some : List ℕ → SortTree → Unfoldeds → Bool
+  stands_in_some name s no_more = false
+  stands_in_some name s (and_more p ps) = stands_in name s p || stands_in_some name s ps
+
+-- each variable of the pattern stands in one of these
+abbrev mutual
+  pub is_bound_by : Unfoldeds → Unfolded → Bool
+  is_bound_by qs (named_variable at name s) = stands_in_some name s qs
+  is_bound_by qs (written_value at s text byte) = true
+  is_bound_by qs (applied_symbol at byte name ss ps) = are_bound_by qs ps
+  is_bound_by qs (other_form at) = true
+
+  pub are_bound_by : Unfoldeds → Unfoldeds → Bool
+  are_bound_by qs no_more = true
+  are_bound_by qs (and_more p ps) = is_bound_by qs p && are_bound_by qs ps
+
+abbrev pub is_function_kind : SymKind → Bool
+is_function_kind Injection = false
+is_function_kind Ctor = false
+is_function_kind Equations = true
+is_function_kind (Hooked row) = true
+is_function_kind Closed = true
+is_function_kind NoKind = false
+
+-- a function that is not said to be associative, commutative or the like
+abbrev pub is_plain_function_with : Option SymInfo → Bool
+is_plain_function_with None = false
+is_plain_function_with (Some info) = is_function_kind info.kind && not info.ac
+
+abbrev pub is_plain_function : Signature → List ℕ → Bool
+is_plain_function sig name = is_plain_function_with (symbol_named sig name)
+
+-- a symbol that is said to be so
+abbrev pub is_ac_with : Option SymInfo → Bool
+is_ac_with None = false
+is_ac_with (Some info) = info.ac
+
+abbrev pub is_ac_symbol : Signature → List ℕ → Bool
+is_ac_symbol sig name = is_ac_with (symbol_named sig name)

@@ -1,0 +1,152 @@
+// Which equations are readable.
+ghost use Rattle.std.specs.Prelude.{◌≡◌, ◌||◌, ◌&&◌, [], not, length, map, option_map};
+ghost use Rattle.std.specs.List.{list_any};
+ghost use Rattle.std.specs.Str.{bytes_eq};
+ghost use Rattle.kore_text.specs.Trees.{pattern_trees};
+ghost use Rattle.kore_ast.specs.Plain.{plain_sort, plain_pattern, plain_axiom_decl};
+ghost use Rattle.rule_core.specs.Sorting.{sort_at as the_sort_at};
+ghost use Rattle.kore_check.specs.Folds.{all_unfolded};
+ghost use Rattle.kore_shapes.specs.Forms.{has_connective as has_one, is_any};
+ghost use Rattle.kore_shapes.specs.Views.{pattern_at, plain_condition};
+ghost use Rattle.kore_shapes.specs.StatementViews.{plain_statement};
+ghost use Rattle.kore_shapes.specs.PartViews.{plain_parts};
+ghost use Rattle.kore_axioms.specs.Uses.{have_symbol as have_one};
+ghost use Rattle.kore_axioms.specs.UsedSymbols.{is_used};
+ghost use Rattle.kore_axioms.specs.Conditions.{tested as the_tested};
+ghost use Rattle.kore_axioms.specs.RuleForms.{holds_of};
+ghost use Rattle.kore_axioms.specs.ReadableEquations.{condition_of_equation as the_condition, is_sort_over as is_a_sort_over, is_one_sort as are_one_sort, fits_function as does_fit, has_other_form as has_another_form, has_good_form as is_of_good_form};
+
+use crate::parts::{is_ill, over_bool, tested};
+use crate::priorities::has_bad_priority;
+use crate::uses::{Symbols, has_symbol};
+use kore_ast::{AxiomDecl, Pat, Sort, SortForm, Text};
+use kore_shapes::{
+    Condition, Connectives, EquationParts, Statement, given_condition, has_binder, has_connective,
+};
+use kore_sig::sort_number;
+use rule_core::{Signature, SortRef, SymInfo};
+
+/// The condition of an equation.
+fn condition_of<'a>(
+    sig: &Signature,
+    stated: &Statement<'a>,
+    parts: &EquationParts<'a>,
+) -> Condition<'a>
+    ensures { plain_condition result ≡ the_condition sig.now (plain_statement stated.now) (plain_parts parts.now) }
+{
+    over_bool(sig, given_condition(parts.condition, stated.over))
+}
+
+/// Whether an equation is over a sort, of its function's result sort, and has as many patterns as its function has
+/// arguments.
+fn fits_function(
+    sig: &Signature,
+    decl: &AxiomDecl,
+    symbol: &SymInfo,
+    stated: &Statement<'_>,
+    parts: &EquationParts<'_>,
+) -> bool
+    ensures { result ≡ does_fit sig.now (plain_axiom_decl decl.now) symbol.now (plain_statement stated.now) (plain_parts parts.now) }
+{
+    is_sort_over(sig, &decl.params, stated.over)
+        && is_one_sort(sort_number(&sig.sorts, stated.sort), result_sort(symbol))
+        && parts.patterns.len() == symbol.args.len()
+}
+
+/// Whether an equation may be over this sort: a sort parameter of the axiom, or a declared sort.
+fn is_sort_over(sig: &Signature, params: &[Text], sort: &Sort) -> bool
+    ensures { result ≡ is_a_sort_over sig.now params.now (plain_sort sort.now) }
+{
+    match &sort.form {
+        SortForm::Param(name) => is_parameter(params, name),
+        SortForm::App(..) => sort_number(&sig.sorts, sort).is_some(),
+    }
+}
+
+fn is_parameter(params: &[Text], name: &Text) -> bool
+    ensures { result ≡ list_any (bytes_eq name.now) params.now }
+{
+    for param in params {
+        if name.as_str() == param.as_str() {
+            return true;
+        }
+    }
+    false
+}
+
+fn is_one_sort(sort: Option<usize>, other: Option<usize>) -> bool
+    ensures { result ≡ are_one_sort sort other }
+{
+    match (sort, other) {
+        (Some(sort), Some(other)) => sort == other,
+        _ => false,
+    }
+}
+
+/// The result sort of a symbol without sort parameters.
+fn result_sort(symbol: &SymInfo) -> Option<usize>
+    ensures { result ≡ the_sort_at [] symbol.now.result }
+{
+    match symbol.result {
+        SortRef::Sort(sort) => Some(sort.0 as usize),
+        SortRef::Param(_) => None,
+    }
+}
+
+/// Whether an equation has no form that no equation has, no binder, a condition of the form that conditions have, and no
+/// bad priority.
+fn has_good_form(
+    sig: &Signature,
+    decl: &AxiomDecl,
+    stated: &Statement<'_>,
+    parts: &EquationParts<'_>,
+) -> bool
+    ensures { result ≡ is_of_good_form sig.now (plain_axiom_decl decl.now) (plain_statement stated.now) (plain_parts parts.now) }
+{
+    let condition = condition_of(sig, stated, parts);
+    !has_other_form(condition, parts)
+        && !has_binder(&decl.pat)
+        && !is_ill(condition)
+        && !has_bad_priority(&decl.attrs)
+}
+
+fn has_other_form(condition: Condition<'_>, parts: &EquationParts<'_>) -> bool
+    ensures { result ≡ (list_any (has_one is_any) (plain_parts parts.now).patterns
+        || (holds_of (has_one is_any) (the_tested (plain_condition condition.entry)) || has_one is_any (plain_parts parts.now).right)) }
+{
+    have_connective(&parts.patterns)
+        || is_connected(tested(condition))
+        || has_connective(parts.right, Connectives::All)
+}
+
+fn is_connected(pat: Option<&Pat>) -> bool
+    ensures { result ≡ holds_of (has_one is_any) (option_map pattern_at pat.entry) }
+{
+    match pat {
+        Some(pat) => has_connective(pat, Connectives::All),
+        None => false,
+    }
+}
+
+fn have_connective(pats: &[&Pat]) -> bool
+    ensures { result ≡ list_any (has_one is_any) (map pattern_at pats.now) }
+{
+    for pat in pats {
+        if has_connective(pat, Connectives::All) {
+            return true;
+        }
+    }
+    false
+}
+
+/// Whether one of these symbols stands in one of the patterns.
+fn have_symbol(pats: &[&Pat], sig: &Signature, which: Symbols) -> bool
+    ensures { result ≡ have_one (is_used which sig.now) (all_unfolded (pattern_trees (map pattern_at pats.now))) }
+{
+    for pat in pats {
+        if has_symbol(pat, sig, which) {
+            return true;
+        }
+    }
+    false
+}

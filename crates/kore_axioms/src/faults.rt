@@ -1,0 +1,68 @@
+// Faults at an axiom.
+ghost use Rattle.std.specs.Prelude.{◌≡◌, ℕ, map, option_map};
+ghost use Rattle.kore_sig.specs.FirstFault.{when};
+ghost use Rattle.kore_sig.specs.Noted.{noted, leads_by_number, first_by_number};
+ghost use Rattle.kore_axioms.specs.Raised.{raised};
+ghost use Rattle.kore_axioms.specs.Views.{fault_number as the_number, fault_at, plain_test};
+
+/// What is wrong with an axiom as a whole; it stands at the axiom's keyword. As a number each is that of its refusal.
+#[derive(Clone, Copy, PartialEq, Eq, Debug)]
+pub enum AxiomFault {
+    /// The left side has a function that is not AC.
+    LeftFunction = 12,
+    /// A side has a pattern of another form than a variable, an application, a domain value or a fold.
+    Form = 13,
+    /// The left side has an AC symbol.
+    AcSymbol = 14,
+    /// The axiom has a quantifier, `\mu`, `\nu` or a set variable.
+    Binder = 15,
+    /// What stands beside the right side is no `\top`.
+    Ensures = 16,
+    /// The condition is missing, or of another form.
+    Condition = 17,
+    /// A variable of the condition or of the right side is not in the left side.
+    Unbound = 18,
+    /// The sort is not that of the first rewrite rule.
+    TopSort = 19,
+    /// It has the attribute `anywhere`.
+    Anywhere = 20,
+    /// It has the attribute `overload` or `symbol-overload`.
+    Overload = 21,
+    /// An `\and` stands inside the left side.
+    AsPattern = 22,
+    /// The priority is no text of one to nine digits.
+    BadPriority = 23,
+}
+
+impl AxiomFault {
+    ghost use Rattle.kore_axioms.specs.Views.{fault_number};
+
+    /// The number of the refusal.
+    pub fn number(self) -> u8
+        ensures { result ≡ fault_number self }
+    {
+        self as u8
+    }
+}
+
+/// Of the faults whose tests hold the one with the smallest number.
+pub(crate) fn first_raised(tests: &[(bool, AxiomFault)]) -> Option<AxiomFault>
+    ensures { (at : ℕ) → option_map (fault_at at) result ≡ first_by_number (raised at (map plain_test tests.now)) }
+{
+    let mut first = None;
+    for test in tests {
+        first = smaller(first, test);
+    }
+    first
+}
+
+fn smaller(first: Option<AxiomFault>, test: &(bool, AxiomFault)) -> Option<AxiomFault>
+    ensures { (at : ℕ) → option_map (fault_at at) result ≡ noted leads_by_number (option_map (fault_at at) first) (when test.now.0 (the_number test.now.1) at) }
+{
+    let (holds, fault) = *test;
+    match first {
+        _ if !holds => first,
+        Some(earlier) if earlier.number() <= fault.number() => first,
+        _ => Some(fault),
+    }
+}

@@ -1,0 +1,16 @@
+// What an axiom of a definition is read as, and what is wrong with it.
+#![tactic(auto)]
+
+mod classes;
+mod equations;
+mod faults;
+mod parts;
+mod priorities;
+mod sides;
+mod uses;
+
+pub use classes::{AxiomClass, class_of};
+pub use faults::AxiomFault;
+pub use parts::{RuleParts, rule_parts};
+pub use priorities::{has_bad_priority, priority_of};
+pub use uses::{Symbols, has_symbol};

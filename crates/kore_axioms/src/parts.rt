@@ -1,0 +1,136 @@
+// The parts of a rewrite rule, and what is wrong with its form.
+ghost use Rattle.std.specs.Prelude.{◌≡◌, ℕ, map, option_map};
+ghost use Rattle.kore_ast.specs.Plain.{plain_sort, plain_pattern, plain_axiom_decl};
+ghost use Rattle.kore_sig.specs.Noted.{first_by_number};
+ghost use Rattle.kore_shapes.specs.Forms.{has_connective as has_one};
+ghost use Rattle.kore_shapes.specs.Connectives.{covers};
+ghost use Rattle.kore_shapes.specs.Views.{pattern_at, plain_side, plain_condition, plain_rewriting};
+ghost use Rattle.kore_axioms.specs.Conditions.{is_bool as is_a_bool, over_bool as the_over_bool, tested as the_tested, is_ill as is_an_ill};
+ghost use Rattle.kore_axioms.specs.RuleParts.{rule_parts as the_parts, left_of, right_of};
+ghost use Rattle.kore_axioms.specs.RuleForms.{holds_of, is_misshapen as is_a_misshapen, is_without as is_one_without, has_bad_form as has_a_bad_form, form_faults};
+ghost use Rattle.kore_axioms.specs.Views.{plain_rule_parts, fault_at};
+
+use crate::faults::{AxiomFault, first_raised};
+use crate::priorities::has_bad_priority;
+use kore_ast::{AxiomDecl, Pat, Sort};
+use kore_shapes::{
+    Companion, Condition, Connectives, Rewriting, Side, given_condition, has_binder,
+    has_connective, side_at,
+};
+use kore_sig::sort_number;
+use rule_core::{Signature, SortKind};
+
+/// Both sides of a rewrite rule, and the condition that stands beside the left one.
+#[derive(Clone, Copy)]
+pub struct RuleParts<'a> {
+    /// The left side.
+    pub before: Side<'a>,
+    /// The right side.
+    pub after: Side<'a>,
+    /// The condition.
+    pub condition: Condition<'a>,
+}
+
+/// The parts of a rewrite rule. What a condition tests is to have a declared sort of truth values.
+pub fn rule_parts<'a>(sig: &Signature, rewriting: Rewriting<'a>) -> RuleParts<'a>
+    ensures { plain_rule_parts result ≡ the_parts sig.now (plain_rewriting rewriting.entry) }
+{
+    let before = side_at(rewriting.before, rewriting.sort, Companion::Condition);
+    let after = side_at(rewriting.after, rewriting.sort, Companion::Top);
+    let given = given_condition(before.companion(), rewriting.sort);
+    RuleParts {
+        before,
+        after,
+        condition: over_bool(sig, given),
+    }
+}
+
+/// The condition, which is ill where what it tests is over another sort than one of truth values.
+pub(crate) fn over_bool<'a>(sig: &Signature, condition: Condition<'a>) -> Condition<'a>
+    ensures { plain_condition result ≡ the_over_bool sig.now (plain_condition condition.entry) }
+{
+    match condition {
+        Condition::Tests(sort, _) if !is_bool(sig, sort) => Condition::Ill,
+        _ => condition,
+    }
+}
+
+/// Whether the sort is a declared sort of truth values.
+fn is_bool(sig: &Signature, sort: &Sort) -> bool
+    ensures { result ≡ is_a_bool sig.now (plain_sort sort.now) }
+{
+    let Some(number) = sort_number(&sig.sorts, sort) else {
+        return false;
+    };
+    match sig.sorts.value(number) {
+        Some(info) => info.kind == SortKind::Bool,
+        None => false,
+    }
+}
+
+/// What a condition tests.
+pub(crate) fn tested(condition: Condition<'_>) -> Option<&Pat>
+    ensures { option_map pattern_at result ≡ the_tested (plain_condition condition.entry) }
+{
+    match condition {
+        Condition::Tests(_, pat) => Some(pat),
+        Condition::Always | Condition::Ill => None,
+    }
+}
+
+pub(crate) fn is_ill(condition: Condition<'_>) -> bool
+    ensures { result ≡ is_an_ill (plain_condition condition.entry) }
+{
+    matches!(condition, Condition::Ill)
+}
+
+/// The first fault of the form of a rewrite rule.
+pub(crate) fn form_fault(decl: &AxiomDecl, parts: RuleParts<'_>) -> Option<AxiomFault>
+    ensures { option_map (fault_at decl.now.at) result ≡ first_by_number (form_faults (plain_axiom_decl decl.now) (plain_rule_parts parts.entry)) }
+{
+    let ill = is_without(parts.before) || is_ill(parts.condition);
+    first_raised(&[
+        (has_bad_form(parts), AxiomFault::Form),
+        (has_binder(&decl.pat), AxiomFault::Binder),
+        (is_without(parts.after), AxiomFault::Ensures),
+        (ill, AxiomFault::Condition),
+        (
+            stands_in(parts.before.main(), Connectives::And),
+            AxiomFault::AsPattern,
+        ),
+        (has_bad_priority(&decl.attrs), AxiomFault::BadPriority),
+    ])
+}
+
+/// Whether a side is an `\and` of another sort or number, or has a form that no rule has.
+fn has_bad_form(parts: RuleParts<'_>) -> bool
+    ensures { result ≡ has_a_bad_form (plain_rule_parts parts.entry) }
+{
+    is_misshapen(parts.before)
+        || is_misshapen(parts.after)
+        || stands_in(parts.before.main(), Connectives::Others)
+        || stands_in(tested(parts.condition), Connectives::All)
+        || stands_in(parts.after.main(), Connectives::All)
+}
+
+/// Whether one of these connectives stands in the pattern, where there is one.
+fn stands_in(pat: Option<&Pat>, which: Connectives) -> bool
+    ensures { result ≡ holds_of (has_one (covers which)) (option_map pattern_at pat.entry) }
+{
+    match pat {
+        Some(pat) => has_connective(pat, which),
+        None => false,
+    }
+}
+
+fn is_misshapen(side: Side<'_>) -> bool
+    ensures { result ≡ is_a_misshapen (plain_side side.entry) }
+{
+    matches!(side, Side::Misshapen)
+}
+
+fn is_without(side: Side<'_>) -> bool
+    ensures { result ≡ is_one_without (plain_side side.entry) }
+{
+    matches!(side, Side::Without)
+}

@@ -1,0 +1,66 @@
+// The priority of a rule or an equation.
+ghost use Rattle.std.specs.Prelude.{◌≡◌, map, option_map, option_copied, Some};
+ghost use Rattle.std.specs.Str.{all_ascii_digits};
+ghost use Rattle.kore_ast.specs.Plain.{plain_pattern};
+ghost use Rattle.kore_check.specs.ValueTexts.{number_of_digits as the_number};
+ghost use Rattle.kore_axioms.specs.Priorities.{short_number as the_short_number, stated_number as the_stated_number, stated_priority as the_stated_priority, has_bad_priority as is_bad, priority_of as the_priority};
+
+use kore_ast::{Pat, Text};
+use kore_sig::{first_of_name, has_attribute, text_of};
+
+/// Whether the attributes state a priority by something else than one text of one to nine digits. Of several attributes
+/// of that name the first counts.
+pub fn has_bad_priority(attrs: &[Pat]) -> bool
+    ensures { result ≡ is_bad (map plain_pattern attrs.now) }
+{
+    match first_of_name(attrs, "priority") {
+        Some(attr) => stated_number(attr).is_none(),
+        None => false,
+    }
+}
+
+/// The priority: the stated one, or else 200 with the attribute `owise` and 50 without it. A rule with a smaller number
+/// is tried first.
+pub fn priority_of(attrs: &[Pat]) -> u32
+    ensures { result ≡ the_priority (map plain_pattern attrs.now) }
+{
+    if let Some(attr) = first_of_name(attrs, "priority")
+        && let Some(number) = stated_number(attr)
+    {
+        return number;
+    }
+    if has_attribute(attrs, "owise") {
+        200
+    } else {
+        50
+    }
+}
+
+/// The number of an attribute whose only argument is a text of one to nine digits.
+fn stated_number(attr: &Pat) -> Option<u32>
+    ensures { result ≡ the_stated_number (Some (plain_pattern attr.now)) }
+{
+    let text = text_of(attr)?;
+    short_number(text)
+}
+
+fn short_number(text: &Text) -> Option<u32>
+    ensures { result ≡ the_short_number (Some text.now) }
+{
+    let digits = text.as_str();
+    if digits.len() > 9 || !all_digits(digits.as_bytes()) {
+        return None;
+    }
+    digits.parse::<u32>().ok()
+}
+
+fn all_digits(bytes: &[u8]) -> bool
+    ensures { result ≡ all_ascii_digits bytes.now }
+{
+    for byte in bytes {
+        if !byte.is_ascii_digit() {
+            return false;
+        }
+    }
+    true
+}

@@ -1,0 +1,108 @@
+// The sorts of a rewrite rule: of its sides, of its condition, and of the sort that it names.
+ghost use Rattle.std.specs.Prelude.{◌≡◌, ◌++◌, List, map, option_map};
+ghost use Rattle.kore_ast.specs.Plain.{plain_sort, plain_pattern};
+ghost use Rattle.kore_sig.specs.FirstFault.{Fault};
+ghost use Rattle.kore_sig.specs.SortReferences.{sort_number as the_number};
+ghost use Rattle.kore_sig.specs.Signatures.{IsNumbered};
+ghost use Rattle.kore_check.specs.Folds.{unfolded};
+ghost use Rattle.kore_check.specs.FaultNumbers.{IsFirstOf};
+ghost use Rattle.kore_shapes.specs.Views.{pattern_at, plain_condition};
+ghost use Rattle.kore_axioms.specs.RuleFaults.{faults_at_sort, side_faults, condition_faults, only_sort_faults, top_faults, found_top_faults, sorted_faults};
+ghost use Rattle.kore_axioms.specs.Views.{plain_rule_parts};
+ghost use Rattle.kore_axioms.specs.Noting.{Notes, sort_of_id};
+
+use crate::parts::RuleParts;
+use kore_ast::{Pat, PatForm, Sort};
+use kore_check::{PatternFault, note_clash, note_pattern, note_sort};
+use kore_shapes::Condition;
+use kore_sig::sort_number;
+use rule_core::Signature;
+use term_core::SortId;
+
+/// The first fault of the sorts of a rewrite rule over this sort: the first by byte, and of those at one byte the one
+/// with the smallest number. It goes through the rule once.
+pub(crate) fn sort_fault(sig: &Signature, sort: &Sort, parts: RuleParts<'_>) -> Option<PatternFault>
+    requires { IsNumbered sig.now }
+    ensures { IsFirstOf (sorted_faults sig.now (plain_sort sort.now) (plain_rule_parts parts.entry)) result }
+{
+    let mut first = None;
+    let wanted = note_sort(sig, sort, &mut first);
+    note_side(sig, parts.before.main(), wanted, &mut first);
+    note_condition(sig, parts.condition, &mut first);
+    note_side(sig, parts.after.main(), wanted, &mut first);
+    note_found_top(sig, parts.after.companion(), wanted, &mut first);
+    first
+}
+
+/// Notes the faults of a pattern that is to have this sort.
+pub(crate) fn note_at_sort(sig: &Signature, pat: &Pat, wanted: Option<SortId>, first: &mut Option<PatternFault>)
+    requires { IsNumbered sig.now }
+    ensures { Notes (faults_at_sort sig.now (option_map sort_of_id wanted) (unfolded (plain_pattern pat.now))) first.old first.new }
+{
+    let own = note_pattern(sig, pat, first);
+    note_clash(pat.at, own, wanted, first);
+}
+
+/// .. where there is one.
+fn note_side(sig: &Signature, pat: Option<&Pat>, wanted: Option<SortId>, first: &mut Option<PatternFault>)
+    requires { IsNumbered sig.now }
+    ensures { Notes (side_faults sig.now (option_map sort_of_id wanted) (option_map pattern_at pat.entry)) first.old first.new }
+{
+    if let Some(pat) = pat {
+        note_at_sort(sig, pat, wanted, first);
+    }
+}
+
+/// .. of the pattern that a condition tests.
+pub(crate) fn note_condition(sig: &Signature, condition: Condition<'_>, first: &mut Option<PatternFault>)
+    requires { IsNumbered sig.now }
+    ensures { Notes (condition_faults sig.now (plain_condition condition.entry)) first.old first.new }
+{
+    if let Condition::Tests(sort, pat) = condition {
+        note_at_sort(sig, pat, sort_id(sig, sort), first);
+    }
+}
+
+/// The number of a declared sort; none of any other sort.
+fn sort_id(sig: &Signature, sort: &Sort) -> Option<SortId>
+    requires { IsNumbered sig.now }
+    ensures { option_map sort_of_id result ≡ the_number sig.now.sorts (plain_sort sort.now) }
+{
+    let number = sort_number(&sig.sorts, sort)?;
+    Some(SortId(number as u32))
+}
+
+/// .. of the `\top{T}()` beside a right side, where there is one.
+fn note_found_top(sig: &Signature, top: Option<&Pat>, wanted: Option<SortId>, first: &mut Option<PatternFault>)
+    requires { IsNumbered sig.now }
+    ensures { Notes (found_top_faults sig.now (option_map sort_of_id wanted) (option_map pattern_at top.entry)) first.old first.new }
+{
+    if let Some(top) = top {
+        note_top(sig, top, wanted, first);
+    }
+}
+
+fn note_top(sig: &Signature, top: &Pat, wanted: Option<SortId>, first: &mut Option<PatternFault>)
+    requires { IsNumbered sig.now }
+    ensures { Notes (top_faults sig.now (option_map sort_of_id wanted) (plain_pattern top.now)) first.old first.new }
+{
+    if let PatForm::Built(_, sorts, _) = &top.form {
+        note_only_sort(sig, sorts, top.at, wanted, first);
+    }
+}
+
+fn note_only_sort(
+    sig: &Signature,
+    sorts: &[Sort],
+    at: u32,
+    wanted: Option<SortId>,
+    first: &mut Option<PatternFault>,
+)
+    requires { IsNumbered sig.now }
+    ensures { Notes (only_sort_faults sig.now (option_map sort_of_id wanted) at (map plain_sort sorts.now)) first.old first.new }
+{
+    if let [sort] = sorts {
+        let own = note_sort(sig, sort, first);
+        note_clash(at, own, wanted, first);
+    }
+}

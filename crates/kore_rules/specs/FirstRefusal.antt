@@ -1,0 +1,55 @@
+-- The first fault of a definition and of a term.
+use Rattle.std.specs.Prelude.{◌≡◌, ℕ, List, [], Option, Some, None, Contains}
+use Rattle.kore_text.specs.Trees.{SortTree, PatternTree, AxiomDeclaration, DefinitionTree}
+use Rattle.rule_core.specs.declared.signature.Signature.{Signature}
+use Rattle.kore_sig.specs.FirstFault.{Fault, ByByte, ByNumber, IsFirstBy, Then, InOrder, unless}
+use Rattle.kore_sig.specs.Declarations.{axioms_of}
+use Rattle.kore_sig.specs.Signatures.{IsSignatureOf}
+use Rattle.kore_sig.specs.SignatureFaults.{FirstOfSignature}
+use Rattle.kore_check.specs.Folds.{Unfolded, unfolded}
+use Rattle.kore_check.specs.PatternSorts.{sort_of}
+use Rattle.kore_check.specs.PatternFaults.{all_faults}
+use Rattle.kore_axioms.specs.AxiomClasses.{AxiomClass, refused, orders_sorts, rewrites, equates, passed_over, class_of}
+use Rattle.kore_axioms.specs.RuleFaults.{FirstOfRule}
+use Rattle.kore_rules.specs.GroundTerms.{ground_faults}
+use Rattle.kore_axioms.specs.ReadableEquations.{is_one_sort}
+
+-- the first fault of an axiom of this class, where the first rule has this sort
+abbrev pub FirstOfClass : Signature → Option SortTree → AxiomDeclaration → AxiomClass → Option Fault → Type 0
+FirstOfClass sig first a (refused number) r = r ≡ Some (record { number = number; byte = a.at })
+FirstOfClass sig first a orders_sorts r = r ≡ None
+FirstOfClass sig first a (rewrites w) r = FirstOfRule sig first a w r
+FirstOfClass sig first a (equates e) r = r ≡ None
+FirstOfClass sig first a passed_over r = r ≡ None
+
+-- the sort of the first rule, where one was before, or this is it
+abbrev pub first_sort : Option SortTree → AxiomClass → Option SortTree
+first_sort (Some s) class = Some s
+first_sort None (refused number) = None
+first_sort None orders_sorts = None
+first_sort None (rewrites w) = Some w.sort
+first_sort None (equates e) = None
+first_sort None passed_over = None
+
+-- the first fault of the axioms, in their order
+abbrev pub FirstOfAxioms : Signature → List AxiomDeclaration → Option Fault → Type 0
+FirstOfAxioms sig axioms r =
+    InOrder (λ first a. FirstOfClass sig first a (class_of sig a)) (λ first a. first_sort first (class_of sig a)) None axioms r
+
+-- The first fault of a definition: of its declarations, or else of its axioms.
+abbrev pub FirstOfDefinition : DefinitionTree → Option Fault → Type 0
+FirstOfDefinition d r =
+    Then (FirstOfSignature d)
+    (λ r. (sig : Signature) × IsSignatureOf d sig × FirstOfAxioms sig (axioms_of d) r) r
+
+-- 19 at the first byte: the term has another sort than the rules, where there are rules
+abbrev pub start_faults : Signature → Option ℕ → Unfolded → List Fault
+start_faults sig None p = []
+start_faults sig (Some s) p = unless (is_one_sort (sort_of sig p) (Some s)) 19 0
+
+-- the first fault of a term, where the rules have this sort
+abbrev pub FirstOfTerm : Signature → Option ℕ → PatternTree → Option Fault → Type 0
+FirstOfTerm sig top p r =
+    Then (IsFirstBy ByByte (Contains (ground_faults p)))
+    (Then (IsFirstBy ByByte (Contains (all_faults sig (unfolded p))))
+    (IsFirstBy ByNumber (Contains (start_faults sig top (unfolded p))))) r

@@ -1,0 +1,35 @@
+-- Terms: patterns of applications, domain values and folds alone.
+use Rattle.std.specs.Prelude.{ℕ, List, [], ◌∷◌, ◌++◌, if◌then◌else◌}
+use Rattle.kore_text.specs.Trees.{PatternTree, element_variable, set_variable, string, symbol_applied, connected, binding, domain_value, folded, PatternTrees, no_patterns, pattern_then, listed_patterns}
+use Rattle.kore_sig.specs.FirstFault.{Fault}
+use Rattle.kore_shapes.specs.Forms.{is_one}
+
+abbrev pub not_ground : ℕ → List Fault
+not_ground at = record { number = 26; byte = at } ∷ []
+
+-- 26 at each pattern that is a variable or of another form; what stands inside such a pattern is not looked at
+abbrev mutual
+  pub ground_faults : PatternTree → List Fault
+  ground_faults (element_variable at n s) = not_ground at
+  ground_faults (set_variable at n s) = not_ground at
+  ground_faults (string at text) = not_ground at
+  ground_faults (symbol_applied at f ss ps) = all_ground_faults ps
+  ground_faults (connected at op ss ps) = not_ground at
+  ground_faults (binding at b ss x p) = not_ground at
+  ground_faults (domain_value at s text place) = []
+  ground_faults (folded at left p) = folded_ground_faults p
+
+  pub all_ground_faults : PatternTrees → List Fault
+  all_ground_faults no_patterns = []
+  all_ground_faults (pattern_then p ps) = ground_faults p ++ all_ground_faults ps
+
+  -- of what is folded: a connective over one argument is that argument
+  pub folded_ground_faults : PatternTree → List Fault
+  folded_ground_faults (element_variable at n s) = not_ground at
+  folded_ground_faults (set_variable at n s) = not_ground at
+  folded_ground_faults (string at text) = not_ground at
+  folded_ground_faults (symbol_applied at f ss ps) = all_ground_faults ps
+  folded_ground_faults (connected at op ss ps) = if is_one (listed_patterns ps) then all_ground_faults ps else not_ground at
+  folded_ground_faults (binding at b ss x p) = not_ground at
+  folded_ground_faults (domain_value at s text place) = not_ground at
+  folded_ground_faults (folded at left p) = not_ground at

@@ -1,0 +1,7 @@
+-- Believed: what public clauses say, and believed definitions of other crates.
+pub mod GroundTerms
+pub mod FirstRefusal
+pub mod Programs
+pub mod Acceptance
+-- Private: what clauses of private functions cite, and how private fields are seen.
+pub mod GroundNotes

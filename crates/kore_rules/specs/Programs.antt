@@ -1,0 +1,138 @@
+-- The program that a definition means: its signature, its rewrite rules and the equations of its functions.
+use Rattle.std.specs.Prelude.{◌≡◌, ℕ, List, [], map, Option, Some, None, option_map, Contains, ◌↔◌, length, slice_get, string_bytes}
+use Rattle.std.specs.List.{AllZip}
+use Rattle.kore_text.specs.Trees.{PatternTree, AxiomDeclaration, DefinitionTree}
+use Rattle.term_core.specs.HookValues.{Hook, hooks}
+use Rattle.term_core.specs.Patterns.{Pattern}
+use Rattle.rule_core.specs.Rules.{RewriteRule, Equation}
+use Rattle.rule_core.specs.Theories.{RewriteTheory, equations_of}
+use Rattle.rule_core.specs.WellSorted.{AreInOrder, FitsHook}
+use Rattle.rule_core.specs.declared.signature.Signature.{Signature}
+use Rattle.rule_core.specs.declared.signature.SymInfo.{SymInfo}
+use Rattle.rule_core.specs.declared.signature.SymKind.{SymKind}
+use Rattle.rule_core.specs.declared.signature.SymKind.TheVariants.{Equations, Hooked, Closed}
+use Rattle.kore_sig.specs.Declarations.{axioms_of}
+use Rattle.kore_sig.specs.Signatures.{IsSignatureOf}
+use Rattle.kore_sig.specs.SortReferences.{sort_number}
+use Rattle.kore_check.specs.Folds.{unfolded}
+use Rattle.kore_check.specs.PatternMeanings.{with_variables, with_all_variables, Means, AllMean}
+use Rattle.kore_check.specs.PatternSorts.{symbol_named}
+use Rattle.kore_shapes.specs.Shapes.{Rewriting}
+use Rattle.kore_axioms.specs.Conditions.{tested}
+use Rattle.kore_shapes.specs.Statements.{Statement}
+use Rattle.kore_shapes.specs.EquationForms.{EquationParts}
+use Rattle.kore_axioms.specs.AxiomClasses.{rewrites, equates, class_of}
+use Rattle.kore_axioms.specs.RuleParts.{rule_parts, left_of, right_of}
+use Rattle.kore_axioms.specs.ReadableEquations.{IsReadable, condition_of_equation, all_read}
+use Rattle.kore_axioms.specs.Priorities.{priority_of}
+
+-- what a condition means, where there is one
+abbrev pub MeansTest : Signature → List (List ℕ × ℕ) → Option PatternTree → Option Pattern → Type 0
+MeansTest sig vars None None = Unit {0}
+MeansTest sig vars None (Some p) = ⊥
+MeansTest sig vars (Some b) None = ⊥
+MeansTest sig vars (Some b) (Some p) = Means sig vars (unfolded b) p
+
+-- The axiom is this rewrite rule. Its variables are those of the left side, in the order of their first occurrence.
+pub record IsRuleOf (sig : Signature) (a : AxiomDeclaration) (rule : RewriteRule) : Type 0 where
+  pub shape : Rewriting
+  pub class : class_of sig a ≡ rewrites shape
+  pub left : PatternTree
+  pub is_left : left_of (rule_parts sig shape) ≡ Some left
+  pub right : PatternTree
+  pub is_right : right_of (rule_parts sig shape) ≡ Some right
+  pub variables : List (List ℕ × ℕ)
+  pub numbered : variables ≡ with_variables sig [] (unfolded left)
+  pub means_left : Means sig variables (unfolded left) rule.left
+  pub means_condition : MeansTest sig variables (tested (rule_parts sig shape).condition) rule.condition
+  pub means_right : Means sig variables (unfolded right) rule.right
+  pub sorts : rule.variables ≡ map (λ (v : List ℕ × ℕ). v.1) variables
+  pub priority : rule.priority ≡ priority_of a.attributes
+  pub place : rule.place ≡ a.at
+
+-- The axiom is this equation of the function with this name. Its variables are those of the patterns that the arguments
+-- match, in the order of their first occurrence.
+pub record IsEquationOf (sig : Signature) (f : List ℕ) (a : AxiomDeclaration) (e : Equation) : Type 0 where
+  pub stated : Statement
+  pub class : class_of sig a ≡ equates stated
+  pub function : stated.function ≡ f
+  pub info : SymInfo
+  pub declared : symbol_named sig f ≡ Some info
+  pub parts : EquationParts
+  pub readable : IsReadable sig a info stated parts
+  pub variables : List (List ℕ × ℕ)
+  pub numbered : variables ≡ with_all_variables sig [] (all_read parts.patterns)
+  pub parameters : e.parameters ≡ length parts.parameters
+  pub means_arguments : AllMean sig variables (all_read parts.patterns) e.arguments
+  pub means_condition : MeansTest sig variables (tested (condition_of_equation sig stated parts)) e.condition
+  pub means_right : Means sig variables (unfolded parts.right) e.right
+  pub sorts : e.variables ≡ map (λ (v : List ℕ × ℕ). v.1) variables
+  pub priority : e.priority ≡ priority_of a.attributes
+  pub place : e.place ≡ a.at
+
+-- an equation of the function with this name is not readable
+pub record IsUnreadable (sig : Signature) (f : List ℕ) (a : AxiomDeclaration) : Type 0 where
+  pub stated : Statement
+  pub class : class_of sig a ≡ equates stated
+  pub function : stated.function ≡ f
+  pub info : SymInfo
+  pub declared : symbol_named sig f ≡ Some info
+  pub unreadable : (parts : EquationParts) → IsReadable sig a info stated parts → ⊥
+
+-- the hook of this name, with its number, is one that the declaration fits
+abbrev pub HasFittingHook : Signature → SymInfo → List ℕ → ℕ → Type 0
+HasFittingHook sig info name row =
+    (hook : Hook) × (slice_get hooks row ≡ Some hook) × (hook.name ≡ name) × FitsHook sig row info
+
+-- What a symbol is used for, where these are the axioms. A function whose hook fits has the values of its hook; one with
+-- a hook that does not, or with an equation that is not readable, is closed; any other has its equations.
+pub data HasKind (sig : Signature) (axioms : List AxiomDeclaration) (f : List ℕ) (info : SymInfo) : SymKind → Type 0 where
+  as_declared : (info.kind ≡ Equations → ⊥) → HasKind sig axioms f info info.kind
+  by_hook : {name : List ℕ} {row : ℕ} → info.kind ≡ Equations → option_map string_bytes info.hook ≡ Some name →
+      HasFittingHook sig info name row → HasKind sig axioms f info (Hooked (record { 0 = row }))
+  without_hook : {name : List ℕ} → info.kind ≡ Equations → option_map string_bytes info.hook ≡ Some name →
+      ((row : ℕ) → HasFittingHook sig info name row → ⊥) → HasKind sig axioms f info Closed
+  by_unreadable : {a : AxiomDeclaration} → info.kind ≡ Equations → info.hook ≡ None → Contains axioms a →
+      IsUnreadable sig f a → HasKind sig axioms f info Closed
+  by_equations : info.kind ≡ Equations → info.hook ≡ None →
+      ((a : AxiomDeclaration) → Contains axioms a → IsUnreadable sig f a → ⊥) → HasKind sig axioms f info Equations
+
+-- a symbol of the program is as it is declared, but for its kind
+pub record IsSymbolOf (sig : Signature) (axioms : List AxiomDeclaration) (declared made : List ℕ × SymInfo) : Type 0 where
+  pub name : made.0 ≡ declared.0
+  pub kind : HasKind sig axioms declared.0 declared.1 made.1.kind
+  pub params : made.1.params ≡ declared.1.params
+  pub args : made.1.args.items ≡ declared.1.args.items
+  pub result : made.1.result ≡ declared.1.result
+  pub hook : option_map string_bytes made.1.hook ≡ option_map string_bytes declared.1.hook
+  pub ac : made.1.ac ≡ declared.1.ac
+
+-- just the rules that axioms are stand there, each once, in the order of trial
+pub record AreRulesOf (sig : Signature) (axioms : List AxiomDeclaration) (rules : List RewriteRule) : Type 0 where
+  pub just : (rule : RewriteRule) → Contains rules rule ↔ ((a : AxiomDeclaration) × Contains axioms a × IsRuleOf sig a rule)
+  pub in_order : AreInOrder (map (λ (r : RewriteRule). (r.priority, r.place)) rules)
+
+-- .. of the equations of a function that has its equations, and none of any other symbol
+pub record AreEquationsOf (sig : Signature) (axioms : List AxiomDeclaration) (f : List ℕ) (kind : SymKind) (es : List Equation) : Type 0 where
+  pub just : (e : Equation) → Contains es e ↔ ((kind ≡ Equations) × ((a : AxiomDeclaration) × Contains axioms a × IsEquationOf sig f a e))
+  pub in_order : AreInOrder (map (λ (e : Equation). (e.priority, e.place)) es)
+
+-- The program of a definition whose declarations give the signature `declared`.
+pub record IsProgramUnder (declared : Signature) (axioms : List AxiomDeclaration) (theory : RewriteTheory) : Type 0 where
+  pub sorts : theory.sig.sorts ≡ declared.sorts
+  pub symbols : AllZip (IsSymbolOf declared axioms) declared.symbols theory.sig.symbols
+  pub subsorts : theory.sig.subsorts ≡ declared.subsorts
+  pub rules : AreRulesOf declared axioms theory.rules
+  pub listed : length theory.equations ≡ length theory.sig.symbols
+  pub equations : (n : ℕ) (f : List ℕ) (info : SymInfo) → slice_get theory.sig.symbols n ≡ Some (f, info) →
+      AreEquationsOf declared axioms f info.kind (equations_of theory n)
+
+-- The program that a definition means.
+abbrev pub IsProgramOf : DefinitionTree → RewriteTheory → Type 0
+IsProgramOf d theory = (declared : Signature) × IsSignatureOf d declared × IsProgramUnder declared (axioms_of d) theory
+
+-- the sort of the rules, where there are rules
+abbrev pub IsTopOf : Signature → List AxiomDeclaration → Option ℕ → Type 0
+IsTopOf sig axioms None = (a : AxiomDeclaration) → Contains axioms a → (w : Rewriting) → class_of sig a ≡ rewrites w → ⊥
+IsTopOf sig axioms (Some s) =
+    (a : AxiomDeclaration) × Contains axioms a × ((w : Rewriting) × (class_of sig a ≡ rewrites w) × (sort_number sig.sorts w.sort ≡ Some s))

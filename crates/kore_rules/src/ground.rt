@@ -1,0 +1,72 @@
+// Terms: patterns of applications, domain values and folds alone.
+ghost use Rattle.std.specs.Prelude.{◌≡◌, map, None};
+ghost use Rattle.kore_text.specs.Trees.{pattern_trees};
+ghost use Rattle.kore_ast.specs.Plain.{plain_pattern};
+ghost use Rattle.kore_shapes.specs.Forms.{is_one as there_is_one};
+ghost use Rattle.kore_rules.specs.GroundTerms.{ground_faults, all_ground_faults, folded_ground_faults, not_ground};
+ghost use Rattle.kore_rules.specs.GroundNotes.{not_ground_at, behind};
+
+use kore_ast::{Pat, PatForm};
+
+/// The first byte at which a term has a variable, or a pattern of another form than an application, a domain value or a
+/// fold.
+pub(crate) fn first_not_ground(pat: &Pat) -> Option<u32>
+    ensures { not_ground_at result ≡ behind None (ground_faults (plain_pattern pat.now)) }
+{
+    let mut first = None;
+    note_not_ground(pat, &mut first);
+    first
+}
+
+#[cycle(ground)]
+fn note_not_ground(pat: &Pat, first: &mut Option<u32>)
+    ensures { not_ground_at first.new ≡ behind first.old (ground_faults (plain_pattern pat.now)) }
+{
+    match &pat.form {
+        PatForm::App(_, _, args) => note_all(args, first),
+        PatForm::Fold(_, inner) => note_folded(inner, first),
+        PatForm::Value(..) => {}
+        PatForm::Elem(..) | PatForm::SetVar(..) | PatForm::Text(_) => note(first, pat.at),
+        PatForm::Built(..) | PatForm::Bound(..) => note(first, pat.at),
+    }
+}
+
+#[cycle(ground)]
+fn note_all(pats: &[Pat], first: &mut Option<u32>)
+    ensures { not_ground_at first.new ≡ behind first.old (all_ground_faults (pattern_trees (map plain_pattern pats.now))) }
+{
+    for pat in pats {
+        note_not_ground(pat, first);
+    }
+}
+
+/// .. of what is folded.
+#[cycle(ground)]
+fn note_folded(pat: &Pat, first: &mut Option<u32>)
+    ensures { not_ground_at first.new ≡ behind first.old (folded_ground_faults (plain_pattern pat.now)) }
+{
+    match &pat.form {
+        PatForm::App(_, _, args) => note_all(args, first),
+        PatForm::Built(_, _, args) if is_one(args) => note_all(args, first),
+        PatForm::Built(..) | PatForm::Bound(..) | PatForm::Value(..) | PatForm::Fold(..) => {
+            note(first, pat.at);
+        }
+        PatForm::Elem(..) | PatForm::SetVar(..) | PatForm::Text(_) => note(first, pat.at),
+    }
+}
+
+fn is_one(pats: &[Pat]) -> bool
+    ensures { result ≡ there_is_one (map plain_pattern pats.now) }
+{
+    matches!(pats, [_])
+}
+
+/// Notes a byte: what is kept is the smaller one of it and of what was kept.
+fn note(first: &mut Option<u32>, at: u32)
+    ensures { not_ground_at first.new ≡ behind first.old (not_ground at) }
+{
+    match first {
+        Some(earlier) if *earlier <= at => {}
+        _ => *first = Some(at),
+    }
+}

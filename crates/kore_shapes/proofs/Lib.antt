@@ -1,0 +1,4 @@
+pub mod SortLaws
+pub mod TreeLists
+pub mod PatternForms
+pub mod GuardLaws

@@ -1,0 +1,12 @@
+-- Believed: what public clauses say, and believed definitions of other crates.
+pub mod SameSorts
+pub mod Forms
+pub mod Connectives
+pub mod Shapes
+pub mod SideTests
+pub mod Statements
+pub mod EquationForms
+pub mod Views
+pub mod StatementViews
+pub mod EquationViews
+pub mod PartViews

@@ -1,0 +1,28 @@
+-- The parts of trees that the program's borrowed parts are.
+use Rattle.std.specs.Borrow.{Bor}
+use Rattle.kore_text.specs.Trees.{PatternTree}
+use Rattle.kore_ast.specs.declared.tree.Pat.{Pat}
+use Rattle.kore_ast.specs.Plain.{plain_sort, plain_pattern}
+use Rattle.kore_shapes.specs.declared.shapes.Rewriting.{Rewriting}
+use Rattle.kore_shapes.specs.declared.shapes.Side.{Side}
+use Rattle.kore_shapes.specs.declared.shapes.Side.TheVariants as side
+use Rattle.kore_shapes.specs.declared.shapes.Condition.{Condition}
+use Rattle.kore_shapes.specs.declared.shapes.Condition.TheVariants as condition
+use Rattle.kore_shapes.specs.Shapes.{Rewriting as RewritingTree, Side as SideTree, alone, beside, without, misshapen, Condition as ConditionTree, always, tests, ill}
+
+abbrev pub pattern_at : Bor Pat → PatternTree
+pattern_at p = plain_pattern p.now
+
+abbrev pub plain_rewriting : Rewriting → RewritingTree
+plain_rewriting w = record { sort = plain_sort w.sort.now; before = plain_pattern w.before.now; after = plain_pattern w.after.now }
+
+abbrev pub plain_side : Side → SideTree
+plain_side (side.Alone p) = alone (plain_pattern p.now)
+plain_side (side.Beside p q) = beside (plain_pattern p.now) (plain_pattern q.now)
+plain_side side.Without = without
+plain_side side.Misshapen = misshapen
+
+abbrev pub plain_condition : Condition → ConditionTree
+plain_condition condition.Always = always
+plain_condition (condition.Tests s p) = tests (plain_sort s.now) (plain_pattern p.now)
+plain_condition condition.Ill = ill

@@ -1,0 +1,16 @@
+// The shapes in which kompile writes the rules and equations of a definition.
+#![tactic(auto)]
+
+mod equations;
+mod forms;
+mod shapes;
+mod sorts;
+mod statements;
+#[cfg(test)]
+mod tests;
+
+pub use equations::{EquationParts, equation_parts};
+pub use forms::{Connectives, has_binder, has_connective};
+pub use shapes::{Companion, Condition, Rewriting, Side, given_condition, rewriting_at, side_at};
+pub use sorts::{is_variable, same_sort};
+pub use statements::{Statement, statement_at};

@@ -1,0 +1,106 @@
+// How equations of functions are written.
+ghost use Rattle.std.specs.Prelude.{◌≡◌, map, option_map};
+ghost use Rattle.std.specs.Option.{option_and_then};
+ghost use Rattle.kore_ast.specs.Plain.{plain_sort, plain_pattern};
+ghost use Rattle.kore_shapes.specs.Statements.{called as the_called, call_of as the_call_of, equality as the_equality, equality_with as the_equality_with, guarded as the_guarded, statement as the_statement, statement_with as the_statement_with};
+ghost use Rattle.kore_shapes.specs.StatementViews.{plain_statement, plain_call};
+
+use crate::sorts::same_sort;
+use kore_ast::{Op, Pat, PatForm, Sort, Text};
+
+/// The parts of `\equals{S,R}(f{}(..),d)`, which may stand behind a guard g in `\implies{R}(g,..)`.
+#[derive(Clone, Copy)]
+pub struct Statement<'a> {
+    /// The guard g.
+    pub guard: Option<&'a Pat>,
+    /// The sort S.
+    pub sort: &'a Sort,
+    /// The sort R.
+    pub over: &'a Sort,
+    /// The name of f.
+    pub function: &'a Text,
+    /// What f is applied to.
+    pub arguments: &'a [Pat],
+    /// The pattern d.
+    pub value: &'a Pat,
+}
+
+/// The parts of a pattern `\equals{S,R}(f{}(..),d)` or `\implies{R}(g,\equals{S,R}(f{}(..),d))`; none of any other one.
+pub fn statement_at(pat: &Pat) -> Option<Statement<'_>>
+    ensures { option_map plain_statement result ≡ the_statement (plain_pattern pat.now) }
+{
+    match &pat.form {
+        PatForm::Built(op, sorts, args) => statement_with(*op, sorts, args),
+        _ => None,
+    }
+}
+
+fn statement_with<'a>(op: Op, sorts: &'a [Sort], args: &'a [Pat]) -> Option<Statement<'a>>
+    ensures { option_map plain_statement result ≡ the_statement_with op (map plain_sort sorts.now) (map plain_pattern args.now) }
+{
+    match (op, sorts, args) {
+        (Op::Implies, [over], [guard, stated]) => guarded(over, guard, stated),
+        _ => equality_with(op, sorts, args),
+    }
+}
+
+/// The equality behind this guard, where it is over the same sort.
+fn guarded<'a>(over: &Sort, guard: &'a Pat, stated: &'a Pat) -> Option<Statement<'a>>
+    ensures { option_map plain_statement result ≡ option_and_then (the_guarded (plain_sort over.now) (plain_pattern guard.now)) (the_equality (plain_pattern stated.now)) }
+{
+    let equality = equality(stated)?;
+    if !same_sort(over, equality.over) {
+        return None;
+    }
+    Some(Statement {
+        guard: Some(guard),
+        ..equality
+    })
+}
+
+fn equality(pat: &Pat) -> Option<Statement<'_>>
+    ensures { option_map plain_statement result ≡ the_equality (plain_pattern pat.now) }
+{
+    match &pat.form {
+        PatForm::Built(op, sorts, args) => equality_with(*op, sorts, args),
+        _ => None,
+    }
+}
+
+fn equality_with<'a>(op: Op, sorts: &'a [Sort], args: &'a [Pat]) -> Option<Statement<'a>>
+    ensures { option_map plain_statement result ≡ the_equality_with op (map plain_sort sorts.now) (map plain_pattern args.now) }
+{
+    match (op, sorts, args) {
+        (Op::Equals, [sort, over], [left, value]) => {
+            let (function, arguments) = called(left)?;
+            Some(Statement {
+                guard: None,
+                sort,
+                over,
+                function,
+                arguments,
+                value,
+            })
+        }
+        _ => None,
+    }
+}
+
+/// The symbol and the arguments of `f{}(..)`.
+fn called(pat: &Pat) -> Option<(&Text, &[Pat])>
+    ensures { option_map plain_call result ≡ the_called (plain_pattern pat.now) }
+{
+    match &pat.form {
+        PatForm::App(name, sorts, args) => call_of(name, sorts, args),
+        _ => None,
+    }
+}
+
+fn call_of<'a>(name: &'a Text, sorts: &[Sort], args: &'a [Pat]) -> Option<(&'a Text, &'a [Pat])>
+    ensures { option_map plain_call result ≡ the_call_of name.now (map plain_sort sorts.now) (map plain_pattern args.now) }
+{
+    match sorts {
+        [] => Some((name, args)),
+        [_, ..] => None,
+    }
+}

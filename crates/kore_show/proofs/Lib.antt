@@ -1,0 +1,3 @@
+pub mod ShownParts
+pub mod Declared
+pub mod SortedShown

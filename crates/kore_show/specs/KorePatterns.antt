@@ -1,0 +1,84 @@
+-- The Kore pattern that a pattern of a rule is, by the names that its signature declares (Kore language document,
+-- "Patterns"). It stands in no text, and so each place is 0.
+use Rattle.std.specs.Prelude.{ℕ, List, [], ◌∷◌, Bool, true, false, Option, Some, None, option_map, slice_get, codes, if◌then◌else◌}
+use Rattle.std.specs.Fmt.{signed_decimal}
+use Rattle.term_core.specs.Terms.{DomainValue, integer, truth, text}
+use Rattle.term_core.specs.Patterns.{Pattern, Patterns, variable, domain_value, application, injection, call, no_pattern, more_patterns}
+use Rattle.rule_core.specs.declared.signature.Signature.{Signature}
+use Rattle.rule_core.specs.declared.signature.SymInfo.{SymInfo}
+use Rattle.rule_core.specs.declared.signature.SymKind.{SymKind}
+use Rattle.rule_core.specs.declared.signature.SymKind.TheVariants.{Injection, Ctor, Equations, Hooked, Closed, NoKind}
+use Rattle.kore_text.specs.Trees.{SortTree, sort_applied, no_sorts, sort_trees, PatternTree, PatternTrees, symbol_applied, no_patterns, pattern_then}
+use Rattle.kore_text.specs.Trees as tree
+
+-- the name under a number
+abbrev pub declared_name : {V : Type 0} → List (List ℕ × V) → ℕ → Option (List ℕ)
+declared_name {V} entries n = option_map (λ e. e.0) (slice_get entries n)
+
+-- the text of a domain value in canonical form: an integer in decimal digits, a truth value by its name
+abbrev pub value_text : DomainValue → List ℕ
+value_text (integer n) = signed_decimal n
+value_text (truth true) = codes "true"
+value_text (truth false) = codes "false"
+value_text (text bytes) = bytes
+
+abbrev pub injects : SymKind → Bool
+injects Injection = true
+injects Ctor = false
+injects Equations = false
+injects (Hooked row) = false
+injects Closed = false
+injects NoKind = false
+
+-- the name of the injection symbol, which is the first symbol of its kind
+abbrev pub injection_name : List (List ℕ × SymInfo) → Option (List ℕ)
+injection_name [] = None
+injection_name (e ∷ es) = if injects e.1.kind then Some e.0 else injection_name es
+
+-- a declared sort
+abbrev pub kore_sort : Signature → ℕ → Option SortTree
+kore_sort sig s = option_map (λ (name : List ℕ). sort_applied 0 name no_sorts) (declared_name sig.sorts s)
+
+-- a sort and more sorts
+abbrev pub with_sort : Option SortTree → Option (List SortTree) → Option (List SortTree)
+with_sort None ss = None
+with_sort (Some s) None = None
+with_sort (Some s) (Some ss) = Some (s ∷ ss)
+
+abbrev pub kore_sorts : Signature → List ℕ → Option (List SortTree)
+kore_sorts sig [] = Some []
+kore_sorts sig (s ∷ ss) = with_sort (kore_sort sig s) (kore_sorts sig ss)
+
+-- a domain value of a sort
+abbrev pub kore_value : Option SortTree → DomainValue → Option PatternTree
+kore_value None v = None
+kore_value (Some s) v = Some (tree.domain_value 0 s (value_text v) 0)
+
+-- a symbol of this name, at these sorts, applied to these arguments
+abbrev pub applied : Option (List ℕ) → Option (List SortTree) → Option PatternTrees → Option PatternTree
+applied None sorts args = None
+applied (Some name) None args = None
+applied (Some name) (Some sorts) None = None
+applied (Some name) (Some sorts) (Some args) = Some (symbol_applied 0 name (sort_trees sorts) args)
+
+-- a pattern and more patterns
+abbrev pub in_front : Option PatternTree → Option PatternTrees → Option PatternTrees
+in_front None ps = None
+in_front (Some p) None = None
+in_front (Some p) (Some ps) = Some (pattern_then p ps)
+
+-- The Kore pattern: there is none where a variable stands in the pattern, or a sort or a symbol is not declared.
+abbrev mutual
+  pub kore_pattern : Signature → Pattern → Option PatternTree
+  kore_pattern sig (variable x) = None
+  kore_pattern sig (domain_value s v) = kore_value (kore_sort sig s) v
+  kore_pattern sig (application f ps) =
+      applied (declared_name sig.symbols f) (Some []) (kore_patterns sig ps)
+  kore_pattern sig (injection a b p) =
+      applied (injection_name sig.symbols) (kore_sorts sig (a ∷ (b ∷ []))) (in_front (kore_pattern sig p) (Some no_patterns))
+  kore_pattern sig (call f sorts ps) =
+      applied (declared_name sig.symbols f) (kore_sorts sig sorts) (kore_patterns sig ps)
+
+  pub kore_patterns : Signature → Patterns → Option PatternTrees
+  kore_patterns sig no_pattern = Some no_patterns
+  kore_patterns sig (more_patterns p ps) = in_front (kore_pattern sig p) (kore_patterns sig ps)

@@ -1,0 +1,37 @@
+-- What a well-sorted theory says has images: the conditions of the calls are those that acceptance establishes, and
+-- bounds on how many variables there are.
+use Rattle.std.specs.Prelude.{◌≡◌, ◌≤◌, ◌<◌, ◌+◌, ◌^◌, ◌⊎◌, ℕ, List, length, Contains}
+use Rattle.term_core.specs.Patterns.{Pattern}
+use Rattle.rule_core.specs.Rules.{RewriteRule, Equation}
+use Rattle.rule_core.specs.Theories.{RewriteTheory, equations_of}
+use Rattle.rule_core.specs.Sorting.{HasSort, IsSymbol}
+use Rattle.rule_core.specs.WellSorted.{IsSignature, IsWellSorted}
+use Rattle.rule_core.specs.declared.signature.Signature.{Signature}
+use Rattle.rule_core.specs.declared.signature.SymInfo.{SymInfo}
+use Rattle.rule_core.specs.declared.signature.SymKind.TheVariants.{Ctor, Equations}
+use Rattle.ml_image.specs.HasImages.{HasImage, HasRuleImage, HasEquationImage, HasTotality, count_of}
+
+-- a well-sorted pattern has an image
+abbrev pub SortedHasImage : Type 0
+SortedHasImage =
+    (sig : Signature) (variables : List ℕ) (p : Pattern) (sort : ℕ) → IsSignature sig → HasSort sig variables p sort →
+    HasImage sig (length variables) p
+
+-- so has a rule
+abbrev pub RuleHasImage : Type 0
+RuleHasImage =
+    (theory : RewriteTheory) (r : RewriteRule) → IsWellSorted theory → Contains theory.rules r →
+    length r.variables ≤ 2 ^ 32 → HasRuleImage theory.sig r
+
+-- and an equation, which has no parameters or as many as arguments
+abbrev pub EquationHasImage : Type 0
+EquationHasImage =
+    (theory : RewriteTheory) (f : ℕ) (info : SymInfo) (e : Equation) → IsWellSorted theory → IsSymbol theory.sig f info →
+    info.kind ≡ Equations → Contains (equations_of theory f) e → e.parameters + length e.variables ≤ 2 ^ 32 →
+    (e.parameters ≡ 0) ⊎ (e.parameters ≡ count_of e.arguments) → HasEquationImage theory.sig f e
+
+-- a constructor is total
+abbrev pub ConstructorHasTotality : Type 0
+ConstructorHasTotality =
+    (sig : Signature) (f : ℕ) (info : SymInfo) → IsSignature sig → IsSymbol sig f info → info.kind ≡ Ctor →
+    length info.args.items < 2 ^ 31 → HasTotality sig f

@@ -1,0 +1,103 @@
+-- Of what an image can be made: its sorts and symbols are the signature's, and its values are values of their sorts.
+use Rattle.std.specs.Prelude.{◌≡◌, ◌≢◌, ◌<◌, ◌≤◌, ◌+◌, ◌^◌, ℕ, true, false, IsSome, List, [], ◌∷◌, length, Option, Some, None, ◌⊎◌, suc}
+use Rattle.term_core.specs.Terms.{truth}
+use Rattle.term_core.specs.Patterns.{Pattern, Patterns, variable, domain_value, application, injection, call, no_pattern, more_patterns}
+use Rattle.rule_core.specs.Rules.{RewriteRule, Equation}
+use Rattle.rule_core.specs.Sorting.{HasValue, AreSorts}
+use Rattle.rule_core.specs.declared.signature.Signature.{Signature}
+use Rattle.rule_core.specs.declared.signature.SymInfo.{SymInfo}
+use Rattle.ml_image.specs.Images.{injection_symbol}
+use Rattle.ml_image.specs.OwnAxioms.{sort_of, Declares, IsConstructor}
+
+-- The pattern has an image: its variables have numbers below n, its sorts and symbols are the signature's, and each
+-- domain value is one that its sort has.
+abbrev mutual
+  pub HasImage : Signature → ℕ → Pattern → Type 0
+  HasImage sig n (variable x) = x < n
+  HasImage sig n (domain_value s v) = HasValue sig s v
+  HasImage sig n (application f ps) = (f < length sig.symbols) × HaveImages sig n ps
+  HasImage sig n (injection a b p) = IsSome (injection_symbol sig) × AreSorts sig (a ∷ b ∷ []) × HasImage sig n p
+  HasImage sig n (call f ss ps) = (f < length sig.symbols) × AreSorts sig ss × HaveImages sig n ps
+
+  pub HaveImages : Signature → ℕ → Patterns → Type 0
+  HaveImages sig n no_pattern = Unit {0}
+  HaveImages sig n (more_patterns p ps) = HasImage sig n p × HaveImages sig n ps
+
+-- how many patterns there are
+abbrev pub count_of : Patterns → ℕ
+count_of no_pattern = 0
+count_of (more_patterns p ps) = suc (count_of ps)
+
+-- a condition, where there is one, has an image and a sort of truth values
+pub record IsTruth (sig : Signature) (sorts : List ℕ) (p : Pattern) : Type 0 where
+  pub image : HasImage sig (length sorts) p
+  pub sort : ℕ
+  pub sorted : sort_of sig sorts p ≡ Some sort
+  pub truths : HasValue sig sort (truth true)
+
+abbrev pub IsCondition : Signature → List ℕ → Option Pattern → Type 0
+IsCondition sig sorts None = Unit {0}
+IsCondition sig sorts (Some p) = IsTruth sig sorts p
+
+-- the rule has an image
+pub record HasRuleImage (sig : Signature) (r : RewriteRule) : Type 0 where
+  pub few : length r.variables ≤ 2 ^ 32
+  pub sorts : AreSorts sig r.variables
+  pub left : HasImage sig (length r.variables) r.left
+  pub condition : IsCondition sig r.variables r.condition
+  pub right : HasImage sig (length r.variables) r.right
+
+-- the function takes arguments of these sorts, and the equation has as many parameters and patterns for them
+pub record HasParameters (sig : Signature) (f : ℕ) (e : Equation) : Type 0 where
+  pub info : SymInfo
+  pub sorts : List ℕ
+  pub sort : ℕ
+  pub declared : Declares sig f info sorts sort
+  pub are_sorts : AreSorts sig sorts
+  pub as_many : e.parameters ≡ length sorts
+  pub each : e.parameters ≡ count_of e.arguments
+
+-- the equation of this function has an image
+pub record HasEquationImage (sig : Signature) (f : ℕ) (e : Equation) : Type 0 where
+  pub few : e.parameters + length e.variables ≤ 2 ^ 32
+  pub sorts : AreSorts sig e.variables
+  pub function : f < length sig.symbols
+  pub arguments : HaveImages sig (length e.variables) e.arguments
+  pub condition : IsCondition sig e.variables e.condition
+  pub right : HasImage sig (length e.variables) e.right
+  pub parameters : (e.parameters ≡ 0) ⊎ HasParameters sig f e
+
+-- The symbol with this number is a constructor whose declaration names sorts of the signature. It has fewer than 2^31
+-- arguments, so that twice as many variables have numbers of 32 bits.
+pub record MakesTerms (sig : Signature) (f : ℕ) (info : SymInfo) (sorts : List ℕ) (sort : ℕ) : Type 0 where
+  pub constructs : IsConstructor sig f info sorts sort
+  pub are_sorts : AreSorts sig (sort ∷ sorts)
+  pub few : length sorts < 2 ^ 31
+
+abbrev pub HasTotality : Signature → ℕ → Type 0
+HasTotality sig f = (info : SymInfo) × (sorts : List ℕ) × (sort : ℕ) × MakesTerms sig f info sorts sort
+
+-- two constructors of one result sort, neither of them said to be associative or the like
+pub record HasDifference (sig : Signature) (f g : ℕ) : Type 0 where
+  pub differ : f ≢ g
+  pub info : SymInfo
+  pub other : SymInfo
+  pub sorts : List ℕ
+  pub others : List ℕ
+  pub sort : ℕ
+  pub first : MakesTerms sig f info sorts sort
+  pub second : MakesTerms sig g other others sort
+  pub no_ac : (info.ac ≡ false) × (other.ac ≡ false)
+
+-- a constructor that takes something, and is not said to be associative or the like
+pub record HasFreedom (sig : Signature) (f : ℕ) : Type 0 where
+  pub info : SymInfo
+  pub sorts : List ℕ
+  pub sort : ℕ
+  pub makes : MakesTerms sig f info sorts sort
+  pub no_ac : info.ac ≡ false
+  pub some : 0 < length sorts
+
+-- there is an injection symbol, and these are sorts
+abbrev pub CanInject : Signature → List ℕ → Type 0
+CanInject sig sorts = IsSome (injection_symbol sig) × AreSorts sig sorts

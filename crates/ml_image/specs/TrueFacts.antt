@@ -1,0 +1,46 @@
+-- True facts on built-ins: what each reader of a proof can check by computing.
+use Rattle.std.specs.Prelude.{◌≡◌, ℕ, List, [], ◌∷◌, Some, Ok}
+use Rattle.term_core.specs.Terms.{DomainValue}
+use Rattle.term_core.specs.Patterns.{Patterns, domain_value, call, no_pattern, more_patterns}
+use Rattle.term_core.specs.HookValues.{hook_value}
+use Rattle.rule_core.specs.Sorting.{HasValue}
+use Rattle.rule_core.specs.declared.signature.Signature.{Signature}
+use Rattle.rule_core.specs.declared.signature.SymInfo.{SymInfo}
+use Rattle.rule_core.specs.declared.signature.SymKind.TheVariants.{Hooked}
+use Rattle.ml_image.specs.Sentences.{Sentence, term, equals, functional}
+use Rattle.ml_image.specs.OwnAxioms.{Declares}
+
+-- A domain value that its sort has is one element of the sort.
+pub record SaysValue (sig : Signature) (s : ℕ) (v : DomainValue) (p : Sentence) : Type 0 where
+  pub has : HasValue sig s v
+  pub says : p ≡ functional (term (domain_value s v)) s
+
+-- values of these sorts, in order
+abbrev pub HaveValues : Signature → List ℕ → List DomainValue → Type 0
+HaveValues sig [] [] = Unit {0}
+HaveValues sig [] (v ∷ vs) = ⊥
+HaveValues sig (s ∷ ss) [] = ⊥
+HaveValues sig (s ∷ ss) (v ∷ vs) = HasValue sig s v × HaveValues sig ss vs
+
+abbrev pub value_patterns : List ℕ → List DomainValue → Patterns
+value_patterns [] vs = no_pattern
+value_patterns (s ∷ ss) [] = no_pattern
+value_patterns (s ∷ ss) (v ∷ vs) = more_patterns (domain_value s v) (value_patterns ss vs)
+
+-- A function with a hook is, of values, the value that the hook gives, in its result sort.
+pub record SaysHook (sig : Signature) (f : ℕ) (vs : List DomainValue) (p : Sentence) : Type 0 where
+  pub info : SymInfo
+  pub sorts : List ℕ
+  pub sort : ℕ
+  pub declared : Declares sig f info sorts sort
+  pub row : ℕ
+  pub hooked : info.kind ≡ Hooked (record { 0 = row })
+  pub arguments : HaveValues sig sorts vs
+  pub value : DomainValue
+  pub answers : hook_value row vs ≡ Some (Ok value)
+  pub has : HasValue sig sort value
+  pub says : p ≡ equals (term (call f [] (value_patterns sorts vs))) (term (domain_value sort value))
+
+pub data IsTrueFact (sig : Signature) (p : Sentence) : Type 0 where
+  of_value : (s : ℕ) (v : DomainValue) → SaysValue sig s v p → IsTrueFact sig p
+  of_hook : (f : ℕ) (vs : List DomainValue) → SaysHook sig f vs p → IsTrueFact sig p

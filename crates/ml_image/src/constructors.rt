@@ -1,0 +1,134 @@
+// The images of what constructors say.
+ghost use Rattle.std.specs.Prelude.{◌≡◌, ◌≤◌, ◌<◌, ◌+◌, ◌^◌, ℕ, length, IfOk, Some};
+ghost use Rattle.ml_pat.specs.Patterns.{equal, var, ex};
+ghost use Rattle.term_core.specs.RulePatterns.{sort_numbers};
+ghost use Rattle.rule_core.specs.Sorting.{IsSymbol};
+ghost use Rattle.ml_image.specs.Sentences.{IsImageOf, sentence_image};
+ghost use Rattle.ml_image.specs.OwnAxioms.{SaysTotal, SaysApart, SaysFree, of_variables, named};
+ghost use Rattle.ml_image.specs.HasImages.{HasTotality, HasDifference, HasFreedom, MakesTerms};
+ghost use Rattle.ml_image.specs.Gained.{HasGained};
+
+use crate::closing::{at_pairs, at_variables, close, named_sorts};
+use crate::images::head_image;
+use crate::tokens::sort_number;
+use ml_pat::{MPat, MSort, Names, VarNo};
+use rule_core::{Signature, SortRef, SymInfo};
+use std::alloc::{AllocError, Global};
+use term_core::{SortId, SymId};
+
+/// That a constructor is total (Chen and Rosu 2019): for all arguments of its sorts it makes one element of its result
+/// sort. An error is want of memory; the names may have gained tokens then too.
+pub fn ctor_total(
+    alloc: Global,
+    sig: &Signature,
+    names: &mut Names,
+    symbol: SymId,
+) -> Result<MPat, AllocError>
+    requires { HasTotality sig.now symbol.0 }
+    ensures image { IfOk result (IsImageOf sig.now names.new (SaysTotal sig.now symbol.0)) }
+    ensures names { HasGained sig.now names.old names.new }
+{
+    let info = declaration(sig, symbol);
+    let sorts = named_sorts(alloc, &info.args)?;
+    let count = sorts.len() as u32;
+    let made = of_variables(alloc, sig, names, symbol, 0, count)?;
+    let sort = sort_number(alloc, sig, names, result_sort(info))?;
+    let body = is_some(alloc, VarNo(count), sort, &made)?;
+    close(alloc, sig, names, &sorts, body)
+}
+
+/// That two constructors of one result sort make different things (K framework, attribute `constructor`): neither of
+/// them is said to be associative or the like. An error is want of memory; the names may have gained tokens then too.
+pub fn ctor_apart(
+    alloc: Global,
+    sig: &Signature,
+    names: &mut Names,
+    first: SymId,
+    second: SymId,
+) -> Result<MPat, AllocError>
+    requires { HasDifference sig.now first.0 second.0 }
+    ensures image { IfOk result (IsImageOf sig.now names.new (SaysApart sig.now first.0 second.0)) }
+    ensures names { HasGained sig.now names.old names.new }
+{
+    let mut sorts = named_sorts(alloc, &declaration(sig, first).args)?;
+    let others = named_sorts(alloc, &declaration(sig, second).args)?;
+    let count = sorts.len() as u32;
+    let left = of_variables(alloc, sig, names, first, 0, count)?;
+    let right = of_variables(alloc, sig, names, second, count, others.len() as u32)?;
+    let body = MPat::not(alloc, &MPat::and(alloc, &left, &right)?)?;
+    sorts.extend_from_slice(&others)?;
+    close(alloc, sig, names, &sorts, body)
+}
+
+/// That a constructor is free (K framework, attribute `constructor`): it makes the same of the same arguments alone. It
+/// takes at least one, and is not said to be associative or the like. An error is want of memory; the names may have
+/// gained tokens then too.
+pub fn ctor_free(
+    alloc: Global,
+    sig: &Signature,
+    names: &mut Names,
+    symbol: SymId,
+) -> Result<MPat, AllocError>
+    requires { HasFreedom sig.now symbol.0 }
+    ensures image { IfOk result (IsImageOf sig.now names.new (SaysFree sig.now symbol.0)) }
+    ensures names { HasGained sig.now names.old names.new }
+{
+    let mut sorts = named_sorts(alloc, &declaration(sig, symbol).args)?;
+    let again = named_sorts(alloc, &declaration(sig, symbol).args)?;
+    let count = sorts.len() as u32;
+    let first = of_variables(alloc, sig, names, symbol, 0, count)?;
+    let second = of_variables(alloc, sig, names, symbol, count, count)?;
+    let head = head_image(alloc, sig, names, symbol.0 as usize)?;
+    let joined = at_pairs(alloc, head, 0, count, count)?;
+    let body = MPat::imp(alloc, &MPat::and(alloc, &first, &second)?, &joined)?;
+    sorts.extend_from_slice(&again)?;
+    close(alloc, sig, names, &sorts, body)
+}
+
+// The declaration of a symbol.
+pub(crate) fn declaration(sig: &Signature, symbol: SymId) -> &SymInfo
+    requires { symbol.0 < length sig.now.symbols }
+    ensures { IsSymbol sig.now symbol.0 result.now }
+{
+    match sig.symbols.value(symbol.0 as usize) {
+        Some(info) => info,
+        None => unreachable!(),
+    }
+}
+
+// The sort of what a symbol makes, where it is no parameter.
+pub(crate) fn result_sort(info: &SymInfo) -> SortId
+    requires { (sort : ℕ) × (info.now.result ≡ named sort) }
+    ensures { info.now.result ≡ named result.0 }
+{
+    match info.result {
+        SortRef::Sort(sort) => sort,
+        SortRef::Param(_) => unreachable!(),
+    }
+}
+
+// A symbol of variables, so many, numbered from `first` on.
+pub(crate) fn of_variables(
+    alloc: Global,
+    sig: &Signature,
+    names: &mut Names,
+    symbol: SymId,
+    first: u32,
+    count: u32,
+) -> Result<MPat, AllocError>
+    requires symbol { symbol.0 < length sig.now.symbols }
+    requires few { first + count ≤ 2 ^ 32 }
+    ensures image { IfOk result (λ p. sentence_image sig.now names.new (of_variables symbol.0 first count) ≡ Some p) }
+    ensures names { HasGained sig.now names.old names.new }
+{
+    let head = head_image(alloc, sig, names, symbol.0 as usize)?;
+    at_variables(alloc, head, first, count)
+}
+
+// That the pattern is, for some x of the sort, that x.
+pub(crate) fn is_some(alloc: Global, x: VarNo, sort: MSort, made: &MPat) -> Result<MPat, AllocError>
+    ensures { IfOk result (λ p. p ≡ ex x.0 sort.0 (equal (var x.0) made.now)) }
+{
+    let same = MPat::equal(alloc, &MPat::var(alloc, x)?, made)?;
+    MPat::ex(alloc, x, sort, &same)
+}

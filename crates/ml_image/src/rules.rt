@@ -1,0 +1,242 @@
+// The images of rewrite rules and equations.
+ghost use Rattle.std.specs.Prelude.{◌≡◌, ◌≢◌, ◌<◌, ◌≤◌, ◌-◌, ◌+◌, ◌^◌, [], length, IfOk, Some, option_map, option_copied, slice_get};
+ghost use Rattle.ml_pat.specs.Patterns.{imp, and, equal, next};
+ghost use Rattle.term_core.specs.Patterns.{call};
+ghost use Rattle.term_core.specs.RulePatterns.{plain_pattern, sort_numbers};
+ghost use Rattle.term_core.specs.PatternLists.{plain_patterns};
+ghost use Rattle.rule_core.specs.ProgramView.{sorts_of, rewrite_rule, function_equation};
+ghost use Rattle.term_core.specs.declared.ids.SortId.{SortId};
+ghost use Rattle.ml_image.specs.Images.{image_of, all_shifted};
+ghost use Rattle.ml_image.specs.Sentences.{IsImageOf, sentence_image};
+ghost use Rattle.ml_image.specs.OwnAxioms.{SaysRule, SaysEquation, sort_of, made_sort, meets};
+ghost use Rattle.ml_image.specs.HasImages.{HaveImages, HasRuleImage, HasEquationImage, IsTruth, IsCondition};
+ghost use Rattle.ml_image.specs.Counted.{IsConditionImage};
+ghost use Rattle.ml_image.specs.Gained.{HasGained};
+
+use crate::closing::{close, named_sorts, variable_sorts};
+use crate::constructors::{declaration, of_variables};
+use crate::images::{applied, head_image, image, term_image};
+use crate::tokens::value_number;
+use ml_pat::{MPat, Names, VarNo};
+use rule_core::{Equation, Rule, Signature, SortRef, VarInfo};
+use std::alloc::{AllocError, Global};
+use term_core::{RulePat, SortId, SymId, Value};
+
+/// The image of a rewrite rule (Chen and Rosu 2019): for all its variables, what is its left side, where the condition
+/// is `true`, makes a step to its right side. An error is want of memory; the names may have gained tokens then too.
+pub fn rule_image(
+    alloc: Global,
+    sig: &Signature,
+    names: &mut Names,
+    rule: &Rule,
+) -> Result<MPat, AllocError>
+    requires { HasRuleImage sig.now (rewrite_rule rule.now) }
+    ensures image { IfOk result (IsImageOf sig.now names.new (SaysRule sig.now (rewrite_rule rule.now))) }
+    ensures names { HasGained sig.now names.old names.new }
+{
+    let left = term_image(alloc, sig, names, &rule.left)?;
+    let condition = condition_image(alloc, sig, names, 0, &rule.vars, &rule.cond)?;
+    let right = term_image(alloc, sig, names, &rule.right)?;
+    let body = step_to(alloc, &left, &condition, &right)?;
+    let sorts = variable_sorts(alloc, &rule.vars)?;
+    close(alloc, sig, names, &sorts, body)
+}
+
+// `left & condition -> next right`.
+fn step_to(alloc: Global, left: &MPat, condition: &MPat, right: &MPat) -> Result<MPat, AllocError>
+    ensures { IfOk result (λ p. p ≡ imp (and left.now condition.now) (next right.now)) }
+{
+    let from = MPat::and(alloc, left, condition)?;
+    MPat::imp(alloc, &from, &MPat::next(alloc, right)?)
+}
+
+// What a condition says, with its variables numbered from `first` on: that it is `true`, and everything where there is
+// none.
+fn condition_image(
+    alloc: Global,
+    sig: &Signature,
+    names: &mut Names,
+    first: u32,
+    vars: &[VarInfo],
+    condition: &Option<RulePat>,
+) -> Result<MPat, AllocError>
+    requires condition { IsCondition sig.now (sorts_of vars.now) (option_map plain_pattern condition.now) }
+    requires few { first + length vars.now ≤ 2 ^ 32 }
+    ensures image { IfOk result (IsConditionImage sig.now names.new (sorts_of vars.now) first (option_map plain_pattern condition.now)) }
+    ensures names { HasGained sig.now names.old names.new }
+{
+    match condition {
+        Some(pat) => truth_image(alloc, sig, names, first, vars, pat),
+        None => MPat::top(alloc),
+    }
+}
+
+// That a pattern, whose variables are numbered from `first` on, is `true`.
+fn truth_image(
+    alloc: Global,
+    sig: &Signature,
+    names: &mut Names,
+    first: u32,
+    vars: &[VarInfo],
+    pat: &RulePat,
+) -> Result<MPat, AllocError>
+    requires condition { IsTruth sig.now (sorts_of vars.now) (plain_pattern pat.now) }
+    requires few { first + length vars.now ≤ 2 ^ 32 }
+    ensures image { IfOk result (IsConditionImage sig.now names.new (sorts_of vars.now) first (Some (plain_pattern pat.now))) }
+    ensures names { HasGained sig.now names.old names.new }
+{
+    match sort_of(sig, vars, pat) {
+        Some(sort) => {
+            let held = image(alloc, sig, names, first, pat)?;
+            let truth = value_number(alloc, sig, names, sort, &Value::Bool(true))?;
+            MPat::equal(alloc, &held, &MPat::constant(alloc, truth)?)
+        }
+        None => unreachable!(),
+    }
+}
+
+// The sort of a pattern.
+fn sort_of(sig: &Signature, vars: &[VarInfo], pat: &RulePat) -> Option<SortId>
+    ensures { option_map (λ (s : SortId). s.0) result ≡ sort_of sig.now (sorts_of vars.now) (plain_pattern pat.now) }
+{
+    match pat {
+        RulePat::Var(x) => Some(variable(vars, *x)?.sort),
+        RulePat::Value(sort, _) => Some(*sort),
+        RulePat::Ctor(symbol, _) => made_sort(sig, *symbol, &[]),
+        RulePat::Inj(_, to, _) => Some(*to),
+        RulePat::Call(symbol, sorts, _) => made_sort(sig, *symbol, sorts),
+    }
+}
+
+// The variable with a number.
+fn variable(vars: &[VarInfo], number: u32) -> Option<&VarInfo>
+    ensures { option_copied result ≡ slice_get vars.now number }
+{
+    vars.get(number as usize)
+}
+
+// The sort of what a symbol makes at sort arguments.
+fn made_sort(sig: &Signature, symbol: SymId, sorts: &[SortId]) -> Option<SortId>
+    ensures { option_map (λ (s : SortId). s.0) result ≡ made_sort sig.now symbol.0 (sort_numbers sorts.now) }
+{
+    match sig.symbols.value(symbol.0 as usize)?.result {
+        SortRef::Param(place) => sorts.get(place as usize).copied(),
+        SortRef::Sort(sort) => Some(sort),
+    }
+}
+
+/// The image of an equation of a function (Chen and Rosu 2019; K framework, "Functions"): for all its variables, where
+/// the condition is `true`, the function of its arguments is its right side. An equation in the form of kompile gives
+/// the function parameters, says that each is in its argument, and has the parameters before its other variables. An
+/// error is want of memory; the names may have gained tokens then too.
+pub fn equation_image(
+    alloc: Global,
+    sig: &Signature,
+    names: &mut Names,
+    equation: &Equation,
+) -> Result<MPat, AllocError>
+    requires { HasEquationImage sig.now equation.now.fun.0 (function_equation equation.now) }
+    ensures image { IfOk result (IsImageOf sig.now names.new (SaysEquation sig.now equation.now.fun.0 (function_equation equation.now))) }
+    ensures names { HasGained sig.now names.old names.new }
+{
+    if equation.params == 0 {
+        direct_image(alloc, sig, names, equation)
+    } else {
+        kompile_image(alloc, sig, names, equation)
+    }
+}
+
+// The image of an equation that is written directly.
+fn direct_image(
+    alloc: Global,
+    sig: &Signature,
+    names: &mut Names,
+    equation: &Equation,
+) -> Result<MPat, AllocError>
+    requires equation { HasEquationImage sig.now equation.now.fun.0 (function_equation equation.now) }
+    requires direct { equation.now.params ≡ 0 }
+    ensures image { IfOk result (IsImageOf sig.now names.new (SaysEquation sig.now equation.now.fun.0 (function_equation equation.now))) }
+    ensures names { HasGained sig.now names.old names.new }
+{
+    let condition = condition_image(alloc, sig, names, 0, &equation.vars, &equation.cond)?;
+    let call = call_image(alloc, sig, names, equation)?;
+    let right = term_image(alloc, sig, names, &equation.right)?;
+    let body = MPat::imp(alloc, &condition, &MPat::equal(alloc, &call, &right)?)?;
+    let sorts = variable_sorts(alloc, &equation.vars)?;
+    close(alloc, sig, names, &sorts, body)
+}
+
+// The function of the arguments of an equation.
+fn call_image(
+    alloc: Global,
+    sig: &Signature,
+    names: &mut Names,
+    equation: &Equation,
+) -> Result<MPat, AllocError>
+    requires symbol { equation.now.fun.0 < length sig.now.symbols }
+    requires arguments { HaveImages sig.now (2 ^ 32) (plain_patterns equation.now.args.items) }
+    ensures image { IfOk result (λ p. image_of sig.now names.new (call equation.now.fun.0 [] (plain_patterns equation.now.args.items)) ≡ Some p) }
+    ensures names { HasGained sig.now names.old names.new }
+{
+    let head = head_image(alloc, sig, names, equation.fun.0 as usize)?;
+    applied(alloc, sig, names, 0, head, &equation.args)
+}
+
+// The image of an equation in the form of kompile.
+fn kompile_image(
+    alloc: Global,
+    sig: &Signature,
+    names: &mut Names,
+    equation: &Equation,
+) -> Result<MPat, AllocError>
+    requires equation { HasEquationImage sig.now equation.now.fun.0 (function_equation equation.now) }
+    requires kompile { equation.now.params ≢ 0 }
+    ensures image { IfOk result (IsImageOf sig.now names.new (SaysEquation sig.now equation.now.fun.0 (function_equation equation.now))) }
+    ensures names { HasGained sig.now names.old names.new }
+{
+    let count = equation.params;
+    let condition = condition_image(alloc, sig, names, count, &equation.vars, &equation.cond)?;
+    let met = meets_image(alloc, sig, names, count, &equation.args)?;
+    let function = of_variables(alloc, sig, names, equation.fun, 0, count)?;
+    let right = image(alloc, sig, names, count, &equation.right)?;
+    let body = met_equal(alloc, &condition, &met, &function, &right)?;
+    let mut sorts = named_sorts(alloc, &declaration(sig, equation.fun).args)?;
+    sorts.extend_from_slice(&variable_sorts(alloc, &equation.vars)?)?;
+    close(alloc, sig, names, &sorts, body)
+}
+
+// `condition & met -> function = right`.
+fn met_equal(
+    alloc: Global,
+    condition: &MPat,
+    met: &MPat,
+    function: &MPat,
+    right: &MPat,
+) -> Result<MPat, AllocError>
+    ensures { IfOk result (λ p. p ≡ imp (and condition.now met.now) (equal function.now right.now)) }
+{
+    let holds = MPat::and(alloc, condition, met)?;
+    MPat::imp(alloc, &holds, &MPat::equal(alloc, function, right)?)
+}
+
+// That the parameters, numbered from 0 on, are each in its argument, whose variables are numbered from `first` on.
+fn meets_image(
+    alloc: Global,
+    sig: &Signature,
+    names: &mut Names,
+    first: u32,
+    args: &[RulePat],
+) -> Result<MPat, AllocError>
+    requires arguments { HaveImages sig.now (2 ^ 32 - first) (plain_patterns args.now) }
+    requires few { length args.now ≤ 2 ^ 32 }
+    ensures image { IfOk result (λ p. sentence_image sig.now names.new (meets 0 (all_shifted first (plain_patterns args.now))) ≡ Some p) }
+    ensures names { HasGained sig.now names.old names.new }
+{
+    let mut made = MPat::top(alloc)?;
+    for i in (0..args.len()).rev() {
+        let argument = image(alloc, sig, names, first, &args[i])?;
+        let parameter = MPat::var(alloc, VarNo(i as u32))?;
+        made = MPat::and(alloc, &MPat::member(alloc, &parameter, &argument)?, &made)?;
+    }
+    Ok(made)
+}

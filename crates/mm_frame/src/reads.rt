@@ -1,0 +1,216 @@
+// What scopes answer.
+
+ghost use Rattle.std.specs.Prelude.{◌≡◌, ℕ, option_map, slice_get, slice_index, option_and_then, map, []};
+ghost use Rattle.mm_frame.specs.Held.{held, named};
+ghost use Rattle.mm_frame.specs.CitedView.{cited_hypothesis, cited_assertion};
+ghost use Rattle.mm_frame.specs.FramesHeld.{frames_held, in_groups, hypothesis_held, frame_held};
+ghost use Rattle.mm_database.specs.Database.{Context, empty_context};
+ghost use Rattle.mm_frame.specs.Standing.{Stands, Tells, FrameFound};
+ghost use Rattle.mm_database.specs.Validity.{first_open};
+ghost use Rattle.mm_database.specs.Proofs.{active_hypothesis};
+ghost use Rattle.mm_frame.specs.Numbered.{named_hypothesis};
+ghost use Rattle.mm_frame.specs.HeldReads.{frame_named, symbol_is_variable, hypothesis_at, hypothesis_named};
+ghost use Rattle.mm_frame.specs.HeldTests.{is_held_active, is_held_typed, number_in, first_block};
+
+use crate::disjoint::Disjoint;
+use crate::frames::{Cited, Frame, Hyp};
+use crate::hypotheses::Hypotheses;
+use crate::names::Names;
+use crate::scopes::{Name, Need, Scopes};
+use std::alloc::Global;
+
+impl<'a> Scopes<'a> {
+    /// The scopes of a database without statements. Takes no memory yet.
+    pub fn new(alloc: Global) -> Self
+        ensures stands { Stands (held result) empty_context }
+        ensures frames { (held result).frames ≡ [] }
+    {
+        Scopes {
+            names: Names::new(alloc),
+            symbols: Vec::new(alloc),
+            places: Vec::new(alloc),
+            types: Vec::new(alloc),
+            variables: Vec::new(alloc),
+            hyps: Hypotheses::new(alloc),
+            disjoint: Disjoint::new(alloc),
+            blocks: Vec::new(alloc),
+            frames: Vec::new(alloc),
+            shared: None,
+        }
+    }
+
+    /// What the token names.
+    pub(crate) fn name(&self, word: &'a [u8]) -> Option<Name>
+        ensures { result ≡ named self.now word.now }
+    {
+        self.names.get(word)
+    }
+
+    /// Whether the variable with this number is active.
+    pub(crate) fn is_active_variable(&self, n: u32) -> bool
+        ensures { result ≡ is_held_active (held self.now) n }
+    {
+        let place = self.places.get(n as usize).copied().unwrap_or(0);
+        match self.variables.get(place) {
+            None => false,
+            Some(variable) => *variable == n,
+        }
+    }
+
+    /// Whether an active `$f` types the variable with this number.
+    pub(crate) fn has_type(&self, n: u32) -> bool
+        ensures { result ≡ is_held_typed (held self.now) n }
+    {
+        match self.hyps.get(self.type_place(n)) {
+            None => false,
+            Some(hyp) => hyp.types(n),
+        }
+    }
+
+    /// The place that is kept for the `$f` of the variable with this number.
+    pub(crate) fn type_place(&self, n: u32) -> usize
+        ensures { result ≡ slice_index (held self.now).types n }
+    {
+        self.types.get(n as usize).copied().unwrap_or(0)
+    }
+
+    /// The number of a symbol that is what it has to be.
+    pub(crate) fn number(&self, need: Need, word: &'a [u8]) -> Option<u32>
+        ensures { result ≡ number_in (held self.now) need word.now }
+    {
+        match self.name(word)? {
+            Name::Constant(n) => if need == Need::Variable {
+                None
+            } else {
+                Some(n)
+            },
+            Name::Variable(n) => {
+                if self.is_active_variable(n) && (need != Need::Typed || self.has_type(n)) {
+                    Some(n)
+                } else {
+                    None
+                }
+            }
+            _ => None,
+        }
+    }
+
+    /// The token with this number, none exactly where no symbol has it. Takes no memory.
+    pub fn token(&self, symbol: u32) -> Option<&'a [u8]>
+        ensures { option_map (λ t. t.now) result ≡ option_map (λ s. s.token) (slice_get (held self.now).symbols symbol) }
+    {
+        let symbol = self.symbols.get(symbol as usize)?;
+        Some(symbol.token)
+    }
+
+    /// Whether the symbol was declared by a `$v`. Takes no memory.
+    pub fn is_variable(&self, symbol: u32) -> bool
+        ensures held { result ≡ symbol_is_variable (slice_get (held self.now).symbols symbol) }
+        ensures tells { Tells (held self.now) (λ c name. result ≡ c.variables (name symbol)) }
+    {
+        self.has_variable(symbol)
+    }
+
+    fn has_variable(&self, symbol: u32) -> bool
+        ensures { result ≡ symbol_is_variable (slice_get (held self.now).symbols symbol) }
+    {
+        match self.symbols.get(symbol as usize) {
+            None => false,
+            Some(symbol) => symbol.is_variable,
+        }
+    }
+
+    /// The byte of the first `${` that is not closed, none exactly where there is none. Takes no memory.
+    pub fn unclosed(&self) -> Option<usize>
+        ensures { (c : Context) → Stands (held self.now) c → result ≡ first_open c.blocks }
+    {
+        self.first_block()
+    }
+
+    fn first_block(&self) -> Option<usize>
+        ensures { result ≡ first_block (held self.now).blocks }
+    {
+        let block = self.blocks.first()?;
+        Some(block.at)
+    }
+
+    /// The active hypothesis with this label, none exactly where there is none. Takes no memory.
+    pub fn active(&self, label: &'a [u8]) -> Option<&Hyp<'a>>
+        ensures held { option_map (λ h. hypothesis_held h.now) result ≡ hypothesis_named (held self.now) label.now }
+        ensures tells { Tells (held self.now) (λ c name. active_hypothesis c label.now ≡ option_map (λ h. named_hypothesis name (hypothesis_held h.now)) result) }
+    {
+        self.hypothesis(label)
+    }
+
+    fn hypothesis(&self, label: &'a [u8]) -> Option<&Hyp<'a>>
+        ensures { option_map (λ h. hypothesis_held h.now) result ≡ hypothesis_named (held self.now) label.now }
+    {
+        match self.name(label)? {
+            Name::Hypothesis(place) => self.hypothesis_at(place, label),
+            Name::Constant(_) | Name::Variable(_) | Name::Assertion(_) => None,
+        }
+    }
+
+    fn hypothesis_at(&self, place: usize, label: &'a [u8]) -> Option<&Hyp<'a>>
+        ensures { option_map (λ h. hypothesis_held h.now) result ≡ hypothesis_at label.now (slice_get (held self.now).hypotheses place) }
+    {
+        let hyp = self.hyps.get(place)?;
+        if hyp.label() == label {
+            Some(hyp)
+        } else {
+            None
+        }
+    }
+
+    /// The frame of the assertion with this label, none exactly where there is none. Takes no memory.
+    pub fn assertion(&self, label: &'a [u8]) -> Option<&Frame<'a>>
+        ensures held { option_map (λ f. frame_held f.now) result ≡ frame_named (held self.now) label.now }
+        ensures tells { Tells (held self.now) (λ c name. FrameFound name (option_map (λ f. frame_held f.now) result) (c.frames label.now)) }
+    {
+        self.frame_named(label)
+    }
+
+    fn frame_named(&self, label: &'a [u8]) -> Option<&Frame<'a>>
+        ensures { option_map (λ f. frame_held f.now) result ≡ frame_named (held self.now) label.now }
+    {
+        match self.name(label)? {
+            Name::Assertion(place) => self.frames.get(place),
+            Name::Constant(_) | Name::Variable(_) | Name::Hypothesis(_) => None,
+        }
+    }
+
+    /// The frames of all assertions, in order.
+    pub fn frames(&self) -> &[Frame<'a>]
+        ensures { frames_held result.now ≡ (held self.now).frames }
+    {
+        &self.frames
+    }
+
+    /// What a label cites, found by one look-up: none exactly where it is neither that of an active
+    /// hypothesis nor that of an assertion. Takes no memory.
+    pub fn cited(&self, label: &'a [u8]) -> Option<Cited<'_, 'a>>
+        ensures hypothesis { cited_hypothesis result ≡ hypothesis_named (held self.now) label.now }
+        ensures assertion { option_and_then (slice_get (held self.now).frames) (cited_assertion result) ≡ frame_named (held self.now) label.now }
+    {
+        match self.name(label)? {
+            Name::Hypothesis(place) => Some(Cited::Hypothesis(self.hypothesis_at(place, label)?)),
+            Name::Assertion(place) => Some(Cited::Assertion(place)),
+            Name::Constant(_) | Name::Variable(_) => None,
+        }
+    }
+
+    /// Whether the two symbols are a pair of an active `$d`. Takes no memory, and a search for each
+    /// active `$d` that has the one of them that is in fewer.
+    pub fn apart(&self, a: u32, b: u32) -> bool
+        ensures held { result ≡ in_groups (held self.now).disjoint a b }
+        ensures tells { Tells (held self.now) (λ c name. result ≡ c.scope.apart (name a) (name b)) }
+    {
+        self.are_grouped(a, b)
+    }
+
+    fn are_grouped(&self, a: u32, b: u32) -> bool
+        ensures { result ≡ in_groups (held self.now).disjoint a b }
+    {
+        self.disjoint.are_apart(a, b)
+    }
+}

@@ -1,0 +1,73 @@
+// What assertions of one place ask for in common.
+
+ghost use Rattle.std.specs.Prelude.{◌≡◌, IfSome};
+ghost use Rattle.std.specs.List.{list_all};
+ghost use Rattle.std.specs.List.Sorted.{IsStrictlyIncreasing};
+ghost use Rattle.mm_frame.specs.Held.{held};
+ghost use Rattle.mm_frame.specs.HeldPlaces.{ArePlaced};
+ghost use Rattle.mm_frame.specs.Sharing.{IsMandatory};
+ghost use Rattle.mm_frame.specs.HeldTests.{is_covered};
+
+use crate::disjoint::is_among;
+use crate::frames::Mandatory;
+use crate::scopes::Scopes;
+use std::alloc::{AllocError, Global};
+use std::rc::Rc;
+
+/// The symbols of the active `$e`, ascending, and what an assertion asks for that has no other variables.
+#[derive(Drop)]
+pub(crate) struct Shared<'a> {
+    symbols: Vec<u32>,
+    mandatory: Rc<Mandatory<'a>>,
+}
+
+impl<'a> Scopes<'a> {
+    /// What an assertion with this statement shares with others, where it is made, and the statement has
+    /// no variable that asks for more.
+    pub(crate) fn shared_for(&self, statement: &[u32]) -> Option<&Rc<Mandatory<'a>>>
+        ensures { IfSome result (λ m. ArePlaced (held self.now) → IsMandatory (held self.now).hypotheses (held self.now).disjoint statement.now m.now.value) }
+    {
+        let shared = self.shared.as_ref()?;
+        if self.are_covered(&shared.symbols, statement) {
+            Some(&shared.mandatory)
+        } else {
+            None
+        }
+    }
+
+    /// Whether each symbol of a statement is one of these, or has no `$f` and is in no `$d`.
+    fn are_covered(&self, symbols: &[u32], statement: &[u32]) -> bool
+        requires { IsStrictlyIncreasing symbols.now }
+        ensures { result ≡ list_all (is_covered (held self.now) symbols.now) statement.now }
+    {
+        for n in statement {
+            if !self.is_covered(symbols, *n) {
+                return false;
+            }
+        }
+        true
+    }
+
+    fn is_covered(&self, symbols: &[u32], n: u32) -> bool
+        requires { IsStrictlyIncreasing symbols.now }
+        ensures { result ≡ is_covered (held self.now) symbols.now n }
+    {
+        is_among(symbols, n) || !self.has_type(n) && self.disjoint.is_free(n)
+    }
+
+    /// Makes what assertions may share, where the active `$e` are long and it is not made yet.
+    pub(crate) fn share(&mut self, alloc: Global) -> Result<(), AllocError>
+        ensures { held self.new ≡ held self.old }
+    {
+        if self.shared.is_some() || !self.hyps.is_heavy() {
+            return Ok(());
+        }
+        let symbols = self.needed(alloc, &[])?;
+        let mandatory = self.mandatory_for(alloc, &[])?;
+        self.shared = Some(Shared {
+            symbols,
+            mandatory: Rc::new(alloc, mandatory)?,
+        });
+        Ok(())
+    }
+}

@@ -1,7 +1,0 @@
-use Rattle.std.specs.Prelude.{◌≡◌, true, take}
-use Rattle.std.specs.List.{list_all}
-use Rattle.mm_frame.specs.NumberedSteps.{numbers_apart}
-use Rattle.mm_verify.proofs.checking.is_symbol_apart.Given as goal
-
-abbrev pub invariant-loop-y : goal.invariant-loop-y
-invariant-loop-y g l = list_all (numbers_apart (g.P.Place.place l.place) l.x) (take l.y-index l.ys) ≡ true

@@ -1,0 +1,186 @@
+// A run, step by step.
+ghost use Rattle.std.specs.Prelude.{◌≡◌, [], IfOk, IfErr, OnErr};
+ghost use Rattle.term_core.specs.RulePatterns.{plain_pattern};
+ghost use Rattle.rule_core.specs.Evaluation.{Evaluates};
+ghost use Rattle.rule_core.specs.FirstRule.{most_nesting};
+ghost use Rattle.rule_core.specs.ProgramView.{theory_of};
+ghost use Rattle.rule_core.specs.Records.{Records, result_of};
+ghost use Rattle.rule_core.specs.RecordView.{plain_record};
+ghost use Rattle.rule_core.specs.Runs.{Reaches};
+ghost use Rattle.fun_eval.specs.EvalEnds.{EndsBy};
+ghost use Rattle.fun_eval.specs.Recorded.{IsRecorded};
+ghost use Rattle.rewriter.specs.Configurations.{IsConfiguration, IsStartOf};
+ghost use Rattle.rewriter.specs.NextSteps.{TakesStep, RecordsNext, RecordedNext};
+ghost use Rattle.rewriter.specs.WithRecords.{IsWithRecord};
+
+use crate::step::{Made, advance};
+use fun_eval::{Answer, Budget, Engine, EvalEnd, MAX_NESTING, Recording};
+use rule_core::{Blocked, EvalRecord, StepRecord};
+use std::alloc::{AllocError, Global};
+use std::marker::Model;
+use term_core::{RulePat, Subst, Term};
+
+/// The last configuration of a run, and the calls of functions that are left.
+#[derive(Drop)]
+pub struct Run {
+    config: Term,
+    calls: u32,
+}
+
+impl Model for Run {
+    ghost use Rattle.rewriter.specs.Configurations.{RunState};
+    ghost use Rattle.rewriter.specs.RunCode.{run_state_code};
+
+    ghost Value = { RunState };
+
+    ghost coded = { run_state_code };
+
+    ghost view = { λ r. record { config = r.config; calls = r.calls } };
+}
+
+/// What comes of a step.
+#[derive(Drop)]
+pub enum Next<S> {
+    /// The step was made.
+    Made(S),
+    /// No rule applies.
+    Stuck,
+    /// A condition that was reached, or the right side, has no value.
+    Blocked(Blocked),
+}
+
+impl Run {
+    /// The run of an initial term, with so many calls of functions, and the record of the term's evaluation. Where there
+    /// are rules, the term has their sort. `Blocked` says why it has no value: its run is blocked at 0.
+    pub fn new(
+        alloc: Global,
+        engine: &Engine<'_>,
+        start: &RulePat,
+        calls: u32,
+    ) -> Result<(Run, EvalRecord), EvalEnd>
+        requires { IsStartOf (theory_of engine.now) (plain_pattern start.now) }
+        ensures starts { IfOk result (λ r. Reaches (theory_of engine.now) (plain_pattern start.now) calls 0 r.0.config r.0.calls) }
+        ensures recorded { IfOk result (λ r. Records (theory_of engine.now) [] (plain_pattern start.now) (plain_record r.1)) }
+        ensures value { IfOk result (λ r. result_of (plain_record r.1) ≡ r.0.config) }
+        ensures sorted { IfOk result (λ r. IsConfiguration (theory_of engine.now) r.0.config) }
+        ensures blocked { IfErr result (EndsBy (Evaluates (theory_of engine.now) most_nesting [] (plain_pattern start.now) calls)) }
+    {
+        Run::new_as::<EvalRecord>(alloc, engine, start, calls)
+    }
+
+    /// The same with another recording of the evaluation.
+    pub fn new_as<R: Recording>(
+        alloc: Global,
+        engine: &Engine<'_>,
+        start: &RulePat,
+        calls: u32,
+    ) -> Result<(Run, R), EvalEnd>
+        requires { IsStartOf (theory_of engine.now) (plain_pattern start.now) }
+        ensures starts { IfOk result (λ r. Reaches (theory_of engine.now) (plain_pattern start.now) calls 0 r.0.config r.0.calls) }
+        ensures recorded { IfOk result (λ r. IsRecorded (R.tells r.1) (theory_of engine.now) [] (plain_pattern start.now) r.0.config) }
+        ensures sorted { IfOk result (λ r. IsConfiguration (theory_of engine.now) r.0.config) }
+        ensures blocked { IfErr result (EndsBy (Evaluates (theory_of engine.now) most_nesting [] (plain_pattern start.now) calls)) }
+    {
+        let _program = engine.program();
+        let subst = Subst::new(alloc, 0)?;
+        let mut budget = Budget { calls };
+        match engine.eval_as::<R>(alloc, start, &subst, &mut budget, MAX_NESTING) {
+            Ok(answer) => {
+                let Answer { term, recorded } = answer;
+                let run = Run {
+                    config: term,
+                    calls: budget.calls,
+                };
+                Ok((run, recorded))
+            }
+            Err(end) => Err(end),
+        }
+    }
+
+    /// The last configuration.
+    pub fn config(&self) -> &Term
+        ensures { result.now ≡ self.now.config }
+    {
+        &self.config
+    }
+
+    /// How many calls of functions the next step may take.
+    pub fn calls_left(&self) -> u32
+        ensures { result ≡ self.now.calls }
+    {
+        self.calls
+    }
+
+    /// One step, by the engine that the run was made with. After `Stuck`, `Blocked` or an error the run is as before, and
+    /// the same comes again. `AllocError` says that memory was wanting.
+    ///
+    /// Rules are tried one by one: one whose root is another than the configuration's costs one look.
+    pub fn step(
+        &mut self,
+        alloc: Global,
+        engine: &Engine<'_>,
+    ) -> Result<Next<StepRecord>, AllocError>
+        requires { IsConfiguration (theory_of engine.now) self.old.config }
+        ensures next { IfOk result (TakesStep (theory_of engine.now) self.old self.new) }
+        ensures recorded { IfOk result (RecordsNext (theory_of engine.now) self.old.config self.new.config) }
+        ensures sorted { IsConfiguration (theory_of engine.now) self.new.config }
+        ensures err { OnErr result (self.new ≡ self.old) }
+    {
+        match self.step_as::<EvalRecord>(alloc, engine) {
+            Ok(next) => Ok(with_record(next)),
+            Err(error) => Err(error),
+        }
+    }
+
+    /// The same with another recording of the evaluations.
+    pub fn step_as<R: Recording>(
+        &mut self,
+        alloc: Global,
+        engine: &Engine<'_>,
+    ) -> Result<Next<Made<R>>, AllocError>
+        requires { IsConfiguration (theory_of engine.now) self.old.config }
+        ensures next { IfOk result (TakesStep (theory_of engine.now) self.old self.new) }
+        ensures recorded { IfOk result (RecordedNext R.tells (theory_of engine.now) self.old.config self.new.config) }
+        ensures sorted { IsConfiguration (theory_of engine.now) self.new.config }
+        ensures err { OnErr result (self.new ≡ self.old) }
+    {
+        match advance::<R>(alloc, engine, &self.config, self.calls) {
+            Ok(found) => match found {
+                Some(further) => {
+                    self.config = further.config;
+                    self.calls = further.calls;
+                    Ok(Next::Made(further.made))
+                }
+                None => Ok(Next::Stuck),
+            },
+            Err(end) => match end {
+                EvalEnd::Blocked(why) => Ok(Next::Blocked(why)),
+                EvalEnd::Memory => Err(AllocError),
+            },
+        }
+    }
+}
+
+// The record of a step that was made, with those of its evaluations.
+fn with_record(next: Next<Made<EvalRecord>>) -> Next<StepRecord>
+    ensures { IsWithRecord next result }
+{
+    match next {
+        Next::Made(made) => {
+            let Made {
+                rule,
+                subst,
+                cond,
+                right,
+            } = made;
+            Next::Made(StepRecord {
+                rule,
+                subst,
+                cond,
+                right,
+            })
+        }
+        Next::Stuck => Next::Stuck,
+        Next::Blocked(why) => Next::Blocked(why),
+    }
+}

@@ -1,0 +1,82 @@
+// A step by the first rule that applies.
+ghost use Rattle.std.specs.Prelude.{◌≡◌};
+ghost use Rattle.rule_core.specs.ProgramView.{theory_of};
+ghost use Rattle.rewriter.specs.Configurations.{IsConfiguration};
+ghost use Rattle.rewriter.specs.Stepping.{Advances};
+
+use crate::rules::{Choice, choose_rule};
+use fun_eval::{Answer, Budget, Engine, EvalEnd, MAX_NESTING, Recording};
+use std::alloc::Global;
+use term_core::{Subst, Term};
+
+/// A step that was made, as a `StepRecord`, with what is recorded of its evaluations.
+#[derive(Drop)]
+pub struct Made<R> {
+    /// The number of the rule.
+    pub rule: u32,
+    /// What makes the rule's left side the term.
+    pub subst: Subst,
+    /// What is recorded of its condition, where it has one.
+    pub cond: Option<R>,
+    /// What is recorded of its right side.
+    pub right: R,
+}
+
+// A step that was made, the next configuration, and the calls that are left.
+#[derive(Drop)]
+pub(crate) struct Further<R> {
+    pub(crate) made: Made<R>,
+    pub(crate) config: Term,
+    pub(crate) calls: u32,
+}
+
+// The step from a configuration, where a rule applies.
+pub(crate) fn advance<R: Recording>(
+    alloc: Global,
+    engine: &Engine<'_>,
+    config: &Term,
+    calls: u32,
+) -> Result<Option<Further<R>>, EvalEnd>
+    requires { IsConfiguration (theory_of engine.now) config.now }
+    ensures { Advances R.tells (theory_of engine.now) config.now calls result }
+{
+    let (chosen, left) = match choose_rule::<R>(alloc, engine, config, calls) {
+        Ok(found) => found,
+        Err(end) => return Err(end),
+    };
+    let Some(chosen) = chosen else {
+        return Ok(None);
+    };
+    let Choice {
+        number,
+        subst,
+        cond,
+    } = chosen;
+    let rules = &engine.program().rules;
+    // Its height is at most the greatest.
+    let _high = config.height();
+    let mut budget = Budget { calls: left };
+    match engine.eval_as::<R>(
+        alloc,
+        &rules[number as usize].right,
+        &subst,
+        &mut budget,
+        MAX_NESTING,
+    ) {
+        Ok(answer) => {
+            let Answer { term, recorded } = answer;
+            let made = Made {
+                rule: number,
+                subst,
+                cond,
+                right: recorded,
+            };
+            Ok(Some(Further {
+                made,
+                config: term,
+                calls: budget.calls,
+            }))
+        }
+        Err(end) => Err(end),
+    }
+}
