@@ -165,11 +165,11 @@ left_fails kind f ns xs ys a b whole e is known =
 
 -- ---- patterns without faults
 
-unless_empty : (test : Bool) (number byte : ℕ) → unless test number byte ≡ [] → test ≡ true
+pub unless_empty : (test : Bool) (number byte : ℕ) → unless test number byte ≡ [] → test ≡ true
 unless_empty true number byte e = refl
 unless_empty false number byte e = absurd (let no_fault : ⊥ = cc in no_fault)
 
-when_empty : (test : Bool) (number byte : ℕ) → when test number byte ≡ [] → test ≡ false
+pub when_empty : (test : Bool) (number byte : ℕ) → when test number byte ≡ [] → test ≡ false
 when_empty false number byte e = refl
 when_empty true number byte e = absurd (let no_fault : ⊥ = cc in no_fault)
 
@@ -260,7 +260,7 @@ injected-two (a ∷ b ∷ []) (more_patterns p no_pattern) two one none = let no
 injected-two (a ∷ b ∷ []) (more_patterns p (more_patterns q ps)) two one none = omega (arith, one)
 injected-two (a ∷ b ∷ c ∷ ns) ps two one none = omega (arith, two)
 
-named_same : (sig : Signature) (name : List ℕ) (f : ℕ) (info other : SymInfo) → IsNamed sig name f info → symbol_named sig name ≡ Some other → other ≡ info
+pub named_same : (sig : Signature) (name : List ℕ) (f : ℕ) (info other : SymInfo) → IsNamed sig name f info → symbol_named sig name ≡ Some other → other ≡ info
 named_same sig name f info other named is =
     let both : Some other ≡ Some info = sym is ∙ ap (option_and_then (symbol_info sig)) named.0 ∙ named.1 in cc
 

@@ -43,11 +43,11 @@ pub something_noted : (faults : List Fault) (first : Option PatternFault) (fault
 something_noted faults first fault noted is =
     by_kind faults fault.kind fault.at (subst (λ (o : Option PatternFault). IsFirstOf faults o) is (noted [] (λ f known. omega (arith, known.1))))
 
-some_or_none : {X : Type 0} (o : Option X) → (o ≡ None → ⊥) → (x : X) × (o ≡ Some x)
+pub some_or_none : {X : Type 0} (o : Option X) → (o ≡ None → ⊥) → (x : X) × (o ≡ Some x)
 some_or_none None some = absurd (some refl)
 some_or_none (Some x) some = (x, refl)
 
-result_there : (sig : Signature) (info : SymInfo) (ns : List ℕ) (of : SortRef) → IsReference sig info.params of → length ns ≡ info.params → sort_at ns of ≡ None → ⊥
+pub result_there : (sig : Signature) (info : SymInfo) (ns : List ℕ) (of : SortRef) → IsReference sig info.params of → length ns ≡ info.params → sort_at ns of ≡ None → ⊥
 result_there sig info ns (Param i) there count none = some_there ns i (omega (arith, there, count)) none
 result_there sig info ns (Sort s) there count none = let no_sort : ⊥ = cc in no_sort
 

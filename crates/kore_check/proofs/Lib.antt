@@ -12,3 +12,4 @@ pub mod HeightLaws
 pub mod BuildLaws
 pub mod BuildSteps
 pub mod CheckLaws
+pub mod SortedLaws

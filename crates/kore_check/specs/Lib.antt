@@ -5,6 +5,8 @@ pub mod PatternSorts
 pub mod PatternFaults
 pub mod PatternMeanings
 pub mod FaultNumbers
+-- Laws: what follows from that. Each is a clause of a function that does nothing.
+pub mod SortedMeanings
 -- Private: what clauses of private functions cite, and how private fields are seen.
 pub mod Notes
 pub mod FoldFaults

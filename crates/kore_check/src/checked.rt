@@ -3,7 +3,9 @@ ghost use Rattle.std.specs.Prelude.{◌≡◌, List, [], ℕ, IfOk, OnOk, IfErr,
 ghost use Rattle.kore_ast.specs.Plain.{plain_pattern as plain_tree};
 ghost use Rattle.kore_sig.specs.Signatures.{IsNumbered};
 ghost use Rattle.term_core.specs.RulePatterns.{plain_pattern};
+ghost use Rattle.rule_core.specs.Sorting.{HasSort};
 ghost use Rattle.rule_core.specs.WellSorted.{IsSignature};
+ghost use Rattle.kore_check.specs.SortedMeanings.{variable_sorts};
 ghost use Rattle.kore_check.specs.Folds.{unfolded, IsApplicative};
 ghost use Rattle.kore_check.specs.PatternSorts.{sort_of};
 ghost use Rattle.kore_check.specs.PatternFaults.{pattern_faults, all_faults};
@@ -36,6 +38,7 @@ pub fn check_pattern(
     ensures sort { IfOk result (λ r. sort_of sig.now (unfolded (plain_tree pat.now)) ≡ Some r.1.0) }
     ensures vars { OnOk result (named_sorts vars.new.items ≡ with_variables sig.now (named_sorts vars.old.items) (unfolded (plain_tree pat.now))) }
     ensures means { IfOk result (λ r. Means sig.now (named_sorts vars.new.items) (unfolded (plain_tree pat.now)) (plain_pattern r.0)) }
+    ensures sorted { IfOk result (λ r. HasSort sig.now (variable_sorts (named_sorts vars.new.items)) (plain_pattern r.0) r.1.0) }
     ensures refused { IfErr result (IsRefusal (all_faults sig.now (unfolded (plain_tree pat.now)))) }
     ensures err { OnErr result (named_sorts vars.new.items ≡ named_sorts vars.old.items) }
 {

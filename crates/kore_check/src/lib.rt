@@ -7,6 +7,7 @@ mod checked;
 mod faults;
 mod heads;
 mod heights;
+mod laws;
 mod notes;
 mod patterns;
 mod sorts;
@@ -17,4 +18,5 @@ mod variables;
 
 pub use checked::{build_pattern, check_pattern};
 pub use faults::{CheckFault, FaultKind, PatternFault};
+pub use laws::sort_laws;
 pub use patterns::{note_clash, note_pattern, note_sort};

@@ -3,6 +3,7 @@ pub mod CountedLaws
 pub mod DeclaringLaws
 pub mod FaultLaws
 pub mod FirstLaws
+pub mod InjectionLaws
 pub mod KnowingLaws
 pub mod ListLaws
 pub mod NotDeclared

@@ -4,7 +4,7 @@ use Rattle.std.specs.Prelude.{is_some, option_map, flat_map, ◌||◌, All, nat_
 use Rattle.std.specs.List.{AllZip, AllByRecursion}
 use Rattle.std.specs.Str.{bytes_eq}
 use Rattle.std.proofs.lemmas.List.Elements.{All-from_recursion}
-use Rattle.rule_core.specs.Named.{number_of, names_of}
+use Rattle.rule_core.specs.Named.{number_of, names_of, AreDistinct}
 use Rattle.rule_core.specs.Subsorts.{HasNoCycle}
 use Rattle.rule_core.specs.WellSorted.{IsReference, IsDeclaration, IsPair, IsSignature}
 use Rattle.rule_core.specs.declared.signature.Signature.{Signature}
@@ -22,7 +22,8 @@ use Rattle.kore_sig.specs.Sets.{Knows}
 use Rattle.kore_sig.specs.SignatureFaults.{Before, Placed, reference_faults, declaration_faults, most_arguments}
 use Rattle.kore_sig.specs.Signatures.{IsSymbolEntry, IsPairOf}
 use Rattle.kore_sig.specs.SortReferences.{sort_reference, declared_number, parameter_place, sort_place}
-use Rattle.kore_sig.specs.SymbolKinds.{kind_of}
+use Rattle.kore_sig.specs.SymbolKinds.{kind_of, injection_of}
+use Rattle.kore_sig.proofs.InjectionLaws.{injections_declared, constructors_plain}
 use Rattle.kore_sig.proofs.ListLaws.{is_some-map, number_within, position_within}
 use Rattle.kore_sig.proofs.OrderLaws.{first_in_same}
 use Rattle.kore_sig.proofs.PairLaws.{number_of_sort}
@@ -131,9 +132,11 @@ pairs_there sig ps [] h = tt
 pairs_there sig [] (n ∷ ns) h = absurd h
 pairs_there sig (p ∷ ps) (n ∷ ns) h = ((number_of_sort sig.sorts p.lower n.0 h.0.lower, number_of_sort sig.sorts p.upper n.1 h.0.upper), pairs_there sig ps ns h.1)
 
-pub signature_there : (sig : Signature) (i : Option (List ℕ)) (ac : List (List ℕ)) (ds : List SymbolDeclaration) (ps : List SubsortPair) → AllZip (IsSymbolEntry sig.sorts i ac) ds sig.symbols → AllZip (IsPairOf sig.sorts) ps sig.subsorts → HasNoCycle sig.subsorts → IsSignature sig
-signature_there sig i ac ds ps symbols pairs no_cycle = record {
-  declared = λ f info is. symbol_there sig i ac ds sig.symbols f (is.0, info) symbols is.1;
+pub signature_there : (sig : Signature) (ac : List (List ℕ)) (ds : List SymbolDeclaration) (ps : List SubsortPair) → AllZip (IsSymbolEntry sig.sorts (injection_of ds) ac) ds sig.symbols → AllZip (IsPairOf sig.sorts) ps sig.subsorts → AreDistinct (names_of sig.symbols) → HasNoCycle sig.subsorts → IsSignature sig
+signature_there sig ac ds ps symbols pairs distinct no_cycle = record {
+  declared = λ f info is. symbol_there sig (injection_of ds) ac ds sig.symbols f (is.0, info) symbols is.1;
+  injections = λ f info is kind. injections_declared sig.sorts ac ds sig.symbols f (is.0, info) symbols distinct is.1 kind;
+  constructors = λ f info is kind. constructors_plain sig.sorts (injection_of ds) ac ds sig.symbols f (is.0, info) symbols is.1 kind;
   pairs = All-from_recursion (IsPair sig) sig.subsorts (pairs_there sig ps sig.subsorts pairs);
   no_cycle = no_cycle;
 }

@@ -60,6 +60,6 @@ signature_is definition ds known sig counted is same entries symbols pairs = rec
   subsorts = subst (λ (xs : List Declaration). AllZip (IsPairOf sig.sorts) (pairs_in xs) sig.subsorts) counted (subst (λ (es : List (List ℕ × SortInfo)). AllZip (IsPairOf es) (pairs_in ds) sig.subsorts) same pairs);
 }
 
-pub signature_sorted : (definition : DefinitionTree) (sig : Signature) → IsSignatureOf definition sig → HasNoCycle sig.subsorts → IsSignature sig
-signature_sorted definition sig is no_cycle =
-    signature_there sig (injection_of (symbols_of definition)) (ac_names definition) (symbols_of definition) (pairs_of definition) is.symbols is.subsorts no_cycle
+pub signature_sorted : (definition : DefinitionTree) (sig : Signature) → IsSignatureOf definition sig → AreDistinct (names_of sig.symbols) → HasNoCycle sig.subsorts → IsSignature sig
+signature_sorted definition sig is distinct no_cycle =
+    signature_there sig (ac_names definition) (symbols_of definition) (pairs_of definition) is.symbols is.subsorts distinct no_cycle

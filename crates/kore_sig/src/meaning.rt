@@ -47,6 +47,7 @@ pub fn signature(alloc: Global, definition: &Definition) -> Result<Signature, Si
         return Err(SigFault::Memory);
     }
     let subsorts = stated_order(alloc, &known.sorts, &decls)?;
+    symbols.names_differ();
     Ok(Signature {
         sorts: known.sorts,
         symbols,

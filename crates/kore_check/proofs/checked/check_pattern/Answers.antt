@@ -1,4 +1,4 @@
-use Rattle.std.proofs.Common.{rules, ◌≡◌, [], None, sym, subst}
+use Rattle.std.proofs.Common.{rules, ◌≡◌, [], None, Some, sym, subst}
 use Rattle.std.specs.Prelude.{nat_lt}
 use Rattle.kore_ast.specs.Plain.{plain_pattern as plain_tree}
 use Rattle.kore_sig.specs.FirstFault.{when}
@@ -8,6 +8,9 @@ use Rattle.kore_check.specs.PatternSorts.{sort_of}
 use Rattle.kore_check.specs.PatternFaults.{pattern_faults, all_faults, most_height}
 use Rattle.kore_check.proofs.BuildLaws.{parts_empty}
 use Rattle.kore_check.proofs.CheckLaws.{nothing_noted, something_noted, faultless_sorted}
+use Rattle.term_core.specs.RulePatterns.{plain_pattern}
+use Rattle.kore_check.specs.PatternMeanings.{named_sorts}
+use Rattle.kore_check.proofs.SortedLaws.{meanings_are_sorted}
 use Rattle.kore_check.proofs.checked.check_pattern.Goals as goal
 
 pub returns-in-Some-clause-refused : goal.returns-in-Some-clause-refused
@@ -29,3 +32,9 @@ build_pattern-requires-clause-faultless c =
 
 pub returns-clause-faultless : goal.returns-clause-faultless
 returns-clause-faultless c = nothing_noted (all_faults c.args.sig.now (unfolded (plain_tree c.args.pat.now))) c.note_pattern-sort.new.first c.note_pattern-sort.ensures.first c.in_default.is
+
+pub returns-clause-sorted : goal.returns-clause-sorted
+returns-clause-sorted c =
+    let sort : sort_of c.args.sig.now (unfolded (plain_tree c.args.pat.now)) ≡ Some c.in-Some-sort.sort.0 = search rules in
+    meanings_are_sorted c.args.sig.now (named_sorts c.build_pattern.new.vars.items) (unfolded (plain_tree c.args.pat.now)) (plain_pattern c.in_ok-made.made) c.in-Some-sort.sort.0 c.requires.signature
+    ((parts_empty (when (nat_lt most_height (height (unfolded (plain_tree c.args.pat.now)))) 3 (place (unfolded (plain_tree c.args.pat.now)))) (pattern_faults c.args.sig.now (unfolded (plain_tree c.args.pat.now))) (returns-clause-faultless c)).1) c.in_ok-made.ensures.means sort

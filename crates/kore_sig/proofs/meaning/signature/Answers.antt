@@ -118,4 +118,4 @@ returns-clause-faultless c =
 
 pub returns-clause-sorted : goal.returns-clause-sorted
 returns-clause-sorted c =
-    signature_sorted (plain_definition c.args.definition.now) (record { sorts = c.in_ok-known.known.sorts; symbols = c.in_ok-symbols.symbols; subsorts = c.in_ok-subsorts.subsorts }) (returns-clause-declared c) c.in_ok-subsorts.ensures.no_cycle
+    signature_sorted (plain_definition c.args.definition.now) (record { sorts = c.in_ok-known.known.sorts; symbols = c.in_ok-symbols.symbols; subsorts = c.in_ok-subsorts.subsorts }) (returns-clause-declared c) c.names_differ.ensures c.in_ok-subsorts.ensures.no_cycle

@@ -1,0 +1,19 @@
+-- The law of sorts: what a pattern without faults means has the pattern's sort.
+use Rattle.std.specs.Prelude.{◌≡◌, ℕ, List, [], map, Some}
+use Rattle.term_core.specs.Patterns.{Pattern}
+use Rattle.rule_core.specs.Sorting.{HasSort}
+use Rattle.rule_core.specs.WellSorted.{IsSignature}
+use Rattle.rule_core.specs.declared.signature.Signature.{Signature}
+use Rattle.kore_check.specs.Folds.{Unfolded}
+use Rattle.kore_check.specs.PatternSorts.{sort_of}
+use Rattle.kore_check.specs.PatternFaults.{pattern_faults}
+use Rattle.kore_check.specs.PatternMeanings.{Means}
+
+-- the sorts of variables
+abbrev pub variable_sorts : List (List ℕ × ℕ) → List ℕ
+variable_sorts vars = map (λ (v : List ℕ × ℕ). v.1) vars
+
+abbrev pub MeaningsAreSorted : Type 0
+MeaningsAreSorted =
+    (sig : Signature) (vars : List (List ℕ × ℕ)) (u : Unfolded) (p : Pattern) (s : ℕ) → IsSignature sig →
+    pattern_faults sig u ≡ [] → Means sig vars u p → sort_of sig u ≡ Some s → HasSort sig (variable_sorts vars) p s
