@@ -5,6 +5,7 @@ pub mod Values
 pub mod Recordings
 pub mod Trials
 pub mod Roots
+pub mod Empty
 pub mod Calls
 pub mod PlainRecords
 pub mod Matches

@@ -9,3 +9,4 @@ pub mod Injections
 pub mod Roots
 pub mod Giving
 pub mod Equations
+pub mod TestPrograms

@@ -10,6 +10,8 @@
 mod rules;
 mod run;
 mod step;
+#[cfg(test)]
+mod tests;
 
 pub use run::{Next, Run};
 pub use step::Made;
