@@ -160,8 +160,8 @@ fn a_block_takes_back_what_was_active_and_keeps_its_assertions(
         None => panic!(rt; "no frame"),
         Some(frame) => {
             assert_eq!(rt; frame.statement.as_slice(), [0, 1].as_slice());
-            assert_eq!(rt; frame.hyps.len(), 3);
-            assert_eq!(rt; frame.apart.len(), 1);
+            assert_eq!(rt; frame.mandatory.hyps.len(), 3);
+            assert_eq!(rt; frame.mandatory.apart.len(), 1);
         }
     }
     Ok(())
@@ -224,12 +224,12 @@ fn frames_have_their_own_hypotheses_in_order_and_their_own_pairs(
         let Some(frame) = scopes.assertion(label.as_bytes()) else {
             panic!(rt; "no frame: {text}");
         };
-        assert_eq!(rt; frame.hyps.len(), hyps.len(), "{text}");
-        for (hyp, expected) in frame.hyps.iter().zip(hyps.iter()) {
+        assert_eq!(rt; frame.mandatory.hyps.len(), hyps.len(), "{text}");
+        for (hyp, expected) in frame.mandatory.hyps.iter().zip(hyps.iter()) {
             assert!(rt; hyp.label() == expected.as_bytes(), "{text}");
         }
-        assert_eq!(rt; frame.apart.len(), pairs.len(), "{text}");
-        for (group, (a, b)) in frame.apart.iter().zip(pairs.iter()) {
+        assert_eq!(rt; frame.mandatory.apart.len(), pairs.len(), "{text}");
+        for (group, (a, b)) in frame.mandatory.apart.iter().zip(pairs.iter()) {
             assert_eq!(rt; group.len(), 2, "{text}");
             assert!(rt; group.contains(a) && group.contains(b), "{text}");
             assert!(rt; scopes.apart(*a, *b) && scopes.apart(*b, *a), "{text}");

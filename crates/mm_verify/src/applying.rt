@@ -13,7 +13,7 @@ use std::alloc::{AllocError, Global};
 /// Applies an assertion: the last entries of the stack, one for each mandatory hypothesis, give way to
 /// what the assertion gives from them. Answers whether it does; where not, the stack is as before. The
 /// buffer is for the new entry, so that a step need not ask for room of its own. Room for the whole entry
-/// is asked for before any of it is written. It takes time in the length of the entries and of the new
+/// is asked for before any of it is written, where it may be long. It takes time in the length of the entries and of the new
 /// one, but for what `$d` asks for.
 pub(crate) fn apply<P: Place>(
     alloc: Global,
@@ -32,10 +32,12 @@ pub(crate) fn apply<P: Place>(
     if !assertion.is_met(alloc, place, stack, base)? {
         return Ok(false);
     }
-    let length = assertion.length(stack, base);
-    stack.reserve(length)?;
     buffer.clear();
-    buffer.reserve(length)?;
+    if assertion.may_be_long(stack, base) {
+        let length = assertion.length(stack, base);
+        stack.reserve(length)?;
+        buffer.reserve(length)?;
+    }
     assertion.conclude(stack, base, buffer)?;
     stack.truncate(base);
     stack.push(buffer)?;

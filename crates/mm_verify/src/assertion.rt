@@ -13,6 +13,9 @@ use crate::stack::Stack;
 use mm_frame::Frame;
 use std::alloc::{AllocError, Global};
 
+/// With so many symbols an entry may be long.
+const LONG: usize = 65536;
+
 /// An assertion, each of whose variables knows which entry gives its text. `assertion_frame` is its frame.
 #[derive(Drop)]
 pub(crate) struct Assertion<'a> {
@@ -26,7 +29,7 @@ pub(crate) struct Assertion<'a> {
 }
 
 impl<'a> Assertion<'a> {
-    ghost use Rattle.std.specs.Prelude.{◌≡◌, ◌++◌, length, drop, IfOk, OnOk};
+    ghost use Rattle.std.specs.Prelude.{◌≡◌, ◌++◌, ◌≤◌, length, drop, IfOk, OnOk};
     ghost use Rattle.mm_verify.specs.Applied.{bindings_in, is_met as met};
     ghost use Rattle.mm_frame.specs.FramesHeld.{frame_held};
     ghost use Rattle.mm_verify.specs.AssertionView.{assertion_frame};
@@ -96,6 +99,13 @@ impl<'a> Assertion<'a> {
         ensures { IfOk result (λ r. r ≡ keeps_apart (numbers_apart (P.place place.now)) (assertion_frame self.now) (bindings_in (assertion_frame self.now) (drop base stack.now))) }
     {
         are_groups_apart(alloc, place, &self.apart, stack, base)
+    }
+
+    /// Whether its statement may be long, by what the entries from `base` on have all together.
+    pub(crate) fn may_be_long(&self, stack: &Stack, base: usize) -> bool
+        requires { base ≤ length stack.now }
+    {
+        self.conclusion.len().saturating_mul(stack.taken(base)) >= LONG
     }
 
     /// How long its statement is, with the texts that the entries from `base` on give its variables.

@@ -73,6 +73,15 @@ impl Stack {
         Ok(())
     }
 
+    /// How many symbols the expressions from `base` on have, and one for their typecodes.
+    #[tactic(auto, using(crate::proofs::Cuts::length_cut))]
+    pub(crate) fn taken(&self, base: usize) -> usize
+        requires { base ≤ length self.now }
+    {
+        let from = start(&self.ends, base);
+        self.symbols.len().saturating_sub(from).saturating_add(1)
+    }
+
     /// Asks for room for one more expression of this length.
     pub(crate) fn reserve(&mut self, length: usize) -> Result<(), AllocError>
         ensures { self.new ≡ self.old }
