@@ -6,6 +6,8 @@ mod equations;
 mod faults;
 mod parts;
 mod priorities;
+mod refusals;
+mod rules;
 mod sides;
 mod uses;
 
@@ -13,4 +15,6 @@ pub use classes::{AxiomClass, class_of};
 pub use faults::AxiomFault;
 pub use parts::{RuleParts, rule_parts};
 pub use priorities::{has_bad_priority, priority_of};
+pub use refusals::Refusal;
+pub use rules::checked_rule;
 pub use uses::{Symbols, has_symbol};

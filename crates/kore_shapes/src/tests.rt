@@ -1,5 +1,5 @@
 // Patterns and the shapes that one expects of them.
-use crate::{Companion, Condition, Connectives, Side, equation_parts, given_condition, has_binder, has_connective, rewriting_at, side_at, statement_at};
+use crate::{Companion, Condition, SoughtForms, Side, equation_parts, given_condition, has_binder, has_form, rewriting_at, side_at, statement_at};
 use kore_ast::{Pat, read_pattern};
 use std::alloc::{AllocError, Global};
 use std::test::Fail;
@@ -77,9 +77,9 @@ fn forms(rt: HostRuntime) -> Result<(), Fail> {
     ];
     for (text, and, other, binder) in cases {
         let pat = read_pattern(rt.alloc(), text.as_bytes())?;
-        assert!(rt; has_connective(&pat, Connectives::And) == and, "{text}");
-        assert!(rt; has_connective(&pat, Connectives::Others) == other, "{text}");
-        assert!(rt; has_connective(&pat, Connectives::All) == (and || other), "{text}");
+        assert!(rt; has_form(&pat, SoughtForms::Conjunctions) == and, "{text}");
+        assert!(rt; has_form(&pat, SoughtForms::Others) == other, "{text}");
+        assert!(rt; has_form(&pat, SoughtForms::All) == (and || other), "{text}");
         assert!(rt; has_binder(&pat) == binder, "{text}");
     }
     Ok(())
