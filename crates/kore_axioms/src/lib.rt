@@ -9,6 +9,8 @@ mod priorities;
 mod refusals;
 mod rules;
 mod sides;
+#[cfg(test)]
+mod tests;
 mod uses;
 
 pub use classes::{AxiomClass, class_of};
