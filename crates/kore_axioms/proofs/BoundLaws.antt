@@ -7,7 +7,7 @@ use Rattle.std.proofs.lemmas.Bool.{eqb-true, eq-eqb, false≢true}
 use Rattle.std.proofs.lemmas.List.{length-append}
 use Rattle.std.proofs.lemmas.List.Folds.{list_any-append}
 use Rattle.std.proofs.lemmas.Slice.Eq.{bytes_eq-Decides}
-use Rattle.kore_text.specs.Trees.{SortTree, sort_parameter, sort_applied, SortTrees, no_sorts, sort_then}
+use Rattle.kore_text.specs.Trees.{SortTree, sort_parameter, sort_applied, no_sorts, sort_then}
 use Rattle.rule_core.proofs.Belows.{both_true, true_both}
 use Rattle.rule_core.specs.Named.{number_of}
 use Rattle.rule_core.specs.declared.signature.Signature.{Signature}
@@ -19,7 +19,7 @@ use Rattle.kore_check.specs.PatternFaults.{pattern_faults, argument_faults}
 use Rattle.kore_check.specs.PatternSorts.{symbol_named, places_of}
 use Rattle.rule_core.specs.declared.signature.SortRef.{SortRef}
 use Rattle.kore_check.specs.PatternMeanings.{variable_number, with_variable, with_variables, with_all_variables}
-use Rattle.kore_shapes.specs.SameSorts.{same_sort, same_sorts}
+use Rattle.kore_shapes.specs.SameSorts.{same_sort}
 use Rattle.kore_axioms.specs.Uses.{stands_in, stands_in_some, is_bound_by, are_bound_by}
 
 -- ---- sorts
@@ -178,7 +178,7 @@ added_only sig vars at n u name s (Some k) e h = by_case (has vars n k) refl whe
   by_case true was = inl (ap (λ (vs : List (List ℕ × ℕ)). has vs name s) (sym (unchanged vars n k was)) ∙ h)
   by_case false was =
       let both : (has vars name s || (is_one name s (n, k) || false)) ≡ true =
-          sym (list_any-append (is_one name s) vars ((n, k) ∷ [])) ∙ ap (λ (vs : List (List ℕ × ℕ)). has vs name s) (sym (changed vars n k was)) ∙ h in
+      sym (list_any-append (is_one name s) vars ((n, k) ∷ [])) ∙ ap (λ (vs : List (List ℕ × ℕ)). has vs name s) (sym (changed vars n k was)) ∙ h in
       either (has vars name s) (is_one name s (n, k) || false) both (λ here. inl here)
       (λ later. either (is_one name s (n, k)) false later (λ is. inr (new is)) (λ never. absurd (false≢true never)))
 
@@ -195,8 +195,8 @@ mutual
   all_only sig vars no_more name s h = inl h
   all_only sig vars (and_more q qs) name s h =
       ⊎_elim
-      (λ before. ⊎_elim (λ was. inl was) (λ found. inr (found.0, (or_true _ _ found.1, found.2))) (only sig vars q name s before))
-      (λ found. inr (found.0, (true_or (stands_in name found.0 q) _ found.1, found.2)))
+      (λ before. ⊎_elim (λ was. inl was) (λ found. inr (found.0, or_true _ _ found.1, found.2)) (only sig vars q name s before))
+      (λ found. inr (found.0, true_or (stands_in name found.0 q) _ found.1, found.2))
       (all_only sig (with_variables sig vars q) qs name s h)
 
 -- a variable stands in a pattern however its sort is written
@@ -259,7 +259,7 @@ mutual
   all_not_less sig vars no_more = omega arith
   all_not_less sig vars (and_more p ps) = omega (arith, not_less sig vars p, all_not_less sig (with_variables sig vars p) ps)
 
-no_faults : (fs gs : List Fault) → fs ++ gs ≡ [] → (fs ≡ []) × (gs ≡ [])
+pub no_faults : (fs gs : List Fault) → fs ++ gs ≡ [] → (fs ≡ []) × (gs ≡ [])
 no_faults [] gs h = (refl, h)
 no_faults (f ∷ fs) gs h = absurd (let never : ⊥ = cc in never)
 

@@ -3,3 +3,9 @@ pub mod RaisedLaws
 pub mod FoldUseLaws
 pub mod NotingLaws
 pub mod BoundLaws
+pub mod ApplicativeLaws
+pub mod RuleLaws
+pub mod BinderLaws
+pub mod FirstLaws
+pub mod BuiltLaws
+pub mod CheckedLaws

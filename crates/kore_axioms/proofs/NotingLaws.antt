@@ -1,20 +1,27 @@
 -- Faults that are noted one after the other.
-use Rattle.std.proofs.Common.{◌≡◌, List, [], ◌++◌, sym, subst}
-use Rattle.std.specs.Prelude.{Option, None}
-use Rattle.std.proofs.lemmas.List.{append-nil, append_assoc}
-use Rattle.kore_sig.specs.FirstFault.{Fault}
-use Rattle.kore_sig.proofs.FirstLaws.{contains_none}
-use Rattle.kore_check.specs.FaultNumbers.{IsFirstOf}
+use Rattle.std.proofs.Common.{◌≡◌, List, [], ◌∷◌, ◌++◌, Option, Some, None, ap, sym, ◌∙◌, subst}
+use Rattle.std.specs.Prelude.{Contains}
+use Rattle.kore_sig.specs.FirstFault.{Fault, ByByte, IsFirstBy}
+use Rattle.kore_sig.specs.Noted.{noted, leads_by_byte}
+use Rattle.kore_check.specs.FaultNumbers.{plain_fault, IsFirstOf}
 use Rattle.kore_check.specs.declared.faults.PatternFault.{PatternFault}
-use Rattle.kore_axioms.specs.Noting.{Notes}
+use Rattle.kore_check.proofs.NotedLaws.{noted-append, noted-first, first-one}
+use Rattle.kore_axioms.specs.Noting.{kept_fault, after}
 
-pub notes_none : (first : Option PatternFault) → Notes [] first first
-notes_none first = λ before is. subst (λ (fs : List Fault). IsFirstOf fs first) (sym (append-nil before)) is
+-- what the sort check says of what it notes
+abbrev pub Notes : List Fault → Option PatternFault → Option PatternFault → Type 0
+Notes faults first second = (before : List Fault) → IsFirstOf before first → IsFirstOf (before ++ faults) second
 
-pub notes_both : (fs gs : List Fault) (first second third : Option PatternFault) → Notes fs first second → Notes gs second third → Notes (fs ++ gs) first third
-notes_both fs gs first second third one two = λ before is.
-    subst (λ (hs : List Fault). IsFirstOf hs third) (append_assoc before fs gs) (two (before ++ fs) (one before is))
+pub as_noted : (fs : List Fault) (first second : Option PatternFault) → Notes fs first second → kept_fault second ≡ after first fs
+as_noted fs None second notes = first-one fs (kept_fault second) (noted leads_by_byte None fs) (notes [] (noted-first [])) (noted-first fs)
+as_noted fs (Some f) second notes =
+    first-one (plain_fault f ∷ fs) (kept_fault second) (noted leads_by_byte None (plain_fault f ∷ fs)) (notes (plain_fault f ∷ []) (noted-first (plain_fault f ∷ []))) (noted-first (plain_fault f ∷ fs))
 
--- what is noted first
-pub notes_all : (fs : List Fault) (r : Option PatternFault) → Notes fs None r → IsFirstOf fs r
-notes_all fs r notes = notes [] (λ f has. contains_none f has)
+-- faults that are noted in two parts
+pub noted_both : (fs gs : List Fault) (first second third : Option PatternFault) → kept_fault second ≡ after first fs → kept_fault third ≡ after second gs → kept_fault third ≡ after first (fs ++ gs)
+noted_both fs gs first second third one two =
+    two ∙ ap (λ (o : Option Fault). noted leads_by_byte o gs) one ∙ sym (noted-append (kept_fault first) fs gs)
+
+-- what is kept where nothing was noted before
+pub all_noted : (fs : List Fault) (r : Option PatternFault) → kept_fault r ≡ after None fs → IsFirstOf fs r
+all_noted fs r e = subst (λ (o : Option Fault). IsFirstBy ByByte (Contains fs) o) (sym e) (noted-first fs)

@@ -8,9 +8,12 @@ pub mod RuleForms
 pub mod RuleFaults
 pub mod AxiomClasses
 pub mod ReadableEquations
+pub mod AxiomMeanings
+pub mod Refusals
 pub mod Views
 pub mod ClassViews
 pub mod UsedSymbols
 -- Private: what clauses of private functions cite, and how private fields are seen.
 pub mod FoldUses
 pub mod Noting
+pub mod BuiltRules

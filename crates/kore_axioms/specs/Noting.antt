@@ -1,12 +1,17 @@
--- Noting faults of patterns: what is kept is the first of those noted before and of these.
-use Rattle.std.specs.Prelude.{ℕ, List, ◌++◌, Option}
+-- What is kept of the faults of patterns that were noted: the first of them.
+use Rattle.std.specs.Prelude.{ℕ, List, Option, option_map}
 use Rattle.kore_sig.specs.FirstFault.{Fault}
-use Rattle.kore_check.specs.FaultNumbers.{IsFirstOf}
+use Rattle.kore_sig.specs.Noted.{noted, leads_by_byte}
+use Rattle.kore_check.specs.FaultNumbers.{plain_fault}
 use Rattle.kore_check.specs.declared.faults.PatternFault.{PatternFault}
 use Rattle.term_core.specs.declared.ids.SortId.{SortId}
 
-abbrev pub Notes : List Fault → Option PatternFault → Option PatternFault → Type 0
-Notes faults first second = (before : List Fault) → IsFirstOf before first → IsFirstOf (before ++ faults) second
+abbrev pub kept_fault : Option PatternFault → Option Fault
+kept_fault first = option_map plain_fault first
+
+-- what is kept after these faults were noted too
+abbrev pub after : Option PatternFault → List Fault → Option Fault
+after first faults = noted leads_by_byte (kept_fault first) faults
 
 abbrev pub sort_of_id : SortId → ℕ
 sort_of_id s = s.0

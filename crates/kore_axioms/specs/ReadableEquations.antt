@@ -12,7 +12,7 @@ use Rattle.kore_sig.specs.Attributes.{has_attribute}
 use Rattle.kore_sig.specs.SortReferences.{sort_number}
 use Rattle.kore_check.specs.Folds.{Unfoldeds, unfolded, all_unfolded, heights}
 use Rattle.kore_check.specs.PatternFaults.{argument_faults, most_height}
-use Rattle.kore_shapes.specs.Forms.{is_any, has_connective, has_binder}
+use Rattle.kore_shapes.specs.Forms.{all_forms, has_form, has_binder}
 use Rattle.kore_shapes.specs.Shapes.{Condition, given_condition}
 use Rattle.kore_shapes.specs.Statements.{Statement}
 use Rattle.kore_shapes.specs.EquationForms.{EquationParts, equation_parts}
@@ -54,8 +54,8 @@ fits_function sig a info e q =
 -- a pattern has a form that none of an equation has
 abbrev pub has_other_form : Signature → Statement → EquationParts → Bool
 has_other_form sig e q =
-    list_any (has_connective is_any) q.patterns
-    || (holds_of (has_connective is_any) (tested (condition_of_equation sig e q)) || has_connective is_any q.right)
+    list_any (has_form all_forms) q.patterns
+    || (holds_of (has_form all_forms) (tested (condition_of_equation sig e q)) || has_form all_forms q.right)
 
 -- it has no such form, no binder, a condition of the form that conditions have, and no bad priority
 abbrev pub has_good_form : Signature → AxiomDeclaration → Statement → EquationParts → Bool

@@ -2,7 +2,7 @@
 use Rattle.std.specs.Prelude.{ℕ, List, [], ◌∷◌, Bool, true, false, ◌||◌, Option, Some, None}
 use Rattle.kore_text.specs.Trees.{PatternTree, AxiomDeclaration}
 use Rattle.kore_sig.specs.FirstFault.{Fault}
-use Rattle.kore_shapes.specs.Forms.{is_and, is_no_and, is_any, has_connective, has_binder}
+use Rattle.kore_shapes.specs.Forms.{conjunctions, others, all_forms, has_form, has_binder}
 use Rattle.kore_shapes.specs.Shapes.{Side, alone, beside, without, misshapen}
 use Rattle.kore_axioms.specs.Conditions.{tested, is_ill}
 use Rattle.kore_axioms.specs.RuleParts.{RuleParts, left_of, right_of}
@@ -31,8 +31,8 @@ is_without misshapen = false
 abbrev pub has_bad_form : RuleParts → Bool
 has_bad_form w =
     (is_misshapen w.before || is_misshapen w.after)
-    || (holds_of (has_connective is_no_and) (left_of w)
-    || (holds_of (has_connective is_any) (tested w.condition) || holds_of (has_connective is_any) (right_of w)))
+    || (holds_of (has_form others) (left_of w)
+    || (holds_of (has_form all_forms) (tested w.condition) || holds_of (has_form all_forms) (right_of w)))
 
 -- The form, at the axiom: 13, a side has a bad form; 15, a binder or a set variable stands somewhere; 16, what stands
 -- beside the right side is no `\top`; 17, the condition is missing or of another form; 22, an `\and` stands in the left
@@ -43,7 +43,7 @@ form_tests a w =
     ∷ ((has_binder a.pattern, 15)
     ∷ ((is_without w.after, 16)
     ∷ ((is_without w.before || is_ill w.condition, 17)
-    ∷ ((holds_of (has_connective is_and) (left_of w), 22)
+    ∷ ((holds_of (has_form conjunctions) (left_of w), 22)
     ∷ ((has_bad_priority a.attributes, 23) ∷ [])))))
 
 abbrev pub form_faults : AxiomDeclaration → RuleParts → List Fault

@@ -6,7 +6,7 @@ ghost use Rattle.kore_text.specs.Trees.{pattern_trees};
 ghost use Rattle.kore_ast.specs.Plain.{plain_sort, plain_pattern, plain_axiom_decl};
 ghost use Rattle.rule_core.specs.Sorting.{sort_at as the_sort_at};
 ghost use Rattle.kore_check.specs.Folds.{all_unfolded};
-ghost use Rattle.kore_shapes.specs.Forms.{has_connective as has_one, is_any};
+ghost use Rattle.kore_shapes.specs.Forms.{has_form as has_one, all_forms};
 ghost use Rattle.kore_shapes.specs.Views.{pattern_at, plain_condition};
 ghost use Rattle.kore_shapes.specs.StatementViews.{plain_statement};
 ghost use Rattle.kore_shapes.specs.PartViews.{plain_parts};
@@ -21,7 +21,7 @@ use crate::priorities::has_bad_priority;
 use crate::uses::{Symbols, has_symbol};
 use kore_ast::{AxiomDecl, Pat, Sort, SortForm, Text};
 use kore_shapes::{
-    Condition, Connectives, EquationParts, Statement, given_condition, has_binder, has_connective,
+    Condition, EquationParts, SoughtForms, Statement, given_condition, has_binder, has_form,
 };
 use kore_sig::sort_number;
 use rule_core::{Signature, SortRef, SymInfo};
@@ -111,28 +111,28 @@ fn has_good_form(
 }
 
 fn has_other_form(condition: Condition<'_>, parts: &EquationParts<'_>) -> bool
-    ensures { result ≡ (list_any (has_one is_any) (plain_parts parts.now).patterns
-        || (holds_of (has_one is_any) (the_tested (plain_condition condition.entry)) || has_one is_any (plain_parts parts.now).right)) }
+    ensures { result ≡ (list_any (has_one all_forms) (plain_parts parts.now).patterns
+        || (holds_of (has_one all_forms) (the_tested (plain_condition condition.entry)) || has_one all_forms (plain_parts parts.now).right)) }
 {
-    have_connective(&parts.patterns)
-        || is_connected(tested(condition))
-        || has_connective(parts.right, Connectives::All)
+    have_form(&parts.patterns)
+        || is_of_other_form(tested(condition))
+        || has_form(parts.right, SoughtForms::All)
 }
 
-fn is_connected(pat: Option<&Pat>) -> bool
-    ensures { result ≡ holds_of (has_one is_any) (option_map pattern_at pat.entry) }
+fn is_of_other_form(pat: Option<&Pat>) -> bool
+    ensures { result ≡ holds_of (has_one all_forms) (option_map pattern_at pat.entry) }
 {
     match pat {
-        Some(pat) => has_connective(pat, Connectives::All),
+        Some(pat) => has_form(pat, SoughtForms::All),
         None => false,
     }
 }
 
-fn have_connective(pats: &[&Pat]) -> bool
-    ensures { result ≡ list_any (has_one is_any) (map pattern_at pats.now) }
+fn have_form(pats: &[&Pat]) -> bool
+    ensures { result ≡ list_any (has_one all_forms) (map pattern_at pats.now) }
 {
     for pat in pats {
-        if has_connective(pat, Connectives::All) {
+        if has_form(pat, SoughtForms::All) {
             return true;
         }
     }

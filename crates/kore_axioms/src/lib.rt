@@ -6,11 +6,17 @@ mod equations;
 mod faults;
 mod parts;
 mod priorities;
+mod refusals;
+mod rules;
 mod sides;
+#[cfg(test)]
+mod tests;
 mod uses;
 
 pub use classes::{AxiomClass, class_of};
 pub use faults::AxiomFault;
 pub use parts::{RuleParts, rule_parts};
 pub use priorities::{has_bad_priority, priority_of};
+pub use refusals::Refusal;
+pub use rules::checked_rule;
 pub use uses::{Symbols, has_symbol};

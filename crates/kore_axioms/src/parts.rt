@@ -2,8 +2,8 @@
 ghost use Rattle.std.specs.Prelude.{◌≡◌, ℕ, map, option_map};
 ghost use Rattle.kore_ast.specs.Plain.{plain_sort, plain_pattern, plain_axiom_decl};
 ghost use Rattle.kore_sig.specs.Noted.{first_by_number};
-ghost use Rattle.kore_shapes.specs.Forms.{has_connective as has_one};
-ghost use Rattle.kore_shapes.specs.Connectives.{covers};
+ghost use Rattle.kore_shapes.specs.Forms.{has_form as has_one};
+ghost use Rattle.kore_shapes.specs.SoughtForms.{sought as sought_forms};
 ghost use Rattle.kore_shapes.specs.Views.{pattern_at, plain_side, plain_condition, plain_rewriting};
 ghost use Rattle.kore_axioms.specs.Conditions.{is_bool as is_a_bool, over_bool as the_over_bool, tested as the_tested, is_ill as is_an_ill};
 ghost use Rattle.kore_axioms.specs.RuleParts.{rule_parts as the_parts, left_of, right_of};
@@ -14,8 +14,8 @@ use crate::faults::{AxiomFault, first_raised};
 use crate::priorities::has_bad_priority;
 use kore_ast::{AxiomDecl, Pat, Sort};
 use kore_shapes::{
-    Companion, Condition, Connectives, Rewriting, Side, given_condition, has_binder,
-    has_connective, side_at,
+    Companion, Condition, Rewriting, Side, SoughtForms, given_condition, has_binder, has_form,
+    side_at,
 };
 use kore_sig::sort_number;
 use rule_core::{Signature, SortKind};
@@ -95,7 +95,7 @@ pub(crate) fn form_fault(decl: &AxiomDecl, parts: RuleParts<'_>) -> Option<Axiom
         (is_without(parts.after), AxiomFault::Ensures),
         (ill, AxiomFault::Condition),
         (
-            stands_in(parts.before.main(), Connectives::And),
+            stands_in(parts.before.main(), SoughtForms::Conjunctions),
             AxiomFault::AsPattern,
         ),
         (has_bad_priority(&decl.attrs), AxiomFault::BadPriority),
@@ -108,17 +108,17 @@ fn has_bad_form(parts: RuleParts<'_>) -> bool
 {
     is_misshapen(parts.before)
         || is_misshapen(parts.after)
-        || stands_in(parts.before.main(), Connectives::Others)
-        || stands_in(tested(parts.condition), Connectives::All)
-        || stands_in(parts.after.main(), Connectives::All)
+        || stands_in(parts.before.main(), SoughtForms::Others)
+        || stands_in(tested(parts.condition), SoughtForms::All)
+        || stands_in(parts.after.main(), SoughtForms::All)
 }
 
-/// Whether one of these connectives stands in the pattern, where there is one.
-fn stands_in(pat: Option<&Pat>, which: Connectives) -> bool
-    ensures { result ≡ holds_of (has_one (covers which)) (option_map pattern_at pat.entry) }
+/// Whether one of these forms stands in the pattern, where there is one.
+fn stands_in(pat: Option<&Pat>, sought: SoughtForms) -> bool
+    ensures { result ≡ holds_of (has_one (sought_forms sought)) (option_map pattern_at pat.entry) }
 {
     match pat {
-        Some(pat) => has_connective(pat, which),
+        Some(pat) => has_form(pat, sought),
         None => false,
     }
 }

@@ -5,11 +5,12 @@ ghost use Rattle.kore_sig.specs.FirstFault.{Fault};
 ghost use Rattle.kore_sig.specs.SortReferences.{sort_number as the_number};
 ghost use Rattle.kore_sig.specs.Signatures.{IsNumbered};
 ghost use Rattle.kore_check.specs.Folds.{unfolded};
+ghost use Rattle.kore_check.specs.PatternFaults.{sort_faults, clash_faults};
 ghost use Rattle.kore_check.specs.FaultNumbers.{IsFirstOf};
 ghost use Rattle.kore_shapes.specs.Views.{pattern_at, plain_condition};
 ghost use Rattle.kore_axioms.specs.RuleFaults.{faults_at_sort, side_faults, condition_faults, only_sort_faults, top_faults, found_top_faults, sorted_faults};
 ghost use Rattle.kore_axioms.specs.Views.{plain_rule_parts};
-ghost use Rattle.kore_axioms.specs.Noting.{Notes, sort_of_id};
+ghost use Rattle.kore_axioms.specs.Noting.{kept_fault, after, sort_of_id};
 
 use crate::parts::RuleParts;
 use kore_ast::{Pat, PatForm, Sort};
@@ -26,7 +27,7 @@ pub(crate) fn sort_fault(sig: &Signature, sort: &Sort, parts: RuleParts<'_>) -> 
     ensures { IsFirstOf (sorted_faults sig.now (plain_sort sort.now) (plain_rule_parts parts.entry)) result }
 {
     let mut first = None;
-    let wanted = note_sort(sig, sort, &mut first);
+    let wanted = noted_sort(sig, sort, &mut first);
     note_side(sig, parts.before.main(), wanted, &mut first);
     note_condition(sig, parts.condition, &mut first);
     note_side(sig, parts.after.main(), wanted, &mut first);
@@ -35,31 +36,47 @@ pub(crate) fn sort_fault(sig: &Signature, sort: &Sort, parts: RuleParts<'_>) -> 
 }
 
 /// Notes the faults of a pattern that is to have this sort.
-pub(crate) fn note_at_sort(sig: &Signature, pat: &Pat, wanted: Option<SortId>, first: &mut Option<PatternFault>)
+pub(crate) fn note_at_sort(
+    sig: &Signature,
+    pat: &Pat,
+    wanted: Option<SortId>,
+    first: &mut Option<PatternFault>,
+)
     requires { IsNumbered sig.now }
-    ensures { Notes (faults_at_sort sig.now (option_map sort_of_id wanted) (unfolded (plain_pattern pat.now))) first.old first.new }
+    ensures { kept_fault first.new ≡ after first.old (faults_at_sort sig.now (option_map sort_of_id wanted) (unfolded (plain_pattern pat.now))) }
 {
     let own = note_pattern(sig, pat, first);
     note_clash(pat.at, own, wanted, first);
 }
 
 /// .. where there is one.
-fn note_side(sig: &Signature, pat: Option<&Pat>, wanted: Option<SortId>, first: &mut Option<PatternFault>)
+fn note_side(
+    sig: &Signature,
+    pat: Option<&Pat>,
+    wanted: Option<SortId>,
+    first: &mut Option<PatternFault>,
+)
     requires { IsNumbered sig.now }
-    ensures { Notes (side_faults sig.now (option_map sort_of_id wanted) (option_map pattern_at pat.entry)) first.old first.new }
+    ensures { kept_fault first.new ≡ after first.old (side_faults sig.now (option_map sort_of_id wanted) (option_map pattern_at pat.entry)) }
 {
-    if let Some(pat) = pat {
-        note_at_sort(sig, pat, wanted, first);
+    match pat {
+        Some(pat) => note_at_sort(sig, pat, wanted, first),
+        None => {}
     }
 }
 
 /// .. of the pattern that a condition tests.
-pub(crate) fn note_condition(sig: &Signature, condition: Condition<'_>, first: &mut Option<PatternFault>)
+pub(crate) fn note_condition(
+    sig: &Signature,
+    condition: Condition<'_>,
+    first: &mut Option<PatternFault>,
+)
     requires { IsNumbered sig.now }
-    ensures { Notes (condition_faults sig.now (plain_condition condition.entry)) first.old first.new }
+    ensures { kept_fault first.new ≡ after first.old (condition_faults sig.now (plain_condition condition.entry)) }
 {
-    if let Condition::Tests(sort, pat) = condition {
-        note_at_sort(sig, pat, sort_id(sig, sort), first);
+    match condition {
+        Condition::Tests(sort, pat) => note_at_sort(sig, pat, sort_id(sig, sort), first),
+        Condition::Always | Condition::Ill => {}
     }
 }
 
@@ -73,21 +90,28 @@ fn sort_id(sig: &Signature, sort: &Sort) -> Option<SortId>
 }
 
 /// .. of the `\top{T}()` beside a right side, where there is one.
-fn note_found_top(sig: &Signature, top: Option<&Pat>, wanted: Option<SortId>, first: &mut Option<PatternFault>)
+fn note_found_top(
+    sig: &Signature,
+    top: Option<&Pat>,
+    wanted: Option<SortId>,
+    first: &mut Option<PatternFault>,
+)
     requires { IsNumbered sig.now }
-    ensures { Notes (found_top_faults sig.now (option_map sort_of_id wanted) (option_map pattern_at top.entry)) first.old first.new }
+    ensures { kept_fault first.new ≡ after first.old (found_top_faults sig.now (option_map sort_of_id wanted) (option_map pattern_at top.entry)) }
 {
-    if let Some(top) = top {
-        note_top(sig, top, wanted, first);
+    match top {
+        Some(top) => note_top(sig, top, wanted, first),
+        None => {}
     }
 }
 
 fn note_top(sig: &Signature, top: &Pat, wanted: Option<SortId>, first: &mut Option<PatternFault>)
     requires { IsNumbered sig.now }
-    ensures { Notes (top_faults sig.now (option_map sort_of_id wanted) (plain_pattern top.now)) first.old first.new }
+    ensures { kept_fault first.new ≡ after first.old (top_faults sig.now (option_map sort_of_id wanted) (plain_pattern top.now)) }
 {
-    if let PatForm::Built(_, sorts, _) = &top.form {
-        note_only_sort(sig, sorts, top.at, wanted, first);
+    match &top.form {
+        PatForm::Built(_, sorts, _) => note_only_sort(sig, sorts, top.at, wanted, first),
+        _ => {}
     }
 }
 
@@ -99,10 +123,35 @@ fn note_only_sort(
     first: &mut Option<PatternFault>,
 )
     requires { IsNumbered sig.now }
-    ensures { Notes (only_sort_faults sig.now (option_map sort_of_id wanted) at (map plain_sort sorts.now)) first.old first.new }
+    ensures { kept_fault first.new ≡ after first.old (only_sort_faults sig.now (option_map sort_of_id wanted) at (map plain_sort sorts.now)) }
 {
-    if let [sort] = sorts {
-        let own = note_sort(sig, sort, first);
-        note_clash(at, own, wanted, first);
+    match sorts {
+        [sort] => note_sort_at(sig, sort, at, wanted, first),
+        _ => {}
     }
+}
+
+/// Notes that a sort is not declared, or is another one than the one that is wanted at this byte.
+fn note_sort_at(
+    sig: &Signature,
+    sort: &Sort,
+    at: u32,
+    wanted: Option<SortId>,
+    first: &mut Option<PatternFault>,
+)
+    requires { IsNumbered sig.now }
+    ensures { kept_fault first.new ≡ after first.old
+        (sort_faults sig.now (plain_sort sort.now) ++ clash_faults at (the_number sig.now.sorts (plain_sort sort.now)) (option_map sort_of_id wanted)) }
+{
+    let own = noted_sort(sig, sort, first);
+    note_clash(at, own, wanted, first);
+}
+
+/// Notes that a sort is not declared. It answers the number of a declared one.
+fn noted_sort(sig: &Signature, sort: &Sort, first: &mut Option<PatternFault>) -> Option<SortId>
+    requires { IsNumbered sig.now }
+    ensures sort { option_map sort_of_id result ≡ the_number sig.now.sorts (plain_sort sort.now) }
+    ensures first { kept_fault first.new ≡ after first.old (sort_faults sig.now (plain_sort sort.now)) }
+{
+    note_sort(sig, sort, first)
 }

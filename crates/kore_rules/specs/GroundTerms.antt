@@ -2,7 +2,7 @@
 use Rattle.std.specs.Prelude.{ℕ, List, [], ◌∷◌, ◌++◌, if◌then◌else◌}
 use Rattle.kore_text.specs.Trees.{PatternTree, element_variable, set_variable, string, symbol_applied, connected, binding, domain_value, folded, PatternTrees, no_patterns, pattern_then, listed_patterns}
 use Rattle.kore_sig.specs.FirstFault.{Fault}
-use Rattle.kore_shapes.specs.Forms.{is_one}
+use Rattle.kore_shapes.specs.Forms.{is_one, is_none}
 
 abbrev pub not_ground : ℕ → List Fault
 not_ground at = record { number = 26; byte = at } ∷ []
@@ -23,12 +23,12 @@ abbrev mutual
   all_ground_faults no_patterns = []
   all_ground_faults (pattern_then p ps) = ground_faults p ++ all_ground_faults ps
 
-  -- of what is folded: a connective over one argument is that argument
+  -- of what is folded: an application with an argument, or a connective over one, which is that argument
   pub folded_ground_faults : PatternTree → List Fault
   folded_ground_faults (element_variable at n s) = not_ground at
   folded_ground_faults (set_variable at n s) = not_ground at
   folded_ground_faults (string at text) = not_ground at
-  folded_ground_faults (symbol_applied at f ss ps) = all_ground_faults ps
+  folded_ground_faults (symbol_applied at f ss ps) = if is_none (listed_patterns ps) then not_ground at else all_ground_faults ps
   folded_ground_faults (connected at op ss ps) = if is_one (listed_patterns ps) then all_ground_faults ps else not_ground at
   folded_ground_faults (binding at b ss x p) = not_ground at
   folded_ground_faults (domain_value at s text place) = not_ground at

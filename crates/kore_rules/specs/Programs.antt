@@ -24,60 +24,7 @@ use Rattle.kore_shapes.specs.EquationForms.{EquationParts}
 use Rattle.kore_axioms.specs.AxiomClasses.{rewrites, equates, class_of}
 use Rattle.kore_axioms.specs.RuleParts.{rule_parts, left_of, right_of}
 use Rattle.kore_axioms.specs.ReadableEquations.{IsReadable, condition_of_equation, all_read}
-use Rattle.kore_axioms.specs.Priorities.{priority_of}
-
--- what a condition means, where there is one
-abbrev pub MeansTest : Signature → List (List ℕ × ℕ) → Option PatternTree → Option Pattern → Type 0
-MeansTest sig vars None None = Unit {0}
-MeansTest sig vars None (Some p) = ⊥
-MeansTest sig vars (Some b) None = ⊥
-MeansTest sig vars (Some b) (Some p) = Means sig vars (unfolded b) p
-
--- The axiom is this rewrite rule. Its variables are those of the left side, in the order of their first occurrence.
-pub record IsRuleOf (sig : Signature) (a : AxiomDeclaration) (rule : RewriteRule) : Type 0 where
-  pub shape : Rewriting
-  pub class : class_of sig a ≡ rewrites shape
-  pub left : PatternTree
-  pub is_left : left_of (rule_parts sig shape) ≡ Some left
-  pub right : PatternTree
-  pub is_right : right_of (rule_parts sig shape) ≡ Some right
-  pub variables : List (List ℕ × ℕ)
-  pub numbered : variables ≡ with_variables sig [] (unfolded left)
-  pub means_left : Means sig variables (unfolded left) rule.left
-  pub means_condition : MeansTest sig variables (tested (rule_parts sig shape).condition) rule.condition
-  pub means_right : Means sig variables (unfolded right) rule.right
-  pub sorts : rule.variables ≡ map (λ (v : List ℕ × ℕ). v.1) variables
-  pub priority : rule.priority ≡ priority_of a.attributes
-  pub place : rule.place ≡ a.at
-
--- The axiom is this equation of the function with this name. Its variables are those of the patterns that the arguments
--- match, in the order of their first occurrence.
-pub record IsEquationOf (sig : Signature) (f : List ℕ) (a : AxiomDeclaration) (e : Equation) : Type 0 where
-  pub stated : Statement
-  pub class : class_of sig a ≡ equates stated
-  pub function : stated.function ≡ f
-  pub info : SymInfo
-  pub declared : symbol_named sig f ≡ Some info
-  pub parts : EquationParts
-  pub readable : IsReadable sig a info stated parts
-  pub variables : List (List ℕ × ℕ)
-  pub numbered : variables ≡ with_all_variables sig [] (all_read parts.patterns)
-  pub parameters : e.parameters ≡ length parts.parameters
-  pub means_arguments : AllMean sig variables (all_read parts.patterns) e.arguments
-  pub means_condition : MeansTest sig variables (tested (condition_of_equation sig stated parts)) e.condition
-  pub means_right : Means sig variables (unfolded parts.right) e.right
-  pub sorts : e.variables ≡ map (λ (v : List ℕ × ℕ). v.1) variables
-  pub priority : e.priority ≡ priority_of a.attributes
-  pub place : e.place ≡ a.at
-
--- an equation of the function with this name is not readable
-pub record IsUnreadable (sig : Signature) (f : List ℕ) (a : AxiomDeclaration) : Type 0 where
-  pub stated : Statement
-  pub class : class_of sig a ≡ equates stated
-  pub function : stated.function ≡ f
-  pub info : SymInfo
-  pub declared : symbol_named sig f ≡ Some info
-  pub unreadable : (parts : EquationParts) → IsReadable sig a info stated parts → ⊥
+use Rattle.kore_axioms.specs.AxiomMeanings.{IsRuleOf, IsEquationOf, IsUnreadable}
 
 -- the hook of this name, with its number, is one that the declaration fits
 abbrev pub HasFittingHook : Signature → SymInfo → List ℕ → ℕ → Type 0

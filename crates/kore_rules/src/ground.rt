@@ -2,7 +2,7 @@
 ghost use Rattle.std.specs.Prelude.{◌≡◌, map, None};
 ghost use Rattle.kore_text.specs.Trees.{pattern_trees};
 ghost use Rattle.kore_ast.specs.Plain.{plain_pattern};
-ghost use Rattle.kore_shapes.specs.Forms.{is_one as there_is_one};
+ghost use Rattle.kore_shapes.specs.Forms.{is_one as there_is_one, is_none as there_is_none};
 ghost use Rattle.kore_rules.specs.GroundTerms.{ground_faults, all_ground_faults, folded_ground_faults, not_ground};
 ghost use Rattle.kore_rules.specs.GroundNotes.{not_ground_at, behind};
 
@@ -46,13 +46,19 @@ fn note_folded(pat: &Pat, first: &mut Option<u32>)
     ensures { not_ground_at first.new ≡ behind first.old (folded_ground_faults (plain_pattern pat.now)) }
 {
     match &pat.form {
-        PatForm::App(_, _, args) => note_all(args, first),
+        PatForm::App(_, _, args) if !is_none(args) => note_all(args, first),
         PatForm::Built(_, _, args) if is_one(args) => note_all(args, first),
-        PatForm::Built(..) | PatForm::Bound(..) | PatForm::Value(..) | PatForm::Fold(..) => {
+        PatForm::App(..) | PatForm::Built(..) | PatForm::Bound(..) | PatForm::Value(..) | PatForm::Fold(..) => {
             note(first, pat.at);
         }
         PatForm::Elem(..) | PatForm::SetVar(..) | PatForm::Text(_) => note(first, pat.at),
     }
+}
+
+fn is_none(pats: &[Pat]) -> bool
+    ensures { result ≡ there_is_none (map plain_pattern pats.now) }
+{
+    matches!(pats, [])
 }
 
 fn is_one(pats: &[Pat]) -> bool

@@ -1,19 +1,32 @@
 -- Which forms stand in a pattern once its folds are read: a fold of one argument is that argument, and its head is
 -- not looked at.
-use Rattle.std.specs.Prelude.{List, [], ◌∷◌, Bool, true, false, not, ◌||◌, ◌&&◌}
+use Rattle.std.specs.Prelude.{ℕ, List, [], ◌∷◌, Bool, true, false, not, ◌||◌, ◌&&◌}
 use Rattle.kore_text.specs.Trees.{PatternTree, element_variable, set_variable, string, symbol_applied, connected, binding, domain_value, folded, PatternTrees, no_patterns, pattern_then, listed_patterns}
 use Rattle.kore_text.specs.declared.names.Op.{Op}
-use Rattle.kore_text.specs.declared.names.Op.TheVariants.{And}
+use Rattle.kore_text.specs.declared.names.Op.TheVariants.{Top, Bottom, Not, Next, And, Or, Implies, Iff, Rewrites, Ceil, Floor, Equals, Member}
 
 abbrev pub is_and : Op → Bool
 is_and And = true
 is_and op = false
 
-abbrev pub is_no_and : Op → Bool
-is_no_and op = not (is_and op)
+-- Which forms are looked for: `\and`; all others than that of a variable, an application, a domain value, a fold or a
+-- binder; or all of these.
+pub data Sought : Type 0 where
+  conjunctions : Sought
+  others : Sought
+  all_forms : Sought
 
-abbrev pub is_any : Op → Bool
-is_any op = true
+-- the connective is one of these forms
+abbrev pub covers : Sought → Op → Bool
+covers conjunctions op = is_and op
+covers others op = not (is_and op)
+covers all_forms op = true
+
+-- a string is one, and so is a fold of what cannot be folded
+abbrev pub covers_others : Sought → Bool
+covers_others conjunctions = false
+covers_others others = true
+covers_others all_forms = true
 
 -- there is one pattern
 abbrev pub is_one : List PatternTree → Bool
@@ -21,32 +34,37 @@ is_one [] = false
 is_one (p ∷ []) = true
 is_one (p ∷ (q ∷ ps)) = false
 
--- a connective that passes the test stands in the pattern
+-- there is none
+abbrev pub is_none : List PatternTree → Bool
+is_none [] = true
+is_none (p ∷ ps) = false
+
+-- one of these forms stands in the pattern
 abbrev mutual
-  pub has_connective : (Op → Bool) → PatternTree → Bool
-  has_connective test (element_variable at n s) = false
-  has_connective test (set_variable at n s) = false
-  has_connective test (string at text) = false
-  has_connective test (symbol_applied at n ss ps) = have_connective test ps
-  has_connective test (connected at op ss ps) = test op || have_connective test ps
-  has_connective test (binding at b ss x p) = has_connective test p
-  has_connective test (domain_value at s text place) = false
-  has_connective test (folded at left p) = fold_has_connective test p
+  pub has_form : Sought → PatternTree → Bool
+  has_form sought (element_variable at n s) = false
+  has_form sought (set_variable at n s) = false
+  has_form sought (string at text) = covers_others sought
+  has_form sought (symbol_applied at n ss ps) = have_form sought ps
+  has_form sought (connected at op ss ps) = covers sought op || have_form sought ps
+  has_form sought (binding at b ss x p) = has_form sought p
+  has_form sought (domain_value at s text place) = false
+  has_form sought (folded at left p) = fold_has_form sought p
 
-  pub have_connective : (Op → Bool) → PatternTrees → Bool
-  have_connective test no_patterns = false
-  have_connective test (pattern_then p ps) = has_connective test p || have_connective test ps
+  pub have_form : Sought → PatternTrees → Bool
+  have_form sought no_patterns = false
+  have_form sought (pattern_then p ps) = has_form sought p || have_form sought ps
 
-  -- .. in the fold of this application
-  pub fold_has_connective : (Op → Bool) → PatternTree → Bool
-  fold_has_connective test (element_variable at n s) = false
-  fold_has_connective test (set_variable at n s) = false
-  fold_has_connective test (string at text) = false
-  fold_has_connective test (symbol_applied at n ss ps) = have_connective test ps
-  fold_has_connective test (connected at op ss ps) = (not (is_one (listed_patterns ps)) && test op) || have_connective test ps
-  fold_has_connective test (binding at b ss x p) = has_connective test p
-  fold_has_connective test (domain_value at s text place) = false
-  fold_has_connective test (folded at left p) = fold_has_connective test p
+  -- .. in the fold of this pattern, which is an application or a connective with an argument
+  pub fold_has_form : Sought → PatternTree → Bool
+  fold_has_form sought (element_variable at n s) = covers_others sought
+  fold_has_form sought (set_variable at n s) = covers_others sought
+  fold_has_form sought (string at text) = covers_others sought
+  fold_has_form sought (symbol_applied at n ss ps) = (is_none (listed_patterns ps) && covers_others sought) || have_form sought ps
+  fold_has_form sought (connected at op ss ps) = (not (is_one (listed_patterns ps)) && covers sought op) || have_form sought ps
+  fold_has_form sought (binding at b ss x p) = covers_others sought
+  fold_has_form sought (domain_value at s text place) = covers_others sought
+  fold_has_form sought (folded at left p) = covers_others sought
 
 -- a quantifier, `\mu`, `\nu` or a set variable stands in the pattern
 abbrev mutual

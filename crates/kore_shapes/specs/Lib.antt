@@ -1,7 +1,7 @@
 -- Believed: what public clauses say, and believed definitions of other crates.
 pub mod SameSorts
 pub mod Forms
-pub mod Connectives
+pub mod SoughtForms
 pub mod Shapes
 pub mod SideTests
 pub mod Statements

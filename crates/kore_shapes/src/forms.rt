@@ -1,87 +1,96 @@
 // Which forms stand in a pattern.
-ghost use Rattle.std.specs.Prelude.{◌≡◌, map};
+ghost use Rattle.std.specs.Prelude.{◌≡◌, ◌&&◌, not, map};
 ghost use Rattle.kore_text.specs.Trees.{pattern_trees};
 ghost use Rattle.kore_ast.specs.Plain.{plain_pattern};
-ghost use Rattle.kore_shapes.specs.Forms.{has_connective as has_one, have_connective as have_one, fold_has_connective as fold_has_one, is_one as there_is_one, has_binder as has_one_binder, have_binder as have_one_binder};
+ghost use Rattle.kore_shapes.specs.Forms.{has_form as has_one, have_form as have_one, fold_has_form as fold_has_one, is_one as there_is_one, is_none as there_is_none, covers as does_cover, covers_others as does_cover_others, has_binder as has_one_binder, have_binder as have_one_binder};
+ghost use Rattle.kore_shapes.specs.SoughtForms.{sought as sought_forms};
 
 use kore_ast::{Op, Pat, PatForm};
 
-/// Some of the connectives.
-#[derive(Clone, Copy)]
-pub enum Connectives {
+/// Forms of patterns that are neither a variable, an application, a domain value, a fold nor a binder.
+#[derive(Clone, Copy, PartialEq, Eq)]
+pub enum SoughtForms {
     /// `\and` alone.
-    And,
+    Conjunctions,
     /// All but `\and`.
     Others,
-    /// All.
+    /// All of these.
     All,
 }
 
-impl Connectives {
-    ghost use Rattle.kore_shapes.specs.Connectives.{covers};
-
-    fn covers(self, op: Op) -> bool
-        ensures { result ≡ covers self op }
-    {
-        match (self, op) {
-            (Connectives::And, Op::And) => true,
-            (Connectives::And, _) => false,
-            (Connectives::Others, Op::And) => false,
-            (Connectives::Others, _) => true,
-            (Connectives::All, _) => true,
-        }
+fn covers(sought: SoughtForms, op: Op) -> bool
+    ensures { result ≡ does_cover (sought_forms sought) op }
+{
+    match (sought, op) {
+        (SoughtForms::Conjunctions, Op::And) => true,
+        (SoughtForms::Conjunctions, _) => false,
+        (SoughtForms::Others, Op::And) => false,
+        (SoughtForms::Others | SoughtForms::All, _) => true,
     }
 }
 
-ghost use Rattle.kore_shapes.specs.Connectives.{covers};
+fn covers_others(sought: SoughtForms) -> bool
+    ensures { result ≡ does_cover_others (sought_forms sought) }
+{
+    match sought {
+        SoughtForms::Conjunctions => false,
+        SoughtForms::Others | SoughtForms::All => true,
+    }
+}
 
-/// Whether one of these connectives stands in the pattern, at any depth. Folds are read: the head of a fold of one
-/// argument is not looked at. It goes through the pattern once.
-#[cycle(connective)]
-pub fn has_connective(pat: &Pat, which: Connectives) -> bool
-    ensures { result ≡ has_one (covers which) (plain_pattern pat.now) }
+/// Whether one of these forms stands in the pattern, at any depth. Folds are read: the head of a fold of one argument is
+/// not looked at. It goes through the pattern once.
+#[cycle(forms)]
+pub fn has_form(pat: &Pat, sought: SoughtForms) -> bool
+    ensures { result ≡ has_one (sought_forms sought) (plain_pattern pat.now) }
 {
     match &pat.form {
-        PatForm::App(_, _, args) => have_connective(args, which),
-        PatForm::Built(op, _, args) => which.covers(*op) || have_connective(args, which),
-        PatForm::Bound(_, _, _, body) => has_connective(body, which),
-        PatForm::Fold(_, inner) => fold_has_connective(inner, which),
-        PatForm::Elem(..) | PatForm::SetVar(..) | PatForm::Text(_) | PatForm::Value(..) => false,
+        PatForm::App(_, _, args) => have_form(args, sought),
+        PatForm::Built(op, _, args) => covers(sought, *op) || have_form(args, sought),
+        PatForm::Bound(_, _, _, body) => has_form(body, sought),
+        PatForm::Fold(_, inner) => fold_has_form(inner, sought),
+        PatForm::Text(_) => covers_others(sought),
+        PatForm::Elem(..) | PatForm::SetVar(..) | PatForm::Value(..) => false,
     }
 }
 
-#[cycle(connective)]
-fn have_connective(pats: &[Pat], which: Connectives) -> bool
-    ensures { result ≡ have_one (covers which) (pattern_trees (map plain_pattern pats.now)) }
+#[cycle(forms)]
+fn have_form(pats: &[Pat], sought: SoughtForms) -> bool
+    ensures { result ≡ have_one (sought_forms sought) (pattern_trees (map plain_pattern pats.now)) }
 {
     for pat in pats {
-        if has_connective(pat, which) {
+        if has_form(pat, sought) {
             return true;
         }
     }
     false
 }
 
-/// .. in the fold of this application.
-#[cycle(connective)]
-fn fold_has_connective(pat: &Pat, which: Connectives) -> bool
-    ensures { result ≡ fold_has_one (covers which) (plain_pattern pat.now) }
+/// .. in the fold of this pattern, which is an application or a connective with an argument.
+#[cycle(forms)]
+fn fold_has_form(pat: &Pat, sought: SoughtForms) -> bool
+    ensures { result ≡ fold_has_one (sought_forms sought) (plain_pattern pat.now) }
 {
     match &pat.form {
-        PatForm::App(_, _, args) => have_connective(args, which),
-        PatForm::Built(op, _, args) => {
-            (!is_one(args) && which.covers(*op)) || have_connective(args, which)
-        }
-        PatForm::Bound(_, _, _, body) => has_connective(body, which),
-        PatForm::Fold(_, inner) => fold_has_connective(inner, which),
-        PatForm::Elem(..) | PatForm::SetVar(..) | PatForm::Text(_) | PatForm::Value(..) => false,
+        PatForm::App(_, _, args) => is_empty_fold(args, sought) || have_form(args, sought),
+        PatForm::Built(op, _, args) => is_head(args, sought, *op) || have_form(args, sought),
+        PatForm::Elem(..) | PatForm::SetVar(..) | PatForm::Text(_) => covers_others(sought),
+        PatForm::Bound(..) | PatForm::Value(..) | PatForm::Fold(..) => covers_others(sought),
     }
 }
 
-fn is_one(pats: &[Pat]) -> bool
-    ensures { result ≡ there_is_one (map plain_pattern pats.now) }
+/// Whether a fold of these patterns is of none, and such folds are looked for.
+fn is_empty_fold(pats: &[Pat], sought: SoughtForms) -> bool
+    ensures { result ≡ (there_is_none (map plain_pattern pats.now) && does_cover_others (sought_forms sought)) }
 {
-    matches!(pats, [_])
+    matches!(pats, []) && covers_others(sought)
+}
+
+/// Whether the connective of a fold of these patterns counts, and is looked for.
+fn is_head(pats: &[Pat], sought: SoughtForms, op: Op) -> bool
+    ensures { result ≡ (not (there_is_one (map plain_pattern pats.now)) && does_cover (sought_forms sought) op) }
+{
+    !matches!(pats, [_]) && covers(sought, op)
 }
 
 /// Whether a quantifier, `\mu`, `\nu` or a set variable stands in the pattern. It goes through the pattern once.

@@ -10,7 +10,7 @@ mod statements;
 mod tests;
 
 pub use equations::{EquationParts, equation_parts};
-pub use forms::{Connectives, has_binder, has_connective};
+pub use forms::{SoughtForms, has_binder, has_form};
 pub use shapes::{Companion, Condition, Rewriting, Side, given_condition, rewriting_at, side_at};
 pub use sorts::{is_variable, same_sort};
 pub use statements::{Statement, statement_at};

@@ -1,9 +1,0 @@
-use Rattle.std.proofs.Common.{◌≡◌, drop, map}
-use Rattle.std.specs.List.{list_any}
-use Rattle.kore_shapes.specs.Forms.{has_connective, is_any}
-use Rattle.kore_shapes.specs.Views.{pattern_at}
-use Rattle.kore_axioms.proofs.equations.have_connective.Given as goal
-
-abbrev pub invariant-loop-pat : goal.invariant-loop-pat
-invariant-loop-pat l =
-    list_any (has_connective is_any) (map pattern_at (drop l.pat-index l.pats)) ≡ list_any (has_connective is_any) (map pattern_at l.pats)

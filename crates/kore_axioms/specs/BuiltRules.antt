@@ -1,0 +1,50 @@
+-- What is built of a rewrite rule without faults of its form and its sorts.
+use Rattle.std.specs.Prelude.{◌≡◌, ◌&&◌, ℕ, true, List, [], Option, Some, None, option_map, Contains}
+use Rattle.kore_text.specs.Trees.{SortTree, PatternTree, AxiomDeclaration}
+use Rattle.term_core.specs.RulePatterns.{plain_pattern}
+use Rattle.rule_core.specs.declared.signature.Signature.{Signature}
+use Rattle.kore_sig.specs.FirstFault.{Fault, ByByte, ByNumber, IsFirstBy, Then}
+use Rattle.kore_check.specs.Folds.{unfolded, IsApplicative}
+use Rattle.kore_check.specs.PatternFaults.{pattern_faults}
+use Rattle.kore_check.specs.PatternMeanings.{named_sorts, with_variables, Means}
+use Rattle.kore_axioms.specs.AxiomMeanings.{MeansTest}
+use Rattle.kore_axioms.specs.Conditions.{tested}
+use Rattle.kore_axioms.specs.RuleParts.{RuleParts, left_of, right_of}
+use Rattle.kore_axioms.specs.RuleForms.{form_faults}
+use Rattle.kore_axioms.specs.RuleFaults.{sorted_faults, listed, is_bound}
+use Rattle.kore_axioms.specs.declared.rules.RulePatterns.{RulePatterns}
+
+-- the first fault of the form, or else of the sorts
+abbrev pub FirstOfShape : Signature → AxiomDeclaration → SortTree → RuleParts → Option Fault → Type 0
+FirstOfShape sig a s w r = Then (IsFirstBy ByNumber (Contains (form_faults a w))) (IsFirstBy ByByte (Contains (sorted_faults sig s w))) r
+
+-- the variables, and those of the pattern, where there is one, behind them
+abbrev pub with_some_variables : Signature → List (List ℕ × ℕ) → Option PatternTree → List (List ℕ × ℕ)
+with_some_variables sig vars None = vars
+with_some_variables sig vars (Some p) = with_variables sig vars (unfolded p)
+
+-- the patterns of a rule without such faults are there, and made of the forms that rule patterns have
+pub record IsFine (sig : Signature) (w : RuleParts) : Type 0 where
+  pub left : PatternTree
+  pub is_left : left_of w ≡ Some left
+  pub left_form : IsApplicative (unfolded left)
+  pub left_clear : pattern_faults sig (unfolded left) ≡ []
+  pub right : PatternTree
+  pub is_right : right_of w ≡ Some right
+  pub right_form : IsApplicative (unfolded right)
+  pub right_clear : pattern_faults sig (unfolded right) ≡ []
+  pub test_form : (p : PatternTree) → tested w.condition ≡ Some p → IsApplicative (unfolded p)
+  pub test_clear : (p : PatternTree) → tested w.condition ≡ Some p → pattern_faults sig (unfolded p) ≡ []
+
+-- The patterns are built of the sides and of what the condition tests. Where all variables are bound, they mean these
+-- with the variables of the left side.
+pub record IsBuiltOf (sig : Signature) (w : RuleParts) (made : RulePatterns) : Type 0 where
+  pub left : PatternTree
+  pub is_left : left_of w ≡ Some left
+  pub right : PatternTree
+  pub is_right : right_of w ≡ Some right
+  pub bound : made.bound ≡ (is_bound (listed (left_of w)) (tested w.condition) && is_bound (listed (left_of w)) (right_of w))
+  pub numbered : made.bound ≡ true → named_sorts made.vars.items ≡ with_variables sig [] (unfolded left)
+  pub means_left : made.bound ≡ true → Means sig (named_sorts made.vars.items) (unfolded left) (plain_pattern made.left)
+  pub means_condition : made.bound ≡ true → MeansTest sig (named_sorts made.vars.items) (tested w.condition) (option_map plain_pattern made.cond)
+  pub means_right : made.bound ≡ true → Means sig (named_sorts made.vars.items) (unfolded right) (plain_pattern made.right)

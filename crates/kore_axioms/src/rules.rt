@@ -1,0 +1,199 @@
+// Rewrite rules: the first fault of one, or what it means.
+ghost use Rattle.std.specs.Prelude.{◌≡◌, ◌&&◌, [], ℕ, None, map, option_map, IfOk, OnOk, IfErr, IfSome};
+ghost use Rattle.kore_ast.specs.Plain.{plain_sort, plain_axiom_decl};
+ghost use Rattle.term_core.specs.RulePatterns.{plain_pattern};
+ghost use Rattle.rule_core.specs.ProgramView.{rewrite_rule};
+ghost use Rattle.rule_core.specs.WellSorted.{IsSignature};
+ghost use Rattle.kore_sig.specs.Signatures.{IsNumbered};
+ghost use Rattle.kore_check.specs.PatternFaults.{pattern_faults};
+ghost use Rattle.kore_check.specs.PatternMeanings.{named_sorts};
+ghost use Rattle.kore_sig.specs.Noted.{first_by_number};
+ghost use Rattle.kore_check.specs.Folds.{unfolded, IsApplicative};
+ghost use Rattle.kore_shapes.specs.Views.{pattern_at, plain_rewriting};
+ghost use Rattle.kore_axioms.specs.AxiomClasses.{rewrites, class_of};
+ghost use Rattle.kore_axioms.specs.AxiomMeanings.{MeansTest, IsRuleOf};
+ghost use Rattle.kore_axioms.specs.BuiltRules.{IsFine, IsBuiltOf, FirstOfShape, with_some_variables};
+ghost use Rattle.kore_axioms.specs.Refusals.{Refuses};
+ghost use Rattle.kore_axioms.specs.Conditions.{tested as the_tested};
+ghost use Rattle.kore_axioms.specs.Raised.{raised};
+ghost use Rattle.kore_axioms.specs.RuleForms.{holds_of, form_faults};
+ghost use Rattle.kore_axioms.specs.RuleFaults.{listed, is_bound, differs_from as does_differ, use_tests, sorted_faults, FirstOfRule};
+ghost use Rattle.kore_axioms.specs.RuleParts.{left_of, right_of};
+ghost use Rattle.kore_axioms.specs.UsedSymbols.{is_used};
+ghost use Rattle.kore_axioms.specs.Uses.{has_symbol as has_one};
+ghost use Rattle.kore_axioms.specs.Views.{plain_rule_parts, fault_at};
+
+use crate::faults::{AxiomFault, first_raised};
+use crate::parts::{RuleParts, form_fault, rule_parts, tested};
+use crate::priorities::priority_of;
+use crate::refusals::Refusal;
+use crate::sides::sort_fault;
+use crate::uses::{Symbols, has_symbol};
+use kore_ast::{AxiomDecl, Pat, Sort};
+use kore_check::build_pattern;
+use kore_shapes::{Rewriting, same_sort};
+use rule_core::{Rule, Signature, VarInfo};
+use std::alloc::{AllocError, Global};
+use term_core::RulePat;
+
+/// The first fault of how the sides of a rewrite rule use symbols and variables, where it is known whether all its
+/// variables are bound, and where the first rule has this sort.
+fn use_fault(
+    sig: &Signature,
+    first: Option<&Sort>,
+    sort: &Sort,
+    parts: RuleParts<'_>,
+    bound: bool,
+) -> Option<AxiomFault>
+    requires { bound ≡ (is_bound (listed (left_of (plain_rule_parts parts))) (the_tested (plain_rule_parts parts).condition)
+        && is_bound (listed (left_of (plain_rule_parts parts))) (right_of (plain_rule_parts parts))) }
+    ensures { (at : ℕ) → option_map (fault_at at) result
+        ≡ first_by_number (raised at (use_tests sig.now (option_map (λ s. plain_sort s.now) first.entry) (plain_sort sort.now) (plain_rule_parts parts.entry))) }
+{
+    let left = parts.before.main();
+    first_raised(&[
+        (
+            uses(sig, left, Symbols::PlainFunctions),
+            AxiomFault::LeftFunction,
+        ),
+        (uses(sig, left, Symbols::Ac), AxiomFault::AcSymbol),
+        (!bound, AxiomFault::Unbound),
+        (differs_from(first, sort), AxiomFault::TopSort),
+    ])
+}
+
+/// Whether one of these symbols stands in the pattern, where there is one.
+fn uses(sig: &Signature, pat: Option<&Pat>, which: Symbols) -> bool
+    ensures { result ≡ holds_of (λ p. has_one (is_used which sig.now) (unfolded p)) (option_map pattern_at pat.entry) }
+{
+    match pat {
+        Some(pat) => has_symbol(pat, sig, which),
+        None => false,
+    }
+}
+
+/// Whether the sort of the first rule, where there is one, is written otherwise.
+fn differs_from(first: Option<&Sort>, sort: &Sort) -> bool
+    ensures { result ≡ does_differ (option_map (λ s. plain_sort s.now) first.entry) (plain_sort sort.now) }
+{
+    match first {
+        Some(first) => !same_sort(first, sort),
+        None => false,
+    }
+}
+
+/// The patterns of a rewrite rule with their variables, and whether the left side has all of these.
+#[derive(Drop)]
+struct RulePatterns {
+    left: RulePat,
+    cond: Option<RulePat>,
+    right: RulePat,
+    vars: Vec<VarInfo>,
+    bound: bool,
+}
+
+/// The rewrite rule that an axiom of this shape means, or its first fault, where the first rule of the definition has
+/// this sort: of its form, or else of its sorts, or else of its uses. A rule's variables are those of its left side, in
+/// the order of their first occurrence. It goes through the axiom a few times, with a look-up for each sort and symbol.
+pub fn checked_rule(
+    alloc: Global,
+    sig: &Signature,
+    first: Option<&Sort>,
+    decl: &AxiomDecl,
+    rewriting: Rewriting<'_>,
+) -> Result<Rule, Refusal>
+    requires numbered { IsNumbered sig.now }
+    requires signature { IsSignature sig.now }
+    requires class { class_of sig.now (plain_axiom_decl decl.now) ≡ rewrites (plain_rewriting rewriting) }
+    ensures clear { OnOk result (FirstOfRule sig.now (option_map (λ s. plain_sort s.now) first.entry) (plain_axiom_decl decl.now) (plain_rewriting rewriting.entry) None) }
+    ensures means { IfOk result (λ rule. IsRuleOf sig.now (plain_axiom_decl decl.now) (rewrite_rule rule)) }
+    ensures refused { IfErr result (Refuses (FirstOfRule sig.now (option_map (λ s. plain_sort s.now) first.entry) (plain_axiom_decl decl.now) (plain_rewriting rewriting.entry))) }
+{
+    let parts = rule_parts(sig, rewriting);
+    match check_shape(sig, decl, rewriting.sort, parts) {
+        Ok(()) => {}
+        Err(refusal) => return Err(refusal),
+    }
+    let made = rule_patterns(alloc, sig, parts)?;
+    if let Some(fault) = use_fault(sig, first, rewriting.sort, parts, made.bound) {
+        return Err(Refusal::Refused(fault.number(), decl.at));
+    }
+    Ok(Rule {
+        at: decl.at,
+        left: made.left,
+        cond: made.cond,
+        right: made.right,
+        vars: made.vars,
+        priority: priority_of(&decl.attrs),
+    })
+}
+
+/// The first fault of the form of a rewrite rule, or else of its sorts.
+fn check_shape(
+    sig: &Signature,
+    decl: &AxiomDecl,
+    sort: &Sort,
+    parts: RuleParts<'_>,
+) -> Result<(), Refusal>
+    requires { IsNumbered sig.now }
+    ensures form { OnOk result (form_faults (plain_axiom_decl decl.now) (plain_rule_parts parts.entry) ≡ []) }
+    ensures sorts { OnOk result (sorted_faults sig.now (plain_sort sort.now) (plain_rule_parts parts.entry) ≡ []) }
+    ensures refused { IfErr result (Refuses (FirstOfShape sig.now (plain_axiom_decl decl.now) (plain_sort sort.now) (plain_rule_parts parts.entry))) }
+{
+    if let Some(fault) = form_fault(decl, parts) {
+        return Err(Refusal::Refused(fault.number(), decl.at));
+    }
+    if let Some(fault) = sort_fault(sig, sort, parts) {
+        return Err(Refusal::Refused(fault.kind.number(), fault.at));
+    }
+    Ok(())
+}
+
+/// What the patterns of a rewrite rule mean, whose form and sorts have no fault.
+fn rule_patterns(
+    alloc: Global,
+    sig: &Signature,
+    parts: RuleParts<'_>,
+) -> Result<RulePatterns, AllocError>
+    requires numbered { IsNumbered sig.now }
+    requires signature { IsSignature sig.now }
+    requires fine { IsFine sig.now (plain_rule_parts parts) }
+    ensures { IfOk result (IsBuiltOf sig.now (plain_rule_parts parts.entry)) }
+{
+    let (Some(left), Some(right)) = (parts.before.main(), parts.after.main()) else {
+        unreachable!()
+    };
+    let mut vars = Vec::new(alloc);
+    let left = build_pattern(alloc, sig, left, &mut vars)?;
+    let bound = vars.len();
+    let cond = built_condition(alloc, sig, tested(parts.condition), &mut vars)?;
+    let right = build_pattern(alloc, sig, right, &mut vars)?;
+    let bound = vars.len() == bound;
+    Ok(RulePatterns {
+        left,
+        cond,
+        right,
+        vars,
+        bound,
+    })
+}
+
+/// What the pattern means that a condition tests, where there is one.
+fn built_condition(
+    alloc: Global,
+    sig: &Signature,
+    pat: Option<&Pat>,
+    vars: &mut Vec<VarInfo>,
+) -> Result<Option<RulePat>, AllocError>
+    requires numbered { IsNumbered sig.now }
+    requires signature { IsSignature sig.now }
+    requires form { IfSome (option_map pattern_at pat) (λ p. IsApplicative (unfolded p)) }
+    requires faultless { IfSome (option_map pattern_at pat) (λ p. pattern_faults sig.now (unfolded p) ≡ []) }
+    ensures vars { OnOk result (named_sorts vars.new.items ≡ with_some_variables sig.now (named_sorts vars.old.items) (option_map pattern_at pat.entry)) }
+    ensures means { IfOk result (λ p. MeansTest sig.now (named_sorts vars.new.items) (option_map pattern_at pat.entry) (option_map plain_pattern p)) }
+{
+    match pat {
+        Some(pat) => Ok(Some(build_pattern(alloc, sig, pat, vars)?)),
+        None => Ok(None),
+    }
+}

@@ -1,0 +1,9 @@
+-- Which forms are looked for.
+use Rattle.kore_shapes.specs.declared.forms.SoughtForms.{SoughtForms}
+use Rattle.kore_shapes.specs.declared.forms.SoughtForms.TheVariants as forms
+use Rattle.kore_shapes.specs.Forms.{Sought, conjunctions, others, all_forms}
+
+abbrev pub sought : SoughtForms → Sought
+sought forms.Conjunctions = conjunctions
+sought forms.Others = others
+sought forms.All = all_forms
