@@ -3,7 +3,7 @@ ghost use Rattle.std.specs.Prelude.{◌≡◌, ◌↔◌, ◌⊎◌, ◌++◌, �
 ghost use Rattle.term_core.specs.RulePatterns.{sort_numbers};
 ghost use Rattle.rule_core.specs.Subsorts.{IsBelow, HasNoCycle, IsPath};
 
-use crate::sort_sets::{grow, is_in, merge, set_of, widen, with_sort};
+use crate::sort_sets::{grow, is_in, join, set_of, with_sort};
 use std::alloc::{AllocError, Global};
 use std::marker::Model;
 use term_core::SortId;
@@ -17,8 +17,8 @@ use term_core::SortId;
 #[derive(Drop)]
 pub struct Subsorts {
     pairs: Vec<(SortId, SortId)>,
-    above: Vec<Vec<bool>>,
-    direct: Vec<Vec<bool>>,
+    above: Vec<Vec<u64>>,
+    direct: Vec<Vec<u64>>,
 }
 
 impl Model for Subsorts {
@@ -130,10 +130,7 @@ impl Subsorts {
         self.pairs.reserve(1)?;
         grow(alloc, &mut self.direct, a)?;
         let right_above = with_sort(alloc, set_of(&self.direct, a), b)?;
-        grow(alloc, &mut self.above, a)?;
-        let above = with_sort(alloc, set_of(&self.above, b), b)?;
-        widen(&mut self.above, a, above.len())?;
-        merge(&mut self.above, a, &above);
+        join(alloc, &mut self.above, a, b)?;
         self.direct[a.0 as usize] = right_above;
         self.pairs.push((a, b)).unwrap();
         Ok(true)
