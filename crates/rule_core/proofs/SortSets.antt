@@ -4,9 +4,9 @@ use Rattle.std.proofs.Math.ListN.{set, get_or}
 use Rattle.std.specs.Prelude.{Vec, IsTrue, ◌==◌, ◌||◌, ◌&&◌}
 use Rattle.std.proofs.lemmas.Bool.{false≢true, eqb-true}
 use Rattle.rule_core.specs.Subsorts.{HasNoCycle, is_below}
-use Rattle.rule_core.proofs.Belows.{either_true, true_left, true_right, contains_later, contains_cases, first_last, last_first, below_last}
+use Rattle.rule_core.proofs.Belows.{IsBelow-trans, is_below-true, true-is_below, both_true, either_true, true_left, true_right, contains_later, contains_cases, first_last, last_first, below_last}
 use Rattle.std.specs.Global.{Global}
-use Rattle.rule_core.specs.SubsortFields.{sort_pairs, pairs_of, has, set_at, is_in, reaches, IsTable}
+use Rattle.rule_core.specs.SubsortFields.{sort_pairs, pairs_of, has, set_at, is_in, reaches, IsClosed, IsTable}
 use Rattle.rule_core.specs.declared.subsorts.Subsorts.TheInside.{Inside}
 
 -- the set that an entry holds
@@ -139,6 +139,23 @@ merged_still sets init x a more same not before z y lt = by_case (same_or_not z 
   by_case (inl e) = subst Wanted (sym e) here
   by_case (inr n) = before z y (below n)
 
+-- a set that has b gets nothing new with b and what its set has
+pub nothing_new : (sets : List (Vec ℕ Global)) (x a b y : ℕ) → IsClosed sets → IsTrue (is_in sets a b) → is_in sets x y ≡ (is_in sets x y || (reaches sets x a && (b == y || is_in sets b y)))
+nothing_new sets x a b y closed known = unless (reaches sets x a && (b == y || is_in sets b y)) refl where
+  above : IsTrue (is_in sets x b) → ((b == y) ≡ true) ⊎ (is_in sets b y ≡ true) → is_in sets x y ≡ true
+  above leads (inl t) = let P : ℕ → Type 0 = λ n. is_in sets x n ≡ true in subst P (eqb-true b y t) leads
+  above leads (inr t) = closed x b y leads t
+
+  below : ((x == a) ≡ true) ⊎ (is_in sets x a ≡ true) → is_in sets x b ≡ true
+  below (inl t) = let P : ℕ → Type 0 = λ n. is_in sets n b ≡ true in subst P (sym (eqb-true x a t)) known
+  below (inr t) = closed x a b t known
+
+  unless : (t : Bool) → (reaches sets x a && (b == y || is_in sets b y)) ≡ t → is_in sets x y ≡ (is_in sets x y || t)
+  unless false e = sym (or_false _)
+  unless true e =
+      let halves = both_true _ _ e in
+      let has : is_in sets x y ≡ true = above (below (either_true _ _ halves.0)) (either_true _ _ halves.1) in rw has refl
+
 -- the sets have got b and what its set has, where they lead to a
 pub joined_from : (init sets merged : List (Vec ℕ Global)) (a b : ℕ) (more : List ℕ) → ((x y : ℕ) → is_in sets x y ≡ is_in init x y)
     → ((y : ℕ) → has more y ≡ (b == y || is_in init b y)) → ((x y : ℕ) → is_in merged x y ≡ (is_in sets x y || (reaches sets x a && has more y)))
@@ -170,6 +187,11 @@ table_same t u pairs above direct table =
       (λ yes. subst P (sym kept) ((table.single x y).0 (sym (direct x y) ∙ yes)), λ there. direct x y ∙ (table.single x y).1 (subst P kept there));
       no_cycle = subst HasNoCycle (sym kept) table.no_cycle;
     }
+
+-- what is above is closed
+pub chains_closed : (pairs : List (ℕ × ℕ)) (sets : List (Vec ℕ Global)) → ((x y : ℕ) → is_in sets x y ≡ is_below pairs x y) → IsClosed sets
+chains_closed pairs sets known x y z one other =
+    known x z ∙ true-is_below pairs x z (IsBelow-trans pairs x y z (is_below-true pairs x y (sym (known x y) ∙ one)) (is_below-true pairs y z (sym (known y z) ∙ other)))
 
 -- the sets right above each sort, after that of a has got b
 pub single_more : (pairs : List (ℕ × ℕ)) (a b : ℕ) (sets : List (Vec ℕ Global)) (new : Vec ℕ Global) → a < length sets

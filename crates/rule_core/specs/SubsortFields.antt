@@ -33,6 +33,10 @@ is_in sets a b = has (set_at sets a) b
 abbrev pub reaches : List (Vec ℕ Global) → ℕ → ℕ → Bool
 reaches sets x a = x == a || is_in sets x a
 
+-- a set has what the sets of its sorts have
+abbrev pub IsClosed : List (Vec ℕ Global) → Type 0
+IsClosed sets = (x y z : ℕ) → IsTrue (is_in sets x y) → IsTrue (is_in sets y z) → IsTrue (is_in sets x z)
+
 -- the tables agree with the pairs, and no sort is below itself
 pub record IsTable (t : Inside) : Type 0 where
   pub chains : (a b : ℕ) → is_in t.above.items a b ≡ is_below (pairs_of t) a b

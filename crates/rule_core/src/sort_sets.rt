@@ -1,7 +1,7 @@
 // Sets of sorts, one for each sort. A set is a list of words of 64 bits: bit s % 64 of the word s / 64 says whether it
 // has the sort with the number s. What is past its end it does not have.
 ghost use Rattle.std.specs.Prelude.{ℕ, ◌≡◌, ◌<◌, ◌≤◌, ◌/◌, ◌==◌, ◌||◌, ◌&&◌, length, vec_len, OnOk, OnErr, IfOk, IsTrue};
-ghost use Rattle.rule_core.specs.SubsortFields.{word_at, has, set_at, is_in, reaches};
+ghost use Rattle.rule_core.specs.SubsortFields.{word_at, has, set_at, is_in, reaches, IsClosed};
 
 use std::alloc::{AllocError, Global};
 use term_core::SortId;
@@ -63,11 +63,16 @@ fn insert(set: &mut Vec<u64>, b: SortId)
     set[b.0 as usize / 64] |= 1 << (b.0 % 64);
 }
 
-// Adds the second sort, and the sorts of its set, to the set of the first and to each set that has the first.
+// Adds the second sort, and the sorts of its set, to the set of the first and to each set that has the first. It leaves
+// a set alone that has the second already, since that has all above it too.
 pub(crate) fn join(alloc: Global, rows: &mut Vec<Vec<u64>>, a: SortId, b: SortId) -> Result<(), AllocError>
+    requires { IsClosed rows.old.items }
     ensures same { OnErr result ((x y : ℕ) → is_in rows.new.items x y ≡ is_in rows.old.items x y) }
     ensures joined { OnOk result ((x y : ℕ) → is_in rows.new.items x y ≡ (is_in rows.old.items x y || (reaches rows.old.items x a.0 && (b.0 == y || is_in rows.old.items b.0 y)))) }
 {
+    if is_in(rows, a, b) {
+        return Ok(());
+    }
     grow(alloc, rows, a)?;
     let more = with_sort(alloc, set_of(rows, b), b)?;
     widen(rows, a, more.len())?;

@@ -6,7 +6,7 @@ use Rattle.std.proofs.lemmas.List.{map-append}
 use Rattle.rule_core.specs.Subsorts.{IsBelow, HasNoCycle, is_below}
 use Rattle.rule_core.specs.SubsortFields.{sort_pairs, pairs_of, has, is_in}
 use Rattle.rule_core.proofs.Belows.{no_cycle_more, cycle_same, cycle_back}
-use Rattle.rule_core.proofs.SortSets.{chains_more, single_more, table_same}
+use Rattle.rule_core.proofs.SortSets.{chains_closed, chains_more, single_more, table_same}
 use Rattle.rule_core.proofs.subsorts.Subsorts.add.Goals as goal
 use Rattle.rule_core.proofs.subsorts.Subsorts.add.Goals.{then-eq-via-then-eq, then-eq-via-else-eq+then-below}
 
@@ -47,3 +47,6 @@ invariant_of-self-2 c =
 
 pub invariant_of-self-in_err-join : goal.invariant_of-self-in_err-join
 invariant_of-self-in_err-join c = table_same c.self.inside _ (search rules) c.in_err-join.ensures.same c.grow.ensures.same c.self.invariant
+
+pub join-requires : goal.join-requires
+join-requires c = chains_closed (pairs_of c.self.inside) _ c.self.invariant.chains
