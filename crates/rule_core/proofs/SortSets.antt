@@ -4,7 +4,7 @@ use Rattle.std.proofs.Math.ListN.{set, get_or}
 use Rattle.std.specs.Prelude.{Vec, IsTrue, ◌==◌, ◌||◌, ◌&&◌}
 use Rattle.std.proofs.lemmas.Bool.{false≢true, eqb-true}
 use Rattle.rule_core.specs.Subsorts.{HasNoCycle, is_below}
-use Rattle.rule_core.proofs.Belows.{IsBelow-trans, is_below-true, true-is_below, both_true, either_true, true_left, true_right, contains_later, contains_cases, first_last, last_first, below_last}
+use Rattle.rule_core.proofs.Belows.{IsBelow-trans, is_below-true, true-is_below, either_true, true_left, true_right, contains_later, contains_cases, first_last, last_first, below_last}
 use Rattle.std.specs.Global.{Global}
 use Rattle.rule_core.specs.SubsortFields.{sort_pairs, pairs_of, has, set_at, is_in, reaches, IsClosed, IsTable}
 use Rattle.rule_core.specs.declared.subsorts.Subsorts.TheInside.{Inside}
@@ -69,9 +69,12 @@ pub is_in_same : (sets : List (Vec ℕ Global)) (x : ℕ) (new : Vec ℕ Global)
 is_in_same sets x new lt same =
     is_in_set sets x new (λ z y known. known ≡ is_in sets z y) lt same (λ z y n. refl)
 
-or_false : (b : Bool) → (b || false) ≡ b
-or_false true = refl
-or_false false = refl
+-- what holds already where two others do is no more with them
+nothing_if : (u v w : Bool) → (IsTrue v → IsTrue w → IsTrue u) → u ≡ (u || (v && w))
+nothing_if true v w h = refl
+nothing_if false false w h = refl
+nothing_if false true false h = refl
+nothing_if false true true h = h refl refl
 
 same_reaches : (sets init : List (Vec ℕ Global)) (x a : ℕ) → is_in sets x a ≡ is_in init x a → reaches init x a ≡ reaches sets x a
 same_reaches sets init x a same = ap (λ b. (x == a) || b) (sym same)
@@ -121,40 +124,40 @@ merged_next sets new init x a more same leads gets others before z y lt = by_cas
   by_case (inl e) = subst Wanted (sym e) here
   by_case (inr n) = ap (λ s. has s y) (others z n) ∙ before z y (below n)
 
--- .. or where it gets none
-pub merged_still : (sets init : List (Vec ℕ Global)) (x a : ℕ) (more : List ℕ) → set_at sets x ≡ set_at init x → reaches sets x a ≡ false
+pub known_before : (sets init : List (Vec ℕ Global)) (x a b : ℕ) → set_at sets x ≡ set_at init x → (IsTrue (reaches sets x a) → IsTrue (is_in sets x b)) → IsTrue (reaches init x a) → IsTrue (is_in init x b)
+known_before sets init x a b same known leads =
+    ap (λ s. has s b) (sym same) ∙ known (sym (same_reaches sets init x a (ap (λ s. has s a) same)) ∙ leads)
+
+-- .. or where it gets nothing new
+pub merged_still : (sets init : List (Vec ℕ Global)) (x a : ℕ) (more : List ℕ) → set_at sets x ≡ set_at init x
+    → ((y : ℕ) → IsTrue (reaches init x a) → IsTrue (has more y) → IsTrue (is_in init x y))
     → ((z y : ℕ) → z < x → is_in sets z y ≡ (is_in init z y || (reaches init z a && has more y)))
     → (z y : ℕ) → z < x + 1 → is_in sets z y ≡ (is_in init z y || (reaches init z a && has more y))
-merged_still sets init x a more same not before z y lt = by_case (same_or_not z x) where
+merged_still sets init x a more same known before z y lt = by_case (same_or_not z x) where
   Wanted : ℕ → Type 0
   Wanted n = is_in sets n y ≡ (is_in init n y || (reaches init n a && has more y))
-
-  here : Wanted x
-  here = rw (same_reaches sets init x a (ap (λ s. has s a) same), not) (ap (λ s. has s y) same ∙ sym (or_false _))
 
   below : z ≢ x → z < x
   below n = omega (arith, lt, n)
 
   by_case : either z x → Wanted z
-  by_case (inl e) = subst Wanted (sym e) here
+  by_case (inl e) = subst Wanted (sym e) (ap (λ s. has s y) same ∙ nothing_if _ _ _ (known y))
   by_case (inr n) = before z y (below n)
 
 -- a set that has b gets nothing new with b and what its set has
-pub nothing_new : (sets : List (Vec ℕ Global)) (x a b y : ℕ) → IsClosed sets → IsTrue (is_in sets a b) → is_in sets x y ≡ (is_in sets x y || (reaches sets x a && (b == y || is_in sets b y)))
-nothing_new sets x a b y closed known = unless (reaches sets x a && (b == y || is_in sets b y)) refl where
-  above : IsTrue (is_in sets x b) → ((b == y) ≡ true) ⊎ (is_in sets b y ≡ true) → is_in sets x y ≡ true
-  above leads (inl t) = let P : ℕ → Type 0 = λ n. is_in sets x n ≡ true in subst P (eqb-true b y t) leads
-  above leads (inr t) = closed x b y leads t
+pub nothing_new : (sets : List (Vec ℕ Global)) (x b y : ℕ) → IsClosed sets → IsTrue (is_in sets x b) → IsTrue (b == y || is_in sets b y) → IsTrue (is_in sets x y)
+nothing_new sets x b y closed leads more = by_case (either_true _ _ more) where
+  by_case : ((b == y) ≡ true) ⊎ (is_in sets b y ≡ true) → is_in sets x y ≡ true
+  by_case (inl t) = let P : ℕ → Type 0 = λ n. is_in sets x n ≡ true in subst P (eqb-true b y t) leads
+  by_case (inr t) = closed x b y leads t
 
+-- .. and a set that leads to one that has b has it
+pub joined_already : (sets : List (Vec ℕ Global)) (a b : ℕ) → IsClosed sets → IsTrue (is_in sets a b)
+    → (x y : ℕ) → is_in sets x y ≡ (is_in sets x y || (reaches sets x a && (b == y || is_in sets b y)))
+joined_already sets a b closed known x y = nothing_if _ _ _ (λ leads. nothing_new sets x b y closed (below (either_true _ _ leads))) where
   below : ((x == a) ≡ true) ⊎ (is_in sets x a ≡ true) → is_in sets x b ≡ true
   below (inl t) = let P : ℕ → Type 0 = λ n. is_in sets n b ≡ true in subst P (sym (eqb-true x a t)) known
   below (inr t) = closed x a b t known
-
-  unless : (t : Bool) → (reaches sets x a && (b == y || is_in sets b y)) ≡ t → is_in sets x y ≡ (is_in sets x y || t)
-  unless false e = sym (or_false _)
-  unless true e =
-      let halves = both_true _ _ e in
-      let has : is_in sets x y ≡ true = above (below (either_true _ _ halves.0)) (either_true _ _ halves.1) in rw has refl
 
 -- the sets have got b and what its set has, where they lead to a
 pub joined_from : (init sets merged : List (Vec ℕ Global)) (a b : ℕ) (more : List ℕ) → ((x y : ℕ) → is_in sets x y ≡ is_in init x y)
@@ -183,8 +186,8 @@ table_same t u pairs above direct table =
     record {
       chains = λ x y. above x y ∙ table.chains x y ∙ ap (λ (ps : List (ℕ × ℕ)). is_below ps x y) (sym kept);
       single = λ x y.
-      let P : List (ℕ × ℕ) → Type 0 = λ ps. Contains ps (x, y) in
-      (λ yes. subst P (sym kept) ((table.single x y).0 (sym (direct x y) ∙ yes)), λ there. direct x y ∙ (table.single x y).1 (subst P kept there));
+          let P : List (ℕ × ℕ) → Type 0 = λ ps. Contains ps (x, y) in
+          (λ yes. subst P (sym kept) ((table.single x y).0 (sym (direct x y) ∙ yes)), λ there. direct x y ∙ (table.single x y).1 (subst P kept there));
       no_cycle = subst HasNoCycle (sym kept) table.no_cycle;
     }
 

@@ -1,6 +1,6 @@
 // Sets of sorts, one for each sort. A set is a list of words of 64 bits: bit s % 64 of the word s / 64 says whether it
 // has the sort with the number s. What is past its end it does not have.
-ghost use Rattle.std.specs.Prelude.{ℕ, ◌≡◌, ◌<◌, ◌≤◌, ◌/◌, ◌==◌, ◌||◌, ◌&&◌, length, vec_len, OnOk, OnErr, IfOk, IsTrue};
+ghost use Rattle.std.specs.Prelude.{ℕ, ◌≡◌, ◌<◌, ◌≤◌, ◌/◌, ◌==◌, ◌||◌, ◌&&◌, length, vec_len, false, OnOk, OnErr, IfOk, IsTrue};
 ghost use Rattle.rule_core.specs.SubsortFields.{word_at, has, set_at, is_in, reaches, IsClosed};
 
 use std::alloc::{AllocError, Global};
@@ -65,7 +65,12 @@ fn insert(set: &mut Vec<u64>, b: SortId)
 
 // Adds the second sort, and the sorts of its set, to the set of the first and to each set that has the first. It leaves
 // a set alone that has the second already, since that has all above it too.
-pub(crate) fn join(alloc: Global, rows: &mut Vec<Vec<u64>>, a: SortId, b: SortId) -> Result<(), AllocError>
+pub(crate) fn join(
+    alloc: Global,
+    rows: &mut Vec<Vec<u64>>,
+    a: SortId,
+    b: SortId,
+) -> Result<(), AllocError>
     requires { IsClosed rows.old.items }
     ensures same { OnErr result ((x y : ℕ) → is_in rows.new.items x y ≡ is_in rows.old.items x y) }
     ensures joined { OnOk result ((x y : ℕ) → is_in rows.new.items x y ≡ (is_in rows.old.items x y || (reaches rows.old.items x a.0 && (b.0 == y || is_in rows.old.items b.0 y)))) }
@@ -76,7 +81,7 @@ pub(crate) fn join(alloc: Global, rows: &mut Vec<Vec<u64>>, a: SortId, b: SortId
     grow(alloc, rows, a)?;
     let more = with_sort(alloc, set_of(rows, b), b)?;
     widen(rows, a, more.len())?;
-    merge(rows, a, &more);
+    merge(rows, a, b, &more);
     Ok(())
 }
 
@@ -94,15 +99,16 @@ fn widen(rows: &mut Vec<Vec<u64>>, a: SortId, len: usize) -> Result<(), AllocErr
     Ok(())
 }
 
-// Adds these sorts to the set of the sort and to each set that has it.
-fn merge(rows: &mut Vec<Vec<u64>>, a: SortId, more: &[u64])
+// Adds these sorts to the set of the sort a and to each set that has it. A set that has b has them all.
+fn merge(rows: &mut Vec<Vec<u64>>, a: SortId, b: SortId, more: &[u64])
     requires there { a.0 < vec_len rows.old }
     requires long { (x : ℕ) → x < vec_len rows.old → IsTrue (reaches rows.old.items x a.0) → length more.now ≤ length (set_at rows.old.items x) }
+    requires known { (x y : ℕ) → IsTrue (is_in rows.old.items x b.0) → IsTrue (has more.now y) → IsTrue (is_in rows.old.items x y) }
     ensures { (x y : ℕ) → is_in rows.new.items x y ≡ (is_in rows.old.items x y || (reaches rows.old.items x a.0 && has more.now y)) }
 {
     let from = first_word(more);
     for x in 0..rows.len() {
-        if leads(rows, x, a) {
+        if gets(rows, x, a, b) {
             include(&mut rows[x], more, from);
         }
     }
@@ -118,6 +124,15 @@ fn first_word(set: &[u64]) -> usize
         }
     }
     set.len()
+}
+
+// Whether the sort with the number x is a, or its set has a, and its set does not have b.
+fn gets(rows: &[Vec<u64>], x: usize, a: SortId, b: SortId) -> bool
+    requires { x < length rows.now }
+    ensures leads { IsTrue result → IsTrue (reaches rows.now x a.0) }
+    ensures known { result ≡ false → IsTrue (reaches rows.now x a.0) → IsTrue (is_in rows.now x b.0) }
+{
+    leads(rows, x, a) && !has(&rows[x], b)
 }
 
 // Whether the sort with the number x is the other, or its set has it.
@@ -146,6 +161,8 @@ fn include(set: &mut Vec<u64>, more: &[u64], from: usize)
     ensures { (y : ℕ) → has set.new.items y ≡ (has set.old.items y || has more.now y) }
 {
     for k in from..more.len() {
-        set[k] |= more[k];
+        if more[k] != 0 {
+            set[k] |= more[k];
+        }
     }
 }

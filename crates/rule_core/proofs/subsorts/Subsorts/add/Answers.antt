@@ -3,7 +3,7 @@ use Rattle.std.proofs.lemmas.Grind.{common_steps}
 use Rattle.std.specs.Prelude.{IsTrue, ◌||◌, ◌==◌}
 use Rattle.std.proofs.lemmas.Bool.{false≢true}
 use Rattle.std.proofs.lemmas.List.{map-append}
-use Rattle.rule_core.specs.Subsorts.{IsBelow, HasNoCycle, is_below}
+use Rattle.rule_core.specs.Subsorts.{IsBelow, HasNoCycle}
 use Rattle.rule_core.specs.SubsortFields.{sort_pairs, pairs_of, has, is_in}
 use Rattle.rule_core.proofs.Belows.{no_cycle_more, cycle_same, cycle_back}
 use Rattle.rule_core.proofs.SortSets.{chains_closed, chains_more, single_more, table_same}
