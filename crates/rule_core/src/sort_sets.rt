@@ -161,8 +161,6 @@ fn include(set: &mut Vec<u64>, more: &[u64], from: usize)
     ensures { (y : ℕ) → has set.new.items y ≡ (has set.old.items y || has more.now y) }
 {
     for k in from..more.len() {
-        if more[k] != 0 {
-            set[k] |= more[k];
-        }
+        set[k] |= more[k];
     }
 }

@@ -1,8 +1,9 @@
-use Rattle.std.proofs.Common.{◌≡◌, ◌≤◌, ◌<◌, ℕ, List, length, get_or, sym, ◌∙◌, ap, subst, below_more, eq-eqb, arith}
+use Rattle.std.proofs.Common.{rules, ◌≡◌, ◌≤◌, ◌<◌, ℕ, List, length, get_or, sym, ◌∙◌, ap, subst, below_more, eq-eqb, arith}
 use Rattle.std.proofs.lemmas.Grind.{common_steps}
 use Rattle.std.proofs.lemmas.Bool.{false≢true}
 use Rattle.std.proofs.lemmas.List.{length-map}
-use Rattle.rule_core.proofs.Paths.{Leads, some_leads, entry_seen}
+use Rattle.rule_core.specs.SubsortFields.{sort_pairs, pairs_of}
+use Rattle.rule_core.proofs.Paths.{Leads, Reaches, some_leads, entry_seen}
 use Rattle.rule_core.proofs.subsorts.Subsorts.next_towards.Goals as goal
 use Rattle.rule_core.proofs.subsorts.Subsorts.next_towards.Goals.{else-eq-via-then-eq+else-reaches, else-eq-via-else-eq}
 
