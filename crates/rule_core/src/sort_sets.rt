@@ -154,7 +154,7 @@ fn lengthen(set: &mut Vec<u64>, len: usize) -> Result<(), AllocError>
     Ok(())
 }
 
-// Adds the sorts of the one set to the other. The words of the one have no sort before the index from.
+// Adds the sorts of more to the set. The words of more before the index from have none.
 fn include(set: &mut Vec<u64>, more: &[u64], from: usize)
     requires room { length more.now ≤ length set.old.items }
     requires none { (k : ℕ) → k < from → word_at more.now k ≡ 0 }

@@ -12,8 +12,8 @@ use term_core::SortId;
 /// order in which they were added. No sort is below itself.
 ///
 /// Beside the pairs it keeps for each sort the set of those above it, and the set of those that a pair puts right above
-/// it, a bit for each sort up to the greatest in the set. So a look-up takes one step, and the sets of 10,000 sorts take
-/// at most some 40 MB, with the room in which they grow.
+/// it, a bit for each sort up to the greatest in the set. So a look-up takes one step, and the sets of 10,000 sorts
+/// take at most some 40 MB, with the room in which they grow.
 #[derive(Drop)]
 pub struct Subsorts {
     pairs: Vec<(SortId, SortId)>,
@@ -117,10 +117,10 @@ impl Subsorts {
     /// Adds a pair and answers true. Where a sort would then be below itself, it answers false and changes nothing.
     /// `AllocError` says that memory was wanting, and then no pair is added either.
     ///
-    /// Where the first sort is below the second already, only the set right above the first is made anew. Else it looks
-    /// at a few entries of each set, and a set that gets new sorts takes a step for each 64 sorts from the first new one
-    /// to the last. So the pairs of a chain of 10,000 sorts, in order, reversed or shuffled, cost some hundred million
-    /// steps in all.
+    /// Where the first sort is below the second already, only the set right above the first is made anew. Else it
+    /// looks at a few entries of each set, and a set that gets new sorts takes a step for each 64 numbers from the
+    /// first new sort to the greatest. So the pairs of a chain of 10,000 sorts, in order, reversed or shuffled, cost
+    /// some hundred million steps in all.
     pub fn add(&mut self, alloc: Global, a: SortId, b: SortId) -> Result<bool, AllocError>
         ensures fresh { IfOk result (λ added. IsTrue added ↔ HasNoCycle (self.old ++ (a.0, b.0) ∷ [])) }
         ensures pairs { IfOk result (λ added. self.new ≡ (if added then self.old ++ (a.0, b.0) ∷ [] else self.old)) }
