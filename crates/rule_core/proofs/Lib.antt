@@ -1,4 +1,5 @@
 pub mod SortSets
+pub mod SortWords
 pub mod Tables
 pub mod Belows
 pub mod Paths

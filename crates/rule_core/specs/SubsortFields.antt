@@ -1,6 +1,7 @@
 -- The pairs that are kept, and the tables beside them.
-use Rattle.std.specs.Prelude.{◌≡◌, ◌↔◌, ◌==◌, ◌||◌, ℕ, Bool, false, IsTrue, List, Vec, [], map, Contains, slice_index_or}
+use Rattle.std.specs.Prelude.{◌≡◌, ◌↔◌, ◌==◌, ◌||◌, ◌/◌, ◌%◌, ℕ, Bool, IsTrue, List, Vec, [], map, Contains, slice_index_or}
 use Rattle.std.specs.Global.{Global}
+use Rattle.std.specs.Int.{bit_at}
 use Rattle.term_core.specs.declared.ids.SortId.{SortId}
 use Rattle.rule_core.specs.Subsorts.{HasNoCycle, is_below}
 use Rattle.rule_core.specs.declared.subsorts.Subsorts.TheInside.{Inside}
@@ -12,21 +13,29 @@ sort_pairs pairs = map (λ (p : SortId × SortId). (p.0.0, p.1.0)) pairs
 abbrev pub pairs_of : Inside → List (ℕ × ℕ)
 pairs_of a = sort_pairs a.pairs.items
 
--- the set has the sort with this number
-abbrev pub has : List Bool → ℕ → Bool
-has set s = slice_index_or set s false
+-- the word of a set with this index, which is 0 past its end
+abbrev pub word_at : List ℕ → ℕ → ℕ
+word_at set k = slice_index_or set k 0
+
+-- the set has the sort with this number, by a bit of one of its words
+abbrev pub has : List ℕ → ℕ → Bool
+has set s = bit_at (word_at set (s / 64)) (s % 64) == 1
 
 -- the set of the sort with this number
-abbrev pub set_at : List (Vec Bool Global) → ℕ → List Bool
-set_at sets a = slice_index_or (map (λ (set : Vec Bool Global). set.items) sets) a []
+abbrev pub set_at : List (Vec ℕ Global) → ℕ → List ℕ
+set_at sets a = slice_index_or (map (λ (set : Vec ℕ Global). set.items) sets) a []
 
 -- the set of the first sort has the second
-abbrev pub is_in : List (Vec Bool Global) → ℕ → ℕ → Bool
+abbrev pub is_in : List (Vec ℕ Global) → ℕ → ℕ → Bool
 is_in sets a b = has (set_at sets a) b
 
 -- the sort is a, or its set has a
-abbrev pub reaches : List (Vec Bool Global) → ℕ → ℕ → Bool
+abbrev pub reaches : List (Vec ℕ Global) → ℕ → ℕ → Bool
 reaches sets x a = x == a || is_in sets x a
+
+-- a set has what the sets of its sorts have
+abbrev pub IsClosed : List (Vec ℕ Global) → Type 0
+IsClosed sets = (x y z : ℕ) → IsTrue (is_in sets x y) → IsTrue (is_in sets y z) → IsTrue (is_in sets x z)
 
 -- the tables agree with the pairs, and no sort is below itself
 pub record IsTable (t : Inside) : Type 0 where

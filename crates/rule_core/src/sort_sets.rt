@@ -1,13 +1,13 @@
-// Sets of sorts, one for each sort. An entry of a set says whether it has the sort with that number, and what is past
-// its end it does not have.
-ghost use Rattle.std.specs.Prelude.{ℕ, ◌≡◌, ◌<◌, ◌≤◌, ◌==◌, ◌||◌, ◌&&◌, length, vec_len, OnOk, IfOk, IsTrue};
-ghost use Rattle.rule_core.specs.SubsortFields.{has, set_at, is_in, reaches};
+// Sets of sorts, one for each sort. A set is a list of words of 64 bits: bit s % 64 of the word s / 64 says whether it
+// has the sort with the number s. What is past its end it does not have.
+ghost use Rattle.std.specs.Prelude.{ℕ, ◌≡◌, ◌<◌, ◌≤◌, ◌/◌, ◌==◌, ◌||◌, ◌&&◌, length, vec_len, false, OnOk, OnErr, IfOk, IsTrue};
+ghost use Rattle.rule_core.specs.SubsortFields.{word_at, has, set_at, is_in, reaches, IsClosed};
 
 use std::alloc::{AllocError, Global};
 use term_core::SortId;
 
 // The set of this sort.
-pub(crate) fn set_of(rows: &[Vec<bool>], a: SortId) -> &[bool]
+pub(crate) fn set_of(rows: &[Vec<u64>], a: SortId) -> &[u64]
     ensures { (b : ℕ) → has result.now b ≡ is_in rows.now a.0 b }
 {
     match rows.get(a.0 as usize) {
@@ -17,18 +17,25 @@ pub(crate) fn set_of(rows: &[Vec<bool>], a: SortId) -> &[bool]
 }
 
 // Whether the set of the first sort has the second.
-pub(crate) fn is_in(rows: &[Vec<bool>], a: SortId, b: SortId) -> bool
+pub(crate) fn is_in(rows: &[Vec<u64>], a: SortId, b: SortId) -> bool
     ensures { result ≡ is_in rows.now a.0 b.0 }
 {
-    match set_of(rows, a).get(b.0 as usize) {
+    has(set_of(rows, a), b)
+}
+
+// Whether the set has the sort.
+fn has(set: &[u64], b: SortId) -> bool
+    ensures { result ≡ has set.now b.0 }
+{
+    match set.get(b.0 as usize / 64) {
         None => false,
-        Some(known) => *known,
+        Some(word) => (*word >> (b.0 % 64)) & 1 == 1,
     }
 }
 
 // Makes sure that there is a set for this sort.
 #[tactic(auto, using(crate::proofs::SortSets::set_at_push))]
-pub(crate) fn grow(alloc: Global, rows: &mut Vec<Vec<bool>>, a: SortId) -> Result<(), AllocError>
+pub(crate) fn grow(alloc: Global, rows: &mut Vec<Vec<u64>>, a: SortId) -> Result<(), AllocError>
     ensures same { (x y : ℕ) → is_in rows.new.items x y ≡ is_in rows.old.items x y }
     ensures there { OnOk result (a.0 < vec_len rows.new) }
 {
@@ -39,20 +46,47 @@ pub(crate) fn grow(alloc: Global, rows: &mut Vec<Vec<bool>>, a: SortId) -> Resul
 }
 
 // The set with one sort more.
-pub(crate) fn with_sort(alloc: Global, set: &[bool], b: SortId) -> Result<Vec<bool>, AllocError>
+pub(crate) fn with_sort(alloc: Global, set: &[u64], b: SortId) -> Result<Vec<u64>, AllocError>
     ensures { IfOk result (λ more. (y : ℕ) → has more.items y ≡ (b.0 == y || has set.now y)) }
 {
     let mut more = set.to_vec(alloc)?;
-    let number = b.0 as usize;
-    if more.len() <= number {
-        more.resize(number + 1, false)?;
-    }
-    more[number] = true;
+    lengthen(&mut more, b.0 as usize / 64 + 1)?;
+    insert(&mut more, b);
     Ok(more)
 }
 
-// Makes the set of the sort, and each set that has it, at least so long.
-pub(crate) fn widen(rows: &mut Vec<Vec<bool>>, a: SortId, len: usize) -> Result<(), AllocError>
+// Adds the sort to the set.
+fn insert(set: &mut Vec<u64>, b: SortId)
+    requires { b.0 / 64 < length set.old.items }
+    ensures { (y : ℕ) → has set.new.items y ≡ (b.0 == y || has set.old.items y) }
+{
+    set[b.0 as usize / 64] |= 1 << (b.0 % 64);
+}
+
+// Adds the second sort, and the sorts of its set, to the set of the first and to each set that has the first. It leaves
+// a set alone that has the second already, since that has all above it too.
+pub(crate) fn join(
+    alloc: Global,
+    rows: &mut Vec<Vec<u64>>,
+    a: SortId,
+    b: SortId,
+) -> Result<(), AllocError>
+    requires { IsClosed rows.old.items }
+    ensures same { OnErr result ((x y : ℕ) → is_in rows.new.items x y ≡ is_in rows.old.items x y) }
+    ensures joined { OnOk result ((x y : ℕ) → is_in rows.new.items x y ≡ (is_in rows.old.items x y || (reaches rows.old.items x a.0 && (b.0 == y || is_in rows.old.items b.0 y)))) }
+{
+    if is_in(rows, a, b) {
+        return Ok(());
+    }
+    grow(alloc, rows, a)?;
+    let more = with_sort(alloc, set_of(rows, b), b)?;
+    widen(rows, a, more.len())?;
+    merge(rows, a, b, &more);
+    Ok(())
+}
+
+// Makes the set of the sort, and each set that has it, at least so long, in words.
+fn widen(rows: &mut Vec<Vec<u64>>, a: SortId, len: usize) -> Result<(), AllocError>
     ensures same { (x y : ℕ) → is_in rows.new.items x y ≡ is_in rows.old.items x y }
     ensures count { vec_len rows.new ≡ vec_len rows.old }
     ensures long { OnOk result ((x : ℕ) → x < vec_len rows.new → IsTrue (reaches rows.old.items x a.0) → len ≤ length (set_at rows.new.items x)) }
@@ -65,51 +99,68 @@ pub(crate) fn widen(rows: &mut Vec<Vec<bool>>, a: SortId, len: usize) -> Result<
     Ok(())
 }
 
-// Adds these sorts to the set of the sort and to each set that has it.
-pub(crate) fn merge(rows: &mut Vec<Vec<bool>>, a: SortId, more: &[bool])
+// Adds these sorts to the set of the sort a and to each set that has it. A set that has b has them all.
+fn merge(rows: &mut Vec<Vec<u64>>, a: SortId, b: SortId, more: &[u64])
     requires there { a.0 < vec_len rows.old }
     requires long { (x : ℕ) → x < vec_len rows.old → IsTrue (reaches rows.old.items x a.0) → length more.now ≤ length (set_at rows.old.items x) }
+    requires known { (x y : ℕ) → IsTrue (is_in rows.old.items x b.0) → IsTrue (has more.now y) → IsTrue (is_in rows.old.items x y) }
     ensures { (x y : ℕ) → is_in rows.new.items x y ≡ (is_in rows.old.items x y || (reaches rows.old.items x a.0 && has more.now y)) }
 {
+    let from = first_word(more);
     for x in 0..rows.len() {
-        if leads(rows, x, a) {
-            include(&mut rows[x], more);
+        if gets(rows, x, a, b) {
+            include(&mut rows[x], more, from);
         }
     }
 }
 
+// The index of the first word that has a sort, or the length where none has one.
+fn first_word(set: &[u64]) -> usize
+    ensures { (k : ℕ) → k < result → word_at set.now k ≡ 0 }
+{
+    for (i, word) in set.iter().enumerate() {
+        if *word != 0 {
+            return i;
+        }
+    }
+    set.len()
+}
+
+// Whether the sort with the number x is a, or its set has a, and its set does not have b.
+fn gets(rows: &[Vec<u64>], x: usize, a: SortId, b: SortId) -> bool
+    requires { x < length rows.now }
+    ensures leads { IsTrue result → IsTrue (reaches rows.now x a.0) }
+    ensures known { result ≡ false → IsTrue (reaches rows.now x a.0) → IsTrue (is_in rows.now x b.0) }
+{
+    leads(rows, x, a) && !has(&rows[x], b)
+}
+
 // Whether the sort with the number x is the other, or its set has it.
-fn leads(rows: &[Vec<bool>], x: usize, a: SortId) -> bool
+fn leads(rows: &[Vec<u64>], x: usize, a: SortId) -> bool
     requires { x < length rows.now }
     ensures { result ≡ reaches rows.now x a.0 }
 {
-    let number = a.0 as usize;
-    x == number
-        || match rows[x].get(number) {
-            None => false,
-            Some(known) => *known,
-        }
+    x == a.0 as usize || has(&rows[x], a)
 }
 
-// Makes the set at least so long.
-fn lengthen(set: &mut Vec<bool>, len: usize) -> Result<(), AllocError>
+// Makes the set at least so long, in words.
+fn lengthen(set: &mut Vec<u64>, len: usize) -> Result<(), AllocError>
     ensures same { (y : ℕ) → has set.new.items y ≡ has set.old.items y }
     ensures long { OnOk result (len ≤ length set.new.items) }
 {
     if set.len() < len {
-        set.resize(len, false)?;
+        set.resize(len, 0)?;
     }
     Ok(())
 }
 
-// Adds the sorts of the one set to the other.
-fn include(set: &mut Vec<bool>, more: &[bool])
-    requires { length more.now ≤ length set.old.items }
+// Adds the sorts of more to the set. The words of more before the index from have none.
+fn include(set: &mut Vec<u64>, more: &[u64], from: usize)
+    requires room { length more.now ≤ length set.old.items }
+    requires none { (k : ℕ) → k < from → word_at more.now k ≡ 0 }
     ensures { (y : ℕ) → has set.new.items y ≡ (has set.old.items y || has more.now y) }
 {
-    for y in 0..more.len() {
-        if more[y] {
-            set[y] = true;
-        }
+    for k in from..more.len() {
+        set[k] |= more[k];
     }
 }

@@ -3,10 +3,10 @@ use Rattle.std.proofs.lemmas.Grind.{common_steps}
 use Rattle.std.specs.Prelude.{IsTrue, ◌||◌, ◌==◌}
 use Rattle.std.proofs.lemmas.Bool.{false≢true}
 use Rattle.std.proofs.lemmas.List.{map-append}
-use Rattle.rule_core.specs.Subsorts.{IsBelow, HasNoCycle, is_below}
+use Rattle.rule_core.specs.Subsorts.{IsBelow, HasNoCycle}
 use Rattle.rule_core.specs.SubsortFields.{sort_pairs, pairs_of, has, is_in}
 use Rattle.rule_core.proofs.Belows.{no_cycle_more, cycle_same, cycle_back}
-use Rattle.rule_core.proofs.SortSets.{chains_more, single_more}
+use Rattle.rule_core.proofs.SortSets.{chains_closed, chains_more, single_more, table_same}
 use Rattle.rule_core.proofs.subsorts.Subsorts.add.Goals as goal
 use Rattle.rule_core.proofs.subsorts.Subsorts.add.Goals.{then-eq-via-then-eq, then-eq-via-else-eq+then-below}
 
@@ -33,18 +33,20 @@ invariant_of-self-2 c =
     let apart : (c.args.a.0 == c.args.b.0) ≡ false = search rules in
     let not : c.below.result ≡ false = search rules in
     let P : List (ℕ × ℕ) → Type 0 = λ pairs. IsBelow pairs c.args.b.0 c.args.a.0 in
-    let sets : (x y : ℕ) → is_in c.widen.new.rows.items x y ≡ is_below (pairs_of c.self.inside) x y = λ x y. c.widen.ensures.same x y ∙ c.grow-2.ensures.same x y ∙ c.self.invariant.chains x y in
-    let upper : (y : ℕ) → has c.deref-3.result.now y ≡ (c.args.b.0 == y || is_in c.widen.new.rows.items c.args.b.0 y) = λ y.
-    ap (λ s. has s y) c.deref-3.ensures.value ∙ c.in_ok-above.ensures y
-    ∙ ap (λ t. c.args.b.0 == y || t) (c.set_of-2.ensures y ∙ ap (λ l. is_in l c.args.b.0 y) c.deref-2.ensures.value ∙ sym (c.widen.ensures.same c.args.b.0 y)) in
     let inside : c.args.a.0 < length c.grow.new.rows.items = grind (arith, common_steps) in
     let direct : (x y : ℕ) → IsTrue (is_in c.grow.new.rows.items x y) ↔ Contains (pairs_of c.self.inside) (x, y) = λ x y.
     (λ t. (c.self.invariant.single x y).0 (sym (c.grow.ensures.same x y) ∙ t), λ there. c.grow.ensures.same x y ∙ (c.self.invariant.single x y).1 there) in
     let gets : (y : ℕ) → has c.in_ok-right_above.right_above.items y ≡ (c.args.b.0 == y || is_in c.grow.new.rows.items c.args.a.0 y) = λ y.
     c.in_ok-right_above.ensures y ∙ ap (λ t. c.args.b.0 == y || t) (c.set_of.ensures y ∙ ap (λ l. is_in l c.args.a.0 y) c.deref.ensures.value) in
     record {
-      chains = rw grown (chains_more (pairs_of c.self.inside) c.args.a.0 c.args.b.0 c.widen.new.rows.items _ c.deref-3.result.now sets upper c.merge.ensures);
+      chains = rw grown (chains_more (pairs_of c.self.inside) c.args.a.0 c.args.b.0 c.self.inside.above.items _ c.self.invariant.chains c.in_ok-join.ensures.joined);
       single = rw grown (single_more (pairs_of c.self.inside) c.args.a.0 c.args.b.0 c.grow.new.rows.items c.in_ok-right_above.right_above inside direct gets);
       no_cycle = rw grown (no_cycle_more _ c.args.a.0 c.args.b.0 c.self.invariant.no_cycle
           (λ same. false≢true (sym apart ∙ eq-eqb _ _ same)) (λ back. false≢true (sym not ∙ c.below.ensures.1 (subst P c.self.view_is back))));
     }
+
+pub invariant_of-self-in_err-join : goal.invariant_of-self-in_err-join
+invariant_of-self-in_err-join c = table_same c.self.inside _ (search rules) c.in_err-join.ensures.same c.grow.ensures.same c.self.invariant
+
+pub join-requires : goal.join-requires
+join-requires c = chains_closed (pairs_of c.self.inside) _ c.self.invariant.chains
