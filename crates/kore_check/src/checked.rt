@@ -23,8 +23,7 @@ use term_core::{RulePat, SortId};
 /// Its variables stand behind those that were there, numbered by name and sort at their first occurrence. After a fault
 /// the variables are as before.
 ///
-/// It takes a time linear in the pattern, up to a logarithm of the numbers of sorts and symbols, and a look at the
-/// variables for each occurrence of one.
+/// It takes a time linear in the pattern, up to a logarithm of the numbers of sorts, symbols and variables.
 pub fn check_pattern(
     alloc: Global,
     sig: &Signature,

@@ -2,6 +2,8 @@
 #![tactic(auto)]
 
 mod build;
+#[cfg(test)]
+mod build_tests;
 mod check;
 mod checked;
 mod faults;
