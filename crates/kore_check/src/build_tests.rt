@@ -122,7 +122,7 @@ fn builds_a_pattern(rt: HostRuntime) -> Result<(), Fail> {
     let pat = sample(alloc)?;
     let mut first = None;
     note_pattern(&sig, &pat, &mut first);
-    if first.is_some() {
+    if let Some(_fault) = first {
         return Err("a fault".into());
     }
     let mut vars = Variables::new(alloc);
