@@ -1,9 +1,7 @@
 -- What rule patterns are built of.
 use Rattle.std.proofs.Common.{◌≡◌, ◌≤◌, ◌<◌, inl, inr, ℕ, zero, suc, ◌+◌, Bool, true, false, List, [], ◌∷◌, ◌++◌, length, map, drop, take, reverse, get_or, Option, Some, None, option_map, slice_get, append_assoc, append-nil, eq-eqb, refl, sym, ◌∙◌, ap, subst, arith}
 use Rattle.std.specs.Prelude.{is_some, ◌&&◌, ◌==◌}
-use Rattle.std.proofs.lemmas.List.{map-append, reverse-append, length-map}
-use Rattle.std.specs.Prelude.{string_bytes}
-use Rattle.rule_core.specs.declared.rules.VarInfo.{VarInfo}
+use Rattle.std.proofs.lemmas.List.{map-append, reverse-append}
 use Rattle.std.specs.Option.{option_and_then}
 use Rattle.std.specs.List.{position_from}
 use Rattle.std.specs.Str.{bytes_eq}
@@ -39,7 +37,7 @@ use Rattle.rule_core.specs.declared.signature.SymKind.{SymKind}
 use Rattle.rule_core.proofs.Belows.{true_both}
 use Rattle.kore_sig.specs.SortReferences.{sort_number}
 use Rattle.kore_check.specs.PatternSorts.{sort_kind, symbol_named, symbol_info, sort_numbers, number_then, places_of}
-use Rattle.kore_check.specs.PatternMeanings.{named_sorts, variable_number, injected_only, applied_pattern, with_variables, with_all_variables, IsNamed, Means, by_variable, by_value, by_symbol, AllMean, none_mean, more_mean}
+use Rattle.kore_check.specs.PatternMeanings.{variable_number, injected_only, applied_pattern, with_variables, with_all_variables, IsNamed, Means, by_variable, by_value, by_symbol, AllMean, none_mean, more_mean}
 use Rattle.kore_check.specs.Building.{Extends, MeansFrom, AllMeanFrom, IsFaultless, AreFaultless, pair_pattern, left_behind, left_pattern, right_pattern, Built, AllBuilt, IsHead}
 use Rattle.kore_check.proofs.SortLaws.{number-within, sort_numbers-length}
 
@@ -483,14 +481,7 @@ take-front : {X : Type 0} (xs ys : List X) → take (length xs) (xs ++ ys) ≡ x
 take-front [] ys = refl
 take-front (x ∷ xs) ys = ap (λ (zs : List _). x ∷ zs) (take-front xs ys)
 
-take-named : (xs : List VarInfo) (n : ℕ) → named_sorts (take n xs) ≡ take n (named_sorts xs)
-take-named [] zero = refl
-take-named [] (suc n) = refl
-take-named (x ∷ xs) zero = refl
-take-named (x ∷ xs) (suc n) = ap (λ (zs : List (List ℕ × ℕ)). (string_bytes x.name, x.sort.0) ∷ zs) (take-named xs n)
-
 -- variables that were added are taken away again
-pub variables-truncated : (old new : List VarInfo) (n : ℕ) → n ≡ length old → Extends (named_sorts old) (named_sorts new) → named_sorts (take n new) ≡ named_sorts old
+pub variables-truncated : (old new : List (List ℕ × ℕ)) (n : ℕ) → n ≡ length old → Extends old new → take n new ≡ old
 variables-truncated old new n count (behind, is) =
-    let many : n ≡ length (named_sorts old) = count ∙ sym (length-map _ _) in
-    take-named new n ∙ ap (λ (k : ℕ). take k (named_sorts new)) many ∙ ap (λ (vs : List (List ℕ × ℕ)). take (length (named_sorts old)) vs) is ∙ take-front (named_sorts old) behind
+    ap (λ (k : ℕ). take k new) count ∙ ap (λ (vs : List (List ℕ × ℕ)). take (length old) vs) is ∙ take-front old behind

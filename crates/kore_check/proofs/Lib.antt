@@ -10,6 +10,7 @@ pub mod FoldLaws
 pub mod FoldChecks
 pub mod HeightLaws
 pub mod BuildLaws
+pub mod VariableLaws
 pub mod BuildSteps
 pub mod CheckLaws
 pub mod SortedLaws

@@ -12,3 +12,5 @@ pub mod Notes
 pub mod FoldFaults
 pub mod FoldHeights
 pub mod Building
+pub mod VariableKeys
+pub mod VariableFields

@@ -7,15 +7,15 @@ ghost use Rattle.term_core.specs.PatternLists.{plain_patterns};
 ghost use Rattle.rule_core.specs.WellSorted.{IsSignature};
 ghost use Rattle.kore_check.specs.Folds.{named_variable, written_value, unfolded, all_unfolded, inner_fold, only_of};
 ghost use Rattle.kore_check.specs.PatternSorts.{sort_numbers};
-ghost use Rattle.kore_check.specs.PatternMeanings.{named_sorts, applied_pattern, injected_only};
+ghost use Rattle.kore_check.specs.PatternMeanings.{applied_pattern, injected_only};
 ghost use Rattle.kore_sig.specs.Signatures.{IsNumbered};
 ghost use Rattle.kore_check.specs.Building.{Built, AllBuilt, Extends, IsHead, left_pattern, right_pattern};
 
+use crate::Variables;
 use crate::sorts::declared_sort;
 use crate::values::{kind_of, value_in};
-use crate::variables::number_or_add;
 use kore_ast::{Pat, PatForm, Sort, Text};
-use rule_core::{Signature, SymKind, VarInfo};
+use rule_core::{Signature, SymKind};
 use std::alloc::{AllocError, Global};
 use term_core::{RulePat, SortId, SymId};
 
@@ -108,16 +108,16 @@ fn build_variable(
     sig: &Signature,
     name: &Text,
     sort: &Sort,
-    vars: &mut Vec<VarInfo>,
+    vars: &mut Variables,
 ) -> Result<Option<RulePat>, AllocError>
     requires { IsNumbered sig.now }
-    ensures built { IfOk result (λ found. (at : ℕ) → Built sig.now (named_sorts vars.old.items) (named_sorts vars.new.items) (named_variable at name.now (plain_sort sort.now)) found) }
-    ensures grows { Extends (named_sorts vars.old.items) (named_sorts vars.new.items) }
+    ensures built { IfOk result (λ found. (at : ℕ) → Built sig.now vars.old vars.new (named_variable at name.now (plain_sort sort.now)) found) }
+    ensures grows { Extends vars.old vars.new }
 {
     let Some(sort) = declared_sort(sig, sort) else {
         return Ok(None);
     };
-    let number = number_or_add(alloc, vars, name, sort)?;
+    let number = vars.number_or_add(alloc, name.as_str(), sort)?;
     Ok(Some(RulePat::Var(number)))
 }
 
@@ -149,12 +149,12 @@ pub(crate) fn build(
     alloc: Global,
     sig: &Signature,
     pat: &Pat,
-    vars: &mut Vec<VarInfo>,
+    vars: &mut Variables,
 ) -> Result<Option<RulePat>, AllocError>
     requires numbered { IsNumbered sig.now }
     requires signature { IsSignature sig.now }
-    ensures built { IfOk result (Built sig.now (named_sorts vars.old.items) (named_sorts vars.new.items) (unfolded (plain_tree pat.now))) }
-    ensures grows { Extends (named_sorts vars.old.items) (named_sorts vars.new.items) }
+    ensures built { IfOk result (Built sig.now vars.old vars.new (unfolded (plain_tree pat.now))) }
+    ensures grows { Extends vars.old vars.new }
 {
     match &pat.form {
         PatForm::Elem(name, sort) => build_variable(alloc, sig, name, sort, vars),
@@ -181,12 +181,12 @@ fn build_all(
     args: &[Pat],
     alloc: Global,
     sig: &Signature,
-    vars: &mut Vec<VarInfo>,
+    vars: &mut Variables,
 ) -> Result<Option<Vec<RulePat>>, AllocError>
     requires numbered { IsNumbered sig.now }
     requires signature { IsSignature sig.now }
-    ensures built { IfOk result (AllBuilt sig.now (named_sorts vars.old.items) (named_sorts vars.new.items) (all_unfolded (pattern_trees (map plain_tree args.now)))) }
-    ensures grows { Extends (named_sorts vars.old.items) (named_sorts vars.new.items) }
+    ensures built { IfOk result (AllBuilt sig.now vars.old vars.new (all_unfolded (pattern_trees (map plain_tree args.now)))) }
+    ensures grows { Extends vars.old vars.new }
 {
     let mut pats = Vec::with_capacity(alloc, args.len())?;
     for i in 0..args.len() {
@@ -205,12 +205,12 @@ fn build_fold(
     alloc: Global,
     sig: &Signature,
     left: bool,
-    vars: &mut Vec<VarInfo>,
+    vars: &mut Variables,
 ) -> Result<Option<RulePat>, AllocError>
     requires numbered { IsNumbered sig.now }
     requires signature { IsSignature sig.now }
-    ensures built { IfOk result (Built sig.now (named_sorts vars.old.items) (named_sorts vars.new.items) (inner_fold left (plain_tree inner.now))) }
-    ensures grows { Extends (named_sorts vars.old.items) (named_sorts vars.new.items) }
+    ensures built { IfOk result (Built sig.now vars.old vars.new (inner_fold left (plain_tree inner.now))) }
+    ensures grows { Extends vars.old vars.new }
 {
     match &inner.form {
         PatForm::App(name, sorts, args) => {
@@ -241,12 +241,12 @@ fn build_only(
     args: &[Pat],
     alloc: Global,
     sig: &Signature,
-    vars: &mut Vec<VarInfo>,
+    vars: &mut Variables,
 ) -> Result<Option<RulePat>, AllocError>
     requires numbered { IsNumbered sig.now }
     requires signature { IsSignature sig.now }
-    ensures built { IfOk result (λ found. (at : ℕ) → Built sig.now (named_sorts vars.old.items) (named_sorts vars.new.items) (only_of at (all_unfolded (pattern_trees (map plain_tree args.now)))) found) }
-    ensures grows { Extends (named_sorts vars.old.items) (named_sorts vars.new.items) }
+    ensures built { IfOk result (λ found. (at : ℕ) → Built sig.now vars.old vars.new (only_of at (all_unfolded (pattern_trees (map plain_tree args.now)))) found) }
+    ensures grows { Extends vars.old vars.new }
 {
     if args.len() != 1 {
         return Ok(None);

@@ -9,13 +9,13 @@ ghost use Rattle.kore_check.specs.SortedMeanings.{variable_sorts};
 ghost use Rattle.kore_check.specs.Folds.{unfolded, IsApplicative};
 ghost use Rattle.kore_check.specs.PatternSorts.{sort_of};
 ghost use Rattle.kore_check.specs.PatternFaults.{pattern_faults, all_faults};
-ghost use Rattle.kore_check.specs.PatternMeanings.{named_sorts, with_variables, Means};
+ghost use Rattle.kore_check.specs.PatternMeanings.{with_variables, Means};
 ghost use Rattle.kore_check.specs.FaultNumbers.{IsRefusal};
 
 use crate::build::build;
-use crate::{CheckFault, note_pattern};
+use crate::{CheckFault, Variables, note_pattern};
 use kore_ast::Pat;
-use rule_core::{Signature, VarInfo};
+use rule_core::Signature;
 use std::alloc::{AllocError, Global};
 use term_core::{RulePat, SortId};
 
@@ -23,24 +23,23 @@ use term_core::{RulePat, SortId};
 /// Its variables stand behind those that were there, numbered by name and sort at their first occurrence. After a fault
 /// the variables are as before.
 ///
-/// It takes a time linear in the pattern, up to a logarithm of the numbers of sorts and symbols, and a look at the
-/// variables for each occurrence of one.
+/// It takes a time linear in the pattern, up to a logarithm of the numbers of sorts, symbols and variables.
 pub fn check_pattern(
     alloc: Global,
     sig: &Signature,
     pat: &Pat,
-    vars: &mut Vec<VarInfo>,
+    vars: &mut Variables,
 ) -> Result<(RulePat, SortId), CheckFault>
     requires numbered { IsNumbered sig.now }
     requires signature { IsSignature sig.now }
     requires form { IsApplicative (unfolded (plain_tree pat.now)) }
     ensures faultless { OnOk result (all_faults sig.now (unfolded (plain_tree pat.now)) ≡ []) }
     ensures sort { IfOk result (λ r. sort_of sig.now (unfolded (plain_tree pat.now)) ≡ Some r.1.0) }
-    ensures vars { OnOk result (named_sorts vars.new.items ≡ with_variables sig.now (named_sorts vars.old.items) (unfolded (plain_tree pat.now))) }
-    ensures means { IfOk result (λ r. Means sig.now (named_sorts vars.new.items) (unfolded (plain_tree pat.now)) (plain_pattern r.0)) }
-    ensures sorted { IfOk result (λ r. HasSort sig.now (variable_sorts (named_sorts vars.new.items)) (plain_pattern r.0) r.1.0) }
+    ensures vars { OnOk result (vars.new ≡ with_variables sig.now vars.old (unfolded (plain_tree pat.now))) }
+    ensures means { IfOk result (λ r. Means sig.now vars.new (unfolded (plain_tree pat.now)) (plain_pattern r.0)) }
+    ensures sorted { IfOk result (λ r. HasSort sig.now (variable_sorts vars.new) (plain_pattern r.0) r.1.0) }
     ensures refused { IfErr result (IsRefusal (all_faults sig.now (unfolded (plain_tree pat.now)))) }
-    ensures err { OnErr result (named_sorts vars.new.items ≡ named_sorts vars.old.items) }
+    ensures err { OnErr result (vars.new ≡ vars.old) }
 {
     let mut first = None;
     let sort = note_pattern(sig, pat, &mut first);
@@ -58,15 +57,15 @@ pub fn build_pattern(
     alloc: Global,
     sig: &Signature,
     pat: &Pat,
-    vars: &mut Vec<VarInfo>,
+    vars: &mut Variables,
 ) -> Result<RulePat, AllocError>
     requires numbered { IsNumbered sig.now }
     requires signature { IsSignature sig.now }
     requires form { IsApplicative (unfolded (plain_tree pat.now)) }
     requires faultless { pattern_faults sig.now (unfolded (plain_tree pat.now)) ≡ [] }
-    ensures vars { OnOk result (named_sorts vars.new.items ≡ with_variables sig.now (named_sorts vars.old.items) (unfolded (plain_tree pat.now))) }
-    ensures means { IfOk result (λ p. Means sig.now (named_sorts vars.new.items) (unfolded (plain_tree pat.now)) (plain_pattern p)) }
-    ensures err { OnErr result (named_sorts vars.new.items ≡ named_sorts vars.old.items) }
+    ensures vars { OnOk result (vars.new ≡ with_variables sig.now vars.old (unfolded (plain_tree pat.now))) }
+    ensures means { IfOk result (λ p. Means sig.now vars.new (unfolded (plain_tree pat.now)) (plain_pattern p)) }
+    ensures err { OnErr result (vars.new ≡ vars.old) }
 {
     let before = vars.len();
     match build(alloc, sig, pat, vars) {

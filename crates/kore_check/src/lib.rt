@@ -2,6 +2,8 @@
 #![tactic(auto)]
 
 mod build;
+#[cfg(test)]
+mod build_tests;
 mod check;
 mod checked;
 mod faults;
@@ -20,3 +22,4 @@ pub use checked::{build_pattern, check_pattern};
 pub use faults::{CheckFault, FaultKind, PatternFault};
 pub use laws::sort_laws;
 pub use patterns::{note_clash, note_pattern, note_sort};
+pub use variables::Variables;

@@ -1,7 +1,12 @@
 // Patterns over a small definition, with the fault that is expected of each.
+ghost use Rattle.std.specs.Prelude.{IfOk};
+ghost use Rattle.rule_core.specs.WellSorted.{IsSignature};
+ghost use Rattle.kore_sig.specs.Signatures.{IsNumbered};
+
 use crate::note_pattern;
 use kore_ast::{read_definition, read_pattern};
 use kore_sig::signature;
+use rule_core::Signature;
 use std::alloc::Global;
 use std::process::Abort;
 use std::test::Fail;
@@ -23,16 +28,25 @@ module M
 endmodule []
 "#;
 
+// The signature of the definition.
+pub(crate) fn small_signature(rt: &impl Abort, alloc: Global) -> Result<Signature, Fail>
+    ensures numbered { IfOk result IsNumbered }
+    ensures signature { IfOk result IsSignature }
+{
+    let bytes = DEFINITION.as_bytes();
+    assert!(rt; bytes.len() < 10_000);
+    let definition = read_definition(alloc, bytes)?;
+    let sig = signature(alloc, &definition)?;
+    Ok(sig)
+}
+
 // The number and the byte of the fault of each pattern.
 fn expect_faults(
     rt: &impl Abort,
     alloc: Global,
     rows: &[(&str, Option<(u8, u32)>)],
 ) -> Result<(), Fail> {
-    let bytes = DEFINITION.as_bytes();
-    assert!(rt; bytes.len() < 10_000);
-    let definition = read_definition(alloc, bytes)?;
-    let sig = signature(alloc, &definition)?;
+    let sig = small_signature(rt, alloc)?;
     for (text, expected) in rows {
         let bytes = text.as_bytes();
         assert!(rt; bytes.len() < 10_000);

@@ -1,45 +1,156 @@
 // The variables of a rule or of an equation, numbered by name and sort.
-ghost use Rattle.std.specs.Prelude.{◌≡◌, ◌++◌, ◌∷◌, [], ℕ, List, IfOk, OnOk, OnErr, option_map, Some};
+ghost use Rattle.std.specs.Prelude.{◌≡◌, ◌-◌, ◌++◌, ◌∷◌, [], length, take, IfOk, OnOk, OnErr, Some, None};
 ghost use Rattle.kore_check.specs.PatternMeanings.{named_sorts, variable_number, with_variable};
-ghost use Rattle.kore_check.specs.Building.{Extends};
+ghost use Rattle.kore_check.specs.VariableKeys.{key_cmp, key_cmp_total, key_cmp-below, key_of};
 
-use kore_ast::Text;
 use rule_core::VarInfo;
 use std::alloc::{AllocError, Global};
+use std::cmp::Ordering;
+use std::collections::BTreeMap;
+use std::collections::btree_map::Comparable;
+use std::marker::Model;
 use term_core::SortId;
 
-// The number of the variable with this name and this sort.
-fn number_of(vars: &[VarInfo], name: &Text, sort: SortId) -> Option<usize>
-    ensures { result ≡ variable_number (named_sorts vars.now) name.now sort.0 }
-{
-    for i in 0..vars.len() {
-        let var = &vars[i];
-        if name.as_str() == var.name.as_str() && sort == var.sort {
-            return Some(i);
-        }
-    }
-    None
+/// Variables in the order of their first occurrence, which gives them their numbers, from 0 on. No name stands twice
+/// with one sort. Contracts see them as the list of their names, each beside the number of its sort.
+#[derive(Drop)]
+pub struct Variables {
+    infos: Vec<VarInfo>,
+    numbers: BTreeMap<(String, u32), u32>,
 }
 
-// The number of the variable with this name and this sort, which is added where it is not there. A number past 32 bits
-// counts as want of memory, which so many variables would not fit into.
-pub(crate) fn number_or_add(
-    alloc: Global,
-    vars: &mut Vec<VarInfo>,
-    name: &Text,
-    sort: SortId,
-) -> Result<u32, AllocError>
-    ensures vars { OnOk result (named_sorts vars.new.items ≡ with_variable (named_sorts vars.old.items) name.now (Some sort.0)) }
-    ensures number { IfOk result (λ x. variable_number (named_sorts vars.new.items) name.now sort.0 ≡ Some x) }
-    ensures grows { Extends (named_sorts vars.old.items) (named_sorts vars.new.items) }
-{
-    if let Some(number) = number_of(vars, name, sort) {
-        return as_number(number);
+impl Model for Variables {
+    ghost use Rattle.std.specs.Prelude.{ℕ, List};
+
+    ghost Value = { List (List ℕ × ℕ) };
+
+    ghost use Rattle.kore_check.specs.VariableFields.{variables_of, IsIndexed};
+
+    ghost view = { variables_of };
+
+    ghost invariant = { IsIndexed };
+}
+
+// A name and a sort that are looked for.
+#[derive(Clone, Copy)]
+struct Wanted<'a> {
+    name: &'a str,
+    sort: u32,
+}
+
+impl Comparable<(String, u32)> for Wanted<'_> {
+    ghost compare = { λ q k. key_cmp (q.name.now, q.sort) (key_of k) };
+
+    ghost respects_cmp = { λ q x y. key_cmp_total.congr (q.name.now, q.sort) (key_of x) (key_of y) };
+
+    ghost below_greater = { λ q x y. key_cmp-below (q.name.now, q.sort) (key_of x) (key_of y) };
+
+    fn compare(&self, key: &(String, u32)) -> Ordering {
+        self.name.cmp(key.0.as_str()).then(self.sort.cmp(&key.1))
     }
-    let number = as_number(vars.len())?;
-    let name = String::from_str(alloc, name.as_str())?;
-    vars.push(VarInfo { name, sort })?;
-    Ok(number)
+}
+
+impl Variables {
+    /// No variables. It takes no memory yet.
+    pub fn new(alloc: Global) -> Self
+        ensures { result ≡ [] }
+    {
+        Variables {
+            infos: Vec::new(alloc),
+            numbers: BTreeMap::new(alloc),
+        }
+    }
+
+    /// How many variables there are.
+    pub fn len(&self) -> usize
+        ensures { result ≡ length self.now }
+    {
+        self.infos.len()
+    }
+
+    /// The variables, by their numbers.
+    pub fn infos(&self) -> &[VarInfo]
+        ensures { named_sorts result.now ≡ self.now }
+    {
+        &self.infos
+    }
+
+    /// The variables, by their numbers.
+    pub fn into_infos(self) -> Vec<VarInfo>
+        ensures { named_sorts result.items ≡ self }
+    {
+        self.infos
+    }
+
+    /// The number of the variable with this name and this sort: none exactly where it is not there. It compares the
+    /// name with as many others as the logarithm of the number of variables, up to a factor.
+    pub fn number(&self, name: &str, sort: SortId) -> Option<u32>
+        ensures { result ≡ variable_number self.now name.now sort.0 }
+    {
+        let wanted = Wanted { name, sort: sort.0 };
+        self.numbers.get(wanted).copied()
+    }
+
+    /// The number of the variable with this name and this sort, which is added behind the others where it is not there.
+    /// A number past 32 bits counts as want of memory, which so many variables would not fit into. After `AllocError`
+    /// the variables are as before. It costs what `number` does, and two copies of the name of a new variable.
+    pub fn number_or_add(
+        &mut self,
+        alloc: Global,
+        name: &str,
+        sort: SortId,
+    ) -> Result<u32, AllocError>
+        ensures vars { OnOk result (self.new ≡ with_variable self.old name.now (Some sort.0)) }
+        ensures number { IfOk result (λ x. variable_number self.new name.now sort.0 ≡ Some x) }
+        ensures err { OnErr result (self.new ≡ self.old) }
+    {
+        if let Some(number) = self.number(name, sort) {
+            return Ok(number);
+        }
+        self.add(alloc, name, sort)
+    }
+
+    // Adds a variable that is not there, and answers its number.
+    fn add(&mut self, alloc: Global, name: &str, sort: SortId) -> Result<u32, AllocError>
+        requires { variable_number self.old name.now sort.0 ≡ None }
+        ensures vars { OnOk result (self.new ≡ self.old ++ (name.now, sort.0) ∷ []) }
+        ensures number { IfOk result (λ x. variable_number self.new name.now sort.0 ≡ Some x) }
+        ensures err { OnErr result (self.new ≡ self.old) }
+    {
+        let number = as_number(self.infos.len())?;
+        let info = VarInfo {
+            name: String::from_str(alloc, name)?,
+            sort,
+        };
+        let key = (String::from_str(alloc, name)?, sort.0);
+        self.infos.reserve(1)?;
+        self.numbers.insert(key, number)?;
+        self.infos.push(info).unwrap();
+        Ok(number)
+    }
+
+    // Takes the last variable away.
+    fn remove_last(&mut self)
+        ensures { self.new ≡ take (length self.old - 1) self.old }
+    {
+        let Some(info) = self.infos.pop() else {
+            return;
+        };
+        let wanted = Wanted {
+            name: info.name.as_str(),
+            sort: info.sort.0,
+        };
+        self.numbers.remove(wanted);
+    }
+
+    /// Keeps so many of the first variables: all of them where there are no more. It looks up each one that it removes.
+    pub fn truncate(&mut self, len: usize)
+        ensures { self.new ≡ take len self.old }
+    {
+        while self.infos.len() > len {
+            self.remove_last();
+        }
+    }
 }
 
 // A number of 32 bits.

@@ -3,7 +3,7 @@ use Rattle.kore_ast.specs.Plain.{plain_sort}
 use Rattle.term_core.specs.Patterns.{Pattern, patterns}
 use Rattle.term_core.specs.RulePatterns.{plain_pattern}
 use Rattle.term_core.specs.declared.rule_patterns.RulePat.{RulePat}
-use Rattle.kore_check.specs.PatternMeanings.{named_sorts, AllMean}
+use Rattle.kore_check.specs.PatternMeanings.{AllMean}
 use Rattle.kore_check.specs.Building.{Built, AllBuilt, IsHead, Extends}
 use Rattle.kore_check.proofs.Applications.{reads}
 use Rattle.kore_check.proofs.BuildLaws.{extends-trans, all-more}
@@ -12,8 +12,8 @@ use Rattle.kore_check.proofs.build.+build.Goals as goal
 
 pub build-returns-in_default-clause-built : goal.build-returns-in_default-clause-built
 build-returns-in_default-clause-built t c =
-    app_no_arguments c.args.sig.now c.args.pat.now c.in-App.name c.in-App.sorts c.in-App.args c.deref.result.now (named_sorts c.args.vars.now.items) (named_sorts c.build_all.new.vars.items) c.in-App.is c.deref.ensures.value
-    (subst (AllBuilt c.args.sig.now (named_sorts c.args.vars.now.items) (named_sorts c.build_all.new.vars.items) (reads c.deref.result.now)) c.in_default.is c.in_ok-args-in-App.ensures.built)
+    app_no_arguments c.args.sig.now c.args.pat.now c.in-App.name c.in-App.sorts c.in-App.args c.deref.result.now c.args.vars.now c.build_all.new.vars c.in-App.is c.deref.ensures.value
+    (subst (AllBuilt c.args.sig.now c.args.vars.now c.build_all.new.vars (reads c.deref.result.now)) c.in_default.is c.in_ok-args-in-App.ensures.built)
 
 pub build-returns-in_default-2-clause-built : goal.build-returns-in_default-2-clause-built
 build-returns-in_default-2-clause-built t c =
@@ -30,9 +30,9 @@ build-returns-in-Value-clause-built t c =
 
 pub build-returns-in-Some-2-clause-built : goal.build-returns-in-Some-2-clause-built
 build-returns-in-Some-2-clause-built t c =
-    app_built c.args.sig.now c.args.pat.now c.in-App.name c.in-App.sorts c.in-App.args c.deref-in-App.result.now c.deref.result.now (named_sorts c.args.vars.now.items) (named_sorts c.build_all.new.vars.items) c.in-Some-2.head c.in-Some.args c.applied.result c.requires.signature c.in-App.is c.deref-in-App.ensures.value c.deref.ensures.value
+    app_built c.args.sig.now c.args.pat.now c.in-App.name c.in-App.sorts c.in-App.args c.deref-in-App.result.now c.deref.result.now c.args.vars.now c.build_all.new.vars c.in-Some-2.head c.in-Some.args c.applied.result c.requires.signature c.in-App.is c.deref-in-App.ensures.value c.deref.ensures.value
     (subst (IsHead c.args.sig.now c.in-App.name (map plain_sort c.deref-in-App.result.now)) c.in-Some-2.is c.in_ok-head-in-App.ensures)
-    (subst (AllBuilt c.args.sig.now (named_sorts c.args.vars.now.items) (named_sorts c.build_all.new.vars.items) (reads c.deref.result.now)) c.in-Some.is c.in_ok-args-in-App.ensures.built)
+    (subst (AllBuilt c.args.sig.now c.args.vars.now c.build_all.new.vars (reads c.deref.result.now)) c.in-Some.is c.in_ok-args-in-App.ensures.built)
     c.applied.ensures
 
 pub build-returns-in-Fold-clause-built : goal.build-returns-in-Fold-clause-built
@@ -41,20 +41,20 @@ build-returns-in-Fold-clause-built t c =
 
 pub build_all-loop-i-preserved : goal.build_all-loop-i-preserved
 build_all-loop-i-preserved t c =
-    let built : Built c.args.sig.now (named_sorts c.loop-i.vars.items) (named_sorts c.build.new.vars.items) _ (Some c.in-Some.pat) = subst (Built c.args.sig.now (named_sorts c.loop-i.vars.items) (named_sorts c.build.new.vars.items) _) c.in-Some.is c.in_ok-pat.ensures.built in
+    let built : Built c.args.sig.now c.loop-i.vars c.build.new.vars _ (Some c.in-Some.pat) = subst (Built c.args.sig.now c.loop-i.vars c.build.new.vars _) c.in-Some.is c.in_ok-pat.ensures.built in
     let pushed : c.push.new.self.items ≡ c.loop-i.pats.items ++ c.in-Some.pat ∷ [] = search rules in
-    let means : (more : List (List ℕ × ℕ)) (qs : List Pattern) → Extends (named_sorts c.build.new.vars.items) more → AllMean c.args.sig.now more (reads (drop (c.loop-i.i + 1) c.args.args.now)) (patterns qs) → AllMean c.args.sig.now more (reads c.args.args.now) (patterns (map plain_pattern (c.loop-i.pats.items ++ c.in-Some.pat ∷ []) ++ qs)) =
-    all-more c.args.sig.now (named_sorts c.args.vars.now.items) (named_sorts c.loop-i.vars.items) (named_sorts c.build.new.vars.items) c.args.args.now c.loop-i.i c.index-args-i.result c.loop-i.pats.items c.in-Some.pat c.loop-i-test.true c.index-args-i.is c.build.ensures.grows built.1 c.loop-i.invariant.means in
+    let means : (more : List (List ℕ × ℕ)) (qs : List Pattern) → Extends c.build.new.vars more → AllMean c.args.sig.now more (reads (drop (c.loop-i.i + 1) c.args.args.now)) (patterns qs) → AllMean c.args.sig.now more (reads c.args.args.now) (patterns (map plain_pattern (c.loop-i.pats.items ++ c.in-Some.pat ∷ []) ++ qs)) =
+    all-more c.args.sig.now c.args.vars.now c.loop-i.vars c.build.new.vars c.args.args.now c.loop-i.i c.index-args-i.result c.loop-i.pats.items c.in-Some.pat c.loop-i-test.true c.index-args-i.is c.build.ensures.grows built.1 c.loop-i.invariant.means in
     record {
-      grows = extends-trans (named_sorts c.args.vars.now.items) (named_sorts c.loop-i.vars.items) (named_sorts c.build.new.vars.items) c.loop-i.invariant.grows c.build.ensures.grows;
+      grows = extends-trans c.args.vars.now c.loop-i.vars c.build.new.vars c.loop-i.invariant.grows c.build.ensures.grows;
       good = λ g. (good-more c.args.sig.now c.args.args.now c.loop-i.i c.index-args-i.result c.loop-i-test.true c.index-args-i.is c.loop-i.invariant.good g).1;
-      vars = variables-more c.args.sig.now c.args.args.now c.loop-i.i c.index-args-i.result (named_sorts c.loop-i.vars.items) (named_sorts c.build.new.vars.items) _ c.loop-i-test.true c.index-args-i.is built.0 c.loop-i.invariant.vars;
+      vars = variables-more c.args.sig.now c.args.args.now c.loop-i.i c.index-args-i.result c.loop-i.vars c.build.new.vars _ c.loop-i-test.true c.index-args-i.is built.0 c.loop-i.invariant.vars;
       means = λ more qs ext rest. subst (λ (ps : List RulePat). AllMean c.args.sig.now more (reads c.args.args.now) (patterns (map plain_pattern ps ++ qs))) (sym pushed) (means more qs ext rest);
     }
 
 pub build_all-returns-clause-built : goal.build_all-returns-clause-built
 build_all-returns-clause-built t c =
-    all_done c.args.sig.now c.args.args.now c.loop-i.i (named_sorts c.args.vars.now.items) (named_sorts c.loop-i.vars.items) c.loop-i.pats c.loop-i-test.false c.loop-i.invariant.vars c.loop-i.invariant.means
+    all_done c.args.sig.now c.args.args.now c.loop-i.i c.args.vars.now c.loop-i.vars c.loop-i.pats c.loop-i-test.false c.loop-i.invariant.vars c.loop-i.invariant.means
 
 pub build_only-returns-then-args-ne1-clause-built : goal.build_only-returns-then-args-ne1-clause-built
 build_only-returns-then-args-ne1-clause-built t c = λ at good. only_none c.args.sig.now at c.args.args.now c.if-args-ne1.true good
@@ -65,8 +65,8 @@ build_fold-returns-then-len-lt2-clause-built t c =
 
 pub build_fold-returns-in_default-clause-built : goal.build_fold-returns-in_default-clause-built
 build_fold-returns-in_default-clause-built t c =
-    fold_no_arguments c.args.sig.now c.args.left c.args.inner.now c.in-App.name c.in-App.sorts c.in-App.args c.deref-in-App.result.now (named_sorts c.args.vars.now.items) (named_sorts c.build_all.new.vars.items) c.in-App.is c.deref-in-App.ensures.value (omega (arith, c.len.ensures, c.if-len-lt2.false))
-    (subst (AllBuilt c.args.sig.now (named_sorts c.args.vars.now.items) (named_sorts c.build_all.new.vars.items) (reads c.deref-in-App.result.now)) c.in_default.is c.in_ok-args-in-App.ensures.built)
+    fold_no_arguments c.args.sig.now c.args.left c.args.inner.now c.in-App.name c.in-App.sorts c.in-App.args c.deref-in-App.result.now c.args.vars.now c.build_all.new.vars c.in-App.is c.deref-in-App.ensures.value (omega (arith, c.len.ensures, c.if-len-lt2.false))
+    (subst (AllBuilt c.args.sig.now c.args.vars.now c.build_all.new.vars (reads c.deref-in-App.result.now)) c.in_default.is c.in_ok-args-in-App.ensures.built)
 
 pub build_fold-returns-in_default-2-clause-built : goal.build_fold-returns-in_default-2-clause-built
 build_fold-returns-in_default-2-clause-built t c =
@@ -75,16 +75,16 @@ build_fold-returns-in_default-2-clause-built t c =
 
 pub build_fold-returns-then-left-clause-built : goal.build_fold-returns-then-left-clause-built
 build_fold-returns-then-left-clause-built t c =
-    fold_ready c.args.sig.now c.args.left true c.args.inner.now c.in-App.name c.in-App.sorts c.in-App.args c.deref-in-App-2.result.now c.deref-in-App.result.now (named_sorts c.args.vars.now.items) (named_sorts c.build_all.new.vars.items) c.in-Some-2.head c.in-Some.args c.folded_left.result c.requires.signature c.if-left.true c.in-App.is c.deref-in-App-2.ensures.value c.deref-in-App.ensures.value (omega (arith, c.len.ensures, c.if-len-lt2.false))
+    fold_ready c.args.sig.now c.args.left true c.args.inner.now c.in-App.name c.in-App.sorts c.in-App.args c.deref-in-App-2.result.now c.deref-in-App.result.now c.args.vars.now c.build_all.new.vars c.in-Some-2.head c.in-Some.args c.folded_left.result c.requires.signature c.if-left.true c.in-App.is c.deref-in-App-2.ensures.value c.deref-in-App.ensures.value (omega (arith, c.len.ensures, c.if-len-lt2.false))
     (subst (IsHead c.args.sig.now c.in-App.name (map plain_sort c.deref-in-App-2.result.now)) c.in-Some-2.is c.in_ok-head-in-App.ensures)
-    (subst (AllBuilt c.args.sig.now (named_sorts c.args.vars.now.items) (named_sorts c.build_all.new.vars.items) (reads c.deref-in-App.result.now)) c.in-Some.is c.in_ok-args-in-App.ensures.built)
+    (subst (AllBuilt c.args.sig.now c.args.vars.now c.build_all.new.vars (reads c.deref-in-App.result.now)) c.in-Some.is c.in_ok-args-in-App.ensures.built)
     c.folded_left.ensures
 
 pub build_fold-returns-in-App-clause-built : goal.build_fold-returns-in-App-clause-built
 build_fold-returns-in-App-clause-built t c =
-    fold_ready c.args.sig.now c.args.left false c.args.inner.now c.in-App.name c.in-App.sorts c.in-App.args c.deref-in-App-2.result.now c.deref-in-App.result.now (named_sorts c.args.vars.now.items) (named_sorts c.build_all.new.vars.items) c.in-Some-2.head c.in-Some.args c.folded_right.result c.requires.signature c.if-left.false c.in-App.is c.deref-in-App-2.ensures.value c.deref-in-App.ensures.value (omega (arith, c.len.ensures, c.if-len-lt2.false))
+    fold_ready c.args.sig.now c.args.left false c.args.inner.now c.in-App.name c.in-App.sorts c.in-App.args c.deref-in-App-2.result.now c.deref-in-App.result.now c.args.vars.now c.build_all.new.vars c.in-Some-2.head c.in-Some.args c.folded_right.result c.requires.signature c.if-left.false c.in-App.is c.deref-in-App-2.ensures.value c.deref-in-App.ensures.value (omega (arith, c.len.ensures, c.if-len-lt2.false))
     (subst (IsHead c.args.sig.now c.in-App.name (map plain_sort c.deref-in-App-2.result.now)) c.in-Some-2.is c.in_ok-head-in-App.ensures)
-    (subst (AllBuilt c.args.sig.now (named_sorts c.args.vars.now.items) (named_sorts c.build_all.new.vars.items) (reads c.deref-in-App.result.now)) c.in-Some.is c.in_ok-args-in-App.ensures.built)
+    (subst (AllBuilt c.args.sig.now c.args.vars.now c.build_all.new.vars (reads c.deref-in-App.result.now)) c.in-Some.is c.in_ok-args-in-App.ensures.built)
     c.folded_right.ensures
 
 pub build_fold-returns-in-Built-clause-built : goal.build_fold-returns-in-Built-clause-built

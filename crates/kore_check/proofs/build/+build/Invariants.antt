@@ -1,15 +1,15 @@
 use Rattle.std.proofs.Common.{◌≡◌, ◌++◌, drop, map, List, ℕ}
 use Rattle.term_core.specs.Patterns.{Pattern, patterns}
 use Rattle.term_core.specs.RulePatterns.{plain_pattern}
-use Rattle.kore_check.specs.PatternMeanings.{named_sorts, AllMean, with_all_variables}
+use Rattle.kore_check.specs.PatternMeanings.{AllMean, with_all_variables}
 use Rattle.kore_check.specs.Building.{Extends, AreFaultless}
 use Rattle.kore_check.proofs.Applications.{reads}
 use Rattle.kore_check.proofs.build.+build.Given as goal
 
 abbrev pub invariant-build_all-loop-i : goal.invariant-build_all-loop-i
 invariant-build_all-loop-i l = record {
-  grows : Extends (named_sorts l.fn.vars.items) (named_sorts l.vars.items);
+  grows : Extends l.fn.vars l.vars;
   good : AreFaultless l.sig (reads l.args) → AreFaultless l.sig (reads (drop l.i l.args));
-  vars : with_all_variables l.sig (named_sorts l.vars.items) (reads (drop l.i l.args)) ≡ with_all_variables l.sig (named_sorts l.fn.vars.items) (reads l.args);
-  means : (more : List (List ℕ × ℕ)) (qs : List Pattern) → Extends (named_sorts l.vars.items) more → AllMean l.sig more (reads (drop l.i l.args)) (patterns qs) → AllMean l.sig more (reads l.args) (patterns (map plain_pattern l.pats.items ++ qs));
+  vars : with_all_variables l.sig l.vars (reads (drop l.i l.args)) ≡ with_all_variables l.sig l.fn.vars (reads l.args);
+  means : (more : List (List ℕ × ℕ)) (qs : List Pattern) → Extends l.vars more → AllMean l.sig more (reads (drop l.i l.args)) (patterns qs) → AllMean l.sig more (reads l.args) (patterns (map plain_pattern l.pats.items ++ qs));
 }

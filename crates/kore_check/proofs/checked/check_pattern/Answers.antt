@@ -9,7 +9,6 @@ use Rattle.kore_check.specs.PatternFaults.{pattern_faults, all_faults, most_heig
 use Rattle.kore_check.proofs.BuildLaws.{parts_empty}
 use Rattle.kore_check.proofs.CheckLaws.{nothing_noted, something_noted, faultless_sorted}
 use Rattle.term_core.specs.RulePatterns.{plain_pattern}
-use Rattle.kore_check.specs.PatternMeanings.{named_sorts}
 use Rattle.kore_check.proofs.SortedLaws.{meanings_are_sorted}
 use Rattle.kore_check.proofs.checked.check_pattern.Goals as goal
 
@@ -36,5 +35,5 @@ returns-clause-faultless c = nothing_noted (all_faults c.args.sig.now (unfolded 
 pub returns-clause-sorted : goal.returns-clause-sorted
 returns-clause-sorted c =
     let sort : sort_of c.args.sig.now (unfolded (plain_tree c.args.pat.now)) ≡ Some c.in-Some-sort.sort.0 = search rules in
-    meanings_are_sorted c.args.sig.now (named_sorts c.build_pattern.new.vars.items) (unfolded (plain_tree c.args.pat.now)) (plain_pattern c.in_ok-made.made) c.in-Some-sort.sort.0 c.requires.signature
+    meanings_are_sorted c.args.sig.now c.build_pattern.new.vars (unfolded (plain_tree c.args.pat.now)) (plain_pattern c.in_ok-made.made) c.in-Some-sort.sort.0 c.requires.signature
     ((parts_empty (when (nat_lt most_height (height (unfolded (plain_tree c.args.pat.now)))) 3 (place (unfolded (plain_tree c.args.pat.now)))) (pattern_faults c.args.sig.now (unfolded (plain_tree c.args.pat.now))) (returns-clause-faultless c)).1) c.in_ok-made.ensures.means sort

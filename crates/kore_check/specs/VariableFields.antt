@@ -1,0 +1,23 @@
+-- What contracts see of variables, and how their two fields agree.
+use Rattle.std.specs.Prelude.{◌≡◌, ℕ, List, Option, Some, String, slice_get}
+use Rattle.std.specs.BTreeMap.{BTreeMap, get_by}
+use Rattle.std.specs.Global.{Global}
+use Rattle.kore_check.specs.PatternMeanings.{named_sorts, variable_number}
+use Rattle.kore_check.specs.VariableKeys.{key_of, key_cmp}
+use Rattle.kore_check.specs.declared.variables.Variables.TheInside.{Inside}
+
+abbrev pub variables_of : Inside → List (List ℕ × ℕ)
+variables_of v = named_sorts v.infos.items
+
+-- the number under a name and a sort
+abbrev pub number_under : BTreeMap (String Global × ℕ) ℕ → List ℕ → ℕ → Option ℕ
+number_under m name s = get_by (λ k. key_cmp (name, s) (key_of k)) m
+
+-- no name stands twice with one sort
+abbrev pub AreNumbered : List (List ℕ × ℕ) → Type 0
+AreNumbered vars = (i : ℕ) (v : List ℕ × ℕ) → slice_get vars i ≡ Some v → variable_number vars v.0 v.1 ≡ Some i
+
+-- .. and the map has just the number of each variable
+pub record IsIndexed (v : Inside) : Type 0 where
+  pub distinct : AreNumbered (variables_of v)
+  pub numbered : (name : List ℕ) (s : ℕ) → number_under v.numbers name s ≡ variable_number (variables_of v) name s
