@@ -6,7 +6,6 @@ ghost use Rattle.rule_core.specs.ProgramView.{rewrite_rule};
 ghost use Rattle.rule_core.specs.WellSorted.{IsSignature};
 ghost use Rattle.kore_sig.specs.Signatures.{IsNumbered};
 ghost use Rattle.kore_check.specs.PatternFaults.{pattern_faults};
-ghost use Rattle.kore_check.specs.PatternMeanings.{named_sorts};
 ghost use Rattle.kore_sig.specs.Noted.{first_by_number};
 ghost use Rattle.kore_check.specs.Folds.{unfolded, IsApplicative};
 ghost use Rattle.kore_shapes.specs.Views.{pattern_at, plain_rewriting};
@@ -30,7 +29,7 @@ use crate::refusals::Refusal;
 use crate::sides::sort_fault;
 use crate::uses::{Symbols, has_symbol};
 use kore_ast::{AxiomDecl, Pat, Sort};
-use kore_check::build_pattern;
+use kore_check::{Variables, build_pattern};
 use kore_shapes::{Rewriting, same_sort};
 use rule_core::{Rule, Signature, VarInfo};
 use std::alloc::{AllocError, Global};
@@ -163,7 +162,7 @@ fn rule_patterns(
     let (Some(left), Some(right)) = (parts.before.main(), parts.after.main()) else {
         unreachable!()
     };
-    let mut vars = Vec::new(alloc);
+    let mut vars = Variables::new(alloc);
     let left = build_pattern(alloc, sig, left, &mut vars)?;
     let bound = vars.len();
     let cond = built_condition(alloc, sig, tested(parts.condition), &mut vars)?;
@@ -173,7 +172,7 @@ fn rule_patterns(
         left,
         cond,
         right,
-        vars,
+        vars: vars.into_infos(),
         bound,
     })
 }
@@ -183,14 +182,14 @@ fn built_condition(
     alloc: Global,
     sig: &Signature,
     pat: Option<&Pat>,
-    vars: &mut Vec<VarInfo>,
+    vars: &mut Variables,
 ) -> Result<Option<RulePat>, AllocError>
     requires numbered { IsNumbered sig.now }
     requires signature { IsSignature sig.now }
     requires form { IfSome (option_map pattern_at pat) (λ p. IsApplicative (unfolded p)) }
     requires faultless { IfSome (option_map pattern_at pat) (λ p. pattern_faults sig.now (unfolded p) ≡ []) }
-    ensures vars { OnOk result (named_sorts vars.new.items ≡ with_some_variables sig.now (named_sorts vars.old.items) (option_map pattern_at pat.entry)) }
-    ensures means { IfOk result (λ p. MeansTest sig.now (named_sorts vars.new.items) (option_map pattern_at pat.entry) (option_map plain_pattern p)) }
+    ensures vars { OnOk result (vars.new ≡ with_some_variables sig.now vars.old (option_map pattern_at pat.entry)) }
+    ensures means { IfOk result (λ p. MeansTest sig.now vars.new (option_map pattern_at pat.entry) (option_map plain_pattern p)) }
 {
     match pat {
         Some(pat) => Ok(Some(build_pattern(alloc, sig, pat, vars)?)),
