@@ -44,11 +44,14 @@ fn stated_number(attr: &Pat) -> Option<u32>
     short_number(text)
 }
 
+// The greatest number of digits: so many fit 32 bits.
+const MAX_DIGITS: usize = 9;
+
 fn short_number(text: &Text) -> Option<u32>
     ensures { result ≡ the_short_number (Some text.now) }
 {
     let digits = text.as_str();
-    if digits.len() > 9 || !all_digits(digits.as_bytes()) {
+    if digits.len() > MAX_DIGITS || !all_digits(digits.as_bytes()) {
         return None;
     }
     digits.parse::<u32>().ok()
