@@ -1,4 +1,7 @@
 // Axioms and what one expects to be wrong with them.
+ghost use Rattle.rule_core.specs.WellSorted.{IsSignature};
+ghost use Rattle.kore_sig.specs.Signatures.{IsNumbered};
+
 use crate::{AxiomClass, Refusal, checked_rule, class_of, priority_of};
 use kore_ast::{AxiomDecl, Decl, Sort, read_definition};
 use kore_sig::{counted_declarations, signature};
@@ -49,7 +52,10 @@ fn fault_of<'a>(
     sig: &Signature,
     first: &mut Option<&'a Sort>,
     decl: &'a AxiomDecl,
-) -> Result<(), Refusal> {
+) -> Result<(), Refusal>
+    requires numbered { IsNumbered sig.now }
+    requires signature { IsSignature sig.now }
+{
     match class_of(sig, decl) {
         AxiomClass::Refused(fault) => Err(Refusal::Refused(fault.number(), decl.at)),
         AxiomClass::Rewrites(rewriting) => {
