@@ -1,6 +1,7 @@
 -- The words of the command line: a command's name, and then what clap's definition of that command takes. The first of
 -- the words stands where clap expects a program's name.
-use Rattle.std.specs.Prelude.{ℕ, Bool, true, false, not, ◌&&◌, List, [], ◌∷◌, length, Option, Some, is_some, if◌then◌else◌, codes, nat_le}
+use Rattle.std.specs.Prelude.{ℕ, Bool, true, false, not, ◌&&◌, List, [], ◌∷◌, length, Option, Some, is_some}
+use Rattle.std.specs.Prelude.{if◌then◌else◌, codes, nat_le}
 use Rattle.std.specs.Option.{option_map_or}
 use Rattle.std.specs.Str.{bytes_eq, all_ascii_digits}
 use Rattle.std.specs.Str.Parse.{digits_value}

@@ -1,5 +1,6 @@
 // What the words of the command line ask for.
-ghost use Rattle.std.specs.Prelude.{◌≡◌, map, IfOk, IfSome, IfNone, Err, true, false, string_bytes, option_copied, option_map, codes, Some};
+ghost use Rattle.std.specs.Prelude.{◌≡◌, map, IfOk, IfSome, IfNone, Err, true, false, string_bytes, option_copied};
+ghost use Rattle.std.specs.Prelude.{option_map, codes, Some};
 ghost use Rattle.std.specs.Option.{option_map_or};
 ghost use Rattle.std.specs.Str.Parse.{digits_value};
 ghost use Rattle.command_words.specs.CommandLine.{is_named, is_run, is_verify, are_bad, is_number_to};
@@ -72,7 +73,8 @@ impl From<AllocError> for WordsEnd {
 /// What the words ask for. `Bad` comes exactly where no command takes them, and `Memory` where memory ran out. What
 /// is answered borrows from the words.
 pub fn read_words<'a>(alloc: Global, words: &'a [String]) -> Result<Command<'a>, WordsEnd>
-    ensures good { IfOk result (λ c. (are_bad (map string_bytes words.entry.now) ≡ false) × Gives (map string_bytes words.entry.now) c) }
+    ensures good { IfOk result (λ c. (are_bad (map string_bytes words.entry.now) ≡ false)
+        × Gives (map string_bytes words.entry.now) c) }
     ensures bad { result ≡ Err WordsEnd.Bad → are_bad (map string_bytes words.entry.now) ≡ true }
 {
     if is_named("run", words) {
@@ -103,7 +105,8 @@ fn is_named(name: &str, words: &[String]) -> bool
 // What a run command asks for.
 fn run_words<'a>(alloc: Global, words: &'a [String]) -> Result<RunWords<'a>, WordsEnd>
     requires { is_named (codes "run") (map string_bytes words.now) ≡ true }
-    ensures good { IfOk result (λ r. (is_run (map string_bytes words.entry.now) ≡ true) × GivesRun (map string_bytes words.entry.now) r) }
+    ensures good { IfOk result (λ r. (is_run (map string_bytes words.entry.now) ≡ true)
+        × GivesRun (map string_bytes words.entry.now) r) }
     ensures bad { result ≡ Err WordsEnd.Bad → is_run (map string_bytes words.entry.now) ≡ false }
 {
     let command = run_definition(alloc)?;
@@ -136,7 +139,8 @@ fn run_words<'a>(alloc: Global, words: &'a [String]) -> Result<RunWords<'a>, Wor
 // The file that a verify command names.
 fn verify_words<'a>(alloc: Global, words: &'a [String]) -> Result<&'a str, WordsEnd>
     requires { is_named (codes "verify") (map string_bytes words.now) ≡ true }
-    ensures good { IfOk result (λ file. (is_verify (map string_bytes words.entry.now) ≡ true) × GivesFile (map string_bytes words.entry.now) file.now) }
+    ensures good { IfOk result (λ file. (is_verify (map string_bytes words.entry.now) ≡ true)
+        × GivesFile (map string_bytes words.entry.now) file.now) }
     ensures bad { result ≡ Err WordsEnd.Bad → is_verify (map string_bytes words.entry.now) ≡ false }
 {
     let command = verify_definition(alloc)?;

@@ -1,5 +1,5 @@
--- The texts of a drill: a definition with a rule for each of its steps, all different, and the term that takes them all.
--- Each rule adds a number, under a condition.
+-- The texts of a drill: a definition with a rule for each of its steps, all different, and the term that takes them
+-- all. Each rule adds a number, under a condition.
 use Rattle.std.specs.Prelude.{ℕ, zero, suc, ◌+◌, ◌++◌, List, [], ◌∷◌, codes}
 use Rattle.std.specs.Fmt.{decimal}
 
@@ -34,8 +34,10 @@ symbol_line i = line (codes "symbol c" ∷ decimal i ∷ codes "{}() : SortC{} [
 abbrev pub rule_line : ℕ → List ℕ
 rule_line i =
     line (codes "axiom{} \\rewrites{SortS{}}(\\and{SortS{}}(st{}(c" ∷ decimal i
-    ∷ codes "{}(),X:SortInt{}),\\equals{SortBool{},SortS{}}(ge{}(X:SortInt{},\\dv{SortInt{}}(\"0\")),\\dv{SortBool{}}(\"true\"))),\\and{SortS{}}(st{}(c"
-    ∷ decimal (i + 1) ∷ codes "{}(),add{}(X:SortInt{},\\dv{SortInt{}}(\"" ∷ decimal i ∷ codes "\"))),\\top{SortS{}}())) []" ∷ [])
+    ∷ codes "{}(),X:SortInt{}),\\equals{SortBool{},SortS{}}(ge{}(X:SortInt{},\\dv{SortInt{}}(\"0\")),"
+    ∷ codes "\\dv{SortBool{}}(\"true\"))),\\and{SortS{}}(st{}(c"
+    ∷ decimal (i + 1) ∷ codes "{}(),add{}(X:SortInt{},\\dv{SortInt{}}(\"" ∷ decimal i
+    ∷ codes "\"))),\\top{SortS{}}())) []" ∷ [])
 
 -- the symbols of the steps below n, and the rules from them
 abbrev pub symbol_lines : ℕ → List ℕ

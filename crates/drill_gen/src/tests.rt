@@ -16,7 +16,9 @@ hooked-symbol ge{}(SortInt{},SortInt{}) : SortBool{} [function{}(),hook{}(\"INT.
 symbol st{}(SortC{},SortInt{}) : SortS{} [constructor{}()]
 symbol c0{}() : SortC{} [constructor{}()]
 symbol c1{}() : SortC{} [constructor{}()]
-axiom{} \\rewrites{SortS{}}(\\and{SortS{}}(st{}(c0{}(),X:SortInt{}),\\equals{SortBool{},SortS{}}(ge{}(X:SortInt{},\\dv{SortInt{}}(\"0\")),\\dv{SortBool{}}(\"true\"))),\\and{SortS{}}(st{}(c1{}(),add{}(X:SortInt{},\\dv{SortInt{}}(\"0\"))),\\top{SortS{}}())) []
+axiom{} \\rewrites{SortS{}}(\\and{SortS{}}(st{}(c0{}(),X:SortInt{}),\\equals{SortBool{},SortS{}}(ge{}(X:SortInt{},\
+\\dv{SortInt{}}(\"0\")),\\dv{SortBool{}}(\"true\"))),\\and{SortS{}}(st{}(c1{}(),add{}(X:SortInt{},\
+\\dv{SortInt{}}(\"0\"))),\\top{SortS{}}())) []
 endmodule []
 ";
     assert_eq!(rt;

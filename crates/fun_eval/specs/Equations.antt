@@ -7,7 +7,8 @@ use Rattle.rule_core.specs.Theories.{RewriteTheory, equations_of}
 use Rattle.rule_core.specs.Matching.{MatchAll}
 use Rattle.rule_core.specs.Sorting.{IsSymbol}
 use Rattle.rule_core.specs.WellSorted.{IsEquationOf}
-use Rattle.rule_core.specs.Evaluation.{Evaluated, value, blocked, no_equation, holds, fails, untested, IsUnmatchedBy, Equates, Tests, EvaluatesIn}
+use Rattle.rule_core.specs.Evaluation.{Evaluated, value, blocked, no_equation, holds, fails, untested, IsUnmatchedBy}
+use Rattle.rule_core.specs.Evaluation.{Equates, Tests, EvaluatesIn}
 use Rattle.rule_core.specs.Records.{IsUnused, Record, RecordList, OptionalRecord, RecordsCondition}
 use Rattle.rule_core.specs.declared.signature.SymInfo.{SymInfo}
 use Rattle.rule_core.specs.declared.signature.SymKind.TheVariants.{Equations}
@@ -33,21 +34,25 @@ Matches theory e ts found =
     MatchOption found (IsUnmatchedBy theory e ts) (MatchAll theory.sig e.variables e.arguments ts)
 
 -- the call of a function by its equations
-abbrev pub CallsByEquations : {R : Type 0} → (R → Record → Type 0) → (List R → RecordList → Type 0) → RewriteTheory → ℕ → ℕ → Answers R → ℕ → Result (Answer R × ℕ) EvalEnd → Type 0
+abbrev pub CallsByEquations : {R : Type 0} → (R → Record → Type 0) → (List R → RecordList → Type 0) → RewriteTheory → ℕ
+    → ℕ → Answers R → ℕ → Result (Answer R × ℕ) EvalEnd → Type 0
 CallsByEquations {R} tells all_tell theory n f args c answer =
     Comes
-    (λ (a : Answer R) (left : ℕ). Equates theory n f (equations_of theory f) (forest args.terms.items) c (value a.term left)
+    (λ (a : Answer R) (left : ℕ). Equates theory n f (equations_of theory f) (forest args.terms.items) c
+    (value a.term left)
     × IsRecordedCall tells all_tell theory f args a)
     (λ cause. Equates theory n f (equations_of theory f) (forest args.terms.items) c (blocked cause))
     answer
 
 -- what is recorded of a condition that holds
-abbrev pub IsRecordedCondition : {R : Type 0} → (R → Record → Type 0) → RewriteTheory → List (Option Tree) → Option Pattern → Option R → Type 0
+abbrev pub IsRecordedCondition : {R : Type 0} → (R → Record → Type 0) → RewriteTheory → List (Option Tree)
+    → Option Pattern → Option R → Type 0
 IsRecordedCondition tells theory theta p kept =
     (o : OptionalRecord) × TellsOption tells kept o × RecordsCondition theory theta p o
 
 -- an equation is passed over, or it matches and its condition holds
-abbrev pub TrialSays : {R : Type 0} → (R → Record → Type 0) → RewriteTheory → ℕ → ℕ → Equation → Forest → ℕ → Trial R → ℕ → Type 0
+abbrev pub TrialSays : {R : Type 0} → (R → Record → Type 0) → RewriteTheory → ℕ → ℕ → Equation → Forest → ℕ → Trial R
+    → ℕ → Type 0
 TrialSays tells theory n f e ts c Unused left =
     (IsUnmatchedBy theory e ts × (left ≡ c)) ⊎ ((theta : List (Option Tree))
     × MatchAll theory.sig e.variables e.arguments ts theta × Tests theory n f theta e.condition c (fails left))
@@ -56,7 +61,8 @@ TrialSays tells theory n f e ts c (Used theta kept) left =
     × IsRecordedCondition tells theory theta e.condition kept
 
 -- .. or its condition is blocked
-abbrev pub Tries : {R : Type 0} → (R → Record → Type 0) → RewriteTheory → ℕ → ℕ → Equation → Forest → ℕ → Result (Trial R × ℕ) EvalEnd → Type 0
+abbrev pub Tries : {R : Type 0} → (R → Record → Type 0) → RewriteTheory → ℕ → ℕ → Equation → Forest → ℕ
+    → Result (Trial R × ℕ) EvalEnd → Type 0
 Tries tells theory n f e ts c answer =
     Comes
     (TrialSays tells theory n f e ts c)
@@ -64,9 +70,10 @@ Tries tells theory n f e ts c answer =
     × Tests theory n f theta e.condition c (untested cause))
     answer
 
--- the equations of the function, tried at terms, come to this one, with this substitution: what its right side evaluates
--- to is the function's value
-pub record IsChosen (theory : RewriteTheory) (n f : ℕ) (ts : Forest) (c number : ℕ) (theta : List (Option Tree)) (left : ℕ) : Type 0 where
+-- the equations of the function, tried at terms, come to this one, with this substitution: what its right side
+-- evaluates to is the function's value
+pub record IsChosen (theory : RewriteTheory) (n f : ℕ) (ts : Forest) (c number : ℕ) (theta : List (Option Tree))
+    (left : ℕ) : Type 0 where
   pub equation : Equation
   pub there : slice_get (equations_of theory f) number ≡ Some equation
   pub matches : MatchAll theory.sig equation.variables equation.arguments ts theta
@@ -75,14 +82,16 @@ pub record IsChosen (theory : RewriteTheory) (n f : ℕ) (ts : Forest) (c number
   pub gives : (r : Evaluated) → EvaluatesIn theory n f theta equation.right left r →
       Equates theory n f (equations_of theory f) ts c r
 
-abbrev pub ChoiceSays : {R : Type 0} → (R → Record → Type 0) → RewriteTheory → ℕ → ℕ → Forest → ℕ → Option (Choice R) → ℕ → Type 0
+abbrev pub ChoiceSays : {R : Type 0} → (R → Record → Type 0) → RewriteTheory → ℕ → ℕ → Forest → ℕ → Option (Choice R)
+    → ℕ → Type 0
 ChoiceSays tells theory n f ts c None left = Equates theory n f (equations_of theory f) ts c (blocked (no_equation f))
 ChoiceSays tells theory n f ts c (Some chosen) left =
     (is : IsChosen theory n f ts c chosen.number chosen.subst left)
     × IsRecordedCondition tells theory chosen.subst is.equation.condition chosen.cond
 
 -- which equation is used, if any; or a condition is blocked before that
-abbrev pub Chooses : {R : Type 0} → (R → Record → Type 0) → RewriteTheory → ℕ → ℕ → Forest → ℕ → Result (Option (Choice R) × ℕ) EvalEnd → Type 0
+abbrev pub Chooses : {R : Type 0} → (R → Record → Type 0) → RewriteTheory → ℕ → ℕ → Forest → ℕ
+    → Result (Option (Choice R) × ℕ) EvalEnd → Type 0
 Chooses tells theory n f ts c answer =
     Comes
     (ChoiceSays tells theory n f ts c)

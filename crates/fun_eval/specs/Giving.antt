@@ -9,8 +9,10 @@ use Rattle.term_core.specs.declared.values.NoValue.{NoValue}
 use Rattle.rule_core.specs.Sorting.{HaveSorts, IsSymbol, IsFunction, sort_at}
 use Rattle.rule_core.specs.MatchLaws.{AreTermsOf}
 use Rattle.rule_core.specs.Matching.{StandsInSome, RespectsSorts}
-use Rattle.rule_core.specs.Evaluation.{Cause, value, blocked, values, stopped, no_value, too_high, most_height, Evaluates, EvaluateAll, Applies, EvaluatesIn}
-use Rattle.rule_core.specs.Records.{Record, RecordList, no_record, more_records, made, by_hook, Records, RecordAll, results_of, result_of}
+use Rattle.rule_core.specs.Evaluation.{Cause, value, blocked, values, stopped, no_value, too_high, most_height}
+use Rattle.rule_core.specs.Evaluation.{Evaluates, EvaluateAll, Applies, EvaluatesIn}
+use Rattle.rule_core.specs.Records.{Record, RecordList, no_record, more_records, made, by_hook, Records, RecordAll}
+use Rattle.rule_core.specs.Records.{results_of, result_of}
 use Rattle.rule_core.specs.RunView.{cause_of}
 use Rattle.rule_core.specs.declared.signature.Signature.{Signature}
 use Rattle.rule_core.specs.declared.signature.SortRef.{SortRef}
@@ -29,18 +31,22 @@ Comes good bad (Err (Blocked why)) = bad (cause_of why)
 Comes good bad (Err Memory) = Unit {0}
 
 -- the evaluation of a pattern
-abbrev pub Gives : {R : Type 0} → (R → Record → Type 0) → RewriteTheory → ℕ → List (Option Tree) → Pattern → ℕ → Result (Answer R × ℕ) EvalEnd → Type 0
+abbrev pub Gives : {R : Type 0} → (R → Record → Type 0) → RewriteTheory → ℕ → List (Option Tree) → Pattern → ℕ
+    → Result (Answer R × ℕ) EvalEnd → Type 0
 Gives {R} tells theory n theta p c answer =
     Comes
-    (λ (a : Answer R) (left : ℕ). Evaluates theory n theta p c (value a.term left) × IsRecorded (tells a.recorded) theory theta p a.term)
+    (λ (a : Answer R) (left : ℕ). Evaluates theory n theta p c (value a.term left)
+    × IsRecorded (tells a.recorded) theory theta p a.term)
     (λ cause. Evaluates theory n theta p c (blocked cause))
     answer
 
 -- .. where it takes one of the nesting, for an equation of this function
-abbrev pub GivesWithin : {R : Type 0} → (R → Record → Type 0) → RewriteTheory → ℕ → ℕ → List (Option Tree) → Pattern → ℕ → Result (Answer R × ℕ) EvalEnd → Type 0
+abbrev pub GivesWithin : {R : Type 0} → (R → Record → Type 0) → RewriteTheory → ℕ → ℕ → List (Option Tree) → Pattern → ℕ
+    → Result (Answer R × ℕ) EvalEnd → Type 0
 GivesWithin {R} tells theory n f theta p c answer =
     Comes
-    (λ (a : Answer R) (left : ℕ). EvaluatesIn theory n f theta p c (value a.term left) × IsRecorded (tells a.recorded) theory theta p a.term)
+    (λ (a : Answer R) (left : ℕ). EvaluatesIn theory n f theta p c (value a.term left)
+    × IsRecorded (tells a.recorded) theory theta p a.term)
     (λ cause. EvaluatesIn theory n f theta p c (blocked cause))
     answer
 
@@ -50,7 +56,8 @@ AreRecorded tell theory theta ps ts =
     (rs : RecordList) × tell rs × RecordAll theory theta ps rs × (results_of rs ≡ ts)
 
 -- the evaluation of patterns
-abbrev pub AllGive : {R : Type 0} → (List R → RecordList → Type 0) → RewriteTheory → ℕ → List (Option Tree) → Patterns → ℕ → Result (Answers R × ℕ) EvalEnd → Type 0
+abbrev pub AllGive : {R : Type 0} → (List R → RecordList → Type 0) → RewriteTheory → ℕ → List (Option Tree) → Patterns
+    → ℕ → Result (Answers R × ℕ) EvalEnd → Type 0
 AllGive {R} all_tell theory n theta ps c answer =
     Comes
     (λ (a : Answers R) (left : ℕ). EvaluateAll theory n theta ps c (values (forest a.terms.items) left)
@@ -116,13 +123,15 @@ IsCallRecord theory f rs r =
     Records theory theta (call f sorts ps) r
 
 -- what is recorded of a call
-abbrev pub IsRecordedCall : {R : Type 0} → (R → Record → Type 0) → (List R → RecordList → Type 0) → RewriteTheory → ℕ → Answers R → Answer R → Type 0
+abbrev pub IsRecordedCall : {R : Type 0} → (R → Record → Type 0) → (List R → RecordList → Type 0) → RewriteTheory → ℕ
+    → Answers R → Answer R → Type 0
 IsRecordedCall tells all_tell theory f args a =
     (rs : RecordList) → all_tell args.records.items rs → results_of rs ≡ forest args.terms.items →
     (r : Record) × tells a.recorded r × IsCallRecord theory f rs r × (result_of r ≡ a.term)
 
 -- the call of a function
-abbrev pub Calls : {R : Type 0} → (R → Record → Type 0) → (List R → RecordList → Type 0) → RewriteTheory → ℕ → ℕ → Answers R → ℕ → Result (Answer R × ℕ) EvalEnd → Type 0
+abbrev pub Calls : {R : Type 0} → (R → Record → Type 0) → (List R → RecordList → Type 0) → RewriteTheory → ℕ → ℕ
+    → Answers R → ℕ → Result (Answer R × ℕ) EvalEnd → Type 0
 Calls {R} tells all_tell theory n f args c answer =
     Comes
     (λ (a : Answer R) (left : ℕ). Applies theory n f (forest args.terms.items) c (value a.term left)
@@ -131,7 +140,8 @@ Calls {R} tells all_tell theory n f args c answer =
     answer
 
 -- what a constructor makes of its arguments
-abbrev pub Constructs : {R : Type 0} → (R → Record → Type 0) → (List R → RecordList → Type 0) → ℕ → Answers R → ℕ → Result (Answer R × ℕ) EvalEnd → Type 0
+abbrev pub Constructs : {R : Type 0} → (R → Record → Type 0) → (List R → RecordList → Type 0) → ℕ → Answers R → ℕ
+    → Result (Answer R × ℕ) EvalEnd → Type 0
 Constructs {R} tells all_tell f args c answer =
     Comes
     (λ (a : Answer R) (left : ℕ). (a.term ≡ node f (forest args.terms.items)) × (height a.term ≤ most_height)
@@ -140,7 +150,8 @@ Constructs {R} tells all_tell f args c answer =
     answer
 
 -- .. and an injection of its argument
-abbrev pub InjectsTo : {R : Type 0} → (R → Record → Type 0) → ℕ → ℕ → ℕ → Answer R → ℕ → Result (Answer R × ℕ) EvalEnd → Type 0
+abbrev pub InjectsTo : {R : Type 0} → (R → Record → Type 0) → ℕ → ℕ → ℕ → Answer R → ℕ → Result (Answer R × ℕ) EvalEnd
+    → Type 0
 InjectsTo {R} tells f from to below c answer =
     Comes
     (λ (a : Answer R) (left : ℕ). (a.term ≡ injected from to below.term) × (height a.term ≤ most_height)
@@ -149,7 +160,8 @@ InjectsTo {R} tells f from to below c answer =
     answer
 
 -- what a hook gives at terms
-abbrev pub HookGives : {R : Type 0} → (R → Record → Type 0) → (List R → RecordList → Type 0) → ℕ → ℕ → Answers R → ℕ → Result (Answer R × ℕ) EvalEnd → Type 0
+abbrev pub HookGives : {R : Type 0} → (R → Record → Type 0) → (List R → RecordList → Type 0) → ℕ → ℕ → Answers R → ℕ
+    → Result (Answer R × ℕ) EvalEnd → Type 0
 HookGives {R} tells all_tell row sort args c answer =
     Comes
     (λ (a : Answer R) (left : ℕ). ((vs : List DomainValue) × (v : DomainValue) × AreValues (forest args.terms.items) vs

@@ -1,6 +1,7 @@
 -- Lists of records, as they are put together.
 use Rattle.std.specs.Prelude.{◌≡◌, Option, Some, None}
-use Rattle.rule_core.specs.Records.{Record, RecordList, no_record, more_records, OptionalRecord, unconditional, conditional}
+use Rattle.rule_core.specs.Records.{Record, RecordList, no_record, more_records, OptionalRecord, unconditional}
+use Rattle.rule_core.specs.Records.{conditional}
 
 -- one more record, behind the others
 abbrev pub at_end : RecordList → Record → RecordList

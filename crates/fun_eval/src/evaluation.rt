@@ -11,7 +11,8 @@ ghost use Rattle.term_core.specs.PatternLists.{plain_patterns};
 ghost use Rattle.rule_core.specs.FirstRule.{most_nesting};
 ghost use Rattle.rule_core.specs.ProgramView.{theory_of, function_equation};
 ghost use Rattle.fun_eval.specs.Evaluable.{IsEvaluable};
-ghost use Rattle.fun_eval.specs.Giving.{Gives, GivesWithin, AllGive, AreEvaluable, AreArguments, IsBound, IsCallEvaluable, Calls};
+ghost use Rattle.fun_eval.specs.Giving.{Gives, GivesWithin, AllGive, AreEvaluable, AreArguments, IsBound};
+ghost use Rattle.fun_eval.specs.Giving.{IsCallEvaluable, Calls};
 ghost use Rattle.fun_eval.specs.Equations.{CallsByEquations, Chooses, IsDefined, IsTriable, Tries};
 
 use crate::answer::{Answer, Answers, EvalEnd};
@@ -69,7 +70,8 @@ fn itself<R: Recording>(
     value: &Value,
     calls: u32,
 ) -> Result<(Answer<R>, u32), EvalEnd>
-    ensures { (theory : _) (n : ℕ) (theta : _) → Gives R.tells theory n theta (domain_value sort.0 (value_of value.now)) calls result }
+    ensures { (theory : _) (n : ℕ) (theta : _)
+        → Gives R.tells theory n theta (domain_value sort.0 (value_of value.now)) calls result }
 {
     let term = Term::value(alloc, sort, value.share()?)?;
     let recorded = R::value(&term)?;
@@ -89,7 +91,8 @@ fn evaluate_ctor<R: Recording>(
 ) -> Result<(Answer<R>, u32), EvalEnd>
     requires fits { AreEvaluable (theory_of engine.now) subst.now (plain_patterns args.now) }
     requires nest { nest ≤ most_nesting }
-    ensures { Gives R.tells (theory_of engine.now) nest subst.now (application sym.0 (plain_patterns args.now)) calls result }
+    ensures { Gives R.tells (theory_of engine.now) nest subst.now (application sym.0 (plain_patterns args.now)) calls
+        result }
 {
     if nest == 0 {
         return Err(EvalEnd::Blocked(Blocked::Nest(sym)));
@@ -115,7 +118,8 @@ fn evaluate_inj<R: Recording>(
     requires symbol { HasInjection (theory_of engine.now).sig }
     requires fits { IsEvaluable (theory_of engine.now) subst.now (plain_pattern below.now) }
     requires nest { nest ≤ most_nesting }
-    ensures { Gives R.tells (theory_of engine.now) nest subst.now (injection from.0 to.0 (plain_pattern below.now)) calls result }
+    ensures { Gives R.tells (theory_of engine.now) nest subst.now (injection from.0 to.0 (plain_pattern below.now))
+        calls result }
 {
     let Some(sym) = engine.injection() else {
         unreachable!()
@@ -142,7 +146,9 @@ fn evaluate_call<R: Recording>(
 ) -> Result<(Answer<R>, u32), EvalEnd>
     requires fits { IsCallEvaluable (theory_of engine.now) subst.now sym.0 (plain_patterns args.now) }
     requires nest { nest ≤ most_nesting }
-    ensures { (sorts : List ℕ) → Gives R.tells (theory_of engine.now) nest subst.now (call sym.0 sorts (plain_patterns args.now)) calls result }
+    ensures { (sorts : List ℕ)
+        → Gives R.tells (theory_of engine.now) nest subst.now (call sym.0 sorts (plain_patterns args.now))
+        calls result }
 {
     if nest == 0 {
         return Err(EvalEnd::Blocked(Blocked::Nest(sym)));
@@ -303,7 +309,8 @@ fn try_equation<R: Recording>(
 ) -> Result<(Trial<R>, u32), EvalEnd>
     requires fits { IsTriable (theory_of engine.now) (function_equation equation.now) (forest terms.now) }
     requires nest { nest ≤ most_nesting }
-    ensures { Tries R.tells (theory_of engine.now) nest sym.0 (function_equation equation.now) (forest terms.now) calls result }
+    ensures { Tries R.tells (theory_of engine.now) nest sym.0 (function_equation equation.now) (forest terms.now) calls
+        result }
 {
     let Some(subst) = match_equation(alloc, engine.program(), equation, terms)? else {
         return Ok((Trial::Unused, calls));

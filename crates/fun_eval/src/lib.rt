@@ -1,7 +1,7 @@
 // Evaluation of patterns under substitutions, by hooks and by equations.
 //
-// An `Engine` lends a well-sorted program. `Engine::eval` gives the value of a pattern exactly as `Evaluates` defines it
-// (specs/Evaluation.antt of `rule_core`), with a record that satisfies `Records`, and takes from the budget just the
+// An `Engine` lends a well-sorted program. `Engine::eval` gives the value of a pattern exactly as `Evaluates` defines
+// it (specs/Evaluation.antt of `rule_core`), with a record that satisfies `Records`, and takes from the budget just the
 // calls that the evaluation takes; where there is none, it answers the cause. `Engine::eval_as` is the same for any
 // `Recording`: with `Unrecorded` nothing is kept but the value.
 #![tactic(auto)]

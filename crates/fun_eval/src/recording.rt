@@ -1,6 +1,8 @@
 // What is kept of an evaluation beside its value.
 ghost use Rattle.std.specs.Prelude.{◌≡◌, List, IfOk, OnOk, map, option_map};
-ghost use Rattle.rule_core.specs.Records.{Record, RecordList, OptionalRecord, no_record, more_records, bound as bound_record, itself, made, by_hook as hook_record, by_equation as equation_record};
+ghost use Rattle.rule_core.specs.Records.{Record, RecordList, OptionalRecord, no_record, more_records};
+ghost use Rattle.rule_core.specs.Records.{bound as bound_record, itself, made, by_hook as hook_record};
+ghost use Rattle.rule_core.specs.Records.{by_equation as equation_record};
 ghost use Rattle.rule_core.specs.RecordView.{optional, plain_record, records};
 ghost use Rattle.rule_core.specs.declared.records.EvalRecord.{EvalRecord};
 ghost use Rattle.std.specs.Global.{Box};
@@ -26,7 +28,8 @@ pub trait Recording: Drop {
 
     /// One more record, behind the others.
     fn push(others: &mut Vec<Self>, one: Self) -> Result<(), AllocError>
-        ensures { OnOk result ((rs : RecordList) (r : Record) → all_tell others.old.items rs → tells one r → all_tell others.new.items (at_end rs r)) };
+        ensures { OnOk result ((rs : RecordList) (r : Record) → all_tell others.old.items rs → tells one r
+            → all_tell others.new.items (at_end rs r)) };
 
     /// The variable with this number stands for the term.
     fn bound(var: u32, term: &Term) -> Result<Self, AllocError>
@@ -38,7 +41,8 @@ pub trait Recording: Drop {
 
     /// A constructor made the term of its arguments.
     fn ctor(sym: SymId, args: Vec<Self>, term: &Term) -> Result<Self, AllocError>
-        ensures { IfOk result (λ made_now. (rs : RecordList) → all_tell args.items rs → tells made_now (made rs term.now)) };
+        ensures { IfOk result (λ made_now. (rs : RecordList) → all_tell args.items rs
+            → tells made_now (made rs term.now)) };
 
     /// The injection from a sort to another made the term.
     fn inj(
@@ -48,11 +52,13 @@ pub trait Recording: Drop {
         below: Self,
         term: &Term,
     ) -> Result<Self, AllocError>
-        ensures { IfOk result (λ made_now. (r : Record) → tells below r → tells made_now (made (more_records r no_record) term.now)) };
+        ensures { IfOk result (λ made_now. (r : Record) → tells below r
+            → tells made_now (made (more_records r no_record) term.now)) };
 
     /// The hook of a function gave the term.
     fn by_hook(sym: SymId, args: Vec<Self>, term: &Term) -> Result<Self, AllocError>
-        ensures { IfOk result (λ made_now. (rs : RecordList) → all_tell args.items rs → tells made_now (hook_record rs term.now)) };
+        ensures { IfOk result (λ made_now. (rs : RecordList) → all_tell args.items rs
+            → tells made_now (hook_record rs term.now)) };
 
     /// The equation with this number, among those of the function, was used.
     fn by_equation(
@@ -64,7 +70,8 @@ pub trait Recording: Drop {
         cond: Option<Self>,
         body: Self,
     ) -> Result<Self, AllocError>
-        ensures { IfOk result (λ made_now. (rs : RecordList) (o : OptionalRecord) (r : Record) → all_tell args.items rs → TellsOption tells cond o → tells body r → tells made_now (equation_record rs equation subst o r)) };
+        ensures { IfOk result (λ made_now. (rs : RecordList) (o : OptionalRecord) (r : Record) → all_tell args.items rs
+            → TellsOption tells cond o → tells body r → tells made_now (equation_record rs equation subst o r)) };
 }
 
 /// Nothing is recorded, and no memory is taken for it.
@@ -125,7 +132,8 @@ impl Recording for Unrecorded {
         cond: Option<Unrecorded>,
         body: Unrecorded,
     ) -> Result<Unrecorded, AllocError>
-        ensures { IfOk result (λ _. (rs : RecordList) (o : OptionalRecord) (r : Record) → Unit {0} → TellsOption (λ (_ : _) (_ : Record). Unit {0}) cond o → Unit {0} → Unit {0}) }
+        ensures { IfOk result (λ _. (rs : RecordList) (o : OptionalRecord) (r : Record) → Unit {0}
+            → TellsOption (λ (_ : _) (_ : Record). Unit {0}) cond o → Unit {0} → Unit {0}) }
     {
         Ok(body)
     }
@@ -154,7 +162,8 @@ impl Recording for EvalRecord {
     }
 
     fn ctor(sym: SymId, args: Vec<EvalRecord>, term: &Term) -> Result<EvalRecord, AllocError>
-        ensures { IfOk result (λ made_now. (rs : RecordList) → records (map plain_record args.items) ≡ rs → plain_record made_now ≡ made rs term.now) }
+        ensures { IfOk result (λ made_now. (rs : RecordList) → records (map plain_record args.items) ≡ rs
+            → plain_record made_now ≡ made rs term.now) }
     {
         Ok(EvalRecord::Ctor(sym, args, term.share()?))
     }
@@ -170,7 +179,8 @@ impl Recording for EvalRecord {
     }
 
     fn by_hook(sym: SymId, args: Vec<EvalRecord>, term: &Term) -> Result<EvalRecord, AllocError>
-        ensures { IfOk result (λ made_now. (rs : RecordList) → records (map plain_record args.items) ≡ rs → plain_record made_now ≡ hook_record rs term.now) }
+        ensures { IfOk result (λ made_now. (rs : RecordList) → records (map plain_record args.items) ≡ rs
+            → plain_record made_now ≡ hook_record rs term.now) }
     {
         Ok(EvalRecord::ByHook(sym, args, term.share()?))
     }
@@ -184,7 +194,9 @@ impl Recording for EvalRecord {
         cond: Option<EvalRecord>,
         body: EvalRecord,
     ) -> Result<EvalRecord, AllocError>
-        ensures { IfOk result (λ made_now. (rs : RecordList) (o : OptionalRecord) (r : Record) → records (map plain_record args.items) ≡ rs → TellsOption (λ one k. plain_record one ≡ k) cond o → plain_record body ≡ r → plain_record made_now ≡ equation_record rs equation subst o r) }
+        ensures { IfOk result (λ made_now. (rs : RecordList) (o : OptionalRecord) (r : Record)
+            → records (map plain_record args.items) ≡ rs → TellsOption (λ one k. plain_record one ≡ k) cond o
+            → plain_record body ≡ r → plain_record made_now ≡ equation_record rs equation subst o r) }
     {
         let cond = boxed(alloc, cond)?;
         let body = Box::new(alloc, body)?;
@@ -201,7 +213,8 @@ impl Recording for EvalRecord {
 
 // The record of a condition, where it has one, in a box.
 fn boxed(alloc: Global, cond: Option<EvalRecord>) -> Result<Option<Box<EvalRecord>>, AllocError>
-    ensures { IfOk result (λ kept. (o : OptionalRecord) → TellsOption (λ one r. plain_record one ≡ r) cond o → optional (option_map (λ (b : Box EvalRecord). plain_record b.value) kept) ≡ o) }
+    ensures { IfOk result (λ kept. (o : OptionalRecord) → TellsOption (λ one r. plain_record one ≡ r) cond o
+        → optional (option_map (λ (b : Box EvalRecord). plain_record b.value) kept) ≡ o) }
 {
     match cond {
         Some(met) => Ok(Some(Box::new(alloc, met)?)),

@@ -85,7 +85,9 @@ pub fn match_term(
     term: &Term,
 ) -> Result<Option<Subst>, AllocError>
     requires { UseFirst vars (more_patterns (plain_pattern pat.now) no_pattern) }
-    ensures { IfOk result (FindsMatch subsorts.now vars (more_patterns (plain_pattern pat.now) no_pattern) (more_trees term.now no_tree)) }
+    ensures { IfOk result
+        (FindsMatch subsorts.now vars (more_patterns (plain_pattern pat.now) no_pattern)
+        (more_trees term.now no_tree)) }
 {
     if !may_match(pat, term) {
         return Ok(None);
@@ -105,7 +107,9 @@ fn counted_match<L: Ledger>(
     requires name { blank.name ≡ L.name }
     requires parts { blank.parts ≡ L.parts }
     requires some { 0 < L.parts }
-    ensures { IfOk result (FindsMatch subsorts.now vars (more_patterns (plain_pattern pat.now) no_pattern) (more_trees term.now no_tree)) }
+    ensures { IfOk result
+        (FindsMatch subsorts.now vars (more_patterns (plain_pattern pat.now) no_pattern)
+        (more_trees term.now no_tree)) }
 {
     let mut steps = Steps::<L>::new(blank);
     find_match(alloc, pat, vars, subsorts, term, &mut steps)

@@ -8,7 +8,8 @@ use Rattle.ground_image.specs.Tokens.{token_of_sort, token_of_symbol, token_of_v
 abbrev pub IsOwnToken : Signature → List ℕ → Type 0
 IsOwnToken sig token =
     ((s : ℕ) × (token_of_sort sig s ≡ Some token))
-    ⊎ (((f : ℕ) × (token_of_symbol sig f ≡ Some token)) ⊎ ((s : ℕ) × ((v : DomainValue) × (IsTrue (is_value_at sig s v) × (token_of_value sig s v ≡ Some token)))))
+    ⊎ (((f : ℕ) × (token_of_symbol sig f ≡ Some token))
+    ⊎ ((s : ℕ) × ((v : DomainValue) × (IsTrue (is_value_at sig s v) × (token_of_value sig s v ≡ Some token)))))
 
 abbrev pub AreOwnTokens : Signature → List (List ℕ) → Type 0
 AreOwnTokens sig [] = Unit {0}

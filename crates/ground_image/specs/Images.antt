@@ -1,9 +1,11 @@
--- The images of rules' patterns and of rules as patterns of matching logic (Chen and Rosu 2019). A constant or a sort of
--- an image is the number of its token among names; where the names lack a token there is no image.
-use Rattle.std.specs.Prelude.{◌≡◌, ◌<◌, ℕ, Bool, true, false, IsTrue, IsSome, List, [], ◌∷◌, length, slice_get, Option, Some, None, option_map}
+-- The images of rules' patterns and of rules as patterns of matching logic (Chen and Rosu 2019). A constant or a sort
+-- of an image is the number of its token among names; where the names lack a token there is no image.
+use Rattle.std.specs.Prelude.{◌≡◌, ◌<◌, ℕ, Bool, true, false, IsTrue, IsSome, List, [], ◌∷◌, length, slice_get, Option}
+use Rattle.std.specs.Prelude.{Some, None, option_map}
 use Rattle.std.specs.List.{position_from}
 use Rattle.ml_pat.specs.Patterns.{Pattern, top, imp, and, app, at_sort, next, var, constant}
-use Rattle.term_core.specs.Patterns.{Pattern as RulePattern, Patterns as RulePatterns, variable, domain_value, application, injection, call, no_pattern, more_patterns}
+use Rattle.term_core.specs.Patterns.{Pattern as RulePattern, Patterns as RulePatterns, variable, domain_value}
+use Rattle.term_core.specs.Patterns.{application, injection, call, no_pattern, more_patterns}
 use Rattle.ground_rules.specs.declared.signature.Signature.{Signature}
 use Rattle.ground_rules.specs.declared.signature.SymInfo.{SymInfo}
 use Rattle.ground_rules.specs.declared.signature.SymKind.{SymKind}
@@ -74,8 +76,8 @@ abbrev pub AreSorts : Signature → List ℕ → Type 0
 AreSorts sig [] = Unit {0}
 AreSorts sig (s ∷ ss) = (s < length sig.sorts) × AreSorts sig ss
 
--- The pattern has an image: its sorts and symbols are the signature's, each domain value is one that its sort has, and it is
--- built of what has images.
+-- The pattern has an image: its sorts and symbols are the signature's, each domain value is one that its sort has, and
+-- it is built of what has images.
 abbrev mutual
   pub HasImage : Signature → RulePattern → Type 0
   HasImage sig (variable x) = Unit {0}

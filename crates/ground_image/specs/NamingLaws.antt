@@ -9,11 +9,14 @@ use Rattle.ground_image.specs.Gained.{AreOwnTokens, HasGained}
 
 -- names that have gained tokens have own tokens behind what they were
 abbrev pub GainedAreOwn : Type 0
-GainedAreOwn = (sig : Signature) (old new : List (List ℕ)) → HasGained sig old new → AreOwnTokens sig (drop (length old) new)
+GainedAreOwn = (sig : Signature) (old new : List (List ℕ)) → HasGained sig old new
+    → AreOwnTokens sig (drop (length old) new)
 
 -- an image stays the same when names gain tokens, and so does that of a rule
 abbrev pub ImageStays : Type 0
-ImageStays = (sig : Signature) (names more : List (List ℕ)) (a : RulePattern) (p : Pattern) → image_of sig names a ≡ Some p → image_of sig (names ++ more) a ≡ Some p
+ImageStays = (sig : Signature) (names more : List (List ℕ)) (a : RulePattern) (p : Pattern) → image_of sig names a
+    ≡ Some p → image_of sig (names ++ more) a ≡ Some p
 
 abbrev pub RuleImageStays : Type 0
-RuleImageStays = (sig : Signature) (names more : List (List ℕ)) (r : RewriteRule) (p : Pattern) → rule_image_of sig names r ≡ Some p → rule_image_of sig (names ++ more) r ≡ Some p
+RuleImageStays = (sig : Signature) (names more : List (List ℕ)) (r : RewriteRule) (p : Pattern)
+    → rule_image_of sig names r ≡ Some p → rule_image_of sig (names ++ more) r ≡ Some p

@@ -1,5 +1,6 @@
 -- The tokens of sorts, symbols and domain values in a Metamath database, and their numbers.
-use Rattle.std.specs.Prelude.{ℕ, ◌/◌, ◌%◌, List, [], ◌∷◌, ◌++◌, Bool, true, false, ◌&&◌, nat_le, Option, Some, None, option_map, slice_get, codes}
+use Rattle.std.specs.Prelude.{ℕ, ◌/◌, ◌%◌, List, [], ◌∷◌, ◌++◌, Bool, true, false, ◌&&◌, nat_le, Option, Some, None}
+use Rattle.std.specs.Prelude.{option_map, slice_get, codes}
 use Rattle.std.specs.Char.{digit_char}
 use Rattle.std.specs.List.{list_all}
 use Rattle.std.specs.Fmt.{signed_decimal}
@@ -56,7 +57,8 @@ is_text (integer n) = false
 is_text (truth b) = false
 is_text (text bytes) = true
 
--- whether a value is one of the sorts of this kind: integers and truth values have sorts of their own, and all else is text
+-- whether a value is one of the sorts of this kind: integers and truth values have sorts of their own, and all else is
+-- text
 abbrev pub is_value_of : SortKind → DomainValue → Bool
 is_value_of kind.Int (integer n) = true
 is_value_of kind.Int (truth b) = false

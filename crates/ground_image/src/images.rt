@@ -3,7 +3,8 @@ ghost use Rattle.std.specs.Prelude.{◌≡◌, ◌<◌, [], ◌∷◌, length, s
 ghost use Rattle.ml_pat.specs.Patterns.{Pattern, top, imp, and, next};
 ghost use Rattle.term_core.specs.RulePatterns.{plain_pattern, sort_numbers};
 ghost use Rattle.term_core.specs.PatternLists.{plain_patterns};
-ghost use Rattle.ground_image.specs.Images.{image_of, applied, at_sorts, symbol_image, HasImage, HaveImages, AreSorts, HasImageAt, IsImageAt, injection_symbol, injection_image};
+ghost use Rattle.ground_image.specs.Images.{image_of, applied, at_sorts, symbol_image, HasImage, HaveImages, AreSorts};
+ghost use Rattle.ground_image.specs.Images.{HasImageAt, IsImageAt, injection_symbol, injection_image};
 ghost use Rattle.ground_image.specs.Injecting.{IsInjectionAt};
 ghost use Rattle.ground_image.specs.Gained.{HasGained};
 

@@ -31,7 +31,9 @@ pub(crate) fn alone(alloc: Global, symbol: SymId) -> RulePat
 
 // f(a, b).
 pub(crate) fn pair(alloc: Global) -> Result<RulePat, AllocError>
-    ensures { IfOk result (λ p. plain_pattern p ≡ application 0 (more_patterns (application 1 no_pattern) (more_patterns (application 2 no_pattern) no_pattern))) }
+    ensures { IfOk result (λ p. plain_pattern p
+        ≡ application 0 (more_patterns (application 1 no_pattern)
+        (more_patterns (application 2 no_pattern) no_pattern))) }
 {
     let args = vec![in alloc; alone(alloc, A), alone(alloc, B)]?;
     Ok(RulePat::Ctor(F, args))
@@ -39,7 +41,8 @@ pub(crate) fn pair(alloc: Global) -> Result<RulePat, AllocError>
 
 // f{S}(a).
 pub(crate) fn called(alloc: Global) -> Result<RulePat, AllocError>
-    ensures { IfOk result (λ p. plain_pattern p ≡ call 0 (0 ∷ []) (more_patterns (application 1 no_pattern) no_pattern)) }
+    ensures { IfOk result (λ p. plain_pattern p
+        ≡ call 0 (0 ∷ []) (more_patterns (application 1 no_pattern) no_pattern)) }
 {
     let sorts = vec![in alloc; SortId(0)]?;
     let args = vec![in alloc; alone(alloc, A)]?;
@@ -109,7 +112,8 @@ pub(crate) fn small(alloc: Global) -> Result<Option<Program>, AllocError>
 
 // A program with one sort, of this kind.
 pub(crate) fn of_kind(alloc: Global, kind: SortKind) -> Result<Program, AllocError>
-    ensures { IfOk result (λ program. (v : DomainValue) → IsTrue (is_value_of kind v && list_all is_byte (value_text v)) → HasImage program.sig (domain_value 0 v)) }
+    ensures { IfOk result (λ program. (v : DomainValue) → IsTrue (is_value_of kind v && list_all is_byte (value_text v))
+        → HasImage program.sig (domain_value 0 v)) }
 {
     let mut sorts = Table::new(alloc);
     sorts.insert(String::from_str(alloc, "S")?, SortInfo { kind })?;

@@ -1,9 +1,11 @@
 // The numbers of the tokens of sorts, symbols and domain values.
-ghost use Rattle.std.specs.Prelude.{◌≡◌, OnOk, ◌<◌, ◌++◌, length, slice_get, string_bytes, option_map, IfOk, IsTrue, Some, codes};
+ghost use Rattle.std.specs.Prelude.{◌≡◌, OnOk, ◌<◌, ◌++◌, length, slice_get, string_bytes, option_map, IfOk, IsTrue};
+ghost use Rattle.std.specs.Prelude.{Some, codes};
 ghost use Rattle.std.specs.Char.{digit_char};
 ghost use Rattle.term_core.specs.Values.{value_of};
 ghost use Rattle.ml_pat.specs.Named.{number_of, IsNumbered};
-ghost use Rattle.ground_image.specs.Tokens.{sort_token, symbol_token, name_at, token_of_sort, token_of_symbol, token_of_value, value_token, hexadecimal, numbered, is_value_at};
+ghost use Rattle.ground_image.specs.Tokens.{sort_token, symbol_token, name_at, token_of_sort, token_of_symbol};
+ghost use Rattle.ground_image.specs.Tokens.{token_of_value, value_token, hexadecimal, numbered, is_value_at};
 ghost use Rattle.ground_image.specs.Gained.{IsOwnToken, HasGained};
 
 use ground_rules::Signature;
@@ -62,7 +64,8 @@ pub(crate) fn value_number(
 ) -> Result<ConstNo, AllocError>
     requires sort { sort.0 < length sig.now.sorts }
     requires value { IsTrue (is_value_at sig.now sort.0 (value_of value.now)) }
-    ensures number { IfOk result (λ c. numbered names.new (token_of_value sig.now sort.0 (value_of value.now)) ≡ Some c.0) }
+    ensures number { IfOk result (λ c. numbered names.new (token_of_value sig.now sort.0 (value_of value.now))
+        ≡ Some c.0) }
     ensures names { HasGained sig.now names.old names.new }
 {
     match sig.sorts.name(sort.0 as usize) {

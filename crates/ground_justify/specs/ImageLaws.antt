@@ -15,11 +15,13 @@ use Rattle.ground_justify.specs.NoVariables.{HasNoVariable}
 
 -- what is an axiom of a program stays one when names gain tokens
 abbrev pub OwnAxiomStays : Type 0
-OwnAxiomStays = (program : Program) (names more : List Token) (p : Pattern) → IsOwnAxiom program names p → IsOwnAxiom program (names ++ more) p
+OwnAxiomStays = (program : Program) (names more : List Token) (p : Pattern) → IsOwnAxiom program names p
+    → IsOwnAxiom program (names ++ more) p
 
 -- the image of the rule at a place is an axiom of the program
 abbrev pub RuleImageIsOwn : Type 0
-RuleImageIsOwn = (program : Program) (names : List Token) (i : ℕ) (p : Pattern) → HasImageAt program i → IsImageAt program names i p → IsOwnAxiom program names p
+RuleImageIsOwn = (program : Program) (names : List Token) (i : ℕ) (p : Pattern) → HasImageAt program i
+    → IsImageAt program names i p → IsOwnAxiom program names p
 
 -- no variable stands in a ground pattern
 abbrev pub GroundHasNone : Type 0
@@ -27,9 +29,11 @@ GroundHasNone = (a : RulePattern) → IsGround a → HasNoVariable a
 
 -- the image of a pattern without variables, and of a rule with such sides, is closed over the names
 abbrev pub ImageIsClosed : Type 0
-ImageIsClosed = (sig : Signature) (names : List Token) (a : RulePattern) (p : Pattern) → HasNoVariable a → image_of sig names a ≡ Some p → EachLeaf (closed_over names) p
+ImageIsClosed = (sig : Signature) (names : List Token) (a : RulePattern) (p : Pattern) → HasNoVariable a
+    → image_of sig names a ≡ Some p → EachLeaf (closed_over names) p
 
 abbrev pub RuleImageIsClosed : Type 0
 RuleImageIsClosed =
-    (sig : Signature) (names : List Token) (r : RewriteRule) (p : Pattern) → HasNoVariable r.left → HasNoVariable r.right → rule_image_of sig names r ≡ Some p →
+    (sig : Signature) (names : List Token) (r : RewriteRule) (p : Pattern) → HasNoVariable r.left
+    → HasNoVariable r.right → rule_image_of sig names r ≡ Some p →
     EachLeaf (closed_over names) p

@@ -1,6 +1,7 @@
--- That a database justifies a run: it is valid, it assumes nothing but matching logic and what the program's definition says,
--- and its last theorem says that the run's start reaches its end (Chen and Rosu 2019).
-use Rattle.std.specs.Prelude.{◌≡◌, ℕ, true, false, IsTrue, if◌then◌else◌, List, [], ◌∷◌, ◌++◌, Contains, Option, Some, None, bytes_eq, codes}
+-- That a database justifies a run: it is valid, it assumes nothing but matching logic and what the program's definition
+-- says, and its last theorem says that the run's start reaches its end (Chen and Rosu 2019).
+use Rattle.std.specs.Prelude.{◌≡◌, ℕ, true, false, IsTrue, if◌then◌else◌, List, [], ◌∷◌, ◌++◌, Contains, Option, Some}
+use Rattle.std.specs.Prelude.{None, bytes_eq, codes}
 use Rattle.mm_text.specs.Bytes.{Token, has_token}
 use Rattle.mm_database.specs.Frames.{Hypothesis, floating, essential, Frame}
 use Rattle.mm_database.specs.Assertions.{Assertion, assertions_of, typings_of}
@@ -36,8 +37,8 @@ premises_in [] = []
 premises_in (floating label typecode variable ∷ hypotheses) = premises_in hypotheses
 premises_in (essential label statement ∷ hypotheses) = statement ∷ premises_in hypotheses
 
--- A frame says no more than another: it has the same statement, the same `$e`s in order, and the same variables of the same
--- types. Labels are free, and more pairs may have to stay apart.
+-- A frame says no more than another: it has the same statement, the same `$e`s in order, and the same variables of the
+-- same types. Labels are free, and more pairs may have to stay apart.
 pub record SaysNoMore (f other : Frame) : Type 0 where
   pub statement : f.statement ≡ other.statement
   pub premises : premises_in f.hypotheses ≡ premises_in other.hypotheses
@@ -49,20 +50,25 @@ pub record SaysClosed (f : Frame) (tokens : List Token) : Type 0 where
   pub no_hypotheses : f.hypotheses ≡ []
   pub statement : f.statement ≡ tokens
 
--- What a program's definition says, as a pattern whose sorts and constants are the numbers of names: the image of a rule
--- without variables, or the fact that a domain value is one element of its sort.
+-- What a program's definition says, as a pattern whose sorts and constants are the numbers of names: the image of a
+-- rule without variables, or the fact that a domain value is one element of its sort.
 pub data IsOwnAxiom (program : Program) (names : List Token) : Pattern → Type 0 where
-  rule_image : (r : Rule) (p : Pattern) → Contains program.rules.items r → HasNoVariables r → rule_image_of program.sig names (rewrite_rule r) ≡ Some p
+  rule_image : (r : Rule) (p : Pattern) → Contains program.rules.items r → HasNoVariables r
+      → rule_image_of program.sig names (rewrite_rule r) ≡ Some p
       → IsOwnAxiom program names p
-  value_fact : (s n c : ℕ) (v : DomainValue) → IsTrue (is_value_at program.sig s v) → numbered names (token_of_value program.sig s v) ≡ Some c → numbered names (token_of_sort program.sig s) ≡ Some n
+  value_fact : (s n c : ℕ) (v : DomainValue) → IsTrue (is_value_at program.sig s v)
+      → numbered names (token_of_value program.sig s v) ≡ Some c → numbered names (token_of_sort program.sig s) ≡ Some n
       → IsOwnAxiom program names (fun (constant c) n)
 
--- What the frame of an axiom may be: that of a row of the header, of the declaration of a sort, a symbol or a domain value of
--- the program, or of what the program's definition says, with the tokens of names.
+-- What the frame of an axiom may be: that of a row of the header, of the declaration of a sort, a symbol or a domain
+-- value of the program, or of what the program's definition says, with the tokens of names.
 pub data IsAxiomOf (program : Program) (f : Frame) : Type 0 where
-  header_row : (r : Row) (other : Frame) → Contains header_rows r → IsFrameOfRow r other → SaysNoMore f other → IsAxiomOf program f
-  declaration : (token : Token) → IsOwnToken program.sig token → SaysClosed f (typecode_of token ∷ (token ∷ [])) → IsAxiomOf program f
-  own_axiom : (names : List Token) (p : Pattern) → IsOwnAxiom program names p → EachLeaf (closed_over names) p → SaysClosed f (holds_text (own_naming names) p)
+  header_row : (r : Row) (other : Frame) → Contains header_rows r → IsFrameOfRow r other → SaysNoMore f other
+      → IsAxiomOf program f
+  declaration : (token : Token) → IsOwnToken program.sig token → SaysClosed f (typecode_of token ∷ (token ∷ []))
+      → IsAxiomOf program f
+  own_axiom : (names : List Token) (p : Pattern) → IsOwnAxiom program names p
+      → EachLeaf (closed_over names) p → SaysClosed f (holds_text (own_naming names) p)
       → IsAxiomOf program f
 
 -- a `$p` may say what it proves, and a `$a` is one of these axioms
@@ -79,7 +85,8 @@ typecodes = codes "#Pattern" ∷ codes "#Sort" ∷ codes "#Var" ∷ []
 
 abbrev pub AreTypings : List Hypothesis → Type 0
 AreTypings [] = Unit {0}
-AreTypings (floating label typecode variable ∷ hypotheses) = IsTrue (has_token typecodes typecode) × AreTypings hypotheses
+AreTypings (floating label typecode variable ∷ hypotheses) = IsTrue (has_token typecodes typecode)
+    × AreTypings hypotheses
 AreTypings (essential label statement ∷ hypotheses) = ⊥
 
 -- each `$a` of the text is an axiom of the program, and each `$f` types its variable so
@@ -87,7 +94,8 @@ pub record HasOnlyAxiomsOf (program : Program) (bytes : List ℕ) : Type 0 where
   pub axioms : AreAllowed program (assertions_of bytes)
   pub types : AreTypings (typings_of bytes)
 
--- the tokens say that one pattern reaches another, `|- ( \imp A ( \ev B ) )` with the texts of their images, of constants alone
+-- the tokens say that one pattern reaches another, `|- ( \imp A ( \ev B ) )` with the texts of their images, of
+-- constants alone
 pub record SaysReaches (sig : Signature) (a b : RulePattern) (tokens : List Token) : Type 0 where
   pub names : List Token
   pub from : Pattern
@@ -97,8 +105,8 @@ pub record SaysReaches (sig : Signature) (a b : RulePattern) (tokens : List Toke
   pub closed : EachLeaf (closed_over names) (imp from (ev to))
   pub text : tokens ≡ holds_text (own_naming names) (imp from (ev to))
 
--- A database justifies the run of a program from a to b: it is valid, has only the program's axioms, and the last thing that it
--- states is a `$p` without hypotheses that says that a reaches b.
+-- A database justifies the run of a program from a to b: it is valid, has only the program's axioms, and the last thing
+-- that it states is a `$p` without hypotheses that says that a reaches b.
 pub record Justifies (bytes : List ℕ) (program : Program) (a b : RulePattern) : Type 0 where
   pub valid : IsValid bytes
   pub only : HasOnlyAxiomsOf program bytes

@@ -29,15 +29,18 @@ HeaderHasOnly = (program : Program) → HasOnlyAxiomsOf program header_bytes
 -- which are the program's own tokens.
 abbrev pub DeclaredHasOnly : Type 0
 DeclaredHasOnly =
-    (program : Program) (names : List Token) (k : Kept) (bytes : List ℕ) → AreNames names → AreDistinct names → length names < 2 ^ 64 → k.begun ≡ true → k.named ≤ length names →
+    (program : Program) (names : List Token) (k : Kept) (bytes : List ℕ) → AreNames names → AreDistinct names
+    → length names < 2 ^ 64 → k.begun ≡ true → k.named ≤ length names →
     AreOwnTokens program.sig (drop k.named names) → Fits names k bytes → HasOnlyAxiomsOf program bytes →
     HasOnlyAxiomsOf program (bytes ++ written_statements (all_name_statements k.named (drop k.named names)))
 
 -- And so it has with an axiom behind it that the program's definition says, without variables.
 abbrev pub AxiomHasOnly : Type 0
 AxiomHasOnly =
-    (program : Program) (names : List Token) (old new : Kept) (p : Pattern) (bytes appended : List ℕ) → EachLeaf (closed_over (take old.named names)) p →
-    Gains names old new appended (claim_variables [] p) (open_assertion false (take old.named names) (length old.stated) (claim_of [] p)) →
+    (program : Program) (names : List Token) (old new : Kept) (p : Pattern) (bytes appended : List ℕ)
+    → EachLeaf (closed_over (take old.named names)) p →
+    Gains names old new appended (claim_variables [] p)
+    (open_assertion false (take old.named names) (length old.stated) (claim_of [] p)) →
     IsOwnAxiom program (take old.named names) p → Fits names old bytes → HasOnlyAxiomsOf program bytes →
     HasOnlyAxiomsOf program (bytes ++ appended)
 
@@ -52,7 +55,9 @@ TheoremHasOnly =
 -- it justifies the run.
 abbrev pub TheoremJustifies : Type 0
 TheoremJustifies =
-    (program : Program) (names : List Token) (old new : Kept) (t : Theorem) (text text' : List ℕ) (a b : RulePattern) (p q : Pattern) →
+    (program : Program) (names : List Token) (old new : Kept) (t : Theorem) (text text' : List ℕ) (a b : RulePattern)
+    (p q : Pattern) →
     StatesLemma names old new t text text' → MayProve names old t → Fits names old text → HasOnlyAxiomsOf program text →
-    image_of program.sig (take old.named names) a ≡ Some p → image_of program.sig (take old.named names) b ≡ Some q → t.hypotheses ≡ [] → t.conclusion ≡ imp p (ev q) →
+    image_of program.sig (take old.named names) a ≡ Some p → image_of program.sig (take old.named names) b ≡ Some q
+    → t.hypotheses ≡ [] → t.conclusion ≡ imp p (ev q) →
     EachLeaf (closed_over (take old.named names)) (imp p (ev q)) → Justifies text' program a b

@@ -1,7 +1,9 @@
 // Laws on what justifies a run, and the definition tried on small texts.
-ghost use Rattle.ground_justify.specs.ImageLaws.{GroundHasNone, ImageIsClosed, OwnAxiomStays, RuleImageIsClosed, RuleImageIsOwn};
+ghost use Rattle.ground_justify.specs.ImageLaws.{GroundHasNone, ImageIsClosed, OwnAxiomStays, RuleImageIsClosed};
+ghost use Rattle.ground_justify.specs.ImageLaws.{RuleImageIsOwn};
 ghost use Rattle.ground_justify.specs.JustifyingCases.{ConclusionIsNoAxiom, SmallJustifies};
-ghost use Rattle.ground_justify.specs.JustifyingLaws.{AxiomHasOnly, DeclaredHasOnly, HeaderHasOnly, TheoremHasOnly, TheoremJustifies};
+ghost use Rattle.ground_justify.specs.JustifyingLaws.{AxiomHasOnly, DeclaredHasOnly, HeaderHasOnly, TheoremHasOnly};
+ghost use Rattle.ground_justify.specs.JustifyingLaws.{TheoremJustifies};
 
 /// The definition says of a small text that it justifies a run, and of an axiom that says that one symbol reaches
 /// another that no program has it.

@@ -3,9 +3,9 @@
 //! end (`specs/Justifying`; Chen and Rosu 2019).
 //!
 //! It stands on claims and the texts that they fit (crate `mm_claims`), and on the images of terms and rules (crate
-//! `ground_image`), and knows nothing of who writes a text. `justifying_laws` say that a text that fits comes to justify a
-//! run by the statements that it gains; `image_laws`, of which patterns images are closed. The laws are clauses of
-//! functions that do nothing.
+//! `ground_image`), and knows nothing of who writes a text. `justifying_laws` say that a text that fits comes to
+//! justify a run by the statements that it gains; `image_laws`, of which patterns images are closed. The laws are
+//! clauses of functions that do nothing.
 #![tactic(auto)]
 
 mod laws;

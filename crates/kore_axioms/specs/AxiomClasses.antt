@@ -1,5 +1,6 @@
 -- What an axiom of a module that counts is read as: the first class that fits.
-use Rattle.std.specs.Prelude.{ℕ, List, Bool, true, false, not, ◌||◌, ◌&&◌, Option, Some, None, is_none, is_some, if◌then◌else◌, codes}
+use Rattle.std.specs.Prelude.{ℕ, List, Bool, true, false, not, ◌||◌, ◌&&◌, Option, Some, None, is_none, is_some}
+use Rattle.std.specs.Prelude.{if◌then◌else◌, codes}
 use Rattle.std.specs.List.{list_any}
 use Rattle.kore_text.specs.Trees.{PatternTree, AxiomDeclaration}
 use Rattle.rule_core.specs.declared.signature.Signature.{Signature}
@@ -55,6 +56,7 @@ states_pairs attributes = list_any (λ (a : PatternTree). is_some (subsort_sorts
 abbrev pub class_of : Signature → AxiomDeclaration → AxiomClass
 class_of sig a =
     if has_attribute (codes "anywhere") a.attributes then refused 20
-    else if has_attribute (codes "overload") a.attributes || has_attribute (codes "symbol-overload") a.attributes then refused 21
+    else if has_attribute (codes "overload") a.attributes
+    || has_attribute (codes "symbol-overload") a.attributes then refused 21
     else if states_pairs a.attributes then orders_sorts
     else class_of_pattern sig a (rewriting a.pattern)

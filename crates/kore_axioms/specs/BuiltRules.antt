@@ -16,7 +16,8 @@ use Rattle.kore_axioms.specs.declared.rules.RulePatterns.{RulePatterns}
 
 -- the first fault of the form, or else of the sorts
 abbrev pub FirstOfShape : Signature → AxiomDeclaration → SortTree → RuleParts → Option Fault → Type 0
-FirstOfShape sig a s w r = Then (IsFirstBy ByNumber (Contains (form_faults a w))) (IsFirstBy ByByte (Contains (sorted_faults sig s w))) r
+FirstOfShape sig a s w r
+    = Then (IsFirstBy ByNumber (Contains (form_faults a w))) (IsFirstBy ByByte (Contains (sorted_faults sig s w))) r
 
 -- the variables, and those of the pattern, where there is one, behind them
 abbrev pub with_some_variables : Signature → List (List ℕ × ℕ) → Option PatternTree → List (List ℕ × ℕ)
@@ -43,8 +44,11 @@ pub record IsBuiltOf (sig : Signature) (w : RuleParts) (made : RulePatterns) : T
   pub is_left : left_of w ≡ Some left
   pub right : PatternTree
   pub is_right : right_of w ≡ Some right
-  pub bound : made.bound ≡ (is_bound (listed (left_of w)) (tested w.condition) && is_bound (listed (left_of w)) (right_of w))
+  pub bound : made.bound
+      ≡ (is_bound (listed (left_of w)) (tested w.condition) && is_bound (listed (left_of w)) (right_of w))
   pub numbered : made.bound ≡ true → named_sorts made.vars.items ≡ with_variables sig [] (unfolded left)
   pub means_left : made.bound ≡ true → Means sig (named_sorts made.vars.items) (unfolded left) (plain_pattern made.left)
-  pub means_condition : made.bound ≡ true → MeansTest sig (named_sorts made.vars.items) (tested w.condition) (option_map plain_pattern made.cond)
-  pub means_right : made.bound ≡ true → Means sig (named_sorts made.vars.items) (unfolded right) (plain_pattern made.right)
+  pub means_condition : made.bound ≡ true
+      → MeansTest sig (named_sorts made.vars.items) (tested w.condition) (option_map plain_pattern made.cond)
+  pub means_right : made.bound ≡ true
+      → Means sig (named_sorts made.vars.items) (unfolded right) (plain_pattern made.right)

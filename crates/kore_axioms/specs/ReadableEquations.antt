@@ -1,6 +1,7 @@
 -- Which equations are readable. One that is not closes its function; it is no fault of the definition, so it matters
 -- only whether it has a fault, and not which is the first.
-use Rattle.std.specs.Prelude.{◌≡◌, ◌==◌, ◌+◌, ℕ, List, [], ◌∷◌, ◌++◌, Bool, true, false, not, ◌||◌, ◌&&◌, Option, Some, None, is_some, length, codes, nat_le}
+use Rattle.std.specs.Prelude.{◌≡◌, ◌==◌, ◌+◌, ℕ, List, [], ◌∷◌, ◌++◌, Bool, true, false, not, ◌||◌, ◌&&◌, Option, Some}
+use Rattle.std.specs.Prelude.{None, is_some, length, codes, nat_le}
 use Rattle.std.specs.List.{list_any}
 use Rattle.std.specs.Str.{bytes_eq}
 use Rattle.kore_text.specs.Trees.{SortTree, sort_parameter, sort_applied, PatternTree, pattern_trees, AxiomDeclaration}
@@ -99,7 +100,8 @@ has_good_uses sig info e q =
 
 -- The equation of the function with this declaration has one of the two forms, with these parts, none of which has a
 -- fault, and is no last resort.
-pub record IsReadable (sig : Signature) (a : AxiomDeclaration) (info : SymInfo) (e : Statement) (q : EquationParts) : Type 0 where
+pub record IsReadable (sig : Signature) (a : AxiomDeclaration) (info : SymInfo) (e : Statement) (q : EquationParts) :
+    Type 0 where
   pub no_last_resort : has_attribute (codes "owise") a.attributes ≡ false
   pub form : equation_parts e ≡ Some q
   pub function : fits_function sig a info e q ≡ true

@@ -1,7 +1,8 @@
 -- The first fault of a rewrite rule: of its form, or else of its sorts, or else of how its sides use symbols and
 -- variables.
 use Rattle.std.specs.Prelude.{ℕ, List, [], ◌∷◌, ◌++◌, Bool, false, true, not, ◌&&◌, Option, Some, None, Contains}
-use Rattle.kore_text.specs.Trees.{SortTree, listed_sorts, PatternTree, element_variable, set_variable, string, symbol_applied, connected, binding, domain_value, folded, AxiomDeclaration}
+use Rattle.kore_text.specs.Trees.{SortTree, listed_sorts, PatternTree, element_variable, set_variable, string}
+use Rattle.kore_text.specs.Trees.{symbol_applied, connected, binding, domain_value, folded, AxiomDeclaration}
 use Rattle.rule_core.specs.declared.signature.Signature.{Signature}
 use Rattle.kore_sig.specs.FirstFault.{Fault, ByByte, ByNumber, IsFirstBy, Then}
 use Rattle.kore_sig.specs.SortReferences.{sort_number}

@@ -6,7 +6,8 @@ use Rattle.rule_core.specs.declared.signature.Signature.{Signature}
 use Rattle.rule_core.specs.declared.signature.SymInfo.{SymInfo}
 use Rattle.rule_core.specs.declared.signature.SymKind.{SymKind}
 use Rattle.rule_core.specs.declared.signature.SymKind.TheVariants.{Injection, Ctor, Equations, Hooked, Closed, NoKind}
-use Rattle.kore_check.specs.Folds.{Unfolded, named_variable, written_value, applied_symbol, other_form, Unfoldeds, no_more, and_more}
+use Rattle.kore_check.specs.Folds.{Unfolded, named_variable, written_value, applied_symbol, other_form, Unfoldeds}
+use Rattle.kore_check.specs.Folds.{no_more, and_more}
 use Rattle.kore_check.specs.PatternSorts.{symbol_named}
 use Rattle.kore_shapes.specs.SameSorts.{same_sort}
 

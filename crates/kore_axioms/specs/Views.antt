@@ -8,7 +8,12 @@ use Rattle.kore_axioms.specs.declared.faults.AxiomFault.{AxiomFault}
 use Rattle.kore_axioms.specs.declared.faults.AxiomFault.TheVariants as fault
 
 abbrev pub plain_rule_parts : RuleParts → PartsOfTree
-plain_rule_parts w = record { before = plain_side w.before; after = plain_side w.after; condition = plain_condition w.condition }
+plain_rule_parts w = record {
+  before = plain_side w.before;
+  after = plain_side w.after;
+  condition
+      = plain_condition w.condition;
+}
 
 -- the number of the refusal
 abbrev pub fault_number : AxiomFault → ℕ

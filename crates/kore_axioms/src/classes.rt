@@ -5,7 +5,11 @@ ghost use Rattle.kore_sig.specs.Attributes.{is_said_ac as is_ac, subsort_sorts, 
 ghost use Rattle.kore_check.specs.PatternSorts.{symbol_named};
 ghost use Rattle.kore_shapes.specs.Shapes.{rewriting as the_rewriting};
 ghost use Rattle.kore_shapes.specs.StatementViews.{plain_statement};
-ghost use Rattle.kore_axioms.specs.AxiomClasses.{is_defined_kind as is_defined, takes_equations as does_take_equations, is_no_equation as is_surely_none, class_of_statement as the_class_of_statement, class_of_pattern as the_class_of_pattern, states_pairs as do_state_pairs, class_of as the_class};
+ghost use Rattle.kore_axioms.specs.AxiomClasses.{is_defined_kind as is_defined, takes_equations as does_take_equations};
+ghost use Rattle.kore_axioms.specs.AxiomClasses.{is_no_equation as is_surely_none};
+ghost use Rattle.kore_axioms.specs.AxiomClasses.{class_of_statement as the_class_of_statement};
+ghost use Rattle.kore_axioms.specs.AxiomClasses.{class_of_pattern as the_class_of_pattern};
+ghost use Rattle.kore_axioms.specs.AxiomClasses.{states_pairs as do_state_pairs, class_of as the_class};
 ghost use Rattle.kore_axioms.specs.ClassViews.{plain_class};
 
 use crate::faults::AxiomFault;
@@ -47,7 +51,8 @@ pub fn class_of<'a>(sig: &Signature, decl: &'a AxiomDecl) -> AxiomClass<'a>
 }
 
 fn class_of_pattern<'a>(sig: &Signature, decl: &'a AxiomDecl) -> AxiomClass<'a>
-    ensures { plain_class result ≡ the_class_of_pattern sig.now (plain_axiom_decl decl.now) (the_rewriting (plain_pattern decl.now.pat)) }
+    ensures { plain_class result
+        ≡ the_class_of_pattern sig.now (plain_axiom_decl decl.now) (the_rewriting (plain_pattern decl.now.pat)) }
 {
     match rewriting_at(&decl.pat) {
         Some(rewriting) => AxiomClass::Rewrites(rewriting),
@@ -61,7 +66,8 @@ fn class_of_statement<'a>(
     attrs: &[Pat],
     stated: Option<Statement<'a>>,
 ) -> AxiomClass<'a>
-    ensures { plain_class result ≡ the_class_of_statement sig.now (map plain_pattern attrs.now) (option_map plain_statement stated.entry) }
+    ensures { plain_class result
+        ≡ the_class_of_statement sig.now (map plain_pattern attrs.now) (option_map plain_statement stated.entry) }
 {
     match stated {
         Some(stated)

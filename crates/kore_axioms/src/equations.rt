@@ -14,7 +14,10 @@ ghost use Rattle.kore_axioms.specs.Uses.{have_symbol as have_one};
 ghost use Rattle.kore_axioms.specs.UsedSymbols.{is_used};
 ghost use Rattle.kore_axioms.specs.Conditions.{tested as the_tested};
 ghost use Rattle.kore_axioms.specs.RuleForms.{holds_of};
-ghost use Rattle.kore_axioms.specs.ReadableEquations.{condition_of_equation as the_condition, is_sort_over as is_a_sort_over, is_one_sort as are_one_sort, fits_function as does_fit, has_other_form as has_another_form, has_good_form as is_of_good_form};
+ghost use Rattle.kore_axioms.specs.ReadableEquations.{condition_of_equation as the_condition};
+ghost use Rattle.kore_axioms.specs.ReadableEquations.{is_sort_over as is_a_sort_over, is_one_sort as are_one_sort};
+ghost use Rattle.kore_axioms.specs.ReadableEquations.{fits_function as does_fit, has_other_form as has_another_form};
+ghost use Rattle.kore_axioms.specs.ReadableEquations.{has_good_form as is_of_good_form};
 
 use crate::parts::{is_ill, over_bool, tested};
 use crate::priorities::has_bad_priority;
@@ -46,7 +49,8 @@ fn fits_function(
     stated: &Statement<'_>,
     parts: &EquationParts<'_>,
 ) -> bool
-    ensures { result ≡ does_fit sig.now (plain_axiom_decl decl.now) symbol.now (plain_statement stated.now) (plain_parts parts.now) }
+    ensures { result ≡ does_fit sig.now (plain_axiom_decl decl.now) symbol.now (plain_statement stated.now)
+        (plain_parts parts.now) }
 {
     is_sort_over(sig, &decl.params, stated.over)
         && is_one_sort(sort_number(&sig.sorts, stated.sort), result_sort(symbol))
@@ -93,15 +97,16 @@ fn result_sort(symbol: &SymInfo) -> Option<usize>
     }
 }
 
-/// Whether an equation has no form that no equation has, no binder, a condition of the form that conditions have, and no
-/// bad priority.
+/// Whether an equation has no form that no equation has, no binder, a condition of the form that conditions have, and
+/// no bad priority.
 fn has_good_form(
     sig: &Signature,
     decl: &AxiomDecl,
     stated: &Statement<'_>,
     parts: &EquationParts<'_>,
 ) -> bool
-    ensures { result ≡ is_of_good_form sig.now (plain_axiom_decl decl.now) (plain_statement stated.now) (plain_parts parts.now) }
+    ensures { result ≡ is_of_good_form sig.now (plain_axiom_decl decl.now) (plain_statement stated.now)
+        (plain_parts parts.now) }
 {
     let condition = condition_of(sig, stated, parts);
     !has_other_form(condition, parts)
@@ -112,7 +117,8 @@ fn has_good_form(
 
 fn has_other_form(condition: Condition<'_>, parts: &EquationParts<'_>) -> bool
     ensures { result ≡ (list_any (has_one all_forms) (plain_parts parts.now).patterns
-        || (holds_of (has_one all_forms) (the_tested (plain_condition condition.entry)) || has_one all_forms (plain_parts parts.now).right)) }
+        || (holds_of (has_one all_forms) (the_tested (plain_condition condition.entry))
+        || has_one all_forms (plain_parts parts.now).right)) }
 {
     have_form(&parts.patterns)
         || is_of_other_form(tested(condition))

@@ -57,7 +57,8 @@ pub(crate) fn first_raised(tests: &[(bool, AxiomFault)]) -> Option<AxiomFault>
 }
 
 fn smaller(first: Option<AxiomFault>, test: &(bool, AxiomFault)) -> Option<AxiomFault>
-    ensures { (at : ℕ) → option_map (fault_at at) result ≡ noted leads_by_number (option_map (fault_at at) first) (when test.now.0 (the_number test.now.1) at) }
+    ensures { (at : ℕ) → option_map (fault_at at) result
+        ≡ noted leads_by_number (option_map (fault_at at) first) (when test.now.0 (the_number test.now.1) at) }
 {
     let (holds, fault) = *test;
     match first {

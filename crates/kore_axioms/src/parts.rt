@@ -5,9 +5,11 @@ ghost use Rattle.kore_sig.specs.Noted.{first_by_number};
 ghost use Rattle.kore_shapes.specs.Forms.{has_form as has_one};
 ghost use Rattle.kore_shapes.specs.SoughtForms.{sought as sought_forms};
 ghost use Rattle.kore_shapes.specs.Views.{pattern_at, plain_side, plain_condition, plain_rewriting};
-ghost use Rattle.kore_axioms.specs.Conditions.{is_bool as is_a_bool, over_bool as the_over_bool, tested as the_tested, is_ill as is_an_ill};
+ghost use Rattle.kore_axioms.specs.Conditions.{is_bool as is_a_bool, over_bool as the_over_bool, tested as the_tested};
+ghost use Rattle.kore_axioms.specs.Conditions.{is_ill as is_an_ill};
 ghost use Rattle.kore_axioms.specs.RuleParts.{rule_parts as the_parts, left_of, right_of};
-ghost use Rattle.kore_axioms.specs.RuleForms.{holds_of, is_misshapen as is_a_misshapen, is_without as is_one_without, has_bad_form as has_a_bad_form, form_faults};
+ghost use Rattle.kore_axioms.specs.RuleForms.{holds_of, is_misshapen as is_a_misshapen, is_without as is_one_without};
+ghost use Rattle.kore_axioms.specs.RuleForms.{has_bad_form as has_a_bad_form, form_faults};
 ghost use Rattle.kore_axioms.specs.Views.{plain_rule_parts, fault_at};
 
 use crate::faults::{AxiomFault, first_raised};
@@ -86,7 +88,8 @@ pub(crate) fn is_ill(condition: Condition<'_>) -> bool
 
 /// The first fault of the form of a rewrite rule.
 pub(crate) fn form_fault(decl: &AxiomDecl, parts: RuleParts<'_>) -> Option<AxiomFault>
-    ensures { option_map (fault_at decl.now.at) result ≡ first_by_number (form_faults (plain_axiom_decl decl.now) (plain_rule_parts parts.entry)) }
+    ensures { option_map (fault_at decl.now.at) result
+        ≡ first_by_number (form_faults (plain_axiom_decl decl.now) (plain_rule_parts parts.entry)) }
 {
     let ill = is_without(parts.before) || is_ill(parts.condition);
     first_raised(&[

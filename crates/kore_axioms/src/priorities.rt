@@ -3,7 +3,9 @@ ghost use Rattle.std.specs.Prelude.{◌≡◌, map, option_map, option_copied, S
 ghost use Rattle.std.specs.Str.{all_ascii_digits};
 ghost use Rattle.kore_ast.specs.Plain.{plain_pattern};
 ghost use Rattle.kore_check.specs.ValueTexts.{number_of_digits as the_number};
-ghost use Rattle.kore_axioms.specs.Priorities.{short_number as the_short_number, stated_number as the_stated_number, stated_priority as the_stated_priority, has_bad_priority as is_bad, priority_of as the_priority};
+ghost use Rattle.kore_axioms.specs.Priorities.{short_number as the_short_number, stated_number as the_stated_number};
+ghost use Rattle.kore_axioms.specs.Priorities.{stated_priority as the_stated_priority, has_bad_priority as is_bad};
+ghost use Rattle.kore_axioms.specs.Priorities.{priority_of as the_priority};
 
 use kore_ast::{Pat, Text};
 use kore_sig::{first_of_name, has_attribute, text_of};

@@ -16,7 +16,8 @@ ghost use Rattle.kore_axioms.specs.Refusals.{Refuses};
 ghost use Rattle.kore_axioms.specs.Conditions.{tested as the_tested};
 ghost use Rattle.kore_axioms.specs.Raised.{raised};
 ghost use Rattle.kore_axioms.specs.RuleForms.{holds_of, form_faults};
-ghost use Rattle.kore_axioms.specs.RuleFaults.{listed, is_bound, differs_from as does_differ, use_tests, sorted_faults, FirstOfRule};
+ghost use Rattle.kore_axioms.specs.RuleFaults.{listed, is_bound, differs_from as does_differ, use_tests, sorted_faults};
+ghost use Rattle.kore_axioms.specs.RuleFaults.{FirstOfRule};
 ghost use Rattle.kore_axioms.specs.RuleParts.{left_of, right_of};
 ghost use Rattle.kore_axioms.specs.UsedSymbols.{is_used};
 ghost use Rattle.kore_axioms.specs.Uses.{has_symbol as has_one};
@@ -44,10 +45,13 @@ fn use_fault(
     parts: RuleParts<'_>,
     bound: bool,
 ) -> Option<AxiomFault>
-    requires { bound ≡ (is_bound (listed (left_of (plain_rule_parts parts))) (the_tested (plain_rule_parts parts).condition)
+    requires { bound ≡ (is_bound (listed (left_of (plain_rule_parts parts)))
+        (the_tested (plain_rule_parts parts).condition)
         && is_bound (listed (left_of (plain_rule_parts parts))) (right_of (plain_rule_parts parts))) }
     ensures { (at : ℕ) → option_map (fault_at at) result
-        ≡ first_by_number (raised at (use_tests sig.now (option_map (λ s. plain_sort s.now) first.entry) (plain_sort sort.now) (plain_rule_parts parts.entry))) }
+        ≡ first_by_number (raised at
+        (use_tests sig.now (option_map (λ s. plain_sort s.now) first.entry) (plain_sort sort.now)
+        (plain_rule_parts parts.entry))) }
 {
     let left = parts.before.main();
     first_raised(&[
@@ -104,9 +108,13 @@ pub fn checked_rule(
     requires numbered { IsNumbered sig.now }
     requires signature { IsSignature sig.now }
     requires class { class_of sig.now (plain_axiom_decl decl.now) ≡ rewrites (plain_rewriting rewriting) }
-    ensures clear { OnOk result (FirstOfRule sig.now (option_map (λ s. plain_sort s.now) first.entry) (plain_axiom_decl decl.now) (plain_rewriting rewriting.entry) None) }
+    ensures clear { OnOk result
+        (FirstOfRule sig.now (option_map (λ s. plain_sort s.now) first.entry) (plain_axiom_decl decl.now)
+        (plain_rewriting rewriting.entry) None) }
     ensures means { IfOk result (λ rule. IsRuleOf sig.now (plain_axiom_decl decl.now) (rewrite_rule rule)) }
-    ensures refused { IfErr result (Refuses (FirstOfRule sig.now (option_map (λ s. plain_sort s.now) first.entry) (plain_axiom_decl decl.now) (plain_rewriting rewriting.entry))) }
+    ensures refused { IfErr result
+        (Refuses (FirstOfRule sig.now (option_map (λ s. plain_sort s.now) first.entry) (plain_axiom_decl decl.now)
+        (plain_rewriting rewriting.entry))) }
 {
     let parts = rule_parts(sig, rewriting);
     match check_shape(sig, decl, rewriting.sort, parts) {
@@ -137,7 +145,9 @@ fn check_shape(
     requires { IsNumbered sig.now }
     ensures form { OnOk result (form_faults (plain_axiom_decl decl.now) (plain_rule_parts parts.entry) ≡ []) }
     ensures sorts { OnOk result (sorted_faults sig.now (plain_sort sort.now) (plain_rule_parts parts.entry) ≡ []) }
-    ensures refused { IfErr result (Refuses (FirstOfShape sig.now (plain_axiom_decl decl.now) (plain_sort sort.now) (plain_rule_parts parts.entry))) }
+    ensures refused { IfErr result
+        (Refuses (FirstOfShape sig.now (plain_axiom_decl decl.now) (plain_sort sort.now)
+        (plain_rule_parts parts.entry))) }
 {
     if let Some(fault) = form_fault(decl, parts) {
         return Err(Refusal::Refused(fault.number(), decl.at));
@@ -189,7 +199,8 @@ fn built_condition(
     requires form { IfSome (option_map pattern_at pat) (λ p. IsApplicative (unfolded p)) }
     requires faultless { IfSome (option_map pattern_at pat) (λ p. pattern_faults sig.now (unfolded p) ≡ []) }
     ensures vars { OnOk result (vars.new ≡ with_some_variables sig.now vars.old (option_map pattern_at pat.entry)) }
-    ensures means { IfOk result (λ p. MeansTest sig.now vars.new (option_map pattern_at pat.entry) (option_map plain_pattern p)) }
+    ensures means { IfOk result
+        (λ p. MeansTest sig.now vars.new (option_map pattern_at pat.entry) (option_map plain_pattern p)) }
 {
     match pat {
         Some(pat) => Ok(Some(build_pattern(alloc, sig, pat, vars)?)),

@@ -8,7 +8,8 @@ ghost use Rattle.kore_check.specs.Folds.{unfolded};
 ghost use Rattle.kore_check.specs.PatternFaults.{sort_faults, clash_faults};
 ghost use Rattle.kore_check.specs.FaultNumbers.{IsFirstOf};
 ghost use Rattle.kore_shapes.specs.Views.{pattern_at, plain_condition};
-ghost use Rattle.kore_axioms.specs.RuleFaults.{faults_at_sort, side_faults, condition_faults, only_sort_faults, top_faults, found_top_faults, sorted_faults};
+ghost use Rattle.kore_axioms.specs.RuleFaults.{faults_at_sort, side_faults, condition_faults, only_sort_faults};
+ghost use Rattle.kore_axioms.specs.RuleFaults.{top_faults, found_top_faults, sorted_faults};
 ghost use Rattle.kore_axioms.specs.Views.{plain_rule_parts};
 ghost use Rattle.kore_axioms.specs.Noting.{kept_fault, after, sort_of_id};
 
@@ -43,7 +44,8 @@ pub(crate) fn note_at_sort(
     first: &mut Option<PatternFault>,
 )
     requires { IsNumbered sig.now }
-    ensures { kept_fault first.new ≡ after first.old (faults_at_sort sig.now (option_map sort_of_id wanted) (unfolded (plain_pattern pat.now))) }
+    ensures { kept_fault first.new
+        ≡ after first.old (faults_at_sort sig.now (option_map sort_of_id wanted) (unfolded (plain_pattern pat.now))) }
 {
     let own = note_pattern(sig, pat, first);
     note_clash(pat.at, own, wanted, first);
@@ -57,7 +59,8 @@ fn note_side(
     first: &mut Option<PatternFault>,
 )
     requires { IsNumbered sig.now }
-    ensures { kept_fault first.new ≡ after first.old (side_faults sig.now (option_map sort_of_id wanted) (option_map pattern_at pat.entry)) }
+    ensures { kept_fault first.new
+        ≡ after first.old (side_faults sig.now (option_map sort_of_id wanted) (option_map pattern_at pat.entry)) }
 {
     match pat {
         Some(pat) => note_at_sort(sig, pat, wanted, first),
@@ -97,7 +100,8 @@ fn note_found_top(
     first: &mut Option<PatternFault>,
 )
     requires { IsNumbered sig.now }
-    ensures { kept_fault first.new ≡ after first.old (found_top_faults sig.now (option_map sort_of_id wanted) (option_map pattern_at top.entry)) }
+    ensures { kept_fault first.new
+        ≡ after first.old (found_top_faults sig.now (option_map sort_of_id wanted) (option_map pattern_at top.entry)) }
 {
     match top {
         Some(top) => note_top(sig, top, wanted, first),
@@ -107,7 +111,8 @@ fn note_found_top(
 
 fn note_top(sig: &Signature, top: &Pat, wanted: Option<SortId>, first: &mut Option<PatternFault>)
     requires { IsNumbered sig.now }
-    ensures { kept_fault first.new ≡ after first.old (top_faults sig.now (option_map sort_of_id wanted) (plain_pattern top.now)) }
+    ensures { kept_fault first.new
+        ≡ after first.old (top_faults sig.now (option_map sort_of_id wanted) (plain_pattern top.now)) }
 {
     match &top.form {
         PatForm::Built(_, sorts, _) => note_only_sort(sig, sorts, top.at, wanted, first),
@@ -123,7 +128,8 @@ fn note_only_sort(
     first: &mut Option<PatternFault>,
 )
     requires { IsNumbered sig.now }
-    ensures { kept_fault first.new ≡ after first.old (only_sort_faults sig.now (option_map sort_of_id wanted) at (map plain_sort sorts.now)) }
+    ensures { kept_fault first.new
+        ≡ after first.old (only_sort_faults sig.now (option_map sort_of_id wanted) at (map plain_sort sorts.now)) }
 {
     match sorts {
         [sort] => note_sort_at(sig, sort, at, wanted, first),
@@ -141,7 +147,8 @@ fn note_sort_at(
 )
     requires { IsNumbered sig.now }
     ensures { kept_fault first.new ≡ after first.old
-        (sort_faults sig.now (plain_sort sort.now) ++ clash_faults at (the_number sig.now.sorts (plain_sort sort.now)) (option_map sort_of_id wanted)) }
+        (sort_faults sig.now (plain_sort sort.now)
+        ++ clash_faults at (the_number sig.now.sorts (plain_sort sort.now)) (option_map sort_of_id wanted)) }
 {
     let own = noted_sort(sig, sort, first);
     note_clash(at, own, wanted, first);

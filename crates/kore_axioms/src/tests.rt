@@ -167,7 +167,8 @@ fn first_faults(rt: HostRuntime) -> Result<(), Fail> {
             Some((18, 0)),
         ),
         (
-            "axiom{} \\rewrites{S{}}(\\and{S{}}(i{}(X:I{}),\\equals{B{},S{}}(is{}(i{}(X:I{})),\\dv{B{}}(\"true\"))),i{}(X:I{})) []",
+            "axiom{} \\rewrites{S{}}(\\and{S{}}(i{}(X:I{}),\\equals{B{},S{}}(is{}(i{}(X:I{})),\\dv{B{}}(\"true\"))),\
+                i{}(X:I{})) []",
             None,
         ),
         (

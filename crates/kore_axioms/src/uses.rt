@@ -4,7 +4,8 @@ ghost use Rattle.kore_text.specs.Trees.{pattern_trees};
 ghost use Rattle.kore_ast.specs.Plain.{plain_pattern};
 ghost use Rattle.kore_check.specs.Folds.{unfolded, all_unfolded, inner_fold};
 ghost use Rattle.kore_shapes.specs.Forms.{is_one as there_is_one};
-ghost use Rattle.kore_axioms.specs.Uses.{has_symbol as has_one, have_symbol as have_one, is_function_kind, is_plain_function_with as is_the_plain_function, is_ac_with as is_the_ac};
+ghost use Rattle.kore_axioms.specs.Uses.{has_symbol as has_one, have_symbol as have_one, is_function_kind};
+ghost use Rattle.kore_axioms.specs.Uses.{is_plain_function_with as is_the_plain_function, is_ac_with as is_the_ac};
 ghost use Rattle.kore_axioms.specs.UsedSymbols.{is_used};
 ghost use Rattle.kore_axioms.specs.FoldUses.{are_two as there_are_two};
 

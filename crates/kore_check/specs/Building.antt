@@ -6,7 +6,8 @@ use Rattle.rule_core.specs.declared.signature.Signature.{Signature}
 use Rattle.rule_core.specs.declared.signature.SymKind.{SymKind}
 use Rattle.kore_check.specs.Folds.{Unfolded, Unfoldeds, no_more, and_more, IsApplicative}
 use Rattle.kore_check.specs.PatternFaults.{pattern_faults}
-use Rattle.kore_check.specs.PatternMeanings.{Means, AllMean, applied_pattern, with_variables, with_all_variables, IsNamed}
+use Rattle.kore_check.specs.PatternMeanings.{Means, AllMean, applied_pattern, with_variables, with_all_variables}
+use Rattle.kore_check.specs.PatternMeanings.{IsNamed}
 use Rattle.kore_check.specs.PatternSorts.{symbol_named, sort_numbers}
 use Rattle.kore_check.specs.declared.build.Head.{Head}
 use Rattle.kore_text.specs.Trees.{SortTree}
@@ -60,9 +61,11 @@ abbrev pub Built : Signature → List (List ℕ × ℕ) → List (List ℕ × �
 Built sig old new u None = IsFaultless sig u → ⊥
 Built sig old new u (Some p) = (new ≡ with_variables sig old u) × MeansFrom sig new u (plain_pattern p)
 
-abbrev pub AllBuilt : Signature → List (List ℕ × ℕ) → List (List ℕ × ℕ) → Unfoldeds → Option (Vec RulePat Global) → Type 0
+abbrev pub AllBuilt : Signature → List (List ℕ × ℕ) → List (List ℕ × ℕ) → Unfoldeds → Option (Vec RulePat Global)
+    → Type 0
 AllBuilt sig old new us None = AreFaultless sig us → ⊥
-AllBuilt sig old new us (Some ps) = (new ≡ with_all_variables sig old us) × AllMeanFrom sig new us (plain_patterns ps.items)
+AllBuilt sig old new us (Some ps) = (new ≡ with_all_variables sig old us)
+    × AllMeanFrom sig new us (plain_patterns ps.items)
 
 -- the head of an application, where the symbol and the sorts are declared
 abbrev pub IsHead : Signature → List ℕ → List SortTree → Option Head → Type 0

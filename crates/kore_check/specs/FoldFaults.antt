@@ -26,7 +26,8 @@ is_none_more (and_more p ps) = false
 abbrev pub rest_faults : Signature → Bool → FoldSorts → Unfoldeds → List Fault
 rest_faults sig left s no_more = []
 rest_faults sig left s (and_more p ps) =
-    pattern_faults sig p ++ (next_faults (is_none_more ps) left (place p) (sort_of sig p) s ++ rest_faults sig left s ps)
+    pattern_faults sig p ++ (next_faults (is_none_more ps) left (place p) (sort_of sig p) s
+    ++ rest_faults sig left s ps)
 
 -- of all arguments
 abbrev pub folded_faults : Signature → Bool → FoldSorts → Unfoldeds → List Fault

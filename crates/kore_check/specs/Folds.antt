@@ -1,7 +1,9 @@
 -- Patterns with their folds read (K framework, Kore language: `\left-assoc{}(f{}(a,b,c))` is `f{}(f{}(a,b),c)`, and
 -- `\right-assoc{}(f{}(a,b,c))` is `f{}(a,f{}(b,c))`; a fold of one argument is that argument).
 use Rattle.std.specs.Prelude.{◌+◌, ℕ, Bool, true, false, List, max}
-use Rattle.kore_text.specs.Trees.{SortTree, PatternTree, element_variable, set_variable, string, symbol_applied, connected, binding, domain_value, folded, PatternTrees, no_patterns, pattern_then, listed_sorts}
+use Rattle.kore_text.specs.Trees.{SortTree, PatternTree, element_variable, set_variable, string, symbol_applied}
+use Rattle.kore_text.specs.Trees.{connected, binding, domain_value, folded, PatternTrees, no_patterns, pattern_then}
+use Rattle.kore_text.specs.Trees.{listed_sorts}
 
 mutual
   -- a pattern of variables, domain values and applications; the first number is the byte at which it stands

@@ -1,5 +1,6 @@
 -- The faults of a pattern, all that are there. Which of them is the first is another matter: `IsFirstFault`.
-use Rattle.std.specs.Prelude.{◌==◌, ◌&&◌, not, ℕ, Bool, true, false, List, [], ◌∷◌, ◌++◌, length, drop, Option, Some, None, is_some, flat_map, nat_lt}
+use Rattle.std.specs.Prelude.{◌==◌, ◌&&◌, not, ℕ, Bool, true, false, List, [], ◌∷◌, ◌++◌, length, drop, Option, Some}
+use Rattle.std.specs.Prelude.{None, is_some, flat_map, nat_lt}
 use Rattle.std.specs.Option.{option_and_then}
 use Rattle.kore_text.specs.Trees.{SortTree}
 use Rattle.rule_core.specs.Subsorts.{is_below}
@@ -11,7 +12,8 @@ use Rattle.rule_core.specs.declared.signature.SymKind.TheVariants.{Injection, Ct
 use Rattle.rule_core.specs.declared.signature.SortRef.{SortRef}
 use Rattle.kore_sig.specs.FirstFault.{Fault, when, unless}
 use Rattle.kore_sig.specs.SortReferences.{sort_number, sort_place}
-use Rattle.kore_check.specs.Folds.{Unfolded, named_variable, written_value, applied_symbol, other_form, Unfoldeds, no_more, and_more, place, count, height}
+use Rattle.kore_check.specs.Folds.{Unfolded, named_variable, written_value, applied_symbol, other_form, Unfoldeds}
+use Rattle.kore_check.specs.Folds.{no_more, and_more, place, count, height}
 use Rattle.kore_check.specs.ValueTexts.{value_of_text}
 use Rattle.kore_check.specs.PatternSorts.{sort_kind, symbol_named, sort_numbers, sort_of, wanted_sort, places_of}
 

@@ -1,11 +1,13 @@
 -- The rule pattern that a Kore pattern means, and its variables, numbered by name and sort in the order of their first
 -- occurrence.
-use Rattle.std.specs.Prelude.{◌≡◌, ◌==◌, ◌&&◌, ◌++◌, ℕ, List, [], ◌∷◌, Option, Some, None, is_some, map, if◌then◌else◌, string_bytes}
+use Rattle.std.specs.Prelude.{◌≡◌, ◌==◌, ◌&&◌, ◌++◌, ℕ, List, [], ◌∷◌, Option, Some, None, is_some, map, if◌then◌else◌}
+use Rattle.std.specs.Prelude.{string_bytes}
 use Rattle.std.specs.List.{position_from}
 use Rattle.std.specs.Str.{bytes_eq}
 use Rattle.std.specs.Option.{option_and_then}
 use Rattle.kore_text.specs.Trees.{SortTree}
-use Rattle.term_core.specs.Patterns.{Pattern, Patterns, variable, domain_value, application, injection, call, no_pattern, more_patterns}
+use Rattle.term_core.specs.Patterns.{Pattern, Patterns, variable, domain_value, application, injection, call}
+use Rattle.term_core.specs.Patterns.{no_pattern, more_patterns}
 use Rattle.rule_core.specs.Named.{number_of}
 use Rattle.rule_core.specs.declared.rules.VarInfo.{VarInfo}
 use Rattle.rule_core.specs.declared.signature.Signature.{Signature}
@@ -14,7 +16,8 @@ use Rattle.rule_core.specs.declared.signature.SymKind.{SymKind}
 use Rattle.rule_core.specs.declared.signature.SymKind.TheVariants.{Injection, Ctor, Equations, Hooked, Closed, NoKind}
 use Rattle.term_core.specs.Terms.{DomainValue}
 use Rattle.kore_sig.specs.SortReferences.{sort_number}
-use Rattle.kore_check.specs.Folds.{Unfolded, named_variable, written_value, applied_symbol, other_form, Unfoldeds, no_more, and_more}
+use Rattle.kore_check.specs.Folds.{Unfolded, named_variable, written_value, applied_symbol, other_form, Unfoldeds}
+use Rattle.kore_check.specs.Folds.{no_more, and_more}
 use Rattle.kore_check.specs.ValueTexts.{value_of_text}
 use Rattle.kore_check.specs.PatternSorts.{sort_kind, symbol_info, sort_numbers}
 
@@ -72,7 +75,8 @@ mutual
         sort_number sig.sorts tree ≡ Some s →
         option_and_then (λ kind. value_of_text kind text) (sort_kind sig s) ≡ Some v →
         Means sig vars (written_value at tree text byte) (domain_value s v)
-    by_symbol : {at byte f : ℕ} {name : List ℕ} {ss : List SortTree} {us : Unfoldeds} {ns : List ℕ} {ps : Patterns} {p : Pattern} {info : SymInfo} →
+    by_symbol : {at byte f : ℕ} {name : List ℕ} {ss : List SortTree} {us : Unfoldeds} {ns : List ℕ} {ps : Patterns}
+        {p : Pattern} {info : SymInfo} →
         IsNamed sig name f info → sort_numbers sig ss ≡ Some ns → AllMean sig vars us ps →
         applied_pattern info.kind f ns ps ≡ Some p → Means sig vars (applied_symbol at byte name ss us) p
 

@@ -1,7 +1,8 @@
 -- The value that the text of a domain value stands for (K framework, domains `INT.Int` and `BOOL.Bool`): a whole number
 -- of 128 bits by an optional sign and digits, a truth value by its name, and any text in a sort of another kind. So
 -- `007` and `+7` are 7, and `-0` is 0.
-use Rattle.std.specs.Prelude.{◌==◌, ◌&&◌, ◌+◌, ◌*◌, ◌-◌, ◌^◌, ℕ, ℤ, pos, neg_ℤ, Bool, true, false, List, [], ◌∷◌, length, Option, Some, None, option_map, if◌then◌else◌, codes, nat_lt, nat_le}
+use Rattle.std.specs.Prelude.{◌==◌, ◌&&◌, ◌+◌, ◌*◌, ◌-◌, ◌^◌, ℕ, ℤ, pos, neg_ℤ, Bool, true, false, List, [], ◌∷◌}
+use Rattle.std.specs.Prelude.{length, Option, Some, None, option_map, if◌then◌else◌, codes, nat_lt, nat_le}
 use Rattle.std.specs.Str.{is_utf8, bytes_eq, all_ascii_digits}
 use Rattle.term_core.specs.Terms.{DomainValue, integer, truth, text}
 use Rattle.rule_core.specs.declared.signature.SortKind.{SortKind}

@@ -17,7 +17,8 @@ abbrev pub key_cmp : List ℕ × ℕ → List ℕ × ℕ → Ordering
 key_cmp a b = ordering_then (slice_cmp nat_cmp a.0 b.0) (nat_cmp a.1 b.1)
 
 pub key_cmp_total : IsTotalOrder key_cmp
-key_cmp_total = then_total (on_total (λ (k : List ℕ × ℕ). k.0) nat_list_cmp_total) (on_total (λ (k : List ℕ × ℕ). k.1) nat_cmp_total)
+key_cmp_total = then_total (on_total (λ (k : List ℕ × ℕ). k.0) nat_list_cmp_total)
+    (on_total (λ (k : List ℕ × ℕ). k.1) nat_cmp_total)
 
 -- what is not above a key is below each greater key
 pub key_cmp-below : (x y z : List ℕ × ℕ) → IsTrue (is_le (key_cmp x y)) → key_cmp y z ≡ Less → key_cmp x z ≡ Less

@@ -60,7 +60,8 @@ fn all_declared(
     sorts: &[Sort],
 ) -> Result<Option<Vec<SortId>>, AllocError>
     requires { IsNumbered sig.now }
-    ensures { IfOk result (λ found. option_map (λ ss. numbers_of ss.items) found ≡ sort_numbers sig.now (map plain_sort sorts.now)) }
+    ensures { IfOk result (λ found. option_map (λ ss. numbers_of ss.items) found
+        ≡ sort_numbers sig.now (map plain_sort sorts.now)) }
 {
     let mut declared = Vec::with_capacity(alloc, sorts.len())?;
     for i in 0..sorts.len() {
@@ -74,7 +75,8 @@ fn all_declared(
 
 // What a symbol makes of patterns: none where it has no kind, or is an injection of another number of them.
 fn applied(alloc: Global, head: &Head, args: Vec<RulePat>) -> Result<Option<RulePat>, AllocError>
-    ensures { IfOk result (λ found. option_map plain_pattern found ≡ applied_pattern head.now.kind head.now.sym.0 (numbers_of head.now.sorts.items) (plain_patterns args.items)) }
+    ensures { IfOk result (λ found. option_map plain_pattern found
+        ≡ applied_pattern head.now.kind head.now.sym.0 (numbers_of head.now.sorts.items) (plain_patterns args.items)) }
 {
     match head.kind {
         SymKind::Injection => injected(alloc, head, args),
@@ -89,7 +91,8 @@ fn applied(alloc: Global, head: &Head, args: Vec<RulePat>) -> Result<Option<Rule
 
 // The injection of the only pattern.
 fn injected(alloc: Global, head: &Head, args: Vec<RulePat>) -> Result<Option<RulePat>, AllocError>
-    ensures { IfOk result (λ found. option_map plain_pattern found ≡ injected_only (numbers_of head.now.sorts.items) (plain_patterns args.items)) }
+    ensures { IfOk result (λ found. option_map plain_pattern found
+        ≡ injected_only (numbers_of head.now.sorts.items) (plain_patterns args.items)) }
 {
     let mut args = args;
     if head.sorts.len() != 2 || args.len() != 1 {
@@ -111,7 +114,8 @@ fn build_variable(
     vars: &mut Variables,
 ) -> Result<Option<RulePat>, AllocError>
     requires { IsNumbered sig.now }
-    ensures built { IfOk result (λ found. (at : ℕ) → Built sig.now vars.old vars.new (named_variable at name.now (plain_sort sort.now)) found) }
+    ensures built { IfOk result (λ found. (at : ℕ)
+        → Built sig.now vars.old vars.new (named_variable at name.now (plain_sort sort.now)) found) }
     ensures grows { Extends vars.old vars.new }
 {
     let Some(sort) = declared_sort(sig, sort) else {
@@ -129,7 +133,8 @@ fn build_value(
     text: &Text,
 ) -> Result<Option<RulePat>, AllocError>
     requires { IsNumbered sig.now }
-    ensures { IfOk result (λ found. (at byte : ℕ) (vars : List (List ℕ × ℕ)) → Built sig.now vars vars (written_value at (plain_sort sort.now) text.now byte) found) }
+    ensures { IfOk result (λ found. (at byte : ℕ) (vars : List (List ℕ × ℕ))
+        → Built sig.now vars vars (written_value at (plain_sort sort.now) text.now byte) found) }
 {
     let Some(sort) = declared_sort(sig, sort) else {
         return Ok(None);
@@ -185,7 +190,8 @@ fn build_all(
 ) -> Result<Option<Vec<RulePat>>, AllocError>
     requires numbered { IsNumbered sig.now }
     requires signature { IsSignature sig.now }
-    ensures built { IfOk result (AllBuilt sig.now vars.old vars.new (all_unfolded (pattern_trees (map plain_tree args.now)))) }
+    ensures built { IfOk result
+        (AllBuilt sig.now vars.old vars.new (all_unfolded (pattern_trees (map plain_tree args.now)))) }
     ensures grows { Extends vars.old vars.new }
 {
     let mut pats = Vec::with_capacity(alloc, args.len())?;
@@ -245,7 +251,8 @@ fn build_only(
 ) -> Result<Option<RulePat>, AllocError>
     requires numbered { IsNumbered sig.now }
     requires signature { IsSignature sig.now }
-    ensures built { IfOk result (λ found. (at : ℕ) → Built sig.now vars.old vars.new (only_of at (all_unfolded (pattern_trees (map plain_tree args.now)))) found) }
+    ensures built { IfOk result (λ found. (at : ℕ)
+        → Built sig.now vars.old vars.new (only_of at (all_unfolded (pattern_trees (map plain_tree args.now)))) found) }
     ensures grows { Extends vars.old vars.new }
 {
     if args.len() != 1 {
@@ -260,7 +267,8 @@ fn folded_left(
     head: &Head,
     args: Vec<RulePat>,
 ) -> Result<Option<RulePat>, AllocError>
-    ensures { IfOk result (λ found. option_map plain_pattern found ≡ left_pattern head.now.kind head.now.sym.0 (numbers_of head.now.sorts.items) (map plain_pattern args.items)) }
+    ensures { IfOk result (λ found. option_map plain_pattern found
+        ≡ left_pattern head.now.kind head.now.sym.0 (numbers_of head.now.sorts.items) (map plain_pattern args.items)) }
 {
     let mut rest = args;
     rest.reverse();
@@ -282,7 +290,8 @@ fn folded_right(
     head: &Head,
     args: Vec<RulePat>,
 ) -> Result<Option<RulePat>, AllocError>
-    ensures { IfOk result (λ found. option_map plain_pattern found ≡ right_pattern head.now.kind head.now.sym.0 (numbers_of head.now.sorts.items) (map plain_pattern args.items)) }
+    ensures { IfOk result (λ found. option_map plain_pattern found
+        ≡ right_pattern head.now.kind head.now.sym.0 (numbers_of head.now.sorts.items) (map plain_pattern args.items)) }
 {
     let mut rest = args;
     let Some(mut made) = rest.pop() else {

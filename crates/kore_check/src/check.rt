@@ -69,7 +69,8 @@ fn check_arguments(
 )
     requires { IsNumbered sig.now }
     ensures { kept_fault first.new ≡ after first.old
-        (argument_faults sig.now (map plain_sort sorts.now) places.now (all_unfolded (pattern_trees (map plain_pattern args.now)))) }
+        (argument_faults sig.now (map plain_sort sorts.now) places.now
+        (all_unfolded (pattern_trees (map plain_pattern args.now)))) }
 {
     for i in 0..args.len() {
         let arg = &args[i];
@@ -78,8 +79,8 @@ fn check_arguments(
     }
 }
 
-// The sort of a fold of this pattern, from the left or from the right. It notes the faults of the patterns that the fold
-// stands for: those of its symbol once, though it stands for many applications of it.
+// The sort of a fold of this pattern, from the left or from the right. It notes the faults of the patterns that the
+// fold stands for: those of its symbol once, though it stands for many applications of it.
 #[cycle(check)]
 fn check_fold(
     inner: &Pat,
@@ -89,7 +90,8 @@ fn check_fold(
 ) -> Option<SortId>
     requires { IsNumbered sig.now }
     ensures sort { option_map sort_no result ≡ sort_of sig.now (inner_fold left (plain_pattern inner.now)) }
-    ensures first { kept_fault first.new ≡ after first.old (pattern_faults sig.now (inner_fold left (plain_pattern inner.now))) }
+    ensures first { kept_fault first.new
+        ≡ after first.old (pattern_faults sig.now (inner_fold left (plain_pattern inner.now))) }
 {
     match &inner.form {
         PatForm::App(name, sorts, args) => {
@@ -125,8 +127,11 @@ fn check_fold(
 #[cycle(check)]
 fn check_only(args: &[Pat], sig: &Signature, first: &mut Option<PatternFault>) -> Option<SortId>
     requires { IsNumbered sig.now }
-    ensures sort { (at : ℕ) → option_map sort_no result ≡ sort_of sig.now (only_of at (all_unfolded (pattern_trees (map plain_pattern args.now)))) }
-    ensures first { (at : ℕ) → kept_fault first.new ≡ after first.old (pattern_faults sig.now (only_of at (all_unfolded (pattern_trees (map plain_pattern args.now))))) }
+    ensures sort { (at : ℕ) → option_map sort_no result
+        ≡ sort_of sig.now (only_of at (all_unfolded (pattern_trees (map plain_pattern args.now)))) }
+    ensures first { (at : ℕ) → kept_fault first.new
+        ≡ after first.old (pattern_faults sig.now
+        (only_of at (all_unfolded (pattern_trees (map plain_pattern args.now))))) }
 {
     if args.len() != 1 {
         return None;
@@ -145,7 +150,9 @@ fn check_folded(
 )
     requires numbered { IsNumbered sig.now }
     requires some { 2 ≤ length args.now }
-    ensures { kept_fault first.new ≡ after first.old (folded_faults sig.now left sorts (all_unfolded (pattern_trees (map plain_pattern args.now)))) }
+    ensures { kept_fault first.new
+        ≡ after first.old (folded_faults sig.now left sorts
+        (all_unfolded (pattern_trees (map plain_pattern args.now)))) }
 {
     let arg = &args[0];
     let own = check(sig, arg, first);

@@ -38,8 +38,8 @@ fn is_astray(sig: &Signature, sorts: &[Sort]) -> bool
     }
 }
 
-// The sort of a symbol with these sort arguments and so many arguments. It notes the faults of this head, which stand at
-// `at` and at the sorts.
+// The sort of a symbol with these sort arguments and so many arguments. It notes the faults of this head, which stand
+// at `at` and at the sorts.
 pub(crate) fn check_head(
     sig: &Signature,
     at: u32,
@@ -49,7 +49,9 @@ pub(crate) fn check_head(
     first: &mut Option<PatternFault>,
 ) -> Option<SortId>
     requires { IsNumbered sig.now }
-    ensures sort { option_map sort_no result ≡ result_sort (option_copied symbol.entry) (map plain_sort sorts.now) (sort_numbers sig.now (map plain_sort sorts.now)) }
+    ensures sort { option_map sort_no result
+        ≡ result_sort (option_copied symbol.entry) (map plain_sort sorts.now)
+        (sort_numbers sig.now (map plain_sort sorts.now)) }
     ensures first { kept_fault first.new ≡ after first.old
         (flat_map (sort_faults sig.now) (map plain_sort sorts.now)
         ++ symbol_faults sig.now at (option_copied symbol.entry) (map plain_sort sorts.now) args) }
@@ -69,7 +71,8 @@ fn check_symbol(
     first: &mut Option<PatternFault>,
 )
     requires { IsNumbered sig.now }
-    ensures { kept_fault first.new ≡ after first.old (symbol_faults sig.now at (option_copied symbol.entry) (map plain_sort sorts.now) args) }
+    ensures { kept_fault first.new
+        ≡ after first.old (symbol_faults sig.now at (option_copied symbol.entry) (map plain_sort sorts.now) args) }
 {
     match symbol {
         None => note(first, FaultKind::UnknownSymbol, at),
@@ -90,7 +93,8 @@ fn check_arity(
     first: &mut Option<PatternFault>,
 )
     ensures { kept_fault first.new ≡ after first.old
-        (unless ((length (map plain_sort sorts.now) == symbol.now.params) && (args == length symbol.now.args.items)) 8 at) }
+        (unless ((length (map plain_sort sorts.now) == symbol.now.params) && (args == length symbol.now.args.items)) 8
+        at) }
 {
     let fits = sorts.len() == symbol.params as usize && args == symbol.args.len();
     if !fits {
@@ -108,7 +112,8 @@ fn check_injection(
 )
     requires { IsNumbered sig.now }
     ensures { kept_fault first.new ≡ after first.old
-        (when (is_injection symbol.now.kind && goes_astray sig.now (sort_numbers sig.now (map plain_sort sorts.now))) 9 at) }
+        (when (is_injection symbol.now.kind && goes_astray sig.now (sort_numbers sig.now (map plain_sort sorts.now))) 9
+        at) }
 {
     if is_injection(symbol.kind) && is_astray(sig, sorts) {
         note(first, FaultKind::SortClash, at);

@@ -57,7 +57,8 @@ fn fold_height(inner: &Pat, left: bool) -> u32
 // The height of the only pattern; 1 where there is another number of them.
 #[cycle(height)]
 fn only_height(args: &[Pat]) -> u32
-    ensures { (at : ℕ) → result ≡ cut (height (only_of at (all_unfolded (pattern_trees (map plain_pattern args.now))))) }
+    ensures { (at : ℕ) → result
+        ≡ cut (height (only_of at (all_unfolded (pattern_trees (map plain_pattern args.now))))) }
 {
     if args.len() != 1 {
         return 1;
@@ -69,7 +70,8 @@ fn only_height(args: &[Pat]) -> u32
 #[cycle(height)]
 fn left_height(args: &[Pat]) -> u32
     requires { 2 ≤ length args.now }
-    ensures { (byte : ℕ) (name : List ℕ) (ss : List SortTree) → result ≡ cut (height (fold_of true byte name ss (all_unfolded (pattern_trees (map plain_pattern args.now))))) }
+    ensures { (byte : ℕ) (name : List ℕ) (ss : List SortTree) → result
+        ≡ cut (height (fold_of true byte name ss (all_unfolded (pattern_trees (map plain_pattern args.now))))) }
 {
     let mut height = height_of(&args[0]);
     for i in 1..args.len() {
@@ -82,7 +84,8 @@ fn left_height(args: &[Pat]) -> u32
 #[cycle(height)]
 fn right_height(args: &[Pat]) -> u32
     requires { 2 ≤ length args.now }
-    ensures { (byte : ℕ) (name : List ℕ) (ss : List SortTree) → result ≡ cut (height (fold_of false byte name ss (all_unfolded (pattern_trees (map plain_pattern args.now))))) }
+    ensures { (byte : ℕ) (name : List ℕ) (ss : List SortTree) → result
+        ≡ cut (height (fold_of false byte name ss (all_unfolded (pattern_trees (map plain_pattern args.now))))) }
 {
     let mut i = args.len() - 1;
     let mut height = height_of(&args[i]);

@@ -8,7 +8,8 @@ use crate::{FaultKind, PatternFault};
 
 // Notes a fault: what is kept is the first of it and of what was kept.
 pub(crate) fn note(first: &mut Option<PatternFault>, kind: FaultKind, at: u32)
-    ensures { kept_fault first.new ≡ kept leads_by_byte (kept_fault first.old) (record { number = fault_number kind; byte = at }) }
+    ensures { kept_fault first.new
+        ≡ kept leads_by_byte (kept_fault first.old) (record { number = fault_number kind; byte = at }) }
 {
     let fault = PatternFault { kind, at };
     match first {

@@ -36,7 +36,9 @@ pub fn note_pattern(sig: &Signature, pat: &Pat, first: &mut Option<PatternFault>
 
 // Notes that a pattern is too high.
 fn check_height(pat: &Pat, first: &mut Option<PatternFault>)
-    ensures { kept_fault first.new ≡ after first.old (when (nat_lt most_height (height (unfolded (plain_pattern pat.now)))) 3 (place (unfolded (plain_pattern pat.now)))) }
+    ensures { kept_fault first.new
+        ≡ after first.old (when (nat_lt most_height (height (unfolded (plain_pattern pat.now)))) 3
+        (place (unfolded (plain_pattern pat.now)))) }
 {
     if height_of(pat) > MAX_HEIGHT {
         note(first, FaultKind::Deep, pat.at);

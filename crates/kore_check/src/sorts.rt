@@ -1,5 +1,6 @@
 // Sorts in patterns: which declared sorts they are.
-ghost use Rattle.std.specs.Prelude.{◌≡◌, IsTrue, map, flat_map, is_some, length, slice_get, option_map, option_copied, Some, None};
+ghost use Rattle.std.specs.Prelude.{◌≡◌, IsTrue, map, flat_map, is_some, length, slice_get, option_map, option_copied};
+ghost use Rattle.std.specs.Prelude.{Some, None};
 ghost use Rattle.std.specs.Option.{option_and_then};
 ghost use Rattle.kore_ast.specs.Plain.{plain_sort};
 ghost use Rattle.kore_sig.specs.SortReferences.{sort_number as number_of_sort};
@@ -65,7 +66,9 @@ pub(crate) fn sort_of_symbol(
 ) -> Option<SortId>
     requires numbered { IsNumbered sig.now }
     requires all { all_declared ≡ is_some (sort_numbers sig.now (map plain_sort sorts.now)) }
-    ensures { option_map sort_no result ≡ result_sort (option_copied symbol.entry) (map plain_sort sorts.now) (sort_numbers sig.now (map plain_sort sorts.now)) }
+    ensures { option_map sort_no result
+        ≡ result_sort (option_copied symbol.entry) (map plain_sort sorts.now)
+        (sort_numbers sig.now (map plain_sort sorts.now)) }
 {
     let symbol = symbol?;
     if !all_declared || sorts.len() != symbol.params as usize {
@@ -95,7 +98,8 @@ pub(crate) fn check_clash(
     wanted: Option<SortId>,
     first: &mut Option<PatternFault>,
 )
-    ensures { kept_fault first.new ≡ after first.old (clash_faults at (option_map sort_no own) (option_map sort_no wanted)) }
+    ensures { kept_fault first.new
+        ≡ after first.old (clash_faults at (option_map sort_no own) (option_map sort_no wanted)) }
 {
     if let (Some(own), Some(wanted)) = (own, wanted)
         && own != wanted

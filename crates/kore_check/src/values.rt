@@ -98,7 +98,8 @@ pub(crate) fn check_value(
     ensures sort { option_map sort_no result ≡ sort_number sig.now.sorts (plain_sort sort.now) }
     ensures first { kept_fault first.new ≡ after first.old
         (sort_faults sig.now (plain_sort sort.now)
-        ++ text_faults (option_and_then (sort_kind sig.now) (sort_number sig.now.sorts (plain_sort sort.now))) text.now at) }
+        ++ text_faults (option_and_then (sort_kind sig.now) (sort_number sig.now.sorts (plain_sort sort.now))) text.now
+        at) }
 {
     let found = check_sort(sig, sort, first)?;
     if let Some(kind) = kind_of(sig, found)

@@ -24,7 +24,8 @@ fault_of_text (text_fault.Deep at) = record { number = 3; byte = at }
 
 -- the text has this first fault
 abbrev pub HasTextFault : (Stream → Type 0) → List ℕ → Fault → Type 0
-HasTextFault L bytes f = (fault : TextFault) × IsFirstFault L 0 (tokens_of bytes) (Some fault) × (f ≡ fault_of_text fault)
+HasTextFault L bytes f = (fault : TextFault) × IsFirstFault L 0 (tokens_of bytes) (Some fault)
+    × (f ≡ fault_of_text fault)
 
 -- The bytes are accepted as a definition, which means this program, and whose rules have this sort.
 pub record IsAccepted (bytes : List ℕ) (theory : RewriteTheory) (top : Option ℕ) : Type 0 where

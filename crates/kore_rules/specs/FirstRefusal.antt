@@ -34,7 +34,8 @@ first_sort None passed_over = None
 -- the first fault of the axioms, in their order
 abbrev pub FirstOfAxioms : Signature → List AxiomDeclaration → Option Fault → Type 0
 FirstOfAxioms sig axioms r =
-    InOrder (λ first a. FirstOfClass sig first a (class_of sig a)) (λ first a. first_sort first (class_of sig a)) None axioms r
+    InOrder (λ first a. FirstOfClass sig first a (class_of sig a)) (λ first a. first_sort first (class_of sig a)) None
+    axioms r
 
 -- The first fault of a definition: of its declarations, or else of its axioms.
 abbrev pub FirstOfDefinition : DefinitionTree → Option Fault → Type 0

@@ -1,6 +1,8 @@
 -- Terms: patterns of applications, domain values and folds alone.
 use Rattle.std.specs.Prelude.{ℕ, List, [], ◌∷◌, ◌++◌, if◌then◌else◌}
-use Rattle.kore_text.specs.Trees.{PatternTree, element_variable, set_variable, string, symbol_applied, connected, binding, domain_value, folded, PatternTrees, no_patterns, pattern_then, listed_patterns}
+use Rattle.kore_text.specs.Trees.{PatternTree, element_variable, set_variable, string, symbol_applied, connected}
+use Rattle.kore_text.specs.Trees.{binding, domain_value, folded, PatternTrees, no_patterns, pattern_then}
+use Rattle.kore_text.specs.Trees.{listed_patterns}
 use Rattle.kore_sig.specs.FirstFault.{Fault}
 use Rattle.kore_shapes.specs.Forms.{is_one, is_none}
 
@@ -28,8 +30,10 @@ abbrev mutual
   folded_ground_faults (element_variable at n s) = not_ground at
   folded_ground_faults (set_variable at n s) = not_ground at
   folded_ground_faults (string at text) = not_ground at
-  folded_ground_faults (symbol_applied at f ss ps) = if is_none (listed_patterns ps) then not_ground at else all_ground_faults ps
-  folded_ground_faults (connected at op ss ps) = if is_one (listed_patterns ps) then all_ground_faults ps else not_ground at
+  folded_ground_faults (symbol_applied at f ss ps)
+      = if is_none (listed_patterns ps) then not_ground at else all_ground_faults ps
+  folded_ground_faults (connected at op ss ps)
+      = if is_one (listed_patterns ps) then all_ground_faults ps else not_ground at
   folded_ground_faults (binding at b ss x p) = not_ground at
   folded_ground_faults (domain_value at s text place) = not_ground at
   folded_ground_faults (folded at left p) = not_ground at

@@ -1,5 +1,6 @@
 -- The program that a definition means: its signature, its rewrite rules and the equations of its functions.
-use Rattle.std.specs.Prelude.{◌≡◌, ℕ, List, [], map, Option, Some, None, option_map, Contains, ◌↔◌, length, slice_get, string_bytes}
+use Rattle.std.specs.Prelude.{◌≡◌, ℕ, List, [], map, Option, Some, None, option_map, Contains, ◌↔◌, length, slice_get}
+use Rattle.std.specs.Prelude.{string_bytes}
 use Rattle.std.specs.List.{AllZip}
 use Rattle.kore_text.specs.Trees.{PatternTree, AxiomDeclaration, DefinitionTree}
 use Rattle.term_core.specs.HookValues.{Hook, hooks}
@@ -31,9 +32,10 @@ abbrev pub HasFittingHook : Signature → SymInfo → List ℕ → ℕ → Type 
 HasFittingHook sig info name row =
     (hook : Hook) × (slice_get hooks row ≡ Some hook) × (hook.name ≡ name) × FitsHook sig row info
 
--- What a symbol is used for, where these are the axioms. A function whose hook fits has the values of its hook; one with
--- a hook that does not, or with an equation that is not readable, is closed; any other has its equations.
-pub data HasKind (sig : Signature) (axioms : List AxiomDeclaration) (f : List ℕ) (info : SymInfo) : SymKind → Type 0 where
+-- What a symbol is used for, where these are the axioms. A function whose hook fits has the values of its hook; one
+-- with a hook that does not, or with an equation that is not readable, is closed; any other has its equations.
+pub data HasKind (sig : Signature) (axioms : List AxiomDeclaration) (f : List ℕ) (info : SymInfo) : SymKind
+    → Type 0 where
   as_declared : (info.kind ≡ Equations → ⊥) → HasKind sig axioms f info info.kind
   by_hook : {name : List ℕ} {row : ℕ} → info.kind ≡ Equations → option_map string_bytes info.hook ≡ Some name →
       HasFittingHook sig info name row → HasKind sig axioms f info (Hooked (record { 0 = row }))
@@ -45,34 +47,39 @@ pub data HasKind (sig : Signature) (axioms : List AxiomDeclaration) (f : List �
       ((a : AxiomDeclaration) → Contains axioms a → IsUnreadable sig f a → ⊥) → HasKind sig axioms f info Equations
 
 -- a symbol of the program is as it is declared, but for its kind
-pub record IsSymbolOf (sig : Signature) (axioms : List AxiomDeclaration) (declared made : List ℕ × SymInfo) : Type 0 where
-  pub name : made.0 ≡ declared.0
-  pub kind : HasKind sig axioms declared.0 declared.1 made.1.kind
-  pub params : made.1.params ≡ declared.1.params
-  pub args : made.1.args.items ≡ declared.1.args.items
-  pub result : made.1.result ≡ declared.1.result
-  pub hook : option_map string_bytes made.1.hook ≡ option_map string_bytes declared.1.hook
-  pub ac : made.1.ac ≡ declared.1.ac
+pub record IsSymbolOf (sig : Signature) (axioms : List AxiomDeclaration) (declared made : List ℕ × SymInfo) : Type 0
+  where
+    pub name : made.0 ≡ declared.0
+    pub kind : HasKind sig axioms declared.0 declared.1 made.1.kind
+    pub params : made.1.params ≡ declared.1.params
+    pub args : made.1.args.items ≡ declared.1.args.items
+    pub result : made.1.result ≡ declared.1.result
+    pub hook : option_map string_bytes made.1.hook ≡ option_map string_bytes declared.1.hook
+    pub ac : made.1.ac ≡ declared.1.ac
 
 -- just the rules that axioms are stand there, each once, in the order of trial
 pub record AreRulesOf (sig : Signature) (axioms : List AxiomDeclaration) (rules : List RewriteRule) : Type 0 where
-  pub just : (rule : RewriteRule) → Contains rules rule ↔ ((a : AxiomDeclaration) × Contains axioms a × IsRuleOf sig a rule)
+  pub just : (rule : RewriteRule) → Contains rules rule
+      ↔ ((a : AxiomDeclaration) × Contains axioms a × IsRuleOf sig a rule)
   pub in_order : AreInOrder (map (λ (r : RewriteRule). (r.priority, r.place)) rules)
 
 -- .. of the equations of a function that has its equations, and none of any other symbol
-pub record AreEquationsOf (sig : Signature) (axioms : List AxiomDeclaration) (f : List ℕ) (kind : SymKind) (es : List Equation) : Type 0 where
-  pub just : (e : Equation) → Contains es e ↔ ((kind ≡ Equations) × ((a : AxiomDeclaration) × Contains axioms a × IsEquationOf sig f a e))
+pub record AreEquationsOf (sig : Signature) (axioms : List AxiomDeclaration) (f : List ℕ) (kind : SymKind)
+    (es : List Equation) : Type 0 where
+  pub just : (e : Equation) → Contains es e
+      ↔ ((kind ≡ Equations) × ((a : AxiomDeclaration) × Contains axioms a × IsEquationOf sig f a e))
   pub in_order : AreInOrder (map (λ (e : Equation). (e.priority, e.place)) es)
 
 -- The program of a definition whose declarations give the signature `declared`.
-pub record IsProgramUnder (declared : Signature) (axioms : List AxiomDeclaration) (theory : RewriteTheory) : Type 0 where
-  pub sorts : theory.sig.sorts ≡ declared.sorts
-  pub symbols : AllZip (IsSymbolOf declared axioms) declared.symbols theory.sig.symbols
-  pub subsorts : theory.sig.subsorts ≡ declared.subsorts
-  pub rules : AreRulesOf declared axioms theory.rules
-  pub listed : length theory.equations ≡ length theory.sig.symbols
-  pub equations : (n : ℕ) (f : List ℕ) (info : SymInfo) → slice_get theory.sig.symbols n ≡ Some (f, info) →
-      AreEquationsOf declared axioms f info.kind (equations_of theory n)
+pub record IsProgramUnder (declared : Signature) (axioms : List AxiomDeclaration) (theory : RewriteTheory) : Type 0
+  where
+    pub sorts : theory.sig.sorts ≡ declared.sorts
+    pub symbols : AllZip (IsSymbolOf declared axioms) declared.symbols theory.sig.symbols
+    pub subsorts : theory.sig.subsorts ≡ declared.subsorts
+    pub rules : AreRulesOf declared axioms theory.rules
+    pub listed : length theory.equations ≡ length theory.sig.symbols
+    pub equations : (n : ℕ) (f : List ℕ) (info : SymInfo) → slice_get theory.sig.symbols n ≡ Some (f, info) →
+        AreEquationsOf declared axioms f info.kind (equations_of theory n)
 
 -- The program that a definition means.
 abbrev pub IsProgramOf : DefinitionTree → RewriteTheory → Type 0
@@ -82,4 +89,5 @@ IsProgramOf d theory = (declared : Signature) × IsSignatureOf d declared × IsP
 abbrev pub IsTopOf : Signature → List AxiomDeclaration → Option ℕ → Type 0
 IsTopOf sig axioms None = (a : AxiomDeclaration) → Contains axioms a → (w : Rewriting) → class_of sig a ≡ rewrites w → ⊥
 IsTopOf sig axioms (Some s) =
-    (a : AxiomDeclaration) × Contains axioms a × ((w : Rewriting) × (class_of sig a ≡ rewrites w) × (sort_number sig.sorts w.sort ≡ Some s))
+    (a : AxiomDeclaration) × Contains axioms a
+    × ((w : Rewriting) × (class_of sig a ≡ rewrites w) × (sort_number sig.sorts w.sort ≡ Some s))

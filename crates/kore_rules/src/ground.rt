@@ -33,7 +33,8 @@ fn note_not_ground(pat: &Pat, first: &mut Option<u32>)
 
 #[cycle(ground)]
 fn note_all(pats: &[Pat], first: &mut Option<u32>)
-    ensures { not_ground_at first.new ≡ behind first.old (all_ground_faults (pattern_trees (map plain_pattern pats.now))) }
+    ensures { not_ground_at first.new
+        ≡ behind first.old (all_ground_faults (pattern_trees (map plain_pattern pats.now))) }
 {
     for pat in pats {
         note_not_ground(pat, first);
@@ -48,7 +49,11 @@ fn note_folded(pat: &Pat, first: &mut Option<u32>)
     match &pat.form {
         PatForm::App(_, _, args) if !is_none(args) => note_all(args, first),
         PatForm::Built(_, _, args) if is_one(args) => note_all(args, first),
-        PatForm::App(..) | PatForm::Built(..) | PatForm::Bound(..) | PatForm::Value(..) | PatForm::Fold(..) => {
+        PatForm::App(..)
+        | PatForm::Built(..)
+        | PatForm::Bound(..)
+        | PatForm::Value(..)
+        | PatForm::Fold(..) => {
             note(first, pat.at);
         }
         PatForm::Elem(..) | PatForm::SetVar(..) | PatForm::Text(_) => note(first, pat.at),

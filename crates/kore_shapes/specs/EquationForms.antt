@@ -1,9 +1,12 @@
--- The two forms of equations. In kompile's form the left side is the function at variables X0, X1, .., and the guard says
--- of each that it is a member of a pattern; in the direct form the left side is the function at the patterns.
-use Rattle.std.specs.Prelude.{ℕ, List, [], ◌∷◌, Bool, true, false, ◌&&◌, ◌||◌, not, if◌then◌else◌, Option, Some, None, option_map}
+-- The two forms of equations. In kompile's form the left side is the function at variables X0, X1, .., and the guard
+-- says of each that it is a member of a pattern; in the direct form the left side is the function at the patterns.
+use Rattle.std.specs.Prelude.{ℕ, List, [], ◌∷◌, Bool, true, false, ◌&&◌, ◌||◌, not, if◌then◌else◌, Option, Some, None}
+use Rattle.std.specs.Prelude.{option_map}
 use Rattle.std.specs.List.{list_any}
 use Rattle.std.specs.Option.{option_and_then}
-use Rattle.kore_text.specs.Trees.{SortTree, listed_sorts, PatternTree, element_variable, set_variable, string, symbol_applied, connected, binding, domain_value, folded, PatternTrees, no_patterns, pattern_then, listed_patterns}
+use Rattle.kore_text.specs.Trees.{SortTree, listed_sorts, PatternTree, element_variable, set_variable, string}
+use Rattle.kore_text.specs.Trees.{symbol_applied, connected, binding, domain_value, folded, PatternTrees, no_patterns}
+use Rattle.kore_text.specs.Trees.{pattern_then, listed_patterns}
 use Rattle.kore_text.specs.declared.names.Op.{Op}
 use Rattle.kore_text.specs.declared.names.Op.TheVariants.{Top, And, Member}
 use Rattle.kore_shapes.specs.SameSorts.{same_sort, is_variable}
@@ -56,14 +59,16 @@ member r x p = None
 -- the pattern p and the rest G of `\and{R}(\in{S,R}(X,p),G)`, for this variable X
 abbrev pub entry : SortTree → PatternTree → PatternTree → Option (PatternTree × PatternTree)
 entry r x g =
-    option_and_then (λ (both : PatternTree × PatternTree). option_map (λ (p : PatternTree). (p, both.1)) (member r x both.0)) (conjuncts r g)
+    option_and_then (λ (both : PatternTree × PatternTree). option_map (λ (p : PatternTree). (p, both.1))
+    (member r x both.0)) (conjuncts r g)
 
 -- The patterns p0, p1, .. of `\and{R}(\in{S0,R}(X0,p0),\and{R}(\in{S1,R}(X1,p1),..\top{R}()))`, for these variables
 -- X0, X1, ..; none where the guard is not so.
 abbrev pub members : SortTree → List PatternTree → PatternTree → Option (List PatternTree)
 members r [] g = if is_top_of r g then Some [] else None
 members r (x ∷ xs) g =
-    option_and_then (λ (e : PatternTree × PatternTree). option_map (λ (ps : List PatternTree). e.0 ∷ ps) (members r xs e.1)) (entry r x g)
+    option_and_then (λ (e : PatternTree × PatternTree). option_map (λ (ps : List PatternTree). e.0 ∷ ps)
+    (members r xs e.1)) (entry r x g)
 
 -- an element variable of this name and sort stands in the pattern
 abbrev mutual
@@ -109,11 +114,17 @@ direct e c = record { parameters = []; patterns = e.arguments; condition = c; ri
 abbrev pub kompiled : Statement → PatternTree → List PatternTree → Option EquationParts
 kompiled e c ps =
     if stand_apart e.arguments (c ∷ (e.value ∷ ps))
-    then Some (record { parameters = e.arguments; patterns = ps; condition = Some c; right = right_side e.sort e.value })
+    then Some (record {
+      parameters = e.arguments;
+      patterns = ps;
+      condition = Some c;
+      right
+          = right_side e.sort e.value;
+    })
     else None
 
--- The parts of an equation under this guard. Under `\and{R}(c,G)` it has kompile's form, with the condition c; so it has
--- under `\and{R}(c,\top{R}())` where the function has no arguments. Any other guard is the condition itself.
+-- The parts of an equation under this guard. Under `\and{R}(c,G)` it has kompile's form, with the condition c; so it
+-- has under `\and{R}(c,\top{R}())` where the function has no arguments. Any other guard is the condition itself.
 abbrev pub parts_under : Statement → PatternTree → Option (PatternTree × PatternTree) → Option EquationParts
 parts_under e g None = Some (direct e (Some g))
 parts_under e g (Some both) = option_and_then (kompiled e both.0) (members e.over e.arguments both.1)

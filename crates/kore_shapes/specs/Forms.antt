@@ -1,9 +1,12 @@
 -- Which forms stand in a pattern once its folds are read: a fold of one argument is that argument, and its head is
 -- not looked at.
 use Rattle.std.specs.Prelude.{ℕ, List, [], ◌∷◌, Bool, true, false, not, ◌||◌, ◌&&◌}
-use Rattle.kore_text.specs.Trees.{PatternTree, element_variable, set_variable, string, symbol_applied, connected, binding, domain_value, folded, PatternTrees, no_patterns, pattern_then, listed_patterns}
+use Rattle.kore_text.specs.Trees.{PatternTree, element_variable, set_variable, string, symbol_applied, connected}
+use Rattle.kore_text.specs.Trees.{binding, domain_value, folded, PatternTrees, no_patterns, pattern_then}
+use Rattle.kore_text.specs.Trees.{listed_patterns}
 use Rattle.kore_text.specs.declared.names.Op.{Op}
-use Rattle.kore_text.specs.declared.names.Op.TheVariants.{Top, Bottom, Not, Next, And, Or, Implies, Iff, Rewrites, Ceil, Floor, Equals, Member}
+use Rattle.kore_text.specs.declared.names.Op.TheVariants.{Top, Bottom, Not, Next, And, Or, Implies, Iff, Rewrites, Ceil}
+use Rattle.kore_text.specs.declared.names.Op.TheVariants.{Floor, Equals, Member}
 
 abbrev pub is_and : Op → Bool
 is_and And = true
@@ -60,8 +63,10 @@ abbrev mutual
   fold_has_form sought (element_variable at n s) = covers_others sought
   fold_has_form sought (set_variable at n s) = covers_others sought
   fold_has_form sought (string at text) = covers_others sought
-  fold_has_form sought (symbol_applied at n ss ps) = (is_none (listed_patterns ps) && covers_others sought) || have_form sought ps
-  fold_has_form sought (connected at op ss ps) = (not (is_one (listed_patterns ps)) && covers sought op) || have_form sought ps
+  fold_has_form sought (symbol_applied at n ss ps) = (is_none (listed_patterns ps) && covers_others sought)
+      || have_form sought ps
+  fold_has_form sought (connected at op ss ps) = (not (is_one (listed_patterns ps)) && covers sought op)
+      || have_form sought ps
   fold_has_form sought (binding at b ss x p) = covers_others sought
   fold_has_form sought (domain_value at s text place) = covers_others sought
   fold_has_form sought (folded at left p) = covers_others sought

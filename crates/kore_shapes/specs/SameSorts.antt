@@ -1,7 +1,9 @@
 -- Sorts and variables that are written alike. Places in the text are left aside.
 use Rattle.std.specs.Prelude.{ℕ, List, Bool, true, false, ◌&&◌}
 use Rattle.std.specs.Str.{bytes_eq}
-use Rattle.kore_text.specs.Trees.{SortTree, sort_parameter, sort_applied, SortTrees, no_sorts, sort_then, PatternTree, element_variable, set_variable, string, symbol_applied, connected, binding, domain_value, folded}
+use Rattle.kore_text.specs.Trees.{SortTree, sort_parameter, sort_applied, SortTrees, no_sorts, sort_then, PatternTree}
+use Rattle.kore_text.specs.Trees.{element_variable, set_variable, string, symbol_applied, connected, binding}
+use Rattle.kore_text.specs.Trees.{domain_value, folded}
 
 abbrev mutual
   pub same_sort : SortTree → SortTree → Bool

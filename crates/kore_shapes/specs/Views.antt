@@ -8,13 +8,19 @@ use Rattle.kore_shapes.specs.declared.shapes.Side.{Side}
 use Rattle.kore_shapes.specs.declared.shapes.Side.TheVariants as side
 use Rattle.kore_shapes.specs.declared.shapes.Condition.{Condition}
 use Rattle.kore_shapes.specs.declared.shapes.Condition.TheVariants as condition
-use Rattle.kore_shapes.specs.Shapes.{Rewriting as RewritingTree, Side as SideTree, alone, beside, without, misshapen, Condition as ConditionTree, always, tests, ill}
+use Rattle.kore_shapes.specs.Shapes.{Rewriting as RewritingTree, Side as SideTree, alone, beside, without, misshapen}
+use Rattle.kore_shapes.specs.Shapes.{Condition as ConditionTree, always, tests, ill}
 
 abbrev pub pattern_at : Bor Pat → PatternTree
 pattern_at p = plain_pattern p.now
 
 abbrev pub plain_rewriting : Rewriting → RewritingTree
-plain_rewriting w = record { sort = plain_sort w.sort.now; before = plain_pattern w.before.now; after = plain_pattern w.after.now }
+plain_rewriting w = record {
+  sort = plain_sort w.sort.now;
+  before = plain_pattern w.before.now;
+  after
+      = plain_pattern w.after.now;
+}
 
 abbrev pub plain_side : Side → SideTree
 plain_side (side.Alone p) = alone (plain_pattern p.now)

@@ -3,7 +3,14 @@ ghost use Rattle.std.specs.Prelude.{◌≡◌, ◌∷◌, ◌&&◌, map, option_
 ghost use Rattle.std.specs.List.{list_any};
 ghost use Rattle.kore_text.specs.Trees.{pattern_trees};
 ghost use Rattle.kore_ast.specs.Plain.{plain_sort, plain_pattern};
-ghost use Rattle.kore_shapes.specs.EquationForms.{top_with as the_top_with, is_top_of as is_the_top, conjuncts as the_conjuncts, conjuncts_with as the_conjuncts_with, right_side as the_right_side, is_member as is_the_member, member as the_member, member_with as the_member_with, entry as the_entry, members as the_members, has_variable as has_one, have_variable as have_one, stands_alone as does_stand_alone, stand_apart as do_stand_apart, direct as the_direct, kompiled as the_kompiled, equation_parts as the_parts};
+ghost use Rattle.kore_shapes.specs.EquationForms.{top_with as the_top_with, is_top_of as is_the_top};
+ghost use Rattle.kore_shapes.specs.EquationForms.{conjuncts as the_conjuncts, conjuncts_with as the_conjuncts_with};
+ghost use Rattle.kore_shapes.specs.EquationForms.{right_side as the_right_side, is_member as is_the_member};
+ghost use Rattle.kore_shapes.specs.EquationForms.{member as the_member, member_with as the_member_with};
+ghost use Rattle.kore_shapes.specs.EquationForms.{entry as the_entry, members as the_members, has_variable as has_one};
+ghost use Rattle.kore_shapes.specs.EquationForms.{have_variable as have_one, stands_alone as does_stand_alone};
+ghost use Rattle.kore_shapes.specs.EquationForms.{stand_apart as do_stand_apart, direct as the_direct};
+ghost use Rattle.kore_shapes.specs.EquationForms.{kompiled as the_kompiled, equation_parts as the_parts};
 ghost use Rattle.kore_shapes.specs.Views.{pattern_at};
 ghost use Rattle.kore_shapes.specs.EquationViews.{plain_pair, patterns_at};
 ghost use Rattle.kore_shapes.specs.StatementViews.{plain_statement};
@@ -49,7 +56,8 @@ fn conjuncts_with<'a>(
     args: &'a [Pat],
     sort: &Sort,
 ) -> Option<(&'a Pat, &'a Pat)>
-    ensures { option_map plain_pair result ≡ the_conjuncts_with (plain_sort sort.now) op (map plain_sort sorts.now) (map plain_pattern args.now) }
+    ensures { option_map plain_pair result
+        ≡ the_conjuncts_with (plain_sort sort.now) op (map plain_sort sorts.now) (map plain_pattern args.now) }
 {
     match (op, sorts, args) {
         (Op::And, [own], [first, second]) if same_sort(sort, own) => Some((first, second)),
@@ -79,7 +87,8 @@ fn is_member(sort: &Sort, variable: &Pat, pat: &Pat) -> bool
 
 /// The pattern p of `\in{S,R}(X,p)` over this sort R, for this variable X; none of any other pattern.
 fn member<'a>(pat: &'a Pat, over: &Sort, variable: &Pat) -> Option<&'a Pat>
-    ensures { option_map pattern_at result ≡ the_member (plain_sort over.now) (plain_pattern variable.now) (plain_pattern pat.now) }
+    ensures { option_map pattern_at result
+        ≡ the_member (plain_sort over.now) (plain_pattern variable.now) (plain_pattern pat.now) }
 {
     match &pat.form {
         PatForm::Built(op, sorts, args) => member_with(*op, sorts, args, over, variable),
@@ -94,7 +103,9 @@ fn member_with<'a>(
     over: &Sort,
     variable: &Pat,
 ) -> Option<&'a Pat>
-    ensures { option_map pattern_at result ≡ the_member_with (plain_sort over.now) (plain_pattern variable.now) op (map plain_sort sorts.now) (map plain_pattern args.now) }
+    ensures { option_map pattern_at result
+        ≡ the_member_with (plain_sort over.now) (plain_pattern variable.now) op (map plain_sort sorts.now)
+        (map plain_pattern args.now) }
 {
     match (op, sorts, args) {
         (Op::Member, [sort, own], [of, pattern])
@@ -105,7 +116,8 @@ fn member_with<'a>(
 
 /// The pattern p and the rest G of `\and{R}(\in{S,R}(X,p),G)` over this sort R, for this variable X.
 fn entry<'a>(guard: &'a Pat, over: &Sort, variable: &Pat) -> Option<(&'a Pat, &'a Pat)>
-    ensures { option_map plain_pair result ≡ the_entry (plain_sort over.now) (plain_pattern variable.now) (plain_pattern guard.now) }
+    ensures { option_map plain_pair result
+        ≡ the_entry (plain_sort over.now) (plain_pattern variable.now) (plain_pattern guard.now) }
 {
     let (first, rest) = conjuncts(guard, over)?;
     let pattern = member(first, over, variable)?;
@@ -120,7 +132,8 @@ fn members<'a>(
     over: &Sort,
     variables: &[Pat],
 ) -> Result<Option<Vec<&'a Pat>>, AllocError>
-    ensures { IfOk result (λ found. option_map patterns_at found ≡ the_members (plain_sort over.now) (map plain_pattern variables.now) (plain_pattern guard.now)) }
+    ensures { IfOk result (λ found. option_map patterns_at found
+        ≡ the_members (plain_sort over.now) (map plain_pattern variables.now) (plain_pattern guard.now)) }
 {
     let mut patterns = Vec::new(alloc);
     let mut rest = guard;
@@ -200,7 +213,8 @@ fn stands_apart(
     patterns: &[&Pat],
 ) -> bool
     ensures { result ≡ (does_stand_alone (plain_pattern variable.now) (map plain_pattern later.now)
-        && does_stand_alone (plain_pattern variable.now) (plain_pattern condition.now ∷ (plain_pattern value.now ∷ map pattern_at patterns.now))) }
+        && does_stand_alone (plain_pattern variable.now) (plain_pattern condition.now
+        ∷ (plain_pattern value.now ∷ map pattern_at patterns.now))) }
 {
     match &variable.form {
         PatForm::Elem(name, sort) => {
@@ -217,7 +231,8 @@ fn stands_apart(
 /// Whether the variables are element variables, each of which stands in none of those behind it and in none of the
 /// other patterns. It goes through all patterns once for each variable; a function has at most 64 arguments.
 fn stand_apart(variables: &[Pat], condition: &Pat, value: &Pat, patterns: &[&Pat]) -> bool
-    ensures { result ≡ do_stand_apart (map plain_pattern variables.now) (plain_pattern condition.now ∷ (plain_pattern value.now ∷ map pattern_at patterns.now)) }
+    ensures { result ≡ do_stand_apart (map plain_pattern variables.now) (plain_pattern condition.now
+        ∷ (plain_pattern value.now ∷ map pattern_at patterns.now)) }
 {
     for i in 0..variables.len() {
         if !stands_apart(
@@ -252,7 +267,8 @@ fn direct<'a>(
     stated: &Statement<'a>,
     condition: Option<&'a Pat>,
 ) -> Result<EquationParts<'a>, AllocError>
-    ensures { IfOk result (λ parts. plain_parts parts ≡ the_direct (plain_statement stated.now) (option_map pattern_at condition.entry)) }
+    ensures { IfOk result (λ parts. plain_parts parts
+        ≡ the_direct (plain_statement stated.now) (option_map pattern_at condition.entry)) }
 {
     Ok(EquationParts {
         parameters: &[],
@@ -279,7 +295,8 @@ fn kompiled<'a>(
     condition: &'a Pat,
     patterns: Vec<&'a Pat>,
 ) -> Option<EquationParts<'a>>
-    ensures { option_map plain_parts result ≡ the_kompiled (plain_statement stated.now) (plain_pattern condition.now) (patterns_at patterns.entry) }
+    ensures { option_map plain_parts result
+        ≡ the_kompiled (plain_statement stated.now) (plain_pattern condition.now) (patterns_at patterns.entry) }
 {
     if !stand_apart(stated.arguments, condition, stated.value, &patterns) {
         return None;
@@ -292,8 +309,8 @@ fn kompiled<'a>(
     })
 }
 
-/// The parts of an equation; none where it has neither form. Of the time: it is linear in the equation for each argument
-/// of its left side.
+/// The parts of an equation; none where it has neither form. Of the time: it is linear in the equation for each
+/// argument of its left side.
 pub fn equation_parts<'a>(
     alloc: Global,
     stated: &Statement<'a>,

@@ -2,7 +2,10 @@
 ghost use Rattle.std.specs.Prelude.{◌≡◌, ◌&&◌, not, map};
 ghost use Rattle.kore_text.specs.Trees.{pattern_trees};
 ghost use Rattle.kore_ast.specs.Plain.{plain_pattern};
-ghost use Rattle.kore_shapes.specs.Forms.{has_form as has_one, have_form as have_one, fold_has_form as fold_has_one, is_one as there_is_one, is_none as there_is_none, covers as does_cover, covers_others as does_cover_others, has_binder as has_one_binder, have_binder as have_one_binder};
+ghost use Rattle.kore_shapes.specs.Forms.{has_form as has_one, have_form as have_one, fold_has_form as fold_has_one};
+ghost use Rattle.kore_shapes.specs.Forms.{is_one as there_is_one, is_none as there_is_none, covers as does_cover};
+ghost use Rattle.kore_shapes.specs.Forms.{covers_others as does_cover_others, has_binder as has_one_binder};
+ghost use Rattle.kore_shapes.specs.Forms.{have_binder as have_one_binder};
 ghost use Rattle.kore_shapes.specs.SoughtForms.{sought as sought_forms};
 
 use kore_ast::{Op, Pat, PatForm};
@@ -38,8 +41,8 @@ fn covers_others(sought: SoughtForms) -> bool
     }
 }
 
-/// Whether one of these forms stands in the pattern, at any depth. Folds are read: the head of a fold of one argument is
-/// not looked at. It goes through the pattern once.
+/// Whether one of these forms stands in the pattern, at any depth. Folds are read: the head of a fold of one argument
+/// is not looked at. It goes through the pattern once.
 #[cycle(forms)]
 pub fn has_form(pat: &Pat, sought: SoughtForms) -> bool
     ensures { result ≡ has_one (sought_forms sought) (plain_pattern pat.now) }

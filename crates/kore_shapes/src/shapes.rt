@@ -1,7 +1,12 @@
 // The shape of rewrite rules.
 ghost use Rattle.std.specs.Prelude.{◌≡◌, map, option_map};
 ghost use Rattle.kore_ast.specs.Plain.{plain_sort, plain_pattern};
-ghost use Rattle.kore_shapes.specs.Shapes.{rewriting as the_rewriting, rewriting_of as the_rewriting_of, heads_condition, is_top, side as the_side, joined_side as the_joined_side, picked as the_picked, found_part as the_found_part, main_part as the_main_part, is_true_of as is_the_true, condition_with as the_condition_with, condition_of as the_condition, given_condition as the_given};
+ghost use Rattle.kore_shapes.specs.Shapes.{rewriting as the_rewriting, rewriting_of as the_rewriting_of};
+ghost use Rattle.kore_shapes.specs.Shapes.{heads_condition, is_top, side as the_side, joined_side as the_joined_side};
+ghost use Rattle.kore_shapes.specs.Shapes.{picked as the_picked, found_part as the_found_part};
+ghost use Rattle.kore_shapes.specs.Shapes.{main_part as the_main_part, is_true_of as is_the_true};
+ghost use Rattle.kore_shapes.specs.Shapes.{condition_with as the_condition_with, condition_of as the_condition};
+ghost use Rattle.kore_shapes.specs.Shapes.{given_condition as the_given};
 ghost use Rattle.kore_shapes.specs.Views.{pattern_at, plain_rewriting, plain_side, plain_condition};
 ghost use Rattle.kore_shapes.specs.SideTests.{passes};
 
@@ -30,7 +35,8 @@ pub fn rewriting_at(pat: &Pat) -> Option<Rewriting<'_>>
 }
 
 fn rewriting_of<'a>(op: Op, sorts: &'a [Sort], args: &'a [Pat]) -> Option<Rewriting<'a>>
-    ensures { option_map plain_rewriting result ≡ the_rewriting_of op (map plain_sort sorts.now) (map plain_pattern args.now) }
+    ensures { option_map plain_rewriting result
+        ≡ the_rewriting_of op (map plain_sort sorts.now) (map plain_pattern args.now) }
 {
     match (op, sorts, args) {
         (Op::Rewrites, [sort], [before, after]) => Some(Rewriting {
@@ -89,7 +95,9 @@ pub fn side_at<'a>(pat: &'a Pat, sort: &Sort, companion: Companion) -> Side<'a>
 }
 
 fn joined_side<'a>(sorts: &[Sort], args: &'a [Pat], sort: &Sort, companion: Companion) -> Side<'a>
-    ensures { plain_side result ≡ the_joined_side (passes companion) (plain_sort sort.now) (map plain_sort sorts.now) (map plain_pattern args.now) }
+    ensures { plain_side result
+        ≡ the_joined_side (passes companion) (plain_sort sort.now) (map plain_sort sorts.now)
+        (map plain_pattern args.now) }
 {
     match (sorts, args) {
         ([own], [first, second]) if same_sort(sort, own) => picked(first, second, companion),
@@ -164,7 +172,8 @@ fn condition_of<'a>(pat: &'a Pat, sort: &Sort) -> Condition<'a>
 }
 
 fn condition_with<'a>(sort: &Sort, op: Op, sorts: &'a [Sort], args: &'a [Pat]) -> Condition<'a>
-    ensures { plain_condition result ≡ the_condition_with (plain_sort sort.now) op (map plain_sort sorts.now) (map plain_pattern args.now) }
+    ensures { plain_condition result
+        ≡ the_condition_with (plain_sort sort.now) op (map plain_sort sorts.now) (map plain_pattern args.now) }
 {
     match (op, sorts, args) {
         (Op::Top, [own], []) if same_sort(sort, own) => Condition::Always,

@@ -2,7 +2,8 @@
 ghost use Rattle.std.specs.Prelude.{◌≡◌, map};
 ghost use Rattle.kore_text.specs.Trees.{sort_trees};
 ghost use Rattle.kore_ast.specs.Plain.{plain_sort, plain_pattern};
-ghost use Rattle.kore_shapes.specs.SameSorts.{same_sort as are_same, same_sorts as all_same, is_variable as is_the_variable};
+ghost use Rattle.kore_shapes.specs.SameSorts.{same_sort as are_same, same_sorts as all_same};
+ghost use Rattle.kore_shapes.specs.SameSorts.{is_variable as is_the_variable};
 
 use kore_ast::{Pat, PatForm, Sort, SortForm};
 

@@ -2,7 +2,9 @@
 ghost use Rattle.std.specs.Prelude.{◌≡◌, map, option_map};
 ghost use Rattle.std.specs.Option.{option_and_then};
 ghost use Rattle.kore_ast.specs.Plain.{plain_sort, plain_pattern};
-ghost use Rattle.kore_shapes.specs.Statements.{called as the_called, call_of as the_call_of, equality as the_equality, equality_with as the_equality_with, guarded as the_guarded, statement as the_statement, statement_with as the_statement_with};
+ghost use Rattle.kore_shapes.specs.Statements.{called as the_called, call_of as the_call_of, equality as the_equality};
+ghost use Rattle.kore_shapes.specs.Statements.{equality_with as the_equality_with, guarded as the_guarded};
+ghost use Rattle.kore_shapes.specs.Statements.{statement as the_statement, statement_with as the_statement_with};
 ghost use Rattle.kore_shapes.specs.StatementViews.{plain_statement, plain_call};
 
 use crate::sorts::same_sort;
@@ -36,7 +38,8 @@ pub fn statement_at(pat: &Pat) -> Option<Statement<'_>>
 }
 
 fn statement_with<'a>(op: Op, sorts: &'a [Sort], args: &'a [Pat]) -> Option<Statement<'a>>
-    ensures { option_map plain_statement result ≡ the_statement_with op (map plain_sort sorts.now) (map plain_pattern args.now) }
+    ensures { option_map plain_statement result
+        ≡ the_statement_with op (map plain_sort sorts.now) (map plain_pattern args.now) }
 {
     match (op, sorts, args) {
         (Op::Implies, [over], [guard, stated]) => guarded(over, guard, stated),
@@ -46,7 +49,9 @@ fn statement_with<'a>(op: Op, sorts: &'a [Sort], args: &'a [Pat]) -> Option<Stat
 
 /// The equality behind this guard, where it is over the same sort.
 fn guarded<'a>(over: &Sort, guard: &'a Pat, stated: &'a Pat) -> Option<Statement<'a>>
-    ensures { option_map plain_statement result ≡ option_and_then (the_guarded (plain_sort over.now) (plain_pattern guard.now)) (the_equality (plain_pattern stated.now)) }
+    ensures { option_map plain_statement result
+        ≡ option_and_then (the_guarded (plain_sort over.now) (plain_pattern guard.now))
+        (the_equality (plain_pattern stated.now)) }
 {
     let equality = equality(stated)?;
     if !same_sort(over, equality.over) {
@@ -68,7 +73,8 @@ fn equality(pat: &Pat) -> Option<Statement<'_>>
 }
 
 fn equality_with<'a>(op: Op, sorts: &'a [Sort], args: &'a [Pat]) -> Option<Statement<'a>>
-    ensures { option_map plain_statement result ≡ the_equality_with op (map plain_sort sorts.now) (map plain_pattern args.now) }
+    ensures { option_map plain_statement result
+        ≡ the_equality_with op (map plain_sort sorts.now) (map plain_pattern args.now) }
 {
     match (op, sorts, args) {
         (Op::Equals, [sort, over], [left, value]) => {
@@ -97,7 +103,8 @@ fn called(pat: &Pat) -> Option<(&Text, &[Pat])>
 }
 
 fn call_of<'a>(name: &'a Text, sorts: &[Sort], args: &'a [Pat]) -> Option<(&'a Text, &'a [Pat])>
-    ensures { option_map plain_call result ≡ the_call_of name.now (map plain_sort sorts.now) (map plain_pattern args.now) }
+    ensures { option_map plain_call result
+        ≡ the_call_of name.now (map plain_sort sorts.now) (map plain_pattern args.now) }
 {
     match sorts {
         [] => Some((name, args)),

@@ -233,23 +233,28 @@ fn equations(rt: HostRuntime) -> Result<(), Fail> {
             Some(None),
         ),
         (
-            "\\implies{R}(\\and{R}(\\top{R}(),\\and{R}(\\in{S{},R}(X:S{},a{}()),\\top{R}())),\\equals{S{},R}(f{}(X:S{}),b{}()))",
+            "\\implies{R}(\\and{R}(\\top{R}(),\\and{R}(\\in{S{},R}(X:S{},a{}()),\\top{R}())),\\equals{S{},\
+                R}(f{}(X:S{}),b{}()))",
             Some(Some((1, 1, true, 100))),
         ),
         (
-            "\\implies{R}(\\and{R}(\\top{R}(),\\and{R}(\\in{S{},R}(X:S{},a{}()),\\top{R}())),\\equals{S{},R}(f{}(X:S{}),X:S{}))",
+            "\\implies{R}(\\and{R}(\\top{R}(),\\and{R}(\\in{S{},R}(X:S{},a{}()),\\top{R}())),\\equals{S{},\
+                R}(f{}(X:S{}),X:S{}))",
             Some(None),
         ),
         (
-            "\\implies{R}(\\and{R}(\\top{R}(),\\and{R}(\\in{S{},R}(X:S{},X:S{}),\\top{R}())),\\equals{S{},R}(f{}(X:S{}),b{}()))",
+            "\\implies{R}(\\and{R}(\\top{R}(),\\and{R}(\\in{S{},R}(X:S{},X:S{}),\\top{R}())),\\equals{S{},\
+                R}(f{}(X:S{}),b{}()))",
             Some(None),
         ),
         (
-            "\\implies{R}(\\and{R}(\\top{R}(),\\and{R}(\\in{S{},R}(X:S{},X:T{}),\\top{R}())),\\equals{S{},R}(f{}(X:S{}),b{}()))",
+            "\\implies{R}(\\and{R}(\\top{R}(),\\and{R}(\\in{S{},R}(X:S{},X:T{}),\\top{R}())),\\equals{S{},\
+                R}(f{}(X:S{}),b{}()))",
             Some(Some((1, 1, true, 100))),
         ),
         (
-            "\\implies{R}(\\and{R}(\\top{R}(),\\and{R}(\\in{T{},R}(X:S{},a{}()),\\top{R}())),\\equals{S{},R}(f{}(X:S{}),b{}()))",
+            "\\implies{R}(\\and{R}(\\top{R}(),\\and{R}(\\in{T{},R}(X:S{},a{}()),\\top{R}())),\\equals{S{},\
+                R}(f{}(X:S{}),b{}()))",
             Some(None),
         ),
     ];

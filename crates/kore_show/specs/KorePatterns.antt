@@ -1,14 +1,17 @@
 -- The Kore pattern that a pattern of a rule is, by the names that its signature declares (Kore language document,
 -- "Patterns"). It stands in no text, and so each place is 0.
-use Rattle.std.specs.Prelude.{ℕ, List, [], ◌∷◌, Bool, true, false, Option, Some, None, option_map, slice_get, codes, if◌then◌else◌}
+use Rattle.std.specs.Prelude.{ℕ, List, [], ◌∷◌, Bool, true, false, Option, Some, None, option_map, slice_get, codes}
+use Rattle.std.specs.Prelude.{if◌then◌else◌}
 use Rattle.std.specs.Fmt.{signed_decimal}
 use Rattle.term_core.specs.Terms.{DomainValue, integer, truth, text}
-use Rattle.term_core.specs.Patterns.{Pattern, Patterns, variable, domain_value, application, injection, call, no_pattern, more_patterns}
+use Rattle.term_core.specs.Patterns.{Pattern, Patterns, variable, domain_value, application, injection, call}
+use Rattle.term_core.specs.Patterns.{no_pattern, more_patterns}
 use Rattle.rule_core.specs.declared.signature.Signature.{Signature}
 use Rattle.rule_core.specs.declared.signature.SymInfo.{SymInfo}
 use Rattle.rule_core.specs.declared.signature.SymKind.{SymKind}
 use Rattle.rule_core.specs.declared.signature.SymKind.TheVariants.{Injection, Ctor, Equations, Hooked, Closed, NoKind}
-use Rattle.kore_text.specs.Trees.{SortTree, sort_applied, no_sorts, sort_trees, PatternTree, PatternTrees, symbol_applied, no_patterns, pattern_then}
+use Rattle.kore_text.specs.Trees.{SortTree, sort_applied, no_sorts, sort_trees, PatternTree, PatternTrees}
+use Rattle.kore_text.specs.Trees.{symbol_applied, no_patterns, pattern_then}
 use Rattle.kore_text.specs.Trees as tree
 
 -- the name under a number
@@ -75,7 +78,8 @@ abbrev mutual
   kore_pattern sig (application f ps) =
       applied (declared_name sig.symbols f) (Some []) (kore_patterns sig ps)
   kore_pattern sig (injection a b p) =
-      applied (injection_name sig.symbols) (kore_sorts sig (a ∷ (b ∷ []))) (in_front (kore_pattern sig p) (Some no_patterns))
+      applied (injection_name sig.symbols) (kore_sorts sig (a ∷ (b ∷ [])))
+      (in_front (kore_pattern sig p) (Some no_patterns))
   kore_pattern sig (call f sorts ps) =
       applied (declared_name sig.symbols f) (kore_sorts sig sorts) (kore_patterns sig ps)
 

@@ -8,4 +8,5 @@ use Rattle.kore_show.specs.KorePatterns.{kore_pattern}
 
 -- in a well-formed signature, a pattern without variables that has a sort has a Kore pattern
 abbrev pub SortedIsShown : Type 0
-SortedIsShown = (sig : Signature) (p : Pattern) (sort : ℕ) → IsSignature sig → HasSort sig [] p sort → IsSome (kore_pattern sig p)
+SortedIsShown = (sig : Signature) (p : Pattern) (sort : ℕ) → IsSignature sig → HasSort sig [] p sort
+    → IsSome (kore_pattern sig p)

@@ -3,7 +3,8 @@ ghost use Rattle.std.specs.Prelude.{◌≡◌, ℕ, List, IsSome, IfOk, IfSome, 
 ghost use Rattle.kore_ast.specs.Plain.{plain_sort};
 ghost use Rattle.term_core.specs.Values.{value_of};
 ghost use Rattle.term_core.specs.RulePatterns.{sort_numbers};
-ghost use Rattle.kore_show.specs.KorePatterns.{declared_name, injection_name, value_text, injects, kore_sort, kore_sorts};
+ghost use Rattle.kore_show.specs.KorePatterns.{declared_name, injection_name, value_text, injects, kore_sort};
+ghost use Rattle.kore_show.specs.KorePatterns.{kore_sorts};
 ghost use Rattle.rule_core.specs.declared.signature.SymInfo.{SymInfo};
 
 use itoa::Buffer;
@@ -27,7 +28,8 @@ pub(crate) fn injection_symbol(symbols: &Table<SymInfo>) -> Option<usize>
 
 // Whether the symbol with this number is of the kind of the injection symbol.
 fn injects(symbols: &Table<SymInfo>, n: usize) -> bool
-    ensures { (name : List ℕ) (info : SymInfo) → slice_get symbols.now n ≡ Some (name, info) → result ≡ injects info.kind }
+    ensures { (name : List ℕ) (info : SymInfo) → slice_get symbols.now n ≡ Some (name, info) → result
+        ≡ injects info.kind }
 {
     match symbols.value(n) {
         Some(info) => matches!(&info.kind, SymKind::Injection),

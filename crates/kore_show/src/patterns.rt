@@ -82,7 +82,8 @@ fn all_shown(
     requires shown { IsSome (kore_patterns sig.now (plain_patterns pats.now)) }
     requires found { IfSome injection (λ n. declared_name sig.now.symbols n ≡ injection_name sig.now.symbols) }
     requires none { IfNone injection (injection_name sig.now.symbols ≡ None) }
-    ensures { IfOk result (λ ps. kore_patterns sig.now (plain_patterns pats.now) ≡ Some (pattern_trees (map kore_tree ps.items))) }
+    ensures { IfOk result (λ ps. kore_patterns sig.now (plain_patterns pats.now)
+        ≡ Some (pattern_trees (map kore_tree ps.items))) }
 {
     let mut all = Vec::with_capacity(alloc, pats.len())?;
     for pat in pats {

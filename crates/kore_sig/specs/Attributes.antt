@@ -1,6 +1,7 @@
 -- Attributes (Kore language document, "Attributes"; K framework, the attributes that its compiler writes). An attribute
 -- goes by its name alone, whatever sorts and arguments it has, but where its text or its sorts are asked for.
-use Rattle.std.specs.Prelude.{ℕ, Bool, false, ◌||◌, List, [], ◌∷◌, Option, Some, None, option_map, unwrap_or, find, filter_map, if◌then◌else◌, codes}
+use Rattle.std.specs.Prelude.{ℕ, Bool, false, ◌||◌, List, [], ◌∷◌, Option, Some, None, option_map, unwrap_or, find}
+use Rattle.std.specs.Prelude.{filter_map, if◌then◌else◌, codes}
 use Rattle.std.specs.List.{list_any}
 use Rattle.std.specs.Str.{bytes_eq}
 use Rattle.kore_text.specs.Trees.{SortTree, listed_sorts, PatternTree, string, symbol_applied, listed_patterns}

@@ -1,7 +1,8 @@
 -- What the modules that count declare, in the order of the file. Names are flat: what one of them declares, each of
 -- them may name.
 use Rattle.std.specs.Prelude.{ℕ, List, map, Option, Some, None, filter_map, flat_map}
-use Rattle.kore_text.specs.Trees.{SortTree, SortDeclaration, SymbolDeclaration, AxiomDeclaration, Declaration, sort_declaration, symbol_declaration, axiom_declaration, DefinitionTree}
+use Rattle.kore_text.specs.Trees.{SortTree, SortDeclaration, SymbolDeclaration, AxiomDeclaration, Declaration}
+use Rattle.kore_text.specs.Trees.{sort_declaration, symbol_declaration, axiom_declaration, DefinitionTree}
 use Rattle.kore_sig.specs.Attributes.{subsort_pairs}
 use Rattle.kore_sig.specs.CountedModules.{counted_declarations}
 

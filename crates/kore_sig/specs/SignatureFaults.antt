@@ -1,8 +1,10 @@
 -- The faults of the declarations of a definition, and the first of them: first the names of all modules, then the
 -- declarations of the modules that count, then the pairs of sorts. Each of these goes in the order of the file. At one
 -- declaration the smallest number comes first, of one number the first byte.
-use Rattle.std.specs.Prelude.{◌≡◌, ◌==◌, ℕ, List, [], ◌∷◌, ◌++◌, length, map, flat_map, Contains, Option, Some, None, is_some, if◌then◌else◌, nat_lt}
-use Rattle.kore_text.specs.Trees.{SortTree, ImportDeclaration, SortDeclaration, SymbolDeclaration, Declaration, import_declaration, sort_declaration, symbol_declaration, ModuleTree, DefinitionTree}
+use Rattle.std.specs.Prelude.{◌≡◌, ◌==◌, ℕ, List, [], ◌∷◌, ◌++◌, length, map, flat_map, Contains, Option, Some, None}
+use Rattle.std.specs.Prelude.{is_some, if◌then◌else◌, nat_lt}
+use Rattle.kore_text.specs.Trees.{SortTree, ImportDeclaration, SortDeclaration, SymbolDeclaration, Declaration}
+use Rattle.kore_text.specs.Trees.{import_declaration, sort_declaration, symbol_declaration, ModuleTree, DefinitionTree}
 use Rattle.rule_core.specs.Subsorts.{HasNoCycle}
 use Rattle.rule_core.specs.declared.signature.SortInfo.{SortInfo}
 use Rattle.kore_sig.specs.FirstFault.{Fault, when, unless, ByNumber, IsFirstBy, Then, InOrder}

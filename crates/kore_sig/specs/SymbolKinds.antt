@@ -1,8 +1,10 @@
 -- What a symbol is used for, and whether it is said to be associative, commutative or the like (K framework,
 -- attributes `sortInjection`, `function`, `constructor`, `assoc`, `comm`, `unit` and `idem`).
-use Rattle.std.specs.Prelude.{ℕ, Bool, false, not, ◌&&◌, ◌||◌, ◌==◌, List, [], ◌∷◌, length, Option, Some, None, option_map, find, filter_map, if◌then◌else◌, codes}
+use Rattle.std.specs.Prelude.{ℕ, Bool, false, not, ◌&&◌, ◌||◌, ◌==◌, List, [], ◌∷◌, length, Option, Some, None}
+use Rattle.std.specs.Prelude.{option_map, find, filter_map, if◌then◌else◌, codes}
 use Rattle.std.specs.Str.{bytes_eq}
-use Rattle.kore_text.specs.Trees.{SortTree, sort_parameter, sort_applied, listed_sorts, PatternTree, symbol_applied, connected, listed_patterns, SymbolDeclaration, AxiomDeclaration, DefinitionTree}
+use Rattle.kore_text.specs.Trees.{SortTree, sort_parameter, sort_applied, listed_sorts, PatternTree, symbol_applied}
+use Rattle.kore_text.specs.Trees.{connected, listed_patterns, SymbolDeclaration, AxiomDeclaration, DefinitionTree}
 use Rattle.kore_text.specs.declared.names.Op.{Op}
 use Rattle.kore_text.specs.declared.names.Op.TheVariants.{Equals}
 use Rattle.rule_core.specs.declared.signature.SymKind.{SymKind}

@@ -1,7 +1,10 @@
 // Attributes, by their names.
 ghost use Rattle.std.specs.Prelude.{◌≡◌, map, option_map, option_copied};
 ghost use Rattle.kore_ast.specs.Plain.{plain_pattern, plain_sort};
-ghost use Rattle.kore_sig.specs.Attributes.{is_named as is_attribute, has_attribute as has, first_of_name as first, text_itself as the_text, only_text as the_only_text, text_of as text, hook_of as hook, is_said_ac as is_ac, stated_pair as the_pair, subsort_sorts as pair};
+ghost use Rattle.kore_sig.specs.Attributes.{is_named as is_attribute, has_attribute as has, first_of_name as first};
+ghost use Rattle.kore_sig.specs.Attributes.{text_itself as the_text, only_text as the_only_text, text_of as text};
+ghost use Rattle.kore_sig.specs.Attributes.{hook_of as hook, is_said_ac as is_ac, stated_pair as the_pair};
+ghost use Rattle.kore_sig.specs.Attributes.{subsort_sorts as pair};
 
 use kore_ast::{Pat, PatForm, Sort, Text};
 
@@ -94,7 +97,8 @@ pub(crate) fn subsort_sorts(attr: &Pat) -> Option<(&Sort, &Sort)>
 }
 
 fn stated_pair<'a>(name: &Text, sorts: &'a [Sort], args: &[Pat]) -> Option<(&'a Sort, &'a Sort)>
-    ensures { option_map (λ p. (plain_sort p.0.now, plain_sort p.1.now)) result ≡ the_pair name.now (map plain_sort sorts.now) (map plain_pattern args.now) }
+    ensures { option_map (λ p. (plain_sort p.0.now, plain_sort p.1.now)) result
+        ≡ the_pair name.now (map plain_sort sorts.now) (map plain_pattern args.now) }
 {
     match (sorts, args) {
         ([lower, upper], []) if name.as_str() == "subsort" => Some((lower, upper)),

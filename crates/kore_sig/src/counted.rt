@@ -28,7 +28,8 @@ pub fn counted_declarations(
     alloc: Global,
     definition: &Definition,
 ) -> Result<Vec<&Decl>, AllocError>
-    ensures { IfOk result (λ ds. map (λ d. plain_declaration d.now) ds.items ≡ the_counted (plain_definition definition.now)) }
+    ensures { IfOk result (λ ds. map (λ d. plain_declaration d.now) ds.items
+        ≡ the_counted (plain_definition definition.now)) }
 {
     let placed = placed_declarations(alloc, definition)?;
     let mut decls = Vec::with_capacity(alloc, placed.len())?;
@@ -43,8 +44,10 @@ pub(crate) fn placed_declarations(
     alloc: Global,
     definition: &Definition,
 ) -> Result<Vec<Placed<'_>>, AllocError>
-    ensures counted { IfOk result (λ ps. map (λ p. plain_declaration p.decl.now) ps.items ≡ the_counted (plain_definition definition.now)) }
-    ensures placed { IfOk result (λ ps. map (plain_placed (names_of_modules definition.now.modules.items)) ps.items ≡ the_placed [] (plain_definition definition.now).modules) }
+    ensures counted { IfOk result (λ ps. map (λ p. plain_declaration p.decl.now) ps.items
+        ≡ the_counted (plain_definition definition.now)) }
+    ensures placed { IfOk result (λ ps. map (plain_placed (names_of_modules definition.now.modules.items)) ps.items
+        ≡ the_placed [] (plain_definition definition.now).modules) }
 {
     let modules = &definition.modules;
     let counted = marks(alloc, modules)?;
@@ -63,7 +66,9 @@ fn place<'a>(
     module_index: usize,
     decls: &'a [Decl],
 ) -> Result<(), AllocError>
-    ensures { OnOk result ((names : List (List ℕ)) → map (plain_placed names) placed.new.items ≡ map (plain_placed names) placed.old.items ++ map (placed_at (take module_index names)) (map plain_declaration decls.now)) }
+    ensures { OnOk result ((names : List (List ℕ)) → map (plain_placed names) placed.new.items
+        ≡ map (plain_placed names) placed.old.items
+        ++ map (placed_at (take module_index names)) (map plain_declaration decls.now)) }
 {
     placed.reserve(decls.len())?;
     for decl in decls {
@@ -94,7 +99,8 @@ fn marks(alloc: Global, modules: &[Module]) -> Result<Vec<bool>, AllocError>
 
 /// Adds the names that the declarations import.
 fn add_imports(alloc: Global, imported: &mut Table<()>, decls: &[Decl]) -> Result<(), AllocError>
-    ensures { OnOk result ((names : List (List ℕ)) → Knows imported.old names → Knows imported.new (names ++ filter_map import_name (map plain_declaration decls.now))) }
+    ensures { OnOk result ((names : List (List ℕ)) → Knows imported.old names
+        → Knows imported.new (names ++ filter_map import_name (map plain_declaration decls.now))) }
 {
     for decl in decls {
         if let Decl::Import(import) = decl {

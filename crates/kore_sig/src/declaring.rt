@@ -27,7 +27,9 @@ pub(crate) fn declaration_fault(
     placed: &Placed<'_>,
 ) -> Option<SigFault>
     requires { length sorts.now < 2 ^ 32 }
-    ensures { Answers (first_by_number (declaration_faults sorts.now (before_of seen.now symbols.now) (take placed.now.module_index (names_of modules.now)) (plain_declaration placed.now.decl.now))) result }
+    ensures { Answers (first_by_number
+        (declaration_faults sorts.now (before_of seen.now symbols.now)
+        (take placed.now.module_index (names_of modules.now)) (plain_declaration placed.now.decl.now))) result }
 {
     match placed.decl {
         Decl::Import(decl) => import_fault(modules, placed.module_index, decl),
@@ -39,7 +41,8 @@ pub(crate) fn declaration_fault(
 
 /// An import has a fault where no module in front of its own has the name.
 fn import_fault(modules: &Table<()>, own: usize, decl: &ImportDecl) -> Option<SigFault>
-    ensures { Answers (first_by_number (import_faults (take own (names_of modules.now)) (plain_import decl.now))) result }
+    ensures { Answers (first_by_number
+        (import_faults (take own (names_of modules.now)) (plain_import decl.now))) result }
 {
     if is_earlier(modules, own, &decl.name) {
         None
@@ -78,7 +81,8 @@ fn symbol_fault(
     decl: &SymbolDecl,
 ) -> Option<SigFault>
     requires { length sorts.now < 2 ^ 32 }
-    ensures { Answers (first_by_number (symbol_faults sorts.now (names_of symbols.now) (plain_symbol_decl decl.now))) result }
+    ensures { Answers (first_by_number (symbol_faults sorts.now (names_of symbols.now) (plain_symbol_decl decl.now)))
+        result }
 {
     if has_name(symbols, &decl.name) {
         return Some(SigFault::Duplicate(decl.at));

@@ -2,7 +2,12 @@
 ghost use Rattle.std.specs.Prelude.{◌≡◌, map, option_map, option_copied, Option, ℕ, List};
 ghost use Rattle.kore_ast.specs.Plain.{plain_sort, plain_pattern, plain_symbol_decl, plain_axiom_decl};
 ghost use Rattle.kore_sig.specs.SortReferences.{kind_of_hook as the_kind_of_hook};
-ghost use Rattle.kore_sig.specs.SymbolKinds.{is_parameter as the_parameter, goes_from_to as the_going, has_injection_form as the_form, is_named_so as the_named, function_kind as the_function_kind, kind_of as the_kind, head_of as the_head, applied_symbol as the_applied, first_symbol as the_first, equated_by as the_equated_by, equated_symbol as the_equated, said_ac as the_said_ac};
+ghost use Rattle.kore_sig.specs.SymbolKinds.{is_parameter as the_parameter, goes_from_to as the_going};
+ghost use Rattle.kore_sig.specs.SymbolKinds.{has_injection_form as the_form, is_named_so as the_named};
+ghost use Rattle.kore_sig.specs.SymbolKinds.{function_kind as the_function_kind, kind_of as the_kind};
+ghost use Rattle.kore_sig.specs.SymbolKinds.{head_of as the_head, applied_symbol as the_applied};
+ghost use Rattle.kore_sig.specs.SymbolKinds.{first_symbol as the_first, equated_by as the_equated_by};
+ghost use Rattle.kore_sig.specs.SymbolKinds.{equated_symbol as the_equated, said_ac as the_said_ac};
 
 use crate::attributes::{has_attribute, is_said_ac};
 use kore_ast::{AxiomDecl, Op, Pat, PatForm, Sort, SortForm, SymbolDecl, Text};

@@ -1,5 +1,6 @@
 // What is known of all declarations before each is looked at.
-ghost use Rattle.std.specs.Prelude.{◌≡◌, ◌<◌, ◌^◌, ◌++◌, ◌∷◌, [], ℕ, List, map, IfOk, OnOk, option_copied, length, filter_map};
+ghost use Rattle.std.specs.Prelude.{◌≡◌, ◌<◌, ◌^◌, ◌++◌, ◌∷◌, [], ℕ, List, map, IfOk, OnOk, option_copied, length};
+ghost use Rattle.std.specs.Prelude.{filter_map};
 ghost use Rattle.kore_ast.specs.Plain.{plain_declaration, plain_sort_decl, plain_axiom_decl};
 ghost use Rattle.kore_text.specs.Trees.{Declaration, sort_declaration};
 ghost use Rattle.kore_sig.specs.SymbolKinds.{injection_of};
@@ -47,7 +48,8 @@ fn sorts_in(alloc: Global, decls: &[Placed<'_>]) -> Result<Table<SortInfo>, Allo
 
 /// Adds a sort, where its name is new.
 fn add_sort(alloc: Global, sorts: &mut Table<SortInfo>, decl: &SortDecl) -> Result<(), AllocError>
-    ensures { OnOk result ((ds : List Declaration) → IsSortTable ds sorts.old → IsSortTable (ds ++ sort_declaration (plain_sort_decl decl.now) ∷ []) sorts.new) }
+    ensures { OnOk result ((ds : List Declaration) → IsSortTable ds sorts.old
+        → IsSortTable (ds ++ sort_declaration (plain_sort_decl decl.now) ∷ []) sorts.new) }
 {
     let kind = kind_of_hook(hook_of(&decl.attrs));
     sorts.insert(

@@ -2,8 +2,8 @@
 //
 // `signature` answers the signature that the declarations mean (specs/Signatures.antt), or the first fault by the order
 // of refusals (specs/SignatureFaults.antt), exactly. `counted_declarations` tells the declarations that count (specs/
-// CountedModules.antt), in the order of the file. `has_attribute`, `first_of_name` and `text_of` read attributes (specs/
-// Attributes.antt); `sort_number` tells which declared sort a sort in the text is (specs/SortReferences.antt).
+// CountedModules.antt), in the order of the file. `has_attribute`, `first_of_name` and `text_of` read attributes
+// (specs/ Attributes.antt); `sort_number` tells which declared sort a sort in the text is (specs/SortReferences.antt).
 //
 // The other crates that look for a first fault use the words of specs/FirstFault.antt, and the laws of
 // proofs/FirstLaws.antt.

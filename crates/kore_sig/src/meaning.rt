@@ -27,8 +27,8 @@ use std::alloc::Global;
 /// otherwise, whatever its hook.
 ///
 /// It looks at each declaration a few times, and at each name as many times as the logarithm of the number of names;
-/// `Subsorts` tells what the pairs cost. It does not recurse. More than 2^32 sorts, symbols, or parameters of one symbol
-/// are answered as want of memory.
+/// `Subsorts` tells what the pairs cost. It does not recurse. More than 2^32 sorts, symbols, or parameters of one
+/// symbol are answered as want of memory.
 pub fn signature(alloc: Global, definition: &Definition) -> Result<Signature, SigFault>
     ensures declared { IfOk result (IsSignatureOf (plain_definition definition.now)) }
     ensures faultless { OnOk result (FirstOfSignature (plain_definition definition.now) None) }

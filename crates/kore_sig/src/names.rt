@@ -23,8 +23,10 @@ pub(crate) fn add_name(
     name: &Text,
 ) -> Result<bool, AllocError>
     ensures fresh { IfOk result (λ fresh. fresh ≡ is_none (number_of names.old name.now)) }
-    ensures entries { IfOk result (λ fresh. names.new ≡ (if fresh then names.old ++ (name.now, tt) ∷ [] else names.old)) }
-    ensures known { OnOk result ((known : List (List ℕ)) → Knows names.old known → Knows names.new (known ++ name.now ∷ [])) }
+    ensures entries { IfOk result (λ fresh. names.new
+        ≡ (if fresh then names.old ++ (name.now, tt) ∷ [] else names.old)) }
+    ensures known { OnOk result ((known : List (List ℕ)) → Knows names.old known
+        → Knows names.new (known ++ name.now ∷ [])) }
 {
     names.insert(String::from_str(alloc, name.as_str())?, ())
 }

@@ -1,5 +1,6 @@
 // The order of sorts that the axioms state.
-ghost use Rattle.std.specs.Prelude.{◌≡◌, ◌<◌, ◌^◌, ◌++◌, ◌∷◌, [], ℕ, List, None, map, flat_map, length, IfOk, IfErr, OnOk, OnErr, filter_map};
+ghost use Rattle.std.specs.Prelude.{◌≡◌, ◌<◌, ◌^◌, ◌++◌, ◌∷◌, [], ℕ, List, None, map, flat_map, length, IfOk, IfErr};
+ghost use Rattle.std.specs.Prelude.{OnOk, OnErr, filter_map};
 ghost use Rattle.std.specs.List.{AllZip};
 ghost use Rattle.kore_ast.specs.Plain.{plain_declaration, plain_sort, plain_axiom_decl, plain_pattern};
 ghost use Rattle.rule_core.specs.Subsorts.{HasNoCycle};
@@ -26,9 +27,12 @@ pub(crate) fn stated_order(
     decls: &[Placed<'_>],
 ) -> Result<Subsorts, SigFault>
     requires { length sorts.now < 2 ^ 32 }
-    ensures refused { IfErr result (Refuses (FirstFrom sorts.now [] (pairs_in (map (λ p. plain_declaration p.decl.now) decls.now)))) }
-    ensures clear { OnOk result (FirstFrom sorts.now [] (pairs_in (map (λ p. plain_declaration p.decl.now) decls.now)) None) }
-    ensures pairs { IfOk result (AllZip (IsPairOf sorts.now) (pairs_in (map (λ p. plain_declaration p.decl.now) decls.now))) }
+    ensures refused { IfErr result
+        (Refuses (FirstFrom sorts.now [] (pairs_in (map (λ p. plain_declaration p.decl.now) decls.now)))) }
+    ensures clear { OnOk result
+        (FirstFrom sorts.now [] (pairs_in (map (λ p. plain_declaration p.decl.now) decls.now)) None) }
+    ensures pairs { IfOk result
+        (AllZip (IsPairOf sorts.now) (pairs_in (map (λ p. plain_declaration p.decl.now) decls.now))) }
     ensures no_cycle { IfOk result HasNoCycle }
 {
     let mut subsorts = Subsorts::new(alloc);
@@ -48,8 +52,11 @@ fn add_pairs(
     decl: &AxiomDecl,
 ) -> Result<(), SigFault>
     requires { length sorts.now < 2 ^ 32 }
-    ensures refused { IfErr result (Refuses (λ r. (rest : List SubsortPair) → FirstFrom sorts.now subsorts.old (pairs_of_axiom (plain_axiom_decl decl.now) ++ rest) r)) }
-    ensures passes { OnOk result (Passes sorts.now subsorts.old subsorts.new (pairs_of_axiom (plain_axiom_decl decl.now))) }
+    ensures refused { IfErr result
+        (Refuses (λ r. (rest : List SubsortPair)
+        → FirstFrom sorts.now subsorts.old (pairs_of_axiom (plain_axiom_decl decl.now) ++ rest) r)) }
+    ensures passes { OnOk result
+        (Passes sorts.now subsorts.old subsorts.new (pairs_of_axiom (plain_axiom_decl decl.now))) }
 {
     for attr in &decl.attrs {
         if let Some((lower, upper)) = subsort_sorts(attr) {
@@ -69,8 +76,13 @@ fn add_pair(
     upper: &Sort,
 ) -> Result<(), SigFault>
     requires { length sorts.now < 2 ^ 32 }
-    ensures refused { IfErr result (Refuses (λ r. (rest : List SubsortPair) → FirstFrom sorts.now subsorts.old (record { at = at; lower = plain_sort lower.now; upper = plain_sort upper.now } ∷ rest) r)) }
-    ensures passes { OnOk result (Passes sorts.now subsorts.old subsorts.new (record { at = at; lower = plain_sort lower.now; upper = plain_sort upper.now } ∷ [])) }
+    ensures refused { IfErr result
+        (Refuses (λ r. (rest : List SubsortPair)
+        → FirstFrom sorts.now subsorts.old
+        (record { at = at; lower = plain_sort lower.now; upper = plain_sort upper.now } ∷ rest) r)) }
+    ensures passes { OnOk result
+        (Passes sorts.now subsorts.old subsorts.new
+        (record { at = at; lower = plain_sort lower.now; upper = plain_sort upper.now } ∷ [])) }
 {
     match (sort_number(sorts, lower), sort_number(sorts, upper)) {
         (Some(a), Some(b)) => {

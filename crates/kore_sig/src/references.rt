@@ -1,7 +1,9 @@
 // The sorts that are named in a definition.
 ghost use Rattle.std.specs.Prelude.{◌≡◌, ◌<◌, ◌^◌, ◌++◌, ◌∷◌, [], length, map, flat_map, option_map, None, Option, ℕ};
 ghost use Rattle.kore_ast.specs.Plain.{plain_sort};
-ghost use Rattle.kore_sig.specs.SortReferences.{declared_number as the_declared, sort_number as the_number, parameter_place as the_place, sort_reference as the_reference, sort_place as the_sort_place};
+ghost use Rattle.kore_sig.specs.SortReferences.{declared_number as the_declared, sort_number as the_number};
+ghost use Rattle.kore_sig.specs.SortReferences.{parameter_place as the_place, sort_reference as the_reference};
+ghost use Rattle.kore_sig.specs.SortReferences.{sort_place as the_sort_place};
 ghost use Rattle.kore_sig.specs.SignatureFaults.{reference_faults};
 ghost use Rattle.kore_sig.specs.Noted.{noted, leads_by_number, first_by_number};
 ghost use Rattle.kore_sig.specs.UnknownSorts.{unknown_sort_at};
@@ -83,7 +85,9 @@ pub(crate) fn first_unknown(
 ) -> Option<u32>
     requires sorts { length sorts.now < 2 ^ 32 }
     requires params { length params.now < 2 ^ 32 }
-    ensures { unknown_sort_at result ≡ first_by_number (flat_map (reference_faults sorts.now params.now) (map plain_sort args.now ++ plain_sort value.now ∷ [])) }
+    ensures { unknown_sort_at result
+        ≡ first_by_number (flat_map (reference_faults sorts.now params.now) (map plain_sort args.now
+        ++ plain_sort value.now ∷ [])) }
 {
     let mut first = None;
     for arg in args {
@@ -97,7 +101,9 @@ pub(crate) fn first_unknown(
 fn note_unknown(sorts: &Table<SortInfo>, params: &[Text], sort: &Sort, first: &mut Option<u32>)
     requires sorts { length sorts.now < 2 ^ 32 }
     requires params { length params.now < 2 ^ 32 }
-    ensures { unknown_sort_at first.new ≡ noted leads_by_number (unknown_sort_at first.old) (reference_faults sorts.now params.now (plain_sort sort.now)) }
+    ensures { unknown_sort_at first.new
+        ≡ noted leads_by_number (unknown_sort_at first.old)
+        (reference_faults sorts.now params.now (plain_sort sort.now)) }
 {
     if sort_reference(sorts, params, sort).is_some() {
         return;

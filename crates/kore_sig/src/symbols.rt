@@ -1,5 +1,6 @@
 // The symbols that declarations without a fault declare.
-ghost use Rattle.std.specs.Prelude.{◌≡◌, ◌<◌, ◌^◌, ◌++◌, ◌∷◌, [], ℕ, List, None, Some, map, flat_map, length, take, IfOk, IfErr, OnOk, option_map, option_copied, string_bytes};
+ghost use Rattle.std.specs.Prelude.{◌≡◌, ◌<◌, ◌^◌, ◌++◌, ◌∷◌, [], ℕ, List, None, Some, map, flat_map, length, take};
+ghost use Rattle.std.specs.Prelude.{IfOk, IfErr, OnOk, option_map, option_copied, string_bytes};
 ghost use Rattle.kore_ast.specs.Plain.{plain_declaration, plain_sort, plain_symbol_decl, plain_pattern};
 ghost use Rattle.rule_core.specs.Named.{names_of, AreDistinct};
 ghost use Rattle.kore_sig.specs.Attributes.{hook_of as the_hook};
@@ -32,9 +33,13 @@ pub(crate) fn declared_symbols(
     decls: &[Placed<'_>],
 ) -> Result<Table<SymInfo>, SigFault>
     requires { length known.now.sorts < 2 ^ 32 }
-    ensures refused { IfErr result (Refuses (λ r. first_declared known.now.sorts nothing_declared (map (plain_placed (names_of modules.now)) decls.now) ≡ r)) }
-    ensures clear { OnOk result (first_declared known.now.sorts nothing_declared (map (plain_placed (names_of modules.now)) decls.now) ≡ None) }
-    ensures distinct { OnOk result (AreDistinct (names_of (entries_in (map (λ p. plain_declaration p.decl.now) decls.now)))) }
+    ensures refused { IfErr result
+        (Refuses (λ r. first_declared known.now.sorts nothing_declared
+        (map (plain_placed (names_of modules.now)) decls.now) ≡ r)) }
+    ensures clear { OnOk result
+        (first_declared known.now.sorts nothing_declared (map (plain_placed (names_of modules.now)) decls.now) ≡ None) }
+    ensures distinct { OnOk result
+        (AreDistinct (names_of (entries_in (map (λ p. plain_declaration p.decl.now) decls.now)))) }
     ensures symbols { IfOk result (AreSymbols known.now (map (λ p. plain_declaration p.decl.now) decls.now)) }
 {
     let mut seen = Table::new(alloc);
@@ -58,9 +63,12 @@ fn declare(
     decl: &Decl,
 ) -> Result<(), SigFault>
     requires sorts { length known.now.sorts < 2 ^ 32 }
-    requires faultless { (earlier : List (List ℕ)) × (first_by_number (declaration_faults known.now.sorts (before_of seen.old symbols.old) earlier (plain_declaration decl.now)) ≡ None) }
+    requires faultless { (earlier : List (List ℕ))
+        × (first_by_number (declaration_faults known.now.sorts (before_of seen.old symbols.old) earlier
+        (plain_declaration decl.now)) ≡ None) }
     ensures refused { IfErr result (Refuses (λ r. ⊥)) }
-    ensures grown { OnOk result (Grows known.now seen.old symbols.old seen.new symbols.new (plain_declaration decl.now)) }
+    ensures grown { OnOk result
+        (Grows known.now seen.old symbols.old seen.new symbols.new (plain_declaration decl.now)) }
 {
     match decl {
         Decl::SortDecl(decl) => {
@@ -78,10 +86,13 @@ fn declare(
 /// A symbol whose sorts are all known.
 fn symbol_info(alloc: Global, known: &Known<'_>, decl: &SymbolDecl) -> Result<SymInfo, SigFault>
     requires sorts { length known.now.sorts < 2 ^ 32 }
-    requires args { flat_map (reference_faults known.now.sorts decl.now.params.items) (map plain_sort decl.now.args.items) ≡ [] }
+    requires args { flat_map (reference_faults known.now.sorts decl.now.params.items)
+        (map plain_sort decl.now.args.items) ≡ [] }
     requires value { reference_faults known.now.sorts decl.now.params.items (plain_sort decl.now.result) ≡ [] }
     ensures refused { IfErr result (Refuses (λ r. ⊥)) }
-    ensures info { IfOk result (λ info. IsSymbolEntry known.now.sorts (option_copied known.now.injection) (names_of known.now.ac) (plain_symbol_decl decl.now) (decl.now.name, info)) }
+    ensures info { IfOk result
+        (λ info. IsSymbolEntry known.now.sorts (option_copied known.now.injection) (names_of known.now.ac)
+        (plain_symbol_decl decl.now) (decl.now.name, info)) }
 {
     let Ok(params) = u32::try_from(decl.params.len()) else {
         return Err(SigFault::Memory);
@@ -110,7 +121,8 @@ fn references(
     requires sorts { length sorts.now < 2 ^ 32 }
     requires params { length params.now < 2 ^ 32 }
     requires known { flat_map (reference_faults sorts.now params.now) (map plain_sort args.now) ≡ [] }
-    ensures { IfOk result (λ refs. map Some refs.items ≡ map (the_reference sorts.now params.now) (map plain_sort args.now)) }
+    ensures { IfOk result (λ refs. map Some refs.items
+        ≡ map (the_reference sorts.now params.now) (map plain_sort args.now)) }
 {
     let mut refs = Vec::with_capacity(alloc, args.len())?;
     for arg in args {

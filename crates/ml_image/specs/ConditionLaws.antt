@@ -26,7 +26,8 @@ RuleHasImage =
 -- and an equation, which has no parameters or as many as arguments
 abbrev pub EquationHasImage : Type 0
 EquationHasImage =
-    (theory : RewriteTheory) (f : ℕ) (info : SymInfo) (e : Equation) → IsWellSorted theory → IsSymbol theory.sig f info →
+    (theory : RewriteTheory) (f : ℕ) (info : SymInfo) (e : Equation) → IsWellSorted theory
+    → IsSymbol theory.sig f info →
     info.kind ≡ Equations → Contains (equations_of theory f) e → e.parameters + length e.variables ≤ 2 ^ 32 →
     (e.parameters ≡ 0) ⊎ (e.parameters ≡ count_of e.arguments) → HasEquationImage theory.sig f e
 

@@ -24,4 +24,5 @@ condition_at sig sorts k (Some p) = option_map (is_true (shifted k p)) (sort_of 
 
 -- the pattern is the image of what the condition says
 abbrev pub IsConditionImage : Signature → List (List ℕ) → List ℕ → ℕ → Option RulePattern → Pattern → Type 0
-IsConditionImage sig names sorts k condition p = IsImageOf sig names (λ c. condition_at sig sorts k condition ≡ Some c) p
+IsConditionImage sig names sorts k condition p
+    = IsImageOf sig names (λ c. condition_at sig sorts k condition ≡ Some c) p

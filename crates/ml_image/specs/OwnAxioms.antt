@@ -1,8 +1,10 @@
 -- What a definition's rules, equations, symbols and sorts say in matching logic: its own axioms (Chen and Rosu 2019; K
 -- framework, attributes `constructor`, `subsort` and `function`).
-use Rattle.std.specs.Prelude.{◌≡◌, ◌≢◌, ◌+◌, ◌<◌, ℕ, false, true, List, [], ◌∷◌, ◌++◌, length, map, slice_get, Contains, Option, Some, None, option_map}
+use Rattle.std.specs.Prelude.{◌≡◌, ◌≢◌, ◌+◌, ◌<◌, ℕ, false, true, List, [], ◌∷◌, ◌++◌, length, map, slice_get, Contains}
+use Rattle.std.specs.Prelude.{Option, Some, None, option_map}
 use Rattle.term_core.specs.Terms.{truth}
-use Rattle.term_core.specs.Patterns.{Pattern, Patterns, variable, domain_value, application, injection, call, no_pattern, more_patterns}
+use Rattle.term_core.specs.Patterns.{Pattern, Patterns, variable, domain_value, application, injection, call}
+use Rattle.term_core.specs.Patterns.{no_pattern, more_patterns}
 use Rattle.rule_core.specs.Rules.{RewriteRule, Equation}
 use Rattle.rule_core.specs.Theories.{RewriteTheory, equations_of}
 use Rattle.rule_core.specs.Subsorts.{IsBelow}
@@ -13,7 +15,8 @@ use Rattle.rule_core.specs.declared.signature.SymKind.TheVariants.{Ctor, Equatio
 use Rattle.rule_core.specs.declared.signature.SortRef.{SortRef}
 use Rattle.rule_core.specs.declared.signature.SortRef.TheVariants.{Sort}
 use Rattle.ml_image.specs.Images.{shifted, all_shifted}
-use Rattle.ml_image.specs.Sentences.{Sentence, term, symbol, top, not, and, implies, equals, is_in, exists, next, for_all, variables, apply_all, conjunctions}
+use Rattle.ml_image.specs.Sentences.{Sentence, term, symbol, top, not, and, implies, equals, is_in, exists, next}
+use Rattle.ml_image.specs.Sentences.{for_all, variables, apply_all, conjunctions}
 
 -- ---- rules and equations
 

@@ -71,7 +71,9 @@ fn at_values(
     args: &[Scalar],
 ) -> Result<MPat, AllocError>
     requires { HaveValues sig.now (sort_numbers sorts.now) (map scalar_value args.now) }
-    ensures image { IfOk result (λ p. applied sig.now names.new (Some head) (value_patterns (sort_numbers sorts.now) (map scalar_value args.now)) ≡ Some p) }
+    ensures image { IfOk result
+        (λ p. applied sig.now names.new (Some head)
+        (value_patterns (sort_numbers sorts.now) (map scalar_value args.now)) ≡ Some p) }
     ensures names { HasGained sig.now names.old names.new }
 {
     let mut made = head;
@@ -84,8 +86,10 @@ fn at_values(
 
 // What the hook of a function answers.
 fn hook_answer(info: &SymInfo, args: &[Scalar]) -> Scalar
-    requires { (row : ℕ) × (value : DomainValue) × (info.now.kind ≡ Hooked (record { 0 = row })) × (hook_value row (map scalar_value args.now) ≡ Some (Ok value)) }
-    ensures { (row : ℕ) → info.now.kind ≡ Hooked (record { 0 = row }) → hook_value row (map scalar_value args.now) ≡ Some (Ok (scalar_value result)) }
+    requires { (row : ℕ) × (value : DomainValue) × (info.now.kind ≡ Hooked (record { 0 = row }))
+        × (hook_value row (map scalar_value args.now) ≡ Some (Ok value)) }
+    ensures { (row : ℕ) → info.now.kind ≡ Hooked (record { 0 = row }) → hook_value row (map scalar_value args.now)
+        ≡ Some (Ok (scalar_value result)) }
 {
     let SymKind::Hooked(hook) = info.kind else {
         unreachable!()

@@ -4,7 +4,8 @@ ghost use Rattle.ml_pat.specs.Patterns.{Pattern};
 ghost use Rattle.term_core.specs.RulePatterns.{plain_pattern, sort_numbers};
 ghost use Rattle.term_core.specs.PatternLists.{plain_patterns};
 ghost use Rattle.rule_core.specs.Sorting.{AreSorts};
-ghost use Rattle.ml_image.specs.Images.{image_of, applied, at_sorts, symbol_image, injection_symbol, injection_image, shifted, all_shifted};
+ghost use Rattle.ml_image.specs.Images.{image_of, applied, at_sorts, symbol_image, injection_symbol, injection_image};
+ghost use Rattle.ml_image.specs.Images.{shifted, all_shifted};
 ghost use Rattle.ml_image.specs.HasImages.{HasImage, HaveImages};
 ghost use Rattle.ml_image.specs.Injecting.{IsInjectionAt};
 ghost use Rattle.ml_image.specs.Gained.{HasGained};
@@ -15,9 +16,9 @@ use rule_core::{Signature, SymKind};
 use std::alloc::{AllocError, Global};
 use term_core::{RulePat, SortId};
 
-/// The image of a pattern whose sorts and symbols are the signature's (Chen and Rosu 2019): a symbol's token, applied to
-/// the sorts' tokens and to the images of the arguments, one after another. An error is want of memory; the names may
-/// have gained tokens then too.
+/// The image of a pattern whose sorts and symbols are the signature's (Chen and Rosu 2019): a symbol's token, applied
+/// to the sorts' tokens and to the images of the arguments, one after another. An error is want of memory; the names
+/// may have gained tokens then too.
 pub fn term_image(
     alloc: Global,
     sig: &Signature,
@@ -78,7 +79,8 @@ pub(crate) fn applied(
     args: &[RulePat],
 ) -> Result<MPat, AllocError>
     requires { HaveImages sig.now (2 ^ 32 - first) (plain_patterns args.now) }
-    ensures image { IfOk result (λ p. applied sig.now names.new (Some head) (all_shifted first (plain_patterns args.now)) ≡ Some p) }
+    ensures image { IfOk result
+        (λ p. applied sig.now names.new (Some head) (all_shifted first (plain_patterns args.now)) ≡ Some p) }
     ensures names { HasGained sig.now names.old names.new }
 {
     let mut made = head;

@@ -2,9 +2,9 @@
 // and sorts, and for true facts on its domain values and hooks.
 //
 // The contract: what a call gives is the image of the sentence that its name says (specs/OwnAxioms.antt,
-// specs/TrueFacts.antt) under the names as they are afterwards; the names keep all that they held, and gain tokens of the
-// definition's sorts, symbols and domain values alone (specs/Gained.antt). An image has one level more for each argument
-// of a symbol; making it recurses only as deep as the pattern is.
+// specs/TrueFacts.antt) under the names as they are afterwards; the names keep all that they held, and gain tokens of
+// the definition's sorts, symbols and domain values alone (specs/Gained.antt). An image has one level more for each
+// argument of a symbol; making it recurses only as deep as the pattern is.
 #![tactic(auto, using(crate::proofs::ImageLaws::gained_twice))]
 
 mod closing;

@@ -1,5 +1,6 @@
 // The images of rewrite rules and equations.
-ghost use Rattle.std.specs.Prelude.{◌≡◌, ◌≢◌, ◌<◌, ◌≤◌, ◌-◌, ◌+◌, ◌^◌, [], length, IfOk, Some, option_map, option_copied, slice_get};
+ghost use Rattle.std.specs.Prelude.{◌≡◌, ◌≢◌, ◌<◌, ◌≤◌, ◌-◌, ◌+◌, ◌^◌, [], length, IfOk, Some, option_map};
+ghost use Rattle.std.specs.Prelude.{option_copied, slice_get};
 ghost use Rattle.ml_pat.specs.Patterns.{imp, and, equal, next};
 ghost use Rattle.term_core.specs.Patterns.{call};
 ghost use Rattle.term_core.specs.RulePatterns.{plain_pattern, sort_numbers};
@@ -62,7 +63,8 @@ fn condition_image(
 ) -> Result<MPat, AllocError>
     requires condition { IsCondition sig.now (sorts_of vars.now) (option_map plain_pattern condition.now) }
     requires few { first + length vars.now ≤ 2 ^ 32 }
-    ensures image { IfOk result (IsConditionImage sig.now names.new (sorts_of vars.now) first (option_map plain_pattern condition.now)) }
+    ensures image { IfOk result
+        (IsConditionImage sig.now names.new (sorts_of vars.now) first (option_map plain_pattern condition.now)) }
     ensures names { HasGained sig.now names.old names.new }
 {
     match condition {
@@ -82,7 +84,8 @@ fn truth_image(
 ) -> Result<MPat, AllocError>
     requires condition { IsTruth sig.now (sorts_of vars.now) (plain_pattern pat.now) }
     requires few { first + length vars.now ≤ 2 ^ 32 }
-    ensures image { IfOk result (IsConditionImage sig.now names.new (sorts_of vars.now) first (Some (plain_pattern pat.now))) }
+    ensures image { IfOk result
+        (IsConditionImage sig.now names.new (sorts_of vars.now) first (Some (plain_pattern pat.now))) }
     ensures names { HasGained sig.now names.old names.new }
 {
     match sort_of(sig, vars, pat) {
@@ -136,7 +139,8 @@ pub fn equation_image(
     equation: &Equation,
 ) -> Result<MPat, AllocError>
     requires { HasEquationImage sig.now equation.now.fun.0 (function_equation equation.now) }
-    ensures image { IfOk result (IsImageOf sig.now names.new (SaysEquation sig.now equation.now.fun.0 (function_equation equation.now))) }
+    ensures image { IfOk result
+        (IsImageOf sig.now names.new (SaysEquation sig.now equation.now.fun.0 (function_equation equation.now))) }
     ensures names { HasGained sig.now names.old names.new }
 {
     if equation.params == 0 {
@@ -155,7 +159,8 @@ fn direct_image(
 ) -> Result<MPat, AllocError>
     requires equation { HasEquationImage sig.now equation.now.fun.0 (function_equation equation.now) }
     requires direct { equation.now.params ≡ 0 }
-    ensures image { IfOk result (IsImageOf sig.now names.new (SaysEquation sig.now equation.now.fun.0 (function_equation equation.now))) }
+    ensures image { IfOk result
+        (IsImageOf sig.now names.new (SaysEquation sig.now equation.now.fun.0 (function_equation equation.now))) }
     ensures names { HasGained sig.now names.old names.new }
 {
     let condition = condition_image(alloc, sig, names, 0, &equation.vars, &equation.cond)?;
@@ -175,7 +180,9 @@ fn call_image(
 ) -> Result<MPat, AllocError>
     requires symbol { equation.now.fun.0 < length sig.now.symbols }
     requires arguments { HaveImages sig.now (2 ^ 32) (plain_patterns equation.now.args.items) }
-    ensures image { IfOk result (λ p. image_of sig.now names.new (call equation.now.fun.0 [] (plain_patterns equation.now.args.items)) ≡ Some p) }
+    ensures image { IfOk result
+        (λ p. image_of sig.now names.new
+        (call equation.now.fun.0 [] (plain_patterns equation.now.args.items)) ≡ Some p) }
     ensures names { HasGained sig.now names.old names.new }
 {
     let head = head_image(alloc, sig, names, equation.fun.0 as usize)?;
@@ -191,7 +198,8 @@ fn kompile_image(
 ) -> Result<MPat, AllocError>
     requires equation { HasEquationImage sig.now equation.now.fun.0 (function_equation equation.now) }
     requires kompile { equation.now.params ≢ 0 }
-    ensures image { IfOk result (IsImageOf sig.now names.new (SaysEquation sig.now equation.now.fun.0 (function_equation equation.now))) }
+    ensures image { IfOk result
+        (IsImageOf sig.now names.new (SaysEquation sig.now equation.now.fun.0 (function_equation equation.now))) }
     ensures names { HasGained sig.now names.old names.new }
 {
     let count = equation.params;
@@ -229,7 +237,8 @@ fn meets_image(
 ) -> Result<MPat, AllocError>
     requires arguments { HaveImages sig.now (2 ^ 32 - first) (plain_patterns args.now) }
     requires few { length args.now ≤ 2 ^ 32 }
-    ensures image { IfOk result (λ p. sentence_image sig.now names.new (meets 0 (all_shifted first (plain_patterns args.now))) ≡ Some p) }
+    ensures image { IfOk result
+        (λ p. sentence_image sig.now names.new (meets 0 (all_shifted first (plain_patterns args.now))) ≡ Some p) }
     ensures names { HasGained sig.now names.old names.new }
 {
     let mut made = MPat::top(alloc)?;

@@ -1,9 +1,11 @@
 // The numbers of the tokens of sorts, symbols and domain values.
-ghost use Rattle.std.specs.Prelude.{◌≡◌, OnOk, ◌<◌, ◌++◌, length, slice_get, string_bytes, option_map, IfOk, Some, codes};
+ghost use Rattle.std.specs.Prelude.{◌≡◌, OnOk, ◌<◌, ◌++◌, length, slice_get, string_bytes, option_map, IfOk, Some};
+ghost use Rattle.std.specs.Prelude.{codes};
 ghost use Rattle.std.specs.Char.{digit_char};
 ghost use Rattle.term_core.specs.Values.{value_of};
 ghost use Rattle.ml_pat.specs.Named.{number_of, IsNumbered};
-ghost use Rattle.ml_image.specs.Tokens.{sort_token, symbol_token, name_at, token_of_sort, token_of_symbol, token_of_value, value_token, hexadecimal, numbered};
+ghost use Rattle.ml_image.specs.Tokens.{sort_token, symbol_token, name_at, token_of_sort, token_of_symbol};
+ghost use Rattle.ml_image.specs.Tokens.{token_of_value, value_token, hexadecimal, numbered};
 ghost use Rattle.rule_core.specs.Sorting.{HasValue};
 ghost use Rattle.ml_image.specs.Gained.{HasGained};
 

@@ -77,13 +77,18 @@ pub record TriedCases : Type 0 where
   pub no_disjointness : first_fault (declared ++ codes "${ $d x y $. ax $a t x y $. $} th $p t x y $= fx fy ax $.") ≡ Some (fault 13 75)
   pub two_entries : first_fault (with_axiom ++ codes "th $p t x x $= fx fx $.") ≡ Some (fault 14 59)
   pub other_statement : first_fault (with_axiom ++ codes "th $p t x x $= fx fy ax $.") ≡ Some (fault 14 59)
-  pub dummy_apart : first_fault (declared ++ codes "$v z $. fz $f t z $. ${ $d x y $. ax $a t x y $. $} ${ e $e t x y $. cut $a t x $. $} ${ $d x z $. th $p t x $= fx fz fx fz ax cut $. $}") ≡ None
-  pub dummy_not_apart : first_fault (declared ++ codes "$v z $. fz $f t z $. ${ $d x y $. ax $a t x y $. $} ${ e $e t x y $. cut $a t x $. $} th $p t x $= fx fz fx fz ax cut $.") ≡ Some (fault 13 130)
+  pub dummy_apart : first_fault (declared ++ codes "$v z $. fz $f t z $. ${ $d x y $. ax $a t x y $. $} "
+      ++ codes "${ e $e t x y $. cut $a t x $. $} ${ $d x z $. th $p t x $= fx fz fx fz ax cut $. $}") ≡ None
+  pub dummy_not_apart : first_fault (declared ++ codes "$v z $. fz $f t z $. ${ $d x y $. ax $a t x y $. $} "
+      ++ codes "${ e $e t x y $. cut $a t x $. $} th $p t x $= fx fz fx fz ax cut $.") ≡ Some (fault 13 130)
   pub save_last : first_fault (with_axiom ++ codes "th $p t x x $= ( ax ) AABZ $.") ≡ None
   pub hypothesis_saved_last : first_fault (with_axiom ++ codes "th $p t x $= ( ) AZ $.") ≡ None
   pub assertion_listed_twice : first_fault (with_axiom ++ codes "th $p t x x $= ( ax ax ) AAB $.") ≡ Some (fault 12 59)
-  pub hypothesis_listed_twice : first_fault (with_axiom ++ codes "th $p t x x $= ( fy fy ax ) AAD $.") ≡ Some (fault 12 59)
-  pub inactive_premise_listed : first_fault (with_axiom ++ codes "${ h $e t x $. $} th $p t x x $= ( h ax ) AAC $.") ≡ Some (fault 12 77)
-  pub inactive_typing_listed : first_fault (with_axiom ++ codes "${ $v z $. fz $f t z $. $} th $p t x x $= ( fz ax ) AAC $.") ≡ Some (fault 12 86)
+  pub hypothesis_listed_twice : first_fault (with_axiom ++ codes "th $p t x x $= ( fy fy ax ) AAD $.")
+      ≡ Some (fault 12 59)
+  pub inactive_premise_listed : first_fault (with_axiom ++ codes "${ h $e t x $. $} th $p t x x $= ( h ax ) AAC $.")
+      ≡ Some (fault 12 77)
+  pub inactive_typing_listed : first_fault (with_axiom
+      ++ codes "${ $v z $. fz $f t z $. $} th $p t x x $= ( fz ax ) AAC $.") ≡ Some (fault 12 86)
   pub letter_before_step : first_fault (with_axiom ++ codes "th $p t x x $= ( ax ) AB? $.") ≡ Some (fault 12 59)
   pub label_before_step : first_fault (with_axiom ++ codes "th $p t x x $= fx ax later $.") ≡ Some (fault 12 59)

@@ -1,5 +1,6 @@
 -- Tests of tokens by what scopes hold.
-use Rattle.std.specs.Prelude.{ℕ, Bool, true, false, not, ◌&&◌, ◌||◌, nat_eq, length, if◌then◌else◌, List, [], ◌∷◌, ◌++◌, slice_index, slice_get, Option, Some, None, is_some, is_none}
+use Rattle.std.specs.Prelude.{ℕ, Bool, true, false, not, ◌&&◌, ◌||◌, nat_eq, length, if◌then◌else◌, List, [], ◌∷◌, ◌++◌}
+use Rattle.std.specs.Prelude.{slice_index, slice_get, Option, Some, None, is_some, is_none}
 use Rattle.mm_text.specs.Bytes.{Token}
 use Rattle.mm_text.specs.Labels.{is_label}
 use Rattle.mm_frame.specs.Numbered.{NumberedHypothesis}
@@ -111,4 +112,5 @@ first_block (block ∷ blocks) = Some block.at
 
 -- it is one of the symbols, or has no `$f` and is in no group
 abbrev pub is_covered : Held → List ℕ → ℕ → Bool
-is_covered h symbols n = has_number symbols n || (not (is_held_typed h n) && nat_eq (length (group_places h.disjoint n)) 0)
+is_covered h symbols n = has_number symbols n
+    || (not (is_held_typed h n) && nat_eq (length (group_places h.disjoint n)) 0)

@@ -11,15 +11,20 @@ use Rattle.mm_frame.specs.declared.sharing.Shared.{Shared}
 
 -- each `$f` stands at the place that is kept for its variable
 abbrev pub ArePlacedIn : List ℕ → List NumberedHypothesis → Type 0
-ArePlacedIn types hypotheses = (i : ℕ) (l : Token) (k v : ℕ) → slice_get hypotheses i ≡ Some (floating l k v) → slice_index types v ≡ i
+ArePlacedIn types hypotheses = (i : ℕ) (l : Token) (k v : ℕ) → slice_get hypotheses i ≡ Some (floating l k v)
+    → slice_index types v ≡ i
 
 -- what a statement asks for, by the active hypotheses and `$d`
-pub record IsMandatory (hypotheses : List NumberedHypothesis) (groups : List (List ℕ)) (statement : List ℕ) (m : Mandatory) : Type 0 where
-  pub hyps : hypotheses_held m.hyps.items ≡ filter (is_mandatory_number (is_needed_number hypotheses statement)) hypotheses
-  pub apart : (a b : ℕ) → in_groups (groups_of m.apart.items) a b ≡ (in_groups groups a b && (is_needed_number hypotheses statement a && is_needed_number hypotheses statement b))
+pub record IsMandatory (hypotheses : List NumberedHypothesis) (groups : List (List ℕ)) (statement : List ℕ)
+    (m : Mandatory) : Type 0 where
+  pub hyps : hypotheses_held m.hyps.items
+      ≡ filter (is_mandatory_number (is_needed_number hypotheses statement)) hypotheses
+  pub apart : (a b : ℕ) → in_groups (groups_of m.apart.items) a b
+      ≡ (in_groups groups a b && (is_needed_number hypotheses statement a && is_needed_number hypotheses statement b))
 
 -- the symbols of the active `$e`, and what a statement without symbols asks for
-pub record IsShared (types : List ℕ) (hypotheses : List NumberedHypothesis) (groups : List (List ℕ)) (s : Shared) : Type 0 where
+pub record IsShared (types : List ℕ) (hypotheses : List NumberedHypothesis) (groups : List (List ℕ)) (s : Shared) : Type
+    0 where
   pub ascending : IsStrictlyIncreasing s.symbols.items
   pub symbols : (n : ℕ) → has_number s.symbols.items n ≡ is_needed_number hypotheses [] n
   pub mandatory : ArePlacedIn types hypotheses → IsMandatory hypotheses groups [] s.mandatory.value

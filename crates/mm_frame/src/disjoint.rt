@@ -1,6 +1,7 @@
 // The active `$d`.
 
-ghost use Rattle.std.specs.Prelude.{◌≡◌, ℕ, ◌<◌, ◌||◌, ◌&&◌, false, true, nat_eq, IfOk, filter, flat_map, option_map, slice_get, if◌then◌else◌, ◌++◌, ◌∷◌, [], vec_len};
+ghost use Rattle.std.specs.Prelude.{◌≡◌, ℕ, ◌<◌, ◌||◌, ◌&&◌, false, true, nat_eq, IfOk, filter, flat_map, option_map};
+ghost use Rattle.std.specs.Prelude.{slice_get, if◌then◌else◌, ◌++◌, ◌∷◌, [], vec_len};
 ghost use Rattle.std.specs.List.Sorted.{IsStrictlyIncreasing};
 ghost use Rattle.std.specs.List.{list_any, list_all};
 ghost use Rattle.mm_frame.specs.FramesHeld.{has_number, in_group, in_groups, items_of, groups_of};
@@ -120,7 +121,8 @@ impl Disjoint {
 
     /// Whether each pair of the group is known to be in a group already.
     fn has_pairs_of(&self, group: &[u32]) -> bool
-        ensures { result ≡ true → (a b : ℕ) → in_group a b group.now ≡ true → in_groups (groups_in self.now) a b ≡ true }
+        ensures { result ≡ true → (a b : ℕ) → in_group a b group.now ≡ true → in_groups (groups_in self.now) a b
+            ≡ true }
     {
         if group.len() <= SMALL {
             return self.are_all_apart(group);
@@ -221,7 +223,8 @@ impl Disjoint {
     /// lists.
     pub(crate) fn within(&self, alloc: Global, numbers: &[u32]) -> Result<Vec<Vec<u32>>, AllocError>
         requires { IsStrictlyIncreasing numbers.now }
-        ensures { IfOk result (λ v. (a b : ℕ) → in_groups (groups_of v.items) a b ≡ (in_groups (groups_in self.now) a b && (has_number numbers.now a && has_number numbers.now b))) }
+        ensures { IfOk result (λ v. (a b : ℕ) → in_groups (groups_of v.items) a b
+            ≡ (in_groups (groups_in self.now) a b && (has_number numbers.now a && has_number numbers.now b))) }
     {
         if numbers.len().saturating_mul(numbers.len()) < self.count_places(numbers) {
             self.pairs_within(alloc, numbers)
@@ -241,7 +244,8 @@ impl Disjoint {
 
     /// The pairs of these numbers that are in groups, each as a group of its own.
     fn pairs_within(&self, alloc: Global, numbers: &[u32]) -> Result<Vec<Vec<u32>>, AllocError>
-        ensures { IfOk result (λ v. (a b : ℕ) → in_groups (groups_of v.items) a b ≡ (in_groups (groups_in self.now) a b && (has_number numbers.now a && has_number numbers.now b))) }
+        ensures { IfOk result (λ v. (a b : ℕ) → in_groups (groups_of v.items) a b
+            ≡ (in_groups (groups_in self.now) a b && (has_number numbers.now a && has_number numbers.now b))) }
     {
         let mut groups = Vec::new(alloc);
         for i in 0..numbers.len() {
@@ -258,7 +262,9 @@ impl Disjoint {
         n: u32,
         others: &[u32],
     ) -> Result<(), AllocError>
-        ensures { IfOk result (λ _. (a b : ℕ) → in_groups (groups_of groups.new.items) a b ≡ (in_groups (groups_of groups.old.items) a b || list_any (is_pair_of (groups_in self.now) n a b) others.now)) }
+        ensures { IfOk result (λ _. (a b : ℕ) → in_groups (groups_of groups.new.items) a b
+            ≡ (in_groups (groups_of groups.old.items) a b
+            || list_any (is_pair_of (groups_in self.now) n a b) others.now)) }
     {
         for other in others {
             push_pair(alloc, groups, n, *other, self.are_apart(n, *other))?;
@@ -529,7 +535,8 @@ fn push_pair(
     other: u32,
     keeps: bool,
 ) -> Result<(), AllocError>
-    ensures { IfOk result (λ _. (a b : ℕ) → in_groups (groups_of groups.new.items) a b ≡ (in_groups (groups_of groups.old.items) a b || (keeps && in_group a b (n ∷ (other ∷ []))))) }
+    ensures { IfOk result (λ _. (a b : ℕ) → in_groups (groups_of groups.new.items) a b
+        ≡ (in_groups (groups_of groups.old.items) a b || (keeps && in_group a b (n ∷ (other ∷ []))))) }
 {
     if !keeps {
         return Ok(());

@@ -40,7 +40,8 @@ impl<'a> Scopes<'a> {
         alloc: Global,
         statement: &[u32],
     ) -> Result<Mandatory<'a>, AllocError>
-        ensures { IfOk result (λ m. ArePlaced (held self.now) → IsMandatory (held self.now).hypotheses (held self.now).disjoint statement.now m) }
+        ensures { IfOk result (λ m. ArePlaced (held self.now)
+            → IsMandatory (held self.now).hypotheses (held self.now).disjoint statement.now m) }
     {
         let needed = self.needed(alloc, statement)?;
         Ok(Mandatory {

@@ -97,7 +97,8 @@ impl<'a> Scopes<'a> {
 
     /// The token with this number, none exactly where no symbol has it. Takes no memory.
     pub fn token(&self, symbol: u32) -> Option<&'a [u8]>
-        ensures { option_map (λ t. t.now) result ≡ option_map (λ s. s.token) (slice_get (held self.now).symbols symbol) }
+        ensures { option_map (λ t. t.now) result
+            ≡ option_map (λ s. s.token) (slice_get (held self.now).symbols symbol) }
     {
         let symbol = self.symbols.get(symbol as usize)?;
         Some(symbol.token)
@@ -137,7 +138,8 @@ impl<'a> Scopes<'a> {
     /// The active hypothesis with this label, none exactly where there is none. Takes no memory.
     pub fn active(&self, label: &'a [u8]) -> Option<&Hyp<'a>>
         ensures held { option_map (λ h. hypothesis_held h.now) result ≡ hypothesis_named (held self.now) label.now }
-        ensures tells { Tells (held self.now) (λ c name. active_hypothesis c label.now ≡ option_map (λ h. named_hypothesis name (hypothesis_held h.now)) result) }
+        ensures tells { Tells (held self.now) (λ c name. active_hypothesis c label.now
+            ≡ option_map (λ h. named_hypothesis name (hypothesis_held h.now)) result) }
     {
         self.hypothesis(label)
     }
@@ -152,7 +154,8 @@ impl<'a> Scopes<'a> {
     }
 
     fn hypothesis_at(&self, place: usize, label: &'a [u8]) -> Option<&Hyp<'a>>
-        ensures { option_map (λ h. hypothesis_held h.now) result ≡ hypothesis_at label.now (slice_get (held self.now).hypotheses place) }
+        ensures { option_map (λ h. hypothesis_held h.now) result
+            ≡ hypothesis_at label.now (slice_get (held self.now).hypotheses place) }
     {
         let hyp = self.hyps.get(place)?;
         if hyp.label() == label {
@@ -165,7 +168,8 @@ impl<'a> Scopes<'a> {
     /// The frame of the assertion with this label, none exactly where there is none. Takes no memory.
     pub fn assertion(&self, label: &'a [u8]) -> Option<&Frame<'a>>
         ensures held { option_map (λ f. frame_held f.now) result ≡ frame_named (held self.now) label.now }
-        ensures tells { Tells (held self.now) (λ c name. FrameFound name (option_map (λ f. frame_held f.now) result) (c.frames label.now)) }
+        ensures tells { Tells (held self.now)
+            (λ c name. FrameFound name (option_map (λ f. frame_held f.now) result) (c.frames label.now)) }
     {
         self.frame_named(label)
     }
@@ -190,7 +194,8 @@ impl<'a> Scopes<'a> {
     /// hypothesis nor that of an assertion. Takes no memory.
     pub fn cited(&self, label: &'a [u8]) -> Option<Cited<'_, 'a>>
         ensures hypothesis { cited_hypothesis result ≡ hypothesis_named (held self.now) label.now }
-        ensures assertion { option_and_then (slice_get (held self.now).frames) (cited_assertion result) ≡ frame_named (held self.now) label.now }
+        ensures assertion { option_and_then (slice_get (held self.now).frames) (cited_assertion result)
+            ≡ frame_named (held self.now) label.now }
     {
         match self.name(label)? {
             Name::Hypothesis(place) => Some(Cited::Hypothesis(self.hypothesis_at(place, label)?)),

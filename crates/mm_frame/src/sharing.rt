@@ -25,7 +25,8 @@ impl<'a> Scopes<'a> {
     /// What an assertion with this statement shares with others, where it is made, and the statement has
     /// no variable that asks for more.
     pub(crate) fn shared_for(&self, statement: &[u32]) -> Option<&Rc<Mandatory<'a>>>
-        ensures { IfSome result (λ m. ArePlaced (held self.now) → IsMandatory (held self.now).hypotheses (held self.now).disjoint statement.now m.now.value) }
+        ensures { IfSome result (λ m. ArePlaced (held self.now)
+            → IsMandatory (held self.now).hypotheses (held self.now).disjoint statement.now m.now.value) }
     {
         let shared = self.shared.as_ref()?;
         if self.are_covered(&shared.symbols, statement) {

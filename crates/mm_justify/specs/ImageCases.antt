@@ -1,15 +1,18 @@
 -- The images of what small definitions say, token by token.
-use Rattle.std.specs.Prelude.{◌≡◌, ℕ, pos, List, [], ◌∷◌, Option, Some, None, option_map, codes}
+use Rattle.std.specs.Prelude.{◌≡◌, ℕ, pos, List, [], ◌∷◌, Option, Some, None, option_map, codes, ◌++◌}
 use Rattle.mm_text.specs.Bytes.{Token}
 use Rattle.mm_header.specs.HeaderContext.{words_of}
 use Rattle.term_core.specs.Terms.{integer, truth, DomainValue}
-use Rattle.term_core.specs.Patterns.{Pattern, Patterns, variable, domain_value, application, injection, call, no_pattern, more_patterns}
+use Rattle.term_core.specs.Patterns.{Pattern, Patterns, variable, domain_value, application, injection, call}
+use Rattle.term_core.specs.Patterns.{no_pattern, more_patterns}
 use Rattle.rule_core.specs.Rules.{RewriteRule, Equation}
 use Rattle.rule_core.specs.declared.signature.Signature.{Signature}
 use Rattle.ml_image.specs.Tokens.{name_at}
 use Rattle.ml_image.specs.Images.{injection_symbol}
-use Rattle.ml_image.specs.Sentences.{Sentence, term, top, not, and, implies, equals, functional, exists, for_all, symbol, variables, apply_all, conjunctions, sentence_image}
-use Rattle.ml_image.specs.OwnAxioms.{is_true, rule_sentence, direct_sentence, behind_parameters, kompile_sentence, of_variables}
+use Rattle.ml_image.specs.Sentences.{Sentence, term, top, not, and, implies, equals, functional, exists, for_all}
+use Rattle.ml_image.specs.Sentences.{symbol, variables, apply_all, conjunctions, sentence_image}
+use Rattle.ml_image.specs.OwnAxioms.{is_true, rule_sentence, direct_sentence, behind_parameters, kompile_sentence}
+use Rattle.ml_image.specs.OwnAxioms.{of_variables}
 use Rattle.mm_proof.specs.Tokens.{tokens_of}
 
 -- the image of the sentence has these words
@@ -34,7 +37,8 @@ pub record DeclaresMoves (sig : Signature) : Type 0 where
   pub done : name_at sig.symbols 2 ≡ Some (codes "done")
 
 abbrev pub moving_names : List Token
-moving_names = codes "f:k" ∷ codes "f:inj" ∷ codes "s:SortAExp" ∷ codes "s:SortKItem" ∷ codes "f:done" ∷ codes "s:SortStmt" ∷ []
+moving_names = codes "f:k" ∷ codes "f:inj" ∷ codes "s:SortAExp" ∷ codes "s:SortKItem" ∷ codes "f:done"
+    ∷ codes "s:SortStmt" ∷ []
 
 abbrev pub moves : RewriteRule
 moves = record {
@@ -48,9 +52,13 @@ moves = record {
 
 pub record MovingSpelt (sig : Signature) : Type 0 where
   pub rule : IsSpelt sig moving_names (rule_sentence moves top)
-      (codes "( \\all x:0 s:SortAExp ( \\imp ( \\and ( \\app f:k ( \\app ( \\at ( \\at f:inj s:SortAExp ) s:SortKItem ) x:0 ) ) \\top ) ( \\next ( \\app f:done ( \\app ( \\at ( \\at f:inj s:SortAExp ) s:SortStmt ) x:0 ) ) ) ) )")
-  pub subsort : IsSpelt sig moving_names (for_all 0 (1 ∷ []) (exists 1 3 (equals (term (variable 1)) (term (injection 1 3 (variable 0))))))
-      (codes "( \\all x:0 s:SortAExp ( \\ex x:1 s:SortKItem ( \\eq x:1 ( \\app ( \\at ( \\at f:inj s:SortAExp ) s:SortKItem ) x:0 ) ) ) )")
+      (codes "( \\all x:0 s:SortAExp ( \\imp ( \\and ( \\app f:k ( \\app ( \\at ( \\at f:inj s:SortAExp ) s:SortKItem "
+      ++ codes ") x:0 ) ) \\top ) ( \\next ( \\app f:done ( \\app ( \\at ( \\at f:inj s:SortAExp ) s:SortStmt ) x:0 "
+      ++ codes ") ) ) ) )")
+  pub subsort : IsSpelt sig moving_names
+      (for_all 0 (1 ∷ []) (exists 1 3 (equals (term (variable 1)) (term (injection 1 3 (variable 0))))))
+      (codes "( \\all x:0 s:SortAExp ( \\ex x:1 s:SortKItem ( \\eq x:1 ( \\app ( \\at ( \\at f:inj s:SortAExp ) "
+      ++ codes "s:SortKItem ) x:0 ) ) ) )")
 
 -- ---- whole numbers: `t(N) => u(N) if gt(N,10)`, and facts
 
@@ -64,7 +72,8 @@ pub record DeclaresNumbers (sig : Signature) : Type 0 where
 
 abbrev pub number_names : List Token
 number_names =
-    codes "s:SortInt" ∷ codes "f:t" ∷ codes "f:gt" ∷ codes "d:SortInt:3130" ∷ codes "d:SortBool:74727565" ∷ codes "f:u" ∷ codes "f:add" ∷
+    codes "s:SortInt" ∷ codes "f:t" ∷ codes "f:gt" ∷ codes "d:SortInt:3130" ∷ codes "d:SortBool:74727565" ∷ codes "f:u"
+    ∷ codes "f:add" ∷
     codes "d:SortInt:32" ∷ codes "d:SortInt:33" ∷ codes "d:SortInt:35" ∷ []
 
 abbrev pub ten : Pattern
@@ -85,7 +94,8 @@ number n = domain_value 0 (integer (pos n))
 
 pub record NumbersSpelt (sig : Signature) : Type 0 where
   pub rule : IsSpelt sig number_names (rule_sentence above_ten (is_true (call 0 [] (two (variable 0) ten)) 1))
-      (codes "( \\all x:0 s:SortInt ( \\imp ( \\and ( \\app f:t x:0 ) ( \\eq ( \\app ( \\app f:gt x:0 ) d:SortInt:3130 ) d:SortBool:74727565 ) ) ( \\next ( \\app f:u x:0 ) ) ) )")
+      (codes "( \\all x:0 s:SortInt ( \\imp ( \\and ( \\app f:t x:0 ) ( \\eq ( \\app ( \\app f:gt x:0 ) d:SortInt:3130 "
+      ++ codes ") d:SortBool:74727565 ) ) ( \\next ( \\app f:u x:0 ) ) ) )")
   pub value : IsSpelt sig number_names (functional (term (number 5)) 0) (codes "( \\fun d:SortInt:35 s:SortInt )")
   pub sum : IsSpelt sig number_names (equals (term (call 1 [] (two (number 2) (number 3)))) (term (number 5)))
       (codes "( \\eq ( \\app ( \\app f:add d:SortInt:32 ) d:SortInt:33 ) d:SortInt:35 )")
@@ -127,20 +137,33 @@ append_item = record {
 
 pub record ListsSpelt (sig : Signature) : Type 0 where
   pub nothing : IsSpelt sig list_names (kompile_sentence 2 2 (behind_parameters (0 ∷ 0 ∷ []) append_nothing) top)
-      (codes "( \\all x:0 s:SortK ( \\all x:1 s:SortK ( \\all x:2 s:SortK ( \\imp ( \\and \\top ( \\and ( \\mem x:0 f:dotk ) ( \\and ( \\mem x:1 x:2 ) \\top ) ) ) ( \\eq ( \\app ( \\app f:append x:0 ) x:1 ) x:2 ) ) ) ) )")
+      (codes "( \\all x:0 s:SortK ( \\all x:1 s:SortK ( \\all x:2 s:SortK ( \\imp ( \\and \\top ( \\and ( \\mem x:0 "
+      ++ codes "f:dotk ) ( \\and ( \\mem x:1 x:2 ) \\top ) ) ) ( \\eq ( \\app ( \\app f:append x:0 ) x:1 ) x:2 ) ) ) "
+      ++ codes ") )")
   pub item : IsSpelt sig list_names (kompile_sentence 2 2 (behind_parameters (0 ∷ 0 ∷ []) append_item) top)
-      (codes "( \\all x:0 s:SortK ( \\all x:1 s:SortK ( \\all x:2 s:SortKItem ( \\all x:3 s:SortK ( \\all x:4 s:SortK ( \\imp ( \\and \\top ( \\and ( \\mem x:0 ( \\app ( \\app f:kseq x:2 ) x:3 ) ) ( \\and ( \\mem x:1 x:4 ) \\top ) ) ) ( \\eq ( \\app ( \\app f:append x:0 ) x:1 ) ( \\app ( \\app f:kseq x:2 ) ( \\app ( \\app f:append x:3 ) x:4 ) ) ) ) ) ) ) ) )")
+      (codes "( \\all x:0 s:SortK ( \\all x:1 s:SortK ( \\all x:2 s:SortKItem ( \\all x:3 s:SortK ( \\all x:4 s:SortK "
+      ++ codes "( \\imp ( \\and \\top ( \\and ( \\mem x:0 ( \\app ( \\app f:kseq x:2 ) x:3 ) ) ( \\and ( \\mem x:1 "
+      ++ codes "x:4 ) \\top ) ) ) ( \\eq ( \\app ( \\app f:append x:0 ) x:1 ) ( \\app ( \\app f:kseq x:2 ) ( \\app ( "
+      ++ codes "\\app f:append x:3 ) x:4 ) ) ) ) ) ) ) ) )")
   pub directly : IsSpelt sig list_names (direct_sentence 2 append_nothing top)
       (codes "( \\all x:0 s:SortK ( \\imp \\top ( \\eq ( \\app ( \\app f:append f:dotk ) x:0 ) x:0 ) ) )")
-  pub total : IsSpelt sig list_names (for_all 0 (1 ∷ 0 ∷ []) (exists 2 0 (equals (term (variable 2)) (of_variables 0 0 2))))
-      (codes "( \\all x:0 s:SortKItem ( \\all x:1 s:SortK ( \\ex x:2 s:SortK ( \\eq x:2 ( \\app ( \\app f:kseq x:0 ) x:1 ) ) ) ) )")
+  pub total : IsSpelt sig list_names
+      (for_all 0 (1 ∷ 0 ∷ []) (exists 2 0 (equals (term (variable 2)) (of_variables 0 0 2))))
+      (codes "( \\all x:0 s:SortKItem ( \\all x:1 s:SortK ( \\ex x:2 s:SortK ( \\eq x:2 ( \\app ( \\app f:kseq x:0 ) "
+      ++ codes "x:1 ) ) ) ) )")
   pub apart : IsSpelt sig list_names (for_all 0 (1 ∷ 0 ∷ []) (not (and (of_variables 0 0 2) (of_variables 1 2 0))))
-      (codes "( \\all x:0 s:SortKItem ( \\all x:1 s:SortK ( \\not ( \\and ( \\app ( \\app f:kseq x:0 ) x:1 ) f:dotk ) ) ) )")
+      (codes "( \\all x:0 s:SortKItem ( \\all x:1 s:SortK ( \\not ( \\and ( \\app ( \\app f:kseq x:0 ) x:1 ) f:dotk ) "
+      ++ codes ") ) )")
   pub free : IsSpelt sig list_names
-      (for_all 0 (1 ∷ 0 ∷ 1 ∷ 0 ∷ []) (implies (and (of_variables 0 0 2) (of_variables 0 2 2)) (apply_all (symbol 0) (conjunctions (variables 0 2) (variables 2 2)))))
-      (codes "( \\all x:0 s:SortKItem ( \\all x:1 s:SortK ( \\all x:2 s:SortKItem ( \\all x:3 s:SortK ( \\imp ( \\and ( \\app ( \\app f:kseq x:0 ) x:1 ) ( \\app ( \\app f:kseq x:2 ) x:3 ) ) ( \\app ( \\app f:kseq ( \\and x:0 x:2 ) ) ( \\and x:1 x:3 ) ) ) ) ) ) )")
+      (for_all 0 (1 ∷ 0 ∷ 1 ∷ 0 ∷ [])
+      (implies (and (of_variables 0 0 2) (of_variables 0 2 2))
+      (apply_all (symbol 0) (conjunctions (variables 0 2) (variables 2 2)))))
+      (codes "( \\all x:0 s:SortKItem ( \\all x:1 s:SortK ( \\all x:2 s:SortKItem ( \\all x:3 s:SortK ( \\imp ( \\and "
+      ++ codes "( \\app ( \\app f:kseq x:0 ) x:1 ) ( \\app ( \\app f:kseq x:2 ) x:3 ) ) ( \\app ( \\app f:kseq ( "
+      ++ codes "\\and x:0 x:2 ) ) ( \\and x:1 x:3 ) ) ) ) ) ) )")
 
--- ---- addition, as kompile writes it: `<k>(kseq(inj{SortExp,SortKItem}(+(inj(I), inj(J))), R)) => <k>(kseq(inj{SortInt,SortKItem}(+Int(I, J)), R))`
+-- ---- addition, as kompile writes it: `<k>(kseq(inj{SortExp,SortKItem}(+(inj(I), inj(J))), R)) =>
+-- <k>(kseq(inj{SortInt,SortKItem}(+Int(I, J)), R))`
 
 pub record DeclaresAddition (sig : Signature) : Type 0 where
   pub integers : name_at sig.sorts 0 ≡ Some (codes "SortInt")
@@ -161,9 +184,12 @@ addition_names =
 
 abbrev pub addition : RewriteRule
 addition = record {
-  left = application 4 (one (application 1 (two (injection 1 2 (application 2 (two (injection 0 1 (variable 0)) (injection 0 1 (variable 1))))) (variable 2))));
+  left = application 4 (one
+      (application 1 (two (injection 1 2
+      (application 2 (two (injection 0 1 (variable 0)) (injection 0 1 (variable 1))))) (variable 2))));
   condition = None;
-  right = application 4 (one (application 1 (two (injection 0 2 (call 3 [] (two (variable 0) (variable 1)))) (variable 2))));
+  right = application 4
+      (one (application 1 (two (injection 0 2 (call 3 [] (two (variable 0) (variable 1)))) (variable 2))));
   variables = 0 ∷ 0 ∷ 3 ∷ [];
   priority = 50;
   place = 0;
@@ -171,9 +197,18 @@ addition = record {
 
 pub record AdditionSpelt (sig : Signature) : Type 0 where
   pub rule : IsSpelt sig addition_names (rule_sentence addition top)
-      (codes "( \\all x:0 s:SortInt ( \\all x:1 s:SortInt ( \\all x:2 s:SortK ( \\imp ( \\and ( \\app f:Lbl'-LT-'k'-GT-' ( \\app ( \\app f:kseq ( \\app ( \\at ( \\at f:inj s:SortExp ) s:SortKItem ) ( \\app ( \\app f:Lbl'UndsPlusUnds' ( \\app ( \\at ( \\at f:inj s:SortInt ) s:SortExp ) x:0 ) ) ( \\app ( \\at ( \\at f:inj s:SortInt ) s:SortExp ) x:1 ) ) ) ) x:2 ) ) \\top ) ( \\next ( \\app f:Lbl'-LT-'k'-GT-' ( \\app ( \\app f:kseq ( \\app ( \\at ( \\at f:inj s:SortInt ) s:SortKItem ) ( \\app ( \\app f:Lbl'UndsPlus'Int'Unds' x:0 ) x:1 ) ) ) x:2 ) ) ) ) ) ) )")
-  pub collapse : IsSpelt sig addition_names (for_all 0 (0 ∷ []) (equals (term (injection 1 2 (injection 0 1 (variable 0)))) (term (injection 0 2 (variable 0)))))
-      (codes "( \\all x:0 s:SortInt ( \\eq ( \\app ( \\at ( \\at f:inj s:SortExp ) s:SortKItem ) ( \\app ( \\at ( \\at f:inj s:SortInt ) s:SortExp ) x:0 ) ) ( \\app ( \\at ( \\at f:inj s:SortInt ) s:SortKItem ) x:0 ) ) )")
+      (codes "( \\all x:0 s:SortInt ( \\all x:1 s:SortInt ( \\all x:2 s:SortK ( \\imp ( \\and ( \\app "
+      ++ codes "f:Lbl'-LT-'k'-GT-' ( \\app ( \\app f:kseq ( \\app ( \\at ( \\at f:inj s:SortExp ) s:SortKItem ) ( "
+      ++ codes "\\app ( \\app f:Lbl'UndsPlusUnds' ( \\app ( \\at ( \\at f:inj s:SortInt ) s:SortExp ) x:0 ) ) ( "
+      ++ codes "\\app ( \\at ( \\at f:inj s:SortInt ) s:SortExp ) x:1 ) ) ) ) x:2 ) ) \\top ) ( \\next ( \\app "
+      ++ codes "f:Lbl'-LT-'k'-GT-' ( \\app ( \\app f:kseq ( \\app ( \\at ( \\at f:inj s:SortInt ) s:SortKItem ) ( "
+      ++ codes "\\app ( \\app f:Lbl'UndsPlus'Int'Unds' x:0 ) x:1 ) ) ) x:2 ) ) ) ) ) ) )")
+  pub collapse : IsSpelt sig addition_names
+      (for_all 0 (0 ∷ []) (equals (term (injection 1 2 (injection 0 1 (variable 0))))
+      (term (injection 0 2 (variable 0)))))
+      (codes "( \\all x:0 s:SortInt ( \\eq ( \\app ( \\at ( \\at f:inj s:SortExp ) s:SortKItem ) ( \\app ( \\at ( \\at "
+      ++ codes "f:inj s:SortInt ) s:SortExp ) x:0 ) ) ( \\app ( \\at ( \\at f:inj s:SortInt ) s:SortKItem ) x:0 ) ) "
+      ++ codes ")")
 
 pub record TriedImages : Type 0 where
   pub moving : (sig : Signature) → DeclaresMoves sig → MovingSpelt sig

@@ -1,6 +1,7 @@
 -- That a database justifies that one pattern reaches another: it is valid, it assumes nothing but matching logic, what
 -- the program's definition says and true facts on built-ins, and its last theorem says just that (Chen and Rosu 2019).
-use Rattle.std.specs.Prelude.{◌≡◌, ℕ, true, false, IsTrue, if◌then◌else◌, List, [], ◌∷◌, ◌++◌, ◌⊎◌, Contains, Option, Some, None, bytes_eq, codes}
+use Rattle.std.specs.Prelude.{◌≡◌, ℕ, true, false, IsTrue, if◌then◌else◌, List, [], ◌∷◌, ◌++◌, ◌⊎◌, Contains, Option}
+use Rattle.std.specs.Prelude.{Some, None, bytes_eq, codes}
 use Rattle.mm_text.specs.Bytes.{Token, has_token}
 use Rattle.mm_database.specs.Frames.{Hypothesis, floating, essential, Frame}
 use Rattle.mm_database.specs.Assertions.{Assertion, assertions_of, typings_of}

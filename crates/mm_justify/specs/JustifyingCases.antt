@@ -60,12 +60,14 @@ second_typed = floating (codes "fb") (codes "#Var") (object_token 1)
 abbrev pub IsTaken : Frame → Type 0
 IsTaken f = SaysNoMore f (holds_frame sorts two_variables)
 
--- Such an axiom may have any labels, its `$f`s in any order and more pairs. It may not type a variable as a pattern, leave
--- one untyped, as if it were a constant, leave out a pair, or have a `$e`.
+-- Such an axiom may have any labels, its `$f`s in any order and more pairs. It may not type a variable as a pattern,
+-- leave one untyped, as if it were a constant, leave out a pair, or have a `$e`.
 pub record TriedFrames : Type 0 where
   pub taken : IsTaken (stated (first_typed ∷ (second_typed ∷ [])) (λ x y. true))
   pub other_order : IsTaken (stated (second_typed ∷ (first_typed ∷ [])) (λ x y. true))
-  pub other_type : IsTaken (stated (floating (codes "fa") (codes "#Pattern") (object_token 0) ∷ (second_typed ∷ [])) (λ x y. true)) → ⊥
+  pub other_type : IsTaken
+      (stated (floating (codes "fa") (codes "#Pattern") (object_token 0) ∷ (second_typed ∷ [])) (λ x y. true)) → ⊥
   pub untyped : IsTaken (stated (second_typed ∷ []) (λ x y. true)) → ⊥
   pub not_apart : IsTaken (stated (first_typed ∷ (second_typed ∷ [])) (λ x y. false)) → ⊥
-  pub hypothesis : (statement : List Token) → IsTaken (stated (first_typed ∷ (second_typed ∷ (essential (codes "h") statement ∷ []))) (λ x y. true)) → ⊥
+  pub hypothesis : (statement : List Token)
+      → IsTaken (stated (first_typed ∷ (second_typed ∷ (essential (codes "h") statement ∷ []))) (λ x y. true)) → ⊥

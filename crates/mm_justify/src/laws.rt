@@ -2,7 +2,8 @@
 ghost use Rattle.mm_justify.specs.ImageCases.{TriedImages};
 ghost use Rattle.mm_justify.specs.ImageLaws.{ImageIsClosed, SentenceHasNoMeta, SentenceIsOver};
 ghost use Rattle.mm_justify.specs.JustifyingCases.{ConclusionIsNoAxiom, SmallJustifies, TriedFrames};
-ghost use Rattle.mm_justify.specs.JustifyingLaws.{AxiomHasOnly, DeclaredHasOnly, HeaderHasOnly, RunIsJustified, TheoremFitsAnywhere, TheoremHasOnly, TheoremJustifies};
+ghost use Rattle.mm_justify.specs.JustifyingLaws.{AxiomHasOnly, DeclaredHasOnly, HeaderHasOnly, RunIsJustified};
+ghost use Rattle.mm_justify.specs.JustifyingLaws.{TheoremFitsAnywhere, TheoremHasOnly, TheoremJustifies};
 
 /// The definition says of a small text that it justifies a run; of an axiom that says that one symbol reaches another
 /// that no program has it; and of frames of an axiom with two variables which of them are taken.

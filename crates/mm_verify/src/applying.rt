@@ -13,8 +13,8 @@ use std::alloc::{AllocError, Global};
 /// Applies an assertion: the last entries of the stack, one for each mandatory hypothesis, give way to
 /// what the assertion gives from them. Answers whether it does; where not, the stack is as before. The
 /// buffer is for the new entry, so that a step need not ask for room of its own. Room for the whole entry
-/// is asked for before any of it is written, where it may be long. It takes time in the length of the entries and of the new
-/// one, but for what `$d` asks for.
+/// is asked for before any of it is written, where it may be long. It takes time in the length of the entries and of
+/// the new one, but for what `$d` asks for.
 pub(crate) fn apply<P: Place>(
     alloc: Global,
     place: &P,

@@ -96,7 +96,9 @@ impl<'a> Assertion<'a> {
         base: usize,
     ) -> Result<bool, AllocError>
         requires { length (assertion_frame self.now).hypotheses ≡ length (drop base stack.now) }
-        ensures { IfOk result (λ r. r ≡ keeps_apart (numbers_apart (P.place place.now)) (assertion_frame self.now) (bindings_in (assertion_frame self.now) (drop base stack.now))) }
+        ensures { IfOk result (λ r. r
+            ≡ keeps_apart (numbers_apart (P.place place.now)) (assertion_frame self.now)
+            (bindings_in (assertion_frame self.now) (drop base stack.now))) }
     {
         are_groups_apart(alloc, place, &self.apart, stack, base)
     }

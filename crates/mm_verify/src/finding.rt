@@ -78,7 +78,8 @@ fn place_table(alloc: Global, hyps: &[Hyp<'_>]) -> Result<BTreeMap<u32, usize>, 
 
 /// Gives the variable of a `$f` its place, where it has none yet.
 fn add_place(places: &mut BTreeMap<u32, usize>, hyp: &Hyp<'_>, i: usize) -> Result<(), AllocError>
-    ensures { OnOk result ((symbol : ℕ) → found nat_cmp places.new symbol ≡ first_place (found nat_cmp places.old symbol) (types_number symbol (hypothesis_held hyp.now)) i) }
+    ensures { OnOk result ((symbol : ℕ) → found nat_cmp places.new symbol
+        ≡ first_place (found nat_cmp places.old symbol) (types_number symbol (hypothesis_held hyp.now)) i) }
 {
     if let Some(variable) = typed_variable(hyp) {
         if !places.contains_key(&variable) {

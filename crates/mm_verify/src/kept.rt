@@ -49,7 +49,9 @@ impl<'a> Kept<'a> {
         stack: &mut Stack,
         buffer: &mut Vec<u32>,
     ) -> Result<bool, AllocError>
-        ensures { IfOk result (Answers (stack_with (numbered_applied (P.place place.now) (kept_frame self.now)) (length (kept_frame self.now).hypotheses) stack.old) stack.old stack.new) }
+        ensures { IfOk result
+            (Answers (stack_with (numbered_applied (P.place place.now) (kept_frame self.now))
+            (length (kept_frame self.now).hypotheses) stack.old) stack.old stack.new) }
     {
         match self {
             Kept::Built(assertion) => apply(alloc, place, assertion, stack, buffer),

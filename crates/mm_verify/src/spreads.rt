@@ -1,8 +1,10 @@
 // Whether the texts of variables are kept apart.
 ghost use Rattle.std.specs.Prelude.{◌≡◌, ◌++◌, ◌∷◌, [], if◌then◌else◌, length, drop, All, IfOk};
 ghost use Rattle.std.specs.List.{list_all};
-ghost use Rattle.mm_verify.specs.Filling.{IsWithin, AreWithin, GroupWithin, is_group_apart as group_apart, are_groups_apart as groups_apart};
-ghost use Rattle.mm_verify.specs.Pairs.{each_pair, HasVariables, Spreads, are_spreads_apart as spreads_apart, are_variables_apart as variables_apart, is_variable_apart as variable_apart};
+ghost use Rattle.mm_verify.specs.Filling.{IsWithin, AreWithin, GroupWithin, is_group_apart as group_apart};
+ghost use Rattle.mm_verify.specs.Filling.{are_groups_apart as groups_apart};
+ghost use Rattle.mm_verify.specs.Pairs.{each_pair, HasVariables, Spreads, are_spreads_apart as spreads_apart};
+ghost use Rattle.mm_verify.specs.Pairs.{are_variables_apart as variables_apart, is_variable_apart as variable_apart};
 
 use crate::filling::text_of;
 use crate::parts::Part;
@@ -94,7 +96,8 @@ fn variables<P: Place>(alloc: Global, place: &P, text: &[u32]) -> Result<Vec<u32
 
 /// Appends the symbol, if it is a variable.
 fn push_variable<P: Place>(place: &P, to: &mut Vec<u32>, symbol: u32) -> Result<(), AllocError>
-    ensures { IfOk result (λ _. to.new.items ≡ (if (P.place place.now).is_variable symbol then to.old.items ++ symbol ∷ [] else to.old.items)) }
+    ensures { IfOk result (λ _. to.new.items
+        ≡ (if (P.place place.now).is_variable symbol then to.old.items ++ symbol ∷ [] else to.old.items)) }
 {
     if place.is_variable(symbol) {
         to.push(symbol)?;

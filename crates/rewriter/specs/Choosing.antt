@@ -21,12 +21,14 @@ abbrev pub IsTriable : RewriteTheory → RewriteRule → Tree → Type 0
 IsTriable theory rule t = (sort : ℕ) × IsRuleOf theory.sig sort rule × IsTermOf theory.sig t sort
 
 -- what is recorded of a condition that holds
-abbrev pub IsRecordedCondition : {R : Type 0} → (R → Record → Type 0) → RewriteTheory → List (Option Tree) → Option Pattern → Option R → Type 0
+abbrev pub IsRecordedCondition : {R : Type 0} → (R → Record → Type 0) → RewriteTheory → List (Option Tree)
+    → Option Pattern → Option R → Type 0
 IsRecordedCondition tells theory theta p kept =
     (o : OptionalRecord) × TellsOption tells kept o × RecordsCondition theory theta p o
 
 -- a rule is passed over, or it matches and its condition holds
-abbrev pub RuleSays : {R : Type 0} → (R → Record → Type 0) → RewriteTheory → RewriteRule → Tree → ℕ → Trial R → ℕ → Type 0
+abbrev pub RuleSays : {R : Type 0} → (R → Record → Type 0) → RewriteTheory → RewriteRule → Tree → ℕ → Trial R → ℕ
+    → Type 0
 RuleSays tells theory rule t c Unused left =
     (IsUnmatched theory rule t × (left ≡ c)) ⊎ ((theta : List (Option Tree)) × Matches theory rule t theta
     × Meets theory theta rule.condition c (fails left))
@@ -35,7 +37,8 @@ RuleSays tells theory rule t c (Used theta kept) left =
     × IsRecordedCondition tells theory theta rule.condition kept
 
 -- .. or its condition is blocked
-abbrev pub TriesRule : {R : Type 0} → (R → Record → Type 0) → RewriteTheory → RewriteRule → Tree → ℕ → Result (Trial R × ℕ) EvalEnd → Type 0
+abbrev pub TriesRule : {R : Type 0} → (R → Record → Type 0) → RewriteTheory → RewriteRule → Tree → ℕ
+    → Result (Trial R × ℕ) EvalEnd → Type 0
 TriesRule tells theory rule t c answer =
     Comes
     (RuleSays tells theory rule t c)
@@ -44,13 +47,15 @@ TriesRule tells theory rule t c answer =
     answer
 
 -- the rule with this number applies with this substitution, and no earlier one
-pub record IsChosen (theory : RewriteTheory) (t : Tree) (c number : ℕ) (theta : List (Option Tree)) (left : ℕ) : Type 0 where
-  pub rule : RewriteRule
-  pub there : slice_get theory.rules number ≡ Some rule
-  pub matches : Matches theory rule t theta
-  pub earlier : (j : ℕ) (other : RewriteRule) → j < number → slice_get theory.rules j ≡ Some other → IsUnusedRule theory other t
-  pub tried : Tries theory t 0 theory.rules c (applies number rule theta left)
-  pub fewer : left ≤ c
+pub record IsChosen (theory : RewriteTheory) (t : Tree) (c number : ℕ) (theta : List (Option Tree)) (left : ℕ) : Type 0
+  where
+    pub rule : RewriteRule
+    pub there : slice_get theory.rules number ≡ Some rule
+    pub matches : Matches theory rule t theta
+    pub earlier : (j : ℕ) (other : RewriteRule) → j < number → slice_get theory.rules j ≡ Some other
+        → IsUnusedRule theory other t
+    pub tried : Tries theory t 0 theory.rules c (applies number rule theta left)
+    pub fewer : left ≤ c
 
 abbrev pub ChoiceSays : {R : Type 0} → (R → Record → Type 0) → RewriteTheory → Tree → ℕ → Option (Choice R) → ℕ → Type 0
 ChoiceSays tells theory t c None left = Tries theory t 0 theory.rules c none_applies
@@ -59,6 +64,7 @@ ChoiceSays tells theory t c (Some chosen) left =
     × IsRecordedCondition tells theory chosen.subst is.rule.condition chosen.cond
 
 -- which rule applies, if any; or a condition is blocked before that
-abbrev pub Chooses : {R : Type 0} → (R → Record → Type 0) → RewriteTheory → Tree → ℕ → Result (Option (Choice R) × ℕ) EvalEnd → Type 0
+abbrev pub Chooses : {R : Type 0} → (R → Record → Type 0) → RewriteTheory → Tree → ℕ
+    → Result (Option (Choice R) × ℕ) EvalEnd → Type 0
 Chooses tells theory t c answer =
     Comes (ChoiceSays tells theory t c) (λ cause. Tries theory t 0 theory.rules c (trial_blocked cause)) answer

@@ -27,7 +27,8 @@ RecordsNext theory t u answer.Stuck = Unit {0}
 RecordsNext theory t u (answer.Blocked why) = Unit {0}
 
 -- what is recorded of a step tells such a record
-pub record TellsStep {R : Type 0} (tells : R → Record → Type 0) (theory : RewriteTheory) (t u : Tree) (made : Made R) : Type 0 where
+pub record TellsStep {R : Type 0} (tells : R → Record → Type 0) (theory : RewriteTheory) (t u : Tree) (made : Made R) :
+    Type 0 where
   pub step : StepRecord
   pub rule : step.rule ≡ made.rule
   pub theta : step.theta ≡ made.subst

@@ -12,7 +12,8 @@ use Rattle.rewriter.specs.NextSteps.{TellsStep}
 use Rattle.rewriter.specs.declared.step.Further.{Further}
 
 -- the step from a configuration, with so many calls left
-abbrev pub Advances : {R : Type 0} → (R → Record → Type 0) → RewriteTheory → Tree → ℕ → Result (Option (Further R)) EvalEnd → Type 0
+abbrev pub Advances : {R : Type 0} → (R → Record → Type 0) → RewriteTheory → Tree → ℕ
+    → Result (Option (Further R)) EvalEnd → Type 0
 Advances tells theory t c (Ok None) = Steps theory t c stays
 Advances tells theory t c (Ok (Some further)) =
     Steps theory t c (next further.config further.calls)

@@ -50,8 +50,8 @@ pub enum Next<S> {
 }
 
 impl Run {
-    /// The run of an initial term, with so many calls of functions, and the record of the term's evaluation. Where there
-    /// are rules, the term has their sort. `Blocked` says why it has no value: its run is blocked at 0.
+    /// The run of an initial term, with so many calls of functions, and the record of the term's evaluation. Where
+    /// there are rules, the term has their sort. `Blocked` says why it has no value: its run is blocked at 0.
     pub fn new(
         alloc: Global,
         engine: &Engine<'_>,
@@ -59,11 +59,14 @@ impl Run {
         calls: u32,
     ) -> Result<(Run, EvalRecord), EvalEnd>
         requires { IsStartOf (theory_of engine.now) (plain_pattern start.now) }
-        ensures starts { IfOk result (λ r. Reaches (theory_of engine.now) (plain_pattern start.now) calls 0 r.0.config r.0.calls) }
-        ensures recorded { IfOk result (λ r. Records (theory_of engine.now) [] (plain_pattern start.now) (plain_record r.1)) }
+        ensures starts { IfOk result
+            (λ r. Reaches (theory_of engine.now) (plain_pattern start.now) calls 0 r.0.config r.0.calls) }
+        ensures recorded { IfOk result
+            (λ r. Records (theory_of engine.now) [] (plain_pattern start.now) (plain_record r.1)) }
         ensures value { IfOk result (λ r. result_of (plain_record r.1) ≡ r.0.config) }
         ensures sorted { IfOk result (λ r. IsConfiguration (theory_of engine.now) r.0.config) }
-        ensures blocked { IfErr result (EndsBy (Evaluates (theory_of engine.now) most_nesting [] (plain_pattern start.now) calls)) }
+        ensures blocked { IfErr result
+            (EndsBy (Evaluates (theory_of engine.now) most_nesting [] (plain_pattern start.now) calls)) }
     {
         Run::new_as::<EvalRecord>(alloc, engine, start, calls)
     }
@@ -76,10 +79,13 @@ impl Run {
         calls: u32,
     ) -> Result<(Run, R), EvalEnd>
         requires { IsStartOf (theory_of engine.now) (plain_pattern start.now) }
-        ensures starts { IfOk result (λ r. Reaches (theory_of engine.now) (plain_pattern start.now) calls 0 r.0.config r.0.calls) }
-        ensures recorded { IfOk result (λ r. IsRecorded (R.tells r.1) (theory_of engine.now) [] (plain_pattern start.now) r.0.config) }
+        ensures starts { IfOk result
+            (λ r. Reaches (theory_of engine.now) (plain_pattern start.now) calls 0 r.0.config r.0.calls) }
+        ensures recorded { IfOk result
+            (λ r. IsRecorded (R.tells r.1) (theory_of engine.now) [] (plain_pattern start.now) r.0.config) }
         ensures sorted { IfOk result (λ r. IsConfiguration (theory_of engine.now) r.0.config) }
-        ensures blocked { IfErr result (EndsBy (Evaluates (theory_of engine.now) most_nesting [] (plain_pattern start.now) calls)) }
+        ensures blocked { IfErr result
+            (EndsBy (Evaluates (theory_of engine.now) most_nesting [] (plain_pattern start.now) calls)) }
     {
         let _program = engine.program();
         let subst = Subst::new(alloc, 0)?;
@@ -111,8 +117,8 @@ impl Run {
         self.calls
     }
 
-    /// One step, by the engine that the run was made with. After `Stuck`, `Blocked` or an error the run is as before, and
-    /// the same comes again. `AllocError` says that memory was wanting.
+    /// One step, by the engine that the run was made with. After `Stuck`, `Blocked` or an error the run is as before,
+    /// and the same comes again. `AllocError` says that memory was wanting.
     ///
     /// Rules are tried one by one: one whose root is another than the configuration's costs one look.
     pub fn step(

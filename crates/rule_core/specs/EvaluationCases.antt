@@ -109,7 +109,16 @@ pub record TriedIntegers (sig : Signature) : Type 0 where
 -- ---- a function without arguments, of three forms: no equation, a value, and a constructor
 
 abbrev pub always : Pattern → Equation
-always right = record { parameters = 0; arguments = no_pattern; condition = None; right = right; variables = []; priority = 50; place = 0 }
+always right = record {
+  parameters = 0;
+  arguments = no_pattern;
+  condition = None;
+  right = right;
+  variables
+      = [];
+  priority = 50;
+  place = 0;
+}
 
 abbrev pub defined_by : Signature → List Equation → RewriteTheory
 defined_by sig es = record { sig = sig; rules = []; equations = es ∷ [] }

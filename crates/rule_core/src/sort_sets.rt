@@ -1,6 +1,7 @@
 // Sets of sorts, one for each sort. A set is a list of words of 64 bits: bit s % 64 of the word s / 64 says whether it
 // has the sort with the number s. What is past its end it does not have.
-ghost use Rattle.std.specs.Prelude.{ℕ, ◌≡◌, ◌<◌, ◌≤◌, ◌/◌, ◌==◌, ◌||◌, ◌&&◌, length, vec_len, false, OnOk, OnErr, IfOk, IsTrue};
+ghost use Rattle.std.specs.Prelude.{ℕ, ◌≡◌, ◌<◌, ◌≤◌, ◌/◌, ◌==◌, ◌||◌, ◌&&◌, length, vec_len, false, OnOk, OnErr, IfOk};
+ghost use Rattle.std.specs.Prelude.{IsTrue};
 ghost use Rattle.rule_core.specs.SubsortFields.{word_at, has, set_at, is_in, reaches, IsClosed};
 
 use std::alloc::{AllocError, Global};
@@ -73,7 +74,8 @@ pub(crate) fn join(
 ) -> Result<(), AllocError>
     requires { IsClosed rows.old.items }
     ensures same { OnErr result ((x y : ℕ) → is_in rows.new.items x y ≡ is_in rows.old.items x y) }
-    ensures joined { OnOk result ((x y : ℕ) → is_in rows.new.items x y ≡ (is_in rows.old.items x y || (reaches rows.old.items x a.0 && (b.0 == y || is_in rows.old.items b.0 y)))) }
+    ensures joined { OnOk result ((x y : ℕ) → is_in rows.new.items x y
+        ≡ (is_in rows.old.items x y || (reaches rows.old.items x a.0 && (b.0 == y || is_in rows.old.items b.0 y)))) }
 {
     if is_in(rows, a, b) {
         return Ok(());
@@ -103,7 +105,8 @@ fn widen(rows: &mut Vec<Vec<u64>>, a: SortId, len: usize) -> Result<(), AllocErr
 fn merge(rows: &mut Vec<Vec<u64>>, a: SortId, b: SortId, more: &[u64])
     requires there { a.0 < vec_len rows.old }
     requires long { (x : ℕ) → x < vec_len rows.old → IsTrue (reaches rows.old.items x a.0) → length more.now ≤ length (set_at rows.old.items x) }
-    requires known { (x y : ℕ) → IsTrue (is_in rows.old.items x b.0) → IsTrue (has more.now y) → IsTrue (is_in rows.old.items x y) }
+    requires known { (x y : ℕ) → IsTrue (is_in rows.old.items x b.0) → IsTrue (has more.now y)
+        → IsTrue (is_in rows.old.items x y) }
     ensures { (x y : ℕ) → is_in rows.new.items x y ≡ (is_in rows.old.items x y || (reaches rows.old.items x a.0 && has more.now y)) }
 {
     let from = first_word(more);

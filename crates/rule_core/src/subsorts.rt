@@ -1,5 +1,6 @@
 // The order of a definition's sorts.
-ghost use Rattle.std.specs.Prelude.{◌≡◌, ◌↔◌, ◌⊎◌, ◌++◌, ◌∷◌, IsTrue, [], Contains, IsSome, IfSome, IfOk, OnErr, if◌then◌else◌};
+ghost use Rattle.std.specs.Prelude.{◌≡◌, ◌↔◌, ◌⊎◌, ◌++◌, ◌∷◌, IsTrue, [], Contains, IsSome, IfSome, IfOk, OnErr};
+ghost use Rattle.std.specs.Prelude.{if◌then◌else◌};
 ghost use Rattle.term_core.specs.RulePatterns.{sort_numbers};
 ghost use Rattle.rule_core.specs.Subsorts.{IsBelow, HasNoCycle, IsPath};
 
@@ -76,7 +77,8 @@ impl Subsorts {
         b: SortId,
     ) -> Result<Option<Vec<SortId>>, AllocError>
         ensures below { IfOk result (λ found. IsSome found ↔ IsBelow self.now a.0 b.0) }
-        ensures chain { IfOk result (λ found. IfSome found (λ sorts. IsPath self.now a.0 b.0 (sort_numbers sorts.items))) }
+        ensures chain { IfOk result
+            (λ found. IfSome found (λ sorts. IsPath self.now a.0 b.0 (sort_numbers sorts.items))) }
     {
         if !self.below(a, b) {
             return Ok(None);
