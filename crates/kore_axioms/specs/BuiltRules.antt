@@ -19,11 +19,6 @@ abbrev pub FirstOfShape : Signature → AxiomDeclaration → SortTree → RulePa
 FirstOfShape sig a s w r
     = Then (IsFirstBy ByNumber (Contains (form_faults a w))) (IsFirstBy ByByte (Contains (sorted_faults sig s w))) r
 
--- the variables, and those of the pattern, where there is one, behind them
-abbrev pub with_some_variables : Signature → List (List ℕ × ℕ) → Option PatternTree → List (List ℕ × ℕ)
-with_some_variables sig vars None = vars
-with_some_variables sig vars (Some p) = with_variables sig vars (unfolded p)
-
 -- the patterns of a rule without such faults are there, and made of the forms that rule patterns have
 pub record IsFine (sig : Signature) (w : RuleParts) : Type 0 where
   pub left : PatternTree
