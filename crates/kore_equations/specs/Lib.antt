@@ -2,3 +2,5 @@
 pub mod ReadableEquations
 pub mod EquationMeanings
 pub mod Readings
+-- Private: what clauses of private functions cite, and how private fields are seen.
+pub mod ClearEquations

@@ -3,5 +3,6 @@
 
 mod readable;
 mod readings;
+mod sorts;
 
 pub use readings::{Reading, read_equation};
