@@ -4,3 +4,4 @@ pub mod EquationMeanings
 pub mod Readings
 -- Private: what clauses of private functions cite, and how private fields are seen.
 pub mod ClearEquations
+pub mod BuiltEquations

@@ -1,6 +1,7 @@
 // Equations of functions: which are readable, and what they mean.
 #![tactic(auto)]
 
+mod patterns;
 mod readable;
 mod readings;
 mod sorts;
