@@ -51,3 +51,9 @@ clear_of sig a info e (Some q) = if is_clear sig a info e q then Some q else Non
 abbrev pub clear_parts : Signature → AxiomDeclaration → SymInfo → Statement → Option EquationParts
 clear_parts sig a info e
     = if has_attribute (codes "owise") a.attributes then None else clear_of sig a info e (equation_parts e)
+
+-- all variables of the condition and of the right side are bound
+abbrev pub are_bound : Signature → Statement → EquationParts → Bool
+are_bound sig e q =
+    is_bound (all_read q.patterns) (tested (condition_of_equation sig e q))
+    && is_bound (all_read q.patterns) (Some q.right)

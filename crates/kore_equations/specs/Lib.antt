@@ -5,3 +5,4 @@ pub mod Readings
 -- Private: what clauses of private functions cite, and how private fields are seen.
 pub mod ClearEquations
 pub mod BuiltEquations
+pub mod MeantEquations
