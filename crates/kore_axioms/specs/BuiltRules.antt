@@ -1,5 +1,5 @@
 -- What is built of a rewrite rule without faults of its form and its sorts.
-use Rattle.std.specs.Prelude.{◌≡◌, ◌&&◌, ℕ, true, List, [], Option, Some, None, option_map, Contains}
+use Rattle.std.specs.Prelude.{◌≡◌, ◌&&◌, true, [], Option, Some, option_map, Contains}
 use Rattle.kore_text.specs.Trees.{SortTree, PatternTree, AxiomDeclaration}
 use Rattle.term_core.specs.RulePatterns.{plain_pattern}
 use Rattle.rule_core.specs.declared.signature.Signature.{Signature}

@@ -1,14 +1,12 @@
 -- Patterns at the places of a symbol's arguments.
-use Rattle.std.proofs.Common.{◌≡◌, ◌<◌, ◌≤◌, ℕ, ◌+◌, Bool, true, false, ◌&&◌, List, [], ◌∷◌, ◌++◌, length, map, drop, get_or, Option, refl, ap, sym, ◌∙◌, subst, arith}
-use Rattle.std.specs.Prelude.{not, max, nat_lt}
+use Rattle.std.proofs.Common.{◌≡◌, ◌<◌, ℕ, ◌+◌, Bool, true, false, ◌&&◌, List, [], length, map, drop, get_or, Option, ap, sym, ◌∙◌}
 use Rattle.std.proofs.lemmas.Bool.{false≢true}
 use Rattle.kore_text.specs.Trees.{PatternTree}
 use Rattle.rule_core.specs.declared.signature.Signature.{Signature}
 use Rattle.rule_core.specs.declared.signature.SortRef.{SortRef}
-use Rattle.kore_sig.specs.FirstFault.{Fault}
 use Rattle.kore_check.proofs.Items.{drop-item, drop-drop}
-use Rattle.kore_check.specs.Folds.{Unfolded, Unfoldeds, no_more, and_more, unfolded, height, heights}
-use Rattle.kore_check.specs.PatternFaults.{pattern_faults, argument_faults, clash_faults, first_wanted, most_height}
+use Rattle.kore_check.specs.Folds.{unfolded}
+use Rattle.kore_check.specs.PatternFaults.{first_wanted}
 use Rattle.kore_axioms.specs.RuleFaults.{is_empty, faults_at_sort}
 use Rattle.kore_equations.specs.ReadableEquations.{all_read}
 use Rattle.kore_equations.specs.ClearEquations.{each_faultless}

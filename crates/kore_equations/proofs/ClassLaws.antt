@@ -4,11 +4,13 @@ use Rattle.std.specs.Prelude.{not, if◌then◌else◌}
 use Rattle.rule_core.proofs.Belows.{both_true}
 use Rattle.rule_core.specs.declared.signature.Signature.{Signature}
 use Rattle.rule_core.specs.declared.signature.SymInfo.{SymInfo}
-use Rattle.kore_text.specs.Trees.{PatternTree, AxiomDeclaration}
-use Rattle.kore_check.specs.PatternSorts.{symbol_named}
+use Rattle.kore_text.specs.Trees.{AxiomDeclaration}
+use Rattle.rule_core.specs.Named.{number_of}
+use Rattle.std.specs.Option.{option_and_then}
+use Rattle.kore_check.specs.PatternSorts.{symbol_info, symbol_named}
 use Rattle.kore_shapes.specs.Shapes.{Rewriting, rewriting}
 use Rattle.kore_shapes.specs.Statements.{Statement, statement}
-use Rattle.kore_axioms.specs.AxiomClasses.{AxiomClass, refused, orders_sorts, rewrites, equates, passed_over, is_no_equation, takes_equations, class_of_statement, class_of_pattern, class_of}
+use Rattle.kore_axioms.specs.AxiomClasses.{AxiomClass, refused, orders_sorts, equates, passed_over, is_no_equation, takes_equations, class_of_statement, class_of_pattern, class_of}
 
 -- an axiom states the equation of a function that takes equations
 pub record IsStated (sig : Signature) (a : AxiomDeclaration) (e : Statement) : Type 0 where
@@ -45,3 +47,24 @@ takes_some (Some info) h = (info, refl)
 -- its function is declared
 pub function_declared : (sig : Signature) (a : AxiomDeclaration) (e : Statement) → class_of sig a ≡ equates e → (info : SymInfo) × (symbol_named sig e.function ≡ Some info)
 function_declared sig a e h = takes_some (symbol_named sig e.function) (class_equates sig a e h).takes
+
+no_entry : (sig : Signature) (f : List ℕ) (info : SymInfo) (o : Option ℕ) → number_of sig.symbols f ≡ o → symbol_named sig f ≡ Some info → (n : ℕ) × (number_of sig.symbols f ≡ Some n) × (symbol_info sig n ≡ Some info)
+no_entry sig f info None e h = absurd (let both : None ≡ Some info = sym (ap (option_and_then (symbol_info sig)) e) ∙ h in let never : ⊥ = cc in never)
+no_entry sig f info (Some n) e h = (n, e, sym (ap (option_and_then (symbol_info sig)) e) ∙ h)
+
+-- a declared symbol has a number
+pub entry_named : (sig : Signature) (f : List ℕ) (info : SymInfo) → symbol_named sig f ≡ Some info → (n : ℕ) × (number_of sig.symbols f ≡ Some n) × (symbol_info sig n ≡ Some info)
+entry_named sig f info h = no_entry sig f info (number_of sig.symbols f) refl h
+
+-- .. and so has the function of an equation
+pub number_there : (sig : Signature) (a : AxiomDeclaration) (e : Statement) → class_of sig a ≡ equates e → number_of sig.symbols e.function ≡ None → ⊥
+number_there sig a e class none =
+    let declared = function_declared sig a e class in
+    let entry = entry_named sig e.function declared.0 declared.1 in
+    let both : None ≡ Some entry.0 = sym none ∙ entry.1 in let never : ⊥ = cc in never
+
+-- .. and a declaration
+pub declaration_there : (sig : Signature) (a : AxiomDeclaration) (e : Statement) (n : ℕ) → class_of sig a ≡ equates e → number_of sig.symbols e.function ≡ Some n → symbol_info sig n ≡ None → ⊥
+declaration_there sig a e n class is none =
+    let declared = function_declared sig a e class in
+    let both : Some declared.0 ≡ None = sym declared.1 ∙ ap (option_and_then (symbol_info sig)) is ∙ none in let never : ⊥ = cc in never

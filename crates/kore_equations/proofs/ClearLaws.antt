@@ -1,9 +1,9 @@
 -- A readable equation is one that is clear and whose variables are bound.
 use Rattle.std.proofs.Common.{◌≡◌, ◌<◌, ◌≤◌, ℕ, ◌+◌, Bool, true, false, ◌&&◌, ◌||◌, List, [], ◌∷◌, ◌++◌, Option, Some, None, cond, refl, ap, sym, ◌∙◌, subst, arith}
-use Rattle.std.specs.Prelude.{not, max, nat_lt, nat_le, drop, codes, if◌then◌else◌}
+use Rattle.std.specs.Prelude.{not, nat_lt, nat_le, drop, codes}
 use Rattle.std.specs.Option.{option_and_then}
 use Rattle.std.proofs.lemmas.Bool.{false≢true, ltb-true, leb-true}
-use Rattle.kore_text.specs.Trees.{SortTree, PatternTree, element_variable, set_variable, string, symbol_applied, connected, binding, domain_value, folded, AxiomDeclaration}
+use Rattle.kore_text.specs.Trees.{PatternTree, element_variable, set_variable, string, symbol_applied, connected, binding, domain_value, folded, AxiomDeclaration}
 use Rattle.rule_core.proofs.Belows.{both_true, true_both}
 use Rattle.rule_core.specs.Sorting.{sort_at}
 use Rattle.rule_core.specs.declared.signature.Signature.{Signature}
@@ -208,10 +208,9 @@ pub readable_is : (sig : Signature) (a : AxiomDeclaration) (info : SymInfo) (e :
 readable_is sig a info e q r =
     let uses = both_true _ _ (sym (uses_same sig info e q) ∙ r.good_uses) in
     let sorted : are_parts_sorted sig info (condition_of_equation sig e q) q ≡ true = sorted_same sig info e q r.form ∙ r.sorted in
-    let clear : is_clear sig a info e q ≡ true = true_both _ _ r.function (true_both _ _ r.good_form (true_both _ _ sorted uses.0)) in
-    (
+    let clear : is_clear sig a info e q ≡ true = true_both _ _ r.function (true_both _ _ r.good_form (true_both _ _ sorted uses.0)) in (
       ap (λ (b : Bool). cond b None (clear_of sig a info e (equation_parts e))) r.no_last_resort
-      ∙ ap (clear_of sig a info e) r.form ∙ ap (λ (b : Bool). cond b (Some q) None) clear,
+          ∙ ap (clear_of sig a info e) r.form ∙ ap (λ (b : Bool). cond b (Some q) None) clear,
       uses.1,
     )
 

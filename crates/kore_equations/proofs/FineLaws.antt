@@ -1,10 +1,9 @@
 -- What follows for the patterns of an equation that is clear, and what is made of them.
-use Rattle.std.proofs.Common.{◌≡◌, ℕ, Bool, true, false, ◌&&◌, ◌||◌, List, [], ◌∷◌, map, Option, Some, None, refl, ap, sym, ◌∙◌, subst}
+use Rattle.std.proofs.Common.{◌≡◌, ℕ, Bool, true, false, List, [], ◌∷◌, map, Option, Some, refl, ap, sym, ◌∙◌, subst}
 use Rattle.std.specs.Prelude.{not, drop, length, option_map}
 use Rattle.std.specs.List.{list_any}
 use Rattle.kore_text.specs.Trees.{PatternTree, AxiomDeclaration}
 use Rattle.rule_core.proofs.Belows.{both_true}
-use Rattle.rule_core.specs.Rules.{Equation}
 use Rattle.rule_core.specs.ProgramView.{sorts_of}
 use Rattle.rule_core.specs.Sorting.{sort_at}
 use Rattle.rule_core.specs.declared.rules.VarInfo.{VarInfo}
@@ -14,18 +13,16 @@ use Rattle.rule_core.specs.declared.signature.SymInfo.{SymInfo}
 use Rattle.term_core.specs.RulePatterns.{plain_pattern}
 use Rattle.term_core.specs.PatternLists.{plain_patterns}
 use Rattle.kore_check.specs.Folds.{unfolded}
-use Rattle.kore_check.specs.PatternFaults.{pattern_faults, first_wanted}
+use Rattle.kore_check.specs.PatternFaults.{first_wanted}
 use Rattle.kore_check.specs.PatternMeanings.{named_sorts, with_all_variables, Means, AllMean}
 use Rattle.kore_check.specs.PatternSorts.{symbol_named}
 use Rattle.kore_shapes.specs.Forms.{all_forms, has_form, has_binder}
-use Rattle.kore_shapes.specs.Shapes.{Condition}
 use Rattle.kore_shapes.specs.Statements.{Statement}
 use Rattle.kore_shapes.specs.EquationForms.{EquationParts}
 use Rattle.kore_axioms.specs.AxiomClasses.{equates, class_of}
 use Rattle.kore_axioms.specs.AxiomMeanings.{MeansTest}
-use Rattle.kore_axioms.specs.Conditions.{tested, is_ill}
-use Rattle.kore_axioms.specs.Priorities.{priority_of, has_bad_priority}
-use Rattle.kore_axioms.specs.RuleForms.{holds_of}
+use Rattle.kore_axioms.specs.Conditions.{tested}
+use Rattle.kore_axioms.specs.Priorities.{priority_of}
 use Rattle.kore_axioms.specs.RuleFaults.{is_empty, faults_at_sort, condition_faults}
 use Rattle.kore_axioms.proofs.ApplicativeLaws.{neither, applicative}
 use Rattle.kore_axioms.proofs.BinderLaws.{AllBindNone, test_binds_none}
@@ -33,7 +30,7 @@ use Rattle.kore_axioms.proofs.BoundLaws.{no_faults}
 use Rattle.kore_axioms.proofs.RuleLaws.{held, clear_test}
 use Rattle.kore_equations.specs.ReadableEquations.{all_read, condition_of_equation, has_other_form}
 use Rattle.kore_equations.specs.EquationMeanings.{IsEquationOf}
-use Rattle.kore_equations.specs.ClearEquations.{each_faultless, clear_parts, are_bound}
+use Rattle.kore_equations.specs.ClearEquations.{each_faultless, clear_parts}
 use Rattle.kore_equations.specs.BuiltEquations.{IsFine, AreFine, IsFineEquation, IsBuiltOf}
 use Rattle.kore_equations.specs.declared.patterns.EquationPatterns.{EquationPatterns}
 use Rattle.kore_equations.proofs.BinderLaws.{statement_binds_none, equation_binds_none}

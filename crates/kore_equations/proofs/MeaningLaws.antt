@@ -1,5 +1,5 @@
 -- What patterns mean where there are more variables.
-use Rattle.std.proofs.Common.{◌≡◌, ◌<◌, ◌≤◌, ℕ, ◌+◌, List, [], ◌∷◌, ◌++◌, length, map, drop, get_or, append_assoc, refl, ap, sym, ◌∙◌, subst, arith}
+use Rattle.std.proofs.Common.{◌≡◌, ◌<◌, ◌≤◌, ℕ, ◌+◌, List, [], ◌∷◌, ◌++◌, length, map, drop, get_or, append_assoc, ap, sym, ◌∙◌, subst}
 use Rattle.std.proofs.lemmas.List.{append-nil, drop_all}
 use Rattle.kore_text.specs.Trees.{PatternTree}
 use Rattle.term_core.specs.Patterns.{Pattern, patterns, no_pattern}

@@ -1,5 +1,5 @@
 -- What is built of the patterns of an equation without faults of its form and its sorts.
-use Rattle.std.specs.Prelude.{◌≡◌, ◌&&◌, ℕ, true, List, [], Option, Some, option_map}
+use Rattle.std.specs.Prelude.{◌≡◌, ◌&&◌, true, [], Some, option_map}
 use Rattle.kore_text.specs.Trees.{PatternTree}
 use Rattle.term_core.specs.RulePatterns.{plain_pattern}
 use Rattle.term_core.specs.PatternLists.{plain_patterns}

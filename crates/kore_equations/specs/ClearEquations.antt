@@ -1,7 +1,7 @@
 -- All that a readable equation is, but that its variables are bound.
-use Rattle.std.specs.Prelude.{ℕ, ◌+◌, List, [], Bool, true, not, ◌&&◌, drop, Option, Some, None, codes, nat_le}
+use Rattle.std.specs.Prelude.{◌+◌, List, [], Bool, true, not, ◌&&◌, drop, Option, Some, None, codes, nat_le}
 use Rattle.std.specs.Prelude.{if◌then◌else◌}
-use Rattle.kore_text.specs.Trees.{PatternTree, AxiomDeclaration}
+use Rattle.kore_text.specs.Trees.{AxiomDeclaration}
 use Rattle.rule_core.specs.Sorting.{sort_at}
 use Rattle.rule_core.specs.declared.signature.Signature.{Signature}
 use Rattle.rule_core.specs.declared.signature.SortRef.{SortRef}
@@ -9,7 +9,6 @@ use Rattle.rule_core.specs.declared.signature.SymInfo.{SymInfo}
 use Rattle.kore_sig.specs.Attributes.{has_attribute}
 use Rattle.kore_check.specs.Folds.{Unfoldeds, no_more, and_more, unfolded, heights}
 use Rattle.kore_check.specs.PatternFaults.{first_wanted, most_height}
-use Rattle.kore_check.specs.PatternSorts.{sort_of}
 use Rattle.kore_shapes.specs.Shapes.{Condition}
 use Rattle.kore_shapes.specs.Statements.{Statement}
 use Rattle.kore_shapes.specs.EquationForms.{EquationParts, equation_parts}

@@ -99,7 +99,10 @@ fn fits_function(
         (plain_parts parts.now) }
 {
     is_sort_over(sig, &decl.params, stated.over)
-        && is_one_sort(sort_number(&sig.sorts, stated.sort), number_of_result(symbol))
+        && is_one_sort(
+            sort_number(&sig.sorts, stated.sort),
+            number_of_result(symbol),
+        )
         && parts.patterns.len() == symbol.args.len()
 }
 

@@ -7,7 +7,6 @@ use Rattle.term_core.specs.RulePatterns.{plain_pattern}
 use Rattle.term_core.specs.PatternLists.{plain_patterns}
 use Rattle.kore_check.specs.Folds.{Unfoldeds, unfolded}
 use Rattle.kore_check.specs.PatternMeanings.{named_sorts, with_variables, with_all_variables, Means, AllMean}
-use Rattle.kore_shapes.specs.Shapes.{Condition}
 use Rattle.kore_shapes.specs.EquationForms.{EquationParts}
 use Rattle.kore_shapes.specs.Views.{pattern_at, plain_condition}
 use Rattle.kore_shapes.specs.PartViews.{plain_parts}
