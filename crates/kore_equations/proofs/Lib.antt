@@ -4,3 +4,4 @@ pub mod MeaningLaws
 pub mod ClassLaws
 pub mod ClearLaws
 pub mod FineLaws
+pub mod ExclusionLaws
