@@ -1,20 +1,15 @@
--- The rules and equations that axioms mean.
-use Rattle.std.specs.Prelude.{◌≡◌, ℕ, List, [], map, length, Option, Some, None}
+-- The rewrite rules that axioms mean.
+use Rattle.std.specs.Prelude.{◌≡◌, ℕ, List, [], map, Option, Some, None}
 use Rattle.kore_text.specs.Trees.{PatternTree, AxiomDeclaration}
 use Rattle.term_core.specs.Patterns.{Pattern}
-use Rattle.rule_core.specs.Rules.{RewriteRule, Equation}
+use Rattle.rule_core.specs.Rules.{RewriteRule}
 use Rattle.rule_core.specs.declared.signature.Signature.{Signature}
-use Rattle.rule_core.specs.declared.signature.SymInfo.{SymInfo}
 use Rattle.kore_check.specs.Folds.{unfolded}
-use Rattle.kore_check.specs.PatternMeanings.{with_variables, with_all_variables, Means, AllMean}
-use Rattle.kore_check.specs.PatternSorts.{symbol_named}
+use Rattle.kore_check.specs.PatternMeanings.{with_variables, Means}
 use Rattle.kore_shapes.specs.Shapes.{Rewriting}
-use Rattle.kore_shapes.specs.Statements.{Statement}
-use Rattle.kore_shapes.specs.EquationForms.{EquationParts}
-use Rattle.kore_axioms.specs.AxiomClasses.{rewrites, equates, class_of}
+use Rattle.kore_axioms.specs.AxiomClasses.{rewrites, class_of}
 use Rattle.kore_axioms.specs.Conditions.{tested}
 use Rattle.kore_axioms.specs.RuleParts.{rule_parts, left_of, right_of}
-use Rattle.kore_axioms.specs.ReadableEquations.{IsReadable, condition_of_equation, all_read}
 use Rattle.kore_axioms.specs.Priorities.{priority_of}
 
 -- what a condition means, where there is one
@@ -40,32 +35,3 @@ pub record IsRuleOf (sig : Signature) (a : AxiomDeclaration) (rule : RewriteRule
   pub sorts : rule.variables ≡ map (λ (v : List ℕ × ℕ). v.1) variables
   pub priority : rule.priority ≡ priority_of a.attributes
   pub place : rule.place ≡ a.at
-
--- The axiom is this equation of the function with this name. Its variables are those of the patterns that the arguments
--- match, in the order of their first occurrence.
-pub record IsEquationOf (sig : Signature) (f : List ℕ) (a : AxiomDeclaration) (e : Equation) : Type 0 where
-  pub stated : Statement
-  pub class : class_of sig a ≡ equates stated
-  pub function : stated.function ≡ f
-  pub info : SymInfo
-  pub declared : symbol_named sig f ≡ Some info
-  pub parts : EquationParts
-  pub readable : IsReadable sig a info stated parts
-  pub variables : List (List ℕ × ℕ)
-  pub numbered : variables ≡ with_all_variables sig [] (all_read parts.patterns)
-  pub parameters : e.parameters ≡ length parts.parameters
-  pub means_arguments : AllMean sig variables (all_read parts.patterns) e.arguments
-  pub means_condition : MeansTest sig variables (tested (condition_of_equation sig stated parts)) e.condition
-  pub means_right : Means sig variables (unfolded parts.right) e.right
-  pub sorts : e.variables ≡ map (λ (v : List ℕ × ℕ). v.1) variables
-  pub priority : e.priority ≡ priority_of a.attributes
-  pub place : e.place ≡ a.at
-
--- an equation of the function with this name is not readable
-pub record IsUnreadable (sig : Signature) (f : List ℕ) (a : AxiomDeclaration) : Type 0 where
-  pub stated : Statement
-  pub class : class_of sig a ≡ equates stated
-  pub function : stated.function ≡ f
-  pub info : SymInfo
-  pub declared : symbol_named sig f ≡ Some info
-  pub unreadable : (parts : EquationParts) → IsReadable sig a info stated parts → ⊥

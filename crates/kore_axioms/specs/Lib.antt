@@ -7,7 +7,6 @@ pub mod RuleParts
 pub mod RuleForms
 pub mod RuleFaults
 pub mod AxiomClasses
-pub mod ReadableEquations
 pub mod AxiomMeanings
 pub mod Refusals
 pub mod Views

@@ -2,7 +2,6 @@
 #![tactic(auto)]
 
 mod classes;
-mod equations;
 mod faults;
 mod parts;
 mod priorities;
@@ -15,7 +14,7 @@ mod uses;
 
 pub use classes::{AxiomClass, class_of};
 pub use faults::AxiomFault;
-pub use parts::{RuleParts, rule_parts};
+pub use parts::{RuleParts, is_ill, over_bool, rule_parts, tested};
 pub use priorities::{has_bad_priority, priority_of};
 pub use refusals::Refusal;
 pub use rules::checked_rule;

@@ -48,7 +48,7 @@ pub fn rule_parts<'a>(sig: &Signature, rewriting: Rewriting<'a>) -> RuleParts<'a
 }
 
 /// The condition, which is ill where what it tests is over another sort than one of truth values.
-pub(crate) fn over_bool<'a>(sig: &Signature, condition: Condition<'a>) -> Condition<'a>
+pub fn over_bool<'a>(sig: &Signature, condition: Condition<'a>) -> Condition<'a>
     ensures { plain_condition result ≡ the_over_bool sig.now (plain_condition condition.entry) }
 {
     match condition {
@@ -71,7 +71,7 @@ fn is_bool(sig: &Signature, sort: &Sort) -> bool
 }
 
 /// What a condition tests.
-pub(crate) fn tested(condition: Condition<'_>) -> Option<&Pat>
+pub fn tested(condition: Condition<'_>) -> Option<&Pat>
     ensures { option_map pattern_at result ≡ the_tested (plain_condition condition.entry) }
 {
     match condition {
@@ -80,7 +80,8 @@ pub(crate) fn tested(condition: Condition<'_>) -> Option<&Pat>
     }
 }
 
-pub(crate) fn is_ill(condition: Condition<'_>) -> bool
+/// Whether a condition is of none of the forms that conditions have.
+pub fn is_ill(condition: Condition<'_>) -> bool
     ensures { result ≡ is_an_ill (plain_condition condition.entry) }
 {
     matches!(condition, Condition::Ill)

@@ -12,7 +12,7 @@ use Rattle.kore_check.specs.PatternFaults.{all_faults}
 use Rattle.kore_axioms.specs.AxiomClasses.{AxiomClass, refused, orders_sorts, rewrites, equates, passed_over, class_of}
 use Rattle.kore_axioms.specs.RuleFaults.{FirstOfRule}
 use Rattle.kore_rules.specs.GroundTerms.{ground_faults}
-use Rattle.kore_axioms.specs.ReadableEquations.{is_one_sort}
+use Rattle.kore_equations.specs.ReadableEquations.{is_one_sort}
 
 -- the first fault of an axiom of this class, where the first rule has this sort
 abbrev pub FirstOfClass : Signature → Option SortTree → AxiomDeclaration → AxiomClass → Option Fault → Type 0

@@ -24,8 +24,8 @@ use Rattle.kore_shapes.specs.Statements.{Statement}
 use Rattle.kore_shapes.specs.EquationForms.{EquationParts}
 use Rattle.kore_axioms.specs.AxiomClasses.{rewrites, equates, class_of}
 use Rattle.kore_axioms.specs.RuleParts.{rule_parts, left_of, right_of}
-use Rattle.kore_axioms.specs.ReadableEquations.{IsReadable, condition_of_equation, all_read}
-use Rattle.kore_axioms.specs.AxiomMeanings.{IsRuleOf, IsEquationOf, IsUnreadable}
+use Rattle.kore_axioms.specs.AxiomMeanings.{IsRuleOf}
+use Rattle.kore_equations.specs.EquationMeanings.{IsEquationOf, IsUnreadable}
 
 -- the hook of this name, with its number, is one that the declaration fits
 abbrev pub HasFittingHook : Signature → SymInfo → List ℕ → ℕ → Type 0

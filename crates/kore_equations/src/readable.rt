@@ -14,15 +14,13 @@ ghost use Rattle.kore_axioms.specs.Uses.{have_symbol as have_one};
 ghost use Rattle.kore_axioms.specs.UsedSymbols.{is_used};
 ghost use Rattle.kore_axioms.specs.Conditions.{tested as the_tested};
 ghost use Rattle.kore_axioms.specs.RuleForms.{holds_of};
-ghost use Rattle.kore_axioms.specs.ReadableEquations.{condition_of_equation as the_condition};
-ghost use Rattle.kore_axioms.specs.ReadableEquations.{is_sort_over as is_a_sort_over, is_one_sort as are_one_sort};
-ghost use Rattle.kore_axioms.specs.ReadableEquations.{fits_function as does_fit, has_other_form as has_another_form};
-ghost use Rattle.kore_axioms.specs.ReadableEquations.{has_good_form as is_of_good_form};
+ghost use Rattle.kore_equations.specs.ReadableEquations.{condition_of_equation as the_condition};
+ghost use Rattle.kore_equations.specs.ReadableEquations.{is_sort_over as is_a_sort_over, is_one_sort as are_one_sort};
+ghost use Rattle.kore_equations.specs.ReadableEquations.{fits_function as does_fit, has_other_form as has_another_form};
+ghost use Rattle.kore_equations.specs.ReadableEquations.{has_good_form as is_of_good_form};
 
-use crate::parts::{is_ill, over_bool, tested};
-use crate::priorities::has_bad_priority;
-use crate::uses::{Symbols, has_symbol};
 use kore_ast::{AxiomDecl, Pat, Sort, SortForm, Text};
+use kore_axioms::{Symbols, has_bad_priority, has_symbol, is_ill, over_bool, tested};
 use kore_shapes::{
     Condition, EquationParts, SoughtForms, Statement, given_condition, has_binder, has_form,
 };
