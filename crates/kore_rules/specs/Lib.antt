@@ -3,5 +3,7 @@ pub mod GroundTerms
 pub mod FirstRefusal
 pub mod Programs
 pub mod Acceptance
+pub mod Names
+pub mod RefusedTexts
 -- Private: what clauses of private functions cite, and how private fields are seen.
 pub mod GroundNotes

@@ -1,4 +1,8 @@
 // Acceptance: from the bytes of a definition to a program, or its one first refusal.
 #![tactic(auto)]
 
+mod acceptance;
 mod ground;
+
+pub use acceptance::{accept, accept_term};
+pub use kore_axioms::Refusal;
