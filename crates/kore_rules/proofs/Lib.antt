@@ -8,3 +8,4 @@ pub mod DeclaredKinds
 pub mod WellSortedPrograms
 pub mod AcceptedTerms
 pub mod ProgramNames
+pub mod SignatureFacts
