@@ -9,3 +9,4 @@ pub mod WellSortedPrograms
 pub mod AcceptedTerms
 pub mod ProgramNames
 pub mod SignatureFacts
+pub mod AcceptedPrograms
