@@ -1,6 +1,6 @@
 -- The images of rules without variables and conditions, and of what is built of constructors and domain values.
-use Rattle.std.proofs.Common.{◌≡◌, ◌≤◌, ◌<◌, ◌^◌, ℕ, Bool, true, false, List, [], ◌∷◌, ◌++◌, Option, Some, None, length, map, zero, suc, slice_get, inl, inr, refl, sym, ap, ◌∙◌, subst, arith}
-use Rattle.std.specs.Prelude.{option_map, Contains, ◌&&◌, get_or}
+use Rattle.std.proofs.Common.{◌≡◌, ◌≤◌, ◌^◌, ℕ, true, false, List, [], ◌∷◌, ◌++◌, Option, Some, None, length, zero, suc, slice_get, inl, inr, refl, sym, ap, ◌∙◌, subst, arith}
+use Rattle.std.specs.Prelude.{option_map, Contains, ◌&&◌}
 use Rattle.std.specs.List.{list_all}
 use Rattle.std.proofs.lemmas.Option.{get_or_from_slice_get, slice_get_within}
 use Rattle.mm_text.specs.Bytes.{Token}
@@ -8,7 +8,6 @@ use Rattle.ml_pat.specs.Patterns.{Pattern, top, imp, and, next}
 use Rattle.ml_pat.specs.Leaves.{EachLeaf}
 use Rattle.ml_pat.proofs.LeafLaws.{split_true}
 use Rattle.term_core.specs.Patterns.{Pattern as RulePattern, Patterns as RulePatterns, variable, domain_value, application, injection, call, no_pattern, more_patterns}
-use Rattle.term_core.specs.RulePatterns.{plain_pattern}
 use Rattle.rule_core.specs.Rules.{RewriteRule}
 use Rattle.rule_core.specs.Theories.{RewriteTheory}
 use Rattle.rule_core.specs.Matching.{StandsIn, StandsInSome}
@@ -18,7 +17,7 @@ use Rattle.rule_core.specs.declared.signature.Signature.{Signature}
 use Rattle.rule_core.specs.declared.rules.Rule.{Rule}
 use Rattle.rule_core.specs.declared.rules.Program.{Program}
 use Rattle.ml_image.specs.Images.{both, image_of}
-use Rattle.ml_image.specs.HasImages.{HasImage, HaveImages, HasRuleImage}
+use Rattle.ml_image.specs.HasImages.{HasImage, HaveImages}
 use Rattle.ml_image.specs.OwnAxioms.{SaysRule, condition_of, rule_sentence, of_rule}
 use Rattle.ml_image.specs.Sentences.{Sentence, sentence_image, IsImageOf}
 use Rattle.ml_image.specs.Sentences as says

@@ -1,5 +1,5 @@
 -- The tokens of a program with plain names are names.
-use Rattle.std.proofs.Common.{◌≡◌, ℕ, ◌<◌, ◌≤◌, ◌/◌, ◌%◌, Bool, true, List, [], ◌∷◌, ◌++◌, Some, None, Option, refl, sym, inl, inr, drop, zero, suc, arith}
+use Rattle.std.proofs.Common.{◌≡◌, ℕ, ◌<◌, ◌≤◌, ◌/◌, ◌%◌, Bool, true, List, [], ◌∷◌, ◌++◌, Some, None, Option, refl, sym, drop, zero, suc, arith}
 use Rattle.std.specs.Prelude.{codes, option_map, nat_le, ◌&&◌}
 use Rattle.std.specs.Char.{digit_char}
 use Rattle.std.specs.List.{list_all}

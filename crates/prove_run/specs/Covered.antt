@@ -1,6 +1,6 @@
 -- The programs and initial terms whose runs are proved as yet: rules and terms are built of constructors and domain
 -- values alone.
-use Rattle.std.specs.Prelude.{ℕ, Bool, true, false, ◌&&◌, List, [], ◌∷◌, Option, Some, None}
+use Rattle.std.specs.Prelude.{Bool, true, false, ◌&&◌, List, [], ◌∷◌, Option, Some, None}
 use Rattle.std.specs.List.{list_all}
 use Rattle.term_core.specs.Patterns.{Pattern, Patterns, variable, domain_value, application, injection, call}
 use Rattle.term_core.specs.Patterns.{no_pattern, more_patterns}

@@ -13,7 +13,6 @@ use Rattle.rule_core.specs.WellSorted.{IsWellSorted}
 use Rattle.rule_core.specs.ProgramView.{rewrite_rules, theory_of}
 use Rattle.std.specs.List.{list_all}
 use Rattle.prove_run.specs.Covered.{is_covered_rule}
-use Rattle.prove_run.specs.GroundRules.{AreGroundAt, HasImageAt}
 use Rattle.prove_run.proofs.GroundLaws.{image_is_closed, has_image_at, are_ground_at}
 use Rattle.prove_run.specs.PlainNames.{HasPlainNames}
 use Rattle.prove_run.specs.RunProof.{RunProof}
