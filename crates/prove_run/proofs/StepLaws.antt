@@ -11,10 +11,10 @@ use Rattle.ml_derived.specs.Derived.{reaching}
 use Rattle.ml_derived.specs.Implications.{IsOneStepOn, ReachesOneFurther, IsStepOf, IsFreed}
 use Rattle.term_core.specs.Patterns.{Pattern as RulePattern}
 use Rattle.term_core.specs.RulePatterns.{plain_pattern}
-use Rattle.ground_rules.specs.declared.rules.Rule.{Rule}
-use Rattle.ground_rules.specs.declared.rules.Program.{Program}
-use Rattle.ground_rules.specs.ProgramView.{rewrite_rule}
-use Rattle.ground_image.specs.Images.{image_of}
+use Rattle.rule_core.specs.declared.rules.Rule.{Rule}
+use Rattle.rule_core.specs.declared.rules.Program.{Program}
+use Rattle.rule_core.specs.ProgramView.{rewrite_rule}
+use Rattle.ml_image.specs.Images.{image_of}
 use Rattle.mm_claims.specs.Keeping.{axiom_at}
 use Rattle.mm_claims.specs.OverNames.{over_names}
 use Rattle.ml_pat.specs.Leaves.{EachLeaf}
@@ -22,10 +22,10 @@ use Rattle.ml_kernel.specs.UsedLeaves.{EachUsed}
 use Rattle.ml_kernel.specs.MayCite.{EachCited}
 use Rattle.mm_claims.specs.Places.{IsStated, MayProve, stated_cites}
 use Rattle.mm_claims.specs.Blocks.{Claim}
-use Rattle.ground_justify.specs.NoVariables.{HasNoVariable}
+use Rattle.prove_run.specs.NoVariables.{HasNoVariable}
 use Rattle.mm_claims.proofs.ClosedPatterns.{closed_has_no_meta, closed_is_over}
 use Rattle.mm_claims.proofs.LaterLaws.{stated_stays}
-use Rattle.ground_justify.proofs.ImageLeaves.{image_is_closed}
+use Rattle.prove_run.proofs.GroundLaws.{image_is_closed}
 use Rattle.prove_run.specs.declared.script.Script.{Script}
 use Rattle.prove_run.specs.Scripts.{HasStated, IsSound, IsDeclared, Continues}
 use Rattle.prove_run.specs.ProofView.{HasReached}
