@@ -5,4 +5,5 @@ pub mod FileProofs
 pub mod Verifying
 pub mod Completing
 pub mod Answering
-pub mod Reading
+pub mod Performing
+pub mod PlainNames

@@ -6,7 +6,5 @@
 
 mod end_line;
 mod lines;
-#[cfg(test)]
-mod tests;
 
 pub use lines::run_lines;

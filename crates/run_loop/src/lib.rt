@@ -6,8 +6,6 @@
 #![tactic(auto)]
 
 mod ends;
-#[cfg(test)]
-mod tests;
 mod whole;
 
 pub use ends::RunEnd;
