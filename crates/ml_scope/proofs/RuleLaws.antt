@@ -1,11 +1,10 @@
 -- A rule stays within a scope that has what stands for its variables, what it concludes, and the theorems from which
 -- it concludes.
-use Rattle.std.proofs.Common.{◌≡◌, List, [], ◌∷◌, ◌++◌, sym, subst, inl, inr, arith}
+use Rattle.std.proofs.Common.{List, [], ◌∷◌, sym, subst, inl, inr, arith}
 use Rattle.std.specs.Prelude.{Contains, Result, Ok, Err, IfOk, ◌⊎◌}
 use Rattle.ml_pat.specs.Patterns.{Pattern}
-use Rattle.ml_pat.specs.Leaves.{EachLeaf}
 use Rattle.ml_kernel.specs.Rules.{Instance}
-use Rattle.ml_kernel.specs.Theorems.{Theorem, Derivation, Derivations, AddsNew, all_hypotheses, all_derivations, by_rule, cited, IsByRule, IsByLemma}
+use Rattle.ml_kernel.specs.Theorems.{Theorem, all_hypotheses, all_derivations, IsByRule, IsByLemma}
 use Rattle.ml_kernel.specs.UsedLeaves.{EachInstance, EachUsed, AllUsed}
 use Rattle.ml_kernel.specs.MayCite.{EachCited, AllCited}
 use Rattle.ml_kernel.specs.declared.rules.Rule.{Rule}

@@ -5,4 +5,6 @@
 
 mod rules;
 
-pub use rules::{and_1, and_2, and_3, eq_el, eq_refl, ev_1, ev_2, ev_kt, fun_ex, inst, mp, next_in, p_1, p_2, p_3, top};
+pub use rules::{
+    and_3, eq_el, eq_refl, ev_1, ev_2, ev_kt, fun_ex, inst, mp, next_in, p_1, p_2, top,
+};

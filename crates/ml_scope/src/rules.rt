@@ -24,14 +24,6 @@ pub fn p_2(alloc: Global, p: &MPat, q: &MPat, r: &MPat) -> Result<Thm, AllocErro
     Thm::p_2(alloc, p, q, r)
 }
 
-/// `((p -> bot) -> bot) -> p`.
-pub fn p_3(alloc: Global, p: &MPat) -> Result<Thm, AllocError>
-    ensures conclusion { IfOk result (λ t. t.conclusion ≡ imp (imp (imp p.now bot) bot) p.now) }
-    ensures stays { IfOk result (StaysWithin (p.now ∷ []) ([])) }
-{
-    Thm::p_3(alloc, p)
-}
-
 /// q, from p and `p -> q`.
 pub fn mp(alloc: Global, a: &Thm, b: &Thm, p: &MPat, q: &MPat) -> Result<Thm, AllocError>
     requires a { a.now.conclusion ≡ p.now }
@@ -40,22 +32,6 @@ pub fn mp(alloc: Global, a: &Thm, b: &Thm, p: &MPat, q: &MPat) -> Result<Thm, Al
     ensures stays { IfOk result (StaysWithin ([]) (a.now ∷ b.now ∷ [])) }
 {
     Thm::mp(alloc, a, b, p, q)
-}
-
-/// `p & q -> p`.
-pub fn and_1(alloc: Global, p: &MPat, q: &MPat) -> Result<Thm, AllocError>
-    ensures conclusion { IfOk result (λ t. t.conclusion ≡ imp (and p.now q.now) p.now) }
-    ensures stays { IfOk result (StaysWithin (p.now ∷ q.now ∷ []) ([])) }
-{
-    Thm::and_1(alloc, p, q)
-}
-
-/// `p & q -> q`.
-pub fn and_2(alloc: Global, p: &MPat, q: &MPat) -> Result<Thm, AllocError>
-    ensures conclusion { IfOk result (λ t. t.conclusion ≡ imp (and p.now q.now) q.now) }
-    ensures stays { IfOk result (StaysWithin (p.now ∷ q.now ∷ []) ([])) }
-{
-    Thm::and_2(alloc, p, q)
 }
 
 /// `p -> q -> p & q`.

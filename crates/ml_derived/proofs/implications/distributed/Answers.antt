@@ -1,4 +1,3 @@
-use Rattle.std.proofs.Common.{◌≡◌, sym}
 use Rattle.ml_pat.specs.Patterns.{imp}
 use Rattle.ml_scope.specs.Scopes.{IsOver}
 use Rattle.ml_derived.proofs.StayingLaws.{if_ok, concluded}

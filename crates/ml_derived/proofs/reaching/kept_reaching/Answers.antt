@@ -1,4 +1,4 @@
-use Rattle.std.proofs.Common.{◌≡◌, subst}
+use Rattle.std.proofs.Common.{subst}
 use Rattle.ml_pat.specs.Patterns.{imp, ev}
 use Rattle.ml_scope.specs.Scopes.{IsOver}
 use Rattle.ml_derived.proofs.StayingLaws.{if_ok, concluded}

@@ -1,4 +1,4 @@
-use Rattle.std.proofs.Common.{◌≡◌, subst}
+use Rattle.std.proofs.Common.{subst}
 use Rattle.ml_pat.specs.Patterns.{imp, next}
 use Rattle.ml_scope.specs.Scopes.{IsOver}
 use Rattle.ml_derived.proofs.StayingLaws.{if_ok, concluded}
@@ -11,9 +11,14 @@ returns-clause-stays c =
     let whole : IsOver s (imp c.args.b.now c.args.made.now) =
     concluded s c.args.step.now (imp c.args.b.now c.args.made.now) ht.0 c.requires.step in
     let made : IsOver s (next c.args.c.now) = subst (IsOver s) c.requires.made whole.1 in
-    stays s tt
-    (ht.0,
-    (c.in_ok-on.ensures.stays s tt
-    (c.in_ok-moved.ensures.stays s tt (c.in_ok-here.ensures.stays s (made, tt) tt, tt),
-    (c.in_ok-closing.ensures.stays s (made, tt) tt, tt)), tt)))
+    stays s tt (
+      ht.0,
+      (
+        c.in_ok-on.ensures.stays s tt (
+          c.in_ok-moved.ensures.stays s tt (c.in_ok-here.ensures.stays s (made, tt) tt, tt),
+          (c.in_ok-closing.ensures.stays s (made, tt) tt, tt),
+        ),
+        tt,
+      ),
+    ))
     c.chained-2.ensures.stays

@@ -1,6 +1,6 @@
-use Rattle.std.proofs.Common.{◌≡◌, [], ◌∷◌, subst}
+use Rattle.std.proofs.Common.{[], ◌∷◌}
 use Rattle.ml_pat.specs.Patterns.{imp, equal, var}
-use Rattle.ml_kernel.specs.Rules.{pattern, variable, sort}
+use Rattle.ml_kernel.specs.Rules.{pattern, variable}
 use Rattle.ml_kernel.specs.declared.rules.Rule.TheVariants as rule
 use Rattle.ml_scope.proofs.RuleLaws.{rule_stays}
 use Rattle.ml_scope.proofs.rules.eq_el.Goals as goal

@@ -1,8 +1,7 @@
-use Rattle.std.proofs.Common.{◌≡◌, [], ◌∷◌, subst}
-use Rattle.ml_pat.specs.Patterns.{bot, top, imp, and, equal, next, ev}
+use Rattle.std.proofs.Common.{[], ◌∷◌}
+use Rattle.ml_pat.specs.Patterns.{imp, ev}
 use Rattle.ml_kernel.specs.Rules.{pattern}
 use Rattle.ml_kernel.specs.declared.rules.Rule.TheVariants as rule
-use Rattle.ml_scope.specs.Scopes.{IsOver}
 use Rattle.ml_scope.proofs.RuleLaws.{rule_stays}
 use Rattle.ml_scope.proofs.rules.ev_1.Goals as goal
 

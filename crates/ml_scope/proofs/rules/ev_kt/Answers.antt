@@ -1,5 +1,5 @@
-use Rattle.std.proofs.Common.{◌≡◌, [], ◌∷◌, subst}
-use Rattle.ml_pat.specs.Patterns.{bot, top, imp, and, equal, next, ev}
+use Rattle.std.proofs.Common.{[], ◌∷◌, subst}
+use Rattle.ml_pat.specs.Patterns.{imp, ev}
 use Rattle.ml_kernel.specs.Rules.{pattern}
 use Rattle.ml_kernel.specs.declared.rules.Rule.TheVariants as rule
 use Rattle.ml_scope.specs.Scopes.{IsOver}

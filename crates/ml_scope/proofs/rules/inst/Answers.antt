@@ -1,4 +1,4 @@
-use Rattle.std.proofs.Common.{◌≡◌, [], ◌∷◌, subst}
+use Rattle.std.proofs.Common.{[], ◌∷◌}
 use Rattle.ml_pat.specs.Patterns.{imp, all, fun}
 use Rattle.ml_kernel.specs.Rules.{pattern, variable, sort}
 use Rattle.ml_kernel.specs.declared.rules.Rule.TheVariants as rule
