@@ -57,17 +57,41 @@ pub reach_step-requires : goal.reach_step-requires
 reach_step-requires c =
     let p = c.self.inside in
     let at = stands_at_rule p c.args.self c.args.rule c.self.view_is c.self.invariant c.requires.applies in
-    linked p.script p.last c.rule.new.self (plain_pattern p.start.now) at.rule c.args.rule c.in_ok-no.no.0 c.in_ok-sofar.sofar c.in_ok-image.image c.in_ok-made.made at.reached
-    c.in_ok-no.ensures.continues c.in_ok-no.ensures.stated at.there c.in_ok-image.ensures.conclusion c.in_ok-made.ensures.freed c.in_ok-sofar.ensures.conclusion
+    linked p.script c.rule.new.self p.last (plain_pattern p.start.now) at.rule c.args.rule c.in_ok-no.no.0 c.in_ok-sofar.sofar
+    c.in_ok-image.image c.in_ok-made.made
+    (record {
+      reached = at.reached;
+      on = c.in_ok-no.ensures.continues;
+      stated = c.in_ok-no.ensures.stated;
+      there = at.there;
+      found = c.in_ok-image.ensures.conclusion;
+      freed = c.in_ok-made.ensures.conclusion;
+      is = c.in_ok-sofar.ensures.conclusion;
+    })
 
 pub state-requires-clause-proved : goal.state-requires-clause-proved
 state-requires-clause-proved c =
     let p = c.self.inside in
     let at = stands_at_rule p c.args.self c.args.rule c.self.view_is c.self.invariant c.requires.applies in
-    may_step p.script p.last c.rule.new.self (plain_pattern p.start.now) at.rule c.args.rule c.in_ok-no.no.0 c.in_ok-sofar.sofar c.in_ok-image.image c.in_ok-made.made c.in_ok-further.further at.reached
-    c.in_ok-no.ensures.continues c.in_ok-no.ensures.stated at.there (are_ground_at p.script.program.now c.args.rule (subst (λ (v : RunProof). list_all is_covered_rule (rewrite_rules v.program.rules.items) ≡ true) (sym c.self.view_is) c.requires.covered) at.rule at.there).1 c.in_ok-no.ensures.sound c.in_ok-no.ensures.declared
-    c.in_ok-image.ensures.conclusion c.in_ok-image.ensures.hypotheses c.in_ok-image.ensures.derivation c.in_ok-made.ensures.freed c.in_ok-made.ensures.rests
-    c.in_ok-sofar.ensures.conclusion c.in_ok-sofar.ensures.lemma c.in_ok-further.ensures.conclusion c.in_ok-further.ensures.derivation c.in_ok-further.ensures.rests
+    may_step p.script c.rule.new.self p.last (plain_pattern p.start.now) at.rule c.args.rule c.in_ok-no.no.0 c.in_ok-sofar.sofar
+    c.in_ok-image.image c.in_ok-made.made c.in_ok-further.further (record {
+      making = record {
+        reached = at.reached;
+        on = c.in_ok-no.ensures.continues;
+        stated = c.in_ok-no.ensures.stated;
+        there = at.there;
+        found = c.in_ok-image.ensures.conclusion;
+        freed = c.in_ok-made.ensures.conclusion;
+        is = c.in_ok-sofar.ensures.conclusion;
+      };
+      right_ground = (are_ground_at p.script.program.now c.args.rule (subst (λ (v : RunProof). list_all is_covered_rule (rewrite_rules v.program.rules.items) ≡ true) (sym c.self.view_is) c.requires.covered) at.rule at.there).1;
+      none = c.in_ok-image.ensures.hypotheses;
+      by_axiom = c.in_ok-image.ensures.derivation;
+      by_lemma = c.in_ok-sofar.ensures.lemma;
+      made_stays = c.in_ok-made.ensures.stays;
+      reaches = c.in_ok-further.ensures.conclusion;
+      stays = c.in_ok-further.ensures.stays;
+    }) c.in_ok-no.ensures.sound c.in_ok-no.ensures.declared
 
 pub invariant_of-result : goal.invariant_of-result
 invariant_of-result c =
@@ -79,9 +103,25 @@ invariant_of-result c =
     let is_rule : at.rule ≡ c.index.result.now = rule_found p.script.program.now.rules.items c.args.rule at.rule c.index.result.now at.there (sym c.index.ensures) in
     let right : plain_pattern at.rule.right ≡ plain_pattern c.index.result.now.right = ap (λ (r : Rule). plain_pattern r.right) is_rule in
     let right_ground = (are_ground_at p.script.program.now c.args.rule (subst (λ (v : RunProof). list_all is_covered_rule (rewrite_rules v.program.rules.items) ≡ true) (sym c.self.view_is) c.requires.covered) at.rule at.there).1 in
-    let step = step_of p.script p.last new start at.rule c.args.rule c.in_ok-no.no.0 c.in_ok-sofar.sofar c.in_ok-image.image c.in_ok-made.made c.in_ok-further.further at.reached
-    c.in_ok-no.ensures.continues c.in_ok-no.ensures.stated at.there c.in_ok-image.ensures.conclusion c.in_ok-image.ensures.hypotheses c.in_ok-made.ensures.freed c.in_ok-made.ensures.rests
-    c.in_ok-sofar.ensures.conclusion c.in_ok-sofar.ensures.lemma.kept_hypotheses c.in_ok-further.ensures.conclusion c.in_ok-further.ensures.rests in
+    let step = step_of p.script new p.last start at.rule c.args.rule c.in_ok-no.no.0 c.in_ok-sofar.sofar c.in_ok-image.image
+    c.in_ok-made.made c.in_ok-further.further (record {
+      making = record {
+        reached = at.reached;
+        on = c.in_ok-no.ensures.continues;
+        stated = c.in_ok-no.ensures.stated;
+        there = at.there;
+        found = c.in_ok-image.ensures.conclusion;
+        freed = c.in_ok-made.ensures.conclusion;
+        is = c.in_ok-sofar.ensures.conclusion;
+      };
+      right_ground = right_ground;
+      none = c.in_ok-image.ensures.hypotheses;
+      by_axiom = c.in_ok-image.ensures.derivation;
+      by_lemma = c.in_ok-sofar.ensures.lemma;
+      made_stays = c.in_ok-made.ensures.stays;
+      reaches = c.in_ok-further.ensures.conclusion;
+      stays = c.in_ok-further.ensures.stays;
+    }) in
     let same : c.in_ok-last.last ≡ c.in_ok-further.further = c.in_ok-last.ensures.lemma in
     let from_image = image_later new last start at.reached.from c.in_ok-last.ensures.continues (image_later p.script new start at.reached.from c.in_ok-no.ensures.continues at.reached.from_image) in
     let to_image = image_later new last (plain_pattern at.rule.right) step.0 c.in_ok-last.ensures.continues step.1.right in
