@@ -1,1 +1,10 @@
 pub mod NotedSteps
+pub mod MeaningSorts
+pub mod KeptSorts
+pub mod RuleSorts
+pub mod EquationSorts
+pub mod RuleFirsts
+pub mod DeclaredKinds
+pub mod WellSortedPrograms
+pub mod AcceptedTerms
+pub mod ProgramNames
