@@ -1,1 +1,7 @@
 pub mod NotedSteps
+pub mod Places
+pub mod InTrialOrder
+pub mod AxiomSteps
+pub mod MeaningsAreOne
+pub mod MarkLaws
+pub mod ListedLaws

@@ -7,3 +7,7 @@ pub mod Names
 pub mod RefusedTexts
 -- Private: what clauses of private functions cite, and how private fields are seen.
 pub mod GroundNotes
+pub mod AxiomsRead
+pub mod ScalarSorts
+pub mod TrialOrder
+pub mod Starts
