@@ -5,3 +5,8 @@ pub mod AxiomSteps
 pub mod MeaningsAreOne
 pub mod MarkLaws
 pub mod ListedLaws
+pub mod ReadLaws
+pub mod AxiomReads
+pub mod FirstLaws
+pub mod KindLaws
+pub mod HookLaws

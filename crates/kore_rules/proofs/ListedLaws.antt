@@ -1,7 +1,8 @@
 -- The equations of each function, one list for each symbol.
 use Rattle.std.proofs.Common.{◌≡◌, ◌<◌, ◌≤◌, ℕ, zero, suc, ◌+◌, Bool, true, false, cond, List, [], ◌∷◌, ◌++◌, map, length, get_or, refl, sym, ap, ◌∙◌, subst, arith, eq-eqb}
 use Rattle.std.proofs.Math.ListN.{set}
-use Rattle.std.specs.Prelude.{Vec, ◌==◌}
+use Rattle.std.specs.Prelude.{Vec, ◌==◌, ◌&&◌}
+use Rattle.std.proofs.lemmas.List.{append-nil}
 use Rattle.std.specs.Global.{Global}
 use Rattle.std.proofs.lemmas.Bool.{eqb-true, false≢true}
 use Rattle.rule_core.specs.declared.rules.Equation.{Equation}
@@ -39,3 +40,14 @@ listed_set lists k old new e lt is grown n = by_case (k == n) refl where
       rw same (subst (λ (m : ℕ). listed_at (set lists k new) m ≡ listed_at lists m ++ e ∷ []) there
       (same_at lists k new lt ∙ grown ∙ ap (λ es. es ++ e ∷ []) (ap (λ (v : Vec Equation Global). v.items) is ∙ entry_at lists k old lt)))
   by_case false same = rw same (other_at lists k n new (λ e. false≢true (sym same ∙ eq-eqb k n e)))
+
+-- an equation of a function that has the values of its equations, or of another one
+pub placed : {X : Type 0} (here has : Bool) (old : List X) (e : X) → has ≡ true → cond here (old ++ e ∷ []) old ≡ old ++ cond (here && has) (e ∷ []) []
+placed true true old e is = refl
+placed false has old e is = sym (append-nil old)
+placed true false old e is = absurd (false≢true is)
+
+pub not_placed : {X : Type 0} (here has : Bool) (old : List X) (e : X) → has ≡ false → old ≡ old ++ cond (here && has) (e ∷ []) []
+not_placed true false old e is = sym (append-nil old)
+not_placed false has old e is = sym (append-nil old)
+not_placed true true old e is = absurd (false≢true (sym is))

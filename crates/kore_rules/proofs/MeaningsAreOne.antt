@@ -48,13 +48,22 @@ test_means_one sig vars (Some b) (Some p) (Some q) m n = ap Some (means_one sig 
 rewrites_one : (v w : Rewriting) → rewrites v ≡ rewrites w → v ≡ w
 rewrites_one v w e = cc
 
-equates_one : (v w : Statement) → equates v ≡ equates w → v ≡ w
+pub equates_one : (v w : Statement) → equates v ≡ equates w → v ≡ w
 equates_one v w e = cc
 
 -- ---- rules
 
+abbrev rule_with : Pattern → Option Pattern → Pattern → List ℕ → ℕ → ℕ → RewriteRule
+rule_with l o r vs n p = record { left = l; condition = o; right = r; variables = vs; priority = n; place = p }
+
 same_rule : (x y : RewriteRule) → x.left ≡ y.left → x.condition ≡ y.condition → x.right ≡ y.right → x.variables ≡ y.variables → x.priority ≡ y.priority → x.place ≡ y.place → x ≡ y
-same_rule x y a b c d e f = cc
+same_rule x y a b c d e f =
+    ap (λ (l : Pattern). rule_with l x.condition x.right x.variables x.priority x.place) a
+    ∙ ap (λ (o : Option Pattern). rule_with y.left o x.right x.variables x.priority x.place) b
+    ∙ ap (λ (r : Pattern). rule_with y.left y.condition r x.variables x.priority x.place) c
+    ∙ ap (λ (vs : List ℕ). rule_with y.left y.condition y.right vs x.priority x.place) d
+    ∙ ap (λ (n : ℕ). rule_with y.left y.condition y.right y.variables n x.place) e
+    ∙ ap (λ (n : ℕ). rule_with y.left y.condition y.right y.variables y.priority n) f
 
 pub rule_one : (sig : Signature) (a : AxiomDeclaration) (x y : RewriteRule) → IsRuleOf sig a x → IsRuleOf sig a y → x ≡ y
 rule_one sig a x y r s =
@@ -76,8 +85,26 @@ rule_one sig a x y r s =
 
 -- ---- equations
 
+abbrev equation_with : ℕ → Patterns → Option Pattern → Pattern → List ℕ → ℕ → ℕ → Equation
+equation_with m ps o r vs n p = record {
+  parameters = m;
+  arguments = ps;
+  condition = o;
+  right = r;
+  variables = vs;
+  priority = n;
+  place = p;
+}
+
 same_equation : (x y : Equation) → x.parameters ≡ y.parameters → x.arguments ≡ y.arguments → x.condition ≡ y.condition → x.right ≡ y.right → x.variables ≡ y.variables → x.priority ≡ y.priority → x.place ≡ y.place → x ≡ y
-same_equation x y a b c d e f g = cc
+same_equation x y a b c d e f g =
+    ap (λ (n : ℕ). equation_with n x.arguments x.condition x.right x.variables x.priority x.place) a
+    ∙ ap (λ (ps : Patterns). equation_with y.parameters ps x.condition x.right x.variables x.priority x.place) b
+    ∙ ap (λ (o : Option Pattern). equation_with y.parameters y.arguments o x.right x.variables x.priority x.place) c
+    ∙ ap (λ (r : Pattern). equation_with y.parameters y.arguments y.condition r x.variables x.priority x.place) d
+    ∙ ap (λ (vs : List ℕ). equation_with y.parameters y.arguments y.condition y.right vs x.priority x.place) e
+    ∙ ap (λ (n : ℕ). equation_with y.parameters y.arguments y.condition y.right y.variables n x.place) f
+    ∙ ap (λ (n : ℕ). equation_with y.parameters y.arguments y.condition y.right y.variables y.priority n) g
 
 pub equation_one : (sig : Signature) (f : List ℕ) (a : AxiomDeclaration) (x y : Equation) → IsEquationOf sig f a x → IsEquationOf sig f a y → x ≡ y
 equation_one sig f a x y r s =

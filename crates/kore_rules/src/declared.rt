@@ -1,9 +1,10 @@
 // What the declarations of a definition give: its signature, and its axioms in the order of the file.
-ghost use Rattle.std.specs.Prelude.{◌≡◌, map, None, Some, IfOk, OnOk, IfErr};
+ghost use Rattle.std.specs.Prelude.{◌≡◌, ◌++◌, [], map, None, Some, IfOk, OnOk, IfErr};
 ghost use Rattle.kore_text.specs.Trees.{DefinitionTree};
-ghost use Rattle.kore_ast.specs.Plain.{plain_definition};
+ghost use Rattle.std.specs.List.{cons_option};
+ghost use Rattle.kore_ast.specs.Plain.{plain_definition, plain_declaration};
 ghost use Rattle.rule_core.specs.WellSorted.{IsSignature};
-ghost use Rattle.kore_sig.specs.Declarations.{axioms_of as the_axioms};
+ghost use Rattle.kore_sig.specs.Declarations.{axioms_of as the_axioms, axiom_declared};
 ghost use Rattle.kore_sig.specs.Refusals.{IsRefusal};
 ghost use Rattle.kore_sig.specs.SignatureFaults.{FirstOfSignature};
 ghost use Rattle.kore_sig.specs.Signatures.{IsSignatureOf, IsNumbered};
@@ -56,9 +57,21 @@ pub(crate) fn axioms_of(
     let decls = counted_declarations(alloc, definition)?;
     let mut axioms = Vec::new(alloc);
     for decl in &decls {
-        if let Decl::Axiom(axiom) = *decl {
-            axioms.push(axiom)?;
-        }
+        add_axiom(decl, &mut axioms)?;
     }
     Ok(axioms)
+}
+
+/// Adds a declaration, where it is an axiom.
+fn add_axiom<'a>(decl: &'a Decl, axioms: &mut Vec<&'a AxiomDecl>) -> Result<(), AllocError>
+    ensures { OnOk result (map tree_at axioms.new.items
+        ≡ map tree_at axioms.old.items ++ cons_option (axiom_declared (plain_declaration decl.now)) []) }
+{
+    match decl {
+        Decl::Axiom(axiom) => {
+            axioms.push(axiom)?;
+        }
+        _ => {}
+    }
+    Ok(())
 }

@@ -41,11 +41,26 @@ pub(crate) fn by_function(
 {
     let mut lists = empty_lists(alloc, symbols.len())?;
     for equation in equations {
-        if has_equations(symbols, equation.fun.0 as usize) {
-            add(&mut lists, equation)?;
-        }
+        place(symbols, equation, &mut lists)?;
     }
     Ok(lists)
+}
+
+/// Adds an equation to the list of its function, where that has the values of its equations.
+fn place(
+    symbols: &Table<SymInfo>,
+    equation: Equation,
+    lists: &mut Vec<Vec<Equation>>,
+) -> Result<(), AllocError>
+    requires { equation.fun.0 < length lists.old.items }
+    ensures len { OnOk result (length lists.new.items ≡ length lists.old.items) }
+    ensures listed { OnOk result ((n : ℕ) → listed_at lists.new.items n
+        ≡ listed_at lists.old.items n ++ filter (belongs_to symbols.now n) (equation ∷ [])) }
+{
+    if has_equations(symbols, equation.fun.0 as usize) {
+        add(equation, lists)?;
+    }
+    Ok(())
 }
 
 /// Whether the function with this number has the values of its equations.
@@ -71,9 +86,9 @@ fn empty_lists(alloc: Global, len: usize) -> Result<Vec<Vec<Equation>>, AllocErr
 }
 
 /// Adds an equation to the list of its function.
-fn add(lists: &mut Vec<Vec<Equation>>, equation: Equation) -> Result<(), AllocError>
+fn add(equation: Equation, lists: &mut Vec<Vec<Equation>>) -> Result<(), AllocError>
     requires { equation.fun.0 < length lists.old.items }
-    ensures len { length lists.new.items ≡ length lists.old.items }
+    ensures len { OnOk result (length lists.new.items ≡ length lists.old.items) }
     ensures listed { OnOk result ((n : ℕ) → listed_at lists.new.items n
         ≡ (if equation.fun.0 == n then listed_at lists.old.items n ++ equation ∷ []
         else listed_at lists.old.items n)) }

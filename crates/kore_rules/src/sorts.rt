@@ -39,9 +39,10 @@ fn mark_results(sig: &Signature, marks: &mut Vec<bool>)
         ≡ (is_marked marks.old.items n || list_any (entry_makes n) sig.now.symbols) }
 {
     for number in 0..sig.symbols.len() {
-        if let Some(symbol) = sig.symbols.value(number) {
-            mark_result(symbol, marks);
-        }
+        let Some(symbol) = sig.symbols.value(number) else {
+            unreachable!()
+        };
+        mark_result(symbol, marks);
     }
 }
 
