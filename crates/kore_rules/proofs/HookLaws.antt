@@ -1,6 +1,7 @@
 -- Hooks by name, and the kinds of functions.
 use Rattle.std.proofs.Common.{◌≡◌, ◌<◌, ℕ, ◌+◌, Bool, true, false, List, [], map, length, get_or, Contains, Option, Some, None, refl, sym, ap, ◌∙◌, subst, arith}
 use Rattle.std.specs.Prelude.{◌↔◌, IsTrue, String, slice_get, option_map, string_bytes, is_none}
+use Rattle.std.specs.Global.{Global}
 use Rattle.std.specs.List.{range_with_len}
 use Rattle.std.specs.Str.{bytes_eq}
 use Rattle.std.proofs.lemmas.Bool.{false≢true}
@@ -20,7 +21,7 @@ use Rattle.rule_core.specs.declared.signature.SymKind.TheVariants.{Injection, Ct
 use Rattle.kore_axioms.specs.AxiomClasses.{is_defined_kind}
 use Rattle.kore_equations.specs.EquationMeanings.{IsUnreadable}
 use Rattle.kore_rules.specs.Programs.{HasFittingHook, HasKind, as_declared, by_hook, without_hook, by_unreadable, by_equations}
-use Rattle.kore_rules.specs.ScalarSorts.{MarksTerms, fits_row, kind_in_row, kind_of_number, kind_by_hook, kind_of_function, final_kind}
+use Rattle.kore_rules.specs.ScalarSorts.{MarksTerms, fits_row, kind_in_row, kind_of_number, kind_by_hook, kind_of_function, final_kind, hook_row}
 use Rattle.kore_rules.proofs.KindLaws.{HasPairs, fits_true, fits_from}
 
 some_same : {A : Type 0} (x y : A) → Some x ≡ Some y → x ≡ y
@@ -61,7 +62,7 @@ no_such_hook sig info name none row (h, there, named, fits) =
 
 -- ---- kinds
 
-abbrev Unreadables : Signature → List AxiomDeclaration → List ℕ → Type 0
+abbrev pub Unreadables : Signature → List AxiomDeclaration → List ℕ → Type 0
 Unreadables sig axioms f = (a : AxiomDeclaration) × Contains axioms a × IsUnreadable sig f a
 
 by_fits : (sig : Signature) (axioms : List AxiomDeclaration) (marks : List Bool) → HasPairs sig axioms → MarksTerms sig axioms marks → (f : List ℕ) (info : SymInfo) (name : List ℕ) (n : ℕ) (h : Hook) (t : Bool)
@@ -76,16 +77,20 @@ by_fits sig axioms marks zip is f info name n h false function hooked there name
         let rows : row ≡ n = some_same row n same in
         false≢true (sym e ∙ fits_from sig axioms marks zip is info n h there (subst (λ (r : ℕ). FitsHook sig r info) rows other.3))))
 
+row_is : (n : ℕ) (h : Hook) → slice_get hooks n ≡ Some h → hook_row n ≡ Some (signature h)
+unfolding hook_row
+row_is n h there = slice_get-map signature hooks n ∙ ap (option_map signature) there
+
 by_number : (sig : Signature) (axioms : List AxiomDeclaration) (marks : List Bool) → HasPairs sig axioms → MarksTerms sig axioms marks → (f : List ℕ) (info : SymInfo) (name : List ℕ) (o : Option ℕ)
     → info.kind ≡ Equations → option_map string_bytes info.hook ≡ Some name → hook_number name ≡ o → HasKind sig axioms f info (kind_of_number sig marks info o)
 by_number sig axioms marks zip is f info name None function hooked e = without_hook function hooked (no_such_hook sig info name e)
 by_number sig axioms marks zip is f info name (Some n) function hooked e =
     let found = numbered_hook name n first_hook e in
-    let row : slice_get (map signature hooks) n ≡ Some (signature found.0) = slice_get-map signature hooks n ∙ ap (option_map signature) found.1 in
+    let row : hook_row n ≡ Some (signature found.0) = row_is n found.0 found.1 in
     subst (λ (o : Option hook.Signature). HasKind sig axioms f info (kind_in_row sig marks info n o)) (sym row)
     (by_fits sig axioms marks zip is f info name n found.0 (fits_row sig marks (signature found.0) info) function hooked found.1 found.2 refl)
 
-by_function : (sig : Signature) (axioms : List AxiomDeclaration) (marks : List Bool) → HasPairs sig axioms → MarksTerms sig axioms marks → (f : List ℕ) (info : SymInfo) (unreadable : Bool) (o : Option String)
+by_function : (sig : Signature) (axioms : List AxiomDeclaration) (marks : List Bool) → HasPairs sig axioms → MarksTerms sig axioms marks → (f : List ℕ) (info : SymInfo) (unreadable : Bool) (o : Option (String Global))
     → info.kind ≡ Equations → info.hook ≡ o → IsTrue unreadable ↔ Unreadables sig axioms f → HasKind sig axioms f info (kind_of_function sig marks info unreadable (option_map string_bytes o))
 by_function sig axioms marks zip is f info true None function none same =
     let some = same.0 refl in by_unreadable function none some.1 some.2
@@ -94,7 +99,7 @@ by_function sig axioms marks zip is f info false None function none same =
 by_function sig axioms marks zip is f info unreadable (Some s) function hooked same =
     by_number sig axioms marks zip is f info (string_bytes s) (hook_number (string_bytes s)) function (ap (option_map string_bytes) hooked) refl
 
-defined : (k : SymKind) → is_defined_kind k ≡ true → k ≡ Equations
+pub defined : (k : SymKind) → is_defined_kind k ≡ true → k ≡ Equations
 defined Injection e = absurd (false≢true e)
 defined Ctor e = absurd (false≢true e)
 defined Equations e = refl

@@ -10,3 +10,9 @@ pub mod AxiomReads
 pub mod FirstLaws
 pub mod KindLaws
 pub mod HookLaws
+pub mod GroundLaws
+pub mod StartLaws
+pub mod FinalLaws
+pub mod ProgramLaws
+pub mod AnswerLaws
+pub mod AcceptedLaws

@@ -11,3 +11,4 @@ pub mod AxiomsRead
 pub mod ScalarSorts
 pub mod TrialOrder
 pub mod Starts
+pub mod MadePrograms

@@ -5,7 +5,10 @@ use Rattle.std.specs.List.{list_any}
 use Rattle.std.specs.Option.{option_and_then}
 use Rattle.term_core.specs.HookValues.{Kind, integers, truths, hooks, signature}
 use Rattle.term_core.specs.HookValues as hook
+use Rattle.std.specs.Borrow.{Bor}
 use Rattle.hook_table.specs.Names.{hook_number}
+use Rattle.hook_table.specs.Rows.{plain_row}
+use Rattle.hook_table.specs.declared.table.HookRow.{HookRow}
 use Rattle.kore_text.specs.Trees.{SortTree, PatternTree, AxiomDeclaration}
 use Rattle.rule_core.specs.Named.{number_of}
 use Rattle.rule_core.specs.declared.signature.Signature.{Signature}
@@ -105,9 +108,16 @@ abbrev pub kind_in_row : Signature → List Bool → SymInfo → ℕ → Option 
 kind_in_row sig marks info n None = Closed
 kind_in_row sig marks info n (Some row) = if fits_row sig marks row info then Hooked (record { 0 = n }) else Closed
 
+abbrev pub row_at : Bor HookRow → hook.Signature
+row_at row = plain_row row.now
+
+-- what the table says of the hook with this number
+unfoldable pub hook_row : ℕ → Option hook.Signature
+hook_row n = slice_get (map signature hooks) n
+
 abbrev pub kind_of_number : Signature → List Bool → SymInfo → Option ℕ → SymKind
 kind_of_number sig marks info None = Closed
-kind_of_number sig marks info (Some n) = kind_in_row sig marks info n (slice_get (map signature hooks) n)
+kind_of_number sig marks info (Some n) = kind_in_row sig marks info n (hook_row n)
 
 -- .. by the name of its hook
 abbrev pub kind_by_hook : Signature → List Bool → SymInfo → List ℕ → SymKind

@@ -6,6 +6,7 @@ ghost use Rattle.std.specs.Prelude.{List};
 ghost use Rattle.kore_text.specs.Trees.{AxiomDeclaration};
 ghost use Rattle.kore_ast.specs.Plain.{plain_definition};
 ghost use Rattle.term_core.specs.RulePatterns.{plain_pattern};
+ghost use Rattle.rule_core.specs.Named.{names_of, AreDistinct};
 ghost use Rattle.rule_core.specs.ProgramView.{theory_of};
 ghost use Rattle.rule_core.specs.Theories.{equations_of};
 ghost use Rattle.rule_core.specs.WellSorted.{IsSignature, IsWellSorted, IsStart};
@@ -15,7 +16,8 @@ ghost use Rattle.kore_rules.specs.Acceptance.{IsAccepted, IsAcceptedTerm, IsRefu
 ghost use Rattle.kore_rules.specs.AxiomsRead.{HaveRead, IsFirstSort, AreFew, sort_at, tree_at};
 ghost use Rattle.kore_rules.specs.FirstRefusal.{FirstOfDefinition};
 ghost use Rattle.kore_rules.specs.Names.{HasIdentifierNames};
-ghost use Rattle.kore_rules.specs.Programs.{IsProgramOf, IsProgramUnder, IsTopOf};
+ghost use Rattle.kore_rules.specs.MadePrograms.{IsMadeOf};
+ghost use Rattle.kore_rules.specs.Programs.{IsProgramUnder, IsTopOf};
 ghost use Rattle.kore_rules.specs.RefusedTexts.{RefusesFor, top_of, sort_of, IsSortOfRules};
 
 use crate::axioms::{Readings, read_axioms};
@@ -59,9 +61,7 @@ pub fn accept(alloc: Global, bytes: &[u8]) -> Result<Program, Refusal>
 /// The program that a definition means, or the first fault of its declarations, or else of its axioms.
 fn program_of(alloc: Global, definition: &Definition) -> Result<Program, Refusal>
     requires { AreFew (the_axioms (plain_definition definition.now)) }
-    ensures faultless { OnOk result (FirstOfDefinition (plain_definition definition.now) None) }
-    ensures means { IfOk result (λ p. IsProgramOf (plain_definition definition.now) (theory_of p)) }
-    ensures top { IfOk result (λ p. IsTopOf p.sig (the_axioms (plain_definition definition.now)) (top_of p)) }
+    ensures made { IfOk result (λ p. IsMadeOf (plain_definition definition.now) (theory_of p) (top_of p)) }
     ensures numbered { IfOk result (λ p. IsNumbered p.sig) }
     ensures rules { IfOk result (λ p. length p.rules.items ≤ 2 ^ 32) }
     ensures equations { IfOk result (λ p. (f : ℕ) → length (equations_of (theory_of p) f) ≤ 2 ^ 32) }
@@ -71,6 +71,7 @@ fn program_of(alloc: Global, definition: &Definition) -> Result<Program, Refusal
         Ok(sig) => sig,
         Err(refusal) => return Err(refusal),
     };
+    sig.symbols.names_differ();
     let axioms = axioms_of(alloc, definition)?;
     let (readings, first) = match read_axioms(alloc, &sig, &axioms) {
         Ok(read) => read,
@@ -99,6 +100,7 @@ fn program_under(
     top: Option<SortId>,
 ) -> Result<Program, AllocError>
     requires signature { IsSignature sig }
+    requires distinct { AreDistinct (names_of sig.symbols) }
     requires numbered { IsNumbered sig }
     requires pairs { AllZip (IsPairOf sig.sorts) (flat_map pairs_of_axiom (map tree_at axioms.now)) sig.subsorts }
     requires few { AreFew (map tree_at axioms.now) }

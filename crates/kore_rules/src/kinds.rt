@@ -1,12 +1,12 @@
 // What the symbols of a definition are used for, once its axioms are read.
-ghost use Rattle.std.specs.Prelude.{◌≡◌, map, option_map, option_copied, string_bytes, IfOk};
+ghost use Rattle.std.specs.Prelude.{◌≡◌, map, option_map, option_copied, slice_get, string_bytes, Some, IfOk};
 ghost use Rattle.std.specs.List.{AllZip};
 ghost use Rattle.hook_table.specs.Rows.{plain_kind, plain_row};
-ghost use Rattle.kore_axioms.specs.AxiomClasses.{is_defined_kind as is_defined};
 ghost use Rattle.kore_check.specs.PatternSorts.{sort_kind};
 ghost use Rattle.kore_rules.specs.AxiomsRead.{is_marked as is_set};
 ghost use Rattle.kore_rules.specs.ScalarSorts.{is_of_kind as is_one_of_kind, refers_to as does_refer, fits_row as does_fit};
 ghost use Rattle.kore_rules.specs.ScalarSorts.{refer_to as do_refer, kind_in_row as the_kind_in_row};
+ghost use Rattle.kore_rules.specs.ScalarSorts.{kind_of_number as the_kind_of_number, hook_row, row_at};
 ghost use Rattle.kore_rules.specs.ScalarSorts.{kind_by_hook as the_kind_by_hook, final_kind as the_final_kind};
 ghost use Rattle.kore_rules.specs.ScalarSorts.{kind_of_function as the_kind_of_function, IsFinal};
 
@@ -81,9 +81,22 @@ fn is_marked(marks: &[bool], number: usize) -> bool
 fn final_kind(sig: &Signature, with_terms: &[bool], symbol: &SymInfo, unreadable: bool) -> SymKind
     ensures { result ≡ the_final_kind sig.now with_terms.now symbol.now unreadable }
 {
-    if symbol.kind != SymKind::Equations {
-        return symbol.kind;
+    if symbol.kind == SymKind::Equations {
+        kind_of_function(sig, with_terms, symbol, unreadable)
+    } else {
+        symbol.kind
     }
+}
+
+fn kind_of_function(
+    sig: &Signature,
+    with_terms: &[bool],
+    symbol: &SymInfo,
+    unreadable: bool,
+) -> SymKind
+    ensures { result ≡ the_kind_of_function sig.now with_terms.now symbol.now unreadable
+        (option_map string_bytes symbol.now.hook) }
+{
     match &symbol.hook {
         Some(name) => kind_by_hook(sig, with_terms, symbol, name.as_str()),
         None if unreadable => SymKind::Closed,
@@ -95,12 +108,55 @@ fn final_kind(sig: &Signature, with_terms: &[bool], symbol: &SymInfo, unreadable
 fn kind_by_hook(sig: &Signature, with_terms: &[bool], symbol: &SymInfo, name: &str) -> SymKind
     ensures { result ≡ the_kind_by_hook sig.now with_terms.now symbol.now name.now }
 {
-    let Some(number) = find(name.as_bytes()) else {
-        return SymKind::Closed;
-    };
-    match hook_rows().get(number.0 as usize) {
-        Some(row) if fits_row(sig, with_terms, row, symbol) => SymKind::Hooked(number),
-        _ => SymKind::Closed,
+    match find(name.as_bytes()) {
+        Some(number) => kind_of_number(sig, with_terms, symbol, number),
+        None => SymKind::Closed,
+    }
+}
+
+/// .. this number.
+fn kind_of_number(
+    sig: &Signature,
+    with_terms: &[bool],
+    symbol: &SymInfo,
+    number: HookNo,
+) -> SymKind
+    ensures { result ≡ the_kind_of_number sig.now with_terms.now symbol.now (Some number.0) }
+{
+    match row_of(number) {
+        Some(row) => kind_in_row(sig, with_terms, symbol, number, row),
+        None => SymKind::Closed,
+    }
+}
+
+/// The row of the table with this number.
+fn row_of(number: HookNo) -> Option<&'static HookRow>
+    ensures { option_map row_at result ≡ hook_row number.0 }
+{
+    row_in(hook_rows(), number.0 as usize)
+}
+
+fn row_in(rows: &[HookRow], place: usize) -> Option<&HookRow>
+    ensures { option_copied result ≡ slice_get rows.now place }
+{
+    let row = rows.get(place)?;
+    Some(row)
+}
+
+/// .. and stands in this row of the table.
+fn kind_in_row(
+    sig: &Signature,
+    with_terms: &[bool],
+    symbol: &SymInfo,
+    number: HookNo,
+    row: &HookRow,
+) -> SymKind
+    ensures { result ≡ the_kind_in_row sig.now with_terms.now symbol.now number.0 (Some (plain_row row.now)) }
+{
+    if fits_row(sig, with_terms, row, symbol) {
+        SymKind::Hooked(number)
+    } else {
+        SymKind::Closed
     }
 }
 
