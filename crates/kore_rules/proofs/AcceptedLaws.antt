@@ -1,6 +1,6 @@
 -- What is accepted and refused, put together.
-use Rattle.std.proofs.Common.{◌≡◌, ◌<◌, ◌≤◌, ◌^◌, ℕ, ◌+◌, List, [], length, Contains, Option, Some, None, refl, sym, ap, ◌∙◌, subst, arith, ◌⊎◌, inl, inr}
-use Rattle.std.specs.Prelude.{count_by, ◌==◌}
+use Rattle.std.proofs.Common.{◌≡◌, ◌<◌, ◌≤◌, ◌^◌, ℕ, ◌+◌, List, [], length, Contains, Option, Some, None, refl, sym, ap, ◌∙◌, subst, arith, ◌⊎◌, inl, inr, cond}
+use Rattle.std.specs.Prelude.{◌||◌, ◌&&◌, not, codes, Bool, true, false}
 use Rattle.kore_lex.specs.TokenLaws.{TokensCover}
 use Rattle.kore_text.specs.Trees.{SortTree, PatternTree, AxiomDeclaration, DefinitionTree}
 use Rattle.kore_text.specs.Faults.{IsPattern, IsDefinition}
@@ -11,6 +11,14 @@ use Rattle.kore_sig.specs.FirstFault.{Fault}
 use Rattle.kore_sig.specs.Declarations.{axioms_of}
 use Rattle.kore_sig.specs.SignatureFaults.{FirstOfSignature}
 use Rattle.kore_sig.specs.Signatures.{IsSignatureOf}
+use Rattle.rule_core.specs.declared.signature.SortInfo.{SortInfo}
+use Rattle.kore_sig.specs.Attributes.{has_attribute}
+use Rattle.kore_sig.specs.SortReferences.{sort_number}
+use Rattle.kore_check.specs.PatternSorts.{symbol_named}
+use Rattle.kore_shapes.specs.Shapes.{Rewriting, rewriting}
+use Rattle.kore_shapes.specs.Statements.{Statement, statement}
+use Rattle.kore_axioms.specs.AxiomClasses.{AxiomClass, refused, orders_sorts, rewrites, equates, passed_over, class_of, class_of_pattern, class_of_statement, is_no_equation, takes_equations, states_pairs}
+use Rattle.kore_rules.specs.Programs.{IsTopOf}
 use Rattle.kore_rules.specs.Acceptance.{IsAccepted, IsRefused, IsRefusedTerm, HasTextFault}
 use Rattle.kore_rules.specs.AxiomsRead.{AreFew}
 use Rattle.kore_rules.specs.FirstRefusal.{FirstOfAxioms, FirstOfDefinition, FirstOfTerm}
@@ -54,3 +62,34 @@ term_text_refused sig top bytes f h = inl h
 
 pub term_refused : (sig : Signature) (top : Option ℕ) (bytes : List ℕ) (p : PatternTree) (f : Fault) → ReadsPattern bytes p → FirstOfTerm sig top p (Some f) → IsRefusedTerm sig top bytes f
 term_refused sig top bytes p f reads first = inr (p, reads, first)
+
+-- ---- the sort of the rules
+
+statement_no_rule : (sig : Signature) (attributes : List PatternTree) (o : Option Statement) (w : Rewriting) → class_of_statement sig attributes o ≡ rewrites w → ⊥
+statement_no_rule sig attributes None w e = let never : ⊥ = cc in never
+statement_no_rule sig attributes (Some s) w e = by (not (is_no_equation attributes) && takes_equations (symbol_named sig s.function)) e where
+  by : (t : Bool) → cond t (equates s) passed_over ≡ rewrites w → ⊥
+  by true f = let never : ⊥ = cc in never
+  by false f = let never : ⊥ = cc in never
+
+pattern_any : (sig other : Signature) (a : AxiomDeclaration) (o : Option Rewriting) (w : Rewriting) → class_of_pattern sig a o ≡ rewrites w → class_of_pattern other a o ≡ rewrites w
+pattern_any sig other a None w e = absurd (statement_no_rule sig a.attributes (statement a.pattern) w e)
+pattern_any sig other a (Some v) w e = e
+
+tests_any : (b c d : Bool) (k m : AxiomClass) (w : Rewriting) → (k ≡ rewrites w → m ≡ rewrites w)
+    → cond b (refused 20) (cond c (refused 21) (cond d orders_sorts k)) ≡ rewrites w → cond b (refused 20) (cond c (refused 21) (cond d orders_sorts m)) ≡ rewrites w
+tests_any true c d k m w into e = absurd (let never : ⊥ = cc in never)
+tests_any false true d k m w into e = absurd (let never : ⊥ = cc in never)
+tests_any false false true k m w into e = absurd (let never : ⊥ = cc in never)
+tests_any false false false k m w into e = into e
+
+-- which axioms are rules does not depend on the kinds of symbols
+rewrites_any : (sig other : Signature) (a : AxiomDeclaration) (w : Rewriting) → class_of sig a ≡ rewrites w → class_of other a ≡ rewrites w
+rewrites_any sig other a w e =
+    tests_any (has_attribute (codes "anywhere") a.attributes) (has_attribute (codes "overload") a.attributes || has_attribute (codes "symbol-overload") a.attributes) (states_pairs a.attributes)
+    (class_of_pattern sig a (rewriting a.pattern)) (class_of_pattern other a (rewriting a.pattern)) w (pattern_any sig other a (rewriting a.pattern) w) e
+
+pub top_any : (sig other : Signature) (axioms : List AxiomDeclaration) (top : Option ℕ) → other.sorts ≡ sig.sorts → IsTopOf sig axioms top → IsTopOf other axioms top
+top_any sig other axioms None same none a has w class = none a has w (rewrites_any other sig a w class)
+top_any sig other axioms (Some s) same (a, has, (w, class, number)) =
+    (a, has, (w, rewrites_any sig other a w class, ap (λ (sorts : List (List ℕ × SortInfo)). sort_number sorts w.sort) same ∙ number))

@@ -30,22 +30,25 @@ use Rattle.kore_rules.specs.ScalarSorts.{is_constructor_kind, is_sort, makes, en
 
 -- ---- tests on lists
 
-pub any_found : {X : Type 0} (test : X → Bool) (xs : List X) → list_any test xs ≡ true → (i : ℕ) × (x : X) × (slice_get xs i ≡ Some x) × (test x ≡ true)
-any_found test [] e = absurd (let never : ⊥ = cc in never)
-any_found {X} test (x ∷ xs) e = by_case (test x) refl where
-  by_case : (t : Bool) → test x ≡ t → (i : ℕ) × (y : X) × (slice_get (x ∷ xs) i ≡ Some y) × (test y ≡ true)
-  by_case true here = (0, x, refl, here)
-  by_case false here =
-      let rest : list_any test xs ≡ true = rw here at e in
-      let found = any_found test xs rest in (suc found.0, found.1, found.2, found.3)
+abbrev Found : {X : Type 0} → (X → Bool) → List X → Type 0
+Found {X} test xs = (i : ℕ) × (x : X) × (slice_get xs i ≡ Some x) × (test x ≡ true)
 
-pub any_there : {X : Type 0} (test : X → Bool) (xs : List X) (i : ℕ) (x : X) → slice_get xs i ≡ Some x → test x ≡ true → list_any test xs ≡ true
+found_by : {X : Type 0} (test : X → Bool) (x : X) (xs : List X) (t : Bool) → test x ≡ t → (t || list_any test xs) ≡ true → (list_any test xs ≡ true → Found test xs) → Found test (x ∷ xs)
+found_by test x xs true here e rest = (0, x, refl, here)
+found_by test x xs false here e rest = let found = rest e in (suc found.0, found.1, found.2, found.3)
+
+any_found : {X : Type 0} (test : X → Bool) (xs : List X) → list_any test xs ≡ true → Found test xs
+any_found test [] e = absurd (let never : ⊥ = cc in never)
+any_found test (x ∷ xs) e = found_by test x xs (test x) refl e (λ h. any_found test xs h)
+
+or_right : (a b : Bool) → b ≡ true → (a || b) ≡ true
+or_right true b e = refl
+or_right false b e = e
+
+any_there : {X : Type 0} (test : X → Bool) (xs : List X) (i : ℕ) (x : X) → slice_get xs i ≡ Some x → test x ≡ true → list_any test xs ≡ true
 any_there test [] i x is e = absurd (let never : ⊥ = cc in never)
 any_there test (y ∷ ys) zero x is e = let same : y ≡ x = cc in rw (ap test same ∙ e) refl
-any_there test (y ∷ ys) (suc i) x is e = by_case (test y) refl where
-  by_case : (t : Bool) → test y ≡ t → list_any test (y ∷ ys) ≡ true
-  by_case true here = rw here refl
-  by_case false here = rw here (any_there test ys i x is e)
+any_there test (y ∷ ys) (suc i) x is e = or_right (test y) (list_any test ys) (any_there test ys i x is e)
 
 both_true : (a b : Bool) → (a && b) ≡ true → (a ≡ true) × (b ≡ true)
 both_true true b e = (refl, e)

@@ -1,5 +1,6 @@
 -- The program that is made of what was read.
-use Rattle.std.proofs.Common.{◌≡◌, ◌<◌, ◌≤◌, ℕ, zero, suc, ◌+◌, Bool, true, false, cond, List, [], ◌∷◌, ◌++◌, map, length, Contains, Option, Some, None, refl, sym, ap, ◌∙◌, subst, arith, ◌⊎◌, inl, inr, All, eq-eqb, length-map}
+use Rattle.std.proofs.Common.{◌≡◌, ◌<◌, ◌≤◌, ℕ, zero, suc, ◌+◌, Bool, true, false, cond, List, [], ◌∷◌, ◌++◌, map, length, Contains, Option, Some, None, refl, sym, ap, ◌∙◌, subst, arith, ◌⊎◌, inl, inr, All, eq-eqb}
+use Rattle.std.proofs.lemmas.List.{length-map}
 use Rattle.std.specs.Prelude.{◌↔◌, ◌&&◌, ◌==◌, IsTrue, Vec, slice_get, slice_index_or, filter, count_by}
 use Rattle.std.specs.Global.{Global}
 use Rattle.std.specs.List.{AllZip}
@@ -165,8 +166,9 @@ unreadable_same : (sig : Signature) (axioms : List AxiomDeclaration) (marks : Li
 unreadable_same sig axioms marks is f None e = (λ h. absurd (false≢true h), λ h. absurd (unnamed sig f h.0 e h.2))
 unreadable_same sig axioms marks is f (Some n) e = (
   λ h. let found = (is n).0 h in
-    let same : found.2 ≡ f = name_at sig.symbols found.2 f n found.3 e in
-    (found.0, found.1, subst (λ (g : List ℕ). IsUnreadable sig g found.0) same found.4),
+    let named = found.2 in
+    let same : named.0 ≡ f = name_at sig.symbols named.0 f n named.1 e in
+    (found.0, found.1, subst (λ (g : List ℕ). IsUnreadable sig g found.0) same named.2),
   λ h. (is n).1 (h.0, h.1, (f, e, h.2)),
 )
 
@@ -205,12 +207,12 @@ both_from : (a b : Bool) → a ≡ true → b ≡ true → (a && b) ≡ true
 both_from true b e f = f
 both_from false b e f = absurd (let never : ⊥ = cc in never)
 
-declared_at : {R : List ℕ × SymInfo → List ℕ × SymInfo → Type 0} (ds ms : List (List ℕ × SymInfo)) (n : ℕ) (m : List ℕ × SymInfo) → AllZip R ds ms → slice_get ms n ≡ Some m → (d : List ℕ × SymInfo) × (slice_get ds n ≡ Some d) × R d m
-declared_at [] [] n m z e = absurd (let never : ⊥ = cc in never)
-declared_at [] (y ∷ ms) n m z e = absurd z
-declared_at (d ∷ ds) [] n m z e = absurd z
-declared_at {R} (d ∷ ds) (y ∷ ms) zero m z e = (d, refl, subst (R d) (some_same y m e) z.0)
-declared_at (d ∷ ds) (y ∷ ms) (suc n) m z e = declared_at ds ms n m z.1 e
+declared_at : (R : List ℕ × SymInfo → List ℕ × SymInfo → Type 0) (ds ms : List (List ℕ × SymInfo)) (n : ℕ) (m : List ℕ × SymInfo) → AllZip R ds ms → slice_get ms n ≡ Some m → (d : List ℕ × SymInfo) × (slice_get ds n ≡ Some d) × R d m
+declared_at R [] [] n m z e = absurd (let never : ⊥ = cc in never)
+declared_at R [] (y ∷ ms) n m z e = absurd z
+declared_at R (d ∷ ds) [] n m z e = absurd z
+declared_at R (d ∷ ds) (y ∷ ms) zero m z e = (d, refl, subst (R d) (some_same y m e) z.0)
+declared_at R (d ∷ ds) (y ∷ ms) (suc n) m z e = declared_at R ds ms n m z.1 e
 
 abbrev numbered : ℕ → plain.Equation → ℕ × plain.Equation
 numbered n e = (n, e)
@@ -222,7 +224,7 @@ equations_are sig axioms made old new lists n f info distinct symbols read moved
     let test : Equation → Bool = belongs_to made n in
     let all = filter test new in
     let view : slice_index_or (function_equations lists) n [] ≡ map function_equation all = listed_view lists n ∙ ap (map function_equation) listed in
-    let d = declared_at sig.symbols made n (f, info) symbols there in
+    let d = declared_at (IsSymbolOf sig axioms) sig.symbols made n (f, info) symbols there in
     let number : number_of sig.symbols f ≡ Some n = ap (number_of sig.symbols) d.2.name ∙ own_number sig.symbols n d.0 distinct d.1 in
     let has : has_equations made n ≡ is_defined_kind info.kind = ap is_by_equations there in
     record {
@@ -234,10 +236,11 @@ equations_are sig axioms made old new lists n f info distinct symbols read moved
             let parts = both_true (x.fun.0 == n) (has_equations made x.fun.0) kept.1 in
             let here : x.fun.0 ≡ n = eqb-true x.fun.0 n parts.0 in
             let some = (read.just (numbered_equation x)).0 (contains_map numbered_equation old x (Contains-permutation new old x (IsPermutation-sym old new moved) kept.0)) in
-            let g = some.2 in
-            let same : g ≡ f = name_at sig.symbols g f n (some.3 ∙ ap Some here) number in (
+            let named = some.2 in
+            let g = named.0 in
+            let same : g ≡ f = name_at sig.symbols g f n (named.1 ∙ ap Some here) number in (
               defined info.kind (sym has ∙ ap (has_equations made) (sym here) ∙ parts.1),
-              (some.0, some.1, subst (λ (y : plain.Equation). IsEquationOf sig f some.0 y) found.2 (subst (λ (h : List ℕ). IsEquationOf sig h some.0 (function_equation x)) same some.4)),
+              (some.0, some.1, subst (λ (y : plain.Equation). IsEquationOf sig f some.0 y) found.2 (subst (λ (h : List ℕ). IsEquationOf sig h some.0 (function_equation x)) same named.2)),
             ),
         λ (kind, a, inside, is).
             let given = (read.just (numbered n e)).1 (a, inside, (f, number, is)) in
@@ -284,4 +287,5 @@ pub functions_there : (sig : Signature) (axioms : List AxiomDeclaration) (made :
 functions_there sig axioms made old new same read moved =
     all_from (λ (e : Equation). e.fun.0 < length made) new (λ e has.
       let some = (read.just (numbered_equation e)).0 (contains_map numbered_equation old e (Contains-permutation new old e (IsPermutation-sym old new moved) has)) in
-      let within = number_within sig.symbols some.2 e.fun.0 some.3 in omega (arith, within, same))
+      let named = some.2 in
+      let within = number_within sig.symbols named.0 e.fun.0 named.1 in omega (arith, within, same))
