@@ -16,3 +16,12 @@ pub mod FinalLaws
 pub mod ProgramLaws
 pub mod AnswerLaws
 pub mod AcceptedLaws
+pub mod MeaningSorts
+pub mod KeptSorts
+pub mod RuleSorts
+pub mod EquationSorts
+pub mod RuleFirsts
+pub mod DeclaredKinds
+pub mod WellSortedPrograms
+pub mod AcceptedTerms
+pub mod ProgramNames
