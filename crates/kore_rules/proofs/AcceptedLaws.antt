@@ -23,6 +23,12 @@ use Rattle.kore_rules.specs.Acceptance.{IsAccepted, IsRefused, IsRefusedTerm, Ha
 use Rattle.kore_rules.specs.AxiomsRead.{AreFew}
 use Rattle.kore_rules.specs.FirstRefusal.{FirstOfAxioms, FirstOfDefinition, FirstOfTerm}
 use Rattle.kore_rules.specs.MadePrograms.{IsMadeOf}
+use Rattle.kore_text.specs.Identifiers.{NamesAreIdentifiers}
+use Rattle.rule_core.specs.WellSorted.{IsWellSorted}
+use Rattle.kore_rules.specs.Names.{HasIdentifierNames}
+use Rattle.kore_rules.specs.RefusedTexts.{IsSortOfRules}
+use Rattle.kore_rules.proofs.ProgramNames.{identifier_names}
+use Rattle.kore_rules.proofs.WellSortedPrograms.{IsFaultlessProgram, well_sorted_program, sorted_rules}
 use Rattle.kore_rules.proofs.Places.{axioms-rise, once, few}
 
 -- the axioms of a text of fewer than 2^32 bytes are few, and each at a place of its own
@@ -90,6 +96,26 @@ rewrites_any sig other a w e =
     (class_of_pattern sig a (rewriting a.pattern)) (class_of_pattern other a (rewriting a.pattern)) w (pattern_any sig other a (rewriting a.pattern) w) e
 
 pub top_any : (sig other : Signature) (axioms : List AxiomDeclaration) (top : Option ℕ) → other.sorts ≡ sig.sorts → IsTopOf sig axioms top → IsTopOf other axioms top
-top_any sig other axioms None same none a has w class = none a has w (rewrites_any other sig a w class)
+top_any sig other axioms None same none = λ a has w class. none a has w (rewrites_any other sig a w class)
 top_any sig other axioms (Some s) same (a, has, (w, class, number)) =
     (a, has, (w, rewrites_any sig other a w class, ap (λ (sorts : List (List ℕ × SortInfo)). sort_number sorts w.sort) same ∙ number))
+
+-- ---- what follows of a program that was made
+
+faultless : (d : DefinitionTree) (theory : RewriteTheory) (top : Option ℕ) (made : IsMadeOf d theory top) → IsFaultlessProgram d made.declared theory
+faultless d theory top made = record {
+  signature = made.signature;
+  sorted = made.sorted;
+  distinct = made.distinct;
+  no_fault = made.no_axiom_fault;
+  program = made.program;
+}
+
+pub made_sorted : (d : DefinitionTree) (theory : RewriteTheory) (top : Option ℕ) → IsMadeOf d theory top → IsWellSorted theory
+made_sorted d theory top made = well_sorted_program d made.declared theory (faultless d theory top made)
+
+pub made_top : (d : DefinitionTree) (theory : RewriteTheory) (top : Option ℕ) → IsMadeOf d theory top → IsSortOfRules theory top
+made_top d theory top made = sorted_rules d made.declared theory top (faultless d theory top made) made.sort
+
+pub made_names : NamesAreIdentifiers → (bytes : List ℕ) (d : DefinitionTree) (theory : RewriteTheory) (top : Option ℕ) → ReadsDefinition bytes d → IsMadeOf d theory top → HasIdentifierNames theory.sig
+made_names law bytes d theory top reads made = identifier_names law bytes d made.declared theory reads made.signature made.program

@@ -25,3 +25,4 @@ pub mod DeclaredKinds
 pub mod WellSortedPrograms
 pub mod AcceptedTerms
 pub mod ProgramNames
+pub mod OneFault

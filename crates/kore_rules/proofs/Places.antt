@@ -29,16 +29,16 @@ Stand low high (token t p s) = (low ≤ p) × (p < high) × Stand (p + 1) high s
 stand-lower : (low less high : ℕ) (s : Stream) → less ≤ low → Stand low high s → Stand less high s
 stand-lower low less high (end e) le h = tt
 stand-lower low less high (fault e) le h = tt
-stand-lower low less high (token t p s) le h = (let a = h.0 in omega arith, (h.1, h.2))
+stand-lower low less high (token t p s) le h = ((let a = h.0 in omega arith), h.1, h.2)
 
 joined-stand : (text : List ℕ) (k : TokenKind) (from to low high : ℕ) (s : Stream) → low ≤ from → from < high → Stand (from + 1) high s → Stand low high (joined text k from to s)
 joined-stand text kind.End from to low high s a b h = tt
-joined-stand text kind.Ident from to low high s a b h = (a, (b, h))
-joined-stand text kind.SetIdent from to low high s a b h = (a, (b, h))
-joined-stand text kind.Builtin from to low high s a b h = (a, (b, h))
-joined-stand text kind.Text from to low high s a b h = (a, (b, h))
-joined-stand text (kind.Punct c) from to low high s a b h = (a, (b, h))
-joined-stand text kind.Assign from to low high s a b h = (a, (b, h))
+joined-stand text kind.Ident from to low high s a b h = (a, b, h)
+joined-stand text kind.SetIdent from to low high s a b h = (a, b, h)
+joined-stand text kind.Builtin from to low high s a b h = (a, b, h)
+joined-stand text kind.Text from to low high s a b h = (a, b, h)
+joined-stand text (kind.Punct c) from to low high s a b h = (a, b, h)
+joined-stand text kind.Assign from to low high s a b h = (a, b, h)
 
 no-empty : (k : TokenKind) (n : ℕ) (bs : List ℕ) → IsToken k (take n bs) → 0 < n
 no-empty k zero bs h = absurd h
@@ -71,7 +71,7 @@ rising-lower : (low less high : ℕ) (ws : List Want) → less ≤ low → Risin
 rising-lower low less high [] le h = tt
 rising-lower low less high (given b ∷ ws) le h = rising-lower low less high ws le h
 rising-lower low less high (any t ∷ ws) le h = rising-lower low less high ws le h
-rising-lower low less high (placed p t ∷ ws) le h = (let a = h.0 in omega arith, (h.1, h.2))
+rising-lower low less high (placed p t ∷ ws) le h = ((let a = h.0 in omega arith), h.1, h.2)
 
 taken : (low high : ℕ) (ws : List Want) (s e : Stream) → Takes ws s e → Stand low high s → Rising low high ws
 taken low high [] s e h a = tt
@@ -82,7 +82,7 @@ taken low high (any u ∷ ws) (token t p s) e h a = taken low high ws s e h.1 (s
 taken low high (placed q u ∷ ws) (end x) e h a = absurd h
 taken low high (placed q u ∷ ws) (fault x) e h a = absurd h
 taken low high (placed q u ∷ ws) (token t p s) e h a =
-    subst (λ (r : ℕ). (low ≤ r) × (r < high) × Rising (r + 1) high ws) h.1 (a.0, (a.1, taken (p + 1) high ws s e h.2 a.2))
+    subst (λ (r : ℕ). (low ≤ r) × (r < high) × Rising (r + 1) high ws) h.1 (a.0, a.1, taken (p + 1) high ws s e h.2 a.2)
 
 -- what follows a thing that is so spelled stands so too
 record Skips (f : Spelling) : Type 0 where
@@ -105,14 +105,14 @@ list-skips : {T : Type 0} (spell : T → Spelling) → ((t : T) → Skips (spell
 list-skips spell each [] = none-skips
 list-skips spell each (t ∷ ts) = more-skips (spell t) (map spell ts) (each t) (list-skips spell each ts)
 
-behind : (low high p : ℕ) (t : Token) (ws : List Want) → Rising low high (placed p t ∷ ws) → Rising low high ws
-behind low high p t ws h = rising-lower (p + 1) low high ws (let a = h.0 in omega arith) h.2
+behind : (low high p : ℕ) (ws : List Want) → (low ≤ p) × (p < high) × Rising (p + 1) high ws → Rising low high ws
+behind low high p ws h = rising-lower (p + 1) low high ws (let a = h.0 in omega arith) h.2
 
 mutual
   sort-skips : (t : SortTree) → Skips (spell_sort t)
-  sort-skips (sort_parameter at n) = record { skip = λ low high k h. behind low high at (identifier n) k h }
+  sort-skips (sort_parameter at n) = record { skip = λ low high k h. behind low high at k h }
   sort-skips (sort_applied at n ss) = record {
-    skip = λ low high k h. (sorts-skip ss).first 125 low high k (behind low high at (identifier n) (any (mark 123) ∷ listed (spell_sorts ss) 125 k) h);
+    skip = λ low high k h. (sorts-skip ss).first 125 low high k (behind low high at (any (mark 123) ∷ listed (spell_sorts ss) 125 k) h);
   }
 
   sorts-skip : (ss : SortTrees) → SkipsAll (spell_sorts ss)
@@ -123,17 +123,17 @@ applied-skips : (at : ℕ) (t : Token) (ss : SortTrees) (ps : List Spelling) →
 applied-skips at t ss ps all low high k h =
     all.first 41 low high k
     ((sorts-skip ss).first 125 low high (any (mark 40) ∷ listed ps 41 k)
-    (behind low high at t (any (mark 123) ∷ listed (spell_sorts ss) 125 (any (mark 40) ∷ listed ps 41 k)) h))
+    (behind low high at (any (mark 123) ∷ listed (spell_sorts ss) 125 (any (mark 40) ∷ listed ps 41 k)) h))
 
 mutual
   pattern-skips : (b : Bool) (t : PatternTree) → Skips (spell_pattern b t)
   pattern-skips b (element_variable at n s) = record {
-    skip = λ low high k h. (sort-skips s).skip low high k (behind low high at _ (any (mark 58) ∷ spell_sort s k) h);
+    skip = λ low high k h. (sort-skips s).skip low high k (behind low high at (any (mark 58) ∷ spell_sort s k) h);
   }
   pattern-skips b (set_variable at n s) = record {
-    skip = λ low high k h. (sort-skips s).skip low high k (behind low high at _ (any (mark 58) ∷ spell_sort s k) h);
+    skip = λ low high k h. (sort-skips s).skip low high k (behind low high at (any (mark 58) ∷ spell_sort s k) h);
   }
-  pattern-skips b (string at t) = record { skip = λ low high k h. behind low high at (string_token t) k h }
+  pattern-skips b (string at t) = record { skip = λ low high k h. behind low high at k h }
   pattern-skips b (symbol_applied at n ss ps) = record {
     skip = applied-skips at (identifier n) ss (spell_patterns b ps) (patterns-skip b ps);
   }
@@ -145,18 +145,18 @@ mutual
         (pattern-skips b p).skip low high (any (mark 41) ∷ k)
         ((pattern-skips b x).skip low high (any (mark 44) ∷ spell_pattern b p (any (mark 41) ∷ k))
         ((sorts-skip ss).first 125 low high (any (mark 40) ∷ spell_pattern b x (any (mark 44) ∷ spell_pattern b p (any (mark 41) ∷ k)))
-        (behind low high at _ (any (mark 123) ∷ listed (spell_sorts ss) 125 (any (mark 40) ∷ spell_pattern b x (any (mark 44) ∷ spell_pattern b p (any (mark 41) ∷ k)))) h)));
+        (behind low high at (any (mark 123) ∷ listed (spell_sorts ss) 125 (any (mark 40) ∷ spell_pattern b x (any (mark 44) ∷ spell_pattern b p (any (mark 41) ∷ k)))) h)));
   }
   pattern-skips b (domain_value at s t place) = record {
     skip = λ low high k h.
-        behind low high place (string_token t) (any (mark 41) ∷ k)
+        behind low high place (any (mark 41) ∷ k)
         ((sort-skips s).skip low high (any (mark 125) ∷ any (mark 40) ∷ placed place (string_token t) ∷ any (mark 41) ∷ k)
-        (behind low high at _ (any (mark 123) ∷ spell_sort s (any (mark 125) ∷ any (mark 40) ∷ placed place (string_token t) ∷ any (mark 41) ∷ k)) h));
+        (behind low high at (any (mark 123) ∷ spell_sort s (any (mark 125) ∷ any (mark 40) ∷ placed place (string_token t) ∷ any (mark 41) ∷ k)) h));
   }
   pattern-skips b (folded at left p) = record {
     skip = λ low high k h.
         (pattern-skips b p).skip low high (any (mark 41) ∷ k)
-        (behind low high at _ (any (mark 123) ∷ any (mark 125) ∷ any (mark 40) ∷ spell_pattern b p (any (mark 41) ∷ k)) h);
+        (behind low high at (any (mark 123) ∷ any (mark 125) ∷ any (mark 40) ∷ spell_pattern b p (any (mark 41) ∷ k)) h);
   }
 
   patterns-skip : (b : Bool) (ts : PatternTrees) → SkipsAll (spell_patterns b ts)
@@ -187,12 +187,16 @@ statement-skips d = record {
 
 alias-skips : (d : AliasDeclaration) (low high : ℕ) (k : List Want) → Rising low high (spell_declaration (alias_declaration d) k) → Rising low high k
 alias-skips d low high k h =
+    let body = any assign ∷ spell_pattern false d.body (spell_attributes d.attributes k) in
+    let vars = any (mark 40) ∷ listed (map (spell_pattern false) d.vars) 41 body in
+    let left = any (identifier (codes "where")) ∷ any (identifier d.left_name) ∷ any (mark 123) ∷ listed (map spell_sort d.left_sorts) 125 vars in
+    let signature = spell_signature d.args d.result left in
     (attributes-skip d.attributes).skip low high k
     ((pattern-skips false d.body).skip low high (spell_attributes d.attributes k)
-    ((list-skips (spell_pattern false) (pattern-skips false) d.vars).first 41 low high (any assign ∷ spell_pattern false d.body (spell_attributes d.attributes k))
-    ((sort-list-skips d.left_sorts).first 125 low high _
-    ((signature-skips d.args d.result).skip low high _
-    ((names-skip d.params).skip low high _ (behind low high d.at _ _ h))))))
+    ((list-skips (spell_pattern false) (pattern-skips false) d.vars).first 41 low high body
+    ((sort-list-skips d.left_sorts).first 125 low high vars
+    ((signature-skips d.args d.result).skip low high left
+    ((names-skip d.params).skip low high signature (behind low high d.at (spell_names d.params signature) h))))))
 
 -- ---- axioms
 
@@ -203,11 +207,11 @@ Rise P high low (a ∷ axioms) = (low ≤ a.at) × (a.at < high) × Rise P high 
 
 rise-then : (P Q : ℕ → Type 0) (high low : ℕ) (axioms : List AxiomDeclaration) → ((n : ℕ) → P n → Q n) → Rise P high low axioms → Rise Q high low axioms
 rise-then P Q high low [] into h = into low h
-rise-then P Q high low (a ∷ axioms) into h = (h.0, (h.1, rise-then P Q high (a.at + 1) axioms into h.2))
+rise-then P Q high low (a ∷ axioms) into h = (h.0, h.1, rise-then P Q high (a.at + 1) axioms into h.2)
 
 rise-append : (P : ℕ → Type 0) (high low : ℕ) (axioms bs : List AxiomDeclaration) → Rise (λ n. Rise P high n bs) high low axioms → Rise P high low (axioms ++ bs)
 rise-append P high low [] bs h = h
-rise-append P high low (a ∷ axioms) bs h = (h.0, (h.1, rise-append P high (a.at + 1) axioms bs h.2))
+rise-append P high low (a ∷ axioms) bs h = (h.0, h.1, rise-append P high (a.at + 1) axioms bs h.2)
 
 -- .. with nothing of P lost where the axioms are left out
 rise-skip : (P : ℕ → Type 0) (high low : ℕ) (axioms : List AxiomDeclaration) → ((n m : ℕ) → m ≤ n → P n → P m) → Rise P high low axioms → P low
@@ -218,16 +222,24 @@ declaration-rises : (d : Declaration) (ds : List Declaration) (low high : ℕ) (
     → ((n : ℕ) → Rising n high (in_order (map spell_declaration ds) k) → Rise (λ n. Rising n high k) high n (filter_map axiom_declared ds))
     → Rising low high (in_order (map spell_declaration (d ∷ ds)) k) → Rise (λ n. Rising n high k) high low (filter_map axiom_declared (d ∷ ds))
 declaration-rises (import_declaration d) ds low high k rest h =
-    rest low ((attributes-skip d.attributes).skip low high (in_order (map spell_declaration ds) k) (behind low high d.at _ _ h))
+    let later = in_order (map spell_declaration ds) k in
+    rest low ((attributes-skip d.attributes).skip low high later (behind low high d.at (spell_attributes d.attributes later) h))
 declaration-rises (sort_declaration d) ds low high k rest h =
-    rest low ((attributes-skip d.attributes).skip low high (in_order (map spell_declaration ds) k) ((names-skip d.params).skip low high _ (behind low high d.at _ _ h)))
+    let later = in_order (map spell_declaration ds) k in
+    let attributes = spell_attributes d.attributes later in
+    rest low ((attributes-skip d.attributes).skip low high later ((names-skip d.params).skip low high attributes (behind low high d.at (spell_names d.params attributes) h)))
 declaration-rises (symbol_declaration d) ds low high k rest h =
-    rest low ((attributes-skip d.attributes).skip low high (in_order (map spell_declaration ds) k) ((signature-skips d.args d.result).skip low high _ ((names-skip d.params).skip low high _ (behind low high d.at _ _ h))))
+    let later = in_order (map spell_declaration ds) k in
+    let attributes = spell_attributes d.attributes later in
+    let signature = spell_signature d.args d.result attributes in
+    rest low ((attributes-skip d.attributes).skip low high later
+    ((signature-skips d.args d.result).skip low high attributes ((names-skip d.params).skip low high signature (behind low high d.at (spell_names d.params signature) h))))
 declaration-rises (alias_declaration d) ds low high k rest h = rest low (alias-skips d low high (in_order (map spell_declaration ds) k) h)
 declaration-rises (axiom_declaration d) ds low high k rest h =
-    (h.0, (h.1, rest (d.at + 1) ((statement-skips d).skip (d.at + 1) high (in_order (map spell_declaration ds) k) h.2)))
+    (h.0, h.1, rest (d.at + 1) ((statement-skips d).skip (d.at + 1) high (in_order (map spell_declaration ds) k) h.2))
 declaration-rises (claim_declaration d) ds low high k rest h =
-    rest low ((statement-skips d).skip low high (in_order (map spell_declaration ds) k) (behind low high d.at _ _ h))
+    let later = in_order (map spell_declaration ds) k in
+    rest low ((statement-skips d).skip low high later (behind low high d.at (spell_statement d later) h))
 
 declarations-rise : (ds : List Declaration) (low high : ℕ) (k : List Want) → Rising low high (in_order (map spell_declaration ds) k) → Rise (λ n. Rising n high k) high low (filter_map axiom_declared ds)
 declarations-rise [] low high k h = h
@@ -247,7 +259,7 @@ axioms_among ms = filter_map axiom_declared (flat_map (λ (m : ModuleTree). m.de
 module-rises : (m : ModuleTree) (low high : ℕ) (k : List Want) → Rising low high (spell_module m k) → Rise (λ n. Rising n high k) high low (axioms_in m)
 module-rises m low high k h =
     rise-then (λ n. Rising n high (tail_of m k)) (λ n. Rising n high k) high low (axioms_in m) (λ n r. (attributes-skip m.attributes).skip n high k r)
-    (declarations-rise m.declarations low high (tail_of m k) (behind low high m.at _ _ h))
+    (declarations-rise m.declarations low high (tail_of m k) (behind low high m.at (in_order (map spell_declaration m.declarations) (tail_of m k)) h))
 
 counted-rises : (b : Bool) (m : ModuleTree) (ms : List ModuleTree) (low high : ℕ) (k : List Want)
     → ((n : ℕ) → Rising n high (in_order (map spell_module ms) k) → Rise (λ n. Rising n high k) high n (axioms_among (counted ms)))
@@ -301,19 +313,19 @@ none-below P high low p (a ∷ axioms) lt h =
     let here = differs a.at p (a.at == p) refl (λ e. omega (arith, b, lt, e)) in
     count-cons p a axioms ∙ omega (arith, here, rest)
 
+once_by : (P : ℕ → Type 0) (high low p : ℕ) (a : AxiomDeclaration) (axioms : List AxiomDeclaration) (t : Bool) → (a.at == p) ≡ t → Rise P high low (a ∷ axioms) → count_by (is_at p) axioms ≤ 1 → count_by (is_at p) (a ∷ axioms) ≤ 1
+once_by P high low p a axioms true e h rest =
+    let same : a.at ≡ p = eqb-true a.at p e in
+    let none = none-below P high (a.at + 1) p axioms (omega (arith, same)) h.2 in
+    let is = count-cons p a axioms in
+    let here = at-most (a.at == p) in omega (arith, is, here, none)
+once_by P high low p a axioms false e h rest =
+    let is = count-cons p a axioms in
+    let here : one_if (a.at == p) ≡ 0 = rw e refl in omega (arith, is, here, rest)
+
 pub once : (P : ℕ → Type 0) (high low p : ℕ) (axioms : List AxiomDeclaration) → Rise P high low axioms → count_by (is_at p) axioms ≤ 1
 once P high low p [] h = omega arith
-once P high low p (a ∷ axioms) h = by_case (a.at == p) refl where
-  by_case : (t : Bool) → (a.at == p) ≡ t → count_by (is_at p) (a ∷ axioms) ≤ 1
-  by_case true e =
-      let same : a.at ≡ p = eqb-true a.at p e in
-      let rest = none-below P high (a.at + 1) p axioms (omega (arith, same)) h.2 in
-      let is = count-cons p a axioms in
-      let here = at-most (a.at == p) in omega (arith, is, here, rest)
-  by_case false e =
-      let rest = once P high (a.at + 1) p axioms h.2 in
-      let is = count-cons p a axioms in
-      let here : one_if (a.at == p) ≡ 0 = rw e refl in omega (arith, is, here, rest)
+once P high low p (a ∷ axioms) h = once_by P high low p a axioms (a.at == p) refl h (once P high (a.at + 1) p axioms h.2)
 
 pub few : (P : ℕ → Type 0) (high low : ℕ) (axioms : List AxiomDeclaration) → low ≤ high → Rise P high low axioms → length axioms + low ≤ high
 few P high low [] le h = omega (arith, le)

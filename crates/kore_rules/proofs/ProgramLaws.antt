@@ -1,6 +1,5 @@
 -- The program that is made of what was read.
 use Rattle.std.proofs.Common.{◌≡◌, ◌<◌, ◌≤◌, ℕ, zero, suc, ◌+◌, Bool, true, false, cond, List, [], ◌∷◌, ◌++◌, map, length, Contains, Option, Some, None, refl, sym, ap, ◌∙◌, subst, arith, ◌⊎◌, inl, inr, All, eq-eqb}
-use Rattle.std.proofs.lemmas.List.{length-map}
 use Rattle.std.specs.Prelude.{◌↔◌, ◌&&◌, ◌==◌, IsTrue, Vec, slice_get, slice_index_or, filter, count_by}
 use Rattle.std.specs.Global.{Global}
 use Rattle.std.specs.List.{AllZip}
@@ -38,6 +37,10 @@ use Rattle.kore_rules.proofs.KindLaws.{HasPairs}
 
 some_same : {A : Type 0} (x y : A) → Some x ≡ Some y → x ≡ y
 some_same x y e = cc
+
+pub length_mapped : {X Y : Type 0} (f : X → Y) (xs : List X) → length (map f xs) ≡ length xs
+length_mapped f [] = refl
+length_mapped f (x ∷ xs) = ap suc (length_mapped f xs)
 
 -- ---- items of lists
 
@@ -242,7 +245,7 @@ equations_are sig axioms made old new lists n f info distinct symbols read moved
               defined info.kind (sym has ∙ ap (has_equations made) (sym here) ∙ parts.1),
               (some.0, some.1, subst (λ (y : plain.Equation). IsEquationOf sig f some.0 y) found.2 (subst (λ (h : List ℕ). IsEquationOf sig h some.0 (function_equation x)) same named.2)),
             ),
-        λ (kind, a, inside, is).
+        λ (kind, (a, inside, is)).
             let given = (read.just (numbered n e)).1 (a, inside, (f, number, is)) in
             let found = contains_mapped numbered_equation old (numbered n e) given in
             let x = found.0 in
@@ -261,7 +264,7 @@ pub few_rules : (sig : Signature) (axioms : List AxiomDeclaration) (old new : Li
 few_rules sig axioms old new few read moved =
     let a = few.short in
     let b = read.short in
-    let c = length-map rewrite_rule old in
+    let c = length_mapped rewrite_rule old in
     let d = length_permutation old new moved in omega (arith, a, b, c, d)
 
 pub few_equations : (sig : Signature) (axioms : List AxiomDeclaration) (made : List (List ℕ × SymInfo)) (old new : List Equation) (lists : List (Vec Equation Global)) (n : ℕ) → AreFew axioms → AreRead (IsNumberedEquation sig) (λ (e : ℕ × plain.Equation). e.1.place) axioms (map numbered_equation old)
@@ -269,10 +272,10 @@ pub few_equations : (sig : Signature) (axioms : List AxiomDeclaration) (made : L
 few_equations sig axioms made old new lists n few read moved listed =
     let a = few.short in
     let b = read.short in
-    let c = length-map numbered_equation old in
+    let c = length_mapped numbered_equation old in
     let d = length_permutation old new moved in
     let e : length (slice_index_or (function_equations lists) n []) ≡ length (map function_equation (filter (belongs_to made n) new)) = ap length (listed_view lists n ∙ ap (map function_equation) listed) in
-    let f = length-map function_equation (filter (belongs_to made n) new) in
+    let f = length_mapped function_equation (filter (belongs_to made n) new) in
     let g = length-filter (belongs_to made n) new in
     let h = count_by-le-length (belongs_to made n) new in
     omega (arith, a, b, c, d, e, f, g, h)

@@ -5,6 +5,8 @@ pub mod Programs
 pub mod Acceptance
 pub mod Names
 pub mod RefusedTexts
+-- Laws: what follows from that. Each is a clause of a function that does nothing.
+pub mod AcceptanceLaws
 -- Private: what clauses of private functions cite, and how private fields are seen.
 pub mod GroundNotes
 pub mod AxiomsRead

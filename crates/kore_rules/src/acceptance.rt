@@ -30,6 +30,7 @@ use crate::texts::{definition_in, pattern_in};
 use kore_ast::{AxiomDecl, Definition, Sort};
 use kore_axioms::Refusal;
 use kore_lex::token_laws;
+use kore_text::name_laws;
 use kore_sig::sort_number;
 use rule_core::{Program, Signature};
 use std::alloc::{AllocError, Global};
@@ -52,6 +53,7 @@ pub fn accept(alloc: Global, bytes: &[u8]) -> Result<Program, Refusal>
     ensures refused { IfErr result (RefusesFor (IsRefused bytes.now)) }
 {
     token_laws();
+    name_laws();
     match definition_in(alloc, bytes) {
         Ok(definition) => program_of(alloc, &definition),
         Err(refusal) => Err(refusal),

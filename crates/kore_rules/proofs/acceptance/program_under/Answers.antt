@@ -1,5 +1,4 @@
 use Rattle.std.proofs.Common.{◌≡◌, ◌<◌, ◌∙◌, ap, sym, refl, subst, arith, List, Bool, ℕ, map, length}
-use Rattle.std.proofs.lemmas.List.{length-map}
 use Rattle.std.specs.Prelude.{Vec}
 use Rattle.std.specs.Global.{Global}
 use Rattle.std.specs.List.{AllZip}
@@ -14,7 +13,7 @@ use Rattle.kore_rules.specs.AxiomsRead.{IsNumberedEquation, numbered_equation, t
 use Rattle.kore_rules.specs.Programs.{IsSymbolOf}
 use Rattle.kore_rules.specs.ScalarSorts.{IsFinal}
 use Rattle.kore_rules.specs.TrialOrder.{rule_key, equation_key}
-use Rattle.kore_rules.proofs.ProgramLaws.{read_apart, rules_are, symbols_are, equations_are, few_rules, few_equations, functions_there}
+use Rattle.kore_rules.proofs.ProgramLaws.{length_mapped, read_apart, rules_are, symbols_are, equations_are, few_rules, few_equations, functions_there}
 use Rattle.kore_rules.proofs.acceptance.program_under.Goals as goal
 
 pub by_function-requires : goal.by_function-requires
@@ -48,7 +47,7 @@ returns c =
         symbols = symbols;
         subsorts = refl;
         rules = rules_are sig axioms old_rules rules c.requires.read.rules c.in_ok-put_rules_in_order.ensures.permutation (c.in_ok-put_rules_in_order.ensures.in_order apart);
-        listed = length-map (λ (es : Vec Equation Global). map function_equation es.items) lists ∙ c.in_ok-equations.ensures.len;
+        listed = length_mapped (λ (es : Vec Equation Global). map function_equation es.items) lists ∙ c.in_ok-equations.ensures.len;
         equations = λ n f info there.
             equations_are sig axioms made old new lists n f info c.requires.distinct symbols c.requires.read.equations c.in_ok-put_equations_in_order.ensures.permutation in_order (c.in_ok-equations.ensures.listed n) there;
       };
