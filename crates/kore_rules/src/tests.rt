@@ -91,15 +91,39 @@ fn whole_definitions(rt: HostRuntime) -> Result<(), Fail> {
         ("[] module M endmodule [", Some((2, 23))),
         ("[] module M import X [] endmodule [] module M endmodule []", Some((5, 37))),
         ("[] module M import N [] endmodule []", Some((4, 12))),
-        ("[] module M endmodule [] module N import M [] import O [] sort S{X} [] endmodule []", Some((4, 46))),
-        ("[] module M import X [] sort S{X} [] axiom{} \\rewrites{U{}}(a{}(),a{}()) [] endmodule [] module N endmodule []", None),
+        (
+            "[] module M endmodule [] module N import M [] import O [] sort S{X} [] \
+                endmodule []",
+            Some((4, 46)),
+        ),
+        (
+            "[] module M import X [] sort S{X} [] axiom{} \\rewrites{U{}}(a{}(),a{}()) [] \
+                endmodule [] module N endmodule []",
+            None,
+        ),
         ("[] module M sort S{} [] sort S{X} [] endmodule []", Some((5, 24))),
-        ("[] module M sort S{} [] symbol a{}() : S{} [] symbol a{}() : U{} [] endmodule []", Some((5, 46))),
+        (
+            "[] module M sort S{} [] symbol a{}() : S{} [] symbol a{}() : U{} [] endmodule \
+                []",
+            Some((5, 46)),
+        ),
         ("[] module M symbol a{}() : U{} [] sort S{X} [] endmodule []", Some((6, 27))),
         ("[] module M sort S{X} [] symbol a{}() : U{} [] endmodule []", Some((10, 12))),
-        ("[] module M sort S{} [] axiom{} \\top{S{}}() [subsort{S{},S{}}()] symbol a{}() : U{} [] endmodule []", Some((6, 80))),
-        ("[] module M sort S{} [] axiom{} \\top{S{}}() [anywhere{}()] axiom{} \\top{S{}}() [subsort{S{},U{}}()] endmodule []", Some((6, 92))),
-        ("[] module M sort S{} [] axiom{} \\top{S{}}() [anywhere{}()] axiom{} \\top{S{}}() [subsort{S{},S{}}()] endmodule []", Some((24, 59))),
+        (
+            "[] module M sort S{} [] axiom{} \\top{S{}}() [subsort{S{},S{}}()] symbol a{}() \
+                : U{} [] endmodule []",
+            Some((6, 80)),
+        ),
+        (
+            "[] module M sort S{} [] axiom{} \\top{S{}}() [anywhere{}()] axiom{} \
+                \\top{S{}}() [subsort{S{},U{}}()] endmodule []",
+            Some((6, 92)),
+        ),
+        (
+            "[] module M sort S{} [] axiom{} \\top{S{}}() [anywhere{}()] axiom{} \
+                \\top{S{}}() [subsort{S{},S{}}()] endmodule []",
+            Some((24, 59)),
+        ),
     ];
     for (text, expected) in cases {
         assert!(rt; refusal(rt.alloc(), text)? == expected, "{text}");
@@ -114,14 +138,30 @@ fn axioms(rt: HostRuntime) -> Result<(), Fail> {
     let cases = [
         ("axiom{} \\rewrites{S{}}(a{}(),b{}()) []", None),
         ("axiom{} \\top{S{}}() [overload{}()] axiom{} \\top{S{}}() [anywhere{}()]", Some((21, 0))),
-        ("axiom{} \\top{S{}}() [overload{}(),anywhere{}()] axiom{} \\rewrites{U{}}(x{}(),a{}()) []", Some((20, 0))),
+        (
+            "axiom{} \\top{S{}}() [overload{}(),anywhere{}()] axiom{} \
+                \\rewrites{U{}}(x{}(),a{}()) []",
+            Some((20, 0)),
+        ),
         ("axiom{} \\top{S{}}() [subsort{I{},S{}}(),owise{}()]", None),
-        ("axiom{} \\rewrites{S{}}(a{}(),x{}()) [] axiom{} \\rewrites{U{}}(x{}(),a{}()) []", Some((7, 29))),
-        ("axiom{} \\rewrites{U{}}(\\or{S{}}(a{}()),\\exists{S{}}(X:S{},b{}())) [priority{}(\"x\")]", Some((13, 0))),
+        (
+            "axiom{} \\rewrites{S{}}(a{}(),x{}()) [] axiom{} \\rewrites{U{}}(x{}(),a{}()) \
+                []",
+            Some((7, 29)),
+        ),
+        (
+            "axiom{} \\rewrites{U{}}(\\or{S{}}(a{}()),\\exists{S{}}(X:S{},b{}())) \
+                [priority{}(\"x\")]",
+            Some((13, 0)),
+        ),
         ("axiom{} \\rewrites{U{}}(a{}(),\\exists{S{}}(X:S{},b{}())) [priority{}(\"x\")]", Some((15, 0))),
         ("axiom{} \\rewrites{S{}}(a{}(),\\and{S{}}(a{}(),b{}())) [priority{}(\"x\")]", Some((16, 0))),
         ("axiom{} \\rewrites{S{}}(\\and{S{}}(a{}(),b{}()),b{}()) [priority{}(\"x\")]", Some((17, 0))),
-        ("axiom{} \\rewrites{S{}}(c{}(\\and{S{}}(a{}(),b{}()),x{}()),b{}()) [priority{}(\"x\")]", Some((22, 0))),
+        (
+            "axiom{} \\rewrites{S{}}(c{}(\\and{S{}}(a{}(),b{}()),x{}()),b{}()) \
+                [priority{}(\"x\")]",
+            Some((22, 0)),
+        ),
         ("axiom{} \\rewrites{U{}}(a{}(),b{}()) [priority{}(\"\")]", Some((23, 0))),
         ("axiom{} \\rewrites{U{}}(x{}(),b{}()) []", Some((6, 18))),
         ("axiom{} \\rewrites{S{}}(a{}(b{}()),x{}()) []", Some((8, 23))),
@@ -131,8 +171,16 @@ fn axioms(rt: HostRuntime) -> Result<(), Fail> {
         ("axiom{} \\rewrites{S{}}(c{}(f{}(a{}()),b{}()),X:S{}) []", Some((12, 0))),
         ("axiom{} \\rewrites{S{}}(c{}(a{}(),b{}()),X:S{}) []", Some((14, 0))),
         ("axiom{} \\rewrites{S{}}(a{}(),X:S{}) []", Some((18, 0))),
-        ("axiom{} \\rewrites{S{}}(a{}(),b{}()) [] axiom{} \\rewrites{T{}}(t{}(),t{}()) []", Some((19, 39))),
-        ("axiom{} \\rewrites{S{}}(a{}(),b{}()) [] axiom{} \\rewrites{T{}}(t{}(),X:T{}) []", Some((18, 39))),
+        (
+            "axiom{} \\rewrites{S{}}(a{}(),b{}()) [] axiom{} \\rewrites{T{}}(t{}(),t{}()) \
+                []",
+            Some((19, 39)),
+        ),
+        (
+            "axiom{} \\rewrites{S{}}(a{}(),b{}()) [] axiom{} \\rewrites{T{}}(t{}(),X:T{}) \
+                []",
+            Some((18, 39)),
+        ),
         ("axiom{R} \\equals{S{},R}(f{}(x{}()),X:S{}) []", None),
         ("claim{} \\rewrites{U{}}(x{}(),b{}()) []", None),
     ];
@@ -150,7 +198,10 @@ fn axioms(rt: HostRuntime) -> Result<(), Fail> {
 /// Each refusal of a term, and their order.
 #[test]
 fn terms(rt: HostRuntime) -> Result<(), Fail> {
-    let definition = format!(in rt.alloc(); "{DECLARED}axiom{{}} \\rewrites{{S{{}}}}(a{{}}(),b{{}}()) [] endmodule []")?;
+    let definition = format!(
+        in rt.alloc();
+        "{DECLARED}axiom{{}} \\rewrites{{S{{}}}}(a{{}}(),b{{}}()) [] endmodule []"
+    )?;
     let cases = [
         ("a{}()", None),
         (" a{}() // c", None),
@@ -200,7 +251,8 @@ fn equations_of(program: &Program, name: &str) -> usize {
 /// its hook's values, and the hook of maps closes its function.
 #[test]
 fn addition(rt: HostRuntime) -> Result<(), Fail> {
-    let term = "Lbl'-LT-'k'-GT-'{}(kseq{}(inj{SortExp{},SortKItem{}}(Lbl'UndsPlusUnds'{}(inj{SortInt{},SortExp{}}(\\dv{SortInt{}}(\"2\")),inj{SortInt{},SortExp{}}(\\dv{SortInt{}}(\"3\")))),dotk{}()))";
+    let term = "Lbl'-LT-'k'-GT-'{}(kseq{}(inj{SortExp{},SortKItem{}}(Lbl'UndsPlusUnds'{}(inj\
+        {SortInt{},SortExp{}}(\\dv{SortInt{}}(\"2\")),inj{SortInt{},SortExp{}}(\\dv{SortInt{}}(\"3\")))),dotk{}()))";
     assert!(rt; ADDITION.len() < LONGEST, "long");
     let Ok(program) = accept(rt.alloc(), ADDITION.as_bytes()) else {
         return Err(Fail::from("refused"));
@@ -221,7 +273,8 @@ fn order_of_trial(rt: HostRuntime) -> Result<(), Fail> {
         in rt.alloc();
         "{DECLARED}axiom{{}} \\rewrites{{S{{}}}}(a{{}}(),a{{}}()) [owise{{}}()] \
         axiom{{}} \\rewrites{{S{{}}}}(b{{}}(),a{{}}()) [priority{{}}(\"9\")] \
-        axiom{{}} \\rewrites{{S{{}}}}(X:S{{}},a{{}}()) [] axiom{{}} \\rewrites{{S{{}}}}(a{{}}(),b{{}}()) [] endmodule []"
+        axiom{{}} \\rewrites{{S{{}}}}(X:S{{}},a{{}}()) [] \
+        axiom{{}} \\rewrites{{S{{}}}}(a{{}}(),b{{}}()) [] endmodule []"
     )?;
     if text.len() > LONGEST {
         return Err(Fail::from("long"));
@@ -231,7 +284,7 @@ fn order_of_trial(rt: HostRuntime) -> Result<(), Fail> {
     };
     let mut last = (0, 0);
     for rule in &program.rules {
-        assert!(rt; last < (rule.priority, rule.at), "{rule.at}");
+        assert!(rt; last < (rule.priority, rule.at), "{}", rule.at);
         last = (rule.priority, rule.at);
     }
     assert!(rt; program.rules.len() == 4, "the number of rules");
