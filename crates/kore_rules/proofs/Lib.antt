@@ -1,4 +1,21 @@
 pub mod NotedSteps
+pub mod Places
+pub mod InTrialOrder
+pub mod AxiomSteps
+pub mod MeaningsAreOne
+pub mod MarkLaws
+pub mod ListedLaws
+pub mod ReadLaws
+pub mod AxiomReads
+pub mod FirstLaws
+pub mod KindLaws
+pub mod HookLaws
+pub mod GroundLaws
+pub mod StartLaws
+pub mod FinalLaws
+pub mod ProgramLaws
+pub mod AnswerLaws
+pub mod AcceptedLaws
 pub mod MeaningSorts
 pub mod KeptSorts
 pub mod RuleSorts
@@ -8,3 +25,4 @@ pub mod DeclaredKinds
 pub mod WellSortedPrograms
 pub mod AcceptedTerms
 pub mod ProgramNames
+pub mod OneFault
