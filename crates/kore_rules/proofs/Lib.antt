@@ -26,3 +26,4 @@ pub mod WellSortedPrograms
 pub mod AcceptedTerms
 pub mod ProgramNames
 pub mod OneFault
+pub mod SignatureFacts

@@ -18,6 +18,7 @@ use Rattle.rule_core.specs.declared.signature.SymInfo.{SymInfo}
 use Rattle.rule_core.specs.declared.signature.SymKind.{SymKind}
 use Rattle.rule_core.specs.declared.signature.SymKind.TheVariants.{Ctor, Equations, Hooked}
 use Rattle.kore_sig.specs.Declarations.{axioms_of}
+use Rattle.kore_sig.specs.SignatureFaults.{FirstOfSignature}
 use Rattle.kore_sig.specs.Signatures.{IsSignatureOf}
 use Rattle.kore_sig.specs.SortReferences.{sort_number}
 use Rattle.kore_check.specs.PatternSorts.{symbol_named}
@@ -31,6 +32,7 @@ use Rattle.kore_rules.proofs.EquationSorts.{sorted_equation}
 use Rattle.kore_rules.proofs.KeptSorts.{IsKept, kept, kind_kept, declared_symbol, signature_kept}
 use Rattle.kore_rules.proofs.RuleFirsts.{contains_here, rule_clear, one_sort_of_rules, sort_declared, class_same}
 use Rattle.kore_rules.proofs.RuleSorts.{sorted_rule}
+use Rattle.kore_rules.proofs.SignatureFacts.{distinct_symbols, faultless_signature}
 
 -- A definition with this signature, whose axioms have no fault, means this program.
 pub record IsFaultlessProgram (d : DefinitionTree) (declared : Signature) (theory : RewriteTheory) : Type 0 where
@@ -39,6 +41,16 @@ pub record IsFaultlessProgram (d : DefinitionTree) (declared : Signature) (theor
   pub distinct : AreDistinct (names_of declared.symbols)
   pub no_fault : FirstOfAxioms declared (axioms_of d) None
   pub program : IsProgramUnder declared (axioms_of d) theory
+
+-- it is one where the declarations have no fault
+pub faultless_program : (d : DefinitionTree) (declared : Signature) (theory : RewriteTheory) → FirstOfSignature d None → IsSignatureOf d declared → FirstOfAxioms declared (axioms_of d) None → IsProgramUnder declared (axioms_of d) theory → IsFaultlessProgram d declared theory
+faultless_program d declared theory none is axioms program = record {
+  signature = is;
+  sorted = faultless_signature d declared none is;
+  distinct = distinct_symbols d declared none is;
+  no_fault = axioms;
+  program = program;
+}
 
 -- ---- kinds
 
