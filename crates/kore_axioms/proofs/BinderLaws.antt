@@ -12,15 +12,15 @@ use Rattle.kore_axioms.specs.Conditions.{is_bool, over_bool, tested}
 use Rattle.kore_axioms.specs.RuleParts.{RuleParts, rule_parts, left_of, right_of}
 use Rattle.kore_axioms.proofs.ApplicativeLaws.{neither}
 
-abbrev NoneBinds : Option PatternTree → Type 0
+abbrev pub NoneBinds : Option PatternTree → Type 0
 NoneBinds o = (p : PatternTree) → o ≡ Some p → has_binder p ≡ false
 
 -- each of the patterns has none
-abbrev AllBindNone : List PatternTree → Type 0
+abbrev pub AllBindNone : List PatternTree → Type 0
 AllBindNone [] = Unit {0}
 AllBindNone (p ∷ ps) = (has_binder p ≡ false) × AllBindNone ps
 
-each_binds_none : (ps : PatternTrees) → have_binder ps ≡ false → AllBindNone (listed_patterns ps)
+pub each_binds_none : (ps : PatternTrees) → have_binder ps ≡ false → AllBindNone (listed_patterns ps)
 each_binds_none no_patterns h = tt
 each_binds_none (pattern_then p ps) h = let both = neither _ _ h in (both.0, each_binds_none ps both.1)
 
@@ -184,6 +184,10 @@ tested_binds always h = λ q e. absurd (let never : ⊥ = cc in never)
 tested_binds (tests t b) h = λ q e. subst (λ (x : PatternTree). has_binder x ≡ false) (let same : b ≡ q = cc in same) h
 tested_binds ill h = λ q e. absurd (let never : ⊥ = cc in never)
 
+-- what a condition tests over sorts of truth values
+pub test_binds_none : (sig : Signature) (s : SortTree) (o : Option PatternTree) → NoneBinds o → NoneBinds (tested (over_bool sig (given_condition s o)))
+test_binds_none sig s o none = tested_binds _ (over_binds sig _ (given_binds s o none))
+
 -- ---- the parts of a rule
 
 pub record PartsBindNone (w : RuleParts) : Type 0 where
@@ -199,5 +203,5 @@ parts_bind_none sig p v e h =
     record {
       left = main_binds_none (side heads_condition v.sort v.before) before;
       right = main_binds_none (side is_top v.sort v.after) after;
-      test = tested_binds _ (over_binds sig _ (given_binds v.sort _ (found_binds_none (side heads_condition v.sort v.before) before)));
+      test = test_binds_none sig v.sort _ (found_binds_none (side heads_condition v.sort v.before) before);
     }

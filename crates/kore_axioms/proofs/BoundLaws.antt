@@ -25,7 +25,7 @@ use Rattle.kore_axioms.specs.Uses.{stands_in, stands_in_some, is_bound_by, are_b
 -- ---- sorts
 
 -- sorts that are written alike have one number
-same_number : (sorts : List (List ℕ × SortInfo)) (s t : SortTree) → same_sort s t ≡ true → sort_number sorts s ≡ sort_number sorts t
+pub same_number : (sorts : List (List ℕ × SortInfo)) (s t : SortTree) → same_sort s t ≡ true → sort_number sorts s ≡ sort_number sorts t
 same_number sorts (sort_parameter at n) (sort_parameter place m) h = refl
 same_number sorts (sort_parameter at n) (sort_applied place m ts) h = absurd (false≢true h)
 same_number sorts (sort_applied at n ss) (sort_parameter place m) h = absurd (false≢true h)

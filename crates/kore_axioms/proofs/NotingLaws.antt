@@ -1,12 +1,14 @@
 -- Faults that are noted one after the other.
 use Rattle.std.proofs.Common.{◌≡◌, List, [], ◌∷◌, ◌++◌, Option, Some, None, ap, sym, ◌∙◌, subst}
-use Rattle.std.specs.Prelude.{Contains}
+use Rattle.std.specs.Prelude.{Bool, true, false, not, Contains, is_none, is_some}
+use Rattle.std.proofs.lemmas.Bool.{false≢true}
 use Rattle.kore_sig.specs.FirstFault.{Fault, ByByte, IsFirstBy}
 use Rattle.kore_sig.specs.Noted.{noted, leads_by_byte}
 use Rattle.kore_check.specs.FaultNumbers.{plain_fault, IsFirstOf}
 use Rattle.kore_check.specs.declared.faults.PatternFault.{PatternFault}
-use Rattle.kore_check.proofs.NotedLaws.{noted-append, noted-first, first-one}
+use Rattle.kore_check.proofs.NotedLaws.{left, noted-append, noted-first, first-one}
 use Rattle.kore_axioms.specs.Noting.{kept_fault, after}
+use Rattle.kore_axioms.specs.RuleFaults.{is_empty}
 
 -- what the sort check says of what it notes
 abbrev pub Notes : List Fault → Option PatternFault → Option PatternFault → Type 0
@@ -25,3 +27,19 @@ noted_both fs gs first second third one two =
 -- what is kept where nothing was noted before
 pub all_noted : (fs : List Fault) (r : Option PatternFault) → kept_fault r ≡ after None fs → IsFirstOf fs r
 all_noted fs r e = subst (λ (o : Option Fault). IsFirstBy ByByte (Contains fs) o) (sym e) (noted-first fs)
+
+nothing_kept : (fs : List Fault) (o : Option Fault) → o ≡ noted leads_by_byte None fs → is_none o ≡ is_empty fs
+nothing_kept [] o e = ap is_none e
+nothing_kept (f ∷ fs) o e = let l = left f fs in ap is_none (e ∙ l.is)
+
+-- nothing is kept just where there is nothing
+pub none_kept : (fs : List Fault) (r : Option PatternFault) → kept_fault r ≡ after None fs → is_none r ≡ is_empty fs
+none_kept fs None e = nothing_kept fs None e
+none_kept fs (Some f) e = nothing_kept fs (Some (plain_fault f)) e
+
+-- an answer that says so
+pub none_seen : (fs : List Fault) (r : Option PatternFault) (b : Bool) → kept_fault r ≡ after None fs → is_some r ≡ not b → b ≡ is_empty fs
+none_seen fs None false e h = absurd (false≢true h)
+none_seen fs None true e h = none_kept fs None e
+none_seen fs (Some f) true e h = absurd (false≢true (sym h))
+none_seen fs (Some f) false e h = none_kept fs (Some f) e

@@ -54,7 +54,7 @@ side_there without h k = absurd (false≢true (sym k))
 side_there misshapen h k = absurd (false≢true (sym h))
 
 -- what holds of the pattern, where there is one, holds of this
-held : (test : PatternTree → Bool) (o : Option PatternTree) (p : PatternTree) → o ≡ Some p → holds_of test o ≡ false → test p ≡ false
+pub held : (test : PatternTree → Bool) (o : Option PatternTree) (p : PatternTree) → o ≡ Some p → holds_of test o ≡ false → test p ≡ false
 held test o p e h = sym (ap (holds_of test) e) ∙ h
 
 -- a pattern at its sort
@@ -63,7 +63,7 @@ clear_at sig wanted o p e h =
     let here : side_faults sig wanted (Some p) ≡ [] = sym (ap (side_faults sig wanted) e) ∙ h in
     (no_faults _ _ (no_faults _ _ here).0).1
 
-clear_test : (sig : Signature) (c : Condition) (p : PatternTree) → tested c ≡ Some p → condition_faults sig c ≡ [] → pattern_faults sig (unfolded p) ≡ []
+pub clear_test : (sig : Signature) (c : Condition) (p : PatternTree) → tested c ≡ Some p → condition_faults sig c ≡ [] → pattern_faults sig (unfolded p) ≡ []
 clear_test sig always p e h = absurd (let never : ⊥ = cc in never)
 clear_test sig (tests t b) p e h =
     subst (λ (q : PatternTree). pattern_faults sig (unfolded q) ≡ []) (let same : b ≡ p = cc in same) (no_faults _ _ (no_faults _ _ h).0).1

@@ -12,6 +12,11 @@ use Rattle.kore_axioms.specs.Conditions.{tested}
 use Rattle.kore_axioms.specs.RuleParts.{rule_parts, left_of, right_of}
 use Rattle.kore_axioms.specs.Priorities.{priority_of}
 
+-- the variables, and those of the pattern, where there is one, behind them
+abbrev pub with_some_variables : Signature → List (List ℕ × ℕ) → Option PatternTree → List (List ℕ × ℕ)
+with_some_variables sig vars None = vars
+with_some_variables sig vars (Some p) = with_variables sig vars (unfolded p)
+
 -- what a condition means, where there is one
 abbrev pub MeansTest : Signature → List (List ℕ × ℕ) → Option PatternTree → Option Pattern → Type 0
 MeansTest sig vars None None = Unit {0}

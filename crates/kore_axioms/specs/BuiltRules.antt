@@ -1,5 +1,5 @@
 -- What is built of a rewrite rule without faults of its form and its sorts.
-use Rattle.std.specs.Prelude.{◌≡◌, ◌&&◌, ℕ, true, List, [], Option, Some, None, option_map, Contains}
+use Rattle.std.specs.Prelude.{◌≡◌, ◌&&◌, true, [], Option, Some, option_map, Contains}
 use Rattle.kore_text.specs.Trees.{SortTree, PatternTree, AxiomDeclaration}
 use Rattle.term_core.specs.RulePatterns.{plain_pattern}
 use Rattle.rule_core.specs.declared.signature.Signature.{Signature}
@@ -18,11 +18,6 @@ use Rattle.kore_axioms.specs.declared.rules.RulePatterns.{RulePatterns}
 abbrev pub FirstOfShape : Signature → AxiomDeclaration → SortTree → RuleParts → Option Fault → Type 0
 FirstOfShape sig a s w r
     = Then (IsFirstBy ByNumber (Contains (form_faults a w))) (IsFirstBy ByByte (Contains (sorted_faults sig s w))) r
-
--- the variables, and those of the pattern, where there is one, behind them
-abbrev pub with_some_variables : Signature → List (List ℕ × ℕ) → Option PatternTree → List (List ℕ × ℕ)
-with_some_variables sig vars None = vars
-with_some_variables sig vars (Some p) = with_variables sig vars (unfolded p)
 
 -- the patterns of a rule without such faults are there, and made of the forms that rule patterns have
 pub record IsFine (sig : Signature) (w : RuleParts) : Type 0 where

@@ -17,6 +17,11 @@ use Rattle.kore_axioms.specs.RuleForms.{holds_of, form_faults}
 use Rattle.kore_axioms.specs.Uses.{has_symbol, is_bound_by, is_plain_function, is_ac_symbol}
 use Rattle.kore_axioms.specs.Raised.{raised}
 
+-- there is none
+abbrev pub is_empty : List Fault → Bool
+is_empty [] = true
+is_empty (f ∷ fs) = false
+
 -- ---- the sorts
 
 -- the faults of a pattern that is to have this sort

@@ -17,5 +17,6 @@ pub use faults::AxiomFault;
 pub use parts::{RuleParts, is_ill, over_bool, rule_parts, tested};
 pub use priorities::{has_bad_priority, priority_of};
 pub use refusals::Refusal;
-pub use rules::checked_rule;
+pub use rules::{built_condition, checked_rule};
+pub use sides::{is_faultless, is_faultless_condition};
 pub use uses::{Symbols, has_symbol};

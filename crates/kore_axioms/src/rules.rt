@@ -10,8 +10,8 @@ ghost use Rattle.kore_sig.specs.Noted.{first_by_number};
 ghost use Rattle.kore_check.specs.Folds.{unfolded, IsApplicative};
 ghost use Rattle.kore_shapes.specs.Views.{pattern_at, plain_rewriting};
 ghost use Rattle.kore_axioms.specs.AxiomClasses.{rewrites, class_of};
-ghost use Rattle.kore_axioms.specs.AxiomMeanings.{MeansTest, IsRuleOf};
-ghost use Rattle.kore_axioms.specs.BuiltRules.{IsFine, IsBuiltOf, FirstOfShape, with_some_variables};
+ghost use Rattle.kore_axioms.specs.AxiomMeanings.{with_some_variables, MeansTest, IsRuleOf};
+ghost use Rattle.kore_axioms.specs.BuiltRules.{IsFine, IsBuiltOf, FirstOfShape};
 ghost use Rattle.kore_axioms.specs.Refusals.{Refuses};
 ghost use Rattle.kore_axioms.specs.Conditions.{tested as the_tested};
 ghost use Rattle.kore_axioms.specs.Raised.{raised};
@@ -187,8 +187,8 @@ fn rule_patterns(
     })
 }
 
-/// What the pattern means that a condition tests, where there is one.
-fn built_condition(
+/// What the pattern means that a condition tests, where there is one. Its variables stand behind those that were there.
+pub fn built_condition(
     alloc: Global,
     sig: &Signature,
     pat: Option<&Pat>,

@@ -9,7 +9,7 @@ ghost use Rattle.kore_check.specs.PatternFaults.{sort_faults, clash_faults};
 ghost use Rattle.kore_check.specs.FaultNumbers.{IsFirstOf};
 ghost use Rattle.kore_shapes.specs.Views.{pattern_at, plain_condition};
 ghost use Rattle.kore_axioms.specs.RuleFaults.{faults_at_sort, side_faults, condition_faults, only_sort_faults};
-ghost use Rattle.kore_axioms.specs.RuleFaults.{top_faults, found_top_faults, sorted_faults};
+ghost use Rattle.kore_axioms.specs.RuleFaults.{is_empty, top_faults, found_top_faults, sorted_faults};
 ghost use Rattle.kore_axioms.specs.Views.{plain_rule_parts};
 ghost use Rattle.kore_axioms.specs.Noting.{kept_fault, after, sort_of_id};
 
@@ -37,7 +37,7 @@ pub(crate) fn sort_fault(sig: &Signature, sort: &Sort, parts: RuleParts<'_>) -> 
 }
 
 /// Notes the faults of a pattern that is to have this sort.
-pub(crate) fn note_at_sort(
+fn note_at_sort(
     sig: &Signature,
     pat: &Pat,
     wanted: Option<SortId>,
@@ -49,6 +49,28 @@ pub(crate) fn note_at_sort(
 {
     let own = note_pattern(sig, pat, first);
     note_clash(pat.at, own, wanted, first);
+}
+
+/// Whether a pattern that is to have this sort has no fault. It goes through the pattern once, with a look-up for each
+/// sort and symbol.
+pub fn is_faultless(sig: &Signature, pat: &Pat, wanted: Option<SortId>) -> bool
+    requires { IsNumbered sig.now }
+    ensures { result
+        ≡ is_empty (faults_at_sort sig.now (option_map (λ s. s.0) wanted) (unfolded (plain_pattern pat.now))) }
+{
+    let mut first = None;
+    note_at_sort(sig, pat, wanted, &mut first);
+    first.is_none()
+}
+
+/// Whether the pattern that a condition tests has no fault.
+pub fn is_faultless_condition(sig: &Signature, condition: Condition<'_>) -> bool
+    requires { IsNumbered sig.now }
+    ensures { result ≡ is_empty (condition_faults sig.now (plain_condition condition.entry)) }
+{
+    let mut first = None;
+    note_condition(sig, condition, &mut first);
+    first.is_none()
 }
 
 /// .. where there is one.
@@ -69,11 +91,7 @@ fn note_side(
 }
 
 /// .. of the pattern that a condition tests.
-pub(crate) fn note_condition(
-    sig: &Signature,
-    condition: Condition<'_>,
-    first: &mut Option<PatternFault>,
-)
+fn note_condition(sig: &Signature, condition: Condition<'_>, first: &mut Option<PatternFault>)
     requires { IsNumbered sig.now }
     ensures { kept_fault first.new ≡ after first.old (condition_faults sig.now (plain_condition condition.entry)) }
 {

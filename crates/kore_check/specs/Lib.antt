@@ -1,5 +1,6 @@
 -- Believed: what public clauses say, and believed definitions of other crates.
 pub mod Folds
+pub mod FoldHeights
 pub mod ValueTexts
 pub mod PatternSorts
 pub mod PatternFaults
@@ -10,7 +11,6 @@ pub mod SortedMeanings
 -- Private: what clauses of private functions cite, and how private fields are seen.
 pub mod Notes
 pub mod FoldFaults
-pub mod FoldHeights
 pub mod Building
 pub mod VariableKeys
 pub mod VariableFields

@@ -8,9 +8,10 @@ ghost use Rattle.kore_check.specs.FoldHeights.{cut};
 use kore_ast::{Pat, PatForm};
 use term_core::MAX_HEIGHT;
 
-// The height of a pattern, or 501 where it is greater.
+/// The height of a pattern with its folds read, or 501 where it is greater. That of a variable, of a value and of a
+/// symbol without arguments is 1. It goes through the pattern once.
 #[cycle(height)]
-pub(crate) fn height_of(pat: &Pat) -> u32
+pub fn height_of(pat: &Pat) -> u32
     ensures { result ≡ cut (height (unfolded (plain_pattern pat.now))) }
 {
     match &pat.form {

@@ -20,6 +20,7 @@ mod variables;
 
 pub use checked::{build_pattern, check_pattern};
 pub use faults::{CheckFault, FaultKind, PatternFault};
+pub use heights::height_of;
 pub use laws::sort_laws;
 pub use patterns::{note_clash, note_pattern, note_sort};
 pub use variables::Variables;

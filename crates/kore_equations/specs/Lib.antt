@@ -2,3 +2,9 @@
 pub mod ReadableEquations
 pub mod EquationMeanings
 pub mod Readings
+-- Laws: what follows from that. Each is a clause of a function that does nothing.
+pub mod ReadingLaws
+-- Private: what clauses of private functions cite, and how private fields are seen.
+pub mod ClearEquations
+pub mod BuiltEquations
+pub mod MeantEquations

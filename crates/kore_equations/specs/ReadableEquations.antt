@@ -1,6 +1,6 @@
 -- Which equations are readable. One that is not closes its function; it is no fault of the definition, so it matters
 -- only whether it has a fault, and not which is the first.
-use Rattle.std.specs.Prelude.{◌≡◌, ◌==◌, ◌+◌, ℕ, List, [], ◌∷◌, ◌++◌, Bool, true, false, not, ◌||◌, ◌&&◌, Option, Some}
+use Rattle.std.specs.Prelude.{◌≡◌, ◌==◌, ◌+◌, ℕ, List, [], ◌++◌, Bool, true, false, not, ◌||◌, ◌&&◌, Option, Some}
 use Rattle.std.specs.Prelude.{None, is_some, length, codes, nat_le}
 use Rattle.std.specs.List.{list_any}
 use Rattle.std.specs.Str.{bytes_eq}
@@ -21,7 +21,7 @@ use Rattle.kore_axioms.specs.Conditions.{over_bool, tested, is_ill}
 use Rattle.kore_axioms.specs.Uses.{have_symbol, is_plain_function, is_ac_symbol}
 use Rattle.kore_axioms.specs.Priorities.{has_bad_priority}
 use Rattle.kore_axioms.specs.RuleForms.{holds_of}
-use Rattle.kore_axioms.specs.RuleFaults.{faults_at_sort, condition_faults, is_bound}
+use Rattle.kore_axioms.specs.RuleFaults.{is_empty, faults_at_sort, condition_faults, is_bound}
 
 -- patterns with their folds read
 abbrev pub all_read : List PatternTree → Unfoldeds
@@ -75,10 +75,6 @@ equation_faults sig info e q =
     ++ (argument_faults sig [] info.args.items (all_read q.patterns)
     ++ (condition_faults sig (condition_of_equation sig e q)
     ++ faults_at_sort sig (sort_at [] info.result) (unfolded q.right)))
-
-abbrev pub is_empty : List Fault → Bool
-is_empty [] = true
-is_empty (f ∷ fs) = false
 
 -- there is none, and the function at the patterns is not too high
 abbrev pub is_sorted : Signature → SymInfo → Statement → EquationParts → Bool

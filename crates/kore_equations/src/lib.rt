@@ -1,7 +1,13 @@
 // Equations of functions: which are readable, and what they mean.
 #![tactic(auto)]
 
+mod laws;
+mod patterns;
 mod readable;
 mod readings;
+mod sorts;
+#[cfg(test)]
+mod tests;
 
+pub use laws::reading_laws;
 pub use readings::{Reading, read_equation};

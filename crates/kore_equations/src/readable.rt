@@ -1,10 +1,11 @@
-// Which equations are readable.
-ghost use Rattle.std.specs.Prelude.{◌≡◌, ◌||◌, ◌&&◌, [], not, length, map, option_map};
+// Whether an equation is readable, but for its variables.
+ghost use Rattle.std.specs.Prelude.{◌≡◌, ◌||◌, [], map, option_map, IfOk};
 ghost use Rattle.std.specs.List.{list_any};
 ghost use Rattle.std.specs.Str.{bytes_eq};
 ghost use Rattle.kore_text.specs.Trees.{pattern_trees};
-ghost use Rattle.kore_ast.specs.Plain.{plain_sort, plain_pattern, plain_axiom_decl};
+ghost use Rattle.kore_ast.specs.Plain.{plain_sort, plain_axiom_decl};
 ghost use Rattle.rule_core.specs.Sorting.{sort_at as the_sort_at};
+ghost use Rattle.kore_sig.specs.Signatures.{IsNumbered};
 ghost use Rattle.kore_check.specs.Folds.{all_unfolded};
 ghost use Rattle.kore_shapes.specs.Forms.{has_form as has_one, all_forms};
 ghost use Rattle.kore_shapes.specs.Views.{pattern_at, plain_condition};
@@ -16,19 +17,66 @@ ghost use Rattle.kore_axioms.specs.Conditions.{tested as the_tested};
 ghost use Rattle.kore_axioms.specs.RuleForms.{holds_of};
 ghost use Rattle.kore_equations.specs.ReadableEquations.{condition_of_equation as the_condition};
 ghost use Rattle.kore_equations.specs.ReadableEquations.{is_sort_over as is_a_sort_over, is_one_sort as are_one_sort};
-ghost use Rattle.kore_equations.specs.ReadableEquations.{fits_function as does_fit, has_other_form as has_another_form};
-ghost use Rattle.kore_equations.specs.ReadableEquations.{has_good_form as is_of_good_form};
+ghost use Rattle.kore_equations.specs.ReadableEquations.{fits_function as does_fit, has_good_form as is_of_good_form};
+ghost use Rattle.kore_equations.specs.ClearEquations.{has_good_symbols as are_good, clear_parts as the_clear_parts};
+ghost use Rattle.kore_equations.specs.ClearEquations.{is_clear as are_clear};
 
+use crate::sorts::{is_sorted, result_sort};
 use kore_ast::{AxiomDecl, Pat, Sort, SortForm, Text};
 use kore_axioms::{Symbols, has_bad_priority, has_symbol, is_ill, over_bool, tested};
 use kore_shapes::{
-    Condition, EquationParts, SoughtForms, Statement, given_condition, has_binder, has_form,
+    Condition, EquationParts, SoughtForms, Statement, equation_parts, given_condition, has_binder,
+    has_form,
 };
-use kore_sig::sort_number;
-use rule_core::{Signature, SortRef, SymInfo};
+use kore_sig::{has_attribute, sort_number};
+use rule_core::{Signature, SymInfo};
+use std::alloc::{AllocError, Global};
+
+/// The parts of an equation that is readable if its variables are bound; none of any other one.
+pub(crate) fn clear_parts<'a>(
+    alloc: Global,
+    sig: &Signature,
+    decl: &AxiomDecl,
+    symbol: &SymInfo,
+    stated: &Statement<'a>,
+) -> Result<Option<EquationParts<'a>>, AllocError>
+    requires { IsNumbered sig.now }
+    ensures { IfOk result (λ parts. option_map plain_parts parts
+        ≡ the_clear_parts sig.now (plain_axiom_decl decl.now) symbol.now (plain_statement stated.now)) }
+{
+    if has_attribute(&decl.attrs, "owise") {
+        return Ok(None);
+    }
+    let Some(parts) = equation_parts(alloc, stated)? else {
+        return Ok(None);
+    };
+    if is_clear(sig, decl, symbol, stated, &parts) {
+        Ok(Some(parts))
+    } else {
+        Ok(None)
+    }
+}
+
+/// Whether parts fit their function, and have a good form, no fault of their sorts, and no symbol that none may have.
+fn is_clear<'a>(
+    sig: &Signature,
+    decl: &AxiomDecl,
+    symbol: &SymInfo,
+    stated: &Statement<'a>,
+    parts: &EquationParts<'a>,
+) -> bool
+    requires { IsNumbered sig.now }
+    ensures { result ≡ are_clear sig.now (plain_axiom_decl decl.now) symbol.now (plain_statement stated.now)
+        (plain_parts parts.now) }
+{
+    fits_function(sig, decl, symbol, stated, parts)
+        && has_good_form(sig, decl, stated, parts)
+        && is_sorted(sig, symbol, condition_of(sig, stated, parts), parts)
+        && has_good_symbols(sig, symbol, parts)
+}
 
 /// The condition of an equation.
-fn condition_of<'a>(
+pub(crate) fn condition_of<'a>(
     sig: &Signature,
     stated: &Statement<'a>,
     parts: &EquationParts<'a>,
@@ -51,7 +99,10 @@ fn fits_function(
         (plain_parts parts.now) }
 {
     is_sort_over(sig, &decl.params, stated.over)
-        && is_one_sort(sort_number(&sig.sorts, stated.sort), result_sort(symbol))
+        && is_one_sort(
+            sort_number(&sig.sorts, stated.sort),
+            number_of_result(symbol),
+        )
         && parts.patterns.len() == symbol.args.len()
 }
 
@@ -85,14 +136,11 @@ fn is_one_sort(sort: Option<usize>, other: Option<usize>) -> bool
     }
 }
 
-/// The result sort of a symbol without sort parameters.
-fn result_sort(symbol: &SymInfo) -> Option<usize>
+fn number_of_result(symbol: &SymInfo) -> Option<usize>
     ensures { result ≡ the_sort_at [] symbol.now.result }
 {
-    match symbol.result {
-        SortRef::Sort(sort) => Some(sort.0 as usize),
-        SortRef::Param(_) => None,
-    }
+    let sort = result_sort(symbol)?;
+    Some(sort.0 as usize)
 }
 
 /// Whether an equation has no form that no equation has, no binder, a condition of the form that conditions have, and
@@ -141,6 +189,15 @@ fn have_form(pats: &[&Pat]) -> bool
         }
     }
     false
+}
+
+/// Whether the patterns of the arguments have no function and no AC symbol, and the function is not AC.
+fn has_good_symbols(sig: &Signature, symbol: &SymInfo, parts: &EquationParts<'_>) -> bool
+    ensures { result ≡ are_good sig.now symbol.now (plain_parts parts.now) }
+{
+    !have_symbol(&parts.patterns, sig, Symbols::PlainFunctions)
+        && !symbol.ac
+        && !have_symbol(&parts.patterns, sig, Symbols::Ac)
 }
 
 /// Whether one of these symbols stands in one of the patterns.

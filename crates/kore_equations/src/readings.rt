@@ -6,11 +6,16 @@ ghost use Rattle.rule_core.specs.WellSorted.{IsSignature};
 ghost use Rattle.kore_sig.specs.Signatures.{IsNumbered};
 ghost use Rattle.kore_shapes.specs.StatementViews.{plain_statement};
 ghost use Rattle.kore_axioms.specs.AxiomClasses.{equates, class_of};
+ghost use Rattle.kore_check.specs.PatternSorts.{symbol_named};
 ghost use Rattle.kore_equations.specs.Readings.{IsReadAs, function_of};
+ghost use Rattle.kore_equations.specs.MeantEquations.{IsMeant};
 
+use crate::patterns::equation_patterns;
+use crate::readable::{clear_parts, condition_of};
 use kore_ast::AxiomDecl;
+use kore_axioms::priority_of;
 use kore_shapes::Statement;
-use rule_core::{Equation, Signature};
+use rule_core::{Equation, Signature, SymInfo};
 use std::alloc::{AllocError, Global};
 use term_core::SymId;
 
@@ -24,12 +29,13 @@ pub enum Reading {
 }
 
 /// The equation that an axiom of this statement means, or that it is not readable. Its variables are those of the
-/// patterns that the arguments match, in the order of their first occurrence.
+/// patterns that the arguments match, in the order of their first occurrence. As many parameters as 32 bits do not
+/// count are taken for want of memory, which they would not fit into.
 ///
-/// It goes through the axiom a few times, with a look-up for each sort, symbol and variable, and once more for each
-/// argument of the function that it is written with.
+/// It goes through the axiom a few times, with a look-up for each sort, symbol and variable; where it has the form that
+/// kompile writes, also once for each argument of its function.
 pub fn read_equation(
-    _alloc: Global,
+    alloc: Global,
     sig: &Signature,
     decl: &AxiomDecl,
     stated: &Statement<'_>,
@@ -41,5 +47,61 @@ pub fn read_equation(
         (λ reading. number_of sig.now.symbols stated.now.function.now ≡ Some (function_of reading)) }
     ensures means { IfOk result (IsReadAs sig.now stated.now.function.now (plain_axiom_decl decl.now)) }
 {
-    Err(AllocError)
+    let Some(number) = sig.symbols.number(stated.function.as_str()) else {
+        unreachable!()
+    };
+    let Some(symbol) = sig.symbols.value(number) else {
+        unreachable!()
+    };
+    let function = SymId(number as u32);
+    match meant_equation(alloc, sig, decl, stated, function, symbol)? {
+        Some(equation) => Ok(Reading::Equation(equation)),
+        None => Ok(Reading::Unreadable(function)),
+    }
+}
+
+/// The equation of this function that an axiom means; none where it is not readable.
+fn meant_equation(
+    alloc: Global,
+    sig: &Signature,
+    decl: &AxiomDecl,
+    stated: &Statement<'_>,
+    function: SymId,
+    symbol: &SymInfo,
+) -> Result<Option<Equation>, AllocError>
+    requires numbered { IsNumbered sig.now }
+    requires signature { IsSignature sig.now }
+    requires class { class_of sig.now (plain_axiom_decl decl.now) ≡ equates (plain_statement stated.now) }
+    requires declared { symbol_named sig.now stated.now.function.now ≡ Some symbol.now }
+    ensures { IfOk result
+        (IsMeant sig.now stated.now.function.now function.0 symbol.now (plain_axiom_decl decl.now)
+        (plain_statement stated.now)) }
+{
+    let Some(parts) = clear_parts(alloc, sig, decl, symbol, stated)? else {
+        return Ok(None);
+    };
+    let made = equation_patterns(alloc, sig, &parts, condition_of(sig, stated, &parts))?;
+    if !made.bound {
+        return Ok(None);
+    }
+    Ok(Some(Equation {
+        at: decl.at,
+        fun: function,
+        params: as_number(parts.parameters.len())?,
+        args: made.args,
+        cond: made.cond,
+        right: made.right,
+        vars: made.vars,
+        priority: priority_of(&decl.attrs),
+    }))
+}
+
+/// A number of 32 bits.
+fn as_number(number: usize) -> Result<u32, AllocError>
+    ensures { IfOk result (λ n. n ≡ number) }
+{
+    if number > u32::MAX as usize {
+        return Err(AllocError);
+    }
+    Ok(number as u32)
 }

@@ -11,10 +11,12 @@ use Rattle.rule_core.specs.Theories.{RewriteTheory}
 use Rattle.rule_core.specs.declared.signature.Signature.{Signature}
 use Rattle.kore_sig.specs.FirstFault.{Fault}
 use Rattle.kore_sig.specs.Declarations.{axioms_of}
+use Rattle.kore_sig.specs.SignatureFaults.{FirstOfSignature}
+use Rattle.kore_sig.specs.Signatures.{IsSignatureOf}
 use Rattle.kore_check.specs.Folds.{unfolded}
 use Rattle.kore_check.specs.PatternMeanings.{Means}
-use Rattle.kore_rules.specs.FirstRefusal.{FirstOfDefinition, FirstOfTerm}
-use Rattle.kore_rules.specs.Programs.{IsProgramOf, IsTopOf}
+use Rattle.kore_rules.specs.FirstRefusal.{FirstOfAxioms, FirstOfDefinition, FirstOfTerm}
+use Rattle.kore_rules.specs.Programs.{IsProgramUnder, IsTopOf}
 
 -- a fault of the text: 1 of its tokens, 2 of its grammar, 3 too many open brackets
 abbrev pub fault_of_text : TextFault → Fault
@@ -27,12 +29,16 @@ abbrev pub HasTextFault : (Stream → Type 0) → List ℕ → Fault → Type 0
 HasTextFault L bytes f = (fault : TextFault) × IsFirstFault L 0 (tokens_of bytes) (Some fault)
     × (f ≡ fault_of_text fault)
 
--- The bytes are accepted as a definition, which means this program, and whose rules have this sort.
+-- The bytes are accepted as a definition, which means this program, and whose rules have this sort: where its
+-- declarations have no fault, they give a signature, and by that its axioms have none.
 pub record IsAccepted (bytes : List ℕ) (theory : RewriteTheory) (top : Option ℕ) : Type 0 where
   pub definition : DefinitionTree
   pub spelled : ReadsDefinition bytes definition
-  pub no_fault : FirstOfDefinition definition None
-  pub program : IsProgramOf definition theory
+  pub declared : Signature
+  pub signature : IsSignatureOf definition declared
+  pub no_fault : FirstOfSignature definition None
+  pub no_axiom_fault : FirstOfAxioms declared (axioms_of definition) None
+  pub program : IsProgramUnder declared (axioms_of definition) theory
   pub sort : IsTopOf theory.sig (axioms_of definition) top
 
 -- The bytes are refused as a definition, for this fault.

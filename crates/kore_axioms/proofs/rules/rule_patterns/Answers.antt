@@ -6,8 +6,7 @@ use Rattle.term_core.specs.RulePatterns.{plain_pattern}
 use Rattle.kore_check.specs.Folds.{Unfoldeds, unfolded}
 use Rattle.kore_check.specs.PatternMeanings.{named_sorts, with_variables, with_all_variables, Means}
 use Rattle.kore_shapes.specs.Views.{pattern_at}
-use Rattle.kore_axioms.specs.AxiomMeanings.{MeansTest}
-use Rattle.kore_axioms.specs.BuiltRules.{with_some_variables}
+use Rattle.kore_axioms.specs.AxiomMeanings.{with_some_variables, MeansTest}
 use Rattle.kore_axioms.specs.Conditions.{tested}
 use Rattle.kore_axioms.specs.RuleFaults.{listed, is_bound}
 use Rattle.kore_axioms.specs.RuleParts.{RuleParts, left_of}

@@ -1,0 +1,108 @@
+-- What follows for the patterns of an equation that is clear, and what is made of them.
+use Rattle.std.proofs.Common.{◌≡◌, ℕ, Bool, true, false, List, [], ◌∷◌, map, Option, Some, refl, ap, sym, ◌∙◌, subst}
+use Rattle.std.specs.Prelude.{not, drop, length, option_map}
+use Rattle.std.specs.List.{list_any}
+use Rattle.kore_text.specs.Trees.{PatternTree, AxiomDeclaration}
+use Rattle.rule_core.proofs.Belows.{both_true}
+use Rattle.rule_core.specs.ProgramView.{sorts_of}
+use Rattle.rule_core.specs.Sorting.{sort_at}
+use Rattle.rule_core.specs.declared.rules.VarInfo.{VarInfo}
+use Rattle.rule_core.specs.declared.signature.Signature.{Signature}
+use Rattle.rule_core.specs.declared.signature.SortRef.{SortRef}
+use Rattle.rule_core.specs.declared.signature.SymInfo.{SymInfo}
+use Rattle.term_core.specs.RulePatterns.{plain_pattern}
+use Rattle.term_core.specs.PatternLists.{plain_patterns}
+use Rattle.kore_check.specs.Folds.{unfolded}
+use Rattle.kore_check.specs.PatternFaults.{first_wanted}
+use Rattle.kore_check.specs.PatternMeanings.{named_sorts, with_all_variables, Means, AllMean}
+use Rattle.kore_check.specs.PatternSorts.{symbol_named}
+use Rattle.kore_shapes.specs.Forms.{all_forms, has_form, has_binder}
+use Rattle.kore_shapes.specs.Statements.{Statement}
+use Rattle.kore_shapes.specs.EquationForms.{EquationParts}
+use Rattle.kore_axioms.specs.AxiomClasses.{equates, class_of}
+use Rattle.kore_axioms.specs.AxiomMeanings.{MeansTest}
+use Rattle.kore_axioms.specs.Conditions.{tested}
+use Rattle.kore_axioms.specs.Priorities.{priority_of}
+use Rattle.kore_axioms.specs.RuleFaults.{is_empty, faults_at_sort, condition_faults}
+use Rattle.kore_axioms.proofs.ApplicativeLaws.{neither, applicative}
+use Rattle.kore_axioms.proofs.BinderLaws.{AllBindNone, test_binds_none}
+use Rattle.kore_axioms.proofs.BoundLaws.{no_faults}
+use Rattle.kore_axioms.proofs.RuleLaws.{held, clear_test}
+use Rattle.kore_equations.specs.ReadableEquations.{all_read, condition_of_equation, has_other_form}
+use Rattle.kore_equations.specs.EquationMeanings.{IsEquationOf}
+use Rattle.kore_equations.specs.ClearEquations.{each_faultless, clear_parts}
+use Rattle.kore_equations.specs.BuiltEquations.{IsFine, AreFine, IsFineEquation, IsBuiltOf}
+use Rattle.kore_equations.specs.declared.patterns.EquationPatterns.{EquationPatterns}
+use Rattle.kore_equations.proofs.BinderLaws.{statement_binds_none, equation_binds_none}
+use Rattle.kore_equations.proofs.ClassLaws.{class_equates}
+use Rattle.kore_equations.proofs.ClearLaws.{empty_is, clear_is, is_readable}
+
+-- a pattern that is clear at a sort
+fine_at : (sig : Signature) (wanted : Option ℕ) (p : PatternTree) → is_empty (faults_at_sort sig wanted (unfolded p)) ≡ true → has_form all_forms p ≡ false → has_binder p ≡ false → IsFine sig (unfolded p)
+fine_at sig wanted p clear form binder = record {
+  form = applicative p form binder;
+  clear = (no_faults _ _ (no_faults _ _ (empty_is _ clear)).0).1;
+}
+
+fine_patterns : (sig : Signature) (refs : List SortRef) (ps : List PatternTree) → each_faultless sig refs (all_read ps) ≡ true → list_any (has_form all_forms) ps ≡ false → AllBindNone ps → AreFine sig (all_read ps)
+fine_patterns sig refs [] clear forms binders = tt
+fine_patterns sig refs (p ∷ ps) clear forms binders =
+    let both = both_true _ _ clear in
+    let form = neither _ _ forms in
+    (fine_at sig (first_wanted sig [] refs) p both.0 form.0 binders.0, fine_patterns sig (drop 1 refs) ps both.1 form.1 binders.1)
+
+not_true : (b : Bool) → not b ≡ true → b ≡ false
+not_true false h = refl
+not_true true h = sym h
+
+pub fine_equation : (sig : Signature) (a : AxiomDeclaration) (info : SymInfo) (e : Statement) (q : EquationParts) → class_of sig a ≡ equates e → clear_parts sig a info e ≡ Some q → IsFineEquation sig (condition_of_equation sig e q) q
+fine_equation sig a info e q class h =
+    let c = clear_is sig a info e q h in
+    let good = both_true _ _ c.good_form in
+    let rest = both_true _ _ good.1 in
+    let no_binder : has_binder a.pattern ≡ false = not_true _ rest.0 in
+    let forms = neither _ _ (not_true (has_other_form sig e q) good.0) in
+    let others = neither _ _ forms.1 in
+    let stated = statement_binds_none a.pattern e (class_equates sig a e class).stated no_binder in
+    let binds = equation_binds_none e q c.form stated in
+    let low = both_true _ _ c.sorted in
+    let parameters = both_true _ _ low.1 in
+    let patterns = both_true _ _ parameters.1 in
+    let sides = both_true _ _ patterns.1 in
+    record {
+      patterns = fine_patterns sig info.args.items q.patterns patterns.0 forms.0 binds.patterns;
+      test = λ p is. record {
+        form = applicative p (held (has_form all_forms) (tested (condition_of_equation sig e q)) p is others.0) (test_binds_none sig e.over q.condition binds.condition p is);
+        clear = clear_test sig (condition_of_equation sig e q) p is (empty_is (condition_faults sig (condition_of_equation sig e q)) sides.0);
+      };
+      right = fine_at sig (sort_at [] info.result) q.right sides.1 others.1 binds.right;
+    }
+
+sorts_named : (vars : List VarInfo) → sorts_of vars ≡ map (λ (v : List ℕ × ℕ). v.1) (named_sorts vars)
+sorts_named [] = refl
+sorts_named (v ∷ vars) = ap (λ (ss : List ℕ). v.sort.0 ∷ ss) (sorts_named vars)
+
+-- what is built of bound parts is the equation that the axiom means
+pub equation_meant : (sig : Signature) (a : AxiomDeclaration) (info : SymInfo) (e : Statement) (q : EquationParts) (made : EquationPatterns) (n : ℕ) → class_of sig a ≡ equates e → symbol_named sig e.function ≡ Some info → clear_parts sig a info e ≡ Some q
+    → IsBuiltOf sig (condition_of_equation sig e q) q made → made.bound ≡ true → n ≡ length q.parameters
+    → IsEquationOf sig e.function a (record { parameters = n; arguments = plain_patterns made.args.items; condition = option_map plain_pattern made.cond; right = plain_pattern made.right; variables = sorts_of made.vars.items; priority = priority_of a.attributes; place = a.at })
+equation_meant sig a info e q made n class declared clear b bound count =
+    let numbered = b.numbered bound in
+    record {
+      stated = e;
+      class = class;
+      function = refl;
+      info = info;
+      declared = declared;
+      parts = q;
+      readable = is_readable sig a info e q clear (sym b.bound ∙ bound);
+      variables = with_all_variables sig [] (all_read q.patterns);
+      numbered = refl;
+      parameters = count;
+      means_arguments = subst (λ (vs : List (List ℕ × ℕ)). AllMean sig vs (all_read q.patterns) (plain_patterns made.args.items)) numbered (b.means_arguments bound);
+      means_condition = subst (λ (vs : List (List ℕ × ℕ)). MeansTest sig vs (tested (condition_of_equation sig e q)) (option_map plain_pattern made.cond)) numbered (b.means_condition bound);
+      means_right = subst (λ (vs : List (List ℕ × ℕ)). Means sig vs (unfolded q.right) (plain_pattern made.right)) numbered (b.means_right bound);
+      sorts = sorts_named made.vars.items ∙ ap (map (λ (v : List ℕ × ℕ). v.1)) numbered;
+      priority = refl;
+      place = refl;
+    }

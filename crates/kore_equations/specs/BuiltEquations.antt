@@ -1,0 +1,44 @@
+-- What is built of the patterns of an equation without faults of its form and its sorts.
+use Rattle.std.specs.Prelude.{◌≡◌, ◌&&◌, true, [], Some, option_map}
+use Rattle.kore_text.specs.Trees.{PatternTree}
+use Rattle.term_core.specs.RulePatterns.{plain_pattern}
+use Rattle.term_core.specs.PatternLists.{plain_patterns}
+use Rattle.rule_core.specs.declared.signature.Signature.{Signature}
+use Rattle.kore_check.specs.Folds.{Unfolded, Unfoldeds, no_more, and_more, unfolded, IsApplicative}
+use Rattle.kore_check.specs.PatternFaults.{pattern_faults}
+use Rattle.kore_check.specs.PatternMeanings.{named_sorts, with_all_variables, Means, AllMean}
+use Rattle.kore_shapes.specs.Shapes.{Condition}
+use Rattle.kore_shapes.specs.EquationForms.{EquationParts}
+use Rattle.kore_axioms.specs.AxiomMeanings.{MeansTest}
+use Rattle.kore_axioms.specs.Conditions.{tested}
+use Rattle.kore_axioms.specs.RuleFaults.{is_bound}
+use Rattle.kore_equations.specs.ReadableEquations.{all_read}
+use Rattle.kore_equations.specs.declared.patterns.EquationPatterns.{EquationPatterns}
+
+-- a pattern has no fault, but maybe that of its height, and is made of the forms that rule patterns have
+pub record IsFine (sig : Signature) (u : Unfolded) : Type 0 where
+  pub form : IsApplicative u
+  pub clear : pattern_faults sig u ≡ []
+
+abbrev pub AreFine : Signature → Unfoldeds → Type 0
+AreFine sig no_more = Unit {0}
+AreFine sig (and_more u us) = IsFine sig u × AreFine sig us
+
+-- the patterns of an equation under this condition are so
+pub record IsFineEquation (sig : Signature) (c : Condition) (q : EquationParts) : Type 0 where
+  pub patterns : AreFine sig (all_read q.patterns)
+  pub test : (p : PatternTree) → tested c ≡ Some p → IsFine sig (unfolded p)
+  pub right : IsFine sig (unfolded q.right)
+
+-- The patterns are built of the parts, under this condition. Where all variables are bound, they mean these with the
+-- variables of the patterns that the arguments match.
+pub record IsBuiltOf (sig : Signature) (c : Condition) (q : EquationParts) (made : EquationPatterns) : Type 0 where
+  pub bound : made.bound
+      ≡ (is_bound (all_read q.patterns) (tested c) && is_bound (all_read q.patterns) (Some q.right))
+  pub numbered : made.bound ≡ true → named_sorts made.vars.items ≡ with_all_variables sig [] (all_read q.patterns)
+  pub means_arguments : made.bound ≡ true
+      → AllMean sig (named_sorts made.vars.items) (all_read q.patterns) (plain_patterns made.args.items)
+  pub means_condition : made.bound ≡ true
+      → MeansTest sig (named_sorts made.vars.items) (tested c) (option_map plain_pattern made.cond)
+  pub means_right : made.bound ≡ true
+      → Means sig (named_sorts made.vars.items) (unfolded q.right) (plain_pattern made.right)

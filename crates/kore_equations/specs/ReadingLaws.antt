@@ -1,0 +1,11 @@
+-- The law of readings: no axiom is an equation of a function and an unreadable one of it.
+use Rattle.std.specs.Prelude.{ℕ, List}
+use Rattle.kore_text.specs.Trees.{AxiomDeclaration}
+use Rattle.rule_core.specs.Rules.{Equation}
+use Rattle.rule_core.specs.declared.signature.Signature.{Signature}
+use Rattle.kore_equations.specs.EquationMeanings.{IsEquationOf, IsUnreadable}
+
+abbrev pub ReadingsExclude : Type 0
+ReadingsExclude =
+    (sig : Signature) (f : List ℕ) (a : AxiomDeclaration) (e : Equation) → IsEquationOf sig f a e →
+    IsUnreadable sig f a → ⊥

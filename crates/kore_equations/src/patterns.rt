@@ -1,0 +1,77 @@
+// What the patterns of an equation mean.
+ghost use Rattle.std.specs.Prelude.{◌≡◌, map, option_map, IfOk, OnOk};
+ghost use Rattle.term_core.specs.PatternLists.{plain_patterns};
+ghost use Rattle.rule_core.specs.WellSorted.{IsSignature};
+ghost use Rattle.kore_sig.specs.Signatures.{IsNumbered};
+ghost use Rattle.kore_check.specs.PatternMeanings.{with_all_variables, AllMean};
+ghost use Rattle.kore_shapes.specs.Views.{pattern_at, plain_condition};
+ghost use Rattle.kore_shapes.specs.PartViews.{plain_parts};
+ghost use Rattle.kore_equations.specs.ReadableEquations.{all_read};
+ghost use Rattle.kore_equations.specs.BuiltEquations.{AreFine, IsFineEquation, IsBuiltOf};
+
+use kore_ast::Pat;
+use kore_axioms::{built_condition, tested};
+use kore_check::{Variables, build_pattern};
+use kore_shapes::{Condition, EquationParts};
+use rule_core::{Signature, VarInfo};
+use std::alloc::{AllocError, Global};
+use term_core::RulePat;
+
+/// The patterns of an equation with their variables, and whether those of its arguments have all of these.
+#[derive(Drop)]
+pub(crate) struct EquationPatterns {
+    pub(crate) args: Vec<RulePat>,
+    pub(crate) cond: Option<RulePat>,
+    pub(crate) right: RulePat,
+    pub(crate) vars: Vec<VarInfo>,
+    pub(crate) bound: bool,
+}
+
+/// What the patterns of an equation under this condition mean, which have no fault.
+pub(crate) fn equation_patterns(
+    alloc: Global,
+    sig: &Signature,
+    parts: &EquationParts<'_>,
+    condition: Condition<'_>,
+) -> Result<EquationPatterns, AllocError>
+    requires numbered { IsNumbered sig.now }
+    requires signature { IsSignature sig.now }
+    requires fine { IsFineEquation sig.now (plain_condition condition) (plain_parts parts.now) }
+    ensures { IfOk result (IsBuiltOf sig.now (plain_condition condition.entry) (plain_parts parts.now)) }
+{
+    let mut vars = Variables::new(alloc);
+    let args = built_patterns(alloc, sig, &parts.patterns, &mut vars)?;
+    let bound = vars.len();
+    let cond = built_condition(alloc, sig, tested(condition), &mut vars)?;
+    let right = build_pattern(alloc, sig, parts.right, &mut vars)?;
+    let bound = vars.len() == bound;
+    Ok(EquationPatterns {
+        args,
+        cond,
+        right,
+        vars: vars.into_infos(),
+        bound,
+    })
+}
+
+/// What patterns without faults mean. Their variables stand behind those that were there.
+fn built_patterns(
+    alloc: Global,
+    sig: &Signature,
+    pats: &[&Pat],
+    vars: &mut Variables,
+) -> Result<Vec<RulePat>, AllocError>
+    requires numbered { IsNumbered sig.now }
+    requires signature { IsSignature sig.now }
+    requires fine { AreFine sig.now (all_read (map pattern_at pats.now)) }
+    ensures vars { OnOk result
+        (vars.new ≡ with_all_variables sig.now vars.old (all_read (map pattern_at pats.now))) }
+    ensures means { IfOk result
+        (λ made. AllMean sig.now vars.new (all_read (map pattern_at pats.now)) (plain_patterns made.items)) }
+{
+    let mut made = Vec::with_capacity(alloc, pats.len())?;
+    for i in 0..pats.len() {
+        made.push(build_pattern(alloc, sig, pats[i], vars)?)?;
+    }
+    Ok(made)
+}

@@ -1,0 +1,101 @@
+// The sorts of an equation.
+ghost use Rattle.std.specs.Prelude.{◌≡◌, ◌+◌, [], drop, map, option_map, nat_le};
+ghost use Rattle.kore_ast.specs.Plain.{plain_pattern};
+ghost use Rattle.rule_core.specs.Sorting.{sort_at as the_sort_at};
+ghost use Rattle.kore_sig.specs.Signatures.{IsNumbered};
+ghost use Rattle.kore_check.specs.Folds.{heights};
+ghost use Rattle.kore_check.specs.FoldHeights.{cut};
+ghost use Rattle.kore_check.specs.PatternFaults.{first_wanted, most_height};
+ghost use Rattle.kore_shapes.specs.Views.{pattern_at, plain_condition};
+ghost use Rattle.kore_shapes.specs.PartViews.{plain_parts};
+ghost use Rattle.kore_equations.specs.ReadableEquations.{all_read};
+ghost use Rattle.kore_equations.specs.ClearEquations.{each_faultless, are_parts_sorted};
+
+use kore_ast::Pat;
+use kore_axioms::{is_faultless, is_faultless_condition};
+use kore_check::height_of;
+use kore_shapes::{Condition, EquationParts};
+use rule_core::{Signature, SortRef, SymInfo};
+use term_core::{MAX_HEIGHT, SortId};
+
+/// Whether the parts of an equation under this condition have no fault of their sorts, and its function at the patterns
+/// is not too high.
+pub(crate) fn is_sorted(
+    sig: &Signature,
+    symbol: &SymInfo,
+    condition: Condition<'_>,
+    parts: &EquationParts<'_>,
+) -> bool
+    requires { IsNumbered sig.now }
+    ensures { result ≡ are_parts_sorted sig.now symbol.now (plain_condition condition.entry) (plain_parts parts.now) }
+{
+    is_low(&parts.patterns)
+        && are_parameters(sig, parts.parameters, &symbol.args)
+        && are_arguments(sig, &parts.patterns, &symbol.args)
+        && is_faultless_condition(sig, condition)
+        && is_faultless(sig, parts.right, result_sort(symbol))
+}
+
+/// Whether a symbol at these patterns is not too high.
+fn is_low(pats: &[&Pat]) -> bool
+    ensures { result ≡ nat_le (heights (all_read (map pattern_at pats.now)) + 1) most_height }
+{
+    highest(pats) < MAX_HEIGHT
+}
+
+/// The greatest height of patterns, 0 where there is none, or 501 where it is greater.
+fn highest(pats: &[&Pat]) -> u32
+    ensures { result ≡ cut (heights (all_read (map pattern_at pats.now))) }
+{
+    let mut highest: u32 = 0;
+    for pat in pats {
+        highest = highest.max(height_of(pat));
+    }
+    highest
+}
+
+/// Whether variables have no fault at the places of a symbol's arguments.
+fn are_parameters(sig: &Signature, pats: &[Pat], places: &[SortRef]) -> bool
+    requires { IsNumbered sig.now }
+    ensures { result ≡ each_faultless sig.now places.now (all_read (map plain_pattern pats.now)) }
+{
+    for i in 0..pats.len() {
+        if !is_faultless(sig, &pats[i], wanted(places, i)) {
+            return false;
+        }
+    }
+    true
+}
+
+/// Whether patterns have no fault at the places of a symbol's arguments.
+fn are_arguments(sig: &Signature, pats: &[&Pat], places: &[SortRef]) -> bool
+    requires { IsNumbered sig.now }
+    ensures { result ≡ each_faultless sig.now places.now (all_read (map pattern_at pats.now)) }
+{
+    for i in 0..pats.len() {
+        if !is_faultless(sig, pats[i], wanted(places, i)) {
+            return false;
+        }
+    }
+    true
+}
+
+/// The sort that a place of a symbol without sort parameters wants, where there is such a place.
+fn wanted(places: &[SortRef], i: usize) -> Option<SortId>
+    ensures { (sig : Signature) → option_map (λ s. s.0) result ≡ first_wanted sig [] (drop i places.now) }
+{
+    match places.get(i) {
+        Some(SortRef::Sort(sort)) => Some(*sort),
+        Some(SortRef::Param(_)) | None => None,
+    }
+}
+
+/// The result sort of a symbol without sort parameters.
+pub(crate) fn result_sort(symbol: &SymInfo) -> Option<SortId>
+    ensures { option_map (λ s. s.0) result ≡ the_sort_at [] symbol.now.result }
+{
+    match symbol.result {
+        SortRef::Sort(sort) => Some(sort),
+        SortRef::Param(_) => None,
+    }
+}

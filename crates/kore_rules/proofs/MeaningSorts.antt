@@ -1,0 +1,212 @@
+-- What follows for the meaning of a pattern without faults.
+use Rattle.std.proofs.Common.{◌≡◌, ◌<◌, ℕ, Bool, true, false, ◌&&◌, ◌||◌, List, [], ◌∷◌, ◌++◌, length, Option, Some, None, ◌⊎◌, ⊎_elim, inl, inr, refl, ap, sym, ◌∙◌, subst}
+use Rattle.std.specs.Prelude.{All, not, ◌==◌, is_some, if◌then◌else◌}
+use Rattle.std.specs.Option.{option_and_then}
+use Rattle.std.proofs.lemmas.Bool.{false≢true, eqb-true}
+use Rattle.std.proofs.lemmas.Slice.Eq.{bytes_eq-Decides}
+use Rattle.std.proofs.lemmas.List.{map-append}
+use Rattle.std.proofs.lemmas.List.Elements.{All-push}
+use Rattle.kore_text.specs.Trees.{SortTree}
+use Rattle.term_core.specs.Patterns.{Pattern, Patterns, no_pattern, more_patterns}
+use Rattle.rule_core.proofs.Belows.{both_true}
+use Rattle.rule_core.specs.Matching.{StandsIn, StandsInSome}
+use Rattle.rule_core.specs.Sorting.{HasSort}
+use Rattle.rule_core.specs.WellSorted.{HasNoCall, HaveNoCall, IsSignature, UsesOnly}
+use Rattle.rule_core.specs.declared.signature.Signature.{Signature}
+use Rattle.rule_core.specs.declared.signature.SymInfo.{SymInfo}
+use Rattle.rule_core.specs.declared.signature.SymKind.{SymKind}
+use Rattle.rule_core.specs.declared.signature.SymKind.TheVariants.{Injection, Ctor, Equations, Hooked, Closed, NoKind}
+use Rattle.kore_sig.specs.SortReferences.{sort_number}
+use Rattle.kore_check.specs.Folds.{Unfolded, Unfoldeds, no_more, and_more, named_variable, written_value, applied_symbol, other_form, place, IsApplicative, AreApplicative}
+use Rattle.kore_check.specs.PatternFaults.{pattern_faults, clash_faults}
+use Rattle.kore_check.specs.PatternMeanings.{Means, by_variable, by_value, by_symbol, AllMean, none_mean, more_mean, applied_pattern, injected_only, variable_number, with_variable, with_variables, with_all_variables, IsNamed}
+use Rattle.kore_check.specs.PatternSorts.{symbol_info, symbol_named, sort_of}
+use Rattle.kore_check.specs.SortedMeanings.{variable_sorts}
+use Rattle.kore_check.proofs.BuildLaws.{unless_empty}
+use Rattle.kore_check.proofs.CheckLaws.{faultless_sorted, some_or_none}
+use Rattle.kore_check.proofs.SortedLaws.{meanings_are_sorted}
+use Rattle.kore_check.proofs.SortLaws.{sort_number-within}
+use Rattle.kore_axioms.proofs.ApplicativeLaws.{neither}
+use Rattle.kore_axioms.proofs.BoundLaws.{no_faults, same_number}
+use Rattle.kore_axioms.specs.RuleFaults.{faults_at_sort}
+use Rattle.kore_axioms.specs.Uses.{has_symbol, have_symbol, is_plain_function, is_plain_function_with, is_ac_symbol, is_ac_with, is_function_kind, stands_in, stands_in_some, is_bound_by, are_bound_by}
+
+some_same : {X : Type 0} (x y : X) → Some x ≡ Some y → x ≡ y
+some_same x y e = cc
+
+-- ---- the form
+
+mutual
+  pub means_form : (sig : Signature) (vars : List (List ℕ × ℕ)) {u : Unfolded} {p : Pattern} → Means sig vars u p → IsApplicative u
+  means_form sig vars (by_variable a b) = tt
+  means_form sig vars (by_value a b) = tt
+  means_form sig vars (by_symbol a b all d) = all_form sig vars all
+
+  all_form : (sig : Signature) (vars : List (List ℕ × ℕ)) {us : Unfoldeds} {ps : Patterns} → AllMean sig vars us ps → AreApplicative us
+  all_form sig vars none_mean = tt
+  all_form sig vars (more_mean first rest) = (means_form sig vars first, all_form sig vars rest)
+
+-- ---- the sort
+
+no_clash : (byte own wanted : ℕ) → clash_faults byte (Some own) (Some wanted) ≡ [] → own ≡ wanted
+no_clash byte own wanted e = eqb-true own wanted (unless_empty (own == wanted) 9 byte e)
+
+-- a pattern without faults at a sort means one of that sort
+pub sorted_at : (sig : Signature) (vars : List (List ℕ × ℕ)) (wanted : Option ℕ) (s : ℕ) {u : Unfolded} {p : Pattern} → IsSignature sig → pattern_faults sig u ≡ [] → clash_faults (place u) (sort_of sig u) wanted ≡ [] → wanted ≡ Some s → Means sig vars u p
+    → HasSort sig (variable_sorts vars) p s
+sorted_at sig vars wanted s {u} {p} good clear clash is means =
+    let own : (w : ℕ) × (sort_of sig u ≡ Some w) = some_or_none (sort_of sig u) (faultless_sorted sig u good (means_form sig vars means) clear) in
+    let equal : own.0 ≡ s = no_clash (place u) own.0 s (ap (λ o. clash_faults (place u) o (Some s)) (sym own.1) ∙ ap (λ o. clash_faults (place u) (sort_of sig u) o) (sym is) ∙ clash) in
+    meanings_are_sorted sig vars u p s good clear means (own.1 ∙ ap (λ (m : ℕ). Some m) equal)
+
+pub sorted_side : (sig : Signature) (vars : List (List ℕ × ℕ)) (wanted : Option ℕ) (s : ℕ) {u : Unfolded} {p : Pattern} → IsSignature sig → faults_at_sort sig wanted u ≡ [] → wanted ≡ Some s → Means sig vars u p → HasSort sig (variable_sorts vars) p s
+sorted_side sig vars wanted s good clear is means =
+    let parts = no_faults _ _ clear in
+    sorted_at sig vars wanted s good (no_faults _ _ parts.0).1 parts.1 is means
+
+-- ---- functions
+
+named_there : (sig : Signature) (name : List ℕ) (f : ℕ) (info : SymInfo) → IsNamed sig name f info → symbol_named sig name ≡ Some info
+named_there sig name f info named = ap (option_and_then (symbol_info sig)) named.0 ∙ named.1
+
+not_function : (k : Bool) (ac : Bool) → (k && not ac) ≡ false → ac ≡ false → k ≡ false
+not_function false ac h e = refl
+not_function true true h e = e
+not_function true false h e = h
+
+injected_no_call : (ns : List ℕ) (ps : Patterns) (p : Pattern) → HaveNoCall ps → injected_only ns ps ≡ Some p → HasNoCall p
+injected_no_call [] ps p none made = absurd (let never : ⊥ = cc in never)
+injected_no_call (a ∷ []) ps p none made = absurd (let never : ⊥ = cc in never)
+injected_no_call (a ∷ (b ∷ (d ∷ ns))) ps p none made = absurd (let never : ⊥ = cc in never)
+injected_no_call (a ∷ (b ∷ [])) no_pattern p none made = absurd (let never : ⊥ = cc in never)
+injected_no_call (a ∷ (b ∷ [])) (more_patterns q (more_patterns r ps)) p none made = absurd (let never : ⊥ = cc in never)
+injected_no_call (a ∷ (b ∷ [])) (more_patterns q no_pattern) p none made = subst HasNoCall (some_same _ _ made) none.0
+
+applied_no_call : (k : SymKind) (f : ℕ) (ns : List ℕ) (ps : Patterns) (p : Pattern) → is_function_kind k ≡ false → HaveNoCall ps → applied_pattern k f ns ps ≡ Some p → HasNoCall p
+applied_no_call Injection f ns ps p plain none made = injected_no_call ns ps p none made
+applied_no_call Ctor f ns ps p plain none made = subst HasNoCall (some_same _ _ made) none
+applied_no_call Equations f ns ps p plain none made = absurd (false≢true (sym plain))
+applied_no_call (Hooked row) f ns ps p plain none made = absurd (false≢true (sym plain))
+applied_no_call Closed f ns ps p plain none made = absurd (false≢true (sym plain))
+applied_no_call NoKind f ns ps p plain none made = absurd (let never : ⊥ = cc in never)
+
+-- a pattern without functions means one without calls
+mutual
+  pub no_call : (sig : Signature) (vars : List (List ℕ × ℕ)) {u : Unfolded} {p : Pattern} → has_symbol (is_plain_function sig) u ≡ false → has_symbol (is_ac_symbol sig) u ≡ false → Means sig vars u p → HasNoCall p
+  no_call sig vars plain ac (by_variable a b) = tt
+  no_call sig vars plain ac (by_value a b) = tt
+  no_call sig vars plain ac (by_symbol {f = f} {name = name} {ns = ns} {ps = ps} {p = p} {info = info} named numbers all made) =
+      let plains = neither _ _ plain in
+      let acs = neither _ _ ac in
+      let there : symbol_named sig name ≡ Some info = named_there sig name f info named in
+      let kind : is_function_kind info.kind ≡ false = not_function _ info.ac (sym (ap is_plain_function_with there) ∙ plains.0) (sym (ap is_ac_with there) ∙ acs.0) in
+      applied_no_call info.kind f ns ps p kind (all_no_call sig vars plains.1 acs.1 all) made
+
+  pub all_no_call : (sig : Signature) (vars : List (List ℕ × ℕ)) {us : Unfoldeds} {ps : Patterns} → have_symbol (is_plain_function sig) us ≡ false → have_symbol (is_ac_symbol sig) us ≡ false → AllMean sig vars us ps → HaveNoCall ps
+  all_no_call sig vars plain ac none_mean = tt
+  all_no_call sig vars plain ac (more_mean first rest) =
+      let plains = neither _ _ plain in
+      let acs = neither _ _ ac in
+      (no_call sig vars plains.0 acs.0 first, all_no_call sig vars plains.1 acs.1 rest)
+
+-- ---- variables
+
+injected_back : (ns : List ℕ) (ps : Patterns) (p : Pattern) (x : ℕ) → injected_only ns ps ≡ Some p → StandsIn x p → StandsInSome x ps
+injected_back [] ps p x made stands = absurd (let never : ⊥ = cc in never)
+injected_back (a ∷ []) ps p x made stands = absurd (let never : ⊥ = cc in never)
+injected_back (a ∷ (b ∷ (d ∷ ns))) ps p x made stands = absurd (let never : ⊥ = cc in never)
+injected_back (a ∷ (b ∷ [])) no_pattern p x made stands = absurd (let never : ⊥ = cc in never)
+injected_back (a ∷ (b ∷ [])) (more_patterns q (more_patterns r ps)) p x made stands = absurd (let never : ⊥ = cc in never)
+injected_back (a ∷ (b ∷ [])) (more_patterns q no_pattern) p x made stands = inl (subst (StandsIn x) (sym (some_same _ _ made)) stands)
+
+applied_back : (k : SymKind) (f : ℕ) (ns : List ℕ) (ps : Patterns) (p : Pattern) (x : ℕ) → applied_pattern k f ns ps ≡ Some p → StandsIn x p → StandsInSome x ps
+applied_back Injection f ns ps p x made stands = injected_back ns ps p x made stands
+applied_back Ctor f ns ps p x made stands = subst (StandsIn x) (sym (some_same _ _ made)) stands
+applied_back Equations f ns ps p x made stands = subst (StandsIn x) (sym (some_same _ _ made)) stands
+applied_back (Hooked row) f ns ps p x made stands = subst (StandsIn x) (sym (some_same _ _ made)) stands
+applied_back Closed f ns ps p x made stands = subst (StandsIn x) (sym (some_same _ _ made)) stands
+applied_back NoKind f ns ps p x made stands = absurd (let never : ⊥ = cc in never)
+
+only_one : (x : ℕ) (q : Pattern) → StandsInSome x (more_patterns q no_pattern) → StandsIn x q
+only_one x q h = ⊎_elim (λ here. here) (λ none. absurd none) h
+
+injected_forth : (ns : List ℕ) (ps : Patterns) (p : Pattern) (x : ℕ) → injected_only ns ps ≡ Some p → StandsInSome x ps → StandsIn x p
+injected_forth [] ps p x made stands = absurd (let never : ⊥ = cc in never)
+injected_forth (a ∷ []) ps p x made stands = absurd (let never : ⊥ = cc in never)
+injected_forth (a ∷ (b ∷ (d ∷ ns))) ps p x made stands = absurd (let never : ⊥ = cc in never)
+injected_forth (a ∷ (b ∷ [])) no_pattern p x made stands = absurd (let never : ⊥ = cc in never)
+injected_forth (a ∷ (b ∷ [])) (more_patterns q (more_patterns r ps)) p x made stands = absurd (let never : ⊥ = cc in never)
+injected_forth (a ∷ (b ∷ [])) (more_patterns q no_pattern) p x made stands = subst (StandsIn x) (some_same _ _ made) (only_one x q stands)
+
+applied_forth : (k : SymKind) (f : ℕ) (ns : List ℕ) (ps : Patterns) (p : Pattern) (x : ℕ) → applied_pattern k f ns ps ≡ Some p → StandsInSome x ps → StandsIn x p
+applied_forth Injection f ns ps p x made stands = injected_forth ns ps p x made stands
+applied_forth Ctor f ns ps p x made stands = subst (StandsIn x) (some_same _ _ made) stands
+applied_forth Equations f ns ps p x made stands = subst (StandsIn x) (some_same _ _ made) stands
+applied_forth (Hooked row) f ns ps p x made stands = subst (StandsIn x) (some_same _ _ made) stands
+applied_forth Closed f ns ps p x made stands = subst (StandsIn x) (some_same _ _ made) stands
+applied_forth NoKind f ns ps p x made stands = absurd (let never : ⊥ = cc in never)
+
+-- a variable that stands in a pattern stands in its meaning
+either : (a b : Bool) → (a || b) ≡ true → (a ≡ true) ⊎ (b ≡ true)
+either true b h = inl refl
+either false b h = inr h
+
+mutual
+  found_in : (sig : Signature) (vars : List (List ℕ × ℕ)) (name : List ℕ) (tree : SortTree) (s x : ℕ) {u : Unfolded} {p : Pattern} → sort_number sig.sorts tree ≡ Some s → variable_number vars name s ≡ Some x → stands_in name tree u ≡ true → Means sig vars u p → StandsIn x p
+  found_in sig vars name tree s x number var stands (by_variable {x = y} {s = t} {name = n} {tree = other} a b) =
+      let both = both_true _ _ stands in
+      let names : name ≡ n = (bytes_eq-Decides name n).0 both.0 in
+      let sorts : s ≡ t = some_same s t (sym number ∙ same_number sig.sorts tree other both.1 ∙ a) in
+      some_same x y (sym var ∙ ap (λ (m : List ℕ). variable_number vars m s) names ∙ ap (variable_number vars n) sorts ∙ b)
+  found_in sig vars name tree s x number var stands (by_value a b) = absurd (false≢true stands)
+  found_in sig vars name tree s x number var stands (by_symbol {f = f} {ns = ns} {ps = ps} {p = p} {info = info} named numbers all made) =
+      applied_forth info.kind f ns ps p x made (found_in_some sig vars name tree s x number var stands all)
+
+  found_in_some : (sig : Signature) (vars : List (List ℕ × ℕ)) (name : List ℕ) (tree : SortTree) (s x : ℕ) {us : Unfoldeds} {ps : Patterns} → sort_number sig.sorts tree ≡ Some s → variable_number vars name s ≡ Some x → stands_in_some name tree us ≡ true → AllMean sig vars us ps → StandsInSome x ps
+  found_in_some sig vars name tree s x number var stands none_mean = absurd (false≢true stands)
+  found_in_some sig vars name tree s x number var stands (more_mean {u = u} {us = us} first rest) =
+      ⊎_elim (λ here. inl (found_in sig vars name tree s x number var here first)) (λ later. inr (found_in_some sig vars name tree s x number var later rest)) (either (stands_in name tree u) (stands_in_some name tree us) stands)
+
+-- a pattern of bound variables means one of these
+mutual
+  pub uses_only : (sig : Signature) (vars : List (List ℕ × ℕ)) {qs : Unfoldeds} {ps : Patterns} → AllMean sig vars qs ps → {u : Unfolded} {p : Pattern} → is_bound_by qs u ≡ true → Means sig vars u p → UsesOnly ps p
+  uses_only sig vars {qs} {ps} all bound (by_variable {x = y} {s = s} {name = name} {tree = tree} a b) = λ x is.
+      subst (λ (z : ℕ). StandsInSome z ps) (sym is) (found_in_some sig vars name tree s y a b bound all)
+  uses_only sig vars all bound (by_value a b) = λ x never. absurd never
+  uses_only sig vars all bound (by_symbol {f = f} {ns = ns} {ps = args} {p = p} {info = info} named numbers rest made) = λ x stands.
+      all_use_only sig vars all bound rest x (applied_back info.kind f ns args p x made stands)
+
+  all_use_only : (sig : Signature) (vars : List (List ℕ × ℕ)) {qs : Unfoldeds} {ps : Patterns} → AllMean sig vars qs ps → {us : Unfoldeds} {rs : Patterns} → are_bound_by qs us ≡ true → AllMean sig vars us rs → (x : ℕ) → StandsInSome x rs → StandsInSome x ps
+  all_use_only sig vars all bound none_mean = λ x never. absurd never
+  all_use_only sig vars all bound (more_mean first rest) = λ x stands.
+      let both = both_true _ _ bound in
+      ⊎_elim (λ here. uses_only sig vars all both.0 first x here) (λ later. all_use_only sig vars all both.1 rest x later) stands
+
+-- ---- the sorts of variables
+
+abbrev pub AreDeclared : Signature → List (List ℕ × ℕ) → Type 0
+AreDeclared sig vars = All (λ (s : ℕ). s < length sig.sorts) (variable_sorts vars)
+
+one_more : (sig : Signature) (vars : List (List ℕ × ℕ)) (name : List ℕ) (s : ℕ) → AreDeclared sig vars → s < length sig.sorts → AreDeclared sig (vars ++ (name, s) ∷ [])
+one_more sig vars name s all lt =
+    subst (All (λ (t : ℕ). t < length sig.sorts)) (sym (map-append (λ (v : List ℕ × ℕ). v.1) vars ((name, s) ∷ [])))
+    (All-push (λ (t : ℕ). t < length sig.sorts) (variable_sorts vars) s all lt)
+
+variable_declared : (sig : Signature) (vars : List (List ℕ × ℕ)) (name : List ℕ) (tree : SortTree) (o : Option ℕ) → sort_number sig.sorts tree ≡ o → AreDeclared sig vars → AreDeclared sig (with_variable vars name o)
+variable_declared sig vars name tree None e all = all
+variable_declared sig vars name tree (Some s) e all = by_case (is_some (variable_number vars name s)) where
+  by_case : (b : Bool) → AreDeclared sig (if b then vars else vars ++ (name, s) ∷ [])
+  by_case true = all
+  by_case false = one_more sig vars name s all (sort_number-within sig.sorts tree s e)
+
+mutual
+  pub variables_declared : (sig : Signature) (vars : List (List ℕ × ℕ)) (u : Unfolded) → AreDeclared sig vars → AreDeclared sig (with_variables sig vars u)
+  variables_declared sig vars (named_variable at name tree) all = variable_declared sig vars name tree (sort_number sig.sorts tree) refl all
+  variables_declared sig vars (written_value at tree text byte) all = all
+  variables_declared sig vars (applied_symbol at byte name ss us) all = all_variables_declared sig vars us all
+  variables_declared sig vars (other_form at) all = all
+
+  pub all_variables_declared : (sig : Signature) (vars : List (List ℕ × ℕ)) (us : Unfoldeds) → AreDeclared sig vars → AreDeclared sig (with_all_variables sig vars us)
+  all_variables_declared sig vars no_more all = all
+  all_variables_declared sig vars (and_more u us) all =
+      all_variables_declared sig (with_variables sig vars u) us (variables_declared sig vars u all)
