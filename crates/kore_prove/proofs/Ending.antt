@@ -6,7 +6,9 @@ use Rattle.desk_io.specs.Sent.{SameBytes}
 use Rattle.desk_io.specs.declared.read.ReadEnd.TheVariants as read
 use Rattle.desk_io.proofs.Counts.{Rose-later}
 use Rattle.kore_axioms.specs.declared.refusals.Refusal.TheVariants as refusal
+use Rattle.kore_axioms.specs.declared.refusals.Refusal.{Refusal}
 use Rattle.kore_sig.specs.FirstFault.{Fault}
+use Rattle.kore_rules.specs.RefusedTexts.{RefusesFor}
 use Rattle.kore_prove.specs.declared.files.FileEnd.{FileEnd}
 use Rattle.kore_prove.specs.declared.files.FileEnd.TheVariants as file
 use Rattle.kore_prove.specs.Limits.{HoldsWithin}
@@ -140,3 +142,8 @@ not_more told name name' bytes limit same a few b =
     let lengths = ap (λ (xs : List ℕ). length xs) one in
     let more = b.2 in
     let never : ⊥ = omega (arith, lengths, few, more) in never
+
+-- bytes that are refused are the cause of an end
+pub refused_cause : (IsWhy : List ℕ → Fault → Type 0) (told : Option Told) (name : List ℕ) (limit a b : ℕ) (r : Refusal) (bytes : List ℕ) → HoldsWithin told name limit bytes → RefusesFor (IsWhy bytes) r → FileCause IsWhy told name limit a b (file.Refused r)
+refused_cause IsWhy told name limit a b (refusal.Refused number byte) bytes held at = (bytes, held, at)
+refused_cause IsWhy told name limit a b refusal.Memory bytes held at = tt

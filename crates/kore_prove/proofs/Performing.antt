@@ -1,9 +1,9 @@
 -- From the parts of a run command to what came of it.
-use Rattle.std.proofs.Common.{◌≡◌, ℕ, ◌+◌, ◌≤◌, ◌^◌, ◌⊎◌, inl, inr, List, [], length, map, Option, Some, None, true, IsSome, refl, sym, ◌∙◌, ap, subst, arith}
+use Rattle.std.proofs.Common.{◌≡◌, ℕ, ◌+◌, ◌≤◌, ◌^◌, ◌⊎◌, inl, inr, List, [], length, map, Option, Some, None, Bool, true, false, IsSome, IsTrue, refl, sym, ◌∙◌, ap, subst, arith}
 use Rattle.std.proofs.lemmas.List.{length-map}
 use Rattle.desk_io.specs.Told.{Told, KeepsFiles, Holds}
 use Rattle.desk_io.specs.Counts.{Rose}
-use Rattle.desk_io.specs.Sent.{Appends}
+use Rattle.desk_io.specs.Sent.{Appends, AppendsFront}
 use Rattle.desk_io.specs.declared.desk.DeskFault.{DeskFault}
 use Rattle.desk_io.specs.declared.desk.DeskFault.TheVariants as fault
 use Rattle.term_core.specs.Patterns.{Pattern, ground_pattern}
@@ -106,3 +106,16 @@ write_ended asked c e f read theory start is held kept others rose grows =
       others = then_others (IsWanted asked) c.told read c.told' kept others;
       files = fault_files f c.told c.told';
     })
+
+-- a test that is false is not true
+pub not_true : (b : Bool) → b ≡ false → IsTrue b → ⊥
+not_true b e t = let never : ⊥ = cc in never
+
+-- a count of faults in writing, seen from before the files were read
+pub rose_files : (a b c : ℕ) → b ≡ a → Rose b c → Rose a c
+rose_files a b c same rose = subst (λ (n : ℕ). Rose n c) same rose
+
+-- an output that got a part grew by it
+pub part_grows : (before after : Option (List ℕ)) (bytes : List ℕ) → AppendsFront before after bytes → Grows before after
+part_grows None after bytes h = tt
+part_grows (Some before) after bytes h = (h.0, h.3)
