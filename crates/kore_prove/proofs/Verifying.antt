@@ -10,13 +10,10 @@ use Rattle.mm_database.specs.Validity.{IsFirstFault}
 use Rattle.mm_database.proofs.Faults.{valid_faultless, computed-IsFirstFaultIn}
 use Rattle.kore_prove.specs.declared.verification.Verdict.{Verdict}
 use Rattle.kore_prove.specs.declared.verification.Verdict.TheVariants as verdict
-use Rattle.kore_prove.specs.Words.{IsRunCommand, IsVerifyCommand}
-use Rattle.kore_prove.specs.PrintedRun.{PrintsRun}
-use Rattle.kore_prove.specs.Reports.{Ending, Reports}
+use Rattle.kore_prove.specs.Words.{IsVerify}
 use Rattle.kore_prove.specs.DatabaseVerdicts.{IsInvalidBy, HoldsDatabase, PrintsVerdictOn, verdict_line, verdict_code}
 use Rattle.kore_prove.specs.Verdicts.{SaysValid, SaysInvalid, PrintsVerdict, valid_line}
-use Rattle.kore_prove.proofs.CommandWords.{one_file, not_both}
-use Rattle.kore_prove.proofs.Ending.{code_of_no_end}
+use Rattle.kore_prove.proofs.CommandWords.{one_file}
 use Rattle.mm_database.specs.ComputedFault.{first_fault}
 
 -- bytes with a first fault are no valid database
@@ -47,7 +44,7 @@ pub code_of_verdict : (v : Verdict) (code : ℕ) → code ≡ verdict_code v →
 code_of_verdict (verdict.Valid report) code is = inl is
 code_of_verdict (verdict.Invalid fault) code is = inr is
 
-pub prints_verdict : (words : List (List ℕ)) (told : Option Told) (before after : Option (List ℕ)) (file : List ℕ) (v : Verdict) (code : ℕ) → IsVerifyCommand words file → PrintsVerdictOn file told before after v → code ≡ verdict_code v → PrintsVerdict words told before after code
+pub prints_verdict : (words : List (List ℕ)) (told : Option Told) (before after : Option (List ℕ)) (file : List ℕ) (v : Verdict) (code : ℕ) → IsVerify words file → PrintsVerdictOn file told before after v → code ≡ verdict_code v → PrintsVerdict words told before after code
 prints_verdict words None before after file v code command p is = tt
 prints_verdict words (Some told) before after file (verdict.Valid report) code command p is = λ file' command'. (
   λ zero. subst (λ (name : List ℕ). SaysValid told name before after) (one_file words file file' command command') p,
@@ -57,24 +54,3 @@ prints_verdict words (Some told) before after file (verdict.Invalid fault) code 
   λ zero. absurd (omega (arith, is, zero)),
   λ twelve. subst (λ (name : List ℕ). SaysInvalid told name before after) (one_file words file file' command command') p,
 )
-
--- a call that runs claims no verdict
-pub run_no_verdict : (words : List (List ℕ)) (told : Option Told) (before after : Option (List ℕ)) (definition term : List ℕ) (limit code : ℕ) → IsRunCommand words definition term limit → PrintsVerdict words told before after code
-run_no_verdict words None before after definition term limit code run = tt
-run_no_verdict words (Some told) before after definition term limit code run = λ file verify. absurd (not_both words definition term limit file run verify)
-
--- and neither does one that reports an end
-pub prints_no_verdict : (words : List (List ℕ)) (told : Option Told) (output output' : Option (List ℕ)) (e : Ending) (before after : Option (List ℕ)) (old new code : ℕ) → Reports e before after old new code → PrintsVerdict words told output output' code
-prints_no_verdict words None output output' e before after old new code r = tt
-prints_no_verdict words (Some told) output output' e before after old new code r = λ file verify. (
-  λ zero. absurd (code_of_no_end e before after old new code r (inl zero)),
-  λ twelve. absurd (code_of_no_end e before after old new code r (inr (inr twelve))),
-)
-
--- a call that gives a verdict claims no printed run
-pub verdict_no_run : (words : List (List ℕ)) (told : Option Told) (before after : Option (List ℕ)) (file : List ℕ) (v : Verdict) (code : ℕ) → IsVerifyCommand words file → code ≡ verdict_code v → PrintsRun words told before after code
-verdict_no_run words None before after file v code command is = tt
-verdict_no_run words (Some told) before after file v code command is = λ h. absurd (elim h [
-  | inl ten ↦ elim (code_of_verdict v code is) [ inl zero ↦ omega (arith, ten, zero) | inr twelve ↦ omega (arith, ten, twelve) ]
-  | inr zero ↦ zero.1 file command
-])

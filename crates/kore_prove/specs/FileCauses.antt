@@ -4,22 +4,17 @@ use Rattle.desk_io.specs.Told.{Told, Lacks, HoldsMore, KeepsFiles}
 use Rattle.desk_io.specs.Counts.{Rose}
 use Rattle.desk_io.specs.declared.read.ReadEnd.{ReadEnd}
 use Rattle.desk_io.specs.declared.read.ReadEnd.TheVariants as read
-use Rattle.kore_prove.specs.declared.accept.Refusal.TheVariants as refusal
+use Rattle.kore_axioms.specs.declared.refusals.Refusal.TheVariants as refusal
+use Rattle.kore_sig.specs.FirstFault.{Fault}
 use Rattle.kore_prove.specs.declared.files.FileEnd.{FileEnd}
 use Rattle.kore_prove.specs.declared.files.FileEnd.TheVariants as file
 use Rattle.kore_prove.specs.Limits.{HoldsWithin}
-use Rattle.kore_prove.specs.Reports.{Ending, out_of_memory, bad_words, read_fault, write_fault, no_such_file, definition_refused, term_refused, too_large}
+use Rattle.kore_prove.specs.Reports.{Ending, out_of_memory, bad_words, read_fault, write_fault, no_such_file}
+use Rattle.kore_prove.specs.Reports.{definition_refused, term_refused, too_large}
 
--- The file of that name was not read whole or was refused: it is not there; a fault was counted; it has more bytes than
--- the limit; or it holds bytes within the limit that are refused so.
-abbrev pub FileCause : (List ℕ → ℕ → ℕ → Type 0) → Option Told → List ℕ → ℕ → ℕ → ℕ → FileEnd → Type 0
-FileCause IsWhy told name limit reads reads' (file.Unread read.NoFile) = Lacks told name
-FileCause IsWhy told name limit reads reads' (file.Unread read.Failed) = Rose reads reads'
-FileCause IsWhy told name limit reads reads' (file.Unread read.TooLarge) = HoldsMore told name limit
-FileCause IsWhy told name limit reads reads' (file.Unread read.Memory) = Unit {0}
-FileCause IsWhy told name limit reads reads' (file.Refused (refusal.Refused number byte)) =
-    (bytes : List ℕ) × HoldsWithin told name limit bytes × IsWhy bytes number byte
-FileCause IsWhy told name limit reads reads' (file.Refused refusal.Memory) = Unit {0}
+-- the file of that name holds bytes within the limit that are refused so
+abbrev pub HoldsWhat : (List ℕ → Fault → Type 0) → Option Told → List ℕ → ℕ → Fault → Type 0
+HoldsWhat IsWhy told name limit f = (bytes : List ℕ) × HoldsWithin told name limit bytes × IsWhy bytes f
 
 -- The file of that name was not read whole: it is not there; a fault was counted; or it has more bytes than the limit.
 abbrev pub UnreadCause : Option Told → List ℕ → ℕ → ℕ → ℕ → ReadEnd → Type 0
@@ -27,6 +22,13 @@ UnreadCause told name limit reads reads' read.NoFile = Lacks told name
 UnreadCause told name limit reads reads' read.Failed = Rose reads reads'
 UnreadCause told name limit reads reads' read.TooLarge = HoldsMore told name limit
 UnreadCause told name limit reads reads' read.Memory = Unit {0}
+
+-- .. or it holds what is refused
+abbrev pub FileCause : (List ℕ → Fault → Type 0) → Option Told → List ℕ → ℕ → ℕ → ℕ → FileEnd → Type 0
+FileCause IsWhy told name limit reads reads' (file.Unread end) = UnreadCause told name limit reads reads' end
+FileCause IsWhy told name limit reads reads' (file.Refused (refusal.Refused number byte)) =
+    HoldsWhat IsWhy told name limit (record { number = number; byte = byte })
+FileCause IsWhy told name limit reads reads' (file.Refused refusal.Memory) = Unit {0}
 
 -- The desk's files are as before, but where they could not be written or memory was wanting: then the file of a proof
 -- may have been created.

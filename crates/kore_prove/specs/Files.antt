@@ -1,15 +1,21 @@
--- What the files of a desk hold: a program, and a start of a run.
+-- What the files of a desk hold: a definition that is accepted, and a term of it.
 use Rattle.std.specs.Prelude.{ℕ, List, Option}
 use Rattle.desk_io.specs.Told.{Told}
 use Rattle.term_core.specs.Patterns.{Pattern}
-use Rattle.ground_rules.specs.declared.rules.Program.{Program}
+use Rattle.rule_core.specs.Theories.{RewriteTheory}
+use Rattle.kore_rules.specs.Acceptance.{IsAccepted, IsAcceptedTerm}
 use Rattle.kore_prove.specs.Limits.{HoldsWithin, definition_limit, term_limit}
-use Rattle.kore_prove.specs.Runnable.{IsProgramOf, IsStartOf}
 
--- the file of that name is within its limit and accepted as a definition, and this is its program
-abbrev pub HoldsProgram : Option Told → List ℕ → Program → Type 0
-HoldsProgram told name program = (bytes : List ℕ) × HoldsWithin told name definition_limit bytes × IsProgramOf bytes program
+-- the file of that name is within its limit and accepted as a definition, which means this program, whose rules have
+-- this sort
+pub record HoldsProgram (told : Option Told) (name : List ℕ) (theory : RewriteTheory) (top : Option ℕ) : Type 0 where
+  pub bytes : List ℕ
+  pub held : HoldsWithin told name definition_limit bytes
+  pub accepted : IsAccepted bytes theory top
 
--- the file of that name is within its limit and accepted as a term of the program, and means this start
-abbrev pub HoldsStart : Option Told → List ℕ → Program → Pattern → Type 0
-HoldsStart told name program start = (bytes : List ℕ) × HoldsWithin told name term_limit bytes × IsStartOf bytes program start
+-- the file of that name is within its limit and accepted as a term of the program, and means this pattern
+pub record HoldsStart (told : Option Told) (name : List ℕ) (theory : RewriteTheory) (top : Option ℕ) (start : Pattern)
+    : Type 0 where
+  pub bytes : List ℕ
+  pub held : HoldsWithin told name term_limit bytes
+  pub accepted : IsAcceptedTerm theory.sig top bytes start

@@ -1,53 +1,74 @@
 -- Which calls come to a printed run or to a verdict, unless a fault is counted or memory is wanting.
-use Rattle.std.specs.Prelude.{ℕ, ◌≤◌, List, length, Option, Some, None}
-use Rattle.desk_io.specs.Told.{Told, Holds}
+use Rattle.std.specs.Prelude.{◌≡◌, ◌⊎◌, ℕ, List, Option, Some, None}
+use Rattle.desk_io.specs.Told.{Told}
+use Rattle.desk_io.specs.Counts.{Rose}
 use Rattle.term_core.specs.Patterns.{Pattern}
-use Rattle.kore_text.specs.Trees.{PatternTree, DefinitionTree}
-use Rattle.kore_ast.specs.KoreText.{ReadsPattern, ReadsDefinition}
-use Rattle.ground_rules.specs.Rules.{RewriteRule}
-use Rattle.ground_rules.specs.declared.signature.Signature.{Signature}
-use Rattle.kore_prove.specs.Acceptance.{IsAccepted, IsAcceptedTerm}
-use Rattle.kore_prove.specs.Limits.{definition_limit, term_limit, database_limit}
-use Rattle.kore_prove.specs.Words.{IsRunCommand, IsVerifyCommand}
+use Rattle.rule_core.specs.Theories.{RewriteTheory}
+use Rattle.kore_sig.specs.FirstFault.{Fault}
+use Rattle.kore_rules.specs.Acceptance.{IsAccepted, IsRefused, IsAcceptedTerm, IsRefusedTerm}
+use Rattle.kore_prove.specs.Limits.{HoldsWithin, definition_limit, term_limit, database_limit}
+use Rattle.kore_prove.specs.Words.{RunRequest, IsRun, IsVerify}
+use Rattle.kore_prove.specs.ProvedRun.{IsProvable}
+use Rattle.kore_prove.specs.Causes.{Course}
 
--- The words are a run command; both files that they name are there, within their limits; the definition is accepted, and the
--- term is accepted as a term of it.
+-- no first fault of a definition stands against the bytes
+abbrev pub IsFaultless : List ℕ → Type 0
+IsFaultless bytes = (f : Fault) → IsRefused bytes f → ⊥
+
+-- .. nor one of a term, where the definition means this program
+abbrev pub IsFaultlessTerm : RewriteTheory → Option ℕ → List ℕ → Type 0
+IsFaultlessTerm theory top bytes = (f : Fault) → IsRefusedTerm theory.sig top bytes f → ⊥
+
+-- where a proof is wanted, the runs of the program from the term are proved today
+abbrev pub IsProvableOf : RunRequest → RewriteTheory → Option ℕ → List ℕ → Type 0
+IsProvableOf asked theory top bytes =
+    (start : Pattern) → IsAcceptedTerm theory.sig top bytes start → IsProvable asked.proof theory start
+
+-- The words ask for a run. Both files are there, within their limits; no fault stands against the one as a definition,
+-- nor, of each program that this means, against the other as a term; and the run is proved today where a proof is wanted.
 pub record CanRun (words : List (List ℕ)) (told : Told) : Type 0 where
+  pub asked : RunRequest
+  pub command : IsRun words asked
   pub definition : List ℕ
+  pub definition_held : HoldsWithin (Some told) asked.definition definition_limit definition
+  pub faultless : IsFaultless definition
   pub term : List ℕ
-  pub limit : ℕ
-  pub command : IsRunCommand words definition term limit
-  pub definition_bytes : List ℕ
-  pub definition_held : Holds (Some told) definition definition_bytes
-  pub definition_within : length definition_bytes ≤ definition_limit
-  pub term_bytes : List ℕ
-  pub term_held : Holds (Some told) term term_bytes
-  pub term_within : length term_bytes ≤ term_limit
-  pub tree : DefinitionTree
-  pub reads : ReadsDefinition definition_bytes tree
-  pub sig : Signature
-  pub top : Option ℕ
-  pub rules : List RewriteRule
-  pub accepted : IsAccepted tree sig top rules
-  pub term_tree : PatternTree
-  pub reads_term : ReadsPattern term_bytes term_tree
-  pub start : Pattern
-  pub accepted_term : IsAcceptedTerm sig top term_tree start
+  pub term_held : HoldsWithin (Some told) asked.term term_limit term
+  pub faultless_term : (theory : RewriteTheory) (top : Option ℕ) → IsAccepted definition theory top →
+      IsFaultlessTerm theory top term
+  pub provable : (theory : RewriteTheory) (top : Option ℕ) → IsAccepted definition theory top →
+      IsProvableOf asked theory top term
 
 -- the desk tells its files, and the words can run on them
 abbrev pub IsReady : List (List ℕ) → Option Told → Type 0
 IsReady words None = ⊥
 IsReady words (Some told) = CanRun words told
 
--- the words are `verify` and a file, which is there, within its limit
+-- the words ask to verify a file, which is there, within its limit
 pub record CanVerify (words : List (List ℕ)) (told : Told) : Type 0 where
   pub file : List ℕ
-  pub command : IsVerifyCommand words file
+  pub command : IsVerify words file
   pub bytes : List ℕ
-  pub held : Holds (Some told) file bytes
-  pub within : length bytes ≤ database_limit
+  pub held : HoldsWithin (Some told) file database_limit bytes
 
 -- the desk tells its files, and the words can verify one of them
 abbrev pub IsReadyToVerify : List (List ℕ) → Option Told → Type 0
 IsReadyToVerify words None = ⊥
 IsReadyToVerify words (Some told) = CanVerify words told
+
+-- no count of faults rose
+pub record IsUnhindered (c : Course) : Type 0 where
+  pub reads : Rose c.reads c.reads' → ⊥
+  pub files : Rose c.files c.files' → ⊥
+  pub writes : Rose c.writes c.writes' → ⊥
+
+-- where the words can run and nothing hinders, the call comes to a printed run, or memory was wanting
+abbrev pub Completes : List (List ℕ) → Course → ℕ → Type 0
+Completes words c code =
+    IsReady words c.told → IsUnhindered c → (code ≡ 0) ⊎ (code ≡ 10) ⊎ (code ≡ 11) ⊎ (code ≡ 1)
+
+-- .. and so with a verdict, where neither reading nor the output is hindered
+abbrev pub CompletesVerdict : List (List ℕ) → Course → ℕ → Type 0
+CompletesVerdict words c code =
+    IsReadyToVerify words c.told → (Rose c.reads c.reads' → ⊥) → (Rose c.writes c.writes' → ⊥) →
+    (code ≡ 0) ⊎ (code ≡ 12) ⊎ (code ≡ 1)

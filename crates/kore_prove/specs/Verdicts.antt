@@ -6,7 +6,7 @@ use Rattle.mm_database.specs.Assertions.{axiom_count, theorem_count}
 use Rattle.desk_io.specs.Told.{Told, file_of}
 use Rattle.desk_io.specs.Sent.{Appends}
 use Rattle.kore_prove.specs.Limits.{database_limit}
-use Rattle.kore_prove.specs.Words.{IsVerifyCommand}
+use Rattle.kore_prove.specs.Words.{IsVerify}
 
 -- `valid A P`, ended by a newline
 abbrev pub valid_line : ℕ → ℕ → List ℕ
@@ -36,9 +36,9 @@ pub record SaysInvalid (told : Told) (file : List ℕ) (before after : Option (L
   pub first : IsFirstFault bytes fault
   pub line : Appends before after (invalid_line fault.kind fault.at)
 
--- Where the words are `verify` and a file, the exit code 0 says that it is a valid database, and 12 that it is none,
+-- Where the words ask to verify a database, the exit code 0 says that it is valid, and 12 that it is none,
 -- each with its line on the output. Of a desk that tells nothing nothing is said.
 abbrev pub PrintsVerdict : List (List ℕ) → Option Told → Option (List ℕ) → Option (List ℕ) → ℕ → Type 0
 PrintsVerdict words None before after code = Unit {0}
 PrintsVerdict words (Some told) before after code =
-    (file : List ℕ) → IsVerifyCommand words file → (code ≡ 0 → SaysValid told file before after) × (code ≡ 12 → SaysInvalid told file before after)
+    (file : List ℕ) → IsVerify words file → (code ≡ 0 → SaysValid told file before after) × (code ≡ 12 → SaysInvalid told file before after)

@@ -1,50 +1,42 @@
--- The words of the command line.
-use Rattle.std.specs.Prelude.{◌≡◌, ℕ, ◌+◌, ◌-◌, ◌*◌, ◌≤◌, List, [], ◌∷◌, length, All, fold, codes, Option, Some, None}
+-- What the words of a call ask for, as clap's definitions of the commands take them.
+use Rattle.std.specs.Prelude.{◌≡◌, ℕ, List, true, false, Option, Some, option_map, codes}
+use Rattle.std.specs.Option.{option_map_or}
+use Rattle.std.specs.Str.Parse.{digits_value}
+use Rattle.command_words.specs.CommandLine.{run_app, verify_app, value_of, usual_calls, is_named, are_bad}
 
--- one digit, `0` to `9`
-abbrev pub IsDigit : ℕ → Type 0
-IsDigit c = (48 ≤ c) × (c ≤ 57)
+-- a run that is asked for: the names of the files with the definition and the term, the greatest numbers of steps and of
+-- calls of functions, and the name of the file for the proof, where one is wanted
+pub record RunRequest : Type 0 where
+  pub definition : List ℕ
+  pub term : List ℕ
+  pub limit : ℕ
+  pub calls : ℕ
+  pub proof : Option (List ℕ)
 
--- the number that decimal digits write
-abbrev pub number_written : List ℕ → ℕ
-number_written digits = fold (λ n c. 10 * n + (c - 48)) 0 digits
+-- no command takes the words
+pub record AreBad (words : List (List ℕ)) : Type 0 where
+  pub bad : are_bad words ≡ true
 
--- a limit of steps is written by one to eight digits, and is at most a million
-pub record IsLimit (word : List ℕ) (limit : ℕ) : Type 0 where
-  pub some : 1 ≤ length word
-  pub few : length word ≤ 8
-  pub digits : All IsDigit word
-  pub value : limit ≡ number_written word
-  pub bounded : limit ≤ 1000000
+-- the words are good, and ask for this run; where they state no number of calls, it is the usual one
+pub record IsRun (words : List (List ℕ)) (asked : RunRequest) : Type 0 where
+  pub good : are_bad words ≡ false
+  pub named : is_named (codes "run") words ≡ true
+  pub definition : value_of run_app words (codes "def") ≡ Some asked.definition
+  pub term : value_of run_app words (codes "term") ≡ Some asked.term
+  pub limit : option_map (digits_value 10) (value_of run_app words (codes "limit")) ≡ Some asked.limit
+  pub calls : asked.calls ≡ option_map_or (digits_value 10) (value_of run_app words (codes "calls")) usual_calls
+  pub proof : asked.proof ≡ value_of run_app words (codes "proof")
 
--- the words that name the file of a proof, where one is wanted: `--proof FILE`
-abbrev pub proof_words : Option (List ℕ) → List (List ℕ)
-proof_words None = []
-proof_words (Some file) = codes "--proof" ∷ file ∷ []
+-- the words are good, and ask for a run whose proof goes to this file
+abbrev pub IsProofRun : List (List ℕ) → List ℕ → Type 0
+IsProofRun words file = (asked : RunRequest) × IsRun words asked × (asked.proof ≡ Some file)
 
--- the words are `run DEF TERM --limit N`, in this order, and `--proof FILE` behind them where a proof is wanted
-pub record IsRun (words : List (List ℕ)) (definition term : List ℕ) (limit : ℕ) (proof : Option (List ℕ)) : Type 0 where
-  pub number : List ℕ
-  pub words_are : words ≡ codes "run" ∷ definition ∷ term ∷ codes "--limit" ∷ number ∷ proof_words proof
-  pub is_limit : IsLimit number limit
+-- the words are good, and ask to verify the database in this file
+pub record IsVerify (words : List (List ℕ)) (file : List ℕ) : Type 0 where
+  pub good : are_bad words ≡ false
+  pub named : is_named (codes "verify") words ≡ true
+  pub file_is : value_of verify_app words (codes "file") ≡ Some file
 
--- the words are such a command, with a proof or without
-abbrev pub IsRunCommand : List (List ℕ) → List ℕ → List ℕ → ℕ → Type 0
-IsRunCommand words definition term limit = (proof : Option (List ℕ)) × IsRun words definition term limit proof
-
--- the words are such a command, whose proof goes to this file
-abbrev pub IsProofCommand : List (List ℕ) → List ℕ → Type 0
-IsProofCommand words file = (definition : List ℕ) × (term : List ℕ) × (limit : ℕ) × IsRun words definition term limit (Some file)
-
--- the words are `verify FILE`
-abbrev pub IsVerifyCommand : List (List ℕ) → List ℕ → Type 0
-IsVerifyCommand words file = words ≡ codes "verify" ∷ file ∷ []
-
--- the words are not `verify` and a file
-abbrev pub IsNoVerification : List (List ℕ) → Type 0
-IsNoVerification words = (file : List ℕ) → IsVerifyCommand words file → ⊥
-
--- the words are no command
-pub record IsNoCommand (words : List (List ℕ)) : Type 0 where
-  pub no_run : (definition term : List ℕ) (limit : ℕ) → IsRunCommand words definition term limit → ⊥
-  pub no_verification : IsNoVerification words
+-- the words do not ask to verify a database
+abbrev pub IsNoVerify : List (List ℕ) → Type 0
+IsNoVerify words = (file : List ℕ) → IsVerify words file → ⊥

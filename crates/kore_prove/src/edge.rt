@@ -25,16 +25,18 @@ pub fn exit_of_call<D: Desk, O: Sink, E: Sink>(
     requires none_created { IsFalse (D.created edge.old.desk) }
     ensures answered { IsAnswered (record {
       words = map string_bytes words.now;
-      told = D.told edge.old.desk;
-      told' = D.told edge.new.desk;
-      reads = D.read_faults edge.old.desk;
-      reads' = D.read_faults edge.new.desk;
-      files = D.write_faults edge.old.desk;
-      files' = D.write_faults edge.new.desk;
-      writes = O.faults edge.old.out;
-      writes' = O.faults edge.new.out;
-      output = O.bytes edge.old.out;
-      output' = O.bytes edge.new.out;
+      course = record {
+        told = D.told edge.old.desk;
+        told' = D.told edge.new.desk;
+        reads = D.read_faults edge.old.desk;
+        reads' = D.read_faults edge.new.desk;
+        files = D.write_faults edge.old.desk;
+        files' = D.write_faults edge.new.desk;
+        writes = O.faults edge.old.out;
+        writes' = O.faults edge.new.out;
+        output = O.bytes edge.old.out;
+        output' = O.bytes edge.new.out;
+      };
       complaints = E.faults edge.old.err;
       complaints' = E.faults edge.new.err;
       errors = E.bytes edge.old.err;

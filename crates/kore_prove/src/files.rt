@@ -1,16 +1,18 @@
 // The files of a run: the definition and the term.
-ghost use Rattle.std.specs.Prelude.{◌≡◌, ◌<◌, ◌≤◌, ◌^◌, length, IfOk, IfErr};
+ghost use Rattle.std.specs.Prelude.{◌≡◌, ◌≤◌, IfOk, IfErr};
 ghost use Rattle.desk_io.specs.Told.{KeepsFiles};
 ghost use Rattle.term_core.specs.RulePatterns.{plain_pattern};
+ghost use Rattle.rule_core.specs.ProgramView.{theory_of};
+ghost use Rattle.rule_core.specs.WellSorted.{IsStart};
+ghost use Rattle.kore_rules.specs.Acceptance.{IsRefused, IsRefusedTerm};
+ghost use Rattle.kore_rules.specs.RefusedTexts.{top_of};
 ghost use Rattle.kore_prove.specs.FileCauses.{FileCause};
-ghost use Rattle.kore_prove.specs.Causes.{IsRefusedDefinition, IsRefusedTerm};
 ghost use Rattle.kore_prove.specs.Files.{HoldsProgram, HoldsStart};
-ghost use Rattle.kore_prove.specs.Names.{HasIdentifierNames};
-ghost use Rattle.kore_prove.specs.Nesting.{HasFewNames};
+ghost use Rattle.kore_prove.specs.Runnable.{IsProgram};
 
-use crate::accept::{Refusal, accept, accept_term};
 use desk_io::{Desk, ReadEnd, read_file};
-use ground_rules::Program;
+use kore_rules::{Refusal, accept, accept_term};
+use rule_core::Program;
 use std::alloc::Global;
 use term_core::RulePat;
 
@@ -21,7 +23,7 @@ const DEFINITION_LIMIT: usize = 33_554_432;
 const TERM_LIMIT: usize = 1_048_576;
 
 /// Why a file gave no program or no start of a run.
-#[derive(Clone, Copy, PartialEq, Eq, Debug)]
+#[derive(Drop)]
 pub enum FileEnd {
     /// The file was not read whole.
     Unread(ReadEnd),
@@ -29,14 +31,18 @@ pub enum FileEnd {
     Refused(Refusal),
 }
 
-/// The program that the file of that name holds. Its names of sorts and symbols are identifiers (clause `names`), and
-/// 32 bits are enough to number them and its rules (clauses `few` and `few_rules`).
+/// A definition that was accepted, and a term of it.
+#[derive(Drop)]
+pub struct Accepted {
+    pub program: Program,
+    pub start: RulePat,
+}
+
+/// The program that the file of that name holds.
 pub fn read_program<D: Desk>(alloc: Global, desk: &mut D, name: &str) -> Result<Program, FileEnd>
-    ensures found { IfOk result (HoldsProgram (D.told desk.old) name.now) }
-    ensures names { IfOk result (λ program. HasIdentifierNames program.sig) }
-    ensures few { IfOk result (λ program. HasFewNames program.sig) }
-    ensures few_rules { IfOk result (λ program. length program.rules.items < 2 ^ 32) }
-    ensures cause { IfErr result (FileCause IsRefusedDefinition
+    ensures found { IfOk result (λ p. HoldsProgram (D.told desk.old) name.now (theory_of p) (top_of p)) }
+    ensures program { IfOk result IsProgram }
+    ensures cause { IfErr result (FileCause IsRefused
         (D.told desk.old) name.now DEFINITION_LIMIT (D.read_faults desk.old) (D.read_faults desk.new)) }
     ensures counts { D.read_faults desk.old ≤ D.read_faults desk.new }
     ensures writes { D.write_faults desk.new ≡ D.write_faults desk.old }
@@ -52,16 +58,18 @@ pub fn read_program<D: Desk>(alloc: Global, desk: &mut D, name: &str) -> Result<
     }
 }
 
-/// The start of a run of the program that the file of that name holds.
+/// The initial term of a run of the program that the file of that name holds.
 pub fn read_start<D: Desk>(
     alloc: Global,
     desk: &mut D,
     name: &str,
     program: &Program,
 ) -> Result<RulePat, FileEnd>
-    requires { HasFewNames program.now.sig }
-    ensures found { IfOk result (λ start. HoldsStart (D.told desk.old) name.now program.now (plain_pattern start)) }
-    ensures cause { IfErr result (FileCause (IsRefusedTerm program.now)
+    requires { IsProgram program.now }
+    ensures found { IfOk result (λ start. HoldsStart
+        (D.told desk.old) name.now (theory_of program.now) (top_of program.now) (plain_pattern start)) }
+    ensures start { IfOk result (λ start. IsStart (theory_of program.now) (plain_pattern start)) }
+    ensures cause { IfErr result (FileCause (IsRefusedTerm program.now.sig (top_of program.now))
         (D.told desk.old) name.now TERM_LIMIT (D.read_faults desk.old) (D.read_faults desk.new)) }
     ensures counts { D.read_faults desk.old ≤ D.read_faults desk.new }
     ensures writes { D.write_faults desk.new ≡ D.write_faults desk.old }

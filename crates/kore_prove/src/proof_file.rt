@@ -1,104 +1,77 @@
-// The lines of a run, and the file of its proof.
-ghost use Rattle.std.specs.Prelude.{◌≡◌, ◌≤◌, All, IfOk, IsErrOf, IsFalse, IsTrue, Option, List, ℕ, OnOk, option_copied, Some};
-ghost use Rattle.desk_io.specs.Counts.{Rose};
-ghost use Rattle.desk_io.specs.Told.{Holds, Writes};
+// The lines of a run and, where one is wanted, the file of its proof.
+ghost use Rattle.std.specs.Prelude.{◌≡◌, ◌≤◌, true, Some, IsTrue, IsFalse, OnOk, IfOk, IsErrOf};
 ghost use Rattle.term_core.specs.RulePatterns.{plain_pattern};
-ghost use Rattle.ground_rules.specs.ProgramView.{rewrite_rules};
-ghost use Rattle.ground_rules.specs.Trial.{IsInTrialOrder};
-ghost use Rattle.kore_prove.specs.Outcomes.{HasLines};
-ghost use Rattle.kore_prove.specs.ProofFiles.{HasText, KeepsOthersNow, PutsCreated};
-ghost use Rattle.kore_prove.specs.Provable.{IsBuiltOf, IsProvable};
-ghost use Rattle.kore_prove.specs.WantedProofs.{HasProof, HasWantedProof, IsWanted};
-ghost use Rattle.kore_prove.specs.ProvedRun.{KeepsOthers};
-ghost use Rattle.kore_prove.specs.Runnable.{IsRunnable, IsShowable};
+ghost use Rattle.rule_core.specs.ProgramView.{theory_of};
+ghost use Rattle.desk_io.specs.Counts.{Rose};
+ghost use Rattle.prove_run.specs.Covered.{is_covered};
+ghost use Rattle.run_loop.specs.RunEnds.{plain_run};
+ghost use Rattle.kore_prove.specs.ProofFiles.{PutsCreated, KeepsOthersNow};
+ghost use Rattle.kore_prove.specs.ProvedRun.{IsProvable, HoldsProof, HasWantedProof, KeepsOthers};
+ghost use Rattle.kore_prove.specs.Requests.{request, IsWanted};
+ghost use Rattle.kore_prove.specs.Runnable.{IsRunnable};
+ghost use Rattle.kore_prove.specs.RunsDone.{HasLines};
 
-use crate::lines::run_lines;
-use crate::proved::proved_run;
-use crate::run::{run, start_term};
+use crate::files::Accepted;
+use crate::running::{lines_of_run, proved_lines_of_run};
+use command_words::RunWords;
 use desk_io::{Desk, DeskFault, write_whole};
-use ground_rules::{Outcome, Program};
-use std::alloc::{AllocError, Global};
-use term_core::RulePat;
+use run_loop::RunEnd;
+use std::alloc::Global;
 
-/// How the run of a start ends, and its two lines. Where a file for the proof is named, it is created
-/// before the run, and written and closed after it. The error is want of memory or a fault that the
-/// desk counted.
+/// How the run that is asked for ends, and its two lines. Where a file for the proof is named, it is created before the
+/// run, and written and closed after it. The error is want of memory or a fault that the desk counted.
 pub fn made_lines<D: Desk>(
     alloc: Global,
     desk: &mut D,
-    program: &Program,
-    start: &RulePat,
-    limit: u32,
-    proof: Option<&str>,
-) -> Result<(Outcome, Vec<u8>), DeskFault>
+    accepted: &Accepted,
+    asked: &RunWords<'_>,
+) -> Result<(RunEnd, Vec<u8>), DeskFault>
     requires none_created { IsFalse (D.created desk.old) }
-    requires in_order { IsInTrialOrder (rewrite_rules program.now.rules.items) }
-    requires runnable { All (IsRunnable program.now.sig.symbols) program.now.rules.items }
-    requires showable { IsShowable program.now.sig.symbols (plain_pattern start.now) }
-    requires provable { IsProvable program.now }
-    requires built { IsBuiltOf program.now.sig (plain_pattern start.now) }
-    ensures run { IfOk result (λ r. HasLines program.now (plain_pattern start.now) limit r.0 r.1.items) }
-    ensures proof { IfOk result (λ r. HasWantedProof (option_copied proof.entry)
-        program.now (plain_pattern start.now) limit r.0 r.1.items (D.told desk.old) (D.told desk.new)) }
+    requires runnable { IsRunnable accepted.now }
+    requires provable { IsProvable
+        (request asked.now).proof (theory_of accepted.now.program) (plain_pattern accepted.now.start) }
+    ensures run { IfOk result (λ r. HasLines (request asked.now)
+        (theory_of accepted.now.program) (plain_pattern accepted.now.start) (plain_run r.0) r.1.items) }
+    ensures proof { IfOk result (λ r. HasWantedProof (request asked.now).proof (D.told desk.old) (D.told desk.new)
+        (theory_of accepted.now.program) (plain_pattern accepted.now.start) (plain_run r.0)) }
     ensures failed { IsErrOf result DeskFault.Failed → Rose (D.write_faults desk.old) (D.write_faults desk.new) }
-    ensures files { KeepsOthers (IsWanted (option_copied proof.entry)) (D.told desk.old) (D.told desk.new) }
+    ensures files { KeepsOthers (IsWanted (request asked.now)) (D.told desk.old) (D.told desk.new) }
     ensures created { D.created desk.new ≡ D.created desk.old }
     ensures reads { D.read_faults desk.new ≡ D.read_faults desk.old }
 {
-    match proof {
-        Some(file) => proved_lines(alloc, desk, program, start, limit, file),
-        None => match lines_of_run(alloc, program, start, limit) {
+    match asked.proof {
+        Some(file) => proved_lines(alloc, desk, accepted, asked, file),
+        None => match lines_of_run(alloc, accepted, asked) {
             Ok(lines) => Ok(lines),
             Err(_) => Err(DeskFault::Memory),
         },
     }
 }
 
-/// How the run of a start ends, and its two lines.
-fn lines_of_run(
-    alloc: Global,
-    program: &Program,
-    start: &RulePat,
-    limit: u32,
-) -> Result<(Outcome, Vec<u8>), AllocError>
-    requires in_order { IsInTrialOrder (rewrite_rules program.now.rules.items) }
-    requires runnable { All (IsRunnable program.now.sig.symbols) program.now.rules.items }
-    requires showable { IsShowable program.now.sig.symbols (plain_pattern start.now) }
-    ensures run { IfOk result (λ r.
-        HasLines program.now (plain_pattern start.now) limit r.0 r.1.items) }
-{
-    let term = start_term(alloc, start)?;
-    let (outcome, last) = run(alloc, program, term, limit)?;
-    let lines = run_lines(alloc, &program.sig.symbols, outcome, &last)?;
-    Ok((outcome, lines))
-}
-
-/// The same, with the proof of the run in the file of this name.
+// The same, with the proof of the run in the file of this name.
 fn proved_lines<D: Desk>(
     alloc: Global,
     desk: &mut D,
-    program: &Program,
-    start: &RulePat,
-    limit: u32,
+    accepted: &Accepted,
+    asked: &RunWords<'_>,
     file: &str,
-) -> Result<(Outcome, Vec<u8>), DeskFault>
+) -> Result<(RunEnd, Vec<u8>), DeskFault>
     requires none_created { IsFalse (D.created desk.old) }
-    requires in_order { IsInTrialOrder (rewrite_rules program.now.rules.items) }
-    requires runnable { All (IsRunnable program.now.sig.symbols) program.now.rules.items }
-    requires showable { IsShowable program.now.sig.symbols (plain_pattern start.now) }
-    requires provable { IsProvable program.now }
-    requires built { IsBuiltOf program.now.sig (plain_pattern start.now) }
-    ensures proof { IfOk result (λ r. HasProof
-        program.now (plain_pattern start.now) limit r.0 r.1.items (D.told desk.old) (D.told desk.new) file.now) }
+    requires runnable { IsRunnable accepted.now }
+    requires covered { is_covered (theory_of accepted.now.program) (plain_pattern accepted.now.start) ≡ true }
+    ensures run { IfOk result (λ r. HasLines (request asked.now)
+        (theory_of accepted.now.program) (plain_pattern accepted.now.start) (plain_run r.0) r.1.items) }
+    ensures proof { IfOk result (λ r. HoldsProof (D.told desk.old) (D.told desk.new) file.now
+        (theory_of accepted.now.program) (plain_pattern accepted.now.start) (plain_run r.0)) }
     ensures failed { IsErrOf result DeskFault.Failed → Rose (D.write_faults desk.old) (D.write_faults desk.new) }
-    ensures files { KeepsOthers (IsWanted (Some file.now)) (D.told desk.old) (D.told desk.new) }
+    ensures files { KeepsOthers (λ other. Some file.now ≡ Some other) (D.told desk.old) (D.told desk.new) }
     ensures created { D.created desk.new ≡ D.created desk.old }
     ensures reads { D.read_faults desk.new ≡ D.read_faults desk.old }
 {
     match desk.create_file(file) {
-        Ok(()) => match text_and_lines(alloc, program, start, limit) {
-            Ok((outcome, lines, text)) => match put_and_close(desk, &text) {
-                Ok(()) => Ok((outcome, lines)),
+        Ok(()) => match proved_lines_of_run(alloc, accepted, asked) {
+            Ok(proved) => match put_and_close(desk, &proved.text) {
+                Ok(()) => Ok((proved.end, proved.lines)),
                 Err(fault) => Err(fault),
             },
             Err(_) => {
@@ -110,26 +83,7 @@ fn proved_lines<D: Desk>(
     }
 }
 
-/// How the run of a start ends, its two lines, and the text of its proof.
-fn text_and_lines(
-    alloc: Global,
-    program: &Program,
-    start: &RulePat,
-    limit: u32,
-) -> Result<(Outcome, Vec<u8>, Vec<u8>), AllocError>
-    requires in_order { IsInTrialOrder (rewrite_rules program.now.rules.items) }
-    requires runnable { All (IsRunnable program.now.sig.symbols) program.now.rules.items }
-    requires showable { IsShowable program.now.sig.symbols (plain_pattern start.now) }
-    requires provable { IsProvable program.now }
-    requires built { IsBuiltOf program.now.sig (plain_pattern start.now) }
-    ensures { IfOk result (λ r. HasText program.now (plain_pattern start.now) limit r.0 r.1.items r.2.items) }
-{
-    let (outcome, last, text) = proved_run(alloc, program, start, limit)?;
-    let lines = run_lines(alloc, &program.sig.symbols, outcome, &last)?;
-    Ok((outcome, lines, text))
-}
-
-/// Writes all of the text to the created file and closes it, after a fault too.
+// Writes all of the text to the created file and closes it, after a fault too.
 fn put_and_close<D: Desk>(desk: &mut D, text: &[u8]) -> Result<(), DeskFault>
     requires { IsTrue (D.created desk.old) }
     ensures puts { OnOk result (PutsCreated (D.told desk.old) (D.told desk.new) text.now) }

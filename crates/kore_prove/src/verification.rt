@@ -4,7 +4,7 @@ ghost use Rattle.desk_io.specs.Told.{KeepsFiles};
 ghost use Rattle.desk_io.specs.Sent.{Appends, AppendsFront};
 ghost use Rattle.desk_io.specs.Counts.{Rose};
 ghost use Rattle.kore_prove.specs.FileCauses.{UnreadCause};
-ghost use Rattle.kore_prove.specs.Causes.{Verification, VerifyCause, KeepsOutput};
+ghost use Rattle.kore_prove.specs.Causes.{Course, VerifyCause, KeepsOutput};
 ghost use Rattle.kore_prove.specs.Limits.{database_limit};
 ghost use Rattle.kore_prove.specs.PlainEnds.{plain_end};
 ghost use Rattle.kore_prove.specs.DatabaseVerdicts.{IsVerdictOn, HoldsDatabase, PrintsVerdictOn, verdict_code, verdict_line};
@@ -50,13 +50,17 @@ pub fn verify_command<'a, D: Desk, O: Sink>(
 ) -> Result<Verdict, End<'a>>
     ensures printed { IfOk result (PrintsVerdictOn
         file.now (D.told desk.old) (O.bytes out.old) (O.bytes out.new)) }
-    ensures cause { IfErr result (λ end. VerifyCause (record {
-      file = file.now;
+    ensures cause { IfErr result (λ end. VerifyCause file.now (record {
       told = D.told desk.old;
+      told' = D.told desk.new;
       reads = D.read_faults desk.old;
       reads' = D.read_faults desk.new;
+      files = D.write_faults desk.old;
+      files' = D.write_faults desk.new;
       writes = O.faults out.old;
       writes' = O.faults out.new;
+      output = O.bytes out.old;
+      output' = O.bytes out.new;
     }) (plain_end end)) }
     ensures output { IfErr result (λ end.
         KeepsOutput (plain_end end) (O.bytes out.old) (O.bytes out.new)) }
@@ -106,9 +110,8 @@ fn verdict_on(alloc: Global, bytes: &[u8]) -> Result<Verdict, AllocError>
 
 /// The end of a call whose file was not read.
 fn unread_end(end: ReadEnd, name: &str) -> End<'_>
-    ensures cause { (v : Verification) → v.file ≡ name.now
-        → UnreadCause v.told v.file database_limit v.reads v.reads' end
-        → VerifyCause v (plain_end result) }
+    ensures cause { (c : Course) → UnreadCause c.told name.now database_limit c.reads c.reads' end
+        → VerifyCause name.now c (plain_end result) }
     ensures output { (output : Option (List ℕ)) → KeepsOutput (plain_end result) output output }
 {
     match end {

@@ -5,5 +5,12 @@ pub mod Programs
 pub mod Acceptance
 pub mod Names
 pub mod RefusedTexts
+-- Laws: what follows from that. Each is a clause of a function that does nothing.
+pub mod AcceptanceLaws
 -- Private: what clauses of private functions cite, and how private fields are seen.
 pub mod GroundNotes
+pub mod AxiomsRead
+pub mod ScalarSorts
+pub mod TrialOrder
+pub mod Starts
+pub mod MadePrograms

@@ -81,10 +81,6 @@ pub record IsProgramUnder (declared : Signature) (axioms : List AxiomDeclaration
     pub equations : (n : ℕ) (f : List ℕ) (info : SymInfo) → slice_get theory.sig.symbols n ≡ Some (f, info) →
         AreEquationsOf declared axioms f info.kind (equations_of theory n)
 
--- The program that a definition means.
-abbrev pub IsProgramOf : DefinitionTree → RewriteTheory → Type 0
-IsProgramOf d theory = (declared : Signature) × IsSignatureOf d declared × IsProgramUnder declared (axioms_of d) theory
-
 -- the sort of the rules, where there are rules
 abbrev pub IsTopOf : Signature → List AxiomDeclaration → Option ℕ → Type 0
 IsTopOf sig axioms None = (a : AxiomDeclaration) → Contains axioms a → (w : Rewriting) → class_of sig a ≡ rewrites w → ⊥

@@ -13,9 +13,12 @@ abbrev pub RefusesFor : (Fault → Type 0) → Refusal → Type 0
 RefusesFor P (Refused number byte) = P (record { number = number; byte = byte })
 RefusesFor P Memory = Unit {0}
 
+abbrev pub sort_of : Option SortId → Option ℕ
+sort_of sort = option_map (λ (s : SortId). s.0) sort
+
 -- the sort of the program's rules, where it is told
 abbrev pub top_of : Program → Option ℕ
-top_of program = option_map (λ (s : SortId). s.0) program.top
+top_of program = sort_of program.top
 
 -- the sort of the rules, where there are rules
 abbrev pub IsSortOfRules : RewriteTheory → Option ℕ → Type 0

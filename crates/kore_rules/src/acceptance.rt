@@ -1,21 +1,47 @@
 // Definitions and terms that are accepted, or their first refusal.
-ghost use Rattle.std.specs.Prelude.{◌≡◌, ◌<◌, ◌≤◌, ◌^◌, ℕ, length, option_map, IfOk, IfErr};
+ghost use Rattle.std.specs.Prelude.{◌≡◌, ◌<◌, ◌≤◌, ◌^◌, ℕ, length, option_map, flat_map, map, None, Some, IfOk, OnOk};
+ghost use Rattle.std.specs.Prelude.{IfErr};
+ghost use Rattle.std.specs.List.{AllZip};
+ghost use Rattle.std.specs.Prelude.{List};
+ghost use Rattle.kore_text.specs.Trees.{AxiomDeclaration};
+ghost use Rattle.kore_ast.specs.Plain.{plain_definition};
 ghost use Rattle.term_core.specs.RulePatterns.{plain_pattern};
+ghost use Rattle.rule_core.specs.Named.{names_of, AreDistinct};
 ghost use Rattle.rule_core.specs.ProgramView.{theory_of};
 ghost use Rattle.rule_core.specs.Theories.{equations_of};
-ghost use Rattle.rule_core.specs.WellSorted.{IsWellSorted, IsStart};
-ghost use Rattle.kore_sig.specs.Signatures.{IsNumbered};
+ghost use Rattle.rule_core.specs.WellSorted.{IsSignature, IsWellSorted, IsStart};
+ghost use Rattle.kore_sig.specs.Declarations.{axioms_of as the_axioms, pairs_of_axiom};
+ghost use Rattle.kore_sig.specs.Signatures.{IsNumbered, IsPairOf};
 ghost use Rattle.kore_rules.specs.Acceptance.{IsAccepted, IsAcceptedTerm, IsRefused, IsRefusedTerm};
+ghost use Rattle.kore_rules.specs.AxiomsRead.{HaveRead, IsFirstSort, AreFew, sort_at, tree_at};
+ghost use Rattle.kore_rules.specs.FirstRefusal.{FirstOfDefinition};
 ghost use Rattle.kore_rules.specs.Names.{HasIdentifierNames};
-ghost use Rattle.kore_rules.specs.RefusedTexts.{RefusesFor, top_of, IsSortOfRules};
+ghost use Rattle.kore_rules.specs.MadePrograms.{IsMadeOf};
+ghost use Rattle.kore_rules.specs.Programs.{IsProgramUnder, IsTopOf};
+ghost use Rattle.kore_rules.specs.RefusedTexts.{RefusesFor, top_of, sort_of, IsSortOfRules};
 
+use crate::axioms::{Readings, read_axioms};
+use crate::declared::{axioms_of, signature_of};
+use crate::kinds::final_symbols;
+use crate::order::{by_function, put_equations_in_order, put_rules_in_order};
+use crate::sorts::sorts_with_terms;
+use crate::start::start_of;
+use crate::texts::{definition_in, pattern_in};
+use kore_ast::{AxiomDecl, Definition, Sort};
 use kore_axioms::Refusal;
-use rule_core::Program;
-use std::alloc::Global;
-use term_core::RulePat;
+use kore_lex::token_laws;
+use kore_text::name_laws;
+use kore_sig::sort_number;
+use rule_core::{Program, Signature};
+use std::alloc::{AllocError, Global};
+use term_core::{RulePat, SortId};
 
-/// The program that a definition means, or why it is refused.
-pub fn accept(_alloc: Global, bytes: &[u8]) -> Result<Program, Refusal>
+/// The program that a definition means, or why it is refused: the text's first fault, or else that of its declarations,
+/// or else that of its axioms in the order of the file.
+///
+/// It goes through the text a few times, and through each declaration a few times, with a look-up for each name; the
+/// rules and the equations are sorted. It recurses no deeper than brackets are open in the text.
+pub fn accept(alloc: Global, bytes: &[u8]) -> Result<Program, Refusal>
     requires { length bytes.now < 2 ^ 32 }
     ensures accepted { IfOk result (λ p. IsAccepted bytes.now (theory_of p) (top_of p)) }
     ensures well_sorted { IfOk result (λ p. IsWellSorted (theory_of p)) }
@@ -26,11 +52,94 @@ pub fn accept(_alloc: Global, bytes: &[u8]) -> Result<Program, Refusal>
     ensures names { IfOk result (λ p. HasIdentifierNames p.sig) }
     ensures refused { IfErr result (RefusesFor (IsRefused bytes.now)) }
 {
-    Err(Refusal::Memory)
+    token_laws();
+    name_laws();
+    match definition_in(alloc, bytes) {
+        Ok(definition) => program_of(alloc, &definition),
+        Err(refusal) => Err(refusal),
+    }
 }
 
-/// The pattern that a term of an accepted definition means, or why it is refused.
-pub fn accept_term(_alloc: Global, program: &Program, bytes: &[u8]) -> Result<RulePat, Refusal>
+/// The program that a definition means, or the first fault of its declarations, or else of its axioms.
+fn program_of(alloc: Global, definition: &Definition) -> Result<Program, Refusal>
+    requires { AreFew (the_axioms (plain_definition definition.now)) }
+    ensures made { IfOk result (λ p. IsMadeOf (plain_definition definition.now) (theory_of p) (top_of p)) }
+    ensures numbered { IfOk result (λ p. IsNumbered p.sig) }
+    ensures rules { IfOk result (λ p. length p.rules.items ≤ 2 ^ 32) }
+    ensures equations { IfOk result (λ p. (f : ℕ) → length (equations_of (theory_of p) f) ≤ 2 ^ 32) }
+    ensures refused { IfErr result (RefusesFor (λ f. FirstOfDefinition (plain_definition definition.now) (Some f))) }
+{
+    let sig = match signature_of(alloc, definition) {
+        Ok(sig) => sig,
+        Err(refusal) => return Err(refusal),
+    };
+    sig.symbols.names_differ();
+    let axioms = axioms_of(alloc, definition)?;
+    let (readings, first) = match read_axioms(alloc, &sig, &axioms) {
+        Ok(read) => read,
+        Err(refusal) => return Err(refusal),
+    };
+    let top = sort_of_rules(&sig, first);
+    Ok(program_under(alloc, sig, &axioms, readings, top)?)
+}
+
+/// The number of the sort of the rules, where there are rules.
+fn sort_of_rules(sig: &Signature, first: Option<&Sort>) -> Option<SortId>
+    requires numbered { IsNumbered sig.now }
+    ensures { (axioms : List AxiomDeclaration) → IsFirstSort sig.now axioms (sort_at first.entry) →
+        IsTopOf sig.now axioms (sort_of result) }
+{
+    let number = sort_number(&sig.sorts, first?)?;
+    Some(SortId(number as u32))
+}
+
+/// The program of a definition with this signature and these axioms, of which this is known.
+fn program_under(
+    alloc: Global,
+    sig: Signature,
+    axioms: &[&AxiomDecl],
+    readings: Readings,
+    top: Option<SortId>,
+) -> Result<Program, AllocError>
+    requires signature { IsSignature sig }
+    requires distinct { AreDistinct (names_of sig.symbols) }
+    requires numbered { IsNumbered sig }
+    requires pairs { AllZip (IsPairOf sig.sorts) (flat_map pairs_of_axiom (map tree_at axioms.now)) sig.subsorts }
+    requires few { AreFew (map tree_at axioms.now) }
+    requires read { HaveRead sig (map tree_at axioms.now) readings }
+    ensures means { IfOk result (λ p. IsProgramUnder sig (map tree_at axioms.now) (theory_of p)) }
+    ensures top { IfOk result (λ p. top_of p ≡ sort_of top) }
+    ensures numbered { IfOk result (λ p. IsNumbered p.sig) }
+    ensures rules { IfOk result (λ p. length p.rules.items ≤ 2 ^ 32) }
+    ensures equations { IfOk result (λ p. (f : ℕ) → length (equations_of (theory_of p) f) ≤ 2 ^ 32) }
+{
+    let with_terms = sorts_with_terms(alloc, &sig, axioms)?;
+    let symbols = final_symbols(alloc, &sig, &with_terms, &readings.unreadable)?;
+    let mut rules = readings.rules;
+    put_rules_in_order(&mut rules)?;
+    let mut equations = readings.equations;
+    put_equations_in_order(&mut equations)?;
+    let equations = by_function(alloc, &symbols, equations)?;
+    let sig = Signature {
+        sorts: sig.sorts,
+        symbols,
+        subsorts: sig.subsorts,
+    };
+    Ok(Program {
+        sig,
+        top,
+        rules,
+        equations,
+    })
+}
+
+/// The pattern that a term of an accepted definition means, or why it is refused: the text's first fault, or else the
+/// first pattern that no term has, or else the first fault of its sorts, or else that it has another sort than the
+/// rules.
+///
+/// It goes through the text a few times, with a look-up for each name. It recurses no deeper than brackets are open in
+/// the text.
+pub fn accept_term(alloc: Global, program: &Program, bytes: &[u8]) -> Result<RulePat, Refusal>
     requires few { length bytes.now < 2 ^ 32 }
     requires well_sorted { IsWellSorted (theory_of program.now) }
     requires numbered { IsNumbered program.now.sig }
@@ -40,5 +149,8 @@ pub fn accept_term(_alloc: Global, program: &Program, bytes: &[u8]) -> Result<Ru
     ensures start { IfOk result (λ start. IsStart (theory_of program.now) (plain_pattern start)) }
     ensures refused { IfErr result (RefusesFor (IsRefusedTerm program.now.sig (top_of program.now) bytes.now)) }
 {
-    Err(Refusal::Memory)
+    match pattern_in(alloc, bytes) {
+        Ok(term) => start_of(alloc, &program.sig, program.top, &term),
+        Err(refusal) => Err(refusal),
+    }
 }

@@ -1,1 +1,1 @@
-pub mod RestingLaws
+pub mod StayingLaws

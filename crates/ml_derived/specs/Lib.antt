@@ -1,6 +1,4 @@
 -- Believed: what public clauses say, and believed definitions of other crates.
 pub mod Implications
-pub mod Derived
-pub mod Resting
 -- Private: what clauses of private functions cite, and how private fields are seen.
 pub mod Parts

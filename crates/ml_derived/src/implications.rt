@@ -1,21 +1,20 @@
 // Small rules of implication.
 ghost use Rattle.std.specs.Prelude.{◌≡◌, [], ◌∷◌, IfOk};
 ghost use Rattle.ml_pat.specs.Patterns.{top, imp, and};
-ghost use Rattle.ml_derived.specs.Derived.{adding_top, chaining, detaching_under, distributing, freeing, lifting};
-ghost use Rattle.ml_derived.specs.Implications.{AreLinked, HasTopCondition, IsChain, IsChainOf, IsFreed};
+ghost use Rattle.ml_derived.specs.Implications.{AreLinked, HasTopCondition, IsChain, IsFreed};
 ghost use Rattle.ml_derived.specs.Parts.{IsConjunction, IsImplication};
-ghost use Rattle.ml_derived.specs.Resting.{RestsOn};
+ghost use Rattle.ml_scope.specs.Scopes.{StaysWithin};
 
 use ml_kernel::Thm;
 use ml_pat::{MForm, MPat};
+use ml_scope::{and_3, mp, p_1, p_2, top};
 use std::alloc::{AllocError, Global};
 
 /// `p -> r`, from `p -> q` and `q -> r`.
 pub fn chain(alloc: Global, ab: &Thm, bc: &Thm) -> Result<Thm, AllocError>
     requires { AreLinked ab.now.conclusion bc.now.conclusion }
     ensures conclusion { IfOk result (λ t. IsChain ab.now.conclusion bc.now.conclusion t.conclusion) }
-    ensures derivation { IfOk result (IsChainOf ab.now bc.now) }
-    ensures rests { IfOk result (λ t. RestsOn (ab.now ∷ bc.now ∷ []) t) }
+    ensures stays { IfOk result (StaysWithin [] (ab.now ∷ bc.now ∷ [])) }
 {
     let (p, q) = sides(ab.conclusion());
     let (_, r) = sides(bc.conclusion());
@@ -34,8 +33,7 @@ pub(crate) fn chained(
     requires ab { ab.now.conclusion ≡ imp p.now q.now }
     requires bc { bc.now.conclusion ≡ imp q.now r.now }
     ensures conclusion { IfOk result (λ t. t.conclusion ≡ imp p.now r.now) }
-    ensures derivation { IfOk result (λ t. t.derivation ≡ chaining p.now q.now r.now ab.now.derivation bc.now.derivation) }
-    ensures rests { IfOk result (λ t. RestsOn (ab.now ∷ bc.now ∷ []) t) }
+    ensures stays { IfOk result (StaysWithin [] (ab.now ∷ bc.now ∷ [])) }
 {
     let lifted = lift(alloc, p, bc)?;
     under(alloc, ab, &lifted, p, q, r)
@@ -44,13 +42,12 @@ pub(crate) fn chained(
 // `h -> q`, from q.
 pub(crate) fn lift(alloc: Global, h: &MPat, a: &Thm) -> Result<Thm, AllocError>
     ensures conclusion { IfOk result (λ t. t.conclusion ≡ imp h.now a.now.conclusion) }
-    ensures derivation { IfOk result (λ t. t.derivation ≡ lifting h.now a.now.conclusion a.now.derivation) }
-    ensures rests { IfOk result (λ t. RestsOn (a.now ∷ []) t) }
+    ensures stays { IfOk result (StaysWithin (h.now ∷ []) (a.now ∷ [])) }
 {
     let q = a.conclusion();
-    let weaken = Thm::p_1(alloc, q, h)?;
+    let weaken = p_1(alloc, q, h)?;
     let weaker = MPat::imp(alloc, h, q)?;
-    Thm::mp(alloc, a, &weaken, q, &weaker)
+    mp(alloc, a, &weaken, q, &weaker)
 }
 
 // `h -> q`, from `h -> p` and `h -> p -> q`.
@@ -65,13 +62,12 @@ pub(crate) fn under(
     requires a { a.now.conclusion ≡ imp h.now p.now }
     requires b { b.now.conclusion ≡ imp h.now (imp p.now q.now) }
     ensures conclusion { IfOk result (λ t. t.conclusion ≡ imp h.now q.now) }
-    ensures derivation { IfOk result (λ t. t.derivation ≡ detaching_under h.now p.now q.now a.now.derivation b.now.derivation) }
-    ensures rests { IfOk result (λ t. RestsOn (a.now ∷ b.now ∷ []) t) }
+    ensures stays { IfOk result (StaysWithin [] (a.now ∷ b.now ∷ [])) }
 {
     let left = MPat::imp(alloc, h, p)?;
     let right = MPat::imp(alloc, h, q)?;
     let both = distributed(alloc, b, h, p, q, &left, &right)?;
-    Thm::mp(alloc, a, &both, &left, &right)
+    mp(alloc, a, &both, &left, &right)
 }
 
 // `(h -> p) -> h -> q`, from `h -> p -> q`; left and right are its sides.
@@ -88,19 +84,18 @@ fn distributed(
     requires left { left.now ≡ imp h.now p.now }
     requires right { right.now ≡ imp h.now q.now }
     ensures conclusion { IfOk result (λ t. t.conclusion ≡ imp left.now right.now) }
-    ensures derivation { IfOk result (λ t. t.derivation ≡ distributing h.now p.now q.now b.now.derivation) }
-    ensures rests { IfOk result (λ t. RestsOn (b.now ∷ []) t) }
+    ensures stays { IfOk result (StaysWithin [] (b.now ∷ [])) }
 {
-    let rule = Thm::p_2(alloc, h, p, q)?;
+    let rule = p_2(alloc, h, p, q)?;
     let sides = MPat::imp(alloc, left, right)?;
-    Thm::mp(alloc, b, &rule, b.conclusion(), &sides)
+    mp(alloc, b, &rule, b.conclusion(), &sides)
 }
 
 /// `p -> q`, from `p & top -> q`: a condition that always holds is left out.
 pub fn free_of_top(alloc: Global, rule: &Thm) -> Result<Thm, AllocError>
     requires { HasTopCondition rule.now.conclusion }
-    ensures freed { IfOk result (IsFreed rule.now) }
-    ensures rests { IfOk result (λ t. RestsOn (rule.now ∷ []) t) }
+    ensures conclusion { IfOk result (λ t. IsFreed rule.now.conclusion t.conclusion) }
+    ensures stays { IfOk result (StaysWithin [] (rule.now ∷ [])) }
 {
     let (from, q) = sides(rule.conclusion());
     let (p, truth) = conjuncts(from);
@@ -113,12 +108,11 @@ fn add_top(alloc: Global, p: &MPat, both: &MPat, truth: &MPat) -> Result<Thm, Al
     requires both { both.now ≡ and p.now truth.now }
     requires truth { truth.now ≡ top }
     ensures conclusion { IfOk result (λ t. t.conclusion ≡ imp p.now both.now) }
-    ensures derivation { IfOk result (λ t. t.derivation ≡ adding_top p.now) }
-    ensures rests { IfOk result (λ t. RestsOn [] t) }
+    ensures stays { IfOk result (StaysWithin (p.now ∷ []) []) }
 {
-    let holds = Thm::top(alloc)?;
+    let holds = top(alloc)?;
     let lifted = lift(alloc, p, &holds)?;
-    let joining = Thm::and_3(alloc, p, truth)?;
+    let joining = and_3(alloc, p, truth)?;
     under(alloc, &lifted, &joining, p, truth, both)
 }
 

@@ -1,8 +1,7 @@
 // Derived rules of matching logic, each a fixed combination of the kernel's rules.
 //
-// The contract: a derived rule concludes what its name says, and rests on the given theorems alone: each hypothesis of
-// what it gives, and each axiom that it keeps, is one of theirs (specs/Resting.antt). What its derivation is, specs/Derived.antt
-// says.
+// The contract: a derived rule concludes what its name says, and stays within what it is given: it assumes, uses and
+// cites nothing else (crate `ml_scope`).
 #![tactic(auto)]
 
 mod implications;

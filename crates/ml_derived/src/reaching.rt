@@ -1,34 +1,29 @@
 // Reaching a pattern in steps.
 ghost use Rattle.std.specs.Prelude.{◌≡◌, [], ◌∷◌, IfOk};
 ghost use Rattle.ml_pat.specs.Patterns.{imp, next, ev};
-ghost use Rattle.ml_kernel.specs.Rules.{pattern};
-ghost use Rattle.ml_kernel.specs.Theorems.{derivations, by_rule};
-ghost use Rattle.ml_kernel.specs.declared.rules.Rule.TheVariants as rule;
-ghost use Rattle.ml_derived.specs.Derived.{kept_reaching, reaching_by};
-ghost use Rattle.ml_derived.specs.Implications.{IsOneStepOn, IsStepOf, ReachesOneFurther};
+ghost use Rattle.ml_derived.specs.Implications.{IsOneStepOn, ReachesOneFurther};
 ghost use Rattle.ml_derived.specs.Parts.{IsNext};
-ghost use Rattle.ml_derived.specs.Resting.{RestsOn};
+ghost use Rattle.ml_scope.specs.Scopes.{StaysWithin};
 
 use crate::implications::{chained, sides};
 use ml_kernel::Thm;
 use ml_pat::{MForm, MPat};
+use ml_scope::{ev_1, ev_2, ev_kt, next_in};
 use std::alloc::{AllocError, Global};
 
 /// `a -> ev a`.
 pub fn reach_here(alloc: Global, a: &MPat) -> Result<Thm, AllocError>
     ensures conclusion { IfOk result (λ t. t.conclusion ≡ imp a.now (ev a.now)) }
-    ensures derivation { IfOk result (λ t. t.derivation ≡ by_rule rule.Ev1 (pattern a.now ∷ []) (derivations [])) }
-    ensures rests { IfOk result (λ t. RestsOn [] t) }
+    ensures stays { IfOk result (StaysWithin (a.now ∷ []) []) }
 {
-    Thm::ev_1(alloc, a)
+    ev_1(alloc, a)
 }
 
 /// `a -> ev c`, from `a -> ev b` and `b -> next c`.
 pub fn reach_step(alloc: Global, sofar: &Thm, step: &Thm) -> Result<Thm, AllocError>
     requires { IsOneStepOn sofar.now.conclusion step.now.conclusion }
     ensures conclusion { IfOk result (λ t. ReachesOneFurther sofar.now.conclusion step.now.conclusion t.conclusion) }
-    ensures derivation { IfOk result (IsStepOf sofar.now step.now) }
-    ensures rests { IfOk result (λ t. RestsOn (sofar.now ∷ step.now ∷ []) t) }
+    ensures stays { IfOk result (StaysWithin [] (sofar.now ∷ step.now ∷ [])) }
 {
     let (a, reached) = sides(sofar.conclusion());
     let (b, made) = sides(step.conclusion());
@@ -52,13 +47,12 @@ fn reach_by(
     requires made { made.now ≡ next c.now }
     requires end { end.now ≡ ev c.now }
     ensures conclusion { IfOk result (λ t. t.conclusion ≡ imp b.now end.now) }
-    ensures derivation { IfOk result (λ t. t.derivation ≡ reaching_by b.now c.now step.now.derivation) }
-    ensures rests { IfOk result (λ t. RestsOn (step.now ∷ []) t) }
+    ensures stays { IfOk result (StaysWithin [] (step.now ∷ [])) }
 {
-    let here = Thm::ev_1(alloc, c)?;
-    let moved = Thm::next_in(alloc, &here, c, end)?;
+    let here = ev_1(alloc, c)?;
+    let moved = next_in(alloc, &here, c, end)?;
     let before_end = MPat::next(alloc, end)?;
-    let closing = Thm::ev_2(alloc, c)?;
+    let closing = ev_2(alloc, c)?;
     let on = chained(alloc, &moved, &closing, made, &before_end, end)?;
     chained(alloc, step, &on, b, made, end)
 }
@@ -74,11 +68,10 @@ fn kept_reaching(
     requires one { one.now.conclusion ≡ imp b.now end.now }
     requires end { end.now ≡ ev c.now }
     ensures conclusion { IfOk result (λ t. t.conclusion ≡ imp (ev b.now) end.now) }
-    ensures derivation { IfOk result (λ t. t.derivation ≡ kept_reaching b.now c.now one.now.derivation) }
-    ensures rests { IfOk result (λ t. RestsOn (one.now ∷ []) t) }
+    ensures stays { IfOk result (StaysWithin [] (one.now ∷ [])) }
 {
-    let closing = Thm::ev_2(alloc, c)?;
-    Thm::ev_kt(alloc, one, &closing, b, end)
+    let closing = ev_2(alloc, c)?;
+    ev_kt(alloc, one, &closing, b, end)
 }
 
 // The pattern below `next`.

@@ -1,5 +1,7 @@
 pub mod PlainNameLaws
+pub mod ValueBytes
 pub mod ScriptLaws
-pub mod ProofLaws
+pub mod ScopeLaws
 pub mod StepLaws
 pub mod ProofOpened
+pub mod GroundLaws

@@ -1,13 +1,14 @@
 -- The tokens of a program with plain names are names.
-use Rattle.std.proofs.Common.{◌≡◌, ℕ, ◌<◌, ◌≤◌, ◌/◌, ◌%◌, Bool, true, List, [], ◌∷◌, ◌++◌, Some, None, Option, refl, sym, inl, inr, drop, zero, suc, arith}
+use Rattle.std.proofs.Common.{◌≡◌, ℕ, ◌<◌, ◌≤◌, ◌/◌, ◌%◌, Bool, true, List, [], ◌∷◌, ◌++◌, Some, None, Option, refl, sym, drop, zero, suc, arith}
 use Rattle.std.specs.Prelude.{codes, option_map, nat_le, ◌&&◌}
 use Rattle.std.specs.Char.{digit_char}
 use Rattle.std.specs.List.{list_all}
 use Rattle.mm_text.specs.Bytes.{Token}
-use Rattle.ground_rules.specs.declared.signature.Signature.{Signature}
+use Rattle.rule_core.specs.declared.signature.Signature.{Signature}
 use Rattle.term_core.specs.Terms.{DomainValue}
-use Rattle.ground_image.specs.Tokens.{name_at, sort_token, symbol_token, value_token, hexadecimal, value_text, is_byte, is_value_at}
-use Rattle.ground_image.specs.Gained.{IsOwnToken, AreOwnTokens}
+use Rattle.ml_image.specs.Tokens.{name_at, sort_token, symbol_token, value_token, hexadecimal, value_text}
+use Rattle.prove_run.proofs.ValueBytes.{is_byte, value_bytes}
+use Rattle.ml_image.specs.Gained.{IsOwnToken, of_sort, of_symbol, of_value, AreOwnTokens}
 use Rattle.mm_claims.specs.Statements.{sort_name, symbol_name, value_name, is_name_byte, IsName}
 use Rattle.mm_claims.specs.Fitting.{AreNames}
 use Rattle.ml_pat.proofs.LeafLaws.{both_true, split_true}
@@ -48,16 +49,15 @@ value_rest : (name : Token) (v : DomainValue) → list_all is_name_byte name ≡
 value_rest name v h k = all-append is_name_byte name (codes ":" ++ hexadecimal (value_text v)) h (digits (value_text v) k)
 
 own_name : (sig : Signature) → HasPlainNames sig → (token : Token) → IsOwnToken sig token → IsName token
-own_name sig plain token (inl (s, h)) =
+own_name sig plain token (of_sort s h) =
     let made : (name : Token) × ((name_at sig.sorts s ≡ Some name) × (token ≡ sort_token name)) = made_of sort_token (name_at sig.sorts s) token h in
     record { kind = sort_name; rest = made.0; is = made.1.1; bytes = plain.sorts s made.0 made.1.0 }
-own_name sig plain token (inr (inl (f, h))) =
+own_name sig plain token (of_symbol f h) =
     let made : (name : Token) × ((name_at sig.symbols f ≡ Some name) × (token ≡ symbol_token name)) = made_of symbol_token (name_at sig.symbols f) token h in
     record { kind = symbol_name; rest = made.0; is = made.1.1; bytes = plain.symbols f made.0 made.1.0 }
-own_name sig plain token (inr (inr (s, (v, (has, h))))) =
+own_name sig plain token (of_value s v has h) =
     let made : (name : Token) × ((name_at sig.sorts s ≡ Some name) × (token ≡ value_token name v)) = made_of (λ name. value_token name v) (name_at sig.sorts s) token h in
-    let texts : (is_value_at sig s v ≡ true) = has in
-    let bytes : list_all is_byte (value_text v) ≡ true = (split_true _ (list_all is_byte (value_text v)) texts).1 in
+    let bytes : list_all is_byte (value_text v) ≡ true = value_bytes sig s v has in
     record { kind = value_name; rest = made.0 ++ (codes ":" ++ hexadecimal (value_text v)); is = made.1.1; bytes = value_rest made.0 v (plain.sorts s made.0 made.1.0) bytes }
 
 -- a program's own tokens are names

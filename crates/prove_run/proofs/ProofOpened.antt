@@ -3,7 +3,7 @@ use Rattle.std.proofs.Common.{◌≡◌, ℕ, List, Some, get_or, ◌∙◌, sym
 use Rattle.std.proofs.lemmas.Option.{get_or_from_slice_get}
 use Rattle.std.specs.Prelude.{slice_get}
 use Rattle.term_core.specs.RulePatterns.{plain_pattern}
-use Rattle.ground_rules.specs.declared.rules.Rule.{Rule}
+use Rattle.rule_core.specs.declared.rules.Rule.{Rule}
 use Rattle.prove_run.specs.RunProof.{RunProof}
 use Rattle.prove_run.specs.declared.proof.Proof.TheInside.{Inside}
 use Rattle.prove_run.specs.Proving.{IsAtRule}

@@ -7,14 +7,15 @@ use Rattle.std.proofs.Math.Seq.{take-length}
 use Rattle.mm_text.specs.Bytes.{Token}
 use Rattle.ml_pat.specs.Patterns.{Pattern, bot, top, imp, and, next}
 use Rattle.ml_kernel.specs.declared.derivations.AxiomNo.{AxiomNo}
-use Rattle.ground_rules.specs.declared.signature.Signature.{Signature}
-use Rattle.ground_rules.specs.declared.rules.Program.{Program}
-use Rattle.ground_rules.specs.Rules.{RewriteRule}
-use Rattle.ground_rules.specs.ProgramView.{rewrite_rule}
-use Rattle.ground_image.specs.Gained.{HasGained}
+use Rattle.rule_core.specs.declared.signature.Signature.{Signature}
+use Rattle.rule_core.specs.declared.rules.Program.{Program}
+use Rattle.rule_core.specs.Rules.{RewriteRule}
+use Rattle.rule_core.specs.ProgramView.{rewrite_rule}
+use Rattle.ml_image.specs.Gained.{HasGained}
 use Rattle.term_core.specs.Patterns.{Pattern as RulePattern}
 use Rattle.term_core.specs.RulePatterns.{plain_pattern}
-use Rattle.ground_image.specs.Images.{both, image_of, rule_image_of, HasImageAt, IsImageAt}
+use Rattle.ml_image.specs.Images.{both, image_of}
+use Rattle.prove_run.specs.GroundRules.{rule_image_of, HasImageAt, IsImageAt, AreGroundAt}
 use Rattle.mm_claims.specs.Keeping.{Fits, axiom_at, with_stated}
 use Rattle.ml_kernel.specs.Theorems.{Theorem}
 use Rattle.std.specs.Global.{Vec}
@@ -22,18 +23,20 @@ use Rattle.std.specs.Option.{is_some}
 use Rattle.mm_claims.specs.Kept.{Kept}
 use Rattle.mm_claims.specs.Places.{IsStated, MayProve, StatesLemma}
 use Rattle.mm_claims.proofs.LaterLaws.{fits_later, stated_stays}
-use Rattle.ground_justify.proofs.Allowing.{theorem_has_only}
+use Rattle.mm_justify.proofs.Allowing.{theorem_has_only}
+use Rattle.mm_justify.specs.Justifying.{HasOnlyAxiomsOf}
+use Rattle.rule_core.specs.ProgramView.{theory_of}
 use Rattle.ml_pat.specs.Leaves.{EachLeaf}
 use Rattle.mm_claims.specs.OverNames.{closed_over}
 use Rattle.mm_claims.specs.Blocks.{open_assertion}
 use Rattle.mm_claims.specs.ClaimVariables.{claim_of}
 use Rattle.mm_database.specs.Assertions.{assertions_of}
-use Rattle.ground_justify.specs.NoVariables.{HasNoVariable}
-use Rattle.ground_image.proofs.NamingLaws.{image_stays, rule_image_stays}
-use Rattle.ground_justify.proofs.ImageLeaves.{rule_image_is_closed}
+use Rattle.prove_run.specs.NoVariables.{HasNoVariable}
+use Rattle.ml_image.proofs.NamingLaws.{image_stays}
+use Rattle.prove_run.proofs.GroundLaws.{rule_image_stays, rule_image_is_closed}
 use Rattle.prove_run.specs.declared.script.Script.{Script}
 use Rattle.prove_run.specs.Scripts.{HasStated, AreStated, IsSound, IsDeclared, Extends, Continues}
-use Rattle.prove_run.specs.Proving.{AreGroundAt, GainsTheorem}
+use Rattle.prove_run.specs.Proving.{GainsTheorem}
 use Rattle.prove_run.proofs.PlainNameLaws.{own_append}
 
 pub on_one : {T E : Type 0} {P Q : Type 0} (r : Result T E) → (P → Q) → OnOk r P → OnOk r Q
@@ -146,8 +149,8 @@ rule_parts sig names r p h = go (image_of sig names r.left) (image_of sig names 
 -- the image of a rule without variables is closed over its names
 pub image_closed : (program : Program) (names : List Token) (i : ℕ) (p : Pattern) → HasImageAt program i → AreGroundAt program i → IsImageAt program names i p → EachLeaf (closed_over names) p
 image_closed program names i p has ground is =
-    let sides : HasNoVariable (plain_pattern has.0.left) × HasNoVariable (plain_pattern has.0.right) = ground has.0 has.1.0 in
-    rule_image_is_closed program.sig names (rewrite_rule has.0) p sides.0 sides.1 (is has.0 has.1.0)
+    let sides : HasNoVariable (plain_pattern has.0.left) × HasNoVariable (plain_pattern has.0.right) = ground has.0 has.1 in
+    rule_image_is_closed program.sig names (rewrite_rule has.0) p sides.0 sides.1 (is has.0 has.1)
 
 pub continues_then : (a b c : Script) → Continues a b → Continues b c → Continues a c
 continues_then a b c h k = record {
@@ -170,7 +173,8 @@ sound_stated s kept text t h declared may states is = record {
   named = subst (λ (k : Kept). k.named ≤ length s.names) (sym is) h.named;
   own = h.own;
   fits = subst (λ (bytes : List ℕ). Fits s.names kept bytes) (sym states.appended) ((states.gains may).fits s.text.items h.fits);
-  only = theorem_has_only s.program.now s.names s.renderer kept t s.text.items text.items states may h.fits h.only;
+  only = subst (HasOnlyAxiomsOf (theory_of s.program.now)) (sym states.appended)
+      (theorem_has_only (theory_of s.program.now) s.names s.renderer kept t s.text.items text.items s.text.items _ states states.appended may h.fits h.only);
   places = h.places;
   axioms = kept_stay s (record s { renderer = kept; text = text })
       (λ i n k. record {

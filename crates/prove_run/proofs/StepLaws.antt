@@ -6,15 +6,15 @@ use Rattle.ml_pat.specs.Patterns.{Pattern, bot, top, imp, and, next, ev}
 use Rattle.ml_kernel.specs.Lemmas.{HasNoMeta, instance}
 use Rattle.ml_kernel.specs.Theorems.{Theorem, own_axiom, all_hypotheses, IsByLemma}
 use Rattle.ml_kernel.proofs.InstanceLaws.{instance-empty}
-use Rattle.ml_derived.specs.Resting.{RestsOn}
-use Rattle.ml_derived.specs.Derived.{reaching}
-use Rattle.ml_derived.specs.Implications.{IsOneStepOn, ReachesOneFurther, IsStepOf, IsFreed}
+use Rattle.ml_scope.specs.Scopes.{Scope, IsWithin, StaysWithin}
+use Rattle.prove_run.proofs.ScopeLaws.{scope_of, axiom_within, cited_within, assumes_nothing, may_prove}
+use Rattle.ml_derived.specs.Implications.{IsOneStepOn, ReachesOneFurther, IsFreed}
 use Rattle.term_core.specs.Patterns.{Pattern as RulePattern}
 use Rattle.term_core.specs.RulePatterns.{plain_pattern}
-use Rattle.ground_rules.specs.declared.rules.Rule.{Rule}
-use Rattle.ground_rules.specs.declared.rules.Program.{Program}
-use Rattle.ground_rules.specs.ProgramView.{rewrite_rule}
-use Rattle.ground_image.specs.Images.{image_of}
+use Rattle.rule_core.specs.declared.rules.Rule.{Rule}
+use Rattle.rule_core.specs.declared.rules.Program.{Program}
+use Rattle.rule_core.specs.ProgramView.{rewrite_rule}
+use Rattle.ml_image.specs.Images.{image_of}
 use Rattle.mm_claims.specs.Keeping.{axiom_at}
 use Rattle.mm_claims.specs.OverNames.{over_names}
 use Rattle.ml_pat.specs.Leaves.{EachLeaf}
@@ -22,15 +22,14 @@ use Rattle.ml_kernel.specs.UsedLeaves.{EachUsed}
 use Rattle.ml_kernel.specs.MayCite.{EachCited}
 use Rattle.mm_claims.specs.Places.{IsStated, MayProve, stated_cites}
 use Rattle.mm_claims.specs.Blocks.{Claim}
-use Rattle.ground_justify.specs.NoVariables.{HasNoVariable}
+use Rattle.prove_run.specs.NoVariables.{HasNoVariable}
 use Rattle.mm_claims.proofs.ClosedPatterns.{closed_has_no_meta, closed_is_over}
 use Rattle.mm_claims.proofs.LaterLaws.{stated_stays}
-use Rattle.ground_justify.proofs.ImageLeaves.{image_is_closed}
+use Rattle.prove_run.proofs.GroundLaws.{image_is_closed}
 use Rattle.prove_run.specs.declared.script.Script.{Script}
 use Rattle.prove_run.specs.Scripts.{HasStated, IsSound, IsDeclared, Continues}
 use Rattle.prove_run.specs.ProofView.{HasReached}
 use Rattle.prove_run.proofs.ScriptLaws.{some_same, image_later, rule_parts}
-use Rattle.prove_run.proofs.ProofLaws.{none_left, may_go_on}
 
 -- what the proof says has no pattern variables
 pub reached_no_meta : (old : Script) (last : Theorem) (start reached : RulePattern) → HasReached old last start reached → HasNoMeta last.conclusion
@@ -42,10 +41,6 @@ reached_no_meta old last start reached h =
 -- a cited theorem says the same
 pub cited_says : (ms : List Pattern) (p q : Pattern) → ms ≡ [] → HasNoMeta p → q ≡ instance ms p → q ≡ p
 cited_says ms p q none no_meta is = is ∙ subst (λ (ns : List Pattern). instance ns p ≡ p) (sym none) (instance-empty [] p refl no_meta)
-
--- what theorems without hypotheses give has none
-pub no_hypotheses : (ts : List Theorem) (t : Theorem) → all_hypotheses ts ≡ [] → RestsOn ts t → t.hypotheses ≡ []
-no_hypotheses ts t none rests = none_left t.hypotheses (λ p k. subst (λ (ps : List Pattern). Contains ps p) none (rests.hypotheses p k))
 
 -- What the axiom of a rule says that applies to a pattern: its image makes a step to that of the right side.
 pub axiom_says : (old new : Script) (i n : ℕ) (r : Rule) (from : Pattern) → Continues old new → HasStated new i n → slice_get old.program.now.rules.items i ≡ Some r
@@ -69,80 +64,87 @@ image_says old new i n r from p on stated there image found =
     let says : (to : Pattern) × (image_of new.program.now.sig new.names (plain_pattern r.right) ≡ Some to) × (axiom_at new.theory n ≡ imp (and from top) (next to)) = axiom_says old new i n r from on stated there image in
     (says.0, says.1, sym (axiom_found new.theory n p found) ∙ says.2)
 
-one_none : (a : Theorem) → a.hypotheses ≡ [] → all_hypotheses (a ∷ []) ≡ []
-one_none a h = ap (λ (ps : List Pattern). ps ++ []) h
-
-two_none : (a b : Theorem) → a.hypotheses ≡ [] → b.hypotheses ≡ [] → all_hypotheses (a ∷ b ∷ []) ≡ []
-two_none a b h k = ap (λ (ps : List Pattern). ps ++ (b.hypotheses ++ [])) h ∙ one_none b k
-
 -- What the theorem of a step by a rule says, without hypotheses: one pattern reaches the image of the rule's right side.
 pub record Step (new : Script) (r : Rule) (from to : Pattern) (further : Theorem) : Type 0 where
   pub right : image_of new.program.now.sig new.names (plain_pattern r.right) ≡ Some to
   pub none : further.hypotheses ≡ []
   pub says : further.conclusion ≡ imp from (ev to)
 
-pub step_of : (old : Script) (last : Theorem) (new : Script) (start : RulePattern) (r : Rule) (i n : ℕ) (sofar image made further : Theorem) (reached : HasReached old last start (plain_pattern r.left)) → Continues old new → HasStated new i n
-    → slice_get old.program.now.rules.items i ≡ Some r → slice_get new.theory n ≡ Some image.conclusion → image.hypotheses ≡ [] → IsFreed image made → RestsOn (image ∷ []) made
-    → sofar.conclusion ≡ instance [] last.conclusion → sofar.hypotheses ≡ [] → ReachesOneFurther sofar.conclusion made.conclusion further.conclusion → RestsOn (sofar ∷ made ∷ []) further
-    → (to : Pattern) × Step new r reached.from to further
-step_of old last new start r i n sofar image made further reached on stated there found none freed made_rests is sofar_none reaches rests =
-    let says : (to : Pattern) × (image_of new.program.now.sig new.names (plain_pattern r.right) ≡ Some to) × (image.conclusion ≡ imp (and reached.to top) (next to)) =
-    image_says old new i n r reached.to image.conclusion on stated there reached.to_image found in
-    let made_says : made.conclusion ≡ imp reached.to (next says.0) = (freed reached.to (next says.0) says.2).0 in
-    let sofar_says : sofar.conclusion ≡ imp reached.from (ev reached.to) = cited_says [] last.conclusion sofar.conclusion refl (reached_no_meta old last start (plain_pattern r.left) reached) is ∙ reached.says in
-    let made_none : made.hypotheses ≡ [] = no_hypotheses (image ∷ []) made (one_none image none) made_rests in (
-      says.0,
-      record {
-        right = says.1;
-        none = no_hypotheses (sofar ∷ made ∷ []) further (two_none sofar made sofar_none made_none) rests;
-        says = reaches reached.from reached.to says.0 sofar_says made_says;
-      },
-    )
+-- What is known where a step is made: the proof so far, what was stated for the rule, and the theorems that are made.
+pub record Making (old new : Script) (last : Theorem) (start : RulePattern) (r : Rule) (i n : ℕ) (sofar image made : Theorem) : Type 0 where
+  pub reached : HasReached old last start (plain_pattern r.left)
+  pub on : Continues old new
+  pub stated : HasStated new i n
+  pub there : slice_get old.program.now.rules.items i ≡ Some r
+  pub found : slice_get new.theory n ≡ Some image.conclusion
+  pub freed : IsFreed image.conclusion made.conclusion
+  pub is : sofar.conclusion ≡ instance [] last.conclusion
+
+says_of : (old new : Script) (last : Theorem) (start : RulePattern) (r : Rule) (i n : ℕ) (sofar image made : Theorem) (m : Making old new last start r i n sofar image made) →
+    (to : Pattern) × (image_of new.program.now.sig new.names (plain_pattern r.right) ≡ Some to) × (image.conclusion ≡ imp (and m.reached.to top) (next to))
+says_of old new last start r i n sofar image made m =
+    image_says old new i n r m.reached.to image.conclusion m.on m.stated m.there m.reached.to_image m.found
+
+sofar_says : (old new : Script) (last : Theorem) (start : RulePattern) (r : Rule) (i n : ℕ) (sofar image made : Theorem) (m : Making old new last start r i n sofar image made) →
+    sofar.conclusion ≡ imp m.reached.from (ev m.reached.to)
+sofar_says old new last start r i n sofar image made m =
+    cited_says [] last.conclusion sofar.conclusion refl (reached_no_meta old last start (plain_pattern r.left) m.reached) m.is ∙ m.reached.says
 
 -- the theorem so far and the rule are linked
-pub linked : (old : Script) (last : Theorem) (new : Script) (start : RulePattern) (r : Rule) (i n : ℕ) (sofar image made : Theorem) → HasReached old last start (plain_pattern r.left) → Continues old new → HasStated new i n
-    → slice_get old.program.now.rules.items i ≡ Some r → slice_get new.theory n ≡ Some image.conclusion → IsFreed image made → sofar.conclusion ≡ instance [] last.conclusion
-    → IsOneStepOn sofar.conclusion made.conclusion
-linked old last new start r i n sofar image made reached on stated there found freed is =
-    let says : (to : Pattern) × (image_of new.program.now.sig new.names (plain_pattern r.right) ≡ Some to) × (image.conclusion ≡ imp (and reached.to top) (next to)) =
-    image_says old new i n r reached.to image.conclusion on stated there reached.to_image found in (
-      reached.from,
-      (
-        reached.to,
-        (
-          says.0,
-          (cited_says [] last.conclusion sofar.conclusion refl (reached_no_meta old last start (plain_pattern r.left) reached) is ∙ reached.says, (freed reached.to (next says.0) says.2).0),
-        ),
-      ),
-    )
+pub linked : (old new : Script) (last : Theorem) (start : RulePattern) (r : Rule) (i n : ℕ) (sofar image made : Theorem) → Making old new last start r i n sofar image made →
+    IsOneStepOn sofar.conclusion made.conclusion
+linked old new last start r i n sofar image made m =
+    let says = says_of old new last start r i n sofar image made m in
+    (m.reached.from, (m.reached.to, (says.0, (sofar_says old new last start r i n sofar image made m, m.freed m.reached.to (next says.0) says.2))))
 
--- the theorem of a step may be proved
-pub may_step : (old : Script) (last : Theorem) (new : Script) (start : RulePattern) (r : Rule) (i n : ℕ) (sofar image made further : Theorem) → HasReached old last start (plain_pattern r.left) → Continues old new → HasStated new i n
-    → slice_get old.program.now.rules.items i ≡ Some r → HasNoVariable (plain_pattern r.right) → IsSound new → IsDeclared new
-    → slice_get new.theory n ≡ Some image.conclusion → image.hypotheses ≡ [] → image.derivation ≡ own_axiom n image.conclusion → IsFreed image made → RestsOn (image ∷ []) made
-    → sofar.conclusion ≡ instance [] last.conclusion → IsByLemma last [] [] sofar → ReachesOneFurther sofar.conclusion made.conclusion further.conclusion → IsStepOf sofar made further
-    → RestsOn (sofar ∷ made ∷ []) further → MayProve new.names new.renderer further
-may_step old last new start r i n sofar image made further reached on stated there right_ground sound declared found none by_axiom freed made_rests is by_lemma reaches steps rests =
-    let says : (to : Pattern) × (image_of new.program.now.sig new.names (plain_pattern r.right) ≡ Some to) × (image.conclusion ≡ imp (and reached.to top) (next to)) =
-    image_says old new i n r reached.to image.conclusion on stated there reached.to_image found in
-    let to = says.0 in
-    let made_is = freed reached.to (next to) says.2 in
-    let sofar_says : sofar.conclusion ≡ imp reached.from (ev reached.to) = cited_says [] last.conclusion sofar.conclusion refl (reached_no_meta old last start (plain_pattern r.left) reached) is ∙ reached.says in
-    let step : (t : Pattern) × Step new r reached.from t further =
-    step_of old last new start r i n sofar image made further reached on stated there found none freed made_rests is by_lemma.kept_hypotheses reaches rests in
-    let f = over_names new.names in
-    let k = stated_cites new.names new.renderer.stated in
-    let sofar_stated : IsStated new.renderer.stated last.hypotheses last.conclusion =
-    subst (λ (ss : List Claim). IsStated ss last.hypotheses last.conclusion) (sym on.stated.1) (stated_stays old.renderer.stated on.stated.0 last.hypotheses last.conclusion reached.stated) in
-    let image_stated : IsStated new.renderer.stated [] image.conclusion =
-    subst (IsStated new.renderer.stated []) (axiom_found new.theory n image.conclusion found) stated.stated in
+-- What is known of the theorem of a step, too.
+pub record Made (old new : Script) (last : Theorem) (start : RulePattern) (r : Rule) (i n : ℕ) (sofar image made further : Theorem) : Type 0 where
+  pub making : Making old new last start r i n sofar image made
+  pub right_ground : HasNoVariable (plain_pattern r.right)
+  pub none : image.hypotheses ≡ []
+  pub by_axiom : image.derivation ≡ own_axiom n image.conclusion
+  pub by_lemma : IsByLemma last [] [] sofar
+  pub made_stays : StaysWithin [] (image ∷ []) made
+  pub reaches : ReachesOneFurther sofar.conclusion made.conclusion further.conclusion
+  pub stays : StaysWithin [] (sofar ∷ made ∷ []) further
+
+-- the theorem of a step is within the scope of the text
+pub step_within : (old new : Script) (last : Theorem) (start : RulePattern) (r : Rule) (i n : ℕ) (sofar image made further : Theorem) →
+    Made old new last start r i n sofar image made further → IsWithin (scope_of new.names new.renderer.stated) further
+step_within old new last start r i n sofar image made further w =
+    let m = w.making in
+    let reached = m.reached in
+    let says = says_of old new last start r i n sofar image made m in
+    let scope : Scope = scope_of new.names new.renderer.stated in
     let over : (a : RulePattern) (p : Pattern) → HasNoVariable a → image_of new.program.now.sig new.names a ≡ Some p → EachLeaf (over_names new.names) p =
     λ a p none_there image_is. closed_is_over new.names p (image_is_closed new.program.now.sig new.names a p none_there image_is) in
-    may_go_on new.names new.renderer further reached.from reached.to to sofar.derivation image.derivation sound.begun declared
-    (over start reached.from reached.from_ground (image_later old new start reached.from on reached.from_image))
-    (over (plain_pattern r.left) reached.to reached.to_ground (image_later old new (plain_pattern r.left) reached.to on reached.to_image))
-    (over (plain_pattern r.right) to right_ground says.1)
-    step.1.none (reaches reached.from reached.to to sofar_says made_is.0)
-    (steps reached.from reached.to to sofar_says made_is.0 ∙ ap (reaching reached.from reached.to to sofar.derivation) made_is.1)
-    (subst (EachUsed f) (sym by_lemma.last_step) tt) (subst (EachUsed f) (sym by_axiom) tt)
-    (subst (EachCited k) (sym by_lemma.last_step) ((sofar_stated, tt), tt)) (subst (EachCited k) (sym by_axiom) image_stated)
+    let from_over : EachLeaf (over_names new.names) reached.from = over start reached.from reached.from_ground (image_later old new start reached.from m.on reached.from_image) in
+    let at_over : EachLeaf (over_names new.names) reached.to = over (plain_pattern r.left) reached.to reached.to_ground (image_later old new (plain_pattern r.left) reached.to m.on reached.to_image) in
+    let to_over : EachLeaf (over_names new.names) says.0 = over (plain_pattern r.right) says.0 w.right_ground says.1 in
+    let sofar_stated : IsStated new.renderer.stated last.hypotheses last.conclusion =
+    subst (λ (ss : List Claim). IsStated ss last.hypotheses last.conclusion) (sym m.on.stated.1) (stated_stays old.renderer.stated m.on.stated.0 last.hypotheses last.conclusion reached.stated) in
+    let image_stated : IsStated new.renderer.stated [] image.conclusion =
+    subst (IsStated new.renderer.stated []) (axiom_found new.theory n image.conclusion m.found) m.stated.stated in
+    let image_within : IsWithin scope image =
+    axiom_within new.names new.renderer.stated n image w.none w.by_axiom image_stated (subst (EachLeaf (over_names new.names)) (sym says.2) ((at_over, tt), to_over)) in
+    let sofar_within : IsWithin scope sofar =
+    cited_within new.names new.renderer.stated last sofar w.by_lemma sofar_stated
+    (subst (EachLeaf (over_names new.names)) (sym (sofar_says old new last start r i n sofar image made m)) (from_over, at_over)) in
+    w.stays scope tt (sofar_within, (w.made_stays scope tt (image_within, tt), tt))
+
+pub step_of : (old new : Script) (last : Theorem) (start : RulePattern) (r : Rule) (i n : ℕ) (sofar image made further : Theorem) (w : Made old new last start r i n sofar image made further) →
+    (to : Pattern) × Step new r w.making.reached.from to further
+step_of old new last start r i n sofar image made further w =
+    let m = w.making in
+    let says = says_of old new last start r i n sofar image made m in
+    (says.0, record {
+      right = says.1;
+      none = assumes_nothing new.names new.renderer.stated further (step_within old new last start r i n sofar image made further w);
+      says = w.reaches m.reached.from m.reached.to says.0 (sofar_says old new last start r i n sofar image made m) (m.freed m.reached.to (next says.0) says.2);
+    })
+
+-- so it may be proved
+pub may_step : (old new : Script) (last : Theorem) (start : RulePattern) (r : Rule) (i n : ℕ) (sofar image made further : Theorem) →
+    Made old new last start r i n sofar image made further → IsSound new → IsDeclared new → MayProve new.names new.renderer further
+may_step old new last start r i n sofar image made further w sound declared =
+    may_prove new.names new.renderer further sound.begun declared (step_within old new last start r i n sofar image made further w)

@@ -1,8 +1,8 @@
 -- Programs whose names may stand in the tokens of a database.
 use Rattle.std.specs.Prelude.{◌≡◌, ℕ, true, List, Some}
 use Rattle.std.specs.List.{list_all}
-use Rattle.ground_rules.specs.declared.signature.Signature.{Signature}
-use Rattle.ground_image.specs.Tokens.{name_at}
+use Rattle.rule_core.specs.declared.signature.Signature.{Signature}
+use Rattle.ml_image.specs.Tokens.{name_at}
 use Rattle.mm_claims.specs.Statements.{is_name_byte}
 
 -- each byte of the names of the signature's sorts and symbols is printable, and no `$`

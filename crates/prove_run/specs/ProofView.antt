@@ -4,10 +4,11 @@ use Rattle.term_core.specs.Patterns.{Pattern as RulePattern}
 use Rattle.term_core.specs.RulePatterns.{plain_pattern}
 use Rattle.ml_pat.specs.Patterns.{Pattern, imp, ev}
 use Rattle.ml_kernel.specs.Theorems.{Theorem}
-use Rattle.ground_image.specs.Images.{image_of}
+use Rattle.ml_image.specs.Images.{image_of}
 use Rattle.mm_claims.specs.Places.{IsStated}
-use Rattle.ground_justify.specs.Justifying.{Justifies}
-use Rattle.ground_justify.specs.NoVariables.{HasNoVariable}
+use Rattle.mm_justify.specs.Justifying.{JustifiesRun}
+use Rattle.rule_core.specs.ProgramView.{theory_of}
+use Rattle.prove_run.specs.NoVariables.{HasNoVariable}
 use Rattle.prove_run.specs.RunProof.{RunProof}
 use Rattle.prove_run.specs.declared.script.Script.{Script}
 use Rattle.prove_run.specs.declared.proof.Proof.TheInside.{Inside}
@@ -39,4 +40,4 @@ pub record IsProof (p : Inside) : Type 0 where
   pub sound : IsSound p.script
   pub declared : IsDeclared p.script
   pub has_reached : HasReached p.script p.last (plain_pattern p.start.now) (plain_pattern p.reached.now)
-  pub justifies : Justifies p.script.text.items p.script.program.now (plain_pattern p.start.now) (plain_pattern p.reached.now)
+  pub justifies : JustifiesRun p.script.text.items (theory_of p.script.program.now) (plain_pattern p.start.now) (plain_pattern p.reached.now)

@@ -2,11 +2,11 @@
 use Rattle.std.specs.Prelude.{◌≡◌, ℕ, true, false, List, [], ◌∷◌, ◌++◌, length, slice_get, slice_set, replicate, Some}
 use Rattle.term_core.specs.declared.rule_patterns.RulePat.{RulePat}
 use Rattle.term_core.specs.RulePatterns.{plain_pattern}
-use Rattle.ground_rules.specs.declared.rules.Rule.{Rule}
-use Rattle.ground_rules.specs.declared.rules.Program.{Program}
+use Rattle.rule_core.specs.declared.rules.Rule.{Rule}
+use Rattle.rule_core.specs.declared.rules.Program.{Program}
 use Rattle.mm_database.specs.Assertions.{Assertion, assertions_of}
-use Rattle.ground_justify.specs.Justifying.{Justifies}
-use Rattle.ground_justify.specs.NoVariables.{HasNoVariable}
+use Rattle.mm_justify.specs.Justifying.{JustifiesRun}
+use Rattle.rule_core.specs.ProgramView.{theory_of}
 use Rattle.prove_run.specs.RunProof.{RunProof}
 
 -- a proof that a start reaches itself, by no step
@@ -19,10 +19,6 @@ pub record Begins (program : Program) (start : RulePat) (proof : RunProof) : Typ
 -- the present configuration is the left side of the rule at a place
 abbrev pub IsAtRule : RunProof → ℕ → Type 0
 IsAtRule proof i = (r : Rule) × ((slice_get proof.program.rules.items i ≡ Some r) × (plain_pattern proof.reached ≡ plain_pattern r.left))
-
--- no variable stands in the sides of the rule at a place
-abbrev pub AreGroundAt : Program → ℕ → Type 0
-AreGroundAt program i = (r : Rule) → slice_get program.rules.items i ≡ Some r → HasNoVariable (plain_pattern r.left) × HasNoVariable (plain_pattern r.right)
 
 -- the proof goes on by the rule at a place: its right side is the present configuration then
 pub record StepsBy (old new : RunProof) (i : ℕ) : Type 0 where
@@ -43,4 +39,5 @@ pub record GainsTheorem (old new : List ℕ) : Type 0 where
 
 -- the text justifies the run from the start to the present configuration
 abbrev pub IsJustified : RunProof → Type 0
-IsJustified proof = Justifies proof.text proof.program (plain_pattern proof.start) (plain_pattern proof.reached)
+IsJustified proof =
+    JustifiesRun proof.text (theory_of proof.program) (plain_pattern proof.start) (plain_pattern proof.reached)

@@ -1,7 +1,7 @@
 -- What a proof of a run is of, and its text.
 use Rattle.std.specs.Prelude.{ℕ, Bool, List}
 use Rattle.term_core.specs.declared.rule_patterns.RulePat.{RulePat}
-use Rattle.ground_rules.specs.declared.rules.Program.{Program}
+use Rattle.rule_core.specs.declared.rules.Program.{Program}
 
 -- A proof that the start of a program's run reaches a configuration, which is the present one: by which rules of the
 -- program steps were made, and the text of the proof.

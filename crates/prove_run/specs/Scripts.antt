@@ -6,13 +6,15 @@ use Rattle.term_core.specs.Patterns.{Pattern as RulePattern}
 use Rattle.ml_pat.specs.Patterns.{Pattern, imp, ev}
 use Rattle.ml_kernel.specs.declared.derivations.AxiomNo.{AxiomNo}
 use Rattle.ml_kernel.specs.Theorems.{Theorem}
-use Rattle.ground_image.specs.Images.{image_of, IsImageAt}
-use Rattle.ground_image.specs.Gained.{AreOwnTokens}
+use Rattle.ml_image.specs.Images.{image_of}
+use Rattle.rule_core.specs.ProgramView.{theory_of}
+use Rattle.prove_run.specs.GroundRules.{IsImageAt}
+use Rattle.ml_image.specs.Gained.{AreOwnTokens}
 use Rattle.ml_pat.specs.Leaves.{EachLeaf}
 use Rattle.mm_claims.specs.OverNames.{closed_over}
 use Rattle.mm_claims.specs.Keeping.{Fits, axiom_at}
 use Rattle.mm_claims.specs.Places.{IsStated}
-use Rattle.ground_justify.specs.Justifying.{HasOnlyAxiomsOf, Justifies}
+use Rattle.mm_justify.specs.Justifying.{HasOnlyAxiomsOf, JustifiesRun}
 use Rattle.prove_run.specs.declared.script.Script.{Script}
 
 -- the axiom with this number is the image of the rule at a place, and it was stated
@@ -34,7 +36,7 @@ pub record IsSound (s : Script) : Type 0 where
   pub named : s.renderer.named ≤ length s.names
   pub own : AreOwnTokens s.program.now.sig s.names
   pub fits : Fits s.names s.renderer s.text.items
-  pub only : HasOnlyAxiomsOf s.program.now s.text.items
+  pub only : HasOnlyAxiomsOf (theory_of s.program.now) s.text.items
   pub places : vec_len s.axioms ≡ vec_len s.program.now.rules
   pub axioms : AreStated s 0 s.axioms.items
 
@@ -61,4 +63,4 @@ pub record Continues (old new : Script) : Type 0 where
 abbrev pub Justified : Script → Theorem → Type 0
 Justified s t =
     (a b : RulePattern) (from to : Pattern) → image_of s.program.now.sig s.names a ≡ Some from → image_of s.program.now.sig s.names b ≡ Some to →
-    t.hypotheses ≡ [] → t.conclusion ≡ imp from (ev to) → EachLeaf (closed_over s.names) (imp from (ev to)) → Justifies s.text.items s.program.now a b
+    t.hypotheses ≡ [] → t.conclusion ≡ imp from (ev to) → EachLeaf (closed_over s.names) (imp from (ev to)) → JustifiesRun s.text.items (theory_of s.program.now) a b

@@ -1,14 +1,17 @@
-//! The proof of a run of a program without variables, written as the run goes (Chen and Rosu 2019).
+//! The proof of a run, written as the run goes (Chen and Rosu 2019), as yet of programs whose rules have neither variables
+//! nor conditions (`is_covered`).
 //!
 //! A `Proof` begins with `a -> ev a`, a being the image of the initial term. A step by a rule concludes `a -> ev c` from
 //! `a -> ev b` and the image of the rule, `b & top -> next c`; each is a theorem of the database, which the next one cites. The
-//! contract: the text justifies the run from the start to the present configuration at each moment (`specs/Scripts`).
+//! contract: the text justifies the run from the start to the present configuration at each moment (`IsJustified`).
 //!
 //! The text of a step is linear in the sizes of the three configurations that it speaks of. What was stated is kept, so memory
 //! grows with the text.
 #![tactic(auto)]
 
+mod covered;
 mod proof;
 mod script;
 
+pub use covered::is_covered;
 pub use proof::Proof;

@@ -1,16 +1,18 @@
 // A proof of a run, step by step.
-ghost use Rattle.std.specs.Prelude.{◌≡◌, IfOk};
+ghost use Rattle.std.specs.Prelude.{◌≡◌, true, IfOk};
+ghost use Rattle.std.specs.List.{list_all};
 ghost use Rattle.term_core.specs.RulePatterns.{plain_pattern};
-ghost use Rattle.ground_image.specs.Images.{HasImage, HasImageAt};
-ghost use Rattle.ground_justify.specs.NoVariables.{HasNoVariable};
+ghost use Rattle.rule_core.specs.ProgramView.{rewrite_rules, theory_of};
+ghost use Rattle.rule_core.specs.WellSorted.{IsStart, IsWellSorted};
 ghost use Rattle.prove_run.specs.PlainNames.{HasPlainNames};
-ghost use Rattle.prove_run.specs.Proving.{AreGroundAt, Begins, GainsTheorem, IsAtRule, IsJustified, IsUsed, StepsBy};
+ghost use Rattle.prove_run.specs.Covered.{is_covered, is_covered_rule};
+ghost use Rattle.prove_run.specs.Proving.{Begins, GainsTheorem, IsAtRule, IsJustified, IsUsed, StepsBy};
 
 use crate::script::Script;
-use ground_justify::image_laws;
-use ground_rules::Program;
 use ml_derived::{free_of_top, reach_here, reach_step};
 use ml_kernel::{Lemma, Thm};
+use mm_justify::image_laws;
+use rule_core::Program;
 use std::alloc::{AllocError, Global};
 use std::marker::Model;
 use term_core::RulePat;
@@ -43,15 +45,17 @@ impl<'p> Model for Proof<'p> {
 }
 
 impl<'p> Proof<'p> {
-    /// The proof of a run of no step: the start reaches itself. The error is want of memory.
+    /// The proof of a run of no step: the start reaches itself. The program is well-sorted and covered with this start.
+    /// `AllocError` says that memory was wanting.
     pub fn begin(
         alloc: Global,
         program: &'p Program,
         start: &'p RulePat,
     ) -> Result<Proof<'p>, AllocError>
         requires names { HasPlainNames program.now.sig }
-        requires image { HasImage program.now.sig (plain_pattern start.now) }
-        requires ground { HasNoVariable (plain_pattern start.now) }
+        requires well_sorted { IsWellSorted (theory_of program.now) }
+        requires start { IsStart (theory_of program.now) (plain_pattern start.now) }
+        requires covered { is_covered (theory_of program.now) (plain_pattern start.now) ≡ true }
         ensures { IfOk result (Begins program.now start.now) }
     {
         image_laws();
@@ -71,8 +75,8 @@ impl<'p> Proof<'p> {
     /// already, which gains just the theorem of this step. The error is want of memory, and no proof is left then.
     pub fn step(self, alloc: Global, rule: u32) -> Result<Proof<'p>, AllocError>
         requires names { HasPlainNames self.program.sig }
-        requires image { HasImageAt self.program rule }
-        requires ground { AreGroundAt self.program rule }
+        requires well_sorted { IsWellSorted (theory_of self.program) }
+        requires covered { list_all is_covered_rule (rewrite_rules self.program.rules.items) ≡ true }
         requires applies { IsAtRule self rule }
         ensures steps { IfOk result (λ further. StepsBy self.entry further rule) }
         ensures once { IfOk result (λ further. IsUsed self.entry rule → GainsTheorem self.entry.text further.text) }

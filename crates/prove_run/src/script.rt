@@ -1,19 +1,21 @@
 // What is written of a proof: names, axioms and theorems, and the text that states them.
-ghost use Rattle.std.specs.Prelude.{◌≡◌, IfOk, OnOk, Some, false, length, replicate, slice_get, slice_set, true};
+ghost use Rattle.std.specs.Prelude.{◌≡◌, ◌^◌, IfOk, OnOk, Some, false, length, replicate, slice_get, slice_set, true};
 ghost use Rattle.term_core.specs.RulePatterns.{plain_pattern};
-ghost use Rattle.ground_image.specs.Images.{HasImage, HasImageAt, IsImageAt, image_of};
+ghost use Rattle.ml_image.specs.Images.{image_of};
+ghost use Rattle.ml_image.specs.HasImages.{HasImage};
 ghost use Rattle.mm_claims.specs.Places.{IsStated, MayProve};
 ghost use Rattle.prove_run.specs.PlainNames.{HasPlainNames};
-ghost use Rattle.prove_run.specs.Proving.{AreGroundAt, GainsTheorem};
+ghost use Rattle.prove_run.specs.GroundRules.{AreGroundAt, HasImageAt, IsImageAt};
+ghost use Rattle.prove_run.specs.Proving.{GainsTheorem};
 ghost use Rattle.prove_run.specs.Scripts.{Continues, HasStated, IsDeclared, IsSound, Justified, rules_used};
 
-use ground_image::{naming_laws, rule_image, term_image};
-use ground_justify::{image_laws, justifying_laws};
-use ground_rules::Program;
+use ml_image::{naming_laws, rule_image, term_image};
 use ml_kernel::{AxiomNo, Lemma, Theory, Thm};
 use ml_pat::{MPat, Names};
 use mm_claims::{closed_laws, later_laws};
+use mm_justify::{image_laws, justifying_laws};
 use mm_render::Renderer;
+use rule_core::Program;
 use std::alloc::{AllocError, Global};
 use term_core::RulePat;
 
@@ -55,14 +57,14 @@ impl<'p> Script<'p> {
     pub(crate) fn image(&mut self, alloc: Global, pat: &RulePat) -> Result<MPat, AllocError>
         requires sound { IsSound self.old }
         requires names { HasPlainNames self.old.program.now.sig }
-        requires image { HasImage self.old.program.now.sig (plain_pattern pat.now) }
+        requires image { HasImage self.old.program.now.sig (2 ^ 32) (plain_pattern pat.now) }
         ensures image { IfOk result (λ p. image_of self.old.program.now.sig self.new.names (plain_pattern pat.now) ≡ Some p) }
         ensures sound { OnOk result (IsSound self.new) }
         ensures declared { OnOk result (IsDeclared self.new) }
         ensures continues { OnOk result (Continues self.old self.new) }
         ensures kept { OnOk result (self.new.axioms ≡ self.old.axioms) }
     {
-        let image = term_image(alloc, self.program, &mut self.names, pat)?;
+        let image = term_image(alloc, &self.program.sig, &mut self.names, pat)?;
         self.declare()?;
         Ok(image)
     }
@@ -104,7 +106,8 @@ impl<'p> Script<'p> {
         image_laws();
         later_laws();
         naming_laws();
-        let image = rule_image(alloc, self.program, &mut self.names, rule)?;
+        let stepped = &self.program.rules[rule as usize];
+        let image = rule_image(alloc, &self.program.sig, &mut self.names, stepped)?;
         self.declare()?;
         self.assume(rule, image)
     }
@@ -139,6 +142,7 @@ impl<'p> Script<'p> {
     pub(crate) fn state(&mut self, thm: Thm) -> Result<Lemma, AllocError>
         requires sound { IsSound self.old }
         requires declared { IsDeclared self.old }
+        requires names { HasPlainNames self.old.program.now.sig }
         requires proved { MayProve self.old.names self.old.renderer thm }
         ensures lemma { IfOk result (λ lemma. lemma ≡ thm) }
         ensures stated { OnOk result (IsStated self.new.renderer.stated thm.hypotheses thm.conclusion) }
@@ -151,6 +155,7 @@ impl<'p> Script<'p> {
     {
         justifying_laws();
         later_laws();
+        self.names.tokens_differ();
         let lemma = Lemma::close(thm)?;
         self.renderer.lemma(&self.names, &lemma, &mut self.text)?;
         Ok(lemma)

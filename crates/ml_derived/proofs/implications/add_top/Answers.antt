@@ -1,8 +1,15 @@
-use Rattle.ml_derived.proofs.RestingLaws.{if_ok, rests_rule_none, rests_one, rests_two}
+use Rattle.std.proofs.Common.{sym, subst}
+use Rattle.ml_scope.specs.Scopes.{IsOver}
+use Rattle.ml_derived.proofs.StayingLaws.{if_ok}
 use Rattle.ml_derived.proofs.implications.add_top.Goals as goal
 
-pub returns-clause-rests : goal.returns-clause-rests
-returns-clause-rests c =
-    if_ok c.under.result _ _
-    (λ t r. rests_two _ _ _ t r (rests_one _ _ _ c.in_ok-lifted.ensures.rests (rests_rule_none _ _ _ _ _ c.in_ok-holds.ensures)) (rests_rule_none _ _ _ _ _ c.in_ok-joining.ensures))
-    c.under.ensures.rests
+pub returns-clause-stays : goal.returns-clause-stays
+returns-clause-stays c =
+    if_ok c.under.result
+    (λ t stays s hp ht.
+    let truth : IsOver s c.args.truth.now = subst (IsOver s) (sym c.requires.truth) tt in
+    stays s tt (
+      c.in_ok-lifted.ensures.stays s hp (c.in_ok-holds.ensures.stays s tt tt, tt),
+      (c.in_ok-joining.ensures.stays s (hp.0, (truth, tt)) tt, tt),
+    ))
+    c.under.ensures.stays

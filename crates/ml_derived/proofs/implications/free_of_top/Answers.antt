@@ -1,7 +1,16 @@
-use Rattle.std.proofs.Common.{[]}
-use Rattle.ml_derived.proofs.RestingLaws.{if_ok, rests_two, rests_none, rests_first}
+use Rattle.std.proofs.Common.{sym, ◌∙◌, subst}
+use Rattle.ml_pat.specs.Patterns.{imp, and}
+use Rattle.ml_scope.specs.Scopes.{IsOver}
+use Rattle.ml_derived.proofs.StayingLaws.{if_ok, concluded}
 use Rattle.ml_derived.proofs.implications.free_of_top.Goals as goal
 
-pub returns-clause-rests : goal.returns-clause-rests
-returns-clause-rests c =
-    if_ok c.chained.result _ _ (λ t r. rests_two _ _ _ t r (rests_none _ _ c.in_ok-with_top.ensures.rests) (rests_first [] c.args.rule.now)) c.chained.ensures.rests
+pub returns-clause-stays : goal.returns-clause-stays
+returns-clause-stays c =
+    if_ok c.chained.result
+    (λ t stays s hp ht.
+    let whole : IsOver s (imp c.sides.result.0.now c.sides.result.1.now) =
+    concluded s c.args.rule.now _ ht.0 (sym c.conclusion.ensures ∙ c.sides.ensures) in
+    let both : IsOver s (and c.conjuncts.result.0.now c.conjuncts.result.1.now) =
+    subst (IsOver s) c.conjuncts.ensures whole.0 in
+    stays s tt (c.in_ok-with_top.ensures.stays s (both.0, tt) tt, ht))
+    c.chained.ensures.stays

@@ -1,7 +1,11 @@
-use Rattle.std.proofs.Common.{[]}
-use Rattle.ml_derived.proofs.RestingLaws.{if_ok, rests_rule_none, rests_rule_two, rests_first}
+use Rattle.std.proofs.Common.{sym}
+use Rattle.ml_derived.proofs.StayingLaws.{if_ok, concluded}
 use Rattle.ml_derived.proofs.implications.lift.Goals as goal
 
-pub returns-clause-rests : goal.returns-clause-rests
-returns-clause-rests c =
-    if_ok c.mp.result _ _ (λ t r. rests_rule_two _ _ _ _ _ _ t r (rests_first [] c.args.a.now) (rests_rule_none _ _ _ _ _ c.in_ok-weaken.ensures)) c.mp.ensures
+pub returns-clause-stays : goal.returns-clause-stays
+returns-clause-stays c =
+    if_ok c.mp.result
+    (λ t stays s hp ht.
+    stays s tt
+    (ht.0, (c.in_ok-weaken.ensures.stays s (concluded s c.args.a.now _ ht.0 (sym c.conclusion-q.ensures), (hp.0, tt)) tt, tt)))
+    c.mp.ensures.stays

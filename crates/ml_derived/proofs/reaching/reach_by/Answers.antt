@@ -1,12 +1,24 @@
-use Rattle.std.proofs.Common.{[]}
-use Rattle.ml_derived.proofs.RestingLaws.{if_ok, rests_rule_none, rests_rule_one, rests_two, rests_first}
+use Rattle.std.proofs.Common.{subst}
+use Rattle.ml_pat.specs.Patterns.{imp, next}
+use Rattle.ml_scope.specs.Scopes.{IsOver}
+use Rattle.ml_derived.proofs.StayingLaws.{if_ok, concluded}
 use Rattle.ml_derived.proofs.reaching.reach_by.Goals as goal
 
-pub returns-clause-rests : goal.returns-clause-rests
-returns-clause-rests c =
-    if_ok c.chained-2.result _ _
-    (λ t r. rests_two _ _ _ t r (rests_first [] c.args.step.now)
-    (rests_two _ _ _ _ c.in_ok-on.ensures.rests
-    (rests_rule_one _ _ _ _ _ _ c.in_ok-moved.ensures (rests_rule_none _ _ _ _ _ c.in_ok-here.ensures))
-    (rests_rule_none _ _ _ _ _ c.in_ok-closing.ensures)))
-    c.chained-2.ensures.rests
+pub returns-clause-stays : goal.returns-clause-stays
+returns-clause-stays c =
+    if_ok c.chained-2.result
+    (λ t stays s hp ht.
+    let whole : IsOver s (imp c.args.b.now c.args.made.now) =
+    concluded s c.args.step.now (imp c.args.b.now c.args.made.now) ht.0 c.requires.step in
+    let made : IsOver s (next c.args.c.now) = subst (IsOver s) c.requires.made whole.1 in
+    stays s tt (
+      ht.0,
+      (
+        c.in_ok-on.ensures.stays s tt (
+          c.in_ok-moved.ensures.stays s tt (c.in_ok-here.ensures.stays s (made, tt) tt, tt),
+          (c.in_ok-closing.ensures.stays s (made, tt) tt, tt),
+        ),
+        tt,
+      ),
+    ))
+    c.chained-2.ensures.stays

@@ -3,8 +3,8 @@ use Rattle.std.specs.Prelude.{slice_set}
 use Rattle.std.specs.Global.{Vec}
 use Rattle.std.specs.Option.{is_some}
 use Rattle.ml_kernel.specs.declared.derivations.AxiomNo.{AxiomNo}
-use Rattle.ground_rules.specs.declared.rules.Program.{Program}
-use Rattle.ground_image.specs.Images.{HasImageAt}
+use Rattle.rule_core.specs.declared.rules.Program.{Program}
+use Rattle.prove_run.specs.GroundRules.{HasImageAt}
 use Rattle.prove_run.proofs.ScriptLaws.{on_one, sound_later, extends_then, continues_then}
 use Rattle.prove_run.proofs.script.Script.add_rule.Goals as goal
 

@@ -4,19 +4,21 @@ use Rattle.std.proofs.lemmas.List.{map-set}
 use Rattle.std.proofs.lemmas.Option.{slice_get_within}
 use Rattle.mm_text.specs.Bytes.{Token}
 use Rattle.ml_pat.specs.Patterns.{Pattern}
-use Rattle.ground_rules.specs.ProgramView.{rewrite_rule}
-use Rattle.ground_image.specs.Images.{rule_image_of}
+use Rattle.rule_core.specs.ProgramView.{rewrite_rule}
+use Rattle.prove_run.specs.GroundRules.{rule_image_of}
+use Rattle.rule_core.specs.ProgramView.{theory_of}
+use Rattle.ml_image.specs.Sentences.{Sentence, sentence_image}
 use Rattle.mm_claims.specs.Kept.{Kept}
 use Rattle.ml_pat.specs.Leaves.{EachLeaf}
 use Rattle.mm_claims.specs.OverNames.{closed_over}
 use Rattle.mm_claims.specs.Keeping.{Fits, MayState, axiom_at, with_stated}
 use Rattle.mm_claims.specs.Places.{IsStated}
 use Rattle.mm_claims.specs.ClaimVariables.{claim_of}
-use Rattle.ground_justify.specs.Justifying.{HasOnlyAxiomsOf, IsOwnAxiom}
-use Rattle.ground_justify.proofs.Allowing.{axiom_has_only}
+use Rattle.mm_justify.specs.Justifying.{HasOnlyAxiomsOf, IsAssumed}
+use Rattle.mm_justify.proofs.Allowing.{axiom_has_only}
 use Rattle.mm_claims.proofs.ClosedPatterns.{closed_has_no_meta, closed_is_over}
 use Rattle.mm_claims.proofs.LaterLaws.{last_is_stated, stated_stays}
-use Rattle.ground_justify.proofs.ImageLeaves.{rule_image_is_own}
+use Rattle.prove_run.proofs.GroundLaws.{rule_is_assumed}
 use Rattle.prove_run.proofs.ScriptLaws.{take_all, kept_stay, kept_set, axiom_last, axiom_before, image_closed}
 use Rattle.prove_run.proofs.script.Script.assume.Goals as goal
 
@@ -26,7 +28,7 @@ add-requires c =
 
 pub index_mut-requires : goal.index_mut-requires
 index_mut-requires c =
-    let within : c.args.rule < length c.args.self.now.program.now.rules.items = slice_get_within c.args.self.now.program.now.rules.items c.args.rule c.requires.there.0 c.requires.there.1.0 in
+    let within : c.args.rule < length c.args.self.now.program.now.rules.items = slice_get_within c.args.self.now.program.now.rules.items c.args.rule c.requires.there.0 c.requires.there.1 in
     subst (λ (n : ℕ). c.args.rule < n) (sym (c.requires.sound.places ∙ c.args.self.now.program.now.rules.ok.0)) within
 
 pub returns-clause-stated : goal.returns-clause-stated
@@ -58,9 +60,11 @@ returns-clause-sound c =
       begun = c.requires.sound.begun;
       over = (closed_is_over (take s.renderer.named s.names) (axiom_at c.add.new.self number) ground, tt);
     } in
-    let own : IsOwnAxiom s.program.now (take s.renderer.named s.names) (axiom_at c.add.new.self number) =
-    subst (λ (names : List Token). IsOwnAxiom s.program.now names (axiom_at c.add.new.self number)) (sym declared)
-    (subst (IsOwnAxiom s.program.now s.names) (sym last) (rule_image_is_own s.program.now s.names c.args.rule c.args.image c.requires.there c.requires.image)) in
+    let own : (t : Sentence) × IsAssumed (theory_of s.program.now) t × (sentence_image s.program.now.sig s.names t ≡ Some c.args.image) =
+    rule_is_assumed s.program.now s.names c.args.rule c.args.image c.requires.there c.requires.image in
+    let image : sentence_image s.program.now.sig (take s.renderer.named s.names) own.0 ≡ Some (axiom_at c.add.new.self number) =
+    subst (λ (names : List Token). sentence_image s.program.now.sig names own.0 ≡ Some (axiom_at c.add.new.self number)) (sym declared)
+    (own.2 ∙ ap (λ (p : Pattern). Some p) (sym last)) in
     let kept : c.axiom.new.self ≡ with_stated s.renderer (claim_of [] (axiom_at c.add.new.self number)) = c.in_ok-axiom.ensures.kept in
     let gains = c.in_ok-axiom.ensures.gains may in
     record {
@@ -68,8 +72,8 @@ returns-clause-sound c =
       named = subst (λ (k : Kept). k.named ≤ length s.names) (sym kept) c.requires.sound.named;
       own = c.requires.sound.own;
       fits = subst (λ (bytes : List ℕ). Fits s.names c.axiom.new.self bytes) (sym c.in_ok-axiom.ensures.text) (gains.fits s.text.items c.requires.sound.fits);
-      only = subst (HasOnlyAxiomsOf s.program.now) (sym c.in_ok-axiom.ensures.text)
-          (axiom_has_only s.program.now s.names s.renderer c.axiom.new.self (axiom_at c.add.new.self number) s.text.items _ ground gains own c.requires.sound.fits c.requires.sound.only);
+      only = subst (HasOnlyAxiomsOf (theory_of s.program.now)) (sym c.in_ok-axiom.ensures.text)
+          (axiom_has_only (theory_of s.program.now) s.names s.renderer c.axiom.new.self own.0 (axiom_at c.add.new.self number) s.text.items _ own.1 image gains c.requires.sound.fits c.requires.sound.only);
       places = c.requires.sound.places;
       axioms = kept_set _ 0 c.args.rule c.args.rule s.axioms.items c.in_ok-no.no (omega arith)
           (returns-clause-stated c)

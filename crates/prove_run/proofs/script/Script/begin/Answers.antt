@@ -2,9 +2,10 @@ use Rattle.std.proofs.Common.{◌≡◌, ℕ, ◌≤◌, List, [], ◌++◌, len
 use Rattle.mm_header.specs.HeaderText.{header_bytes}
 use Rattle.mm_claims.specs.Kept.{Kept}
 use Rattle.mm_claims.specs.Keeping.{Fits}
-use Rattle.ground_justify.specs.Justifying.{HasOnlyAxiomsOf}
-use Rattle.ground_image.specs.Gained.{AreOwnTokens}
-use Rattle.ground_justify.proofs.HeaderStates.{header_has_only}
+use Rattle.mm_justify.specs.Justifying.{HasOnlyAxiomsOf}
+use Rattle.rule_core.specs.ProgramView.{theory_of}
+use Rattle.ml_image.specs.Gained.{AreOwnTokens}
+use Rattle.mm_justify.proofs.HeaderStates.{header_has_only}
 use Rattle.std.specs.Prelude.{replicate}
 use Rattle.std.specs.Option.{is_some}
 use Rattle.prove_run.specs.Scripts.{AreStated}
@@ -20,7 +21,7 @@ returns-clause-sound c =
       own = subst (AreOwnTokens c.args.program.now.sig) (sym c.new.ensures) tt;
       fits = subst (λ (bytes : List ℕ). Fits c.new.result c.begin.new.self bytes) (sym header)
           (c.in_ok-begin.ensures.fits c.new.result [] (subst (λ (k : Kept). Fits c.new.result k []) (sym c.new-renderer.ensures) refl));
-      only = subst (HasOnlyAxiomsOf c.args.program.now) (sym header) (header_has_only c.args.program.now);
+      only = subst (HasOnlyAxiomsOf (theory_of c.args.program.now)) (sym header) (header_has_only (theory_of c.args.program.now));
       places = c.in_ok-axioms.ensures.len ∙ c.len.ensures;
       axioms = subst (AreStated _ 0) (sym (c.in_ok-axioms.ensures.items_if_clones_equal (λ y h. search rules))) (none_kept _ 0 c.len.result);
     }

@@ -5,19 +5,19 @@ use Rattle.std.proofs.lemmas.Bool.{false≢true}
 use Rattle.std.proofs.lemmas.Option.{slice_get_within, slice_get-get_or, slice_get-map}
 use Rattle.ml_kernel.specs.declared.derivations.AxiomNo.{AxiomNo}
 use Rattle.prove_run.proofs.ScriptLaws.{kept_at, set_same, some_same}
-use Rattle.ground_image.specs.Images.{HasImageAt}
+use Rattle.prove_run.specs.GroundRules.{HasImageAt}
 use Rattle.prove_run.specs.declared.script.Script.{Script}
 use Rattle.prove_run.specs.Scripts.{rules_used}
 use Rattle.prove_run.proofs.script.Script.rule.Goals as goal
 
 pub index-known-requires : goal.index-known-requires
 index-known-requires c =
-    let within : c.args.rule < length c.args.self.now.program.now.rules.items = slice_get_within c.args.self.now.program.now.rules.items c.args.rule c.requires.image.0 c.requires.image.1.0 in
+    let within : c.args.rule < length c.args.self.now.program.now.rules.items = slice_get_within c.args.self.now.program.now.rules.items c.args.rule c.requires.image.0 c.requires.image.1 in
     subst (λ (n : ℕ). c.args.rule < n) (sym (c.requires.sound.places ∙ c.args.self.now.program.now.rules.ok.0)) within
 
 -- the place of a rule is one in the list of axioms
 place_kept : (s : Script) (rule : ℕ) → vec_len s.axioms ≡ vec_len s.program.now.rules → HasImageAt s.program.now rule → rule < length s.axioms.items
-place_kept s rule places has = subst (λ (n : ℕ). rule < n) (sym (sym s.axioms.ok.0 ∙ places ∙ s.program.now.rules.ok.0)) (slice_get_within s.program.now.rules.items rule has.0 has.1.0)
+place_kept s rule places has = subst (λ (n : ℕ). rule < n) (sym (sym s.axioms.ok.0 ∙ places ∙ s.program.now.rules.ok.0)) (slice_get_within s.program.now.rules.items rule has.0 has.1)
 
 unless_used : {T E P : Type 0} (r : Result T E) → P → OnOk r P
 unless_used (Ok x) p = p

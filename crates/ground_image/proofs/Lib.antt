@@ -1,4 +1,0 @@
-pub mod ImageLaws
-pub mod LoopLaws
-pub mod HexLaws
-pub mod NamingLaws

@@ -1,8 +1,0 @@
-use Rattle.std.proofs.Common.{◌≡◌, ℕ, List, drop}
-use Rattle.std.specs.List.{position_from}
-use Rattle.ground_rules.specs.declared.signature.SymInfo.{SymInfo}
-use Rattle.ground_image.specs.Images.{is_injection, injection_symbol}
-use Rattle.ground_image.proofs.images.injection_symbol.Given as goal
-
-abbrev pub invariant-loop-symbol : goal.invariant-loop-symbol
-invariant-loop-symbol l = position_from (λ (e : List ℕ × SymInfo). is_injection e.1.kind) l.symbol (drop l.symbol l.sig.symbols) ≡ injection_symbol l.sig

@@ -1,8 +1,0 @@
--- Believed: what public clauses say, and believed definitions of other crates.
-pub mod Tokens
-pub mod Images
-pub mod Gained
--- Laws: what follows from that. Each is a clause of a function that does nothing.
-pub mod NamingLaws
--- Private: what clauses of private functions cite, and how private fields are seen.
-pub mod Injecting

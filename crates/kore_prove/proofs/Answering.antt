@@ -1,0 +1,162 @@
+-- What is said of a call, by what came of it.
+use Rattle.std.proofs.Common.{◌≡◌, ◌≢◌, ℕ, ◌⊎◌, inl, inr, List, Option, Some, None, refl, sym, ◌∙◌, ap, subst, arith}
+use Rattle.desk_io.specs.Told.{Told, KeepsFiles}
+use Rattle.desk_io.specs.Sent.{SameBytes}
+use Rattle.rule_core.specs.Runs.{Run, stuck, limited, stopped, unstarted, kept_by}
+use Rattle.kore_prove.specs.Words.{RunRequest, AreBad, IsRun, IsVerify, IsProofRun}
+use Rattle.kore_prove.specs.PrintedRun.{code_of, IsPrinted, PrintsRun}
+use Rattle.kore_prove.specs.ProvedRun.{HoldsProof, HasWantedProof, IsProved, ProvesRun, KeepsOthers}
+use Rattle.kore_prove.specs.Verdicts.{PrintsVerdict}
+use Rattle.kore_prove.specs.DatabaseVerdicts.{PrintsVerdictOn, verdict_code}
+use Rattle.kore_prove.specs.declared.verification.Verdict.{Verdict}
+use Rattle.kore_prove.specs.Reports.{Ending, out_of_memory, bad_words, end_code, Reports}
+use Rattle.kore_prove.specs.Causes.{Course, Call, VerifyCause, KeepsOutput, IsUnwritten, without_memory, with_bad_words, of_run, of_verify, run_done, verify_done}
+use Rattle.kore_prove.specs.Readiness.{Completes, CompletesVerdict}
+use Rattle.kore_prove.specs.Requests.{IsWanted}
+use Rattle.kore_prove.specs.RunsDone.{IsRunDone, IsRunEnded}
+use Rattle.kore_prove.specs.Calls.{IsAnswered}
+use Rattle.kore_prove.proofs.CommandWords.{one_request, run_good, verify_good, not_both}
+use Rattle.kore_prove.proofs.Completing.{run_ends_without_memory, verify_ends_without_memory, ready_run, ready_verify}
+use Rattle.kore_prove.proofs.Ending.{IsDoneCode, code_of_no_end, code_of_run, code_of_one, unwritten, files_at}
+use Rattle.kore_prove.proofs.Verifying.{code_of_verdict, prints_verdict}
+use Rattle.kore_prove.proofs.FileProofs.{kept_others, fewer_others}
+
+-- the code of a run is one of three
+run_code : (run : Run) (code : ℕ) → code ≡ code_of run → (code ≡ 0) ⊎ (code ≡ 10) ⊎ (code ≡ 11)
+run_code (stuck n t) code is = inl is
+run_code (limited n t) code is = inr (inl is)
+run_code (stopped n cause t) code is = inr (inr is)
+run_code (unstarted cause) code is = inr (inr is)
+
+run_writes : (code : ℕ) (P : Type 0) → (code ≡ 0) ⊎ (code ≡ 10) ⊎ (code ≡ 11) → IsUnwritten code → P
+run_writes code P (inl zero) un = absurd (un.0 zero)
+run_writes code P (inr (inl ten)) un = absurd (un.3 ten)
+run_writes code P (inr (inr eleven)) un = absurd (un.4 eleven)
+
+more_code : (code : ℕ) → (code ≡ 0) ⊎ (code ≡ 10) ⊎ (code ≡ 11) → (code ≡ 0) ⊎ (code ≡ 10) ⊎ (code ≡ 11) ⊎ (code ≡ 1)
+more_code code (inl h) = inl h
+more_code code (inr (inl h)) = inr (inl h)
+more_code code (inr (inr h)) = inr (inr (inl h))
+
+wanted_proof : (proof : Option (List ℕ)) (file : List ℕ) (c : Course) (asked : RunRequest) (run : Run) (done : IsRunDone asked c run) → asked.proof ≡ Some file → HoldsProof c.told c.told' file done.theory done.start run
+wanted_proof proof file c asked run done is = subst (λ (p : Option (List ℕ)). HasWantedProof p c.told c.told' done.theory done.start run) is done.proof
+
+-- words that ask for a run get no verdict, and the other way round
+no_verdict : (words : List (List ℕ)) (asked : RunRequest) (told : Option Told) (before after : Option (List ℕ)) (code : ℕ) → IsRun words asked → PrintsVerdict words told before after code
+no_verdict words asked None before after code command = tt
+no_verdict words asked (Some told) before after code command = λ file verify. absurd (not_both words asked file command verify)
+
+pub run_answered : (c : Call) (code : ℕ) (asked : RunRequest) (run : Run) → IsRun c.words asked → IsRunDone asked c.course run → code ≡ code_of run → SameBytes c.errors c.errors' → IsAnswered c code
+run_answered c code asked run command done is silent =
+    let printed : IsPrinted c.words c.course.told c.course.output c.course.output' code = record {
+      asked = asked;
+      command = command;
+      theory = done.theory;
+      start = done.start;
+      run = run;
+      printed = done.printed;
+      code_is = is;
+    } in
+    let codes : (code ≡ 0) ⊎ (code ≡ 10) ⊎ (code ≡ 11) = run_code run code is in record {
+      printed_run = λ _. printed;
+      proved_run = λ _ file wanted. (
+          let same : asked.proof ≡ Some file = (one_request c.words asked wanted.0 command wanted.1).proof ∙ wanted.2 in
+          record { printed = printed; wanted = same; proof = wanted_proof asked.proof file c.course asked run done same });
+      verdict = no_verdict c.words asked c.course.told c.course.output c.course.output' code command;
+      ends = inl (record { done = run_done command codes; silent = silent });
+      complete = λ _ _. more_code code codes;
+      complete_verdict = λ ready _ _. (let v = ready_verify c.words c.course.told ready in absurd (not_both c.words asked v.0 command v.1));
+      bad_words = λ bad. absurd (run_good c.words asked command bad);
+      others = fewer_others (IsWanted asked) (IsProofRun c.words) c.course.told c.course.told' (λ file wanted. (asked, command, wanted)) done.others;
+      files = run_writes code _ codes;
+    }
+
+pub run_ended : (c : Call) (code : ℕ) (asked : RunRequest) (e : Ending) → IsRun c.words asked → IsRunEnded asked c.course e → Reports e c.errors c.errors' c.complaints c.complaints' code → IsAnswered c code
+run_ended c code asked e command ended said = record {
+  printed_run = λ h. absurd (code_of_no_end e _ _ _ _ code said (code_of_run c.words code h));
+  proved_run = λ h _ _. absurd (code_of_no_end e _ _ _ _ code said (code_of_run c.words code h));
+  verdict = no_verdict c.words asked c.course.told c.course.output c.course.output' code command;
+  ends = inr (record { end = e; cause = of_run command ended.cause; output = ended.output; said = said });
+  complete = λ ready free. inr (inr (inr (code_of_one e _ _ _ _ code said (run_ends_without_memory c.words c.course.told asked c.course e refl ready command free ended.cause))));
+  complete_verdict = λ ready _ _. (let v = ready_verify c.words c.course.told ready in absurd (not_both c.words asked v.0 command v.1));
+  bad_words = λ bad. absurd (run_good c.words asked command bad);
+  others = fewer_others (IsWanted asked) (IsProofRun c.words) c.course.told c.course.told' (λ file wanted. (asked, command, wanted)) ended.others;
+  files = unwritten e _ _ _ _ code c.course.told c.course.told' said ended.files;
+}
+
+-- a verdict has not the code of a run
+verdict_no_run : (words : List (List ℕ)) (file : List ℕ) (v : Verdict) (code : ℕ) (P : Type 0) → IsVerify words file → code ≡ verdict_code v → (code ≡ 10) ⊎ (code ≡ 11) ⊎ ((code ≡ 0) × ((f : List ℕ) → IsVerify words f → ⊥)) → P
+verdict_no_run words file v code P command is h = absurd (elim h [
+  | inl ten ↦ elim (code_of_verdict v code is) [ inl zero ↦ omega (arith, ten, zero) | inr twelve ↦ omega (arith, ten, twelve) ]
+  | inr (inl eleven) ↦ elim (code_of_verdict v code is) [ inl zero ↦ omega (arith, eleven, zero) | inr twelve ↦ omega (arith, eleven, twelve) ]
+  | inr (inr zero) ↦ zero.1 file command
+])
+
+verdict_codes : (code : ℕ) → (code ≡ 0) ⊎ (code ≡ 12) → (code ≡ 0) ⊎ (code ≡ 12) ⊎ (code ≡ 1)
+verdict_codes code (inl h) = inl h
+verdict_codes code (inr h) = inr (inl h)
+
+pub verify_answered : (c : Call) (code : ℕ) (file : List ℕ) (v : Verdict) → IsVerify c.words file → PrintsVerdictOn file c.course.told c.course.output c.course.output' v → KeepsFiles c.course.told c.course.told' → code ≡ verdict_code v → SameBytes c.errors c.errors' → IsAnswered c code
+verify_answered c code file v command printed kept is silent = record {
+  printed_run = λ h. verdict_no_run c.words file v code _ command is h;
+  proved_run = λ h _ _. verdict_no_run c.words file v code _ command is h;
+  verdict = prints_verdict c.words c.course.told c.course.output c.course.output' file v code command printed is;
+  ends = inl (record { done = verify_done command (code_of_verdict v code is); silent = silent });
+  complete = λ ready _. (let r = ready_run c.words c.course.told ready in absurd (not_both c.words r.0 file r.1 command));
+  complete_verdict = λ _ _ _. verdict_codes code (code_of_verdict v code is);
+  bad_words = λ bad. absurd (verify_good c.words file command bad);
+  others = kept_others (IsProofRun c.words) c.course.told c.course.told' kept;
+  files = λ _. kept;
+}
+
+-- an end has not the code of a verdict
+ended_no_verdict : (words : List (List ℕ)) (told : Option Told) (output output' : Option (List ℕ)) (e : Ending) (before after : Option (List ℕ)) (old new code : ℕ) → Reports e before after old new code → PrintsVerdict words told output output' code
+ended_no_verdict words None output output' e before after old new code said = tt
+ended_no_verdict words (Some told) output output' e before after old new code said = λ file verify. (
+  λ zero. absurd (code_of_no_end e before after old new code said (inl zero)),
+  λ twelve. absurd (code_of_no_end e before after old new code said (inr (inr (inr twelve)))),
+)
+
+pub verify_ended : (c : Call) (code : ℕ) (file : List ℕ) (e : Ending) → IsVerify c.words file → VerifyCause file c.course e → KeepsOutput e c.course.output c.course.output' → KeepsFiles c.course.told c.course.told' → Reports e c.errors c.errors' c.complaints c.complaints' code → IsAnswered c code
+verify_ended c code file e command cause output kept said = record {
+  printed_run = λ h. absurd (code_of_no_end e _ _ _ _ code said (code_of_run c.words code h));
+  proved_run = λ h _ _. absurd (code_of_no_end e _ _ _ _ code said (code_of_run c.words code h));
+  verdict = ended_no_verdict c.words c.course.told c.course.output c.course.output' e _ _ _ _ code said;
+  ends = inr (record { end = e; cause = of_verify command cause; output = output; said = said });
+  complete = λ ready _. (let r = ready_run c.words c.course.told ready in absurd (not_both c.words r.0 file r.1 command));
+  complete_verdict = λ ready reads writes. inr (inr (code_of_one e _ _ _ _ code said (verify_ends_without_memory c.words c.course.told file c.course e refl ready command reads writes cause)));
+  bad_words = λ bad. absurd (verify_good c.words file command bad);
+  others = kept_others (IsProofRun c.words) c.course.told c.course.told' kept;
+  files = λ _. kept;
+}
+
+bad_code : (code : ℕ) (before after : Option (List ℕ)) (old new : ℕ) → Reports bad_words before after old new code → (code ≡ 2) ⊎ (code ≡ 1)
+bad_code code before after old new (inl said) = inl said.0
+bad_code code before after old new (inr cut) = inr cut.0
+
+pub bad_answered : (c : Call) (code : ℕ) → AreBad c.words → SameBytes c.course.output c.course.output' → KeepsFiles c.course.told c.course.told' → Reports bad_words c.errors c.errors' c.complaints c.complaints' code → IsAnswered c code
+bad_answered c code bad output kept said = record {
+  printed_run = λ h. absurd (code_of_no_end bad_words _ _ _ _ code said (code_of_run c.words code h));
+  proved_run = λ h _ _. absurd (code_of_no_end bad_words _ _ _ _ code said (code_of_run c.words code h));
+  verdict = ended_no_verdict c.words c.course.told c.course.output c.course.output' bad_words _ _ _ _ code said;
+  ends = inr (record { end = bad_words; cause = with_bad_words bad; output = output; said = said });
+  complete = λ ready _. (let r = ready_run c.words c.course.told ready in absurd (run_good c.words r.0 r.1 bad));
+  complete_verdict = λ ready _ _. (let v = ready_verify c.words c.course.told ready in absurd (verify_good c.words v.0 v.1 bad));
+  bad_words = λ _. bad_code code _ _ _ _ said;
+  others = kept_others (IsProofRun c.words) c.course.told c.course.told' kept;
+  files = λ _. kept;
+}
+
+pub memory_answered : (c : Call) (code : ℕ) → KeepsOutput out_of_memory c.course.output c.course.output' → KeepsFiles c.course.told c.course.told' → Reports out_of_memory c.errors c.errors' c.complaints c.complaints' code → IsAnswered c code
+memory_answered c code output kept said =
+    let one : code ≡ 1 = code_of_one out_of_memory _ _ _ _ code said refl in record {
+      printed_run = λ h. absurd (code_of_no_end out_of_memory _ _ _ _ code said (code_of_run c.words code h));
+      proved_run = λ h _ _. absurd (code_of_no_end out_of_memory _ _ _ _ code said (code_of_run c.words code h));
+      verdict = ended_no_verdict c.words c.course.told c.course.output c.course.output' out_of_memory _ _ _ _ code said;
+      ends = inr (record { end = out_of_memory; cause = without_memory; output = output; said = said });
+      complete = λ _ _. inr (inr (inr one));
+      complete_verdict = λ _ _ _. inr (inr one);
+      bad_words = λ _. inr one;
+      others = kept_others (IsProofRun c.words) c.course.told c.course.told' kept;
+      files = λ _. kept;
+    }

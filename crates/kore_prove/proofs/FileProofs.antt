@@ -1,0 +1,86 @@
+-- The file of a proof, and what becomes of the other files.
+use Rattle.std.proofs.Common.{◌≡◌, ◌≢◌, ℕ, List, [], ◌++◌, Option, Some, None, true, refl, sym, ◌∙◌, ap, subst}
+use Rattle.desk_io.specs.Told.{Told, KeepsFiles, Same, TellsCreated, Creates, Writes, WritesFront, Closes, PutsFile, file_of}
+use Rattle.kore_prove.specs.ProvedRun.{Tells, TellsNow, KeepsOthers}
+use Rattle.kore_prove.specs.ProofFiles.{PutsCreated, KeepsOthersNow}
+
+some_same : {A : Type 0} (a b : A) → Some a ≡ Some b → a ≡ b
+some_same a b h = cc
+
+-- what keeps all files keeps the others, and of fewer files that are written more are kept
+pub kept_others : (W : List ℕ → Type 0) (old new : Option Told) → KeepsFiles old new → KeepsOthers W old new
+kept_others W None new h = tt
+kept_others W (Some old) new h = (record old { unread = h.0 }, h.1, λ name other. refl)
+
+pub fewer_others : (V W : List ℕ → Type 0) (old new : Option Told) → ((name : List ℕ) → V name → W name) → KeepsOthers V old new → KeepsOthers W old new
+fewer_others V W None new f h = tt
+fewer_others V W (Some old) new f h = (h.0, h.1, λ name other. h.2 name (λ v. other (f name v)))
+
+pub then_others : (W : List ℕ → Type 0) (old between new : Option Told) → KeepsFiles old between → KeepsOthers W between new → KeepsOthers W old new
+then_others W None between new kept h = tt
+then_others W (Some old) between new kept h =
+    let P : Option Told → Type 0 = λ o. KeepsOthers W o new in
+    let q : KeepsOthers W (Some (record old { unread = kept.0 })) new = subst P kept.1 h in
+    (q.0, q.1, q.2)
+
+-- The created file of a desk, from its creation to its end.
+
+-- the file that was created, written and closed holds what was written
+pub created_tells : (old made new : Option Told) (name bytes : List ℕ) → Creates old made name → PutsCreated made new bytes → TellsNow old new name bytes
+created_tells None made new name bytes h k = tt
+created_tells (Some old) made new name bytes h k =
+    let P : Option Told → Type 0 = λ o. PutsCreated o new bytes in
+    let puts : PutsCreated (Some (record { files = h.0; unread = []; created = Some name })) new bytes = subst P h.2 k in
+    let Q : Option Told → Type 0 = λ o. Tells o name bytes in
+    subst Q (sym puts.1) (puts.2 name [] refl h.1.0).0
+
+-- and each other file is as before
+pub created_others : (old made new : Option Told) (name : List ℕ) → Creates old made name → KeepsOthersNow made new → KeepsOthers (λ file. Some name ≡ Some file) old new
+created_others None made new name h k = tt
+created_others (Some old) made new name h k =
+    let P : Option Told → Type 0 = λ o. KeepsOthersNow o new in
+    let kept : KeepsOthersNow (Some (record { files = h.0; unread = []; created = Some name })) new = subst P h.2 k in (
+      kept.0,
+      kept.1,
+      λ other unwanted. (
+          let differs : other ≢ name = λ e. unwanted (ap (λ (n : List ℕ). Some n) (sym e)) in
+          kept.2 name other refl differs ∙ h.1.1 other differs),
+    )
+
+pub same_others : (W : List ℕ → Type 0) (old new : Option Told) → Same old new → KeepsOthers W old new
+same_others W None new h = tt
+same_others W (Some old) new h = (old, h, λ name other. refl)
+
+pub closed_others : (made new : Option Told) → Closes made new → KeepsOthersNow made new
+closed_others None new h = tt
+closed_others (Some made) new h = (record made { created = None }, h, λ name other is differs. refl)
+
+-- what was written and closed
+pub written_closed : (made mid new : Option Told) (bytes : List ℕ) → Writes made mid bytes → Closes mid new → PutsCreated made new bytes
+written_closed None mid new bytes h k = tt
+written_closed (Some made) mid new bytes h k =
+    let P : Option Told → Type 0 = λ o. Closes o new in
+    let closed : Closes (Some (record made { files = h.2 })) new = subst P h.6 k in (
+      record made { files = h.2; created = None },
+      closed,
+      λ name content is held. (
+          let same : h.0 ≡ name = some_same h.0 name (sym h.3 ∙ is) in
+          let one : h.1 ≡ content = some_same h.1 content (sym h.4 ∙ ap (file_of made.files) same ∙ held) in
+          subst (λ (c : List ℕ). PutsFile made.files h.2 name (c ++ bytes)) one (subst (λ (n : List ℕ). PutsFile made.files h.2 n (h.1 ++ bytes)) same h.5)),
+    )
+
+pub puts_others : (made new : Option Told) (name bytes : List ℕ) (told : TellsCreated true made) → PutsCreated made new bytes → KeepsOthersNow made new
+puts_others None new name bytes told h = tt
+puts_others (Some made) new name bytes told h = (
+  h.0,
+  h.1,
+  λ created other is differs. (
+      let same : told.0 ≡ created = some_same told.0 created (sym told.2 ∙ is) in
+      let held : file_of made.files created ≡ Some told.1 = ap (file_of made.files) (sym same) ∙ told.3 in
+      (h.2 created told.1 is held).1 other differs),
+)
+
+-- a part that was written, and closed
+pub front_closed : (made mid new : Option Told) (bytes : List ℕ) → WritesFront made mid bytes → Closes mid new → TellsCreated true made → KeepsOthersNow made new
+front_closed None mid new bytes h k told = tt
+front_closed (Some made) mid new bytes h k told = puts_others (Some made) new told.0 h.0 told (written_closed (Some made) mid new h.0 h.3 k)

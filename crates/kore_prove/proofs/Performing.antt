@@ -1,0 +1,121 @@
+-- From the parts of a run command to what came of it.
+use Rattle.std.proofs.Common.{◌≡◌, ℕ, ◌+◌, ◌≤◌, ◌^◌, ◌⊎◌, inl, inr, List, [], length, map, Option, Some, None, Bool, true, false, IsSome, IsTrue, refl, sym, ◌∙◌, ap, subst, arith}
+use Rattle.std.proofs.lemmas.List.{length-map}
+use Rattle.desk_io.specs.Told.{Told, KeepsFiles, Holds}
+use Rattle.desk_io.specs.Counts.{Rose}
+use Rattle.desk_io.specs.Sent.{Appends, AppendsFront}
+use Rattle.desk_io.specs.declared.desk.DeskFault.{DeskFault}
+use Rattle.desk_io.specs.declared.desk.DeskFault.TheVariants as fault
+use Rattle.term_core.specs.Patterns.{Pattern, ground_pattern}
+use Rattle.rule_core.specs.Theories.{RewriteTheory}
+use Rattle.rule_core.specs.Runs.{Run, stuck, limited, stopped, unstarted, kept_by}
+use Rattle.rule_core.specs.WellSorted.{IsSignature, IsStart}
+use Rattle.rewriter.specs.Configurations.{IsConfiguration, IsStartOf}
+use Rattle.run_loop.specs.RunEnds.{IsSortedEnd}
+use Rattle.kore_show.specs.KorePatterns.{kore_pattern}
+use Rattle.kore_show.specs.ShownLaws.{SortedIsShown}
+use Rattle.run_lines.specs.Lines.{kept_pattern}
+use Rattle.kore_rules.specs.Acceptance.{IsAcceptedTerm}
+use Rattle.kore_prove.specs.Words.{RunRequest}
+use Rattle.kore_prove.specs.Limits.{HoldsWithin, term_limit}
+use Rattle.kore_prove.specs.Files.{HoldsProgram, HoldsStart}
+use Rattle.kore_prove.specs.AcceptedRuns.{IsRunOfFiles}
+use Rattle.kore_prove.specs.PrintedRun.{PrintsLines}
+use Rattle.kore_prove.specs.ProvedRun.{Tells, TellsNow, HoldsProof, HasWantedProof, KeepsOthers}
+use Rattle.kore_prove.specs.Causes.{Course, HasRun, HoldsRun, RunCause, ReadCause, Grows, KeepsOutput}
+use Rattle.kore_prove.specs.FileCauses.{KeepsFilesAt}
+use Rattle.kore_prove.specs.PlainEnds.{fault_end}
+use Rattle.kore_prove.specs.Reports.{Ending}
+use Rattle.kore_prove.specs.Requests.{IsWanted}
+use Rattle.kore_prove.specs.RunsDone.{HasLines, IsRunDone, IsRunEnded}
+use Rattle.kore_prove.proofs.Ending.{kept_output, files_at, same_grows}
+use Rattle.kore_prove.proofs.FileProofs.{kept_others, then_others}
+
+-- the initial term, as the rewriter asks for it
+pub start_of : (theory : RewriteTheory) (start : Pattern) → IsStart theory start → IsStartOf theory start
+start_of theory start h = (h.0, h.2, h.1)
+
+-- what the run keeps has a Kore pattern
+pub kept_shown : SortedIsShown → (theory : RewriteTheory) (start : Pattern) (run : Run) → IsSignature theory.sig → IsStart theory start → IsSortedEnd theory run → IsSome (kept_pattern theory.sig start run)
+kept_shown law theory start (stuck n t) sig is h = law theory.sig (ground_pattern t) h.0 sig h.2
+kept_shown law theory start (limited n t) sig is h = law theory.sig (ground_pattern t) h.0 sig h.2
+kept_shown law theory start (stopped n cause t) sig is h = law theory.sig (ground_pattern t) h.0 sig h.2
+kept_shown law theory start (unstarted cause) sig is h = law theory.sig start is.0 sig is.1
+
+-- the term that the second file holds, as the first desk tells it
+pub start_kept : (told read : Option Told) (name : List ℕ) (theory : RewriteTheory) (top : Option ℕ) (start : Pattern) → KeepsFiles told read → HoldsStart read name theory top start → HoldsStart told name theory top start
+start_kept None read name theory top start kept s = record { bytes = s.bytes; held = (tt, s.held.1); accepted = s.accepted }
+start_kept (Some told) read name theory top start kept s =
+    let P : Option Told → Type 0 = λ o. Holds o name s.bytes in
+    record { bytes = s.bytes; held = (subst P kept.1 s.held.0, s.held.1); accepted = s.accepted }
+
+-- a proof that is told after the files were read
+told_now : (told read told' : Option Told) (file bytes : List ℕ) → KeepsFiles told read → TellsNow read told' file bytes → TellsNow told told' file bytes
+told_now None read told' file bytes kept h = tt
+told_now (Some told) read told' file bytes kept h = subst (λ (o : Option Told). TellsNow o told' file bytes) kept.1 h
+
+proof_kept : (proof : Option (List ℕ)) (told read told' : Option Told) (theory : RewriteTheory) (start : Pattern) (run : Run) → KeepsFiles told read → HasWantedProof proof read told' theory start run → HasWantedProof proof told told' theory start run
+proof_kept None told read told' theory start run kept h = tt
+proof_kept (Some file) told read told' theory start run kept h =
+    record { bytes = h.bytes; held = told_now told read told' file h.bytes kept h.held; justifies = h.justifies }
+
+-- the run was printed
+pub run_done : (asked : RunRequest) (c : Course) (read : Option Told) (theory : RewriteTheory) (start : Pattern) (run : Run) (lines : List ℕ) → HoldsRun asked c.told theory start → KeepsFiles c.told read → HasLines asked theory start run lines → HasWantedProof asked.proof read c.told' theory start run
+    → KeepsOthers (IsWanted asked) read c.told' → Appends c.output c.output' lines → IsRunDone asked c run
+run_done asked c read theory start run lines held kept h proof others grew = record {
+  theory = theory;
+  start = start;
+  printed = record {
+    of_files = record { top = held.top; definition = held.definition; term = held.term; is_run = h.is_run };
+    lines = lines;
+    lines_are = h.lines_are;
+    grew = grew;
+  };
+  proof = proof_kept asked.proof c.told read c.told' theory start run kept proof;
+  others = then_others (IsWanted asked) c.told read c.told' kept others;
+}
+
+-- the files gave no run
+pub read_ended : (asked : RunRequest) (c : Course) (e : Ending) (bytes : Option (List ℕ)) → c.output ≡ bytes → c.output' ≡ bytes → ReadCause asked c.told c.reads c.reads' e → KeepsFiles c.told c.told' → IsRunEnded asked c e
+read_ended asked c e bytes before after cause kept = record {
+  cause = inl cause;
+  output = subst (λ (o : Option (List ℕ)). KeepsOutput e o c.output') (sym before) (subst (λ (o : Option (List ℕ)). KeepsOutput e bytes o) (sym after) (kept_output e bytes));
+  others = kept_others (IsWanted asked) c.told c.told' kept;
+  files = files_at e c.told c.told' kept;
+}
+
+-- the run was not written
+fault_cause : (asked : RunRequest) (c : Course) (f : DeskFault) → HasRun asked c.told → (f ≡ fault.Failed → Rose c.writes c.writes' ⊎ Rose c.files c.files') → RunCause asked c (fault_end f)
+fault_cause asked c fault.Failed run h = inr (refl, record { rose = h refl; accepted = run })
+fault_cause asked c fault.Memory run h = inl tt
+
+fault_output : (f : DeskFault) (before after : Option (List ℕ)) → Grows before after → KeepsOutput (fault_end f) before after
+fault_output fault.Failed before after h = h
+fault_output fault.Memory before after h = h
+
+fault_files : (f : DeskFault) (old new : Option Told) → KeepsFilesAt (fault_end f) old new
+fault_files fault.Failed old new = tt
+fault_files fault.Memory old new = tt
+
+pub write_ended : (asked : RunRequest) (c : Course) (e : Ending) (f : DeskFault) (read : Option Told) (theory : RewriteTheory) (start : Pattern) → e ≡ fault_end f → HoldsRun asked c.told theory start → KeepsFiles c.told read → KeepsOthers (IsWanted asked) read c.told'
+    → (f ≡ fault.Failed → Rose c.writes c.writes' ⊎ Rose c.files c.files') → Grows c.output c.output' → IsRunEnded asked c e
+write_ended asked c e f read theory start is held kept others rose grows =
+    subst (λ (end : Ending). IsRunEnded asked c end) (sym is) (record {
+      cause = fault_cause asked c f (theory, start, held) rose;
+      output = fault_output f c.output c.output' grows;
+      others = then_others (IsWanted asked) c.told read c.told' kept others;
+      files = fault_files f c.told c.told';
+    })
+
+-- a test that is false is not true
+pub not_true : (b : Bool) → b ≡ false → IsTrue b → ⊥
+not_true b e t = let never : ⊥ = cc in never
+
+-- a count of faults in writing, seen from before the files were read
+pub rose_files : (a b c : ℕ) → b ≡ a → Rose b c → Rose a c
+rose_files a b c same rose = subst (λ (n : ℕ). Rose n c) same rose
+
+-- an output that got a part grew by it
+pub part_grows : (before after : Option (List ℕ)) (bytes : List ℕ) → AppendsFront before after bytes → Grows before after
+part_grows None after bytes h = tt
+part_grows (Some before) after bytes h = (h.0, h.3)

@@ -1,0 +1,35 @@
+-- What the private functions answer that run a program, print and prove the run.
+use Rattle.std.specs.Prelude.{◌≡◌, ℕ, List, Option, Some}
+use Rattle.desk_io.specs.Told.{Told}
+use Rattle.term_core.specs.Patterns.{Pattern}
+use Rattle.rule_core.specs.Theories.{RewriteTheory}
+use Rattle.rule_core.specs.Runs.{Run, IsRunOf}
+use Rattle.run_lines.specs.Lines.{lines_of}
+use Rattle.kore_prove.specs.Words.{RunRequest}
+use Rattle.kore_prove.specs.Causes.{Course, RunCause, KeepsOutput}
+use Rattle.kore_prove.specs.FileCauses.{KeepsFilesAt}
+use Rattle.kore_prove.specs.PrintedRun.{PrintsLines}
+use Rattle.kore_prove.specs.ProvedRun.{HasWantedProof, KeepsOthers}
+use Rattle.kore_prove.specs.Reports.{Ending}
+use Rattle.kore_prove.specs.Requests.{IsWanted}
+
+-- the lines are those of the run that is asked for
+pub record HasLines (asked : RunRequest) (theory : RewriteTheory) (start : Pattern) (run : Run) (lines : List ℕ) : Type 0
+  where
+    pub is_run : IsRunOf theory asked.limit asked.calls start run
+    pub lines_are : lines_of theory.sig start run ≡ Some lines
+
+-- the run was printed, and proved where that is wanted
+pub record IsRunDone (asked : RunRequest) (c : Course) (run : Run) : Type 0 where
+  pub theory : RewriteTheory
+  pub start : Pattern
+  pub printed : PrintsLines c.told asked c.output c.output' theory start run
+  pub proof : HasWantedProof asked.proof c.told c.told' theory start run
+  pub others : KeepsOthers (IsWanted asked) c.told c.told'
+
+-- no run was printed
+pub record IsRunEnded (asked : RunRequest) (c : Course) (e : Ending) : Type 0 where
+  pub cause : RunCause asked c e
+  pub output : KeepsOutput e c.output c.output'
+  pub others : KeepsOthers (IsWanted asked) c.told c.told'
+  pub files : KeepsFilesAt e c.told c.told'

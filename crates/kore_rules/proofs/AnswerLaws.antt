@@ -1,0 +1,10 @@
+-- What is known of an answer, from what is known of another.
+use Rattle.std.specs.Prelude.{Result, Ok, Err, IfOk, IfErr}
+
+pub ok_into : {X E : Type 0} (P Q : X → Type 0) (r : Result X E) → ((x : X) → P x → Q x) → IfOk r P → IfOk r Q
+ok_into P Q (Ok x) into h = into x h
+ok_into P Q (Err e) into h = tt
+
+pub err_into : {X E : Type 0} (P Q : E → Type 0) (r : Result X E) → ((e : E) → P e → Q e) → IfErr r P → IfErr r Q
+err_into P Q (Ok x) into h = tt
+err_into P Q (Err e) into h = into e h

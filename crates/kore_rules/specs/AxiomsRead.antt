@@ -1,0 +1,78 @@
+-- What has been read of axioms, one after the other.
+use Rattle.std.specs.Prelude.{◌≡◌, ◌↔◌, ◌≤◌, ◌==◌, ◌^◌, ℕ, Bool, List, [], ◌∷◌, map, length, Option, Some, None, option_map}
+use Rattle.std.specs.Prelude.{Contains, slice_index_or, count_by, IsTrue, false}
+use Rattle.std.specs.Borrow.{Bor}
+use Rattle.kore_text.specs.Trees.{SortTree, AxiomDeclaration}
+use Rattle.kore_ast.specs.Plain.{plain_sort, plain_axiom_decl}
+use Rattle.kore_ast.specs.declared.tree.AxiomDecl.{AxiomDecl}
+use Rattle.kore_ast.specs.declared.tree.Sort.{Sort}
+use Rattle.rule_core.specs.Named.{number_of}
+use Rattle.rule_core.specs.ProgramView.{rewrite_rule, function_equation}
+use Rattle.rule_core.specs.Rules.{RewriteRule}
+use Rattle.rule_core.specs.Rules as plain
+use Rattle.rule_core.specs.declared.rules.Equation.{Equation}
+use Rattle.rule_core.specs.declared.rules.Rule.{Rule}
+use Rattle.rule_core.specs.declared.signature.Signature.{Signature}
+use Rattle.kore_sig.specs.SortReferences.{sort_number}
+use Rattle.kore_shapes.specs.Shapes.{Rewriting}
+use Rattle.kore_axioms.specs.AxiomClasses.{rewrites, class_of}
+use Rattle.kore_axioms.specs.AxiomMeanings.{IsRuleOf}
+use Rattle.kore_equations.specs.EquationMeanings.{IsEquationOf, IsUnreadable}
+use Rattle.kore_rules.specs.declared.axioms.Readings.{Readings}
+
+abbrev pub tree_at : Bor AxiomDecl → AxiomDeclaration
+tree_at d = plain_axiom_decl d.now
+
+abbrev pub sort_at : Option (Bor Sort) → Option SortTree
+sort_at first = option_map (λ (s : Bor Sort). plain_sort s.now) first
+
+-- just the things that one of these axioms is stand there, each place no more often than it is that of an axiom
+pub record AreRead {X : Type 0} (Is : AxiomDeclaration → X → Type 0) (place : X → ℕ) (axioms : List AxiomDeclaration)
+    (xs : List X) : Type 0 where
+  pub just : (x : X) → Contains xs x ↔ ((a : AxiomDeclaration) × Contains axioms a × Is a x)
+  pub short : length xs ≤ length axioms
+  pub few : (at : ℕ) → count_by (λ x. place x == at) xs ≤ count_by (λ (a : AxiomDeclaration). a.at == at) axioms
+
+-- the axiom is this equation of the function with this number
+abbrev pub IsNumberedEquation : Signature → AxiomDeclaration → ℕ × plain.Equation → Type 0
+IsNumberedEquation sig a e =
+    (f : List ℕ) × (number_of sig.symbols f ≡ Some e.0) × IsEquationOf sig f a e.1
+
+abbrev pub numbered_equation : Equation → ℕ × plain.Equation
+numbered_equation e = (e.fun.0, function_equation e)
+
+-- an axiom is an equation of the function with this number, and not readable
+abbrev pub HasUnreadable : Signature → List AxiomDeclaration → ℕ → Type 0
+HasUnreadable sig axioms n =
+    (a : AxiomDeclaration) × Contains axioms a
+    × ((f : List ℕ) × (number_of sig.symbols f ≡ Some n) × IsUnreadable sig f a)
+
+-- the mark with this number is set
+abbrev pub is_marked : List Bool → ℕ → Bool
+is_marked marks n = slice_index_or marks n false
+
+-- the sort of the first rule, where there is one
+abbrev pub IsFirstSort : Signature → List AxiomDeclaration → Option SortTree → Type 0
+IsFirstSort sig axioms None =
+    (a : AxiomDeclaration) → Contains axioms a → (w : Rewriting) → class_of sig a ≡ rewrites w → ⊥
+IsFirstSort sig axioms (Some s) =
+    (a : AxiomDeclaration) × Contains axioms a
+    × ((w : Rewriting) × (class_of sig a ≡ rewrites w) × (w.sort ≡ s))
+    × ((n : ℕ) × (sort_number sig.sorts s ≡ Some n))
+
+-- what is kept of these axioms
+pub record HaveRead (sig : Signature) (axioms : List AxiomDeclaration) (read : Readings) : Type 0 where
+  pub rules : AreRead (IsRuleOf sig) (λ (r : RewriteRule). r.place) axioms (map rewrite_rule read.rules.items)
+  pub equations : AreRead (IsNumberedEquation sig) (λ (e : ℕ × plain.Equation). e.1.place) axioms
+      (map numbered_equation read.equations.items)
+  pub marked : length read.unreadable.items ≡ length sig.symbols
+  pub unreadable : (n : ℕ) → IsTrue (is_marked read.unreadable.items n) ↔ HasUnreadable sig axioms n
+
+-- no place stands twice
+abbrev pub AreApart : List (ℕ × ℕ) → Type 0
+AreApart keys = (at : ℕ) → count_by (λ (k : ℕ × ℕ). k.1 == at) keys ≤ 1
+
+-- the axioms are fewer than 2^32, and no two stand at one place
+pub record AreFew (axioms : List AxiomDeclaration) : Type 0 where
+  pub short : length axioms ≤ 2 ^ 32
+  pub apart : (at : ℕ) → count_by (λ (a : AxiomDeclaration). a.at == at) axioms ≤ 1

@@ -1,0 +1,23 @@
+-- What is known of the program of a definition once it is made.
+use Rattle.std.specs.Prelude.{ℕ, Option, None}
+use Rattle.kore_text.specs.Trees.{DefinitionTree}
+use Rattle.rule_core.specs.Named.{names_of, AreDistinct}
+use Rattle.rule_core.specs.Theories.{RewriteTheory}
+use Rattle.rule_core.specs.WellSorted.{IsSignature}
+use Rattle.rule_core.specs.declared.signature.Signature.{Signature}
+use Rattle.kore_sig.specs.Declarations.{axioms_of}
+use Rattle.kore_sig.specs.SignatureFaults.{FirstOfSignature}
+use Rattle.kore_sig.specs.Signatures.{IsSignatureOf}
+use Rattle.kore_rules.specs.FirstRefusal.{FirstOfAxioms}
+use Rattle.kore_rules.specs.Programs.{IsProgramUnder, IsTopOf}
+
+-- the definition has no fault, and means this program, whose rules have this sort
+pub record IsMadeOf (d : DefinitionTree) (theory : RewriteTheory) (top : Option ℕ) : Type 0 where
+  pub declared : Signature
+  pub signature : IsSignatureOf d declared
+  pub sorted : IsSignature declared
+  pub distinct : AreDistinct (names_of declared.symbols)
+  pub no_fault : FirstOfSignature d None
+  pub no_axiom_fault : FirstOfAxioms declared (axioms_of d) None
+  pub program : IsProgramUnder declared (axioms_of d) theory
+  pub sort : IsTopOf theory.sig (axioms_of d) top

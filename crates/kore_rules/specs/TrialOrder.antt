@@ -1,0 +1,31 @@
+-- Rules and equations in the order of trial, and the equations of each function.
+use Rattle.std.specs.Prelude.{◌==◌, ◌&&◌, ℕ, Bool, false, List, [], Vec, map, filter, Option, Some, None, slice_index_or}
+use Rattle.std.specs.Prelude.{slice_get}
+use Rattle.std.specs.Global.{Global}
+use Rattle.rule_core.specs.declared.rules.Equation.{Equation}
+use Rattle.rule_core.specs.declared.rules.Rule.{Rule}
+use Rattle.rule_core.specs.declared.signature.SymInfo.{SymInfo}
+use Rattle.kore_axioms.specs.AxiomClasses.{is_defined_kind}
+
+-- by which rules are sorted
+abbrev pub rule_key : Rule → ℕ × ℕ
+rule_key r = (r.priority, r.at)
+
+abbrev pub equation_key : Equation → ℕ × ℕ
+equation_key e = (e.priority, e.at)
+
+-- the function has the values of its equations
+abbrev pub is_by_equations : Option (List ℕ × SymInfo) → Bool
+is_by_equations None = false
+is_by_equations (Some e) = is_defined_kind e.1.kind
+
+abbrev pub has_equations : List (List ℕ × SymInfo) → ℕ → Bool
+has_equations symbols n = is_by_equations (slice_get symbols n)
+
+-- an equation of this function, which has the values of its equations
+abbrev pub belongs_to : List (List ℕ × SymInfo) → ℕ → Equation → Bool
+belongs_to symbols n e = (e.fun.0 == n) && has_equations symbols e.fun.0
+
+-- the equations that are listed for the function with this number
+abbrev pub listed_at : List (Vec Equation Global) → ℕ → List Equation
+listed_at lists n = slice_index_or (map (λ (es : Vec Equation Global). es.items) lists) n []

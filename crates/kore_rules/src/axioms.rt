@@ -1,0 +1,185 @@
+// The axioms of a definition, one after the other: its rewrite rules and the equations of its functions, or their first
+// fault.
+ghost use Rattle.std.specs.Prelude.{◌≡◌, ◌++◌, ◌∷◌, ◌==◌, ◌||◌, ◌<◌, [], ℕ, List, false, length, map, None, Some};
+ghost use Rattle.std.specs.Prelude.{IfOk, OnOk, IfErr};
+ghost use Rattle.kore_text.specs.Trees.{AxiomDeclaration};
+ghost use Rattle.kore_ast.specs.Plain.{plain_axiom_decl};
+ghost use Rattle.rule_core.specs.WellSorted.{IsSignature};
+ghost use Rattle.kore_sig.specs.Signatures.{IsNumbered};
+ghost use Rattle.kore_shapes.specs.Views.{plain_rewriting};
+ghost use Rattle.kore_shapes.specs.StatementViews.{plain_statement};
+ghost use Rattle.kore_axioms.specs.AxiomClasses.{rewrites, equates, class_of as the_class};
+ghost use Rattle.kore_axioms.specs.ClassViews.{plain_class};
+ghost use Rattle.kore_axioms.specs.RuleFaults.{FirstOfRule};
+ghost use Rattle.kore_rules.specs.AxiomsRead.{HaveRead, IsFirstSort, is_marked, tree_at, sort_at};
+ghost use Rattle.kore_rules.specs.FirstRefusal.{FirstOfClass, FirstOfAxioms, first_sort as the_first_sort};
+ghost use Rattle.kore_rules.specs.RefusedTexts.{RefusesFor};
+
+use kore_ast::{AxiomDecl, Sort};
+use kore_axioms::{AxiomClass, Refusal, checked_rule, class_of};
+use kore_equations::{Reading, read_equation};
+use kore_shapes::{Rewriting, Statement};
+use rule_core::{Equation, Rule, Signature};
+use std::alloc::{AllocError, Global};
+
+/// What axioms are: rewrite rules, equations, or equations that are not readable.
+#[derive(Drop)]
+pub(crate) struct Readings {
+    /// The rewrite rules, in the order of the file.
+    pub(crate) rules: Vec<Rule>,
+    /// The equations, of all functions, in the order of the file.
+    pub(crate) equations: Vec<Equation>,
+    /// For each symbol, by its number, whether it has an equation that is not readable.
+    pub(crate) unreadable: Vec<bool>,
+}
+
+/// What the axioms are, and the sort of their first rewrite rule; or the first fault of the first that has any.
+pub(crate) fn read_axioms<'a>(
+    alloc: Global,
+    sig: &Signature,
+    axioms: &[&'a AxiomDecl],
+) -> Result<(Readings, Option<&'a Sort>), Refusal>
+    requires numbered { IsNumbered sig.now }
+    requires signature { IsSignature sig.now }
+    ensures clear { OnOk result (FirstOfAxioms sig.now (map tree_at axioms.now) None) }
+    ensures read { IfOk result (λ r. HaveRead sig.now (map tree_at axioms.now) r.0) }
+    ensures first { IfOk result (λ r. IsFirstSort sig.now (map tree_at axioms.now) (sort_at r.1)) }
+    ensures refused { IfErr result (RefusesFor (λ f. FirstOfAxioms sig.now (map tree_at axioms.now) (Some f))) }
+{
+    let mut readings = no_readings(alloc, sig)?;
+    let mut first = None;
+    for decl in axioms {
+        let class = class_of(sig, decl);
+        match read_axiom(alloc, sig, first, decl, class, &mut readings) {
+            Ok(()) => {}
+            Err(refusal) => return Err(refusal),
+        }
+        first = first_sort(first, class);
+    }
+    Ok((readings, first))
+}
+
+/// What no axiom is.
+fn no_readings(alloc: Global, sig: &Signature) -> Result<Readings, AllocError>
+    ensures { IfOk result (HaveRead sig.now []) }
+{
+    Ok(Readings {
+        rules: Vec::new(alloc),
+        equations: Vec::new(alloc),
+        unreadable: no_marks(alloc, sig.symbols.len())?,
+    })
+}
+
+/// So many marks, none of which is set.
+pub(crate) fn no_marks(alloc: Global, len: usize) -> Result<Vec<bool>, AllocError>
+    ensures len { IfOk result (λ marks. length marks.items ≡ len) }
+    ensures none { IfOk result (λ marks. (n : ℕ) → is_marked marks.items n ≡ false) }
+{
+    let mut marks = Vec::new(alloc);
+    marks.resize(len, false)?;
+    Ok(marks)
+}
+
+/// The sort of the first rule: an earlier one, or else that of this axiom, where it is a rule.
+fn first_sort<'a>(first: Option<&'a Sort>, class: AxiomClass<'a>) -> Option<&'a Sort>
+    ensures { sort_at result ≡ the_first_sort (sort_at first.entry) (plain_class class.entry) }
+{
+    match (first, class) {
+        (None, AxiomClass::Rewrites(rewriting)) => Some(rewriting.sort),
+        _ => first,
+    }
+}
+
+/// Adds what an axiom of this class is, or answers its first fault, where the first rule has this sort.
+fn read_axiom(
+    alloc: Global,
+    sig: &Signature,
+    first: Option<&Sort>,
+    decl: &AxiomDecl,
+    class: AxiomClass<'_>,
+    readings: &mut Readings,
+) -> Result<(), Refusal>
+    requires numbered { IsNumbered sig.now }
+    requires signature { IsSignature sig.now }
+    requires class { plain_class class ≡ the_class sig.now (plain_axiom_decl decl.now) }
+    requires marked { length readings.old.unreadable.items ≡ length sig.now.symbols }
+    ensures clear { OnOk result
+        (FirstOfClass sig.now (sort_at first.entry) (plain_axiom_decl decl.now) (plain_class class.entry) None) }
+    ensures read { OnOk result ((axioms : List AxiomDeclaration) → HaveRead sig.now axioms readings.old →
+        HaveRead sig.now (axioms ++ plain_axiom_decl decl.now ∷ []) readings.new) }
+    ensures refused { IfErr result (RefusesFor
+        (λ f. FirstOfClass sig.now (sort_at first.entry) (plain_axiom_decl decl.now) (plain_class class.entry)
+        (Some f))) }
+{
+    match class {
+        AxiomClass::Refused(fault) => Err(Refusal::Refused(fault.number(), decl.at)),
+        AxiomClass::Rewrites(rewriting) => add_rule(alloc, sig, first, decl, rewriting, readings),
+        AxiomClass::Equates(stated) => Ok(add_equation(alloc, sig, decl, &stated, readings)?),
+        AxiomClass::OrdersSorts | AxiomClass::PassedOver => Ok(()),
+    }
+}
+
+/// Adds the rewrite rule that an axiom is, or answers its first fault.
+fn add_rule(
+    alloc: Global,
+    sig: &Signature,
+    first: Option<&Sort>,
+    decl: &AxiomDecl,
+    rewriting: Rewriting<'_>,
+    readings: &mut Readings,
+) -> Result<(), Refusal>
+    requires numbered { IsNumbered sig.now }
+    requires signature { IsSignature sig.now }
+    requires class { the_class sig.now (plain_axiom_decl decl.now) ≡ rewrites (plain_rewriting rewriting) }
+    ensures clear { OnOk result
+        (FirstOfRule sig.now (sort_at first.entry) (plain_axiom_decl decl.now) (plain_rewriting rewriting.entry)
+        None) }
+    ensures read { OnOk result ((axioms : List AxiomDeclaration) → HaveRead sig.now axioms readings.old →
+        HaveRead sig.now (axioms ++ plain_axiom_decl decl.now ∷ []) readings.new) }
+    ensures refused { IfErr result (RefusesFor
+        (λ f. FirstOfRule sig.now (sort_at first.entry) (plain_axiom_decl decl.now)
+        (plain_rewriting rewriting.entry) (Some f))) }
+{
+    match checked_rule(alloc, sig, first, decl, rewriting) {
+        Ok(rule) => {
+            readings.rules.push(rule)?;
+            Ok(())
+        }
+        Err(refusal) => Err(refusal),
+    }
+}
+
+/// Adds the equation that an axiom is, or that it is none that is readable.
+fn add_equation(
+    alloc: Global,
+    sig: &Signature,
+    decl: &AxiomDecl,
+    stated: &Statement<'_>,
+    readings: &mut Readings,
+) -> Result<(), AllocError>
+    requires numbered { IsNumbered sig.now }
+    requires signature { IsSignature sig.now }
+    requires class { the_class sig.now (plain_axiom_decl decl.now) ≡ equates (plain_statement stated.now) }
+    requires marked { length readings.old.unreadable.items ≡ length sig.now.symbols }
+    ensures { OnOk result ((axioms : List AxiomDeclaration) → HaveRead sig.now axioms readings.old →
+        HaveRead sig.now (axioms ++ plain_axiom_decl decl.now ∷ []) readings.new) }
+{
+    match read_equation(alloc, sig, decl, stated)? {
+        Reading::Equation(equation) => {
+            readings.equations.push(equation)?;
+        }
+        Reading::Unreadable(function) => {
+            mark(&mut readings.unreadable, function.0 as usize);
+        }
+    }
+    Ok(())
+}
+
+/// Sets the mark with this number.
+pub(crate) fn mark(marks: &mut Vec<bool>, number: usize)
+    requires { number < length marks.old.items }
+    ensures len { length marks.new.items ≡ length marks.old.items }
+    ensures marked { (n : ℕ) → is_marked marks.new.items n ≡ (is_marked marks.old.items n || (n == number)) }
+{
+    marks[number] = true;
+}

@@ -1,0 +1,14 @@
+-- What a theorem within a scope has in its parts.
+use Rattle.std.proofs.Common.{◌≡◌, subst}
+use Rattle.std.specs.Prelude.{Result, Ok, Err, IfOk}
+use Rattle.ml_pat.specs.Patterns.{Pattern}
+use Rattle.ml_kernel.specs.Theorems.{Theorem}
+use Rattle.ml_scope.specs.Scopes.{Scope, IsOver, IsWithin}
+
+pub if_ok : {T E : Type 0} {P Q : T → Type 0} (r : Result T E) → ((x : T) → P x → Q x) → IfOk r P → IfOk r Q
+if_ok (Ok x) f h = f x h
+if_ok (Err e) f h = tt
+
+-- what the theorem concludes, as another pattern
+pub concluded : (s : Scope) (t : Theorem) (p : Pattern) → IsWithin s t → t.conclusion ≡ p → IsOver s p
+concluded s t p within is = subst (IsOver s) is within.conclusion

@@ -1,0 +1,2 @@
+-- Believed: what public clauses say, and believed definitions of other crates.
+pub mod Scopes

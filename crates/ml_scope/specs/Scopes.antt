@@ -1,0 +1,63 @@
+-- What theorems use and cite. A scope has sorts, constants and variables, claims that were stated, and patterns that may
+-- be assumed. A call of a derived rule says in one clause that it stays within every scope that has what it is given.
+use Rattle.std.specs.Prelude.{ℕ, Bool, IsTrue, List, [], ◌∷◌, Contains}
+use Rattle.ml_pat.specs.Patterns.{Pattern}
+use Rattle.ml_pat.specs.Leaves.{LeafFacts, EachLeaf}
+use Rattle.ml_kernel.specs.Theorems.{Theorem}
+use Rattle.ml_kernel.specs.UsedLeaves.{EachUsed}
+use Rattle.ml_kernel.specs.MayCite.{MayCite, EachCited}
+
+-- Which sorts, constants, object variables and pattern variables a pattern may have; which claims may be cited, each
+-- with its hypotheses; and what may be assumed.
+pub record Scope : Type 0 where
+  pub sort : ℕ → Bool
+  pub constant : ℕ → Bool
+  pub object : ℕ → Bool
+  pub meta : ℕ → Bool
+  pub stated : List (List Pattern × Pattern)
+  pub assumed : List Pattern
+
+abbrev pub leaves_of : Scope → LeafFacts
+leaves_of s = record {
+  sort = λ n. IsTrue (s.sort n);
+  constant = λ n. IsTrue (s.constant n);
+  object = λ n. IsTrue (s.object n);
+  meta = λ n. IsTrue (s.meta n);
+}
+
+-- the pattern has only what the scope has
+abbrev pub IsOver : Scope → Pattern → Type 0
+IsOver s p = EachLeaf (leaves_of s) p
+
+abbrev pub AreOver : Scope → List Pattern → Type 0
+AreOver s [] = Unit {0}
+AreOver s (p ∷ ps) = IsOver s p × AreOver s ps
+
+abbrev pub IsStatedIn : Scope → List Pattern → Pattern → Type 0
+IsStatedIn s hypotheses conclusion = Contains s.stated (hypotheses, conclusion)
+
+-- an axiom, and a lemma at patterns of the scope, may be cited where they were stated
+abbrev pub cites_of : Scope → MayCite
+cites_of s = record {
+  fact = λ p. IsStatedIn s [] p;
+  lemma = λ own q ms. IsStatedIn s own q × AreOver s ms;
+}
+
+-- each may be assumed, and has only what the scope has
+abbrev pub AreAssumed : Scope → List Pattern → Type 0
+AreAssumed s ps = (p : Pattern) → Contains ps p → Contains s.assumed p × IsOver s p
+
+-- the theorem assumes, says, uses and cites what the scope has
+pub record IsWithin (s : Scope) (t : Theorem) : Type 0 where
+  pub hypotheses : AreAssumed s t.hypotheses
+  pub conclusion : IsOver s t.conclusion
+  pub used : EachUsed (leaves_of s) t.derivation
+  pub cited : EachCited (cites_of s) t.derivation
+
+abbrev pub AreWithin : Scope → List Theorem → Type 0
+AreWithin s [] = Unit {0}
+AreWithin s (t ∷ ts) = IsWithin s t × AreWithin s ts
+
+-- Where a scope has these patterns and these theorems, it has this theorem.
+abbrev pub StaysWithin : List Pattern → List Theorem → Theorem → Type 0
+StaysWithin ps ts t = (s : Scope) → AreOver s ps → AreWithin s ts → IsWithin s t

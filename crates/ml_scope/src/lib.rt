@@ -1,0 +1,10 @@
+// The rules of matching logic, each with one clause more: it stays within every scope that has what it is given
+// (specs/Scopes.antt). So what a derived rule uses and cites follows from the calls that it makes, and no contract pins
+// a derivation step by step.
+#![tactic(auto)]
+
+mod rules;
+
+pub use rules::{
+    and_3, eq_el, eq_refl, ev_1, ev_2, ev_kt, fun_ex, inst, mp, next_in, p_1, p_2, top,
+};

@@ -1,0 +1,139 @@
+// The rules, one call each, by the names of the kernel's calls.
+ghost use Rattle.std.specs.Prelude.{◌≡◌, [], ◌∷◌, IfOk, Some};
+ghost use Rattle.ml_pat.specs.Patterns.{bot, top, imp, and, equal, fun, ex, all, next, ev, var};
+ghost use Rattle.ml_pat.specs.Judgements.{IsAbsent, substituted};
+ghost use Rattle.ml_scope.specs.Scopes.{StaysWithin};
+
+use ml_kernel::Thm;
+use ml_pat::{MPat, MSort, VarNo};
+use std::alloc::{AllocError, Global};
+
+/// `p -> q -> p`.
+pub fn p_1(alloc: Global, p: &MPat, q: &MPat) -> Result<Thm, AllocError>
+    ensures conclusion { IfOk result (λ t. t.conclusion ≡ imp p.now (imp q.now p.now)) }
+    ensures stays { IfOk result (StaysWithin (p.now ∷ q.now ∷ []) ([])) }
+{
+    Thm::p_1(alloc, p, q)
+}
+
+/// `(p -> q -> r) -> (p -> q) -> p -> r`.
+pub fn p_2(alloc: Global, p: &MPat, q: &MPat, r: &MPat) -> Result<Thm, AllocError>
+    ensures conclusion { IfOk result (λ t. t.conclusion ≡ imp (imp p.now (imp q.now r.now)) (imp (imp p.now q.now) (imp p.now r.now))) }
+    ensures stays { IfOk result (StaysWithin (p.now ∷ q.now ∷ r.now ∷ []) ([])) }
+{
+    Thm::p_2(alloc, p, q, r)
+}
+
+/// q, from p and `p -> q`.
+pub fn mp(alloc: Global, a: &Thm, b: &Thm, p: &MPat, q: &MPat) -> Result<Thm, AllocError>
+    requires a { a.now.conclusion ≡ p.now }
+    requires b { b.now.conclusion ≡ imp p.now q.now }
+    ensures conclusion { IfOk result (λ t. t.conclusion ≡ q.now) }
+    ensures stays { IfOk result (StaysWithin ([]) (a.now ∷ b.now ∷ [])) }
+{
+    Thm::mp(alloc, a, b, p, q)
+}
+
+/// `p -> q -> p & q`.
+pub fn and_3(alloc: Global, p: &MPat, q: &MPat) -> Result<Thm, AllocError>
+    ensures conclusion { IfOk result (λ t. t.conclusion ≡ imp p.now (imp q.now (and p.now q.now))) }
+    ensures stays { IfOk result (StaysWithin (p.now ∷ q.now ∷ []) ([])) }
+{
+    Thm::and_3(alloc, p, q)
+}
+
+/// Everything.
+pub fn top(alloc: Global) -> Result<Thm, AllocError>
+    ensures conclusion { IfOk result (λ t. t.conclusion ≡ top) }
+    ensures stays { IfOk result (StaysWithin ([]) ([])) }
+{
+    Thm::top(alloc)
+}
+
+/// `p = p`.
+pub fn eq_refl(alloc: Global, p: &MPat) -> Result<Thm, AllocError>
+    ensures conclusion { IfOk result (λ t. t.conclusion ≡ equal p.now p.now) }
+    ensures stays { IfOk result (StaysWithin (p.now ∷ []) ([])) }
+{
+    Thm::eq_refl(alloc, p)
+}
+
+/// `next p -> next q`, from `p -> q`.
+pub fn next_in(alloc: Global, a: &Thm, p: &MPat, q: &MPat) -> Result<Thm, AllocError>
+    requires { a.now.conclusion ≡ imp p.now q.now }
+    ensures conclusion { IfOk result (λ t. t.conclusion ≡ imp (next p.now) (next q.now)) }
+    ensures stays { IfOk result (StaysWithin ([]) (a.now ∷ [])) }
+{
+    Thm::next_in(alloc, a, p, q)
+}
+
+/// `p -> ev p`.
+pub fn ev_1(alloc: Global, p: &MPat) -> Result<Thm, AllocError>
+    ensures conclusion { IfOk result (λ t. t.conclusion ≡ imp p.now (ev p.now)) }
+    ensures stays { IfOk result (StaysWithin (p.now ∷ []) ([])) }
+{
+    Thm::ev_1(alloc, p)
+}
+
+/// `next ev p -> ev p`.
+pub fn ev_2(alloc: Global, p: &MPat) -> Result<Thm, AllocError>
+    ensures conclusion { IfOk result (λ t. t.conclusion ≡ imp (next (ev p.now)) (ev p.now)) }
+    ensures stays { IfOk result (StaysWithin (p.now ∷ []) ([])) }
+{
+    Thm::ev_2(alloc, p)
+}
+
+/// `ev p -> q`, from `p -> q` and `next q -> q`.
+pub fn ev_kt(alloc: Global, a: &Thm, b: &Thm, p: &MPat, q: &MPat) -> Result<Thm, AllocError>
+    requires a { a.now.conclusion ≡ imp p.now q.now }
+    requires b { b.now.conclusion ≡ imp (next q.now) q.now }
+    ensures conclusion { IfOk result (λ t. t.conclusion ≡ imp (ev p.now) q.now) }
+    ensures stays { IfOk result (StaysWithin ([]) (a.now ∷ b.now ∷ [])) }
+{
+    Thm::ev_kt(alloc, a, b, p, q)
+}
+
+/// `(all x s p) -> fun q s -> r`, where r is p with q for x.
+pub fn inst<'a>(
+    alloc: Global,
+    p: &'a MPat,
+    q: &'a MPat,
+    r: &'a MPat,
+    x: VarNo,
+    s: MSort,
+) -> Result<Thm, AllocError>
+    requires { substituted p.now x.0 q.now ≡ Some r.now }
+    ensures conclusion { IfOk result (λ t. t.conclusion ≡ imp (all x.0 s.0 p.now) (imp (fun q.now s.0) r.now)) }
+    ensures stays { IfOk result (StaysWithin (all x.0 s.0 p.now ∷ q.now ∷ r.now ∷ []) []) }
+{
+    Thm::inst(alloc, p, q, r, x, s)
+}
+
+/// `(ex y s (y = p)) -> fun p s`, where y stands nowhere in p.
+pub fn fun_ex(alloc: Global, p: &MPat, y: VarNo, s: MSort) -> Result<Thm, AllocError>
+    requires { IsAbsent y.0 p.now }
+    ensures conclusion { IfOk result
+        (λ t. t.conclusion ≡ imp (ex y.0 s.0 (equal (var y.0) p.now)) (fun p.now s.0)) }
+    ensures stays { IfOk result (StaysWithin (ex y.0 s.0 (equal (var y.0) p.now) ∷ []) []) }
+{
+    Thm::fun_ex(alloc, p, y, s)
+}
+
+/// `p = q -> t -> u`, where t and u are r with p and with q for x.
+pub fn eq_el<'a>(
+    alloc: Global,
+    p: &'a MPat,
+    q: &'a MPat,
+    r: &'a MPat,
+    t: &'a MPat,
+    u: &'a MPat,
+    x: VarNo,
+) -> Result<Thm, AllocError>
+    requires t { substituted r.now x.0 p.now ≡ Some t.now }
+    requires u { substituted r.now x.0 q.now ≡ Some u.now }
+    ensures conclusion { IfOk result (λ e. e.conclusion ≡ imp (equal p.now q.now) (imp t.now u.now)) }
+    ensures stays { IfOk result
+        (StaysWithin (p.now ∷ q.now ∷ r.now ∷ t.now ∷ u.now ∷ var x.0 ∷ []) []) }
+{
+    Thm::eq_el(alloc, p, q, r, t, u, x)
+}

@@ -1,0 +1,46 @@
+// The loop of a run.
+ghost use Rattle.std.specs.Prelude.{◌≡◌, ◌≤◌, IfOk};
+ghost use Rattle.term_core.specs.RulePatterns.{plain_pattern};
+ghost use Rattle.rule_core.specs.ProgramView.{theory_of};
+ghost use Rattle.rule_core.specs.Runs.{IsRunOf};
+ghost use Rattle.rewriter.specs.Configurations.{IsStartOf};
+ghost use Rattle.run_loop.specs.RunEnds.{plain_run, IsSortedEnd};
+
+use crate::ends::RunEnd;
+use fun_eval::{Engine, EvalEnd, Unrecorded};
+use rewriter::{Next, Run};
+use std::alloc::{AllocError, Global};
+use term_core::RulePat;
+
+/// The run of an initial term, with so many steps and so many calls of functions at most. Where there are rules, the
+/// term has their sort. `AllocError` says that memory was wanting.
+///
+/// A step costs what `Run::step_as` says. Memory does not grow with the number of steps.
+pub fn run(
+    alloc: Global,
+    engine: &Engine<'_>,
+    start: &RulePat,
+    limit: u32,
+    calls: u32,
+) -> Result<RunEnd, AllocError>
+    requires { IsStartOf (theory_of engine.now) (plain_pattern start.now) }
+    ensures run { IfOk result
+        (λ end. IsRunOf (theory_of engine.now) limit calls (plain_pattern start.now) (plain_run end)) }
+    ensures sorted { IfOk result (λ end. IsSortedEnd (theory_of engine.now) (plain_run end)) }
+{
+    let mut run = match Run::new_as::<Unrecorded>(alloc, engine, start, calls) {
+        Ok((run, _)) => run,
+        Err(end) => match end {
+            EvalEnd::Blocked(why) => return Ok(RunEnd::Unstarted(why)),
+            EvalEnd::Memory => return Err(AllocError),
+        },
+    };
+    for made in 0..limit {
+        match run.step_as::<Unrecorded>(alloc, engine)? {
+            Next::Made(_) => {}
+            Next::Stuck => return Ok(RunEnd::Stuck(made, run.config().share()?)),
+            Next::Blocked(why) => return Ok(RunEnd::Blocked(made, why, run.config().share()?)),
+        }
+    }
+    Ok(RunEnd::Limit(limit, run.config().share()?))
+}

@@ -1,0 +1,1 @@
+-- Private: what clauses of private functions cite, and how private fields are seen.

@@ -1,0 +1,10 @@
+// The whole run of a term with its proof.
+//
+// `proved_run` goes by the steps of `rewriter` as `run` of `run_loop` does, and states each in a Metamath database by
+// `prove_run`. Its answer is the run of the definition, and a database that justifies it. It covers the programs and
+// initial terms that `prove_run` covers.
+#![tactic(auto)]
+
+mod proved;
+
+pub use proved::proved_run;
