@@ -9,19 +9,19 @@ use Rattle.ml_kernel.specs.declared.rules.Rule.{Rule}
 use Rattle.ml_kernel.specs.Renamings.{IsRenaming}
 use Rattle.ml_kernel.specs.Derivability.{Derives, AllDerive, by_hypothesis, by_axiom, by_renaming, by_rule as ruled, none_left, one_more}
 use Rattle.ml_kernel.specs.Lemmas.{instance, instances, HasNoMeta, HaveNoVariables}
-use Rattle.ml_kernel.specs.Theorems.{Derivation, Derivations, hypothesis, own_axiom, by_rule, cited, no_derivation, more_derivations, axioms_of, all_axioms}
+use Rattle.ml_kernel.specs.Theorems.{Derivation, Derivations, hypothesis, own_axiom, by_rule, cited, no_derivation, more_derivations, axioms_of, all_axioms, Theorem, IsDerived, IsDerivedInTheories}
 use Rattle.ml_kernel.specs.Concluding.{Concludes, AllConclude}
 use Rattle.ml_kernel.proofs.InstanceLaws.{fresh-instance, absent-instance, predicate-instance, substituted-instance, instance-without, HasNoMeta-renamed}
 
 -- what is derived from hypotheses is derived from what derives these, with more axioms
 mutual
-  pub Derives-cut : {hs axs hs' axs' : List Pattern} {q : Pattern} → ((p : Pattern) → Contains hs p → Derives hs' axs' p) → ((p : Pattern) → Contains axs p → Contains axs' p) → Derives hs axs q → Derives hs' axs' q
+  pub Derives-cut : {hs hs' : List Pattern} {axs axs' : Pattern → Type 0} {q : Pattern} → ((p : Pattern) → Contains hs p → Derives hs' axs' p) → ((p : Pattern) → axs p → axs' p) → Derives hs axs q → Derives hs' axs' q
   Derives-cut f g (by_hypothesis p h) = f p h
   Derives-cut f g (by_axiom p h) = by_axiom p (g p h)
   Derives-cut f g (by_renaming p q h r) = by_renaming p q (g p h) r
   Derives-cut f g (ruled r is ps q i ds) = ruled r is ps q i (AllDerive-cut f g ds)
 
-  pub AllDerive-cut : {hs axs hs' axs' ps : List Pattern} → ((p : Pattern) → Contains hs p → Derives hs' axs' p) → ((p : Pattern) → Contains axs p → Contains axs' p) → AllDerive hs axs ps → AllDerive hs' axs' ps
+  pub AllDerive-cut : {hs hs' : List Pattern} {axs axs' : Pattern → Type 0} {ps : List Pattern} → ((p : Pattern) → Contains hs p → Derives hs' axs' p) → ((p : Pattern) → axs p → axs' p) → AllDerive hs axs ps → AllDerive hs' axs' ps
   AllDerive-cut f g none_left = none_left
   AllDerive-cut f g (one_more p ps d ds) = one_more p ps (Derives-cut f g d) (AllDerive-cut f g ds)
 
@@ -80,7 +80,7 @@ instances-at ms (r ∷ ps) (suc k) p lt e =
 pub Contains-instances : (ms ps : List Pattern) (p : Pattern) → Contains ps p → Contains (instances ms ps) (instance ms p)
 Contains-instances ms ps p h = instances-at ms ps h.0 p h.1 h.2
 
-same_instance : (ms : List Pattern) (hs axs : List Pattern) (q : Pattern) → HasNoMeta q → Derives hs axs q → Derives hs axs (instance ms q)
+same_instance : (ms : List Pattern) (hs : List Pattern) (axs : Pattern → Type 0) (q : Pattern) → HasNoMeta q → Derives hs axs q → Derives hs axs (instance ms q)
 same_instance ms hs axs q m d = subst (λ (r : Pattern). Derives hs axs r) (sym (instance-without ms q m)) d
 
 renamed_without : (p q : Pattern) → HasNoMeta p → IsRenaming p q → HasNoMeta q
@@ -88,17 +88,17 @@ renamed_without p q m r = subst (λ (t : Pattern). HasNoMeta t) (sym r.result) (
 
 -- an instance of what is derived is derived from the same axioms and the instances of the hypotheses
 mutual
-  pub Derives-instance : {hs axs : List Pattern} {q : Pattern} (ms : List Pattern) → HaveNoVariables ms → ((p : Pattern) → Contains axs p → HasNoMeta p) → Derives hs axs q → Derives (instances ms hs) axs (instance ms q)
+  pub Derives-instance : {hs : List Pattern} {axs : Pattern → Type 0} {q : Pattern} (ms : List Pattern) → HaveNoVariables ms → ((p : Pattern) → axs p → HasNoMeta p) → Derives hs axs q → Derives (instances ms hs) axs (instance ms q)
   Derives-instance {hs = hs} {axs = axs} ms h m (by_hypothesis p c) = by_hypothesis (instance ms p) (Contains-instances ms hs p c)
   Derives-instance {hs = hs} {axs = axs} ms h m (by_axiom p c) = same_instance ms (instances ms hs) axs p (m p c) (by_axiom p c)
   Derives-instance {hs = hs} {axs = axs} ms h m (by_renaming p q c r) = same_instance ms (instances ms hs) axs q (renamed_without p q (m p c) r) (by_renaming p q c r)
   Derives-instance ms h m (ruled r is ps q i ds) = ruled r (all_instances_at ms is) (instances ms ps) (instance ms q) (Infers-instance ms h i) (AllDerive-instance ms h m ds)
 
-  pub AllDerive-instance : {hs axs ps : List Pattern} (ms : List Pattern) → HaveNoVariables ms → ((p : Pattern) → Contains axs p → HasNoMeta p) → AllDerive hs axs ps → AllDerive (instances ms hs) axs (instances ms ps)
+  pub AllDerive-instance : {hs : List Pattern} {axs : Pattern → Type 0} {ps : List Pattern} (ms : List Pattern) → HaveNoVariables ms → ((p : Pattern) → axs p → HasNoMeta p) → AllDerive hs axs ps → AllDerive (instances ms hs) axs (instances ms ps)
   AllDerive-instance ms h m none_left = none_left
   AllDerive-instance ms h m (one_more p ps d ds) = one_more (instance ms p) (instances ms ps) (Derives-instance ms h m d) (AllDerive-instance ms h m ds)
 
-derived_at : {hs axs ps : List Pattern} → AllDerive hs axs ps → (k : ℕ) (p : Pattern) → k < length ps → slice_index_or ps k p ≡ p → Derives hs axs p
+derived_at : {hs : List Pattern} {axs : Pattern → Type 0} {ps : List Pattern} → AllDerive hs axs ps → (k : ℕ) (p : Pattern) → k < length ps → slice_index_or ps k p ≡ p → Derives hs axs p
 derived_at none_left k p lt e = absurd (omega (arith, lt))
 derived_at {hs = hs} {axs = axs} (one_more r ps d ds) zero p lt e = subst (λ (t : Pattern). Derives hs axs t) e d
 derived_at (one_more r ps d ds) (suc k) p lt e = derived_at ds k p (omega (arith, lt)) e
@@ -127,30 +127,30 @@ mutual
       elim (Contains-append_cases (axioms_of d) (all_axioms ds) p c)
       [ inl a ↦ HasNoMeta-axioms hs d r k.0 p a | inr b ↦ HasNoMeta-all_axioms hs ds ps k.1 p b ]
 
-pub Derives-more : {hs axs axs' : List Pattern} {q : Pattern} → ((p : Pattern) → Contains axs p → Contains axs' p) → Derives hs axs q → Derives hs axs' q
+pub Derives-more : {hs : List Pattern} {axs axs' : Pattern → Type 0} {q : Pattern} → ((p : Pattern) → axs p → axs' p) → Derives hs axs q → Derives hs axs' q
 Derives-more g d = Derives-cut (λ p h. by_hypothesis p h) g d
 
-pub AllDerive-more : {hs axs axs' ps : List Pattern} → ((p : Pattern) → Contains axs p → Contains axs' p) → AllDerive hs axs ps → AllDerive hs axs' ps
+pub AllDerive-more : {hs : List Pattern} {axs axs' : Pattern → Type 0} {ps : List Pattern} → ((p : Pattern) → axs p → axs' p) → AllDerive hs axs ps → AllDerive hs axs' ps
 AllDerive-more g ds = AllDerive-cut (λ p h. by_hypothesis p h) g ds
 
 -- what a kept derivation concludes has a derivation from the axioms that it keeps
 mutual
-  pub Derives-Concludes : (hs : List Pattern) (d : Derivation) (q : Pattern) → Concludes hs d q → Derives hs (axioms_of d) q
-  Derives-Concludes hs (hypothesis p) q k = subst (λ (t : Pattern). Derives hs [] t) k.1 (by_hypothesis p k.0)
+  pub Derives-Concludes : (hs : List Pattern) (d : Derivation) (q : Pattern) → Concludes hs d q → Derives hs (Contains (axioms_of d)) q
+  Derives-Concludes hs (hypothesis p) q k = subst (λ (t : Pattern). Derives hs (Contains []) t) k.1 (by_hypothesis p k.0)
   Derives-Concludes hs (own_axiom n p) q k =
-      subst (λ (t : Pattern). Derives hs (p ∷ []) t) k.1 (by_axiom p (0, omega arith, refl))
+      subst (λ (t : Pattern). Derives hs (Contains (p ∷ [])) t) k.1 (by_axiom p (0, omega arith, refl))
   Derives-Concludes hs (by_rule r is ds) q k = ruled r is k.0 q k.1.0 (AllDerive-AllConclude hs ds k.0 k.1.1)
   Derives-Concludes hs (cited own p d ms ds) q k =
-      let below : AllDerive hs (all_axioms ds) (instances ms own) = AllDerive-AllConclude hs ds (instances ms own) k.1.1.1 in
-      let lemma : Derives (instances ms own) (axioms_of d) (instance ms p) =
+      let below : AllDerive hs (Contains (all_axioms ds)) (instances ms own) = AllDerive-AllConclude hs ds (instances ms own) k.1.1.1 in
+      let lemma : Derives (instances ms own) (Contains (axioms_of d)) (instance ms p) =
       Derives-instance ms k.1.0 (HasNoMeta-axioms own d p k.0) (Derives-Concludes own d p k.0) in
-      subst (λ (t : Pattern). Derives hs (axioms_of d ++ all_axioms ds) t) k.1.1.0
+      subst (λ (t : Pattern). Derives hs (Contains (axioms_of d ++ all_axioms ds)) t) k.1.1.0
       (Derives-cut
       (λ r c. Derives-more (λ a e. Contains-append_right (axioms_of d) (all_axioms ds) a e) (derived_at below c.0 r c.1 c.2))
       (λ a e. Contains-append_left (axioms_of d) (all_axioms ds) a e)
       lemma)
 
-  pub AllDerive-AllConclude : (hs : List Pattern) (ds : Derivations) (ps : List Pattern) → AllConclude hs ds ps → AllDerive hs (all_axioms ds) ps
+  pub AllDerive-AllConclude : (hs : List Pattern) (ds : Derivations) (ps : List Pattern) → AllConclude hs ds ps → AllDerive hs (Contains (all_axioms ds)) ps
   AllDerive-AllConclude hs no_derivation [] k = none_left
   AllDerive-AllConclude hs no_derivation (p ∷ ps) k = absurd k
   AllDerive-AllConclude hs (more_derivations d ds) [] k = absurd k
@@ -158,3 +158,7 @@ mutual
       one_more p ps
       (Derives-more (λ a e. Contains-append_left (axioms_of d) (all_axioms ds) a e) (Derives-Concludes hs d p k.0))
       (AllDerive-more (λ a e. Contains-append_right (axioms_of d) (all_axioms ds) a e) (AllDerive-AllConclude hs ds ps k.1))
+
+-- what is derived from the axioms that it keeps is derived in each theory that has these
+pub IsDerivedInTheories-IsDerived : (t : Theorem) → IsDerived t → IsDerivedInTheories t
+IsDerivedInTheories-IsDerived t derived IsAxiom has = Derives-more has derived

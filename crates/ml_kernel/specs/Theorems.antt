@@ -76,4 +76,10 @@ pub record IsByLemma (lemma : Theorem) (ms : List Pattern) (ts : List Theorem) (
 
 -- the theorem's conclusion has a derivation from its own hypotheses and the axioms that it keeps
 abbrev pub IsDerived : Theorem → Type 0
-IsDerived t = Derives t.hypotheses (axioms_of t.derivation) t.conclusion
+IsDerived t = Derives t.hypotheses (Contains (axioms_of t.derivation)) t.conclusion
+
+-- so it has one in each theory that has these axioms, be they finitely or infinitely many
+abbrev pub IsDerivedInTheories : Theorem → Type 1
+IsDerivedInTheories t =
+    (IsAxiom : Pattern → Type 0) → ((p : Pattern) → Contains (axioms_of t.derivation) p → IsAxiom p)
+    → Derives t.hypotheses IsAxiom t.conclusion
