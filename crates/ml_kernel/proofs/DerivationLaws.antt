@@ -6,7 +6,7 @@ use Rattle.ml_pat.specs.Patterns.{Pattern}
 use Rattle.ml_kernel.specs.Rules as rules
 use Rattle.ml_kernel.specs.Rules.{Instance, pattern, variable, sort, Infers}
 use Rattle.ml_kernel.specs.declared.rules.Rule.{Rule}
-use Rattle.ml_kernel.specs.Renamings.{IsRenaming}
+use Rattle.ml_kernel.specs.Renamings.{Renames, IsRenaming, by_place}
 use Rattle.ml_kernel.specs.Derivability.{Derives, AllDerive, by_hypothesis, by_axiom, by_renaming, by_rule as ruled, none_left, one_more}
 use Rattle.ml_kernel.specs.Lemmas.{instance, instances, HasNoMeta, HaveNoVariables}
 use Rattle.ml_kernel.specs.Theorems.{Derivation, Derivations, hypothesis, own_axiom, by_rule, cited, no_derivation, more_derivations, axioms_of, all_axioms, Theorem, IsDerived, IsDerivedInTheories}
@@ -84,7 +84,7 @@ same_instance : (ms : List Pattern) (hs : List Pattern) (axs : Pattern → Type 
 same_instance ms hs axs q m d = subst (λ (r : Pattern). Derives hs axs r) (sym (instance-without ms q m)) d
 
 renamed_without : (p q : Pattern) → HasNoMeta p → IsRenaming p q → HasNoMeta q
-renamed_without p q m r = subst (λ (t : Pattern). HasNoMeta t) (sym r.result) (HasNoMeta-renamed r.to p m)
+renamed_without p q m r = subst (λ (t : Pattern). HasNoMeta t) (sym r.1.result) (HasNoMeta-renamed r.0 p m)
 
 -- an instance of what is derived is derived from the same axioms and the instances of the hypotheses
 mutual
@@ -114,7 +114,7 @@ only_item r p c = only_at r p c.0 c.1 c.2
 mutual
   pub HasNoMeta-axioms : (hs : List Pattern) (d : Derivation) (q : Pattern) → Concludes hs d q → (p : Pattern) → Contains (axioms_of d) p → HasNoMeta p
   HasNoMeta-axioms hs (hypothesis r) q k p c = absurd (omega (arith, c.1))
-  HasNoMeta-axioms hs (own_axiom n r) q k p c = subst (λ (t : Pattern). HasNoMeta t) (only_item r p c) k.0
+  HasNoMeta-axioms hs (own_axiom n r new) q k p c = subst (λ (t : Pattern). HasNoMeta t) (only_item r p c) k.0
   HasNoMeta-axioms hs (by_rule r is ds) q k p c = HasNoMeta-all_axioms hs ds k.0 k.1.1 p c
   HasNoMeta-axioms hs (cited own r d ms ds) q k p c =
       elim (Contains-append_cases (axioms_of d) (all_axioms ds) p c)
@@ -137,8 +137,7 @@ AllDerive-more g ds = AllDerive-cut (λ p h. by_hypothesis p h) g ds
 mutual
   pub Derives-Concludes : (hs : List Pattern) (d : Derivation) (q : Pattern) → Concludes hs d q → Derives hs (Contains (axioms_of d)) q
   Derives-Concludes hs (hypothesis p) q k = subst (λ (t : Pattern). Derives hs (Contains []) t) k.1 (by_hypothesis p k.0)
-  Derives-Concludes hs (own_axiom n p) q k =
-      subst (λ (t : Pattern). Derives hs (Contains (p ∷ [])) t) k.1 (by_axiom p (0, omega arith, refl))
+  Derives-Concludes hs (own_axiom n p new) q k = by_renaming p q (0, omega arith, refl) (by_place new, k.1)
   Derives-Concludes hs (by_rule r is ds) q k = ruled r is k.0 q k.1.0 (AllDerive-AllConclude hs ds k.0 k.1.1)
   Derives-Concludes hs (cited own p d ms ds) q k =
       let below : AllDerive hs (Contains (all_axioms ds)) (instances ms own) = AllDerive-AllConclude hs ds (instances ms own) k.1.1.1 in

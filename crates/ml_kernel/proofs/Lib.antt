@@ -4,3 +4,4 @@ pub mod Merging
 pub mod RuleLaws
 pub mod StepLaws
 pub mod SpineLaws
+pub mod RenamingLaws

@@ -140,7 +140,7 @@ parts-next xs i x old new held h lt is e g =
 mutual
   pub Concludes-more : (hs hs' : List Pattern) (d : Derivation) (q : Pattern) → ((p : Pattern) → Contains hs p → Contains hs' p) → Concludes hs d q → Concludes hs' d q
   Concludes-more hs hs' (hypothesis p) q f k = (f p k.0, k.1)
-  Concludes-more hs hs' (own_axiom n p) q f k = k
+  Concludes-more hs hs' (own_axiom n p new) q f k = k
   Concludes-more hs hs' (by_rule r is ds) q f k = (k.0, (k.1.0, AllConclude-more hs hs' ds k.0 f k.1.1))
   Concludes-more hs hs' (cited own p d ms ds) q f k =
       (k.0, (k.1.0, (k.1.1.0, AllConclude-more hs hs' ds (instances ms own) f k.1.1.1)))

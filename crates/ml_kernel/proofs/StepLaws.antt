@@ -7,7 +7,7 @@ use Rattle.ml_kernel.specs.StepsIn.{steps_in, all_steps}
 
 pub steps_in-positive : (d : Derivation) → 0 < steps_in d
 steps_in-positive (hypothesis p) = omega arith
-steps_in-positive (own_axiom n p) = omega arith
+steps_in-positive (own_axiom n p new) = omega arith
 steps_in-positive (by_rule r is ds) = omega arith
 steps_in-positive (cited hyps q d ms ds) = omega arith
 

@@ -15,6 +15,6 @@ most-steps (d ∷ ds) = omega (arith, most-steps ds)
 
 pub deep-steps : (s : DerivStep) → deep-DerivStep s ≤ steps_in (derivation_of s)
 deep-steps (step.Hyp p) = omega arith
-deep-steps (step.Axiom n p) = omega arith
+deep-steps (step.Axiom n p new) = omega arith
 deep-steps (step.ByRule r is ds) = omega (arith, most-steps ds.items)
 deep-steps (step.Cited l ms ds) = omega (arith, most-steps ds.items)

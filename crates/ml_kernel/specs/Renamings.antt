@@ -1,5 +1,5 @@
 -- Axioms with other bound variables.
-use Rattle.std.specs.Prelude.{◌≡◌, ℕ, false}
+use Rattle.std.specs.Prelude.{◌≡◌, ℕ, false, List, slice_index_or}
 use Rattle.ml_pat.specs.Patterns.{Pattern, bot, top, imp, not, and, or, equal, member, fun, ex, all, app, at_sort, next, ev, var, meta, constant}
 use Rattle.ml_pat.specs.Judgements.{fresh, absent}
 
@@ -24,10 +24,16 @@ renamed f (var x) = var (f x)
 renamed f (meta i) = meta i
 renamed f (constant c) = constant c
 
--- The second pattern is the first with its bound variables renamed: variables that differ stay different, and a free one
--- stays as it is.
-pub record IsRenaming (p q : Pattern) : Type 0 where
-  pub to : ℕ → ℕ
+-- The second pattern is the first with its bound variables renamed so: variables that differ stay different, and a free
+-- one stays as it is.
+pub record Renames (to : ℕ → ℕ) (p q : Pattern) : Type 0 where
   pub result : q ≡ renamed to p
   pub one_to_one : (x y : ℕ) → absent x p ≡ false → absent y p ≡ false → to x ≡ to y → x ≡ y
   pub keeps_free : (x : ℕ) → fresh x p ≡ false → to x ≡ x
+
+abbrev pub IsRenaming : Pattern → Pattern → Type 0
+IsRenaming p q = (to : ℕ → ℕ) × Renames to p q
+
+-- A renaming as a list: the variable with a number becomes the one at that place, and stays where the list is shorter.
+abbrev pub by_place : List ℕ → ℕ → ℕ
+by_place new x = slice_index_or new x x

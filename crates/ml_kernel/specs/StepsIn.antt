@@ -5,7 +5,7 @@ use Rattle.ml_kernel.specs.Theorems.{Derivation, Derivations, hypothesis, own_ax
 abbrev mutual
   pub steps_in : Derivation → ℕ
   steps_in (hypothesis p) = 1
-  steps_in (own_axiom n p) = 1
+  steps_in (own_axiom n p new) = 1
   steps_in (by_rule r is ds) = all_steps ds + 1
   steps_in (cited hyps q d ms ds) = steps_in d + all_steps ds + 2
 

@@ -76,18 +76,18 @@ instance_code =
 -- A token opens a list of derivations, or is a hypothesis or an axiom, or ends the derivations below a rule or a
 -- citation.
 abbrev Token : Type 0
-Token = (Unit {0} ⊎ (Pattern ⊎ (ℕ × Pattern))) ⊎ ((Rule × List Instance) ⊎ (List Pattern × (Pattern × List Pattern)))
+Token = (Unit {0} ⊎ (Pattern ⊎ (ℕ × (Pattern × List ℕ)))) ⊎ ((Rule × List Instance) ⊎ (List Pattern × (Pattern × List Pattern)))
 
 abbrev token_code : Coded Token
 token_code =
-    coded⊎ (coded⊎ coded_unit (coded⊎ pattern_code (coded× coded_ℕ pattern_code)))
+    coded⊎ (coded⊎ coded_unit (coded⊎ pattern_code (coded× coded_ℕ (coded× pattern_code (coded_list coded_ℕ)))))
     (coded⊎ (coded× rule_code (coded_list instance_code)) (coded× (coded_list pattern_code) (coded× pattern_code (coded_list pattern_code))))
 
 -- the tokens of a derivation, and of derivations from the last one on, in front of others
 abbrev mutual
   tokens : Derivation → List Token → List Token
   tokens (hypothesis p) rest = inl (inr (inl p)) ∷ rest
-  tokens (own_axiom n p) rest = inl (inr (inr (n, p))) ∷ rest
+  tokens (own_axiom n p new) rest = inl (inr (inr (n, (p, new)))) ∷ rest
   tokens (by_rule r is ds) rest = inl (inl tt) ∷ all_tokens ds (inr (inl (r, is)) ∷ rest)
   tokens (cited hyps q d ms ds) rest =
       inl (inl tt) ∷ tokens d (inl (inl tt) ∷ all_tokens ds (inr (inr (hyps, (q, ms))) ∷ rest))
@@ -101,7 +101,7 @@ abbrev read_token : Token → List Derivations → List Derivations
 read_token (inl (inl u)) open_lists = no_derivation ∷ open_lists
 read_token (inl (inr k)) [] = []
 read_token (inl (inr (inl p))) (f ∷ fs) = more_derivations (hypothesis p) f ∷ fs
-read_token (inl (inr (inr k))) (f ∷ fs) = more_derivations (own_axiom k.0 k.1) f ∷ fs
+read_token (inl (inr (inr k))) (f ∷ fs) = more_derivations (own_axiom k.0 k.1.0 k.1.1) f ∷ fs
 read_token (inr k) [] = []
 read_token (inr k) (ds ∷ []) = []
 read_token (inr (inl k)) (ds ∷ (f ∷ fs)) = more_derivations (by_rule k.0 k.1 ds) f ∷ fs
@@ -116,7 +116,7 @@ read_all (k ∷ ks) fs = read_all ks (read_token k fs)
 mutual
   read_all-tokens : (d : Derivation) (rest : List Token) (f : Derivations) (fs : List Derivations) → read_all (tokens d rest) (f ∷ fs) ≡ read_all rest (more_derivations d f ∷ fs)
   read_all-tokens (hypothesis p) rest f fs = refl
-  read_all-tokens (own_axiom n p) rest f fs = refl
+  read_all-tokens (own_axiom n p new) rest f fs = refl
   read_all-tokens (by_rule r is ds) rest f fs = read_all-all_tokens ds (inr (inl (r, is)) ∷ rest) (f ∷ fs)
   read_all-tokens (cited hyps q d ms ds) rest f fs =
       read_all-tokens d (inl (inl tt) ∷ all_tokens ds (inr (inr (hyps, (q, ms))) ∷ rest)) no_derivation (f ∷ fs)

@@ -6,12 +6,12 @@ use Rattle.ml_kernel.specs.Rules.{Instance}
 use Rattle.ml_kernel.specs.Derivability.{Derives}
 use Rattle.ml_kernel.specs.declared.rules.Rule.{Rule}
 
--- An axiom has its number in its theory. A citation has the lemma's hypotheses, conclusion and derivation, what stands
+-- An axiom has its number in its theory, and the new numbers of its bound variables (specs/Renamings.antt). A citation has the lemma's hypotheses, conclusion and derivation, what stands
 -- for its pattern variables, and the derivations of its hypotheses.
 mutual
   pub data Derivation : Type 0 where
     hypothesis : Pattern → Derivation
-    own_axiom : ℕ → Pattern → Derivation
+    own_axiom : ℕ → Pattern → List ℕ → Derivation
     by_rule : Rule → List Instance → Derivations → Derivation
     cited : List Pattern → Pattern → Derivation → List Pattern → Derivations → Derivation
 
@@ -46,7 +46,7 @@ all_derivations (t ∷ ts) = more_derivations t.derivation (all_derivations ts)
 abbrev mutual
   pub axioms_of : Derivation → List Pattern
   axioms_of (hypothesis p) = []
-  axioms_of (own_axiom n p) = p ∷ []
+  axioms_of (own_axiom n p new) = p ∷ []
   axioms_of (by_rule r is ds) = all_axioms ds
   axioms_of (cited hyps q d ms ds) = axioms_of d ++ all_axioms ds
 

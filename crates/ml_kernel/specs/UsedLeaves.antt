@@ -15,7 +15,7 @@ EachInstance f (sort s ∷ is) = f.sort s × EachInstance f is
 abbrev mutual
   pub EachUsed : LeafFacts → Derivation → Type 0
   EachUsed f (hypothesis p) = Unit {0}
-  EachUsed f (own_axiom n p) = Unit {0}
+  EachUsed f (own_axiom n p new) = Unit {0}
   EachUsed f (by_rule r is ds) = EachInstance f is × AllUsed f ds
   EachUsed f (cited own q d ms ds) = AllUsed f ds
 

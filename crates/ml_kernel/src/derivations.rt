@@ -38,8 +38,9 @@ pub struct Deriv {
 pub enum DerivStep {
     /// A hypothesis.
     Hyp(MPat),
-    /// An axiom, by its number in its theory.
-    Axiom(AxiomNo, MPat),
+    /// An axiom, by its number in its theory, and what its bound variables become: the one with a number the variable at
+    /// that place, and where there are fewer, itself.
+    Axiom(AxiomNo, MPat, Vec<VarNo>),
     /// A rule; what stands for its variables, in the order of its call; and the derivations of what it concludes from.
     ByRule(Rule, Vec<Inst>, Vec<Deriv>),
     /// A lemma, what stands for its pattern variables, and the derivations of its hypotheses.
@@ -136,7 +137,7 @@ impl DerivStep {
     {
         match self {
             DerivStep::Hyp(_p) => None,
-            DerivStep::Axiom(_no, _p) => None,
+            DerivStep::Axiom(_no, _p, _new) => None,
             DerivStep::ByRule(_rule, _instances, parts) => Some(parts),
             DerivStep::Cited(lemma, _metas, mut parts) => {
                 let Lemma {

@@ -126,9 +126,9 @@ impl Thm {
         requires { HasNoMeta pattern }
         ensures hypotheses { IfOk result (λ t. t.hypotheses ≡ []) }
         ensures conclusion { IfOk result (λ t. t.conclusion ≡ pattern) }
-        ensures derivation { IfOk result (λ t. t.derivation ≡ own_axiom no.0 pattern) }
+        ensures derivation { IfOk result (λ t. t.derivation ≡ own_axiom no.0 pattern []) }
     {
-        let derivation = Deriv::of(alloc, DerivStep::Axiom(no, pattern.share()?))?;
+        let derivation = Deriv::of(alloc, DerivStep::Axiom(no, pattern.share()?, Vec::new(alloc)))?;
         Ok(Thm {
             hypotheses: Vec::new(alloc),
             conclusion: pattern,

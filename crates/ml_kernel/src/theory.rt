@@ -53,12 +53,12 @@ impl Theory {
         Ok(number)
     }
 
-    /// The axiom as a theorem: it has no hypotheses, and keeps this axiom alone.
+    /// The axiom as a theorem, its bound variables as they are: it has no hypotheses, and keeps this axiom alone.
     pub fn axiom(&self, alloc: Global, no: AxiomNo) -> Result<Thm, AllocError>
         requires { no.0 < length self.now }
         ensures conclusion { IfOk result (λ t. slice_get self.now no.0 ≡ Some t.conclusion) }
         ensures hypotheses { IfOk result (λ t. t.hypotheses ≡ []) }
-        ensures derivation { IfOk result (λ t. t.derivation ≡ own_axiom no.0 t.conclusion) }
+        ensures derivation { IfOk result (λ t. t.derivation ≡ own_axiom no.0 t.conclusion []) }
     {
         let pattern = self.at(no).share()?;
         Thm::of_axiom(alloc, no, pattern)

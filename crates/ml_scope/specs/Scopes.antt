@@ -36,10 +36,11 @@ AreOver s (p ∷ ps) = IsOver s p × AreOver s ps
 abbrev pub IsStatedIn : Scope → List Pattern → Pattern → Type 0
 IsStatedIn s hypotheses conclusion = Contains s.stated (hypotheses, conclusion)
 
--- an axiom, and a lemma at patterns of the scope, may be cited where they were stated
+-- an axiom, also with its bound variables renamed, and a lemma at patterns of the scope, may be cited where they were
+-- stated
 abbrev pub cites_of : Scope → MayCite
 cites_of s = record {
-  fact = λ p. IsStatedIn s [] p;
+  fact = λ p new. IsStatedIn s [] p;
   lemma = λ own q ms. IsStatedIn s own q × AreOver s ms;
 }
 

@@ -123,22 +123,22 @@ over_at declared [] i p over h = h
 over_at declared (m ∷ ms) zero p over h = over.0
 over_at declared (m ∷ ms) (suc i) p over h = over_at declared ms i p over.1 h
 
-over_instances : (declared : List Token) (ms : List Pattern) (vs : List Variable) → AreOverNames declared ms → HaveInstances (over_names declared) ms vs
-over_instances declared ms [] over = tt
-over_instances declared ms (object_variable i ∷ vs) over = (tt, over_instances declared ms vs over)
-over_instances declared ms (pattern_variable i ∷ vs) over = (over_at declared ms i (meta i) over tt, over_instances declared ms vs over)
+over_instances : (declared : List Token) (new : List ℕ) (ms : List Pattern) (vs : List Variable) → AreOverNames declared ms → HaveInstances (over_names declared) new ms vs
+over_instances declared new ms [] over = tt
+over_instances declared new ms (object_variable i ∷ vs) over = (tt, over_instances declared new ms vs over)
+over_instances declared new ms (pattern_variable i ∷ vs) over = (over_at declared ms i (meta i) over tt, over_instances declared new ms vs over)
 
-stands_citable : (declared : List Token) (claims : List Claim) (place : List Pattern → Pattern → ℕ) (own : List Pattern) (q : Pattern) (ms : List Pattern) → Places claims place → IsStated claims own q → AreOverNames declared ms → IsCitable (over_names declared) claims place own q ms
-stands_citable declared claims place own q ms places there over =
+stands_citable : (declared : List Token) (claims : List Claim) (place : List Pattern → Pattern → ℕ) (own : List Pattern) (q : Pattern) (new : List ℕ) (ms : List Pattern) → Places claims place → IsStated claims own q → AreOverNames declared ms → IsCitable (over_names declared) claims place own q new ms
+stands_citable declared claims place own q new ms places there over =
     let w : StandsAt claims own q (place own q) = places own q there in
-    record { claim = w.claim; there = w.there; hypotheses = w.hypotheses_are; conclusion = w.conclusion_is; instances = over_instances declared ms w.claim.variables over }
+    record { claim = w.claim; there = w.there; hypotheses = w.hypotheses_are; conclusion = w.conclusion_is; instances = over_instances declared new ms w.claim.variables over }
 
 mutual
   cited_citable : (declared : List Token) (claims : List Claim) (place : List Pattern → Pattern → ℕ) (d : Derivation) → Places claims place → EachCited (stated_cites declared claims) d → EachCited (citable (over_names declared) claims place) d
   cited_citable declared claims place (hypothesis p) places h = tt
-  cited_citable declared claims place (own_axiom n p) places h = stands_citable declared claims place [] p [] places h tt
+  cited_citable declared claims place (own_axiom n p new) places h = stands_citable declared claims place [] p new [] places h tt
   cited_citable declared claims place (by_rule r is ds) places h = all_citable declared claims place ds places h
-  cited_citable declared claims place (cited own q d ms ds) places h = (stands_citable declared claims place own q ms places h.0.0 h.0.1, all_citable declared claims place ds places h.1)
+  cited_citable declared claims place (cited own q d ms ds) places h = (stands_citable declared claims place own q [] ms places h.0.0 h.0.1, all_citable declared claims place ds places h.1)
 
   all_citable : (declared : List Token) (claims : List Claim) (place : List Pattern → Pattern → ℕ) (ds : Derivations) → Places claims place → AllCited (stated_cites declared claims) ds → AllCited (citable (over_names declared) claims place) ds
   all_citable declared claims place no_derivation places h = tt

@@ -9,6 +9,7 @@ use Rattle.mm_database.specs.Proofs.{Expression, instance_of, substituted}
 use Rattle.mm_database.specs.Stack.{bindings_of, text_of}
 use Rattle.ml_pat.specs.Patterns.{Pattern, bot, top, imp, not, and, or, equal, member, fun, ex, all, app, at_sort, next, ev, var, meta, constant}
 use Rattle.ml_kernel.specs.Lemmas.{instance, instances, HasNoVariable, HaveNoVariables}
+use Rattle.ml_kernel.specs.Renamings.{renamed, by_place}
 use Rattle.mm_proof.specs.Tokens.{Naming, letters_of, bracket, bracketed, text_by, object_token, meta_token, own_naming, name_of, holds}
 use Rattle.ml_pat.specs.Leaves.{LeafFacts, EachLeaf}
 use Rattle.mm_proof.specs.Derivations.{holds_text}
@@ -69,24 +70,24 @@ later_there u us v h = go (same_variable u v)
     go false = h
 
 -- what stands for a variable, and the entry of it on the stack
-abbrev pub value : Naming → List Pattern → Variable → Expression
-value n ms (object_variable i) = n.object i ∷ []
-value n ms (pattern_variable i) = text_by (letters_of n) (instance ms (meta i))
+abbrev pub value : Naming → List ℕ → List Pattern → Variable → Expression
+value n new ms (object_variable i) = n.object (by_place new i) ∷ []
+value n new ms (pattern_variable i) = text_by (letters_of n) (instance ms (meta i))
 
-abbrev pub entry : Naming → List Pattern → Variable → Expression
-entry n ms v = variable_type v ∷ value n ms v
+abbrev pub entry : Naming → List ℕ → List Pattern → Variable → Expression
+entry n new ms v = variable_type v ∷ value n new ms v
 
 -- the substitution that entries say behind those of variables
-abbrev pub given_by : Naming → List Pattern → ℕ → List Variable → List Hypothesis → List Expression → Token → Expression
-given_by n ms k vs hs es = text_of (bindings_of (map (variable_float k) vs ++ hs) (map (entry n ms) vs ++ es))
+abbrev pub given_by : Naming → List ℕ → List Pattern → ℕ → List Variable → List Hypothesis → List Expression → Token → Expression
+given_by n new ms k vs hs es = text_of (bindings_of (map (variable_float k) vs ++ hs) (map (entry n new ms) vs ++ es))
 
 -- it gives each variable what stands for it
-pub given_variable : (n : Naming) (ms : List Pattern) (k : ℕ) (vs : List Variable) (hs : List Hypothesis) (es : List Expression) (v : Variable) → AreNumbered vs → has_variable vs v ≡ true → given_by n ms k vs hs es (variable_token v) ≡ value n ms v
-given_variable n ms k [] hs es v every has = absurd (false≢true has)
-given_variable n ms k (u ∷ us) hs es v every has = split (bytes_eq (variable_token u) (variable_token v)) refl (λ there. given_variable n ms k us hs es v every.1 there)
+pub given_variable : (n : Naming) (new : List ℕ) (ms : List Pattern) (k : ℕ) (vs : List Variable) (hs : List Hypothesis) (es : List Expression) (v : Variable) → AreNumbered vs → has_variable vs v ≡ true → given_by n new ms k vs hs es (variable_token v) ≡ value n new ms v
+given_variable n new ms k [] hs es v every has = absurd (false≢true has)
+given_variable n new ms k (u ∷ us) hs es v every has = split (bytes_eq (variable_token u) (variable_token v)) refl (λ there. given_variable n new ms k us hs es v every.1 there)
   where
-    split : (b : Bool) → bytes_eq (variable_token u) (variable_token v) ≡ b → (has_variable us v ≡ true → given_by n ms k us hs es (variable_token v) ≡ value n ms v) → (if b then value n ms u else given_by n ms k us hs es (variable_token v)) ≡ value n ms v
-    split true is behind = ap (value n ms) (one_token u v every.0 (numbered_at (u ∷ us) v every has) is)
+    split : (b : Bool) → bytes_eq (variable_token u) (variable_token v) ≡ b → (has_variable us v ≡ true → given_by n new ms k us hs es (variable_token v) ≡ value n new ms v) → (if b then value n new ms u else given_by n new ms k us hs es (variable_token v)) ≡ value n new ms v
+    split true is behind = ap (value n new ms) (one_token u v every.0 (numbered_at (u ∷ us) v every has) is)
     split false is behind =
         behind (case_variable (λ w. bytes_eq (variable_token u) (variable_token w) ≡ false → has_variable us w ≡ true) u us v has
         (λ other. absurd (false≢true (sym other ∙ (bytes_eq-Decides (variable_token u) (variable_token u)).1 refl))) (λ h other. h) is)
@@ -97,9 +98,9 @@ given_premises declared k j [] es t = refl
 given_premises declared k j (p ∷ ps) [] t = refl
 given_premises declared k j (p ∷ ps) (e ∷ es) t = given_premises declared k (j + 1) ps es t
 
-pub given_other : (n : Naming) (ms : List Pattern) (k : ℕ) (vs : List Variable) (declared : List Token) (ps : List Pattern) (es : List Expression) (t : Token) → is_variable_token t ≡ false → given_by n ms k vs (premise_hypotheses declared k 0 ps) es t ≡ t ∷ []
-given_other n ms k [] declared ps es t h = given_premises declared k 0 ps es t
-given_other n ms k (v ∷ vs) declared ps es t h = rw (no_variable v t h) (given_other n ms k vs declared ps es t h)
+pub given_other : (n : Naming) (new : List ℕ) (ms : List Pattern) (k : ℕ) (vs : List Variable) (declared : List Token) (ps : List Pattern) (es : List Expression) (t : Token) → is_variable_token t ≡ false → given_by n new ms k vs (premise_hypotheses declared k 0 ps) es t ≡ t ∷ []
+given_other n new ms k [] declared ps es t h = given_premises declared k 0 ps es t
+given_other n new ms k (v ∷ vs) declared ps es t h = rw (no_variable v t h) (given_other n new ms k vs declared ps es t h)
 
 -- so it leaves the constants of the header
 pub leaves_others : (sigma : Token → Expression) → ((t : Token) → is_variable_token t ≡ false → sigma t ≡ t ∷ []) → Leaves sigma
@@ -112,13 +113,13 @@ leaves_others sigma h = go punctuation refl
         let there : map is_variable_token ts ≡ map (λ t. false) ts = cc in
         ap (λ e. e ∷ map sigma ts) (h t here) ∙ ap (λ es. (t ∷ []) ∷ es) (go ts there)
 
--- The text of a pattern under a substitution that gives each pattern variable its instance and leaves other leaves is the text of
--- its instance.
-abbrev pub gives_instances : (Token → Expression) → Naming → List Pattern → LeafFacts
-gives_instances sigma n ms = record {
+-- The text of a pattern under a substitution that gives each object variable its new one, each pattern variable its instance, and
+-- leaves other leaves, is the text of its instance behind the renaming.
+abbrev pub gives_instances : (Token → Expression) → Naming → List ℕ → List Pattern → LeafFacts
+gives_instances sigma n new ms = record {
   sort = λ i. sigma (n.sort i) ≡ n.sort i ∷ [];
   constant = λ i. sigma (n.constant i) ≡ n.constant i ∷ [];
-  object = λ i. sigma (n.object i) ≡ n.object i ∷ [];
+  object = λ i. sigma (n.object i) ≡ n.object (by_place new i) ∷ [];
   meta = λ i. sigma (n.meta i) ≡ text_by (letters_of n) (instance ms (meta i));
 }
 
@@ -131,36 +132,36 @@ one_same k a a' h = rw h refl
 bound_same : (k : Token) (x x' s s' a a' : List Token) → x ≡ x' → s ≡ s' → a ≡ a' → bracketed k (x ++ (s ++ (a ++ bracket))) ≡ bracketed k (x' ++ (s' ++ (a' ++ bracket)))
 bound_same k x x' s s' a a' h l m = rw (h, l, m) refl
 
-pub text-instance : (sigma : Token → Expression) (n : Naming) (ms : List Pattern) (p : Pattern) → EachLeaf (gives_instances sigma n ms) p → text_by (under sigma n) p ≡ text_by (letters_of n) (instance ms p)
-text-instance sigma n ms bot h = refl
-text-instance sigma n ms top h = refl
-text-instance sigma n ms (imp p q) h = two_same (codes "\\imp") _ _ _ _ (text-instance sigma n ms p h.0) (text-instance sigma n ms q h.1)
-text-instance sigma n ms (and p q) h = two_same (codes "\\and") _ _ _ _ (text-instance sigma n ms p h.0) (text-instance sigma n ms q h.1)
-text-instance sigma n ms (or p q) h = two_same (codes "\\or") _ _ _ _ (text-instance sigma n ms p h.0) (text-instance sigma n ms q h.1)
-text-instance sigma n ms (equal p q) h = two_same (codes "\\eq") _ _ _ _ (text-instance sigma n ms p h.0) (text-instance sigma n ms q h.1)
-text-instance sigma n ms (member p q) h = two_same (codes "\\mem") _ _ _ _ (text-instance sigma n ms p h.0) (text-instance sigma n ms q h.1)
-text-instance sigma n ms (app p q) h = two_same (codes "\\app") _ _ _ _ (text-instance sigma n ms p h.0) (text-instance sigma n ms q h.1)
-text-instance sigma n ms (not p) h = one_same (codes "\\not") _ _ (text-instance sigma n ms p h)
-text-instance sigma n ms (next p) h = one_same (codes "\\next") _ _ (text-instance sigma n ms p h)
-text-instance sigma n ms (ev p) h = one_same (codes "\\ev") _ _ (text-instance sigma n ms p h)
-text-instance sigma n ms (at_sort p s) h = two_same (codes "\\at") _ _ _ _ (text-instance sigma n ms p h.0) h.1
-text-instance sigma n ms (fun p s) h = two_same (codes "\\fun") _ _ _ _ (text-instance sigma n ms p h.0) h.1
-text-instance sigma n ms (ex x s p) h = bound_same (codes "\\ex") _ _ _ _ _ _ h.1.0 h.1.1 (text-instance sigma n ms p h.0)
-text-instance sigma n ms (all x s p) h = bound_same (codes "\\all") _ _ _ _ _ _ h.1.0 h.1.1 (text-instance sigma n ms p h.0)
-text-instance sigma n ms (var x) h = h
-text-instance sigma n ms (meta i) h = h
-text-instance sigma n ms (constant c) h = h
+pub text-instance : (sigma : Token → Expression) (n : Naming) (new : List ℕ) (ms : List Pattern) (p : Pattern) → EachLeaf (gives_instances sigma n new ms) p → text_by (under sigma n) p ≡ text_by (letters_of n) (instance ms (renamed (by_place new) p))
+text-instance sigma n new ms bot h = refl
+text-instance sigma n new ms top h = refl
+text-instance sigma n new ms (imp p q) h = two_same (codes "\\imp") _ _ _ _ (text-instance sigma n new ms p h.0) (text-instance sigma n new ms q h.1)
+text-instance sigma n new ms (and p q) h = two_same (codes "\\and") _ _ _ _ (text-instance sigma n new ms p h.0) (text-instance sigma n new ms q h.1)
+text-instance sigma n new ms (or p q) h = two_same (codes "\\or") _ _ _ _ (text-instance sigma n new ms p h.0) (text-instance sigma n new ms q h.1)
+text-instance sigma n new ms (equal p q) h = two_same (codes "\\eq") _ _ _ _ (text-instance sigma n new ms p h.0) (text-instance sigma n new ms q h.1)
+text-instance sigma n new ms (member p q) h = two_same (codes "\\mem") _ _ _ _ (text-instance sigma n new ms p h.0) (text-instance sigma n new ms q h.1)
+text-instance sigma n new ms (app p q) h = two_same (codes "\\app") _ _ _ _ (text-instance sigma n new ms p h.0) (text-instance sigma n new ms q h.1)
+text-instance sigma n new ms (not p) h = one_same (codes "\\not") _ _ (text-instance sigma n new ms p h)
+text-instance sigma n new ms (next p) h = one_same (codes "\\next") _ _ (text-instance sigma n new ms p h)
+text-instance sigma n new ms (ev p) h = one_same (codes "\\ev") _ _ (text-instance sigma n new ms p h)
+text-instance sigma n new ms (at_sort p s) h = two_same (codes "\\at") _ _ _ _ (text-instance sigma n new ms p h.0) h.1
+text-instance sigma n new ms (fun p s) h = two_same (codes "\\fun") _ _ _ _ (text-instance sigma n new ms p h.0) h.1
+text-instance sigma n new ms (ex x s p) h = bound_same (codes "\\ex") _ _ _ _ _ _ h.1.0 h.1.1 (text-instance sigma n new ms p h.0)
+text-instance sigma n new ms (all x s p) h = bound_same (codes "\\all") _ _ _ _ _ _ h.1.0 h.1.1 (text-instance sigma n new ms p h.0)
+text-instance sigma n new ms (var x) h = h
+text-instance sigma n new ms (meta i) h = h
+text-instance sigma n new ms (constant c) h = h
 
 -- What a substitution gives the variables of a claim over declared names, and all that is no variable.
-pub record GivesInstances (sigma : Token → Expression) (declared : List Token) (ms : List Pattern) (vs : List Variable) : Type 0 where
+pub record GivesInstances (sigma : Token → Expression) (declared : List Token) (new : List ℕ) (ms : List Pattern) (vs : List Variable) : Type 0 where
   pub names : AreNames declared
-  pub there : (v : Variable) → has_variable vs v ≡ true → sigma (variable_token v) ≡ value (own_naming declared) ms v
+  pub there : (v : Variable) → has_variable vs v ≡ true → sigma (variable_token v) ≡ value (own_naming declared) new ms v
   pub others : (t : Token) → is_variable_token t ≡ false → sigma t ≡ t ∷ []
 
-pub holds-instance : (sigma : Token → Expression) (declared : List Token) (ms : List Pattern) (vs : List Variable) (p : Pattern) → GivesInstances sigma declared ms vs → EachLeaf (open_over declared vs) p → substituted sigma (holds_text (own_naming declared) p) ≡ holds_text (own_naming declared) (instance ms p)
-holds-instance sigma declared ms vs p w h =
+pub holds-instance : (sigma : Token → Expression) (declared : List Token) (new : List ℕ) (ms : List Pattern) (vs : List Variable) (p : Pattern) → GivesInstances sigma declared new ms vs → EachLeaf (open_over declared vs) p → substituted sigma (holds_text (own_naming declared) p) ≡ holds_text (own_naming declared) (instance ms (renamed (by_place new) p))
+holds-instance sigma declared new ms vs p w h =
     judgement-under sigma (own_naming declared) (leaves_others sigma w.others) (holds p)
-    ∙ ap (λ (ts : List Token). codes "|-" ∷ ts) (text-instance sigma (own_naming declared) ms p (EachLeaf-implied (open_over declared vs) (gives_instances sigma (own_naming declared) ms) p (record {
+    ∙ ap (λ (ts : List Token). codes "|-" ∷ ts) (text-instance sigma (own_naming declared) new ms p (EachLeaf-implied (open_over declared vs) (gives_instances sigma (own_naming declared) new ms) p (record {
       sort = λ i k. w.others (name_of declared i) (name_is_no_variable declared i w.names);
       constant = λ i k. w.others (name_of declared i) (name_is_no_variable declared i w.names);
       object = λ i k. w.there (object_variable i) k;
@@ -168,17 +169,17 @@ holds-instance sigma declared ms vs p w h =
     }) h))
 
 -- the hypotheses of a claim's frame ask for its entries and for its own hypotheses at the instances
-pub floats-instance : (sigma : Token → Expression) (n : Naming) (ms : List Pattern) (k : ℕ) (vs : List Variable) → ((v : Variable) → has_variable vs v ≡ true → sigma (variable_token v) ≡ value n ms v) → map (instance_of sigma) (map (variable_float k) vs) ≡ map (entry n ms) vs
-floats-instance sigma n ms k [] h = refl
-floats-instance sigma n ms k (v ∷ vs) h =
+pub floats-instance : (sigma : Token → Expression) (n : Naming) (new : List ℕ) (ms : List Pattern) (k : ℕ) (vs : List Variable) → ((v : Variable) → has_variable vs v ≡ true → sigma (variable_token v) ≡ value n new ms v) → map (instance_of sigma) (map (variable_float k) vs) ≡ map (entry n new ms) vs
+floats-instance sigma n new ms k [] h = refl
+floats-instance sigma n new ms k (v ∷ vs) h =
     ap (λ e. (variable_type v ∷ e) ∷ map (instance_of sigma) (map (variable_float k) vs)) (h v (first_there v vs))
-    ∙ ap (λ es. entry n ms v ∷ es) (floats-instance sigma n ms k vs (λ u there. h u (later_there v vs u there)))
+    ∙ ap (λ es. entry n new ms v ∷ es) (floats-instance sigma n new ms k vs (λ u there. h u (later_there v vs u there)))
 
-pub premises-instance : (sigma : Token → Expression) (declared : List Token) (ms : List Pattern) (vs : List Variable) (k j : ℕ) (ps : List Pattern) → GivesInstances sigma declared ms vs → AreOpenOver declared vs ps → map (instance_of sigma) (premise_hypotheses declared k j ps) ≡ map (holds_text (own_naming declared)) (instances ms ps)
-premises-instance sigma declared ms vs k j [] w h = refl
-premises-instance sigma declared ms vs k j (p ∷ ps) w h =
-    ap (λ e. e ∷ map (instance_of sigma) (premise_hypotheses declared k (j + 1) ps)) (holds-instance sigma declared ms vs p w h.0)
-    ∙ ap (λ es. holds_text (own_naming declared) (instance ms p) ∷ es) (premises-instance sigma declared ms vs k (j + 1) ps w h.1)
+pub premises-instance : (sigma : Token → Expression) (declared : List Token) (new : List ℕ) (ms : List Pattern) (vs : List Variable) (k j : ℕ) (ps : List Pattern) → GivesInstances sigma declared new ms vs → AreOpenOver declared vs ps → map (instance_of sigma) (premise_hypotheses declared k j ps) ≡ map (holds_text (own_naming declared)) (instances ms (map (renamed (by_place new)) ps))
+premises-instance sigma declared new ms vs k j [] w h = refl
+premises-instance sigma declared new ms vs k j (p ∷ ps) w h =
+    ap (λ e. e ∷ map (instance_of sigma) (premise_hypotheses declared k (j + 1) ps)) (holds-instance sigma declared new ms vs p w h.0)
+    ∙ ap (λ es. holds_text (own_naming declared) (instance ms (renamed (by_place new) p)) ∷ es) (premises-instance sigma declared new ms vs k (j + 1) ps w h.1)
 
 -- instances are patterns without object variables where these are
 pub no_variables_at : (ms : List Pattern) (i : ℕ) (p : Pattern) → HaveNoVariables ms → HasNoVariable p → HasNoVariable (slice_index_or ms i p)

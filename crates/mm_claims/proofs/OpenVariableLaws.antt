@@ -5,6 +5,7 @@ use Rattle.std.proofs.lemmas.Bool.{false≢true}
 use Rattle.mm_text.specs.Bytes.{Token}
 use Rattle.ml_pat.specs.Patterns.{Pattern, bot, top, imp, not, and, or, equal, member, fun, ex, all, app, at_sort, next, ev, var, meta, constant}
 use Rattle.ml_kernel.specs.Lemmas.{instance}
+use Rattle.ml_kernel.specs.Renamings.{by_place}
 use Rattle.ml_kernel.specs.Rules.{Instance, pattern, variable, sort}
 use Rattle.ml_kernel.specs.Theorems.{Derivation, Derivations, hypothesis, own_axiom, by_rule, cited, no_derivation, more_derivations}
 use Rattle.ml_pat.specs.Leaves.{EachLeaf}
@@ -66,32 +67,26 @@ instances_among declared vs (pattern p ∷ is) w h = (leaves_among declared vs p
 instances_among declared vs (variable x ∷ is) w h = (w (object_variable x) (first_there (object_variable x) (flat_map variables_for is)), instances_among declared vs is (λ v there. w v (later_there (object_variable x) (flat_map variables_for is) v there)) h.1)
 instances_among declared vs (sort s ∷ is) w h = (h.0, instances_among declared vs is w h.1)
 
-values_among : (declared : List Token) (vs : List Variable) (ms : List Pattern) (us : List Variable) → Among (flat_map (variables_at ms) us) vs → HaveInstances (over_names declared) ms us → HaveInstances (open_over declared vs) ms us
-values_among declared vs ms [] w h = tt
-values_among declared vs ms (object_variable x ∷ us) w h = (w (object_variable x) (first_there (object_variable x) (flat_map (variables_at ms) us)), values_among declared vs ms us (λ v there. w v (later_there (object_variable x) (flat_map (variables_at ms) us) v there)) h.1)
-values_among declared vs ms (pattern_variable i ∷ us) w h = (leaves_among declared vs (instance ms (meta i)) (among_front (variables_in (instance ms (meta i))) (flat_map (variables_at ms) us) vs w) h.0, values_among declared vs ms us (among_behind (variables_in (instance ms (meta i))) (flat_map (variables_at ms) us) vs w) h.1)
+values_among : (declared : List Token) (vs : List Variable) (new : List ℕ) (ms : List Pattern) (us : List Variable) → Among (flat_map (variables_at new ms) us) vs → HaveInstances (over_names declared) new ms us → HaveInstances (open_over declared vs) new ms us
+values_among declared vs new ms [] w h = tt
+values_among declared vs new ms (object_variable x ∷ us) w h = (w (object_variable (by_place new x)) (first_there (object_variable (by_place new x)) (flat_map (variables_at new ms) us)), values_among declared vs new ms us (λ v there. w v (later_there (object_variable (by_place new x)) (flat_map (variables_at new ms) us) v there)) h.1)
+values_among declared vs new ms (pattern_variable i ∷ us) w h = (leaves_among declared vs (instance ms (meta i)) (among_front (variables_in (instance ms (meta i))) (flat_map (variables_at new ms) us) vs w) h.0, values_among declared vs new ms us (among_behind (variables_in (instance ms (meta i))) (flat_map (variables_at new ms) us) vs w) h.1)
 
--- at no patterns a claim's variables stand for themselves
-pub own_variables : (us : List Variable) → flat_map (variables_at []) us ≡ us
-own_variables [] = refl
-own_variables (object_variable x ∷ us) = ap (λ vs. object_variable x ∷ vs) (own_variables us)
-own_variables (pattern_variable i ∷ us) = ap (λ vs. pattern_variable i ∷ vs) (own_variables us)
-
-citable_among : (declared : List Token) (vs : List Variable) (claims : List Claim) (place : List Pattern → Pattern → ℕ) (own : List Pattern) (q : Pattern) (ms : List Pattern) → Among (flat_map (variables_at ms) (claim_at claims (place own q)).variables) vs → IsCitable (over_names declared) claims place own q ms → IsCitable (open_over declared vs) claims place own q ms
-citable_among declared vs claims place own q ms w h = record {
+citable_among : (declared : List Token) (vs : List Variable) (claims : List Claim) (place : List Pattern → Pattern → ℕ) (own : List Pattern) (q : Pattern) (new : List ℕ) (ms : List Pattern) → Among (flat_map (variables_at new ms) (claim_at claims (place own q)).variables) vs → IsCitable (over_names declared) claims place own q new ms → IsCitable (open_over declared vs) claims place own q new ms
+citable_among declared vs claims place own q new ms w h = record {
   claim = h.claim;
   there = h.there;
   hypotheses = h.hypotheses;
   conclusion = h.conclusion;
-  instances = values_among declared vs ms h.claim.variables (subst (λ (s : Claim). Among (flat_map (variables_at ms) s.variables) vs) (claim_is claims (place own q) h.claim h.there) w) h.instances;
+  instances = values_among declared vs new ms h.claim.variables (subst (λ (s : Claim). Among (flat_map (variables_at new ms) s.variables) vs) (claim_is claims (place own q) h.claim h.there) w) h.instances;
 }
 
 mutual
   used_among : (declared : List Token) (vs : List Variable) (claims : List Claim) (place : List Pattern → Pattern → ℕ) (d : Derivation) → Among (variables_of claims place d) vs → EachUsed (over_names declared) d → EachUsed (open_over declared vs) d
   used_among declared vs claims place (hypothesis p) w h = tt
-  used_among declared vs claims place (own_axiom n p) w h = tt
+  used_among declared vs claims place (own_axiom n p new) w h = tt
   used_among declared vs claims place (by_rule r is ds) w h = (instances_among declared vs is (among_front (flat_map variables_for is) (all_variables_of claims place ds) vs w) h.0, all_used_among declared vs claims place ds (among_behind (flat_map variables_for is) (all_variables_of claims place ds) vs w) h.1)
-  used_among declared vs claims place (cited own q d ms ds) w h = all_used_among declared vs claims place ds (among_behind (flat_map (variables_at ms) (claim_at claims (place own q)).variables) (all_variables_of claims place ds) vs w) h
+  used_among declared vs claims place (cited own q d ms ds) w h = all_used_among declared vs claims place ds (among_behind (flat_map (variables_at [] ms) (claim_at claims (place own q)).variables) (all_variables_of claims place ds) vs w) h
 
   all_used_among : (declared : List Token) (vs : List Variable) (claims : List Claim) (place : List Pattern → Pattern → ℕ) (ds : Derivations) → Among (all_variables_of claims place ds) vs → AllUsed (over_names declared) ds → AllUsed (open_over declared vs) ds
   all_used_among declared vs claims place no_derivation w h = tt
@@ -100,11 +95,11 @@ mutual
 mutual
   cited_among : (declared : List Token) (vs : List Variable) (claims : List Claim) (place : List Pattern → Pattern → ℕ) (d : Derivation) → Among (variables_of claims place d) vs → EachCited (citable (over_names declared) claims place) d → EachCited (citable (open_over declared vs) claims place) d
   cited_among declared vs claims place (hypothesis p) w h = tt
-  cited_among declared vs claims place (own_axiom n p) w h = citable_among declared vs claims place [] p [] (subst (λ (us : List Variable). Among us vs) (sym (own_variables (claim_at claims (place [] p)).variables)) w) h
+  cited_among declared vs claims place (own_axiom n p new) w h = citable_among declared vs claims place [] p new [] w h
   cited_among declared vs claims place (by_rule r is ds) w h = all_cited_among declared vs claims place ds (among_behind (flat_map variables_for is) (all_variables_of claims place ds) vs w) h
   cited_among declared vs claims place (cited own q d ms ds) w h = (
-    citable_among declared vs claims place own q ms (among_front (flat_map (variables_at ms) (claim_at claims (place own q)).variables) (all_variables_of claims place ds) vs w) h.0,
-    all_cited_among declared vs claims place ds (among_behind (flat_map (variables_at ms) (claim_at claims (place own q)).variables) (all_variables_of claims place ds) vs w) h.1,
+    citable_among declared vs claims place own q [] ms (among_front (flat_map (variables_at [] ms) (claim_at claims (place own q)).variables) (all_variables_of claims place ds) vs w) h.0,
+    all_cited_among declared vs claims place ds (among_behind (flat_map (variables_at [] ms) (claim_at claims (place own q)).variables) (all_variables_of claims place ds) vs w) h.1,
   )
 
   all_cited_among : (declared : List Token) (vs : List Variable) (claims : List Claim) (place : List Pattern → Pattern → ℕ) (ds : Derivations) → Among (all_variables_of claims place ds) vs → AllCited (citable (over_names declared) claims place) ds → AllCited (citable (open_over declared vs) claims place) ds

@@ -8,6 +8,6 @@ use Rattle.mm_claims.specs.CitedAt.{IsCitable}
 
 abbrev pub citable : LeafFacts → List Claim → (List Pattern → Pattern → ℕ) → MayCite
 citable known claims place = record {
-  fact = λ p. IsCitable known claims place [] p [];
-  lemma = λ own q ms. IsCitable known claims place own q ms;
+  fact = λ p new. IsCitable known claims place [] p new [];
+  lemma = λ own q ms. IsCitable known claims place own q [] ms;
 }

@@ -3,6 +3,7 @@ use Rattle.std.specs.Prelude.{◌≡◌, ℕ, List, [], ◌∷◌, ◌++◌, map
 use Rattle.mm_database.specs.Proofs.{ProofTree}
 use Rattle.ml_pat.specs.Patterns.{Pattern, bot, meta}
 use Rattle.ml_kernel.specs.Lemmas.{instance}
+use Rattle.ml_kernel.specs.Renamings.{by_place}
 use Rattle.mm_proof.specs.Tokens.{Naming}
 use Rattle.mm_proof.specs.Labels.{statement_label, premise_label, own_labels}
 use Rattle.ml_pat.specs.Leaves.{LeafFacts, EachLeaf}
@@ -12,41 +13,41 @@ use Rattle.mm_claims.specs.Variables.{Variable, object_variable, pattern_variabl
 use Rattle.mm_claims.specs.Blocks.{Claim}
 
 -- Claims are cited by the labels of their places: over the proofs of what stands for their variables, in the order of these,
--- and of their hypotheses. An object variable stands for itself, and a pattern variable for its instance.
-abbrev pub variable_tree : Naming → List Pattern → Variable → ProofTree
-variable_tree l ms (object_variable i) = cite (l.object i) []
-variable_tree l ms (pattern_variable i) = syntax_tree l (instance ms (meta i))
+-- and of their hypotheses. An object variable becomes its new one, and a pattern variable its instance.
+abbrev pub variable_tree : Naming → List ℕ → List Pattern → Variable → ProofTree
+variable_tree l new ms (object_variable i) = cite (l.object (by_place new i)) []
+variable_tree l new ms (pattern_variable i) = syntax_tree l (instance ms (meta i))
 
 abbrev pub claim_at : List Claim → ℕ → Claim
 claim_at claims k = slice_index_or claims k (record { variables = []; hypotheses = []; conclusion = bot })
 
-abbrev pub claim_tree : Naming → List Claim → ℕ → List Pattern → List ProofTree → ProofTree
-claim_tree l claims k ms trees = cite (statement_label k) (map (variable_tree l ms) (claim_at claims k).variables ++ trees)
+abbrev pub claim_tree : Naming → List Claim → ℕ → List ℕ → List Pattern → List ProofTree → ProofTree
+claim_tree l claims k new ms trees = cite (statement_label k) (map (variable_tree l new ms) (claim_at claims k).variables ++ trees)
 
 -- in the block with a number, where claims have their places by hypotheses and conclusion, and the block's hypotheses have theirs
 abbrev pub claims_citing : ℕ → List Claim → (List Pattern → Pattern → ℕ) → (Pattern → ℕ) → Citing
 claims_citing k claims place premise_place = record {
   premise = λ p. cite (premise_label k (premise_place p)) [];
-  fact = λ p. claim_tree (own_labels k) claims (place [] p) [] [];
-  lemma = λ own q ms trees. claim_tree (own_labels k) claims (place own q) ms trees;
+  fact = λ p new. claim_tree (own_labels k) claims (place [] p) new [] [];
+  lemma = λ own q ms trees. claim_tree (own_labels k) claims (place own q) [] ms trees;
 }
 
 -- each leaf of what stands for the variable has its fact
-abbrev pub HasInstance : LeafFacts → List Pattern → Variable → Type 0
-HasInstance f ms (object_variable i) = f.object i
-HasInstance f ms (pattern_variable i) = EachLeaf f (instance ms (meta i))
+abbrev pub HasInstance : LeafFacts → List ℕ → List Pattern → Variable → Type 0
+HasInstance f new ms (object_variable i) = f.object (by_place new i)
+HasInstance f new ms (pattern_variable i) = EachLeaf f (instance ms (meta i))
 
-abbrev pub HaveInstances : LeafFacts → List Pattern → List Variable → Type 0
-HaveInstances f ms [] = Unit {0}
-HaveInstances f ms (v ∷ vs) = HasInstance f ms v × HaveInstances f ms vs
+abbrev pub HaveInstances : LeafFacts → List ℕ → List Pattern → List Variable → Type 0
+HaveInstances f new ms [] = Unit {0}
+HaveInstances f new ms (v ∷ vs) = HasInstance f new ms v × HaveInstances f new ms vs
 
 -- a claim with these hypotheses and this conclusion stands at its place, and what stands for its variables is known
-pub record IsCitable (known : LeafFacts) (claims : List Claim) (place : List Pattern → Pattern → ℕ) (own : List Pattern) (q : Pattern) (ms : List Pattern) : Type 0 where
+pub record IsCitable (known : LeafFacts) (claims : List Claim) (place : List Pattern → Pattern → ℕ) (own : List Pattern) (q : Pattern) (new : List ℕ) (ms : List Pattern) : Type 0 where
   pub claim : Claim
   pub there : slice_get claims (place own q) ≡ Some claim
   pub hypotheses : claim.hypotheses ≡ own
   pub conclusion : claim.conclusion ≡ q
-  pub instances : HaveInstances known ms claim.variables
+  pub instances : HaveInstances known new ms claim.variables
 
 -- each hypothesis of the block stands at its place
 abbrev pub ArePremises : List Pattern → (Pattern → ℕ) → Type 0

@@ -37,9 +37,9 @@ abbrev pub ClaimsAreCited : Type 0
 ClaimsAreCited =
     (c : Context) (l : Naming) (declared : List Token) (known : Known) (i : ℕ) (s : Claim) (ms : List Pattern) (trees : List ProofTree) →
     AreNames declared → Serves c l (own_naming declared) (are_known known) → IsClaim declared s → IsAssertion c (statement_label i) (open_frame declared i s) →
-    HaveNoVariables ms → HaveInstances (are_known known) ms s.variables →
+    HaveNoVariables ms → HaveInstances (are_known known) [] ms s.variables →
     AllProve c (trees_of trees) (map (holds_text (own_naming declared)) (instances ms s.hypotheses)) →
-    Proves c (cite (statement_label i) (map (variable_tree l ms) s.variables ++ trees)) (holds_text (own_naming declared) (instance ms s.conclusion))
+    Proves c (cite (statement_label i) (map (variable_tree l [] ms) s.variables ++ trees)) (holds_text (own_naming declared) (instance ms s.conclusion))
 
 -- so hypotheses, axioms and lemmas are cited soundly in the block with a number
 abbrev pub CitingIsSound : Type 0

@@ -3,6 +3,7 @@
 use Rattle.std.specs.Prelude.{ℕ, if◌then◌else◌, List, [], ◌∷◌, ◌++◌, flat_map}
 use Rattle.ml_pat.specs.Patterns.{Pattern, bot, top, imp, not, and, or, equal, member, fun, ex, all, app, at_sort, next, ev, var, meta, constant}
 use Rattle.ml_kernel.specs.Lemmas.{instance}
+use Rattle.ml_kernel.specs.Renamings.{by_place}
 use Rattle.ml_kernel.specs.Rules.{Instance, pattern, variable, sort}
 use Rattle.ml_kernel.specs.Theorems.{Derivation, Derivations, hypothesis, own_axiom, by_rule, cited, no_derivation, more_derivations}
 use Rattle.mm_claims.specs.Variables.{Variable, object_variable, pattern_variable, has_variable}
@@ -36,17 +37,17 @@ variables_for (pattern p) = variables_in p
 variables_for (variable x) = object_variable x ∷ []
 variables_for (sort s) = []
 
-abbrev pub variables_at : List Pattern → Variable → List Variable
-variables_at ms (object_variable i) = object_variable i ∷ []
-variables_at ms (pattern_variable i) = variables_in (instance ms (meta i))
+abbrev pub variables_at : List ℕ → List Pattern → Variable → List Variable
+variables_at new ms (object_variable i) = object_variable (by_place new i) ∷ []
+variables_at new ms (pattern_variable i) = variables_in (instance ms (meta i))
 
 -- in what is written of a derivation, where the claims that it cites have their places: one behind the other
 abbrev mutual
   pub variables_of : List Claim → (List Pattern → Pattern → ℕ) → Derivation → List Variable
   variables_of claims place (hypothesis p) = []
-  variables_of claims place (own_axiom n p) = (claim_at claims (place [] p)).variables
+  variables_of claims place (own_axiom n p new) = flat_map (variables_at new []) (claim_at claims (place [] p)).variables
   variables_of claims place (by_rule r is ds) = flat_map variables_for is ++ all_variables_of claims place ds
-  variables_of claims place (cited own q d ms ds) = flat_map (variables_at ms) (claim_at claims (place own q)).variables ++ all_variables_of claims place ds
+  variables_of claims place (cited own q d ms ds) = flat_map (variables_at [] ms) (claim_at claims (place own q)).variables ++ all_variables_of claims place ds
 
   pub all_variables_of : List Claim → (List Pattern → Pattern → ℕ) → Derivations → List Variable
   all_variables_of claims place no_derivation = []

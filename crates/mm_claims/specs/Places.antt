@@ -29,7 +29,7 @@ IsStated claims hypotheses conclusion = (k : ℕ) × StandsAt claims hypotheses 
 -- What was stated may be cited, lemmas at patterns over declared names.
 abbrev pub stated_cites : List Token → List Claim → MayCite
 stated_cites declared claims = record {
-  fact = λ p. IsStated claims [] p;
+  fact = λ p new. IsStated claims [] p;
   lemma = λ own q ms. IsStated claims own q × AreOverNames declared ms;
 }
 

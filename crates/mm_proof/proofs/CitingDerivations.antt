@@ -20,8 +20,7 @@ mutual
   pub cited_proves : (c : Context) (l n : Naming) (known : LeafFacts) (hyps : List Pattern) (k : MayCite) (s : Citing) → Serves c l n known → CitesSoundly c n hyps k s → (d : Derivation) (q : Pattern) → Concludes hyps d q → EachUsed known d → EachCited k d → Proves c (derivation_tree l s d) (holds_text n q)
   cited_proves c l n known hyps k s w sound (hypothesis p) q concludes used cites =
       subst (λ (r : Pattern). Proves c (s.premise p) (holds_text n r)) concludes.1 (sound.premise p concludes.0)
-  cited_proves c l n known hyps k s w sound (own_axiom i p) q concludes used cites =
-      subst (λ (r : Pattern). Proves c (s.fact p) (holds_text n r)) concludes.1 (sound.fact p cites)
+  cited_proves c l n known hyps k s w sound (own_axiom i p new) q concludes used cites = sound.fact p q new cites concludes.1
   cited_proves c l n known hyps k s w sound (by_rule r is ds) q (ps, (infers, every)) used cites =
       rule_proves c l n known (derivation_trees l s ds) w infers used.0 (cited_prove c l n known hyps k s w sound ds ps every used.1 cites)
   cited_proves c l n known hyps k s w sound (cited own p d ms ds) q (inner, closed) used cites =

@@ -22,7 +22,7 @@ short = record {
 abbrev one_axiom : Citing
 one_axiom = record {
   premise = λ p. cite (codes "H") [];
-  fact = λ p. cite (codes "A") [];
+  fact = λ p new. cite (codes "A") [];
   lemma = λ own q ms trees. cite (codes "L") trees;
 }
 
@@ -36,4 +36,4 @@ pub record TriedCases : Type 0 where
   pub equality : postorder (predicate_tree short (equal (constant 0) (constant 1))) ≡ codes "a" ∷ codes "b" ∷ codes "pr.eq" ∷ []
   pub schema : postorder (rule_tree short rule.Ev1 (pattern (constant 0) ∷ []) []) ≡ codes "a" ∷ codes "ev.1" ∷ []
   pub instantiated : postorder (rule_tree short rule.Inst (pattern (var 0) ∷ pattern (constant 0) ∷ pattern (constant 0) ∷ variable 0 ∷ sort 0 ∷ []) []) ≡ codes "x" ∷ codes "w.var" ∷ codes "a" ∷ codes "a" ∷ codes "x" ∷ codes "S" ∷ codes "a" ∷ codes "x" ∷ codes "su.v" ∷ codes "inst" ∷ []
-  pub step : postorder (derivation_tree short one_axiom (by_rule rule.NextIn (pattern (constant 0) ∷ pattern (constant 1) ∷ []) (more_derivations (own_axiom 0 (imp (constant 0) (constant 1))) no_derivation))) ≡ codes "a" ∷ codes "b" ∷ codes "A" ∷ codes "next.in" ∷ []
+  pub step : postorder (derivation_tree short one_axiom (by_rule rule.NextIn (pattern (constant 0) ∷ pattern (constant 1) ∷ []) (more_derivations (own_axiom 0 (imp (constant 0) (constant 1)) []) no_derivation))) ≡ codes "a" ∷ codes "b" ∷ codes "A" ∷ codes "next.in" ∷ []

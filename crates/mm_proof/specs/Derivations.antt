@@ -1,6 +1,6 @@
 -- What proof a derivation is written as, by recursion. How hypotheses, axioms and lemmas are cited is a matter of the
 -- statement in which it stands; a rule is its label over the proofs of what it concludes from.
-use Rattle.std.specs.Prelude.{List, [], ◌∷◌, map, Contains}
+use Rattle.std.specs.Prelude.{ℕ, List, [], ◌∷◌, map, Contains}
 use Rattle.mm_database.specs.Database.{Context}
 use Rattle.mm_database.specs.Proofs.{Expression, ProofTree, Proves, AllProve}
 use Rattle.ml_pat.specs.Patterns.{Pattern}
@@ -14,17 +14,17 @@ use Rattle.mm_proof.specs.Trees.{trees_of, rule_tree}
 abbrev pub holds_text : Naming → Pattern → Expression
 holds_text n p = judgement_by (letters_of n) (holds p)
 
--- The proofs that cite a hypothesis, an axiom, and a lemma with its hypotheses and conclusion, at patterns for its
+-- The proofs that cite a hypothesis, an axiom under new numbers of its bound variables, and a lemma with its hypotheses and conclusion, at patterns for its
 -- pattern variables, over proofs of its hypotheses.
 pub record Citing : Type 0 where
   pub premise : Pattern → ProofTree
-  pub fact : Pattern → ProofTree
+  pub fact : Pattern → List ℕ → ProofTree
   pub lemma : List Pattern → Pattern → List Pattern → List ProofTree → ProofTree
 
 abbrev mutual
   pub derivation_tree : Naming → Citing → Derivation → ProofTree
   derivation_tree l s (hypothesis p) = s.premise p
-  derivation_tree l s (own_axiom n p) = s.fact p
+  derivation_tree l s (own_axiom n p new) = s.fact p new
   derivation_tree l s (by_rule r is ds) = rule_tree l r is (derivation_trees l s ds)
   derivation_tree l s (cited own q d ms ds) = s.lemma own q ms (derivation_trees l s ds)
 

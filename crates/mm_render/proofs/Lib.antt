@@ -4,3 +4,4 @@ pub mod PartLaws
 pub mod NeededLaws
 pub mod HeadTexts
 pub mod StackedVariables
+pub mod RenamedVariables

@@ -108,42 +108,42 @@ rule_taken names k s p d r is ds old new text text' text'' taken whole first sec
     }
 
 -- a citation of the statement with a number is taken apart
-citation_taken : (names : List Token) (k : ℕ) (s : Citing) (p : Part) (d : Bor Derivation) (e : Derivation) (i : ℕ) (ms : List Pattern) (vs : List Variable) (ds : Derivations) (old new : List Part) (text text' : List ℕ) → p ≡ part.Derived d → d.now ≡ e
-    → proof_of k s e ≡ postorder (cite (statement_label i) (map (variable_tree (own_labels k) ms) vs ++ derivation_trees (own_labels k) s ds)) → 3 * all_steps ds + 1 < 3 * steps_in e
-    → text' ≡ text ++ written (value_labels k ms vs) → PutsParts (λ names k s. rest_of_citation k s i ds) (3 * all_steps ds + 1) old new → PartIsTaken names k s p old new text text'
-citation_taken names k s p d e i ms vs ds old new text text' taken whole cites heavy values puts =
-    let labels : part_tokens names k s p ≡ value_labels k ms vs ++ rest_of_citation k s i ds =
-    ap (part_tokens names k s) taken ∙ ap (proof_of k s) whole ∙ cites ∙ cite_labels (statement_label i) (map (variable_tree (own_labels k) ms) vs) (derivation_trees (own_labels k) s ds) in
+citation_taken : (names : List Token) (k : ℕ) (s : Citing) (p : Part) (d : Bor Derivation) (e : Derivation) (i : ℕ) (xs : List ℕ) (ms : List Pattern) (vs : List Variable) (ds : Derivations) (old new : List Part) (text text' : List ℕ) → p ≡ part.Derived d → d.now ≡ e
+    → proof_of k s e ≡ postorder (cite (statement_label i) (map (variable_tree (own_labels k) xs ms) vs ++ derivation_trees (own_labels k) s ds)) → 3 * all_steps ds + 1 < 3 * steps_in e
+    → text' ≡ text ++ written (value_labels k xs ms vs) → PutsParts (λ names k s. rest_of_citation k s i ds) (3 * all_steps ds + 1) old new → PartIsTaken names k s p old new text text'
+citation_taken names k s p d e i xs ms vs ds old new text text' taken whole cites heavy values puts =
+    let labels : part_tokens names k s p ≡ value_labels k xs ms vs ++ rest_of_citation k s i ds =
+    ap (part_tokens names k s) taken ∙ ap (proof_of k s) whole ∙ cites ∙ cite_labels (statement_label i) (map (variable_tree (own_labels k) xs ms) vs) (derivation_trees (own_labels k) s ds) in
     let light : part_weight p ≡ 3 * steps_in e = ap part_weight taken ∙ ap (λ (c : Derivation). 3 * steps_in c) whole in
     record {
-      tokens = first_taken names k s p old new text text' (value_labels k ms vs) (rest_of_citation k s i ds) labels values (puts.tokens names k s);
+      tokens = first_taken names k s p old new text text' (value_labels k xs ms vs) (rest_of_citation k s i ds) labels values (puts.tokens names k s);
       weight = omega (arith, puts.weight, light, heavy);
     }
 
 -- an axiom
-pub fact_taken : (names : List Token) (k : ℕ) (claims : List Claim) (place : List Pattern → Pattern → ℕ) (premise_place : Pattern → ℕ) (p : Part) (d : Bor Derivation) (n : ℕ) (q : Pattern) (old new : List Part) (text text' : List ℕ)
-    → p ≡ part.Derived d → d.now ≡ own_axiom n q → text' ≡ text ++ written (value_labels k [] (claim_at claims (place [] q)).variables) → PutsParts (λ names k s. rest_of_citation k s (place [] q) no_derivation) 1 old new
+pub fact_taken : (names : List Token) (k : ℕ) (claims : List Claim) (place : List Pattern → Pattern → ℕ) (premise_place : Pattern → ℕ) (p : Part) (d : Bor Derivation) (n : ℕ) (q : Pattern) (xs xs' : List ℕ) (old new : List Part) (text text' : List ℕ)
+    → p ≡ part.Derived d → d.now ≡ own_axiom n q xs → xs' ≡ xs → text' ≡ text ++ written (value_labels k xs' [] (claim_at claims (place [] q)).variables) → PutsParts (λ names k s. rest_of_citation k s (place [] q) no_derivation) 1 old new
     → PartIsTaken names k (claims_citing k claims place premise_place) p old new text text'
-fact_taken names k claims place premise_place p d n q old new text text' taken whole values puts =
-    citation_taken names k (claims_citing k claims place premise_place) p d (own_axiom n q) (place [] q) [] (claim_at claims (place [] q)).variables no_derivation old new text text' taken whole refl (omega arith) values puts
+fact_taken names k claims place premise_place p d n q xs xs' old new text text' taken whole same values puts =
+    citation_taken names k (claims_citing k claims place premise_place) p d (own_axiom n q xs') (place [] q) xs' [] (claim_at claims (place [] q)).variables no_derivation old new text text' taken (whole ∙ ap (own_axiom n q) (sym same)) refl (omega arith) values puts
 
 -- a lemma
 pub lemma_taken : (names : List Token) (k : ℕ) (claims : List Claim) (place : List Pattern → Pattern → ℕ) (premise_place : Pattern → ℕ) (p : Part) (d : Bor Derivation) (e : Derivation) (own own' : List Pattern) (q q' : Pattern) (ms ms' : List Pattern) (ds ds' : List Derivation)
     (old new : List Part) (text text' : List ℕ) → p ≡ part.Derived d → d.now ≡ cited own q e ms (derivations ds) → own' ≡ own → q' ≡ q → ms' ≡ ms → ds' ≡ ds
-    → text' ≡ text ++ written (value_labels k ms' (claim_at claims (place own' q')).variables) → PutsParts (λ names k s. rest_of_citation k s (place own' q') (derivations ds')) (3 * all_steps (derivations ds') + 1) old new
+    → text' ≡ text ++ written (value_labels k [] ms' (claim_at claims (place own' q')).variables) → PutsParts (λ names k s. rest_of_citation k s (place own' q') (derivations ds')) (3 * all_steps (derivations ds') + 1) old new
     → PartIsTaken names k (claims_citing k claims place premise_place) p old new text text'
 lemma_taken names k claims place premise_place p d e own own' q q' ms ms' ds ds' old new text text' taken whole hypotheses conclusion patterns parts values puts =
     let same : d.now ≡ cited own' q' e ms' (derivations ds') =
     whole ∙ ap (λ (ps : List Pattern). cited ps q e ms (derivations ds)) (sym hypotheses) ∙ ap (λ (r : Pattern). cited own' r e ms (derivations ds)) (sym conclusion)
     ∙ ap (λ (ps : List Pattern). cited own' q' e ps (derivations ds)) (sym patterns) ∙ ap (λ (es : List Derivation). cited own' q' e ms' (derivations es)) (sym parts) in
-    citation_taken names k (claims_citing k claims place premise_place) p d (cited own' q' e ms' (derivations ds')) (place own' q') ms' (claim_at claims (place own' q')).variables (derivations ds') old new text text' taken same refl (omega arith) values puts
+    citation_taken names k (claims_citing k claims place premise_place) p d (cited own' q' e ms' (derivations ds')) (place own' q') [] ms' (claim_at claims (place own' q')).variables (derivations ds') old new text text' taken same refl (omega arith) values puts
 
 -- what stands for one variable more
-pub value_labels-push : (k : ℕ) (ms : List Pattern) (vs : List Variable) (v : Variable) → value_labels k ms (vs ++ v ∷ []) ≡ value_labels k ms vs ++ value_labels k ms (v ∷ [])
-value_labels-push k ms [] v = refl
-value_labels-push k ms (u ∷ vs) v =
-    let first : List Token = postorder (variable_tree (own_labels k) ms u) in
-    ap (λ (ts : List Token). first ++ ts) (value_labels-push k ms vs v) ∙ sym (append_assoc first (value_labels k ms vs) (value_labels k ms (v ∷ [])))
+pub value_labels-push : (k : ℕ) (xs : List ℕ) (ms : List Pattern) (vs : List Variable) (v : Variable) → value_labels k xs ms (vs ++ v ∷ []) ≡ value_labels k xs ms vs ++ value_labels k xs ms (v ∷ [])
+value_labels-push k xs ms [] v = refl
+value_labels-push k xs ms (u ∷ vs) v =
+    let first : List Token = postorder (variable_tree (own_labels k) xs ms u) in
+    ap (λ (ts : List Token). first ++ ts) (value_labels-push k xs ms vs v) ∙ sym (append_assoc first (value_labels k xs ms vs) (value_labels k xs ms (v ∷ [])))
 
 -- what is left of a citation
 pub put_citation : (i j : ℕ) (ds : Derivations) (old mid new : List Part) → i ≡ j → mid ≡ old ++ part.Plain (work.One (word.Stated i)) ∷ [] → PutsParts (λ names k s. proofs_of k s ds) (3 * all_steps ds) mid new

@@ -65,8 +65,8 @@ abbrev pub rest_of_citation : ℕ → Citing → ℕ → Derivations → List To
 rest_of_citation k s i ds = proofs_of k s ds ++ statement_label i ∷ []
 
 -- the proofs of what stands for variables of a claim
-abbrev pub value_labels : ℕ → List Pattern → List Variable → List Token
-value_labels k ms vs = all_labels (map (variable_tree (own_labels k) ms) vs)
+abbrev pub value_labels : ℕ → List ℕ → List Pattern → List Variable → List Token
+value_labels k new ms vs = all_labels (map (variable_tree (own_labels k) new ms) vs)
 
 -- the citing of the statement that stands there
 abbrev pub citing_at : Standing → Citing

@@ -2,7 +2,7 @@
 // stack of calls.
 ghost use Rattle.std.specs.Prelude.{◌≡◌, ◌+◌, ◌*◌, [], ◌∷◌, ◌++◌, OnOk};
 ghost use Rattle.ml_pat.specs.Patterns.{bot};
-ghost use Rattle.ml_kernel.specs.StepView.{instances_of};
+ghost use Rattle.ml_kernel.specs.StepView.{instances_of, numbers_of};
 ghost use Rattle.ml_kernel.specs.StepsIn.{all_steps};
 ghost use Rattle.ml_kernel.specs.Theorems.{derivations};
 ghost use Rattle.mm_proof.specs.Labels.{own_labels, premise_label};
@@ -15,9 +15,9 @@ ghost use Rattle.mm_render.specs.VariablesView.{variable_of};
 ghost use Rattle.mm_text.specs.Written.{written};
 
 use crate::places::{Standing, place_of, premise_of};
-use crate::variables::Variable;
+use crate::variables::{Variable, renamed};
 use ml_kernel::{Deriv, DerivStep, Inst, Rule};
-use ml_pat::MPat;
+use ml_pat::{MPat, VarNo};
 use mm_proof::{
     Word, Work, pattern_at, push_word, variable_at, write_before, write_instances, write_works,
 };
@@ -66,13 +66,14 @@ fn write_part<'a>(
     };
     match derivation.step() {
         DerivStep::Hyp(p) => write_premise(to, at, p),
-        DerivStep::Axiom(_, p) => write_citation(to, at, stack, &[], p, &[], &[]),
+        DerivStep::Axiom(_, p, new) => write_citation(to, at, stack, &[], p, new, &[], &[]),
         DerivStep::Cited(lemma, patterns, parts) => write_citation(
             to,
             at,
             stack,
             lemma.hypotheses(),
             lemma.conclusion(),
+            &[],
             patterns,
             parts,
         ),
@@ -92,7 +93,7 @@ fn write_premise(to: &mut Vec<u8>, at: &Standing<'_>, pattern: &MPat) -> Result<
     push_word(to, at.names, at.serial, Word::Premise(place))
 }
 
-/// Writes what stands for the variables of a claim that is cited, and puts on a stack what is left of its citation: the
+/// Writes what stands for the variables of a claim that is cited, object variables under new numbers, and puts on a stack what is left of its citation: the
 /// proofs of its hypotheses and its label.
 fn write_citation<'a>(
     to: &mut Vec<u8>,
@@ -100,31 +101,35 @@ fn write_citation<'a>(
     stack: &mut Vec<Part<'a>>,
     hypotheses: &[MPat],
     conclusion: &MPat,
+    new: &[VarNo],
     patterns: &[MPat],
     parts: &'a [Deriv],
 ) -> Result<(), AllocError>
-    ensures text { OnOk result (to.new.items ≡ to.old.items ++ written (value_labels at.now.serial patterns.now (claim_at (claims_at at.now) (places_at at.now hypotheses.now conclusion.now)).variables)) }
+    ensures text { OnOk result (to.new.items ≡ to.old.items ++ written (value_labels at.now.serial (numbers_of new.now) patterns.now (claim_at (claims_at at.now) (places_at at.now hypotheses.now conclusion.now)).variables)) }
     ensures stack { OnOk result (PutsParts (λ names k s. rest_of_citation k s (places_at at.now hypotheses.now conclusion.now) (derivations parts.now)) (3 * all_steps (derivations parts.now) + 1) stack.old.items stack.new.items) }
 {
     let place = place_of(*to.allocator(), at, hypotheses, conclusion)?;
     for variable in at.variables_of(place) {
-        write_value(to, at, *variable, patterns)?;
+        write_value(to, at, *variable, new, patterns)?;
     }
     stack.push(Part::Plain(Work::One(Word::Stated(place))))?;
     put_derived(stack, parts)
 }
 
-/// Writes the proof of what stands for a variable of a claim that is cited at some patterns.
+/// Writes the proof of what stands for a variable of a claim that is cited at some object variables and patterns.
 fn write_value(
     to: &mut Vec<u8>,
     at: &Standing<'_>,
     variable: Variable,
+    new: &[VarNo],
     patterns: &[MPat],
 ) -> Result<(), AllocError>
-    ensures { OnOk result (to.new.items ≡ to.old.items ++ written (value_labels at.now.serial patterns.now (variable_of variable ∷ []))) }
+    ensures { OnOk result (to.new.items ≡ to.old.items ++ written (value_labels at.now.serial (numbers_of new.now) patterns.now (variable_of variable ∷ []))) }
 {
     match variable {
-        Variable::Object(x) => push_word(to, at.names, at.serial, Word::ObjectLabel(x.0)),
+        Variable::Object(x) => {
+            push_word(to, at.names, at.serial, Word::ObjectLabel(renamed(new, x).0))
+        }
         Variable::Pattern(i) => match patterns.get(i as usize) {
             Some(pattern) => write_works(to, at.names, at.serial, &[Work::Syntax(pattern)]),
             None => push_word(to, at.names, at.serial, Word::MetaLabel(i)),

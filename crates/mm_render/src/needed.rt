@@ -1,7 +1,7 @@
 // The variables that a proof has: those that stand in what is written of its derivation. What of it is still to be looked at lies
 // on a stack, so that a deep derivation costs no stack of calls.
 ghost use Rattle.std.specs.Prelude.{◌≡◌, IfOk, OnOk, flat_map};
-ghost use Rattle.ml_kernel.specs.StepView.{instance_of, instances_of};
+ghost use Rattle.ml_kernel.specs.StepView.{instance_of, instances_of, numbers_of};
 ghost use Rattle.ml_kernel.specs.Theorems.{derivations};
 ghost use Rattle.mm_claims.specs.AddedVariables.{added};
 ghost use Rattle.mm_claims.specs.CitedAt.{claim_at};
@@ -13,9 +13,9 @@ ghost use Rattle.mm_claims.specs.Variables.{AreNumbered};
 ghost use Rattle.mm_render.specs.VariablesView.{plain_variables, variable_of};
 
 use crate::places::{Standing, place_of};
-use crate::variables::{Variable, VariableList};
+use crate::variables::{Variable, VariableList, renamed};
 use ml_kernel::{Deriv, DerivStep, Inst};
-use ml_pat::MPat;
+use ml_pat::{MPat, VarNo};
 use std::alloc::{AllocError, Global};
 
 /// Some variables, and behind them the others that a derivation has, each once. Their numbers fit in 64 bits.
@@ -49,9 +49,9 @@ fn take_step<'a>(
 {
     match derivation.step() {
         DerivStep::Hyp(_) => Ok(()),
-        DerivStep::Axiom(_, p) => {
+        DerivStep::Axiom(_, p, new) => {
             let place = place_of(alloc, at, &[], p)?;
-            add_values(alloc, at, list, place, &[])
+            add_values(alloc, at, list, place, new, &[])
         }
         DerivStep::ByRule(_, instances, parts) => {
             add_instances(alloc, list, instances)?;
@@ -59,7 +59,7 @@ fn take_step<'a>(
         }
         DerivStep::Cited(lemma, patterns, parts) => {
             let place = place_of(alloc, at, lemma.hypotheses(), lemma.conclusion())?;
-            add_values(alloc, at, list, place, patterns)?;
+            add_values(alloc, at, list, place, &[], patterns)?;
             put_derivations(stack, parts)
         }
     }
@@ -71,12 +71,13 @@ fn add_values(
     at: &Standing<'_>,
     list: &mut VariableList,
     place: u64,
+    new: &[VarNo],
     patterns: &[MPat],
 ) -> Result<(), AllocError>
-    ensures { OnOk result (listed list.new ≡ added (listed list.old) (flat_map (variables_at patterns.now) (claim_at (claims_at at.now) place).variables)) }
+    ensures { OnOk result (listed list.new ≡ added (listed list.old) (flat_map (variables_at (numbers_of new.now) patterns.now) (claim_at (claims_at at.now) place).variables)) }
 {
     for variable in at.variables_of(place) {
-        add_value(alloc, list, *variable, patterns)?;
+        add_value(alloc, list, *variable, new, patterns)?;
     }
     Ok(())
 }
@@ -86,16 +87,17 @@ fn add_value(
     alloc: Global,
     list: &mut VariableList,
     variable: Variable,
+    new: &[VarNo],
     patterns: &[MPat],
 ) -> Result<(), AllocError>
-    ensures { OnOk result (listed list.new ≡ added (listed list.old) (variables_at patterns.now (variable_of variable))) }
+    ensures { OnOk result (listed list.new ≡ added (listed list.old) (variables_at (numbers_of new.now) patterns.now (variable_of variable))) }
 {
-    let Variable::Pattern(i) = variable else {
-        return list.add(variable);
-    };
-    match patterns.get(i as usize) {
-        Some(pattern) => list.add_all(alloc, pattern),
-        None => list.add(variable),
+    match variable {
+        Variable::Object(x) => list.add(Variable::Object(renamed(new, x))),
+        Variable::Pattern(i) => match patterns.get(i as usize) {
+            Some(pattern) => list.add_all(alloc, pattern),
+            None => list.add(variable),
+        },
     }
 }
 

@@ -1,6 +1,8 @@
 // The variables that stand in patterns, each once, in the order in which they first stand.
 ghost use Rattle.std.specs.Prelude.{◌≡◌, ◌+◌, [], ◌∷◌, ◌++◌, IfOk, OnOk, flat_map};
 ghost use Rattle.ml_pat.specs.FormsIn.{forms_in};
+ghost use Rattle.ml_kernel.specs.Renamings.{by_place};
+ghost use Rattle.ml_kernel.specs.StepView.{numbers_of};
 ghost use Rattle.mm_claims.specs.ClaimVariables.{claim_variables};
 ghost use Rattle.mm_claims.specs.AddedVariables.{added};
 ghost use Rattle.mm_claims.specs.OpenVariables.{variables_in};
@@ -18,6 +20,17 @@ pub(crate) enum Variable {
     Object(VarNo),
     /// A pattern variable, with its number.
     Pattern(u32),
+}
+
+/// What an object variable becomes where these are the new ones by place.
+#[tactic(auto, using(crate::proofs::RenamedVariables::renamed_there, crate::proofs::RenamedVariables::renamed_not))]
+pub(crate) fn renamed(new: &[VarNo], x: VarNo) -> VarNo
+    ensures { result.0 ≡ by_place (numbers_of new.now) x.0 }
+{
+    match new.get(x.0 as usize) {
+        Some(y) => *y,
+        None => x,
+    }
 }
 
 /// Variables in the order in which they were first added, each once.

@@ -126,7 +126,7 @@ instances_implied f g (sort s ∷ is) i h = (i.sort s h.0, instances_implied f g
 mutual
   used_implied : (f g : LeafFacts) (d : Derivation) → Implies f g → EachUsed f d → EachUsed g d
   used_implied f g (hypothesis p) i h = tt
-  used_implied f g (own_axiom n p) i h = tt
+  used_implied f g (own_axiom n p new) i h = tt
   used_implied f g (by_rule r is ds) i h = (instances_implied f g is i h.0, all_used_implied f g ds i h.1)
   used_implied f g (cited own q d ms ds) i h = all_used_implied f g ds i h
 
@@ -180,7 +180,7 @@ stated_from names claims own q (i, at) =
 mutual
   cited_to : (names : List Token) (claims : List Claim) (d : Derivation) → EachCited (cites_of (scope_of names claims)) d → EachCited (stated_cites names claims) d
   cited_to names claims (hypothesis p) h = tt
-  cited_to names claims (own_axiom n p) h = stated_to names claims [] p h
+  cited_to names claims (own_axiom n p new) h = stated_to names claims [] p h
   cited_to names claims (by_rule r is ds) h = all_cited_to names claims ds h
   cited_to names claims (cited own q d ms ds) h =
       ((stated_to names claims own q h.0.0, over_all_to names claims ms h.0.1), all_cited_to names claims ds h.1)
@@ -203,7 +203,7 @@ none_assumed : (s : Scope) (ps : List Pattern) → ps ≡ [] → AreAssumed s ps
 none_assumed s ps none = subst (AreAssumed s) (sym none) (λ p k. absurd (omega (arith, k.1)))
 
 -- an axiom that was stated is within the scope
-pub axiom_within : (names : List Token) (claims : List Claim) (n : ℕ) (t : Theorem) → t.hypotheses ≡ [] → t.derivation ≡ own_axiom n t.conclusion
+pub axiom_within : (names : List Token) (claims : List Claim) (n : ℕ) (t : Theorem) → t.hypotheses ≡ [] → t.derivation ≡ own_axiom n t.conclusion []
     → IsStated claims [] t.conclusion → EachLeaf (over_names names) t.conclusion → IsWithin (scope_of names claims) t
 axiom_within names claims n t none by stated over =
     let s : Scope = scope_of names claims in

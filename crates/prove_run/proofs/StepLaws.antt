@@ -102,7 +102,7 @@ pub record Made (old new : Script) (last : Theorem) (start : RulePattern) (r : R
   pub making : Making old new last start r i n sofar image made
   pub right_ground : HasNoVariable (plain_pattern r.right)
   pub none : image.hypotheses ≡ []
-  pub by_axiom : image.derivation ≡ own_axiom n image.conclusion
+  pub by_axiom : image.derivation ≡ own_axiom n image.conclusion []
   pub by_lemma : IsByLemma last [] [] sofar
   pub made_stays : StaysWithin [] (image ∷ []) made
   pub reaches : ReachesOneFurther sofar.conclusion made.conclusion further.conclusion

@@ -1,6 +1,7 @@
 use Rattle.std.proofs.Common.{List, take, ap, ◌∙◌}
 use Rattle.std.proofs.lemmas.List.{take_more}
 use Rattle.ml_kernel.specs.Theorems.{derivations}
+use Rattle.ml_kernel.specs.StepView.{numbers_of}
 use Rattle.mm_render.specs.Parts.{value_labels}
 use Rattle.mm_render.specs.PlaceTable.{places_at}
 use Rattle.mm_render.specs.VariablesView.{plain_variables}
@@ -14,9 +15,9 @@ pub loop-variable-preserved : goal.loop-variable-preserved
 loop-variable-preserved c =
     let all : List Variable = c.variables_of-variable-items.result.now in
     let before : List Variable = take c.loop-variable.variable-index all in
-    more_labels c.args.to.now.items c.loop-variable.to.items c.write_value.new.to.items (value_labels c.args.at.now.serial c.args.patterns.now (plain_variables before)) _ _ c.loop-variable.invariant c.in_ok-write_value.ensures
-    (ap (λ (us : List Variable). value_labels c.args.at.now.serial c.args.patterns.now (plain_variables us)) (take_more all c.loop-variable.variable-index _ c.loop-variable-test.true)
-    ∙ ap (value_labels c.args.at.now.serial c.args.patterns.now) (plain_variables-push before _) ∙ value_labels-push c.args.at.now.serial c.args.patterns.now (plain_variables before) _)
+    more_labels c.args.to.now.items c.loop-variable.to.items c.write_value.new.to.items (value_labels c.args.at.now.serial (numbers_of c.args.new.now) c.args.patterns.now (plain_variables before)) _ _ c.loop-variable.invariant c.in_ok-write_value.ensures
+    (ap (λ (us : List Variable). value_labels c.args.at.now.serial (numbers_of c.args.new.now) c.args.patterns.now (plain_variables us)) (take_more all c.loop-variable.variable-index _ c.loop-variable-test.true)
+    ∙ ap (value_labels c.args.at.now.serial (numbers_of c.args.new.now) c.args.patterns.now) (plain_variables-push before _) ∙ value_labels-push c.args.at.now.serial (numbers_of c.args.new.now) c.args.patterns.now (plain_variables before) _)
 
 pub returns-clause-stack : goal.returns-clause-stack
 returns-clause-stack c =

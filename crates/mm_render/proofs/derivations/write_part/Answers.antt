@@ -1,6 +1,6 @@
 use Rattle.std.proofs.Common.{List, ◌≡◌, ◌+◌, ◌*◌, ◌++◌, ap, ◌∙◌, sym, subst}
 use Rattle.ml_kernel.specs.declared.derivations.Inst.{Inst}
-use Rattle.ml_kernel.specs.StepView.{instances_of, derivation_of}
+use Rattle.ml_kernel.specs.StepView.{instances_of, numbers_of, derivation_of}
 use Rattle.ml_kernel.specs.StepsIn.{all_steps}
 use Rattle.ml_kernel.specs.Theorems.{Derivation, derivations, own_axiom, by_rule, cited, Theorem}
 use Rattle.mm_proof.specs.Labels.{own_labels}
@@ -25,9 +25,9 @@ returns-in_ok-write_before-in-ByRule c =
 
 pub returns-in-Axiom : goal.returns-in-Axiom
 returns-in-Axiom c =
-    let whole : c.in-Derived.derivation.now ≡ own_axiom c.in-Axiom.field-0.0 c.in-Axiom.p = sym c.step.ensures ∙ ap derivation_of c.in-Axiom.is in
-    both_ok c.write_citation.result (fact_taken c.args.at.now.names.now c.args.at.now.serial (claims_at c.args.at.now) (places_at c.args.at.now) (premises_at c.args.at.now) c.args.part c.in-Derived.derivation c.in-Axiom.field-0.0 c.in-Axiom.p
-    c.args.stack.now.items c.write_citation.new.stack.items c.args.to.now.items c.write_citation.new.to.items c.in-Derived.is whole) c.write_citation.ensures.text c.write_citation.ensures.stack
+    let whole : c.in-Derived.derivation.now ≡ own_axiom c.in-Axiom.field-0.0 c.in-Axiom.p (numbers_of c.in-Axiom.new.items) = sym c.step.ensures ∙ ap derivation_of c.in-Axiom.is in
+    both_ok c.write_citation.result (fact_taken c.args.at.now.names.now c.args.at.now.serial (claims_at c.args.at.now) (places_at c.args.at.now) (premises_at c.args.at.now) c.args.part c.in-Derived.derivation c.in-Axiom.field-0.0 c.in-Axiom.p (numbers_of c.in-Axiom.new.items) (numbers_of c.deref-in-Axiom.result.now)
+    c.args.stack.now.items c.write_citation.new.stack.items c.args.to.now.items c.write_citation.new.to.items c.in-Derived.is whole (ap numbers_of c.deref-in-Axiom.ensures.value)) c.write_citation.ensures.text c.write_citation.ensures.stack
 
 pub returns-in-Cited : goal.returns-in-Cited
 returns-in-Cited c =

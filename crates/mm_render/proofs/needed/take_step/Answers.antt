@@ -2,7 +2,8 @@ use Rattle.std.proofs.Common.{ℕ, List, ◌≡◌, ◌+◌, [], ap, ◌∙◌, 
 use Rattle.std.specs.Prelude.{flat_map}
 use Rattle.ml_pat.specs.Patterns.{Pattern}
 use Rattle.ml_kernel.specs.declared.derivations.Inst.{Inst}
-use Rattle.ml_kernel.specs.StepView.{derivation_of, instances_of}
+use Rattle.ml_pat.specs.declared.numbers.VarNo.{VarNo}
+use Rattle.ml_kernel.specs.StepView.{derivation_of, instances_of, numbers_of}
 use Rattle.ml_kernel.specs.StepsIn.{steps_in, all_steps}
 use Rattle.ml_kernel.specs.Theorems.{Derivation, derivations, own_axiom, by_rule, cited}
 use Rattle.mm_claims.specs.Blocks.{Claim}
@@ -16,17 +17,18 @@ use Rattle.mm_claims.specs.Variables.{Variable}
 use Rattle.mm_proof.proofs.Stacking.{on_ok}
 use Rattle.mm_render.proofs.NeededLaws.{leaf_needed, step_needed}
 use Rattle.mm_render.proofs.needed.take_step.Goals as goal
-use Rattle.mm_claims.proofs.OpenVariableLaws.{own_variables}
 
 pub returns-in_ok-place-in-Axiom : goal.returns-in_ok-place-in-Axiom
 returns-in_ok-place-in-Axiom c =
     let claims : List Claim = claims_at c.args.at.now in
     let place : List Pattern → Pattern → ℕ = places_at c.args.at.now in
-    let whole : c.args.derivation.now ≡ own_axiom c.in-Axiom.field-0.0 c.in-Axiom.p = sym c.step.ensures ∙ ap derivation_of c.in-Axiom.is in
+    let whole : c.args.derivation.now ≡ own_axiom c.in-Axiom.field-0.0 c.in-Axiom.p (numbers_of c.in-Axiom.new.items) = sym c.step.ensures ∙ ap derivation_of c.in-Axiom.is in
     let there : c.in_ok-place-in-Axiom.place ≡ place [] c.in-Axiom.p = c.in_ok-place-in-Axiom.ensures in
     let us : List Variable = (claim_at claims c.in_ok-place-in-Axiom.place).variables in
-    on_ok c.add_values.result (λ is. leaf_needed claims place c.args.derivation.now (flat_map (variables_at []) us) c.args.stack.now.items (listed c.args.list.now) (listed c.add_values.new.list)
-    (ap (variables_of claims place) whole ∙ ap (λ (k : ℕ). (claim_at claims k).variables) (sym there) ∙ sym (own_variables us)) (ap steps_in whole) is) c.add_values.ensures
+    let xs : List ℕ = numbers_of c.deref-in-Axiom.result.now in
+    on_ok c.add_values.result (λ is. leaf_needed claims place c.args.derivation.now (flat_map (variables_at xs []) us) c.args.stack.now.items (listed c.args.list.now) (listed c.add_values.new.list)
+    (ap (variables_of claims place) whole ∙ ap (λ (k : ℕ). flat_map (variables_at (numbers_of c.in-Axiom.new.items) []) (claim_at claims k).variables) (sym there)
+    ∙ ap (λ (ys : List VarNo). flat_map (variables_at (numbers_of ys) []) us) (sym c.deref-in-Axiom.ensures.value)) (ap steps_in whole) is) c.add_values.ensures
 
 pub returns-in_ok-add_instances-in-ByRule : goal.returns-in_ok-add_instances-in-ByRule
 returns-in_ok-add_instances-in-ByRule c =
@@ -51,10 +53,10 @@ returns-in_ok-add_values-in-Cited c =
     let size : steps_in c.args.derivation.now ≡ steps_in c.in-Cited.lemma.derivation + all_steps (derivations c.in-Cited.parts.items) + 2 = ap steps_in whole in
     let there : c.in_ok-place-in-Cited.place ≡ place own q =
     c.in_ok-place-in-Cited.ensures ∙ ap (λ (ps : List Pattern). place ps c.conclusion.result.now) c.hypotheses.ensures.value ∙ ap (place own) c.conclusion.ensures in
-    let us : List Variable = flat_map (variables_at c.in-Cited.patterns.items) (claim_at claims (place own q)).variables in
+    let us : List Variable = flat_map (variables_at [] c.in-Cited.patterns.items) (claim_at claims (place own q)).variables in
     let is : listed c.add_values-in-Cited.new.list ≡ added (listed c.args.list.now) us =
-    c.in_ok-add_values-in-Cited.ensures ∙ ap (λ (k : ℕ). added (listed c.args.list.now) (flat_map (variables_at c.deref-in-Cited.result.now) (claim_at claims k).variables)) there
-    ∙ ap (λ (ms : List Pattern). added (listed c.args.list.now) (flat_map (variables_at ms) (claim_at claims (place own q)).variables)) c.deref-in-Cited.ensures.value in
+    c.in_ok-add_values-in-Cited.ensures ∙ ap (λ (k : ℕ). added (listed c.args.list.now) (flat_map (variables_at [] c.deref-in-Cited.result.now) (claim_at claims k).variables)) there
+    ∙ ap (λ (ms : List Pattern). added (listed c.args.list.now) (flat_map (variables_at [] ms) (claim_at claims (place own q)).variables)) c.deref-in-Cited.ensures.value in
     on_ok c.put_derivations-in-Cited.result (λ put. step_needed claims place c.args.derivation.now us (derivations c.in-Cited.parts.items) c.args.stack.now.items c.put_derivations-in-Cited.new.stack.items (listed c.args.list.now) (listed c.add_values-in-Cited.new.list)
     (ap (variables_of claims place) whole) (omega (arith, size)) is
     (subst (λ (ds : List Derivation). PutsDerivations (derivations ds) c.args.stack.now.items c.put_derivations-in-Cited.new.stack.items) c.deref-in-Cited-2.ensures.value put)) c.put_derivations-in-Cited.ensures
