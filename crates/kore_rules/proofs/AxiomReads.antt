@@ -82,9 +82,9 @@ one_mark sig axioms a f k old new number is set before n =
       λ some. set n ∙ elim (some_cases P axioms a some) [
         | inl b ↦ left_true (is_marked old n) (n == k) ((before n).1 b)
         | inr (g, its, same) ↦
-          let functions : g ≡ f = sym same.function ∙ ap (λ (e : Statement). e.function) (equates_one same.stated is.stated (sym same.class ∙ is.class)) ∙ is.function in
-          let numbers : n ≡ k = some_same n k (sym its ∙ ap (number_of sig.symbols) functions ∙ number) in
-          right_true (is_marked old n) (n == k) (eq-eqb n k numbers)
+            let functions : g ≡ f = sym same.function ∙ ap (λ (e : Statement). e.function) (equates_one same.stated is.stated (sym same.class ∙ is.class)) ∙ is.function in
+            let numbers : n ≡ k = some_same n k (sym its ∙ ap (number_of sig.symbols) functions ∙ number) in
+            right_true (is_marked old n) (n == k) (eq-eqb n k numbers)
       ],
     )
 

@@ -78,6 +78,7 @@ entry_from None name v a b = absurd (let never : ⊥ = cc in never)
 entry_from {V} (Some e) name v a b = (e, refl, some_name (sym a), some_value (sym b)) where
   some_name : Some e.0 ≡ Some name → e.0 ≡ name
   some_name h = cc
+
   some_value : Some e.1 ≡ Some v → e.1 ≡ v
   some_value h = cc
 

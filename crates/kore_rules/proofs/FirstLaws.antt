@@ -47,8 +47,10 @@ declared_sort sig first a w clear = by_case (sort_number sig.sorts w.sort) refl 
       ++ (condition_faults sig (rule_parts sig w).condition
       ++ (side_faults sig (sort_number sig.sorts w.sort) (right_of (rule_parts sig w))
       ++ found_top_faults sig (sort_number sig.sorts w.sort) (found_part (rule_parts sig w).after)))
+
   fault : Fault
   fault = record { number = 6; byte = sort_place w.sort }
+
   by_case : (o : Option ℕ) → sort_number sig.sorts w.sort ≡ o → (n : ℕ) × (sort_number sig.sorts w.sort ≡ Some n)
   by_case (Some n) e = (n, e)
   by_case None e =

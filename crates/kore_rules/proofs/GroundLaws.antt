@@ -3,7 +3,6 @@ use Rattle.std.proofs.Common.{◌≡◌, ℕ, Bool, true, false, List, [], ◌�
 use Rattle.kore_text.specs.Trees.{SortTree, PatternTree, element_variable, set_variable, string, symbol_applied, connected, binding, domain_value, folded, PatternTrees, no_patterns, pattern_then, listed_sorts}
 use Rattle.rule_core.specs.declared.signature.Signature.{Signature}
 use Rattle.kore_sig.specs.FirstFault.{Fault, ByByte, ByNumber, IsFirstBy}
-
 use Rattle.kore_check.specs.Folds.{Unfolded, named_variable, written_value, applied_symbol, other_form, Unfoldeds, no_more, and_more, standing_at, applied_to_two, folded_left, folded_right, unfolded, all_unfolded, inner_fold, IsApplicative, AreApplicative}
 use Rattle.kore_check.specs.PatternMeanings.{with_variables, with_all_variables}
 use Rattle.kore_rules.specs.GroundTerms.{ground_faults, all_ground_faults, folded_ground_faults}

@@ -72,10 +72,10 @@ by_fits sig axioms marks zip is f info name n h true function hooked there named
     rw e (by_hook function hooked (h, there, named, fits_true sig axioms marks zip is info n h there e))
 by_fits sig axioms marks zip is f info name n h false function hooked there named e =
     rw e (without_hook function hooked (λ row other.
-        let its : slice_get hooks row ≡ Some other.0 = other.1 in
-        let same : Some row ≡ Some n = sym (own_number row other.0 its) ∙ ap hook_number (other.2 ∙ sym named) ∙ own_number n h there in
-        let rows : row ≡ n = some_same row n same in
-        false≢true (sym e ∙ fits_from sig axioms marks zip is info n h there (subst (λ (r : ℕ). FitsHook sig r info) rows other.3))))
+    let its : slice_get hooks row ≡ Some other.0 = other.1 in
+    let same : Some row ≡ Some n = sym (own_number row other.0 its) ∙ ap hook_number (other.2 ∙ sym named) ∙ own_number n h there in
+    let rows : row ≡ n = some_same row n same in
+    false≢true (sym e ∙ fits_from sig axioms marks zip is info n h there (subst (λ (r : ℕ). FitsHook sig r info) rows other.3))))
 
 row_is : (n : ℕ) (h : Hook) → slice_get hooks n ≡ Some h → hook_row n ≡ Some (signature h)
 unfolding hook_row

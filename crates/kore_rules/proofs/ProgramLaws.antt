@@ -113,9 +113,9 @@ filter_all : {X : Type 0} (P : ℕ × ℕ → Type 0) (key : X → ℕ × ℕ) (
 filter_all P key test [] all = all
 filter_all P key test (x ∷ xs) all =
     by (test x) (All-head P (key x) (map key xs) all) (filter_all P key test xs (All-tail P (key x) (map key xs) all)) where
-  by : (t : Bool) → P (key x) → All P (map key (filter test xs)) → All P (map key (cond t (x ∷ filter test xs) (filter test xs)))
-  by true one rest = All-cons P (key x) (map key (filter test xs)) one rest
-  by false one rest = rest
+      by : (t : Bool) → P (key x) → All P (map key (filter test xs)) → All P (map key (cond t (x ∷ filter test xs) (filter test xs)))
+      by true one rest = All-cons P (key x) (map key (filter test xs)) one rest
+      by false one rest = rest
 
 -- some of the things that stand in order do
 pub filter_in_order : {X : Type 0} (key : X → ℕ × ℕ) (test : X → Bool) (xs : List X) → AreInOrder (map key xs) → AreInOrder (map key (filter test xs))
@@ -145,9 +145,9 @@ pub rules_are : (sig : Signature) (axioms : List AxiomDeclaration) (old new : Li
 rules_are sig axioms old new read moved in_order = record {
   just = λ r. (
     λ has. let found = contains_mapped rewrite_rule new r has in
-      (read.just r).0 (subst (Contains (map rewrite_rule old)) found.2 (contains_map rewrite_rule old found.0 (Contains-permutation new old found.0 (IsPermutation-sym old new moved) found.1))),
+        (read.just r).0 (subst (Contains (map rewrite_rule old)) found.2 (contains_map rewrite_rule old found.0 (Contains-permutation new old found.0 (IsPermutation-sym old new moved) found.1))),
     λ some. let found = contains_mapped rewrite_rule old r ((read.just r).1 some) in
-      subst (Contains (map rewrite_rule new)) found.2 (contains_map rewrite_rule new found.0 (Contains-permutation old new found.0 moved found.1)),
+        subst (Contains (map rewrite_rule new)) found.2 (contains_map rewrite_rule new found.0 (Contains-permutation old new found.0 moved found.1)),
   );
   in_order = subst AreInOrder (sym (rule_keys new)) in_order;
 }
@@ -169,9 +169,9 @@ unreadable_same : (sig : Signature) (axioms : List AxiomDeclaration) (marks : Li
 unreadable_same sig axioms marks is f None e = (λ h. absurd (false≢true h), λ h. absurd (unnamed sig f h.0 e h.2))
 unreadable_same sig axioms marks is f (Some n) e = (
   λ h. let found = (is n).0 h in
-    let named = found.2 in
-    let same : named.0 ≡ f = name_at sig.symbols named.0 f n named.1 e in
-    (found.0, found.1, subst (λ (g : List ℕ). IsUnreadable sig g found.0) same named.2),
+      let named = found.2 in
+      let same : named.0 ≡ f = name_at sig.symbols named.0 f n named.1 e in
+      (found.0, found.1, subst (λ (g : List ℕ). IsUnreadable sig g found.0) same named.2),
   λ h. (is n).1 (h.0, h.1, (f, e, h.2)),
 )
 
@@ -289,6 +289,6 @@ pub functions_there : (sig : Signature) (axioms : List AxiomDeclaration) (made :
     → AreRead (IsNumberedEquation sig) (λ (e : ℕ × plain.Equation). e.1.place) axioms (map numbered_equation old) → IsPermutation old new → All (λ (e : Equation). e.fun.0 < length made) new
 functions_there sig axioms made old new same read moved =
     all_from (λ (e : Equation). e.fun.0 < length made) new (λ e has.
-      let some = (read.just (numbered_equation e)).0 (contains_map numbered_equation old e (Contains-permutation new old e (IsPermutation-sym old new moved) has)) in
-      let named = some.2 in
-      let within = number_within sig.symbols named.0 e.fun.0 named.1 in omega (arith, within, same))
+    let some = (read.just (numbered_equation e)).0 (contains_map numbered_equation old e (Contains-permutation new old e (IsPermutation-sym old new moved) has)) in
+    let named = some.2 in
+    let within = number_within sig.symbols named.0 e.fun.0 named.1 in omega (arith, within, same))

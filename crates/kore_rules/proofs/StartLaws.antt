@@ -35,10 +35,13 @@ sort_fault_first sig top p f ground is = inr (nothing (ground_faults p) ground, 
 -- ---- the sort of the rules
 
 only_first : (f : Fault) → IsFirstBy ByNumber (Contains (f ∷ [])) (Some f)
-only_first f = (contains_here f [], λ g has. elim (contains_cases f g [] has) [
-  | inl same ↦ subst (ByNumber f) same (inr (refl, omega arith))
-  | inr none ↦ absurd (contains_none g none)
-])
+only_first f = (
+  contains_here f [],
+  λ g has. elim (contains_cases f g [] has) [
+    | inl same ↦ subst (ByNumber f) same (inr (refl, omega arith))
+    | inr none ↦ absurd (contains_none g none)
+  ],
+)
 
 turned : (n s : ℕ) (t : Bool) → (s == n) ≡ t → (n == s) ≡ t
 turned n s true e = eq-eqb n s (sym (eqb-true s n e))
@@ -58,6 +61,7 @@ other_sort_first sig None p n ground clear is e = absurd (false≢true e)
 other_sort_first sig (Some s) p n ground clear is e = by_case (s == n) refl where
   fault : Fault
   fault = record { number = 19; byte = 0 }
+
   by_case : (t : Bool) → (s == n) ≡ t → FirstOfTerm sig (Some s) p (Some fault)
   by_case true same = absurd (let wrong : false ≡ true = ap not (sym same) ∙ e in false≢true wrong)
   by_case false other =

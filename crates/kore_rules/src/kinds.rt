@@ -28,7 +28,8 @@ pub(crate) fn final_symbols(
     sig.symbols.names_differ();
     let mut symbols = Table::new(alloc);
     for number in 0..sig.symbols.len() {
-        let (Some(name), Some(symbol)) = (sig.symbols.name(number), sig.symbols.value(number)) else {
+        let (Some(name), Some(symbol)) = (sig.symbols.name(number), sig.symbols.value(number))
+        else {
             unreachable!()
         };
         let kind = final_kind(sig, with_terms, symbol, is_marked(unreadable, number));
@@ -115,12 +116,7 @@ fn kind_by_hook(sig: &Signature, with_terms: &[bool], symbol: &SymInfo, name: &s
 }
 
 /// .. this number.
-fn kind_of_number(
-    sig: &Signature,
-    with_terms: &[bool],
-    symbol: &SymInfo,
-    number: HookNo,
-) -> SymKind
+fn kind_of_number(sig: &Signature, with_terms: &[bool], symbol: &SymInfo, number: HookNo) -> SymKind
     ensures { result ≡ the_kind_of_number sig.now with_terms.now symbol.now (Some number.0) }
 {
     match row_of(number) {

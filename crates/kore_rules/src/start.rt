@@ -50,11 +50,7 @@ pub(crate) fn start_of(
 }
 
 /// What a pattern without variables means, and its sort; or the first fault of its sorts.
-fn ground_pattern(
-    alloc: Global,
-    sig: &Signature,
-    term: &Pat,
-) -> Result<(RulePat, SortId), Refusal>
+fn ground_pattern(alloc: Global, sig: &Signature, term: &Pat) -> Result<(RulePat, SortId), Refusal>
     requires numbered { IsNumbered sig.now }
     requires signature { IsSignature sig.now }
     requires ground { ground_faults (plain_tree term.now) ≡ [] }

@@ -63,11 +63,7 @@ fn refusal(alloc: Global, text: &str) -> Result<Option<(u8, u32)>, Fail> {
 }
 
 /// .. of a term of a definition that is accepted.
-fn refusal_of_term(
-    alloc: Global,
-    definition: &str,
-    term: &str,
-) -> Result<Option<(u8, u32)>, Fail> {
+fn refusal_of_term(alloc: Global, definition: &str, term: &str) -> Result<Option<(u8, u32)>, Fail> {
     if definition.len() > LONGEST || term.len() > LONGEST {
         return Err(Fail::from("long"));
     }
@@ -86,10 +82,16 @@ fn refusal_of_term(
 fn whole_definitions(rt: HostRuntime) -> Result<(), Fail> {
     let cases = [
         ("[] module M # endmodule []", Some((1, 12))),
-        ("[] module M sort S{} [hook{}(\"\\q\")] endmodule []", Some((1, 30))),
+        (
+            "[] module M sort S{} [hook{}(\"\\q\")] endmodule []",
+            Some((1, 30)),
+        ),
         ("[] module M sort S{} endmodule []", Some((2, 21))),
         ("[] module M endmodule [", Some((2, 23))),
-        ("[] module M import X [] endmodule [] module M endmodule []", Some((5, 37))),
+        (
+            "[] module M import X [] endmodule [] module M endmodule []",
+            Some((5, 37)),
+        ),
         ("[] module M import N [] endmodule []", Some((4, 12))),
         (
             "[] module M endmodule [] module N import M [] import O [] sort S{X} [] \
@@ -101,14 +103,23 @@ fn whole_definitions(rt: HostRuntime) -> Result<(), Fail> {
                 endmodule [] module N endmodule []",
             None,
         ),
-        ("[] module M sort S{} [] sort S{X} [] endmodule []", Some((5, 24))),
+        (
+            "[] module M sort S{} [] sort S{X} [] endmodule []",
+            Some((5, 24)),
+        ),
         (
             "[] module M sort S{} [] symbol a{}() : S{} [] symbol a{}() : U{} [] endmodule \
                 []",
             Some((5, 46)),
         ),
-        ("[] module M symbol a{}() : U{} [] sort S{X} [] endmodule []", Some((6, 27))),
-        ("[] module M sort S{X} [] symbol a{}() : U{} [] endmodule []", Some((10, 12))),
+        (
+            "[] module M symbol a{}() : U{} [] sort S{X} [] endmodule []",
+            Some((6, 27)),
+        ),
+        (
+            "[] module M sort S{X} [] symbol a{}() : U{} [] endmodule []",
+            Some((10, 12)),
+        ),
         (
             "[] module M sort S{} [] axiom{} \\top{S{}}() [subsort{S{},S{}}()] symbol a{}() \
                 : U{} [] endmodule []",
@@ -137,7 +148,10 @@ fn whole_definitions(rt: HostRuntime) -> Result<(), Fail> {
 fn axioms(rt: HostRuntime) -> Result<(), Fail> {
     let cases = [
         ("axiom{} \\rewrites{S{}}(a{}(),b{}()) []", None),
-        ("axiom{} \\top{S{}}() [overload{}()] axiom{} \\top{S{}}() [anywhere{}()]", Some((21, 0))),
+        (
+            "axiom{} \\top{S{}}() [overload{}()] axiom{} \\top{S{}}() [anywhere{}()]",
+            Some((21, 0)),
+        ),
         (
             "axiom{} \\top{S{}}() [overload{}(),anywhere{}()] axiom{} \
                 \\rewrites{U{}}(x{}(),a{}()) []",
@@ -154,22 +168,46 @@ fn axioms(rt: HostRuntime) -> Result<(), Fail> {
                 [priority{}(\"x\")]",
             Some((13, 0)),
         ),
-        ("axiom{} \\rewrites{U{}}(a{}(),\\exists{S{}}(X:S{},b{}())) [priority{}(\"x\")]", Some((15, 0))),
-        ("axiom{} \\rewrites{S{}}(a{}(),\\and{S{}}(a{}(),b{}())) [priority{}(\"x\")]", Some((16, 0))),
-        ("axiom{} \\rewrites{S{}}(\\and{S{}}(a{}(),b{}()),b{}()) [priority{}(\"x\")]", Some((17, 0))),
+        (
+            "axiom{} \\rewrites{U{}}(a{}(),\\exists{S{}}(X:S{},b{}())) [priority{}(\"x\")]",
+            Some((15, 0)),
+        ),
+        (
+            "axiom{} \\rewrites{S{}}(a{}(),\\and{S{}}(a{}(),b{}())) [priority{}(\"x\")]",
+            Some((16, 0)),
+        ),
+        (
+            "axiom{} \\rewrites{S{}}(\\and{S{}}(a{}(),b{}()),b{}()) [priority{}(\"x\")]",
+            Some((17, 0)),
+        ),
         (
             "axiom{} \\rewrites{S{}}(c{}(\\and{S{}}(a{}(),b{}()),x{}()),b{}()) \
                 [priority{}(\"x\")]",
             Some((22, 0)),
         ),
-        ("axiom{} \\rewrites{U{}}(a{}(),b{}()) [priority{}(\"\")]", Some((23, 0))),
+        (
+            "axiom{} \\rewrites{U{}}(a{}(),b{}()) [priority{}(\"\")]",
+            Some((23, 0)),
+        ),
         ("axiom{} \\rewrites{U{}}(x{}(),b{}()) []", Some((6, 18))),
-        ("axiom{} \\rewrites{S{}}(a{}(b{}()),x{}()) []", Some((8, 23))),
+        (
+            "axiom{} \\rewrites{S{}}(a{}(b{}()),x{}()) []",
+            Some((8, 23)),
+        ),
         ("axiom{} \\rewrites{S{}}(t{}(),x{}()) []", Some((9, 23))),
-        ("axiom{} \\rewrites{S{}}(i{}(\\dv{I{}}(\"x\")),n{}()) []", Some((11, 36))),
+        (
+            "axiom{} \\rewrites{S{}}(i{}(\\dv{I{}}(\"x\")),n{}()) []",
+            Some((11, 36)),
+        ),
         ("axiom{} \\rewrites{S{}}(n{}(),x{}()) []", Some((25, 23))),
-        ("axiom{} \\rewrites{S{}}(c{}(f{}(a{}()),b{}()),X:S{}) []", Some((12, 0))),
-        ("axiom{} \\rewrites{S{}}(c{}(a{}(),b{}()),X:S{}) []", Some((14, 0))),
+        (
+            "axiom{} \\rewrites{S{}}(c{}(f{}(a{}()),b{}()),X:S{}) []",
+            Some((12, 0)),
+        ),
+        (
+            "axiom{} \\rewrites{S{}}(c{}(a{}(),b{}()),X:S{}) []",
+            Some((14, 0)),
+        ),
         ("axiom{} \\rewrites{S{}}(a{}(),X:S{}) []", Some((18, 0))),
         (
             "axiom{} \\rewrites{S{}}(a{}(),b{}()) [] axiom{} \\rewrites{T{}}(t{}(),t{}()) \
@@ -198,8 +236,7 @@ fn axioms(rt: HostRuntime) -> Result<(), Fail> {
 /// Each refusal of a term, and their order.
 #[test]
 fn terms(rt: HostRuntime) -> Result<(), Fail> {
-    let definition = format!(
-        in rt.alloc();
+    let definition = format!(in rt.alloc();
         "{DECLARED}axiom{{}} \\rewrites{{S{{}}}}(a{{}}(),b{{}}()) [] endmodule []"
     )?;
     let cases = [
@@ -225,7 +262,10 @@ fn terms(rt: HostRuntime) -> Result<(), Fail> {
         (" t{}()", Some((19, 0))),
     ];
     for (term, expected) in cases {
-        assert!(rt; refusal_of_term(rt.alloc(), definition.as_str(), term)? == expected, "{term}");
+        assert!(rt;
+            refusal_of_term(rt.alloc(), definition.as_str(), term)? == expected,
+            "{term}"
+        );
     }
     Ok(())
 }
@@ -257,20 +297,40 @@ fn addition(rt: HostRuntime) -> Result<(), Fail> {
     let Ok(program) = accept(rt.alloc(), ADDITION.as_bytes()) else {
         return Err(Fail::from("refused"));
     };
-    assert!(rt; accept_term(rt.alloc(), &program, term.as_bytes()).is_ok(), "the term");
-    assert!(rt; program.rules.len() == 1 && program.top.is_some(), "the rules");
-    assert!(rt; kind_of(&program, "append") == Some(SymKind::Equations), "append");
-    assert!(rt; equations_of(&program, "append") == 2, "the equations of append");
-    assert!(rt; matches!(kind_of(&program, "Lbl'UndsPlus'Int'Unds'"), Some(SymKind::Hooked(_))), "the sum");
-    assert!(rt; kind_of(&program, "Lbl'Unds'Map'Unds'") == Some(SymKind::Closed), "the map");
+    assert!(rt;
+        accept_term(rt.alloc(), &program, term.as_bytes()).is_ok(),
+        "the term"
+    );
+    assert!(rt;
+        program.rules.len() == 1 && program.top.is_some(),
+        "the rules"
+    );
+    assert!(rt;
+        kind_of(&program, "append") == Some(SymKind::Equations),
+        "append"
+    );
+    assert!(rt;
+        equations_of(&program, "append") == 2,
+        "the equations of append"
+    );
+    assert!(rt;
+        matches!(
+            kind_of(&program, "Lbl'UndsPlus'Int'Unds'"),
+            Some(SymKind::Hooked(_))
+        ),
+        "the sum"
+    );
+    assert!(rt;
+        kind_of(&program, "Lbl'Unds'Map'Unds'") == Some(SymKind::Closed),
+        "the map"
+    );
     Ok(())
 }
 
 /// Rules stand by priority, and those of one priority in the order of the file.
 #[test]
 fn order_of_trial(rt: HostRuntime) -> Result<(), Fail> {
-    let text = format!(
-        in rt.alloc();
+    let text = format!(in rt.alloc();
         "{DECLARED}axiom{{}} \\rewrites{{S{{}}}}(a{{}}(),a{{}}()) [owise{{}}()] \
         axiom{{}} \\rewrites{{S{{}}}}(b{{}}(),a{{}}()) [priority{{}}(\"9\")] \
         axiom{{}} \\rewrites{{S{{}}}}(X:S{{}},a{{}}()) [] \
@@ -294,7 +354,8 @@ fn order_of_trial(rt: HostRuntime) -> Result<(), Fail> {
 /// No part of a definition in front of its end is accepted.
 #[test]
 fn prefixes(rt: HostRuntime) -> Result<(), Fail> {
-    let text = "[] module A sort S{} [] symbol a{}() : S{} [constructor{}()] symbol b{}() : S{} [constructor{}()] \
+    let text =
+        "[] module A sort S{} [] symbol a{}() : S{} [constructor{}()] symbol b{}() : S{} [constructor{}()] \
         axiom{} \\rewrites{S{}}(\\and{S{}}(a{}(),\\top{S{}}()),\\and{S{}}(b{}(),\\top{S{}}())) [] endmodule []";
     let bytes = text.as_bytes();
     if bytes.len() > LONGEST {
@@ -303,7 +364,10 @@ fn prefixes(rt: HostRuntime) -> Result<(), Fail> {
     for len in 0..bytes.len() {
         match accept(rt.alloc(), &bytes[..len]) {
             Err(Refusal::Refused(number, byte)) => {
-                assert!(rt; (number == 1 || number == 2) && byte as usize <= len, "{len}");
+                assert!(rt;
+                    (number == 1 || number == 2) && byte as usize <= len,
+                    "{len}"
+                );
             }
             _ => return Err(Fail::from("accepted")),
         }

@@ -25,7 +25,7 @@ returns-in-OrdersSorts-clause-read c = λ axioms h.
     let a = plain_axiom_decl c.args.decl.now in
     elim c.in-OrdersSorts.is [
       | inl e ↦ let class : class_of sig a ≡ orders_sorts = sym c.requires.class ∙ ap plain_class e in
-        read_nothing sig axioms a c.args.readings.now (λ w f. neither (class_of sig a) w class f) (λ s f. nor (class_of sig a) s class f) h
+          read_nothing sig axioms a c.args.readings.now (λ w f. neither (class_of sig a) w class f) (λ s f. nor (class_of sig a) s class f) h
       | inr e ↦ let class : class_of sig a ≡ passed_over = sym c.requires.class ∙ ap plain_class e in
-        read_nothing sig axioms a c.args.readings.now (λ w f. neither_passed (class_of sig a) w class f) (λ s f. nor_passed (class_of sig a) s class f) h
+          read_nothing sig axioms a c.args.readings.now (λ w f. neither_passed (class_of sig a) w class f) (λ s f. nor_passed (class_of sig a) s class f) h
     ]
