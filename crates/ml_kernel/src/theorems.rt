@@ -128,7 +128,10 @@ impl Thm {
         ensures conclusion { IfOk result (λ t. t.conclusion ≡ pattern) }
         ensures derivation { IfOk result (λ t. t.derivation ≡ own_axiom no.0 pattern []) }
     {
-        let derivation = Deriv::of(alloc, DerivStep::Axiom(no, pattern.share()?, Vec::new(alloc)))?;
+        let derivation = Deriv::of(
+            alloc,
+            DerivStep::Axiom(no, pattern.share()?, Vec::new(alloc)),
+        )?;
         Ok(Thm {
             hypotheses: Vec::new(alloc),
             conclusion: pattern,

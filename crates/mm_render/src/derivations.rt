@@ -128,7 +128,12 @@ fn write_value(
 {
     match variable {
         Variable::Object(x) => {
-            push_word(to, at.names, at.serial, Word::ObjectLabel(renamed(new, x).0))
+            push_word(
+                to,
+                at.names,
+                at.serial,
+                Word::ObjectLabel(renamed(new, x).0),
+            )
         }
         Variable::Pattern(i) => match patterns.get(i as usize) {
             Some(pattern) => write_works(to, at.names, at.serial, &[Work::Syntax(pattern)]),

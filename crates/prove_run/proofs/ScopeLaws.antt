@@ -153,13 +153,15 @@ there_from (y ∷ xs) (suc i) x h k = there_from xs i x (omega (arith, h)) k
 stated_to : (names : List Token) (claims : List Claim) (own : List Pattern) (q : Pattern) → IsStatedIn (scope_of names claims) own q → IsStated claims own q
 stated_to names claims own q (i, within, is) =
     let there : (c : Claim) × (slice_get claims i ≡ Some c) × (pair_of c ≡ (own, q)) =
-    mapped claims i (own, q) (there_from (map pair_of claims) i (own, q) within is) in
-    (i, record {
-      claim = there.0;
-      there = there.1;
-      hypotheses_are = ap (λ (x : List Pattern × Pattern). x.0) there.2;
-      conclusion_is = ap (λ (x : List Pattern × Pattern). x.1) there.2;
-    })
+    mapped claims i (own, q) (there_from (map pair_of claims) i (own, q) within is) in (
+      i,
+      record {
+        claim = there.0;
+        there = there.1;
+        hypotheses_are = ap (λ (x : List Pattern × Pattern). x.0) there.2;
+        conclusion_is = ap (λ (x : List Pattern × Pattern). x.1) there.2;
+      },
+    )
 
 mapped_there : (claims : List Claim) (i : ℕ) (c : Claim) → slice_get claims i ≡ Some c → slice_get (map pair_of claims) i ≡ Some (pair_of c)
 mapped_there [] i c h = absurd (cc)

@@ -136,12 +136,14 @@ pub step_of : (old new : Script) (last : Theorem) (start : RulePattern) (r : Rul
     (to : Pattern) × Step new r w.making.reached.from to further
 step_of old new last start r i n sofar image made further w =
     let m = w.making in
-    let says = says_of old new last start r i n sofar image made m in
-    (says.0, record {
-      right = says.1;
-      none = assumes_nothing new.names new.renderer.stated further (step_within old new last start r i n sofar image made further w);
-      says = w.reaches m.reached.from m.reached.to says.0 (sofar_says old new last start r i n sofar image made m) (m.freed m.reached.to (next says.0) says.2);
-    })
+    let says = says_of old new last start r i n sofar image made m in (
+      says.0,
+      record {
+        right = says.1;
+        none = assumes_nothing new.names new.renderer.stated further (step_within old new last start r i n sofar image made further w);
+        says = w.reaches m.reached.from m.reached.to says.0 (sofar_says old new last start r i n sofar image made m) (m.freed m.reached.to (next says.0) says.2);
+      },
+    )
 
 -- so it may be proved
 pub may_step : (old new : Script) (last : Theorem) (start : RulePattern) (r : Rule) (i n : ℕ) (sofar image made further : Theorem) →

@@ -13,11 +13,7 @@ use std::alloc::{AllocError, Global};
 use term_core::{HookNo, SymId};
 
 // `stuck N`, `limit N` or `blocked N CAUSE NAME`
-pub(crate) fn end_line(
-    alloc: Global,
-    sig: &Signature,
-    end: &RunEnd,
-) -> Result<Vec<u8>, AllocError>
+pub(crate) fn end_line(alloc: Global, sig: &Signature, end: &RunEnd) -> Result<Vec<u8>, AllocError>
     ensures { IfOk result (λ line. line.items ≡ end_line sig.now (plain_run end.now)) }
 {
     match end {
@@ -38,12 +34,7 @@ fn numbered(alloc: Global, word: &str, steps: u32) -> Result<Vec<u8>, AllocError
 }
 
 // `blocked N CAUSE NAME`
-fn blocked(
-    alloc: Global,
-    sig: &Signature,
-    steps: u32,
-    why: Blocked,
-) -> Result<Vec<u8>, AllocError>
+fn blocked(alloc: Global, sig: &Signature, steps: u32, why: Blocked) -> Result<Vec<u8>, AllocError>
     ensures { IfOk result (λ line. line.items ≡ blocked_line sig.now steps (cause_of why)) }
 {
     let (word, name) = cause_and_name(sig, why);

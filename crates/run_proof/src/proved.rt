@@ -60,11 +60,7 @@ pub fn proved_run<'p>(
 }
 
 // A run that is stuck, and its proof.
-fn stuck(
-    made: u32,
-    config: &Term,
-    proof: Proof<'_>,
-) -> Result<(RunEnd, Vec<u8>), AllocError>
+fn stuck(made: u32, config: &Term, proof: Proof<'_>) -> Result<(RunEnd, Vec<u8>), AllocError>
     ensures end { IfOk result (λ r. plain_run r.0 ≡ the_run.stuck made config.now) }
     ensures text { IfOk result (λ r. (r.1.items ≡ proof.entry.text) × IsJustified proof.entry) }
 {

@@ -49,9 +49,11 @@ invariant_of-result c =
     let none : c.in_ok-reach_here.field-0.hypotheses ≡ [] = (let s = c.image.new.self in
     let image_there : image_of s.program.now.sig s.names start ≡ Some here = image in
     assumes_nothing s.names s.renderer.stated c.in_ok-reach_here.field-0
-    (c.in_ok-reach_here.ensures.stays (scope_of s.names s.renderer.stated)
-    (over_from s.names s.renderer.stated here
-    (closed_is_over s.names here (image_is_closed s.program.now.sig s.names start here (start_has_none (theory_of c.args.program.now) start c.requires.covered) image_there)), tt) tt)) in
+    (c.in_ok-reach_here.ensures.stays (scope_of s.names s.renderer.stated) (
+      over_from s.names s.renderer.stated here
+          (closed_is_over s.names here (image_is_closed s.program.now.sig s.names start here (start_has_none (theory_of c.args.program.now) start c.requires.covered) image_there)),
+      tt,
+    ) tt)) in
     record {
       sound = c.in_ok-last.ensures.sound;
       declared = c.in_ok-last.ensures.declared;
