@@ -1,6 +1,6 @@
 -- Claims are cited soundly, and so a derivation that cites them is written as a proof of what it concludes, in every database
 -- that has them, the hypotheses of the block and its variables.
-use Rattle.std.specs.Prelude.{◌≡◌, ℕ, List, ◌++◌, map, slice_get, Some}
+use Rattle.std.specs.Prelude.{◌≡◌, ℕ, List, [], ◌++◌, map, slice_get, Some}
 use Rattle.mm_text.specs.Bytes.{Token}
 use Rattle.mm_database.specs.Frames.{essential}
 use Rattle.mm_database.specs.Database.{Context}
