@@ -25,11 +25,14 @@ pub returns-clause-cause : goal.returns-clause-cause
 returns-clause-cause g c =
     let program = c.in-Ok.program in
     let start = plain_pattern c.in-Ok-read_start.start in
-    inr (refl, record {
-      theory = theory_of program;
-      top = top_of program;
-      start = start;
-      definition = c.in-Ok.ensures.found;
-      term = start_kept (g.D.Desk.told c.args.desk.now) (g.D.Desk.told c.read_program.new.desk) _ (theory_of program) (top_of program) start c.in-Ok.ensures.files c.in-Ok-read_start.ensures.found;
-      unproved = λ p. not_true c.is_provable.result c.if-is_provable.false (c.is_provable.ensures.1 p);
-    })
+    inr (
+      refl,
+      record {
+        theory = theory_of program;
+        top = top_of program;
+        start = start;
+        definition = c.in-Ok.ensures.found;
+        term = start_kept (g.D.Desk.told c.args.desk.now) (g.D.Desk.told c.read_program.new.desk) _ (theory_of program) (top_of program) start c.in-Ok.ensures.files c.in-Ok-read_start.ensures.found;
+        unproved = λ p. not_true c.is_provable.result c.if-is_provable.false (c.is_provable.ensures.1 p);
+      },
+    )
