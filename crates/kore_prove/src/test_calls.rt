@@ -1,0 +1,91 @@
+// Calls of the program over a desk and sinks in memory.
+ghost use Rattle.std.specs.Prelude.{IfOk, IsFalse};
+
+use crate::call::kore_main;
+use crate::test_definitions::TWO_STEPS;
+use desk_io::{Desk, MemDesk, MemSink};
+use std::alloc::{AllocError, Global};
+
+/// Words, the files `d.kore` and `t.kore`, the calls of the desk and of the streams that fail, and what must come of
+/// them.
+#[derive(Clone, Copy)]
+pub(crate) struct Case<'t> {
+    pub(crate) words: &'static [&'static str],
+    pub(crate) definition: &'static str,
+    pub(crate) term: &'t str,
+    pub(crate) desk_fails: &'static [u64],
+    pub(crate) out_fails: &'static [u64],
+    pub(crate) err_fails: &'static [u64],
+    pub(crate) code: u8,
+    pub(crate) out: &'t str,
+    pub(crate) err: &'static str,
+}
+
+/// A run of two steps at most five, which is stuck, and says nothing as yet.
+pub(crate) const BASE: Case<'static> = Case {
+    words: &["run", "d.kore", "t.kore", "--limit", "5"],
+    definition: TWO_STEPS,
+    term: "a{}()",
+    desk_fails: &[],
+    out_fails: &[],
+    err_fails: &[],
+    code: 0,
+    out: "",
+    err: "",
+};
+
+/// The number of the first case of which something else comes.
+pub(crate) fn first_failing(
+    alloc: Global,
+    cases: &[Case<'_>],
+) -> Result<Option<usize>, AllocError> {
+    for (number, case) in cases.iter().enumerate() {
+        let (_, holds) = call(alloc, case)?;
+        if !holds {
+            return Ok(Some(number));
+        }
+    }
+    Ok(None)
+}
+
+/// The desk after the call, and whether just that came of it.
+pub(crate) fn call(alloc: Global, case: &Case<'_>) -> Result<(MemDesk, bool), AllocError> {
+    let words = words_of(alloc, case.words)?;
+    let mut desk = two_files(alloc, case.definition, case.term, case.desk_fails)?;
+    let mut out = MemSink::new(alloc, 5, Vec::from_slice(alloc, case.out_fails)?);
+    let mut err = MemSink::new(alloc, 5, Vec::from_slice(alloc, case.err_fails)?);
+    let status = kore_main(alloc, &words, &mut desk, &mut out, &mut err);
+    let holds = status.code == case.code
+        && out.bytes() == case.out.as_bytes()
+        && err.bytes() == case.err.as_bytes();
+    Ok((desk, holds))
+}
+
+/// The words as the program is given them.
+fn words_of(alloc: Global, given: &[&str]) -> Result<Vec<String>, AllocError> {
+    let mut words = Vec::new(alloc);
+    for word in given {
+        words.push(String::from_str(alloc, word)?)?;
+    }
+    Ok(words)
+}
+
+/// A desk with a definition and a term, which passes at most 5,000 bytes a call and fails the calls with these numbers.
+fn two_files(
+    alloc: Global,
+    definition: &str,
+    term: &str,
+    fail_at: &[u64],
+) -> Result<MemDesk, AllocError>
+    ensures { IfOk result (λ desk. IsFalse (⟦<MemDesk as Desk>⟧.created desk)) }
+{
+    let mut files = Vec::new(alloc);
+    let definition_bytes = Vec::from_slice(alloc, definition.as_bytes())?;
+    let term_bytes = Vec::from_slice(alloc, term.as_bytes())?;
+    let definition_name = String::from_str(alloc, "d.kore")?;
+    let term_name = String::from_str(alloc, "t.kore")?;
+    files.push((definition_name, definition_bytes))?;
+    files.push((term_name, term_bytes))?;
+    let faults = Vec::from_slice(alloc, fail_at)?;
+    Ok(MemDesk::new(files, 5_000, faults))
+}
