@@ -25,10 +25,10 @@ returns-in_ok-place-in-Axiom c =
     let whole : c.args.derivation.now ≡ own_axiom c.in-Axiom.field-0.0 c.in-Axiom.p (numbers_of c.in-Axiom.new.items) = sym c.step.ensures ∙ ap derivation_of c.in-Axiom.is in
     let there : c.in_ok-place-in-Axiom.place ≡ place [] c.in-Axiom.p = c.in_ok-place-in-Axiom.ensures in
     let us : List Variable = (claim_at claims c.in_ok-place-in-Axiom.place).variables in
-    let xs : List ℕ = numbers_of c.deref-in-Axiom.result.now in
+    let xs : List ℕ = numbers_of c.deref.result.now in
     on_ok c.add_values.result (λ is. leaf_needed claims place c.args.derivation.now (flat_map (variables_at xs []) us) c.args.stack.now.items (listed c.args.list.now) (listed c.add_values.new.list)
     (ap (variables_of claims place) whole ∙ ap (λ (k : ℕ). flat_map (variables_at (numbers_of c.in-Axiom.new.items) []) (claim_at claims k).variables) (sym there)
-    ∙ ap (λ (ys : List VarNo). flat_map (variables_at (numbers_of ys) []) us) (sym c.deref-in-Axiom.ensures.value)) (ap steps_in whole) is) c.add_values.ensures
+    ∙ ap (λ (ys : List VarNo). flat_map (variables_at (numbers_of ys) []) us) (sym c.deref.ensures.value)) (ap steps_in whole) is) c.add_values.ensures
 
 pub returns-in_ok-add_instances-in-ByRule : goal.returns-in_ok-add_instances-in-ByRule
 returns-in_ok-add_instances-in-ByRule c =
@@ -38,10 +38,10 @@ returns-in_ok-add_instances-in-ByRule c =
     let size : steps_in c.args.derivation.now ≡ all_steps (derivations c.in-ByRule.parts.items) + 1 = ap steps_in whole in
     let us : List Variable = flat_map variables_for (instances_of c.in-ByRule.instances.items) in
     let is : listed c.add_instances.new.list ≡ added (listed c.args.list.now) us =
-    c.in_ok-add_instances-in-ByRule.ensures ∙ ap (λ (is : List Inst). added (listed c.args.list.now) (flat_map variables_for (instances_of is))) c.deref.ensures.value in
+    c.in_ok-add_instances-in-ByRule.ensures ∙ ap (λ (is : List Inst). added (listed c.args.list.now) (flat_map variables_for (instances_of is))) c.deref-in-ByRule.ensures.value in
     on_ok c.put_derivations.result (λ put. step_needed claims place c.args.derivation.now us (derivations c.in-ByRule.parts.items) c.args.stack.now.items c.put_derivations.new.stack.items (listed c.args.list.now) (listed c.add_instances.new.list)
     (ap (variables_of claims place) whole) (omega (arith, size)) is
-    (subst (λ (ds : List Derivation). PutsDerivations (derivations ds) c.args.stack.now.items c.put_derivations.new.stack.items) c.deref-in-ByRule.ensures.value put)) c.put_derivations.ensures
+    (subst (λ (ds : List Derivation). PutsDerivations (derivations ds) c.args.stack.now.items c.put_derivations.new.stack.items) c.deref-in-ByRule-2.ensures.value put)) c.put_derivations.ensures
 
 pub returns-in_ok-add_values-in-Cited : goal.returns-in_ok-add_values-in-Cited
 returns-in_ok-add_values-in-Cited c =
