@@ -26,5 +26,15 @@ pub mod WellSortedPrograms
 pub mod AcceptedTerms
 pub mod ProgramNames
 pub mod OneFault
+pub mod OneReading
+pub mod AlikeSignatures
+pub mod Exclusion
+pub mod FaultsFound
+pub mod MeaningsFound
+pub mod RulesFound
+pub mod ListsFound
+pub mod HookTexts
+pub mod SignaturesFound
+pub mod ProgramsFound
 pub mod SignatureFacts
 pub mod AcceptedPrograms

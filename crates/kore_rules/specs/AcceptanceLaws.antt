@@ -1,24 +1,79 @@
--- The first fault is one, and a text that is spelled has none.
-use Rattle.std.specs.Prelude.{◌≡◌, ℕ, List, Option}
-use Rattle.kore_text.specs.Trees.{SortTree, PatternTree, AxiomDeclaration, DefinitionTree}
+-- What bytes are is one: a text spells one definition at most, its first fault is one, and no bytes are both accepted
+-- and refused.
+use Rattle.std.specs.Prelude.{◌≡◌, ◌<◌, ◌^◌, ◌⊎◌, ℕ, List, length, Option}
+use Rattle.kore_text.specs.Trees.{PatternTree, AxiomDeclaration, DefinitionTree}
 use Rattle.kore_text.specs.Faults.{IsPattern, IsDefinition}
 use Rattle.kore_ast.specs.KoreText.{ReadsPattern, ReadsDefinition}
+use Rattle.term_core.specs.Patterns.{Pattern}
+use Rattle.rule_core.specs.Theories.{RewriteTheory}
+use Rattle.rule_core.specs.WellSorted.{IsSignature}
 use Rattle.rule_core.specs.declared.signature.Signature.{Signature}
 use Rattle.kore_sig.specs.FirstFault.{Fault}
-use Rattle.kore_rules.specs.Acceptance.{HasTextFault}
-use Rattle.kore_rules.specs.FirstRefusal.{FirstOfAxioms, FirstOfTerm}
+use Rattle.kore_rules.specs.Acceptance.{HasTextFault, IsAccepted, IsRefused, IsAcceptedTerm, IsRefusedTerm}
+use Rattle.kore_rules.specs.FirstRefusal.{FirstOfAxioms, FirstOfDefinition, FirstOfTerm}
 
--- two first faults of a term are the same, also where one is that there is none
+-- ---- bytes
+
+-- no bytes are both accepted as a definition and refused
+abbrev pub AcceptedIsNotRefused : Type 0
+AcceptedIsNotRefused =
+    (bytes : List ℕ) (theory : RewriteTheory) (top : Option ℕ) (f : Fault) → IsAccepted bytes theory top →
+    IsRefused bytes f → ⊥
+
+-- bytes that are refused as a definition are refused for one fault
+abbrev pub RefusalIsOne : Type 0
+RefusalIsOne = (bytes : List ℕ) (f g : Fault) → IsRefused bytes f → IsRefused bytes g → f ≡ g
+
+-- the same of terms of a program
+abbrev pub AcceptedTermIsNotRefused : Type 0
+AcceptedTermIsNotRefused =
+    (sig : Signature) (top : Option ℕ) (bytes : List ℕ) (start : Pattern) (f : Fault) →
+    IsAcceptedTerm sig top bytes start → IsRefusedTerm sig top bytes f → ⊥
+
+abbrev pub TermRefusalIsOne : Type 0
+TermRefusalIsOne =
+    (sig : Signature) (top : Option ℕ) (bytes : List ℕ) (f g : Fault) → IsRefusedTerm sig top bytes f →
+    IsRefusedTerm sig top bytes g → f ≡ g
+
+-- each text of fewer than 2^32 bytes is accepted as a definition, or refused
+abbrev pub EachTextIsDecided : Type 0
+EachTextIsDecided =
+    (bytes : List ℕ) → length bytes < 2 ^ 32 →
+    ((theory : RewriteTheory) × ((top : Option ℕ) × IsAccepted bytes theory top)) ⊎ ((f : Fault) × IsRefused bytes f)
+
+-- each text is accepted as a term of a program, or refused as one
+abbrev pub EachTermIsDecided : Type 0
+EachTermIsDecided =
+    (sig : Signature) (top : Option ℕ) (bytes : List ℕ) → IsSignature sig →
+    ((start : Pattern) × IsAcceptedTerm sig top bytes start) ⊎ ((f : Fault) × IsRefusedTerm sig top bytes f)
+
+-- ---- trees
+
+-- a text spells one definition at most, and one pattern
+abbrev pub DefinitionIsOne : Type 0
+DefinitionIsOne = (bytes : List ℕ) (c d : DefinitionTree) → ReadsDefinition bytes c → ReadsDefinition bytes d → c ≡ d
+
+abbrev pub PatternIsOne : Type 0
+PatternIsOne = (bytes : List ℕ) (p q : PatternTree) → ReadsPattern bytes p → ReadsPattern bytes q → p ≡ q
+
+-- two first faults of a definition are the same, also where one is that there is none
+abbrev pub DefinitionFaultIsOne : Type 0
+DefinitionFaultIsOne =
+    (d : DefinitionTree) (q r : Option Fault) → FirstOfDefinition d q → FirstOfDefinition d r → q ≡ r
+
+-- .. of its axioms, by its signature
+abbrev pub AxiomFaultIsOne : Type 0
+AxiomFaultIsOne =
+    (sig : Signature) (axioms : List AxiomDeclaration) (q r : Option Fault) → FirstOfAxioms sig axioms q →
+    FirstOfAxioms sig axioms r → q ≡ r
+
+-- .. of a term
 abbrev pub TermFaultIsOne : Type 0
 TermFaultIsOne =
     (sig : Signature) (top : Option ℕ) (p : PatternTree) (q r : Option Fault) → FirstOfTerm sig top p q →
     FirstOfTerm sig top p r → q ≡ r
 
--- .. of the axioms of a definition, by its signature
-abbrev pub AxiomFaultIsOne : Type 0
-AxiomFaultIsOne =
-    (sig : Signature) (axioms : List AxiomDeclaration) (q r : Option Fault) → FirstOfAxioms sig axioms q →
-    FirstOfAxioms sig axioms r → q ≡ r
+-- ---- texts
 
 -- a text that spells a definition, or a pattern, has no fault, and the first fault of any other is one
 abbrev pub SpelledDefinitionIsFaultless : Type 0

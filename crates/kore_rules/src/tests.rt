@@ -117,6 +117,14 @@ fn whole_definitions(rt: HostRuntime) -> Result<(), Fail> {
             Some((6, 27)),
         ),
         (
+            "[] module M sort S{} [] symbol a{}(S{},S{},S{},S{},S{},S{},S{},S{},S{},S{},S{},S{},S{},S{},S{},S{},S{},S{},S{},S{},\
+                S{},S{},S{},S{},S{},S{},S{},S{},S{},S{},S{},S{},S{},S{},S{},S{},S{},S{},S{},S{},\
+                S{},S{},S{},S{},S{},S{},S{},S{},S{},S{},S{},S{},S{},S{},S{},S{},S{},S{},S{},S{},\
+                S{},S{},S{},S{},S{}\
+                ) : S{} [] symbol b{}() : U{} [] endmodule []",
+            Some((8, 24)),
+        ),
+        (
             "[] module M sort S{X} [] symbol a{}() : U{} [] endmodule []",
             Some((10, 12)),
         ),
@@ -265,6 +273,46 @@ fn terms(rt: HostRuntime) -> Result<(), Fail> {
         assert!(rt;
             refusal_of_term(rt.alloc(), definition.as_str(), term)? == expected,
             "{term}"
+        );
+    }
+    Ok(())
+}
+
+/// A text round an item so many times.
+fn repeated(
+    alloc: Global,
+    before: &str,
+    item: &str,
+    count: usize,
+    behind: &str,
+) -> Result<String, Fail> {
+    let mut text = String::from_str(alloc, before)?;
+    for _ in 0..count {
+        text.push_str(item)?;
+    }
+    text.push_str(behind)?;
+    Ok(text)
+}
+
+/// The bracket that opens the 501st level, and a fold of a height of 501; one of 500 is not too high.
+#[test]
+fn heights(rt: HostRuntime) -> Result<(), Fail> {
+    let definition = format!(in rt.alloc(); "{DECLARED}endmodule []")?;
+    for (before, item, count, behind, expected) in [
+        ("", "f{}(", 501, "", Some((3, 2001))),
+        (
+            "\\left-assoc{}(c{}(",
+            "a{}(),",
+            500,
+            "a{}()))",
+            Some((3, 0)),
+        ),
+        ("\\right-assoc{}(c{}(", "a{}(),", 499, "a{}()))", None),
+    ] {
+        let term = repeated(rt.alloc(), before, item, count, behind)?;
+        assert!(rt;
+            refusal_of_term(rt.alloc(), definition.as_str(), term.as_str())? == expected,
+            "{item}"
         );
     }
     Ok(())

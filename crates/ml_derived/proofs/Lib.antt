@@ -1,1 +1,4 @@
 pub mod StayingLaws
+pub mod PutLaws
+pub mod ContextLaws
+pub mod InstanceSteps

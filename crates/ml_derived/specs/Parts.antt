@@ -1,6 +1,9 @@
 -- The patterns whose parts derived rules take.
-use Rattle.std.specs.Prelude.{◌≡◌}
-use Rattle.ml_pat.specs.Patterns.{Pattern, imp, and, next}
+use Rattle.std.specs.Prelude.{◌≡◌, ℕ, Some}
+use Rattle.ml_pat.specs.Patterns.{Pattern, imp, and, equal, next, fun, all}
+use Rattle.ml_pat.specs.Judgements.{substituted}
+use Rattle.ml_kernel.specs.Lemmas.{HasNoVariable}
+use Rattle.ml_derived.specs.Instances.{put}
 
 abbrev pub IsImplication : Pattern → Type 0
 IsImplication t = (p : Pattern) × ((q : Pattern) × (t ≡ imp p q))
@@ -10,3 +13,29 @@ IsConjunction t = (p : Pattern) × ((q : Pattern) × (t ≡ and p q))
 
 abbrev pub IsNext : Pattern → Type 0
 IsNext t = (p : Pattern) × (t ≡ next p)
+
+abbrev pub IsForAll : Pattern → Type 0
+IsForAll t = (x : ℕ) × ((s : ℕ) × ((p : Pattern) × (t ≡ all x s p)))
+
+abbrev pub IsFunctional : Pattern → Type 0
+IsFunctional t = (p : Pattern) × ((s : ℕ) × (t ≡ fun p s))
+
+-- t says that p is one element of a sort
+abbrev pub IsElementOf : Pattern → Pattern → Type 0
+IsElementOf p t = (s : ℕ) × (t ≡ fun p s)
+
+-- the sentence binds a variable of the sort at which the fact has a closed pattern
+abbrev pub Takes : Pattern → Pattern → Type 0
+Takes sentence fact =
+    (x : ℕ) × ((s : ℕ) × ((q : Pattern) × ((body : Pattern) × ((sentence ≡ all x s body) × ((fact ≡ fun q s) × HasNoVariable q)))))
+
+-- the sentence at the pattern of the fact
+abbrev pub IsPutIn : Pattern → Pattern → Pattern → Type 0
+IsPutIn sentence fact r = (x s : ℕ) (q body : Pattern) → sentence ≡ all x s body → fact ≡ fun q s → r ≡ put x q body
+
+abbrev pub IsEquality : Pattern → Type 0
+IsEquality t = (p : Pattern) × ((q : Pattern) × (t ≡ equal p q))
+
+-- the pattern can come in for x
+abbrev pub CanReplace : Pattern → ℕ → Pattern → Type 0
+CanReplace context x p = (made : Pattern) × (substituted context x p ≡ Some made)

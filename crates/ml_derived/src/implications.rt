@@ -21,6 +21,20 @@ pub fn chain(alloc: Global, ab: &Thm, bc: &Thm) -> Result<Thm, AllocError>
     chained(alloc, ab, bc, p, q, r)
 }
 
+/// `p & q`, from p and q. An error: memory was refused.
+pub fn both(alloc: Global, a: &Thm, b: &Thm) -> Result<Thm, AllocError>
+    ensures conclusion { IfOk result (λ t. t.conclusion ≡ and a.now.conclusion b.now.conclusion) }
+    ensures stays { IfOk result (StaysWithin [] (a.now ∷ b.now ∷ [])) }
+{
+    let p = a.conclusion();
+    let q = b.conclusion();
+    let joining = and_3(alloc, p, q)?;
+    let joined = MPat::and(alloc, p, q)?;
+    let wanting = MPat::imp(alloc, q, &joined)?;
+    let open = mp(alloc, a, &joining, p, &wanting)?;
+    mp(alloc, b, &open, q, &joined)
+}
+
 // `p -> r`, from `p -> q` and `q -> r`.
 pub(crate) fn chained(
     alloc: Global,

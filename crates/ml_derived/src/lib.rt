@@ -4,10 +4,14 @@
 // cites nothing else (crate `ml_scope`).
 #![tactic(auto)]
 
+mod equalities;
 mod implications;
+mod instances;
 mod reaching;
 
-pub use implications::{chain, free_of_top};
+pub use equalities::{carry, cong_app, cong_arg, cong_fun, flip, join};
+pub use implications::{both, chain, free_of_top};
+pub use instances::instance;
 pub use reaching::{reach_here, reach_step};
 
 #[cfg(test)]

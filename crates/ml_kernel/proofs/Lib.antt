@@ -5,3 +5,4 @@ pub mod RuleLaws
 pub mod StepLaws
 pub mod SpineLaws
 pub mod RenamingLaws
+pub mod PastSteps

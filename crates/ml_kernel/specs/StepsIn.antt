@@ -1,17 +1,14 @@
--- How many steps a derivation has, with those of the lemmas that it cites; a lemma itself counts as one more.
+-- How many steps a derivation has, without those of the lemmas that it cites.
 use Rattle.std.specs.Prelude.{ℕ, ◌+◌}
-use Rattle.ml_kernel.specs.Theorems.{Derivation, Derivations, hypothesis, own_axiom, by_rule, cited, no_derivation, more_derivations, Theorem}
+use Rattle.ml_kernel.specs.Theorems.{Derivation, Derivations, hypothesis, own_axiom, by_rule, cited, no_derivation, more_derivations}
 
 abbrev mutual
   pub steps_in : Derivation → ℕ
   steps_in (hypothesis p) = 1
   steps_in (own_axiom n p new) = 1
   steps_in (by_rule r is ds) = all_steps ds + 1
-  steps_in (cited hyps q d ms ds) = steps_in d + all_steps ds + 2
+  steps_in (cited hyps q d ms ds) = all_steps ds + 1
 
   pub all_steps : Derivations → ℕ
   all_steps no_derivation = 0
   all_steps (more_derivations d ds) = steps_in d + all_steps ds
-
-abbrev pub theorem_steps : Theorem → ℕ
-theorem_steps t = steps_in t.derivation + 1

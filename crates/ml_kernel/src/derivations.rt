@@ -5,6 +5,7 @@ ghost use Rattle.ml_kernel.specs.Theorems.{derivations};
 ghost use Rattle.ml_kernel.specs.StepsIn.{steps_in, all_steps};
 ghost use Rattle.ml_kernel.specs.Concluding.{IsKept};
 
+use crate::past::Past;
 use crate::rules::Rule;
 use ml_pat::{MPat, MSort, VarNo};
 use std::alloc::{AllocError, Global};
@@ -48,13 +49,12 @@ pub enum DerivStep {
 }
 
 /// A theorem that may be cited with other patterns in the place of its pattern variables. Contracts see it as a plain
-/// `Theorem`.
-#[cycle(derivation)]
+/// `Theorem`. Its derivation is there for contracts alone.
 #[derive(Drop)]
 pub struct Lemma {
     pub(crate) hypotheses: Vec<MPat>,
     pub(crate) conclusion: MPat,
-    pub(crate) derivation: Deriv,
+    pub(crate) past: Past,
 }
 
 impl Model for Deriv {
@@ -86,23 +86,16 @@ impl Model for Lemma {
 
     ghost coded = { theorem_code };
 
-    ghost use Rattle.ml_kernel.specs.StepsIn.{theorem_steps};
     ghost use Rattle.ml_kernel.specs.Concluding.{IsKept};
     ghost use Rattle.ml_kernel.specs.DerivationView.{lemma_theorem};
 
     ghost view = { lemma_theorem };
 
     ghost invariant = { λ a. IsKept (lemma_theorem a) };
-
-    ghost size = { theorem_steps };
-
-    ghost use Rattle.std.proofs.Common.{arith};
-
-    ghost size_decreases = { λ a h. Prim.omega arith };
 }
 
-// A loop over a list of what is still to be dropped: a chain of lemmas that cite one another is as long as a run. Where
-// memory for the list is refused, the parts are dropped one level further down.
+// A loop over a list of what is still to be dropped: a chain of rules may be as long as a run. Where memory for the
+// list is refused, the parts are dropped one level further down.
 impl Drop for Deriv {
     #[cycle(derivation_drop)]
     fn drop(self) {
@@ -120,7 +113,6 @@ impl Drop for Deriv {
 
 impl Deriv {
     // The derivations right below, where nothing else shares this one and there are some.
-    #[cycle(derivation_drop)]
     fn into_parts(self) -> Option<Vec<Deriv>>
         ensures { IfSome result (λ parts. all_steps (derivations parts.items) < steps_in self) }
     {
@@ -130,8 +122,7 @@ impl Deriv {
 }
 
 impl DerivStep {
-    // The derivations right below, that of a cited lemma last.
-    #[cycle(derivation_drop)]
+    // The derivations right below. A cited lemma keeps none.
     fn into_parts(self) -> Option<Vec<Deriv>>
         ensures { IfSome result (λ parts. all_steps (derivations parts.items) < steps_in (derivation_of self)) }
     {
@@ -139,15 +130,7 @@ impl DerivStep {
             DerivStep::Hyp(_p) => None,
             DerivStep::Axiom(_no, _p, _new) => None,
             DerivStep::ByRule(_rule, _instances, parts) => Some(parts),
-            DerivStep::Cited(lemma, _metas, mut parts) => {
-                let Lemma {
-                    hypotheses: _hypotheses,
-                    conclusion: _conclusion,
-                    derivation,
-                } = lemma;
-                let _pushed = parts.push(derivation);
-                Some(parts)
-            }
+            DerivStep::Cited(_lemma, _metas, parts) => Some(parts),
         }
     }
 }
@@ -186,14 +169,14 @@ impl Lemma {
         &self.hypotheses
     }
 
-    /// The same lemma, its patterns and its derivation shared.
+    /// The same lemma, its patterns shared.
     pub fn share(&self, alloc: Global) -> Result<Lemma, AllocError>
         ensures { IfOk result (λ shared. shared ≡ self.now) }
     {
         Ok(Lemma {
             hypotheses: all_shared(alloc, &self.hypotheses)?,
             conclusion: self.conclusion.share()?,
-            derivation: self.derivation.share()?,
+            past: self.past.again(),
         })
     }
 
@@ -202,13 +185,6 @@ impl Lemma {
         ensures { result.now ≡ self.now.conclusion }
     {
         &self.conclusion
-    }
-
-    /// How its conclusion follows.
-    pub fn derivation(&self) -> &Deriv
-        ensures { result.now ≡ self.now.derivation }
-    {
-        &self.derivation
     }
 }
 

@@ -8,6 +8,7 @@
 
 mod derivations;
 mod instances;
+mod past;
 mod rules;
 mod theorems;
 mod theory;

@@ -9,6 +9,7 @@ ghost use Rattle.ml_kernel.specs.Premises.{part_of, parts_of, theorems_of, AreKe
 
 use crate::derivations::{AxiomNo, Deriv, DerivStep, Inst, Lemma, all_shared};
 use crate::instances::instance;
+use crate::past::Past;
 use crate::rules::Rule;
 use ml_pat::{MPat, MSort, VarNo};
 use std::alloc::{AllocError, Global};
@@ -70,6 +71,17 @@ impl Thm {
         ensures { IsDerived self.now }
     {
         let _conclusion = &self.conclusion;
+    }
+
+    /// The same theorem, its patterns and its derivation shared.
+    pub fn share(&self, alloc: Global) -> Result<Thm, AllocError>
+        ensures { IfOk result (λ shared. shared ≡ self.now) }
+    {
+        Ok(Thm {
+            hypotheses: all_shared(alloc, &self.hypotheses)?,
+            conclusion: self.conclusion.share()?,
+            derivation: self.derivation.share()?,
+        })
     }
 
     /// What it rests on.
@@ -170,7 +182,7 @@ impl Lemma {
         Ok(Lemma {
             hypotheses: thm.hypotheses,
             conclusion: thm.conclusion,
-            derivation: thm.derivation,
+            past: Past::of(&thm.derivation),
         })
     }
 }

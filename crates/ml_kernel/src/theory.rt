@@ -53,6 +53,13 @@ impl Theory {
         Ok(number)
     }
 
+    /// How many axioms there are: they have the numbers below that.
+    pub fn len(&self) -> u64
+        ensures { result ≡ length self.now }
+    {
+        self.axioms.len() as u64
+    }
+
     /// The axiom as a theorem, its bound variables as they are: it has no hypotheses, and keeps this axiom alone.
     pub fn axiom(&self, alloc: Global, no: AxiomNo) -> Result<Thm, AllocError>
         requires { no.0 < length self.now }

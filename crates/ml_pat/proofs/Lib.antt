@@ -1,2 +1,4 @@
 pub mod NamedLaws
 pub mod LeafLaws
+pub mod SpineLaws
+pub mod ReplacingLaws

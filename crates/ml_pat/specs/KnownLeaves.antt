@@ -1,6 +1,5 @@
 -- Leaves that are known by tests.
 use Rattle.std.specs.Prelude.{ℕ, Bool, IsTrue}
-use Rattle.ml_pat.specs.Patterns.{Pattern, bot, top, imp, not, and, or, equal, member, fun, ex, all, app, at_sort, next, ev, var, meta, constant}
 use Rattle.ml_pat.specs.Leaves.{LeafFacts}
 
 -- which leaves are known

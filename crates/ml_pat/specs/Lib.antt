@@ -13,3 +13,6 @@ pub mod PatternCode
 pub mod PatternSize
 pub mod NamesView
 pub mod Comparing
+pub mod Judging
+pub mod Spines
+pub mod Replacing

@@ -5,14 +5,18 @@
 // specs/Judgements.antt. `Names` gives each token one number.
 #![tactic(auto)]
 
+mod judgements;
 mod names;
 mod numbers;
 mod patterns;
 mod same;
+mod substitution;
 
+pub use judgements::{fresh, is_pred};
 pub use names::Names;
 pub use numbers::{ConstNo, MSort, VarNo};
 pub use patterns::{MForm, MPat};
+pub use substitution::subst;
 
 #[cfg(test)]
 mod tests;

@@ -1,7 +1,9 @@
 // Worked examples, and one happy call of each function that allocates.
+use crate::judgements::{fresh, is_pred};
 use crate::names::Names;
 use crate::numbers::{ConstNo, MSort, VarNo};
 use crate::patterns::{MForm, MPat};
+use crate::substitution::subst;
 use std::alloc::{AllocError, Global};
 use std::test::Fail;
 
@@ -67,5 +69,47 @@ fn compares_and_drops_deep_patterns(rt: HostRuntime) -> Result<(), Fail> {
         deep = MPat::app(alloc, &deep, &argument)?;
     }
     assert!(rt; deep.same(&deep.share()?));
+    Ok(())
+}
+
+// `f x` with g for x, which is not free where it is bound.
+#[test]
+fn substitutes_free_variables(rt: HostRuntime) -> Result<(), Fail> {
+    let alloc = rt.alloc();
+    let symbol = MPat::constant(alloc, ConstNo(7))?;
+    let by = MPat::constant(alloc, ConstNo(8))?;
+    let free = MPat::app(alloc, &symbol, &MPat::var(alloc, VarNo(0))?)?;
+    let wanted = MPat::app(alloc, &symbol, &by)?;
+    assert!(rt; subst(alloc, &free, VarNo(0), &by)?.is_some_and(|made| made.same(&wanted)));
+    let bound = MPat::ex(alloc, VarNo(0), INT, &free)?;
+    assert!(rt; subst(alloc, &bound, VarNo(0), &by)?.is_some_and(|made| made.same(&bound)));
+    Ok(())
+}
+
+// A variable that comes in under its own quantifier would be captured.
+#[test]
+fn refuses_capture(rt: HostRuntime) -> Result<(), Fail> {
+    let alloc = rt.alloc();
+    let y = MPat::var(alloc, VarNo(1))?;
+    let equal = MPat::equal(alloc, &MPat::var(alloc, VarNo(0))?, &y)?;
+    let some = MPat::ex(alloc, VarNo(1), INT, &equal)?;
+    assert!(rt; subst(alloc, &some, VarNo(0), &y)?.is_none());
+    assert!(rt; fresh(VarNo(1), &some) && !fresh(VarNo(0), &some));
+    assert!(rt; is_pred(&some) && !is_pred(&y));
+    Ok(())
+}
+
+// The lowest first part of a pattern that is 100,000 applications deep is replaced in a loop.
+#[test]
+fn substitutes_in_deep_patterns(rt: HostRuntime) -> Result<(), Fail> {
+    let alloc = rt.alloc();
+    let argument = MPat::constant(alloc, ConstNo(1))?;
+    let mut deep = MPat::var(alloc, VarNo(0))?;
+    for _ in 0..100_000 {
+        deep = MPat::app(alloc, &deep, &argument)?;
+    }
+    assert!(rt; !fresh(VarNo(0), &deep));
+    let made = subst(alloc, &deep, VarNo(0), &argument)?;
+    assert!(rt; made.is_some_and(|made| fresh(VarNo(0), &made)));
     Ok(())
 }

@@ -59,6 +59,29 @@ abbrev pub AreWithin : Scope → List Theorem → Type 0
 AreWithin s [] = Unit {0}
 AreWithin s (t ∷ ts) = IsWithin s t × AreWithin s ts
 
+-- the pattern has only what the scope has, but for pattern variables, in whose places other patterns come
+abbrev pub place_leaves_of : Scope → LeafFacts
+place_leaves_of s = record {
+  sort = λ n. IsTrue (s.sort n);
+  constant = λ n. IsTrue (s.constant n);
+  object = λ n. IsTrue (s.object n);
+  meta = λ n. Unit {0};
+}
+
+abbrev pub IsOverPlaces : Scope → Pattern → Type 0
+IsOverPlaces s p = EachLeaf (place_leaves_of s) p
+
 -- Where a scope has these patterns and these theorems, it has this theorem.
 abbrev pub StaysWithin : List Pattern → List Theorem → Theorem → Type 0
 StaysWithin ps ts t = (s : Scope) → AreOver s ps → AreWithin s ts → IsWithin s t
+
+-- Where a scope has the pattern, and it may be assumed there, the scope has this theorem.
+abbrev pub AssumesWithin : Pattern → Theorem → Type 0
+AssumesWithin p t = (s : Scope) → Contains s.assumed p → IsOver s p → IsWithin s t
+
+-- Where the lemma was stated in a scope, and the scope has what the lemma concludes, these patterns and these proofs,
+-- it has this theorem.
+abbrev pub CitesWithin : Theorem → List Pattern → List Theorem → Theorem → Type 0
+CitesWithin lemma ms ts t =
+    (s : Scope) → IsStatedIn s lemma.hypotheses lemma.conclusion → IsOverPlaces s lemma.conclusion → AreOver s ms
+    → AreWithin s ts → IsWithin s t

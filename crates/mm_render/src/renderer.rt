@@ -15,7 +15,7 @@ ghost use Rattle.mm_database.specs.StatementTexts.{written_statements};
 use crate::claims::{Claim, claim_of};
 use crate::places::{Standing, premise_places, statement_key};
 use crate::statements::{push_axiom, push_theorem};
-use ml_kernel::{AxiomNo, Lemma, Theory};
+use ml_kernel::{AxiomNo, Theory, Thm};
 use ml_pat::Names;
 use mm_header::header_text;
 use mm_proof::{Word, push_words};
@@ -120,14 +120,14 @@ impl Renderer {
         self.keep(claim, &text, to)
     }
 
-    /// States a lemma under the next label, with its proof, in a block with its hypotheses and with the variables that stand in it
-    /// or in its proof where there are any. Where it is over the names that were declared, and its proof uses only these and cites only
-    /// what was stated before, each text that fits fits with it behind, and has gained just this theorem. Where memory is wanting,
-    /// nothing changes.
+    /// States a theorem under the next label, with its proof, in a block with its hypotheses and with the variables
+    /// that stand in it or in its proof where there are any. Where it is over the names that were declared, and its
+    /// proof uses only these and cites only what was stated before, each text that fits fits with it behind, and has
+    /// gained just this theorem. Where memory is wanting, nothing changes.
     pub fn lemma(
         &mut self,
         names: &Names,
-        lemma: &Lemma,
+        lemma: &Thm,
         to: &mut Vec<u8>,
     ) -> Result<(), AllocError>
         ensures states { OnOk result (StatesLemma names.now self.old self.new lemma.now to.old.items to.new.items) }

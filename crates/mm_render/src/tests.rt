@@ -2,7 +2,7 @@
 ghost use Rattle.std.specs.Prelude.{◌≡◌, ◌<◌, IfOk, length};
 
 use crate::renderer::Renderer;
-use ml_kernel::{AxiomNo, Lemma, Theory, Thm};
+use ml_kernel::{AxiomNo, Theory, Thm};
 use ml_pat::{ConstNo, MPat, MSort, Names, VarNo};
 use std::alloc::{AllocError, Global};
 use std::test::Fail;
@@ -51,14 +51,14 @@ pub(crate) fn one_axiom(alloc: Global) -> Result<Theory, AllocError>
 }
 
 // From an axiom follows that it holds at some time.
-pub(crate) fn some_time(alloc: Global, theory: &Theory) -> Result<Lemma, AllocError>
+pub(crate) fn some_time(alloc: Global, theory: &Theory) -> Result<Thm, AllocError>
     requires { 0 < length theory.now }
 {
     let axiom = theory.axiom(alloc, AxiomNo(0))?;
     let now = axiom.conclusion().share()?;
     let later = MPat::ev(alloc, &now)?;
     let step = Thm::ev_1(alloc, &now)?;
-    Lemma::close(Thm::mp(alloc, &axiom, &step, &now, &later)?)
+    Thm::mp(alloc, &axiom, &step, &now, &later)
 }
 
 // The axiom, and the lemma by it.
@@ -148,7 +148,7 @@ fn writes_which_variables_stay_apart(rt: HostRuntime) -> Result<(), Fail> {
     let names = three_names(alloc)?;
     let body = MPat::imp(alloc, &MPat::var(alloc, VarNo(2))?, &MPat::meta(alloc, 1)?)?;
     let each = MPat::all(alloc, VarNo(5), MSort(0), &body)?;
-    let lemma = Lemma::close(Thm::p_1(alloc, &each, &MPat::meta(alloc, 0)?)?)?;
+    let lemma = Thm::p_1(alloc, &each, &MPat::meta(alloc, 0)?)?;
     let mut renderer = Renderer::new(alloc);
     let mut text = Vec::new(alloc);
     renderer.lemma(&names, &lemma, &mut text)?;

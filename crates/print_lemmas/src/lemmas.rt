@@ -7,18 +7,18 @@ use ml_pat::{ConstNo, MPat, VarNo};
 use std::alloc::{AllocError, Global};
 
 // Where x leads to m, each predecessor of x leads to one of m: a lemma with two variables and a hypothesis.
-pub(crate) fn next_lemma(alloc: Global) -> Result<Lemma, AllocError>
+pub(crate) fn next_lemma(alloc: Global) -> Result<Thm, AllocError>
     ensures hypotheses { IfOk result (λ lemma. lemma.hypotheses ≡ imp (var 0) (meta 0) ∷ []) }
     ensures conclusion { IfOk result (λ lemma. lemma.conclusion ≡ imp (next (var 0)) (next (meta 0))) }
 {
     let x = MPat::var(alloc, VarNo(0))?;
     let m = MPat::meta(alloc, 0)?;
     let leads = Thm::assume(alloc, MPat::imp(alloc, &x, &m)?)?;
-    Lemma::close(Thm::next_in(alloc, &leads, &x, &m)?)
+    Thm::next_in(alloc, &leads, &x, &m)
 }
 
 // The same for the symbol a in the place of m, by that lemma.
-pub(crate) fn next_of_a(alloc: Global, lemma: &Lemma) -> Result<Lemma, AllocError>
+pub(crate) fn next_of_a(alloc: Global, lemma: &Lemma) -> Result<Thm, AllocError>
     requires hypotheses { lemma.now.hypotheses ≡ imp (var 0) (meta 0) ∷ [] }
     requires conclusion { lemma.now.conclusion ≡ imp (next (var 0)) (next (meta 0)) }
 {
@@ -27,11 +27,11 @@ pub(crate) fn next_of_a(alloc: Global, lemma: &Lemma) -> Result<Lemma, AllocErro
     let leads = Thm::assume(alloc, MPat::imp(alloc, &x, &a)?)?;
     let patterns = vec![in alloc; a]?;
     let proofs = vec![in alloc; leads]?;
-    Lemma::close(Thm::use_lemma(alloc, lemma, &patterns, &proofs)?)
+    Thm::use_lemma(alloc, lemma, &patterns, &proofs)
 }
 
 // That everything holds, by way of a pattern with a variable that does not stand in it.
-pub(crate) fn everything(alloc: Global) -> Result<Lemma, AllocError> {
+pub(crate) fn everything(alloc: Global) -> Result<Thm, AllocError> {
     let m = MPat::meta(alloc, 3)?;
     let top = MPat::top(alloc)?;
     let way = MPat::imp(alloc, &m, &MPat::imp(alloc, &m, &m)?)?;
@@ -44,5 +44,5 @@ pub(crate) fn everything(alloc: Global) -> Result<Lemma, AllocError> {
         &top,
         &onward,
     )?;
-    Lemma::close(Thm::mp(alloc, &first, &second, &way, &top)?)
+    Thm::mp(alloc, &first, &second, &way, &top)
 }

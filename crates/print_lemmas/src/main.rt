@@ -5,6 +5,7 @@
 mod lemmas;
 
 use crate::lemmas::{everything, next_lemma, next_of_a};
+use ml_kernel::Lemma;
 use ml_pat::Names;
 use mm_render::Renderer;
 use std::alloc::{AllocError, Global};
@@ -28,6 +29,7 @@ fn database(alloc: Global) -> Result<Vec<u8>, AllocError> {
     renderer.begin(&mut text)?;
     renderer.declare(&names, &mut text)?;
     renderer.lemma(&names, &next, &mut text)?;
+    let next = Lemma::close(next)?;
     renderer.lemma(&names, &next_of_a(alloc, &next)?, &mut text)?;
     renderer.lemma(&names, &everything(alloc)?, &mut text)?;
     Ok(text)

@@ -39,6 +39,10 @@ use Rattle.prove_run.specs.Scripts.{HasStated, AreStated, IsSound, IsDeclared, E
 use Rattle.prove_run.specs.Proving.{GainsTheorem}
 use Rattle.prove_run.proofs.PlainNameLaws.{own_append}
 
+pub on_any : {T E : Type 0} {P : Type 0} (r : Result T E) → P → OnOk r P
+on_any (Ok x) p = p
+on_any (Err e) p = tt
+
 pub on_one : {T E : Type 0} {P Q : Type 0} (r : Result T E) → (P → Q) → OnOk r P → OnOk r Q
 on_one (Ok x) f p = f p
 on_one (Err e) f p = tt

@@ -5,8 +5,8 @@
 //! `a -> ev b` and the image of the rule, `b & top -> next c`; each is a theorem of the database, which the next one cites. The
 //! contract: the text justifies the run from the start to the present configuration at each moment (`IsJustified`).
 //!
-//! The text of a step is linear in the sizes of the three configurations that it speaks of. What was stated is kept, so memory
-//! grows with the text.
+//! The text of a step is linear in the sizes of the three configurations that it speaks of. What was stated is kept
+//! as a claim, so memory grows with the text; of the theorems the last alone is kept.
 #![tactic(auto)]
 
 mod covered;

@@ -156,9 +156,8 @@ impl<'p> Script<'p> {
         justifying_laws();
         later_laws();
         self.names.tokens_differ();
-        let lemma = Lemma::close(thm)?;
-        self.renderer.lemma(&self.names, &lemma, &mut self.text)?;
-        Ok(lemma)
+        self.renderer.lemma(&self.names, &thm, &mut self.text)?;
+        Lemma::close(thm)
     }
 
     // Declares the names that are new.

@@ -50,7 +50,7 @@ returns-in_ok-add_values-in-Cited c =
     let own : List Pattern = c.in-Cited.lemma.hypotheses in
     let q : Pattern = c.in-Cited.lemma.conclusion in
     let whole : c.args.derivation.now ≡ cited own q c.in-Cited.lemma.derivation c.in-Cited.patterns.items (derivations c.in-Cited.parts.items) = sym c.step.ensures ∙ ap derivation_of c.in-Cited.is in
-    let size : steps_in c.args.derivation.now ≡ steps_in c.in-Cited.lemma.derivation + all_steps (derivations c.in-Cited.parts.items) + 2 = ap steps_in whole in
+    let size : steps_in c.args.derivation.now ≡ all_steps (derivations c.in-Cited.parts.items) + 1 = ap steps_in whole in
     let there : c.in_ok-place-in-Cited.place ≡ place own q =
     c.in_ok-place-in-Cited.ensures ∙ ap (λ (ps : List Pattern). place ps c.conclusion.result.now) c.hypotheses.ensures.value ∙ ap (place own) c.conclusion.ensures in
     let us : List Variable = flat_map (variables_at [] c.in-Cited.patterns.items) (claim_at claims (place own q)).variables in

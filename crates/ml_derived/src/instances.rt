@@ -1,0 +1,75 @@
+// Instances of sentences: closed patterns in the places of the variables that a sentence binds.
+ghost use Rattle.std.specs.Prelude.{◌≡◌, [], ◌∷◌, IfOk};
+ghost use Rattle.ml_pat.specs.Patterns.{all};
+ghost use Rattle.ml_kernel.specs.Lemmas.{HasNoVariable};
+ghost use Rattle.ml_kernel.specs.Theorems.{conclusions};
+ghost use Rattle.ml_derived.specs.Instances.{put, HasInstance, IsInstance};
+ghost use Rattle.ml_derived.specs.Parts.{IsElementOf, IsForAll, IsFunctional, IsPutIn, Takes};
+ghost use Rattle.ml_scope.specs.Scopes.{StaysWithin};
+
+use ml_kernel::Thm;
+use ml_pat::{MForm, MPat, MSort, VarNo, subst};
+use ml_scope::{inst, mp};
+use std::alloc::{AllocError, Global};
+
+/// The sentence with closed patterns in the places of the variables that it binds first, one for each of the facts,
+/// which say that the pattern is one element of the variable's sort. Without facts it is the sentence. An error:
+/// memory was refused.
+pub fn instance(alloc: Global, mut sentence: Thm, facts: &[Thm]) -> Result<Thm, AllocError>
+    requires { HasInstance sentence.conclusion (conclusions facts.now) }
+    ensures conclusion { IfOk result (λ t. IsInstance sentence.conclusion (conclusions facts.now) t.conclusion) }
+    ensures stays { IfOk result (StaysWithin [] (sentence ∷ facts.now)) }
+{
+    for fact in facts {
+        sentence = instance_at(alloc, &sentence, fact)?;
+    }
+    Ok(sentence)
+}
+
+// The instance at one pattern.
+fn instance_at(alloc: Global, sentence: &Thm, fact: &Thm) -> Result<Thm, AllocError>
+    requires { Takes sentence.now.conclusion fact.now.conclusion }
+    ensures conclusion { IfOk result (λ t. IsPutIn sentence.now.conclusion fact.now.conclusion t.conclusion) }
+    ensures stays { IfOk result (StaysWithin [] (sentence.now ∷ fact.now ∷ [])) }
+{
+    let (x, s, body) = bound(sentence.conclusion());
+    let q = element(fact.conclusion());
+    let made = put(alloc, body, x, q)?;
+    let rule = inst(alloc, body, q, &made, x, s)?;
+    let wanting = MPat::imp(alloc, fact.conclusion(), &made)?;
+    let open = mp(alloc, sentence, &rule, sentence.conclusion(), &wanting)?;
+    mp(alloc, fact, &open, fact.conclusion(), &made)
+}
+
+// The pattern with a closed one in the place of each free x.
+pub(crate) fn put(alloc: Global, pat: &MPat, x: VarNo, by: &MPat) -> Result<MPat, AllocError>
+    requires { HasNoVariable by.now }
+    ensures { IfOk result (λ made. made ≡ put x.0 by.now pat.now) }
+{
+    match subst(alloc, pat, x, by)? {
+        Some(made) => Ok(made),
+        None => unreachable!(),
+    }
+}
+
+// The variable that is bound, its sort, and what is said for each.
+fn bound(p: &MPat) -> (VarNo, MSort, &MPat)
+    requires { IsForAll p.now }
+    ensures { p.now ≡ all result.0.0 result.1.0 result.2.now }
+{
+    match p.form() {
+        MForm::All(x, s, body) => (*x, *s, body),
+        _ => unreachable!(),
+    }
+}
+
+// What is one element of a sort.
+fn element(p: &MPat) -> &MPat
+    requires { IsFunctional p.now }
+    ensures { IsElementOf result.now p.now }
+{
+    match p.form() {
+        MForm::Fun(q, _) => q,
+        _ => unreachable!(),
+    }
+}

@@ -1,0 +1,109 @@
+// Freshness, and being a predicate.
+ghost use Rattle.std.specs.Prelude.{◌≡◌};
+ghost use Rattle.ml_pat.specs.Judgements.{fresh, predicate};
+ghost use Rattle.ml_pat.specs.Judging.{JudgesFresh, JudgesPredicate, IsPartWhere, IsPartUnless};
+ghost use Rattle.ml_pat.specs.PatternView.{pattern_of};
+
+use crate::numbers::VarNo;
+use crate::patterns::{MForm, MPat};
+
+// What is known of a form.
+#[derive(Clone, Copy)]
+pub(crate) enum Judgement<'a> {
+    // The answer for the form.
+    Known(bool),
+    // The answer is that of this part.
+    AsPart(&'a MPat),
+}
+
+/// Whether x is not free in the pattern. It takes no memory and is a loop along first parts, where patterns are deep;
+/// other parts are read one level further down.
+#[cycle(fresh)]
+pub fn fresh(x: VarNo, pat: &MPat) -> bool
+    ensures { result ≡ fresh x.0 pat.now }
+{
+    let mut part = pat;
+    loop {
+        match fresh_by_form(x, part.form()) {
+            Judgement::Known(answer) => return answer,
+            Judgement::AsPart(first) => part = first,
+        }
+    }
+}
+
+// Reads all but the first part.
+#[cycle(fresh)]
+fn fresh_by_form<'a>(x: VarNo, form: &'a MForm) -> Judgement<'a>
+    ensures { JudgesFresh x.0 (pattern_of form.now) result }
+{
+    match form {
+        MForm::Bot | MForm::Top | MForm::Meta(_) | MForm::Const(_) => Judgement::Known(true),
+        MForm::Var(y) => Judgement::Known(x != *y),
+        MForm::Imp(p, q)
+        | MForm::And(p, q)
+        | MForm::Or(p, q)
+        | MForm::Equal(p, q)
+        | MForm::Member(p, q)
+        | MForm::App(p, q) => as_part_where(fresh(x, q), p),
+        MForm::Not(p) | MForm::Fun(p, _) | MForm::At(p, _) | MForm::Next(p) | MForm::Ev(p) =>
+            Judgement::AsPart(p),
+        MForm::Ex(y, _, p) | MForm::All(y, _, p) => as_part_unless(x == *y, p),
+    }
+}
+
+/// Whether the pattern is built so that it is everything or nothing. It takes no memory and is a loop along first
+/// parts.
+#[cycle(is_pred)]
+pub fn is_pred(pat: &MPat) -> bool
+    ensures { result ≡ predicate pat.now }
+{
+    let mut part = pat;
+    loop {
+        match predicate_by_form(part.form()) {
+            Judgement::Known(answer) => return answer,
+            Judgement::AsPart(first) => part = first,
+        }
+    }
+}
+
+// Reads all but the first part.
+#[cycle(is_pred)]
+fn predicate_by_form<'a>(form: &'a MForm) -> Judgement<'a>
+    ensures { JudgesPredicate (pattern_of form.now) result }
+{
+    match form {
+        MForm::Bot | MForm::Top | MForm::Equal(_, _) | MForm::Member(_, _) | MForm::Fun(_, _) =>
+            Judgement::Known(true),
+        MForm::App(_, _)
+        | MForm::At(_, _)
+        | MForm::Next(_)
+        | MForm::Ev(_)
+        | MForm::Var(_)
+        | MForm::Meta(_)
+        | MForm::Const(_) => Judgement::Known(false),
+        MForm::Imp(p, q) | MForm::And(p, q) | MForm::Or(p, q) => as_part_where(is_pred(q), p),
+        MForm::Not(p) | MForm::Ex(_, _, p) | MForm::All(_, _, p) => Judgement::AsPart(p),
+    }
+}
+
+// The first part decides, where the other one has what is asked.
+fn as_part_where(other: bool, p: &MPat) -> Judgement<'_>
+    ensures { IsPartWhere other p.now result }
+{
+    if other {
+        Judgement::AsPart(p)
+    } else {
+        Judgement::Known(false)
+    }
+}
+
+// The part decides, unless the answer is yes already.
+fn as_part_unless(known: bool, p: &MPat) -> Judgement<'_>
+    ensures { IsPartUnless known p.now result }
+{
+    if known {
+        Judgement::Known(true)
+    } else {
+        Judgement::AsPart(p)
+    }
+}

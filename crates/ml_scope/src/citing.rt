@@ -1,0 +1,36 @@
+// What is assumed, and the lemmas that are cited.
+ghost use Rattle.std.specs.Prelude.{◌≡◌, ◌∷◌, [], length, IfOk};
+ghost use Rattle.ml_kernel.specs.Lemmas.{instance, instances, IsMetaBelow, AreMetasBelow, HaveNoVariables};
+ghost use Rattle.ml_kernel.specs.Theorems.{conclusions};
+ghost use Rattle.ml_scope.specs.Scopes.{AssumesWithin, CitesWithin};
+
+use ml_kernel::{Lemma, Thm};
+use ml_pat::MPat;
+use std::alloc::{AllocError, Global};
+
+/// A pattern, from itself.
+pub fn assume(alloc: Global, hyp: MPat) -> Result<Thm, AllocError>
+    ensures conclusion { IfOk result (λ t. t.conclusion ≡ hyp) }
+    ensures hypotheses { IfOk result (λ t. t.hypotheses ≡ hyp ∷ []) }
+    ensures stays { IfOk result (AssumesWithin hyp) }
+{
+    Thm::assume(alloc, hyp)
+}
+
+/// The conclusion of a lemma with these patterns in the place of its pattern variables, from proofs of its hypotheses
+/// with the same in their places.
+pub fn use_lemma(
+    alloc: Global,
+    lemma: &Lemma,
+    metas: &[MPat],
+    proofs: &[Thm],
+) -> Result<Thm, AllocError>
+    requires hypotheses_metas { AreMetasBelow (length metas.now) lemma.now.hypotheses }
+    requires conclusion_metas { IsMetaBelow (length metas.now) lemma.now.conclusion }
+    requires no_variables { HaveNoVariables metas.now }
+    requires proofs { conclusions proofs.now ≡ instances metas.now lemma.now.hypotheses }
+    ensures conclusion { IfOk result (λ t. t.conclusion ≡ instance metas.now lemma.now.conclusion) }
+    ensures stays { IfOk result (CitesWithin lemma.now metas.now proofs.now) }
+{
+    Thm::use_lemma(alloc, lemma, metas, proofs)
+}

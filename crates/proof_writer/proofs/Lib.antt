@@ -1,0 +1,4 @@
+pub mod PlainNameLaws
+pub mod ScopeLaws
+pub mod ValueBytes
+pub mod WritingLaws

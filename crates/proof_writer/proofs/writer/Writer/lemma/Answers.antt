@@ -1,0 +1,44 @@
+use Rattle.std.proofs.Common.{◌≡◌, ℕ, ◌+◌, ◌<◌, List, [], ◌∷◌, Some, length, refl, ap, ◌∙◌, sym, subst, arith}
+use Rattle.std.specs.Prelude.{get_or, slice_get}
+use Rattle.std.proofs.lemmas.Option.{slice_get-get_or}
+use Rattle.ml_kernel.specs.Theorems.{Theorem}
+use Rattle.mm_claims.specs.Kept.{Kept}
+use Rattle.mm_claims.specs.ClaimVariables.{claim_of}
+use Rattle.mm_claims.specs.Keeping.{with_stated}
+use Rattle.mm_claims.specs.Places.{IsStated}
+use Rattle.proof_writer.specs.Writing.{context_of}
+use Rattle.proof_writer.specs.declared.writer.Writer.{Writer}
+use Rattle.proof_writer.proofs.WritingLaws.{written_lemma, keeps_stated, few_named, lemma_may}
+use Rattle.proof_writer.proofs.writer.Writer.lemma.Goals as goal
+
+pub state-requires-clause-proved : goal.state-requires-clause-proved
+state-requires-clause-proved c =
+    let cx = context_of c.args.made.now in
+    let t = get_or cx.lemmas c.args.place c.index-made-place.result in
+    let at : slice_get cx.lemmas c.args.place ≡ Some t = slice_get-get_or cx.lemmas c.args.place c.index-made-place.result c.requires.there in
+    lemma_may cx c.args.self.now c.args.place t c.image_laws.ensures.over c.requires.context c.requires.written c.requires.named c.requires.axioms c.requires.next at
+
+pub returns-clause-written : goal.returns-clause-written
+returns-clause-written c =
+    let w = c.args.self.now in
+    let cx = context_of c.args.made.now in
+    let t = get_or cx.lemmas c.args.place c.index-made-place.result in
+    let at : slice_get cx.lemmas c.args.place ≡ Some t = slice_get-get_or cx.lemmas c.args.place c.index-made-place.result c.requires.there in
+    let claim = claim_of t.hypotheses t.conclusion in
+    let kept = ap (λ (v : Writer). v.renderer) c.in_ok-state.ensures.kept in
+    written_lemma cx w _ t c.requires.written (subst (λ (n : ℕ). slice_get cx.lemmas n ≡ Some t) (sym c.requires.next) at)
+    (ap (λ (k : Kept). k.begun) kept) (few_named w.renderer c.state.new.self.renderer claim (length cx.names) kept c.requires.written.named)
+    (ap (λ (v : Writer). v.axioms) c.in_ok-state.ensures.kept) (ap (λ (n : ℕ). n + 1) (sym c.requires.next))
+    (keeps_stated c.later_laws.ensures.stated w.renderer c.state.new.self.renderer claim kept)
+    (subst (λ (k : Kept). IsStated k.stated t.hypotheses t.conclusion) (sym kept) (c.later_laws.ensures.last w.renderer.stated claim))
+
+pub returns-clause-named : goal.returns-clause-named
+returns-clause-named c = ap (λ (v : Writer). v.renderer.named) c.in_ok-state.ensures.kept ∙ c.requires.named
+
+pub returns-clause-axioms : goal.returns-clause-axioms
+returns-clause-axioms c = ap (λ (v : Writer). v.axioms) c.in_ok-state.ensures.kept ∙ c.requires.axioms
+
+pub returns-clause-keeps : goal.returns-clause-keeps
+returns-clause-keeps c =
+    let t = get_or c.args.made.now.lemmas.now c.args.place c.index-made-place.result in
+    keeps_stated c.later_laws.ensures.stated c.args.self.now.renderer c.state.new.self.renderer (claim_of t.hypotheses t.conclusion) (ap (λ (v : Writer). v.renderer) c.in_ok-state.ensures.kept)

@@ -1,0 +1,84 @@
+-- What was written of a context, and which texts it stands in.
+use Rattle.std.specs.Prelude.{◌≡◌, ℕ, ◌<◌, ◌≤◌, true, List, [], ◌∷◌, ◌++◌, length, slice_get, Some}
+use Rattle.ml_pat.specs.Patterns.{Pattern, imp, ev}
+use Rattle.ml_kernel.specs.Theorems.{Theorem}
+use Rattle.ml_scope.specs.Scopes.{Scope, IsStatedIn, IsWithin}
+use Rattle.term_core.specs.Patterns.{Pattern as RulePattern}
+use Rattle.rule_core.specs.Matching.{StandsIn}
+use Rattle.rule_core.specs.ProgramView.{theory_of}
+use Rattle.ml_image.specs.Images.{image_of}
+use Rattle.mm_claims.specs.Kept.{Kept}
+use Rattle.mm_claims.specs.Keeping.{Fits}
+use Rattle.mm_claims.specs.Places.{IsStated}
+use Rattle.mm_justify.specs.Justifying.{HasOnlyAxiomsOf, JustifiesRun}
+use Rattle.prove_term.specs.Contexts.{Context, HasContext}
+use Rattle.proof_writer.specs.declared.writer.Made.{Made}
+use Rattle.proof_writer.specs.declared.writer.Writer.{Writer}
+
+-- the context of what was made
+abbrev pub context_of : Made → Context
+context_of made = record {
+  program = made.program.now;
+  names = made.names.now;
+  axioms = made.theory.now;
+  lemmas = made.lemmas.now;
+}
+
+-- The header was written, the first names of the context are declared, and the first of its axioms and of its lemmas
+-- were stated, so many of each.
+pub record HasWritten (w : Writer) (cx : Context) : Type 0 where
+  pub begun : w.renderer.begun ≡ true
+  pub named : w.renderer.named ≤ length cx.names
+  pub few_axioms : w.axioms ≤ length cx.axioms
+  pub few_lemmas : w.lemmas ≤ length cx.lemmas
+  pub axioms : (i : ℕ) (p : Pattern) → i < w.axioms → slice_get cx.axioms i ≡ Some p → IsStated w.renderer.stated [] p
+  pub lemmas : (i : ℕ) (t : Theorem) → i < w.lemmas → slice_get cx.lemmas i ≡ Some t →
+      IsStated w.renderer.stated t.hypotheses t.conclusion
+
+-- all of the context was written
+pub record HasWrittenAll (w : Writer) (cx : Context) : Type 0 where
+  pub written : HasWritten w cx
+  pub names : w.renderer.named ≡ length cx.names
+  pub axioms : w.axioms ≡ length cx.axioms
+  pub lemmas : w.lemmas ≡ length cx.lemmas
+
+-- A text in which just this was written: it is valid so far, and it has only axioms of the program.
+pub record IsTextOf (cx : Context) (k : Kept) (bytes : List ℕ) : Type 0 where
+  pub fits : Fits cx.names k bytes
+  pub only : HasOnlyAxiomsOf (theory_of cx.program) bytes
+
+-- the bytes that were appended to a buffer are such a text
+abbrev pub Begins : Context → Kept → List ℕ → List ℕ → Type 0
+Begins cx k before after = (added : List ℕ) × (after ≡ before ++ added) × IsTextOf cx k added
+
+-- Bytes were appended to a buffer. Behind every text of what was written before they make one of what was written then.
+abbrev pub Adds : Context → Kept → Kept → List ℕ → List ℕ → Type 0
+Adds cx old new before after =
+    (added : List ℕ) × (after ≡ before ++ added) × ((text : List ℕ) → IsTextOf cx old text → IsTextOf cx new (text ++ added))
+
+-- what was stated stays stated
+abbrev pub Keeps : Kept → Kept → Type 0
+Keeps old new = (hypotheses : List Pattern) (conclusion : Pattern) → IsStated old.stated hypotheses conclusion →
+    IsStated new.stated hypotheses conclusion
+
+-- the scope has all that was stated
+abbrev pub HasStated : Scope → Kept → Type 0
+HasStated s k = (hypotheses : List Pattern) (conclusion : Pattern) → IsStated k.stated hypotheses conclusion →
+    IsStatedIn s hypotheses conclusion
+
+-- the theorem assumes nothing, and uses and cites no more than what the context has and what was stated
+abbrev pub MayFollow : Context → Kept → Theorem → Type 0
+MayFollow cx k t = (s : Scope) → HasContext s cx → HasStated s k → IsWithin s t
+
+-- no variable stands in the pattern of a rule
+abbrev pub HasNoVariables : RulePattern → Type 0
+HasNoVariables a = (x : ℕ) → StandsIn x a → ⊥
+
+-- Where the theorem says that the image of one pattern reaches that of another, the bytes that were appended make of
+-- every text one that justifies the run between the two.
+abbrev pub Concludes : Context → Kept → Theorem → List ℕ → List ℕ → Type 0
+Concludes cx old t before after =
+    (a b : RulePattern) (from to : Pattern) (added text : List ℕ) → HasNoVariables a → HasNoVariables b →
+    image_of cx.program.sig cx.names a ≡ Some from → image_of cx.program.sig cx.names b ≡ Some to →
+    t.conclusion ≡ imp from (ev to) → after ≡ before ++ added → IsTextOf cx old text →
+    JustifiesRun (text ++ added) (theory_of cx.program) a b

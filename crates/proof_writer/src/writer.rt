@@ -1,0 +1,202 @@
+// The writer.
+ghost use Rattle.std.specs.Prelude.{◌≡◌, ◌<◌, ◌+◌, IfOk, OnOk, length};
+ghost use Rattle.mm_claims.specs.ClaimVariables.{claim_of};
+ghost use Rattle.mm_claims.specs.Keeping.{with_stated};
+ghost use Rattle.prove_term.specs.Contexts.{IsContext, new_context};
+ghost use Rattle.proof_writer.specs.PlainNames.{HasPlainNames};
+ghost use Rattle.mm_claims.specs.Places.{IsStated, MayProve, StatesLemma};
+ghost use Rattle.proof_writer.specs.Writing.{Adds, Begins, Concludes, HasWritten, HasWrittenAll, Keeps, MayFollow, context_of};
+
+use ml_kernel::{AxiomNo, Theory, Thm};
+use ml_pat::Names;
+use mm_claims::later_laws;
+use mm_justify::{image_laws, justifying_laws};
+use mm_render::Renderer;
+use rule_core::Program;
+use std::alloc::{AllocError, Global};
+
+/// What was made for the proof of a run: a program, and the names, the axioms and the lemmas.
+#[derive(Clone, Copy)]
+pub struct Made<'a> {
+    /// The program.
+    pub program: &'a Program,
+    /// The names of its sorts, symbols and values.
+    pub names: &'a Names,
+    /// The axioms.
+    pub theory: &'a Theory,
+    /// The lemmas, each after those that it cites.
+    pub lemmas: &'a [Thm],
+}
+
+/// How much of what was made is written: what the renderer keeps of it, and how many of the axioms and of the lemmas.
+#[derive(Drop)]
+pub struct Writer {
+    /// What it keeps of the text.
+    pub renderer: Renderer,
+    /// How many axioms were stated.
+    pub axioms: u64,
+    /// How many lemmas were stated.
+    pub lemmas: u64,
+}
+
+impl Writer {
+    /// Appends the header. The error is want of memory; what was appended then is a part of it.
+    pub fn begin(alloc: Global, program: &Program, to: &mut Vec<u8>) -> Result<Writer, AllocError>
+        ensures written { IfOk result (λ w. HasWrittenAll w (new_context program.now)) }
+        ensures text { IfOk result (λ w. Begins (new_context program.now) w.renderer to.old.items to.new.items) }
+    {
+        justifying_laws();
+        let mut renderer = Renderer::new(alloc);
+        renderer.begin(to)?;
+        Ok(Writer {
+            renderer,
+            axioms: 0,
+            lemmas: 0,
+        })
+    }
+
+    /// Appends what is not written yet: declarations of names, axioms and lemmas. The error is want of memory; then a
+    /// part of that was appended.
+    pub fn write(&mut self, made: &Made<'_>, to: &mut Vec<u8>) -> Result<(), AllocError>
+        requires names { HasPlainNames made.now.program.now.sig }
+        requires context { IsContext (context_of made.now) }
+        requires written { HasWritten self.old (context_of made.now) }
+        ensures all { OnOk result (HasWrittenAll self.new (context_of made.now)) }
+        ensures keeps { OnOk result (Keeps self.old.renderer self.new.renderer) }
+        ensures text { OnOk result (Adds (context_of made.now) self.old.renderer self.new.renderer to.old.items to.new.items) }
+    {
+        self.declare(made, to)?;
+        self.write_axioms(made, to)?;
+        self.write_lemmas(made, to)
+    }
+
+    // Declares the names that are new.
+    fn declare(&mut self, made: &Made<'_>, to: &mut Vec<u8>) -> Result<(), AllocError>
+        requires names { HasPlainNames made.now.program.now.sig }
+        requires context { IsContext (context_of made.now) }
+        requires written { HasWritten self.old (context_of made.now) }
+        ensures written { OnOk result (HasWritten self.new (context_of made.now)) }
+        ensures named { OnOk result (self.new.renderer.named ≡ length made.now.names.now) }
+        ensures keeps { OnOk result (Keeps self.old.renderer self.new.renderer) }
+        ensures text { OnOk result (Adds (context_of made.now) self.old.renderer self.new.renderer to.old.items to.new.items) }
+    {
+        justifying_laws();
+        made.names.tokens_differ();
+        // Its contract tells that there are fewer than 2^64.
+        let _count = made.names.count();
+        self.renderer.declare(made.names, to)
+    }
+
+    // States the axioms that are new.
+    fn write_axioms(&mut self, made: &Made<'_>, to: &mut Vec<u8>) -> Result<(), AllocError>
+        requires context { IsContext (context_of made.now) }
+        requires written { HasWritten self.old (context_of made.now) }
+        requires named { self.old.renderer.named ≡ length made.now.names.now }
+        ensures written { OnOk result (HasWritten self.new (context_of made.now)) }
+        ensures named { OnOk result (self.new.renderer.named ≡ length made.now.names.now) }
+        ensures all { OnOk result (self.new.axioms ≡ length made.now.theory.now) }
+        ensures keeps { OnOk result (Keeps self.old.renderer self.new.renderer) }
+        ensures text { OnOk result (Adds (context_of made.now) self.old.renderer self.new.renderer to.old.items to.new.items) }
+    {
+        for no in self.axioms..made.theory.len() {
+            self.axiom(made, no, to)?;
+        }
+        Ok(())
+    }
+
+    // States the next axiom.
+    fn axiom(&mut self, made: &Made<'_>, no: u64, to: &mut Vec<u8>) -> Result<(), AllocError>
+        requires context { IsContext (context_of made.now) }
+        requires there { no < length made.now.theory.now }
+        requires next { self.old.axioms ≡ no }
+        requires written { HasWritten self.old (context_of made.now) }
+        requires named { self.old.renderer.named ≡ length made.now.names.now }
+        ensures written { OnOk result (HasWritten self.new (context_of made.now)) }
+        ensures named { OnOk result (self.new.renderer.named ≡ length made.now.names.now) }
+        ensures one { OnOk result (self.new.axioms ≡ no + 1) }
+        ensures keeps { OnOk result (Keeps self.old.renderer self.new.renderer) }
+        ensures text { OnOk result (Adds (context_of made.now) self.old.renderer self.new.renderer to.old.items to.new.items) }
+    {
+        image_laws();
+        justifying_laws();
+        later_laws();
+        // Its contract tells that there are fewer than 2^64.
+        let _count = made.theory.len();
+        self.renderer
+            .axiom(made.names, made.theory, AxiomNo(no), to)?;
+        self.axioms = no + 1;
+        Ok(())
+    }
+
+    // States the lemmas that are new.
+    fn write_lemmas(&mut self, made: &Made<'_>, to: &mut Vec<u8>) -> Result<(), AllocError>
+        requires context { IsContext (context_of made.now) }
+        requires written { HasWritten self.old (context_of made.now) }
+        requires named { self.old.renderer.named ≡ length made.now.names.now }
+        requires axioms { self.old.axioms ≡ length made.now.theory.now }
+        ensures all { OnOk result (HasWrittenAll self.new (context_of made.now)) }
+        ensures keeps { OnOk result (Keeps self.old.renderer self.new.renderer) }
+        ensures text { OnOk result (Adds (context_of made.now) self.old.renderer self.new.renderer to.old.items to.new.items) }
+    {
+        for place in self.lemmas..made.lemmas.len() as u64 {
+            self.lemma(made, place, to)?;
+        }
+        Ok(())
+    }
+
+    // States the next lemma.
+    fn lemma(&mut self, made: &Made<'_>, place: u64, to: &mut Vec<u8>) -> Result<(), AllocError>
+        requires context { IsContext (context_of made.now) }
+        requires there { place < length made.now.lemmas.now }
+        requires next { self.old.lemmas ≡ place }
+        requires written { HasWritten self.old (context_of made.now) }
+        requires named { self.old.renderer.named ≡ length made.now.names.now }
+        requires axioms { self.old.axioms ≡ length made.now.theory.now }
+        ensures written { OnOk result (HasWritten self.new (context_of made.now)) }
+        ensures named { OnOk result (self.new.renderer.named ≡ length made.now.names.now) }
+        ensures axioms { OnOk result (self.new.axioms ≡ length made.now.theory.now) }
+        ensures one { OnOk result (self.new.lemmas ≡ place + 1) }
+        ensures keeps { OnOk result (Keeps self.old.renderer self.new.renderer) }
+        ensures text { OnOk result (Adds (context_of made.now) self.old.renderer self.new.renderer to.old.items to.new.items) }
+    {
+        image_laws();
+        later_laws();
+        self.state(made, &made.lemmas[place as usize], to)?;
+        self.lemmas = place + 1;
+        Ok(())
+    }
+
+    /// Appends a theorem that follows from what is written. The error is want of memory; then a part of it was
+    /// appended.
+    pub fn theorem(&mut self, made: &Made<'_>, thm: &Thm, to: &mut Vec<u8>) -> Result<(), AllocError>
+        requires names { HasPlainNames made.now.program.now.sig }
+        requires context { IsContext (context_of made.now) }
+        requires all { HasWrittenAll self.old (context_of made.now) }
+        requires follows { MayFollow (context_of made.now) self.old.renderer thm.now }
+        ensures all { OnOk result (HasWrittenAll self.new (context_of made.now)) }
+        ensures stated { OnOk result (IsStated self.new.renderer.stated thm.now.hypotheses thm.now.conclusion) }
+        ensures keeps { OnOk result (Keeps self.old.renderer self.new.renderer) }
+        ensures text { OnOk result (Adds (context_of made.now) self.old.renderer self.new.renderer to.old.items to.new.items) }
+        ensures concludes { OnOk result (Concludes (context_of made.now) self.old.renderer thm.now to.old.items to.new.items) }
+    {
+        justifying_laws();
+        image_laws();
+        later_laws();
+        made.names.tokens_differ();
+        self.state(made, thm, to)
+    }
+
+    // States a theorem that may be proved.
+    fn state(&mut self, made: &Made<'_>, thm: &Thm, to: &mut Vec<u8>) -> Result<(), AllocError>
+        requires named { self.old.renderer.named ≡ length made.now.names.now }
+        requires proved { MayProve made.now.names.now self.old.renderer thm.now }
+        ensures states { OnOk result (StatesLemma made.now.names.now self.old.renderer self.new.renderer thm.now to.old.items to.new.items) }
+        ensures kept { OnOk result (self.new ≡ record self.old { renderer = with_stated self.old.renderer (claim_of thm.now.hypotheses thm.now.conclusion) }) }
+        ensures keeps { OnOk result (Keeps self.old.renderer self.new.renderer) }
+        ensures text { OnOk result (Adds (context_of made.now) self.old.renderer self.new.renderer to.old.items to.new.items) }
+    {
+        justifying_laws();
+        later_laws();
+        self.renderer.lemma(made.names, thm, to)
+    }
+}

@@ -1,0 +1,10 @@
+pub mod PlainLaws
+pub mod SchemaLaws
+pub mod ClosingLaws
+pub mod ScopeLaws
+pub mod AxiomLaws
+pub mod GrowthLaws
+pub mod LemmaLaws
+pub mod StepLaws
+pub mod ApplyingLaws
+pub mod ProverLaws

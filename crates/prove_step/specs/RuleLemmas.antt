@@ -1,0 +1,53 @@
+-- Rules as lemmas: what a lemma of a rule says, by its pattern variables.
+use Rattle.std.specs.Prelude.{◌≡◌, ℕ, List, [], ◌∷◌, All, Contains, Option, Some, None, slice_get, slice_index_or}
+use Rattle.ml_pat.specs.Patterns.{Pattern, imp, fun, next, meta}
+use Rattle.ml_kernel.specs.Theorems.{Theorem}
+use Rattle.ml_scope.specs.Scopes.{AssumesWithin}
+use Rattle.rule_core.specs.Rules.{RewriteRule}
+use Rattle.rule_core.specs.ProgramView.{rewrite_rule}
+use Rattle.rule_core.specs.declared.rules.Rule.{Rule}
+use Rattle.ml_image.specs.Images.{image_of}
+use Rattle.prove_term.specs.Contexts.{Context}
+use Rattle.prove_step.specs.Schemas.{with_metas, AreNumbers}
+
+-- the pattern says that one of the pattern variables is one element of the sort with its number
+abbrev pub IsMetaFact : List ℕ → Pattern → Type 0
+IsMetaFact numbers p = (x n : ℕ) × (slice_get numbers x ≡ Some n) × (p ≡ fun (meta x) n)
+
+-- Where each pattern variable is one element of the sort of the rule's variable with its number, what is the rule's
+-- left side makes a step to its right side.
+pub record SaysRuleSchema (cx : Context) (r : RewriteRule) (t : Theorem) : Type 0 where
+  pub numbers : List ℕ
+  pub are : AreNumbers cx.program.sig cx.names r.variables numbers
+  pub hypotheses : All (IsMetaFact numbers) t.hypotheses
+  pub left : Pattern
+  pub left_image : image_of cx.program.sig cx.names r.left ≡ Some left
+  pub right : Pattern
+  pub right_image : image_of cx.program.sig cx.names r.right ≡ Some right
+  pub says : t.conclusion ≡ imp (with_metas left) (next (with_metas right))
+
+-- the theorem says so of the rule at this place
+abbrev pub SaysSchemaAt : Context → ℕ → Theorem → Type 0
+SaysSchemaAt cx i t =
+    (r : Rule) → slice_get cx.program.rules.items i ≡ Some r → SaysRuleSchema cx (rewrite_rule r) t
+
+-- a lemma of the context, by its number, is that of the rule at this place
+abbrev pub IsLemmaOf : Context → ℕ → ℕ → Type 0
+IsLemmaOf cx i k = (t : Theorem) × (slice_get cx.lemmas k ≡ Some t) × SaysSchemaAt cx i t
+
+-- each theorem says no more than what it assumes
+abbrev pub AreAssumptions : List Theorem → Type 0
+AreAssumptions [] = Unit {0}
+AreAssumptions (t ∷ ts) = AssumesWithin t.conclusion t × AreAssumptions ts
+
+-- the pattern says that a pattern variable is one element of a sort
+abbrev pub SaysOfMeta : ℕ → Pattern → Type 0
+SaysOfMeta x p = (n : ℕ) × (p ≡ fun (meta x) n)
+
+-- the theorem is a lemma of the context, that of the rule at this place
+abbrev pub IsRuleLemma : Context → ℕ → Theorem → Type 0
+IsRuleLemma cx i t = Contains cx.lemmas t × SaysSchemaAt cx i t
+
+-- the lemmas at the places that are kept for rules, by the rules' places, are those of the rules
+abbrev pub AreRuleLemmas : Context → List (Option ℕ) → Type 0
+AreRuleLemmas cx places = (i k : ℕ) → slice_index_or places i None ≡ Some k → IsLemmaOf cx i k

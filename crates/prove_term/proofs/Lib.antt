@@ -1,0 +1,17 @@
+pub mod AssumingLaws
+pub mod ConstructingLaws
+pub mod ContextLaws
+pub mod ElementLaws
+pub mod ElementLoop
+pub mod Hypotheses
+pub mod ImageShapes
+pub mod InjectedElements
+pub mod InjectionGrown
+pub mod InjectionLaws
+pub mod InjectionShapes
+pub mod InjectionSteps
+pub mod Instances
+pub mod KeptInside
+pub mod KeptLaws
+pub mod ResultLaws
+pub mod Substituting

@@ -1,0 +1,60 @@
+-- What a lemma on a constructor says.
+use Rattle.std.specs.Prelude.{◌≡◌, ◌<◌, ◌^◌, ℕ, Some, List, length, slice_get}
+use Rattle.ml_pat.specs.Patterns.{Pattern, fun, constant}
+use Rattle.ml_kernel.specs.Theorems.{Theorem}
+use Rattle.rule_core.specs.Sorting.{IsSymbol}
+use Rattle.rule_core.specs.declared.signature.Signature.{Signature}
+use Rattle.rule_core.specs.declared.signature.SymInfo.{SymInfo}
+use Rattle.rule_core.specs.declared.signature.SymKind.TheVariants.{Ctor}
+use Rattle.ml_image.specs.Images.{symbol_image, sort_image}
+use Rattle.ml_image.specs.OwnAxioms.{IsConstructor}
+use Rattle.prove_term.specs.Contexts.{Context}
+use Rattle.prove_term.specs.Schemas.{AreSortImages, partly, at_metas, meta_facts, backwards}
+
+-- the symbol with this number is a constructor
+abbrev pub Constructs : Signature → ℕ → Type 0
+Constructs sig f = (info : SymInfo) × IsSymbol sig f info × (info.kind ≡ Ctor)
+
+-- the constant of a symbol, and the numbers of the sorts of its arguments and of its result, among the names
+pub record HasNumbers (sig : Signature) (names : List (List ℕ)) (f : ℕ) (sorts : List ℕ) (sort : ℕ) : Type 0 where
+  pub head : ℕ
+  pub is_head : symbol_image sig names f ≡ Some (constant head)
+  pub numbers : List ℕ
+  pub are_numbers : AreSortImages sig names sorts numbers
+  pub number : ℕ
+  pub is_number : sort_image sig names sort ≡ Some number
+
+-- the declaration of a constructor, with its numbers
+pub record IsNumbered (sig : Signature) (names : List (List ℕ)) (f : ℕ) : Type 0 where
+  pub info : SymInfo
+  pub sorts : List ℕ
+  pub sort : ℕ
+  pub constructs : IsConstructor sig f info sorts sort
+  pub numbers : HasNumbers sig names f sorts sort
+
+-- that of a constructor with these numbers, for all arguments
+abbrev pub totality : ℕ → List ℕ → ℕ → Pattern
+totality head numbers number = partly head 0 numbers (length numbers) number
+
+-- the pattern says that the constructor is total
+pub record SaysTotality (cx : Context) (f : ℕ) (p : Pattern) : Type 0 where
+  pub numbered : IsNumbered cx.program.sig cx.names f
+  pub few : length numbered.numbers.numbers < 2 ^ 31
+  pub says : p ≡ totality numbered.numbers.head numbered.numbers.numbers numbered.numbers.number
+
+-- The theorem says, of pattern variables that are each one element of its sort, that a constructor with these numbers
+-- makes one element of them.
+pub record IsTotalLemma (head : ℕ) (numbers : List ℕ) (number : ℕ) (t : Theorem) : Type 0 where
+  pub hypotheses : t.hypotheses ≡ backwards (meta_facts 0 numbers)
+  pub conclusion : t.conclusion ≡ fun (at_metas (constant head) 0 (length numbers)) number
+
+-- the lemma at this place says that of the constructor
+pub record IsConstructorAt (cx : Context) (f k : ℕ) : Type 0 where
+  pub numbered : IsNumbered cx.program.sig cx.names f
+  pub lemma : Theorem
+  pub there : slice_get cx.lemmas k ≡ Some lemma
+  pub says : IsTotalLemma numbered.numbers.head numbered.numbers.numbers numbered.numbers.number lemma
+
+-- the symbol has so many arguments
+abbrev pub Takes : Signature → ℕ → ℕ → Type 0
+Takes sig f n = (info : SymInfo) → IsSymbol sig f info → n ≡ length info.args.items

@@ -1,0 +1,23 @@
+-- The context that a `Cx` of the code stands for, and what is true of it.
+use Rattle.std.specs.Prelude.{◌≡◌, ℕ, IfSome}
+use Rattle.std.specs.BTreeMap as tree
+use Rattle.std.specs.Ordering.{nat_cmp}
+use Rattle.prove_term.specs.Contexts.{Context, IsContext}
+use Rattle.prove_term.specs.declared.context.Cx.TheInside.{Inside}
+use Rattle.prove_term.specs.Stated.{IsRuleAxiom}
+use Rattle.prove_term.specs.ValueAxioms.{IsValueAxiom}
+use Rattle.prove_term.specs.Constructing.{IsConstructorAt}
+use Rattle.prove_term.specs.Injections.{IsInjectionAt}
+
+abbrev pub context_of : Inside → Context
+context_of a = record { program = a.program.now; names = a.names; axioms = a.theory; lemmas = a.lemmas.items }
+
+-- the axioms that are kept are those of their rules and values, and the lemmas those of their constructors
+-- and injections
+pub record IsKept (a : Inside) : Type 0 where
+  pub context : IsContext (context_of a)
+  pub rules : (i : ℕ) → IfSome (tree.get nat_cmp a.rules i) (λ no. IsRuleAxiom (context_of a) i no.0)
+  pub values : (c : ℕ) → IfSome (tree.get nat_cmp a.values c) (λ v. IsValueAxiom (context_of a) c v.sort.0 v.no.0)
+  pub theorems : a.theorems.items ≡ a.lemmas.items
+  pub constructors : (f : ℕ) → IfSome (tree.get nat_cmp a.constructors f) (IsConstructorAt (context_of a) f)
+  pub injections : (q : ℕ) → IfSome (tree.get nat_cmp a.injections q) (λ l. IsInjectionAt (context_of a) l.from.0 l.to.0 l.place)

@@ -1,0 +1,76 @@
+-- Injections between sorts: what axioms and lemmas say of them.
+use Rattle.std.specs.Prelude.{◌≡◌, ℕ, Some, IsTrue, List, [], ◌∷◌, Contains, slice_get}
+use Rattle.ml_pat.specs.Patterns.{Pattern, all, ex, equal, fun, app, at_sort, var, meta, constant}
+use Rattle.ml_kernel.specs.Theorems.{Theorem}
+use Rattle.ml_scope.specs.Scopes.{Scope, IsStatedIn, IsWithin}
+use Rattle.rule_core.specs.declared.signature.Signature.{Signature}
+use Rattle.ml_image.specs.Images.{injection_symbol, some_symbol_image, sort_image}
+use Rattle.prove_term.specs.Contexts.{Context}
+
+-- the injection symbol at two sorts, applied to a pattern
+abbrev pub inject : ℕ → ℕ → ℕ → Pattern → Pattern
+inject c s t p = app (at_sort (at_sort (constant c) s) t) p
+
+-- the numbers of the injection symbol and of two sorts among the names
+pub record HasEnds (sig : Signature) (names : List (List ℕ)) (a b : ℕ) : Type 0 where
+  pub symbol : ℕ
+  pub is_symbol : some_symbol_image sig names (injection_symbol sig) ≡ Some (constant symbol)
+  pub lower : ℕ
+  pub is_lower : sort_image sig names a ≡ Some lower
+  pub upper : ℕ
+  pub is_upper : sort_image sig names b ≡ Some upper
+
+-- each element of the sort s is, injected into the sort t, one element of that
+abbrev pub injecting : ℕ → ℕ → ℕ → Pattern
+injecting c s t = all 0 s (ex 1 t (equal (var 1) (inject c s t (var 0))))
+
+pub record SaysInjecting (cx : Context) (a b : ℕ) (p : Pattern) : Type 0 where
+  pub ends : HasEnds cx.program.sig cx.names a b
+  pub says : p ≡ injecting ends.symbol ends.lower ends.upper
+
+-- from s to t and on to u is from s to u
+abbrev pub collapsing : ℕ → ℕ → ℕ → ℕ → Pattern
+collapsing c s t u = all 0 s (equal (inject c t u (inject c s t (var 0))) (inject c s u (var 0)))
+
+pub record SaysCollapsing (cx : Context) (a b d : ℕ) (p : Pattern) : Type 0 where
+  pub ends : HasEnds cx.program.sig cx.names a b
+  pub last : ℕ
+  pub is_last : sort_image cx.program.sig cx.names d ≡ Some last
+  pub says : p ≡ collapsing ends.symbol ends.lower ends.upper last
+
+-- the theorem says that a pattern variable, one element of the sort s, is one of the sort t when it is injected
+pub record SaysInjected (c s t : ℕ) (made : Theorem) : Type 0 where
+  pub hypotheses : made.hypotheses ≡ fun (meta 0) s ∷ []
+  pub conclusion : made.conclusion ≡ fun (inject c s t (meta 0)) t
+
+-- the lemma says so of these sorts
+pub record IsInjected (cx : Context) (a b : ℕ) (lemma : Theorem) : Type 0 where
+  pub ends : HasEnds cx.program.sig cx.names a b
+  pub says : SaysInjected ends.symbol ends.lower ends.upper lemma
+
+-- .. and stands at this place
+pub record IsInjectionAt (cx : Context) (a b k : ℕ) : Type 0 where
+  pub lemma : Theorem
+  pub there : slice_get cx.lemmas k ≡ Some lemma
+  pub is : IsInjected cx a b lemma
+
+-- what is made of an axiom
+abbrev pub InjectedFrom : Theorem → Theorem → Type 0
+InjectedFrom first made = (c s t : ℕ) → first.conclusion ≡ injecting c s t → SaysInjected c s t made
+
+-- what is made of an axiom and two lemmas
+pub record Joins (c s t u : ℕ) (collapse first second : Theorem) : Type 0 where
+  pub collapses : collapse.conclusion ≡ collapsing c s t u
+  pub lower : SaysInjected c s t first
+  pub upper : SaysInjected c t u second
+
+abbrev pub JoinedFrom : Theorem → Theorem → Theorem → Theorem → Type 0
+JoinedFrom collapse first second made =
+    (c s t u : ℕ) → Joins c s t u collapse first second → SaysInjected c s u made
+
+-- a scope that has all these, and each variable, has it, where its hypotheses may be assumed
+abbrev pub StaysJoined : Theorem → Theorem → Theorem → Theorem → Type 0
+StaysJoined collapse first second made =
+    (s : Scope) → ((x : ℕ) → IsTrue (s.object x)) → ((i : ℕ) → IsTrue (s.meta i)) → IsWithin s collapse
+    → IsStatedIn s first.hypotheses first.conclusion → IsStatedIn s second.hypotheses second.conclusion
+    → ((p : Pattern) → Contains made.hypotheses p → Contains s.assumed p) → IsWithin s made

@@ -1,0 +1,17 @@
+-- Believed: what public clauses say, and believed definitions of other crates.
+pub mod Contexts
+pub mod PlainTerms
+pub mod Functional
+pub mod RuleAxioms
+-- Private: what clauses of private functions cite, and how private fields are seen.
+pub mod Schemas
+pub mod Falling
+pub mod Stated
+pub mod ValueAxioms
+pub mod Constructing
+pub mod Assuming
+pub mod Injections
+pub mod InjectionTables
+pub mod Carrying
+pub mod Elements
+pub mod ContextView

@@ -1,0 +1,225 @@
+// The context of the proofs about a program.
+ghost use Rattle.std.specs.Prelude.{◌≡◌, ◌^◌, ◌<◌, ◌∷◌, ◌++◌, [], IfOk, OnOk, OnErr, Some, length, slice_get};
+ghost use Rattle.term_core.specs.RulePatterns.{plain_pattern};
+ghost use Rattle.rule_core.specs.ProgramView.{rewrite_rule, theory_of};
+ghost use Rattle.rule_core.specs.declared.rules.Rule.{Rule};
+ghost use Rattle.ml_image.specs.Images.{image_of};
+ghost use Rattle.ml_image.specs.HasImages.{HasImage};
+ghost use Rattle.ml_image.specs.Sentences.{IsImageOf};
+ghost use Rattle.prove_term.specs.Contexts.{HasGrown, IsAssumed, IsContext, IsLemmaIn, StaysIn, new_context};
+ghost use Rattle.prove_term.specs.RuleAxioms.{HasImageAt, SaysRuleAt};
+ghost use Rattle.prove_term.specs.Stated.{IsRuleAxiom};
+
+use ml_image::{rule_image, term_image};
+use ml_kernel::{AxiomNo, Lemma, Theory, Thm};
+use ml_pat::{MPat, MSort, Names};
+use rule_core::Program;
+use std::alloc::{AllocError, Global};
+use std::collections::BTreeMap;
+use std::marker::Model;
+use term_core::{RulePat, SortId};
+
+/// What the proofs about a program use: the names of its sorts, symbols and values, axioms, and lemmas. Contracts see
+/// it as a plain `Context`.
+#[derive(Drop)]
+pub struct Cx<'p> {
+    pub(crate) program: &'p Program,
+    pub(crate) names: Names,
+    theory: Theory,
+    lemmas: Vec<Lemma>,
+    // The theorems of these, with their derivations.
+    theorems: Vec<Thm>,
+    // The axiom of each rule that was used.
+    rules: BTreeMap<u32, AxiomNo>,
+    // The axiom of each value that was used, by the value's constant.
+    pub(crate) values: BTreeMap<u64, ValueAxiom>,
+    // The place of the lemma of each constructor that was used.
+    pub(crate) constructors: BTreeMap<u32, usize>,
+    // That of each injection that was used, by a number for its sorts.
+    pub(crate) injections: BTreeMap<u64, InjectionLemma>,
+}
+
+/// The place of the lemma of an injection, and its sorts.
+#[derive(Clone, Copy)]
+pub(crate) struct InjectionLemma {
+    pub(crate) from: SortId,
+    pub(crate) to: SortId,
+    pub(crate) place: usize,
+}
+
+/// The axiom of a value, and the sort that it names.
+#[derive(Clone, Copy)]
+pub(crate) struct ValueAxiom {
+    pub(crate) sort: MSort,
+    pub(crate) no: AxiomNo,
+}
+
+impl<'p> Model for Cx<'p> {
+    ghost use Rattle.std.specs.Coded.{codes};
+    ghost use Rattle.term_core.specs.contracts.rule_patterns.RulePat as rule_pattern;
+    ghost use Rattle.ml_pat.specs.PatternCode.{pattern_code};
+    ghost use Rattle.ml_kernel.specs.TheoremCode.{theorem_code};
+    ghost use Rattle.prove_term.specs.Contexts.{Context};
+
+    ghost Value = { Context };
+
+    ghost coded = { Prim.hlevel (codes, rule_pattern.the_row.coded, pattern_code, theorem_code) };
+
+    ghost use Rattle.prove_term.specs.ContextView.{context_of, IsKept};
+
+    ghost view = { context_of };
+
+    ghost invariant = { IsKept };
+}
+
+impl<'p> Cx<'p> {
+    /// The context at the start: nothing was made.
+    pub fn new(alloc: Global, program: &'p Program) -> Cx<'p>
+        ensures { result ≡ new_context program.now }
+    {
+        Cx {
+            program,
+            names: Names::new(alloc),
+            theory: Theory::new(alloc),
+            lemmas: Vec::new(alloc),
+            theorems: Vec::new(alloc),
+            rules: BTreeMap::new(alloc),
+            values: BTreeMap::new(alloc),
+            constructors: BTreeMap::new(alloc),
+            injections: BTreeMap::new(alloc),
+        }
+    }
+
+    /// The program.
+    pub fn program(&self) -> &'p Program
+        ensures { result.now ≡ self.now.program }
+    {
+        self.program
+    }
+
+    /// The names of the program's sorts, symbols and values that proofs have used.
+    pub fn names(&self) -> &Names
+        ensures { result.now ≡ self.now.names }
+    {
+        &self.names
+    }
+
+    /// The axioms.
+    pub fn theory(&self) -> &Theory
+        ensures { result.now ≡ self.now.axioms }
+    {
+        &self.theory
+    }
+
+    /// The lemmas, in the order in which they came.
+    pub fn lemmas(&self) -> &[Lemma]
+        ensures { result.now ≡ self.now.lemmas }
+    {
+        &self.lemmas
+    }
+
+    /// The same with their derivations, as they are to be written.
+    pub fn theorems(&self) -> &[Thm]
+        ensures { result.now ≡ self.now.lemmas }
+    {
+        &self.theorems
+    }
+
+    /// Names and axioms are the program's own, and each lemma stays in what came before it.
+    pub fn law(&self)
+        ensures { IsContext self.now }
+    {
+        let _names = &self.names;
+    }
+
+    /// The image of a pattern whose sorts and symbols are the program's. `AllocError` says that memory was wanting; the
+    /// names may have grown then too.
+    pub fn image(&mut self, alloc: Global, pat: &RulePat) -> Result<MPat, AllocError>
+        requires { HasImage self.old.program.sig (2 ^ 32) (plain_pattern pat.now) }
+        ensures image { IfOk result (λ p. image_of self.new.program.sig self.new.names (plain_pattern pat.now) ≡ Some p) }
+        ensures grown { HasGrown self.old self.new }
+    {
+        term_image(alloc, &self.program.sig, &mut self.names, pat)
+    }
+
+    /// The image of the rule at a place as a theorem. It is stated as an axiom when it is first asked for. `AllocError`
+    /// says that memory was wanting; the context may have grown then too.
+    pub fn rule_axiom(&mut self, alloc: Global, rule: u32) -> Result<Thm, AllocError>
+        requires { HasImageAt self.old.program rule }
+        ensures says { IfOk result (λ t. SaysRuleAt self.new rule t.conclusion) }
+        ensures no_hypotheses { IfOk result (λ t. t.hypotheses ≡ []) }
+        ensures stays { IfOk result (StaysIn self.new) }
+        ensures grown { HasGrown self.old self.new }
+    {
+        let no = self.rule_number(alloc, rule)?;
+        self.axiom(alloc, no)
+    }
+
+    // The number of the axiom of a rule.
+    fn rule_number(&mut self, alloc: Global, rule: u32) -> Result<AxiomNo, AllocError>
+        requires { HasImageAt self.old.program rule }
+        ensures says { IfOk result (λ no. IsRuleAxiom self.new rule no.0) }
+        ensures grown { HasGrown self.old self.new }
+    {
+        if let Some(no) = self.rules.get(&rule) {
+            return Ok(*no);
+        }
+        let image = self.rule_image(alloc, rule)?;
+        let no = self.state(image)?;
+        self.keep_rule(rule, no)?;
+        Ok(no)
+    }
+
+    // The image of the rule at a place.
+    fn rule_image(&mut self, alloc: Global, rule: u32) -> Result<MPat, AllocError>
+        requires { HasImageAt self.old.program rule }
+        ensures image { IfOk result (SaysRuleAt self.new rule) }
+        ensures grown { HasGrown self.old self.new }
+    {
+        let stated = &self.program.rules[rule as usize];
+        rule_image(alloc, &self.program.sig, &mut self.names, stated)
+    }
+
+    // Keeps an axiom as that of a rule.
+    fn keep_rule(&mut self, rule: u32, no: AxiomNo) -> Result<(), AllocError>
+        requires { IsRuleAxiom self.old rule no.0 }
+        ensures { self.new ≡ self.old }
+    {
+        self.rules.insert(rule, no)?;
+        Ok(())
+    }
+
+    // States the image of what is assumed as an axiom.
+    pub(crate) fn state(&mut self, image: MPat) -> Result<AxiomNo, AllocError>
+        requires { IsImageOf self.old.program.sig self.old.names (IsAssumed (theory_of self.old.program)) image }
+        ensures there { IfOk result (λ no. slice_get self.new.axioms no.0 ≡ Some image) }
+        ensures grown { HasGrown self.old self.new }
+        ensures names { self.new.names ≡ self.old.names }
+    {
+        self.theory.add(image)
+    }
+
+    // An axiom as a theorem.
+    pub(crate) fn axiom(&self, alloc: Global, no: AxiomNo) -> Result<Thm, AllocError>
+        requires { no.0 < length self.now.axioms }
+        ensures conclusion { IfOk result (λ t. slice_get self.now.axioms no.0 ≡ Some t.conclusion) }
+        ensures no_hypotheses { IfOk result (λ t. t.hypotheses ≡ []) }
+        ensures stays { IfOk result (StaysIn self.now) }
+    {
+        self.theory.axiom(alloc, no)
+    }
+
+    /// Keeps a theorem as a lemma: it stays in the context but for its own hypotheses. `AllocError` says that memory
+    /// was wanting, and nothing changes then.
+    pub fn add_lemma(&mut self, alloc: Global, thm: Thm) -> Result<(), AllocError>
+        requires { IsLemmaIn self.old thm }
+        ensures ok { OnOk result (self.new ≡ record self.old { lemmas = self.old.lemmas ++ thm ∷ [] }) }
+        ensures err { OnErr result (self.new ≡ self.old) }
+    {
+        let lemma = Lemma::close(thm.share(alloc)?)?;
+        self.lemmas.reserve(1)?;
+        self.theorems.push(thm)?;
+        self.lemmas.push(lemma).unwrap();
+        Ok(())
+    }
+}

@@ -1,0 +1,17 @@
+// Theorems about the terms of a program's runs, and what is kept for their proofs.
+//
+// A `Cx` keeps the names, the axioms and the lemmas of the proofs about one program; contracts see it as a plain
+// `Context` (specs/Contexts.antt). Each axiom and each lemma is made once, when it is first needed. What a call gives
+// stays in the context as it is afterwards, and contexts only grow (`StaysIn`, `HasGrown`).
+#![tactic(auto, using(crate::proofs::ContextLaws::grown_twice, crate::proofs::ContextLaws::grown_none))]
+
+mod constructors;
+mod context;
+mod elements;
+mod injections;
+mod joining;
+mod schemas;
+mod values;
+
+pub use context::Cx;
+pub use elements::fun_of;

@@ -1,0 +1,93 @@
+-- What stays true of what was written when a context grows, and of initial terms.
+use Rattle.std.proofs.Common.{◌≡◌, ℕ, ◌<◌, ◌≤◌, ◌^◌, List, [], ◌∷◌, ◌++◌, Some, None, length, zero, suc, inl, inr, refl, ap, ◌∙◌, sym, subst, arith, length-append}
+use Rattle.std.specs.Prelude.{slice_get}
+use Rattle.ml_pat.specs.Patterns.{Pattern}
+use Rattle.term_core.specs.Patterns.{Pattern as RulePattern, Patterns as RulePatterns, variable, domain_value, application, injection, call, no_pattern, more_patterns}
+use Rattle.rule_core.specs.Matching.{StandsIn, StandsInSome}
+use Rattle.rule_core.specs.Sorting.{HasSort, HaveSorts}
+use Rattle.rule_core.specs.ProgramView.{theory_of}
+use Rattle.rule_core.specs.declared.signature.Signature.{Signature}
+use Rattle.rule_core.specs.declared.signature.SortRef.{SortRef}
+use Rattle.rule_core.specs.declared.rules.Program.{Program}
+use Rattle.ml_image.specs.Images.{image_of}
+use Rattle.ml_image.specs.HasImages.{HasImage, HaveImages}
+use Rattle.ml_image.specs.NamingLaws.{ImageStays}
+use Rattle.mm_claims.specs.Kept.{Kept}
+use Rattle.mm_claims.specs.Keeping.{Fits}
+use Rattle.mm_claims.specs.LaterLaws.{FitsLater}
+use Rattle.mm_justify.specs.Justifying.{HasOnlyAxiomsOf}
+use Rattle.prove_term.specs.Contexts.{Context, HasGrown}
+use Rattle.proof_writer.specs.declared.writer.Writer.{Writer}
+use Rattle.proof_writer.specs.Writing.{HasNoVariables, HasWritten, HasWrittenAll, IsTextOf}
+
+-- ---- contexts that grow
+
+there_later : {A : Type 0} (xs more ys : List A) (i : ℕ) (x : A) → ys ≡ xs ++ more → i < length xs → slice_get ys i ≡ Some x → slice_get xs i ≡ Some x
+there_later {A} xs more ys i x is few at = go xs i few (subst (λ (l : List A). slice_get l i ≡ Some x) is at)
+  where
+    go : (zs : List A) (j : ℕ) → j < length zs → slice_get (zs ++ more) j ≡ Some x → slice_get zs j ≡ Some x
+    go [] j k h = absurd (omega (arith, k))
+    go (z ∷ zs) zero k h = h
+    go (z ∷ zs) (suc j) k h = go zs j (omega (arith, k)) h
+
+length_later : {A : Type 0} (xs more ys : List A) → ys ≡ xs ++ more → length xs ≤ length ys
+length_later {A} xs more ys is = subst (λ (l : List A). length xs ≤ length l) (sym is) (omega (arith, length-append xs more))
+
+pub written_grown : (old new : Context) (w : Writer) → HasWrittenAll w old → HasGrown old new → HasWritten w new
+written_grown old new w h g =
+    let names : length old.names ≤ length new.names = length_later old.names g.names.gained new.names g.names.all in
+    let axioms : length old.axioms ≤ length new.axioms = length_later old.axioms g.axioms new.axioms g.more_axioms in
+    let lemmas : length old.lemmas ≤ length new.lemmas = length_later old.lemmas g.lemmas new.lemmas g.more_lemmas in
+    record {
+      begun = h.written.begun;
+      named = omega (arith, h.names, names);
+      few_axioms = omega (arith, h.axioms, axioms);
+      few_lemmas = omega (arith, h.lemmas, lemmas);
+      axioms = λ i p few at. h.written.axioms i p few (there_later old.axioms g.axioms new.axioms i p g.more_axioms (omega (arith, few, h.axioms)) at);
+      lemmas = λ i t few at. h.written.lemmas i t few (there_later old.lemmas g.lemmas new.lemmas i t g.more_lemmas (omega (arith, few, h.lemmas)) at);
+    }
+
+pub text_grown : FitsLater → (old new : Context) (k : Kept) (text : List ℕ) → k.named ≤ length old.names → HasGrown old new → IsTextOf old k text → IsTextOf new k text
+text_grown later old new k text few g h = record {
+  fits = subst (λ (names : List (List ℕ)). Fits names k text) (sym g.names.all) (later old.names g.names.gained k text few h.fits);
+  only = subst (λ (p : Program). HasOnlyAxiomsOf (theory_of p) text) (sym g.program) h.only;
+}
+
+pub image_grown : ImageStays → (old new : Context) (a : RulePattern) (p : Pattern) → HasGrown old new → image_of old.program.sig old.names a ≡ Some p → image_of new.program.sig new.names a ≡ Some p
+image_grown stays old new a p g h =
+    subst (λ (names : List (List ℕ)). image_of new.program.sig names a ≡ Some p) (sym g.names.all)
+    (subst (λ (q : Program). image_of q.sig (old.names ++ g.names.gained) a ≡ Some p) (sym g.program) (stays old.program.sig old.names g.names.gained a p h))
+
+-- ---- initial terms
+
+none_some : {A : Type 0} (x : A) → None ≡ Some x → ⊥
+none_some x h = cc
+
+-- a pattern that has a sort where there are no variables has none
+mutual
+  pub sorted_has_none : (sig : Signature) (p : RulePattern) (sort : ℕ) → HasSort sig [] p sort → HasNoVariables p
+  sorted_has_none sig (variable x) sort h y k = none_some sort h
+  sorted_has_none sig (domain_value s v) sort h y k = k
+  sorted_has_none sig (application f ps) sort h y k = sorted_have_none sig [] ps h.0.args.items h.4 y k
+  sorted_has_none sig (injection a b p) sort h y k = sorted_has_none sig p a h.3 y k
+  sorted_has_none sig (call f ss ps) sort h y k = sorted_have_none sig ss ps h.0.args.items h.6 y k
+
+  sorted_have_none : (sig : Signature) (sorts : List ℕ) (ps : RulePatterns) (refs : List SortRef) → HaveSorts sig [] sorts ps refs → (x : ℕ) → StandsInSome x ps → ⊥
+  sorted_have_none sig sorts no_pattern [] h x k = k
+  sorted_have_none sig sorts no_pattern (r ∷ refs) h x k = k
+  sorted_have_none sig sorts (more_patterns p ps) [] h x k = h
+  sorted_have_none sig sorts (more_patterns p ps) (r ∷ refs) h x (inl k) = sorted_has_none sig p h.0 h.2 x k
+  sorted_have_none sig sorts (more_patterns p ps) (r ∷ refs) h x (inr k) = sorted_have_none sig sorts ps refs h.3 x k
+
+-- an image without variables is one whatever numbers variables may have
+mutual
+  pub image_wherever : (sig : Signature) (n : ℕ) (p : RulePattern) → HasImage sig 0 p → HasImage sig n p
+  image_wherever sig n (variable x) h = absurd (omega (arith, h))
+  image_wherever sig n (domain_value s v) h = h
+  image_wherever sig n (application f ps) h = (h.0, images_wherever sig n ps h.1)
+  image_wherever sig n (injection a b p) h = (h.0, h.1, image_wherever sig n p h.2)
+  image_wherever sig n (call f ss ps) h = (h.0, h.1, images_wherever sig n ps h.2)
+
+  images_wherever : (sig : Signature) (n : ℕ) (ps : RulePatterns) → HaveImages sig 0 ps → HaveImages sig n ps
+  images_wherever sig n no_pattern h = tt
+  images_wherever sig n (more_patterns p ps) h = (image_wherever sig n p h.0, images_wherever sig n ps h.1)

@@ -1,0 +1,229 @@
+-- The theorem of a step follows from what is written.
+use Rattle.std.proofs.Common.{◌≡◌, ℕ, ◌≤◌, true, List, [], ◌∷◌, ◌++◌, Some, length, inl, inr, refl, ap, ◌∙◌, sym, subst}
+use Rattle.std.specs.List.{list_all}
+use Rattle.std.proofs.lemmas.Bool.{false≢true}
+use Rattle.std.proofs.lemmas.List.{append_assoc}
+use Rattle.ml_pat.specs.Patterns.{Pattern, imp, next, ev}
+use Rattle.ml_kernel.specs.Theorems.{Theorem, IsByLemma}
+use Rattle.ml_kernel.specs.Lemmas.{HasNoMeta, instance}
+use Rattle.ml_kernel.proofs.InstanceLaws.{instance-empty}
+use Rattle.ml_scope.specs.Scopes.{Scope, IsOver, IsWithin, StaysWithin}
+use Rattle.ml_scope.proofs.RuleLaws.{lemma_within}
+use Rattle.term_core.specs.Terms.{Tree, Forest, leaf, node, inj, no_tree, more_trees}
+use Rattle.term_core.specs.Patterns.{Pattern as RulePattern, ground_pattern, ground_patterns}
+use Rattle.rule_core.specs.Matching.{StandsInSome}
+use Rattle.ml_pat.proofs.LeafLaws.{split_true, both_true}
+use Rattle.ml_derived.specs.Implications.{IsOneStepOn, ReachesOneFurther}
+use Rattle.ml_image.specs.NamingLaws.{ImageStays}
+use Rattle.mm_justify.specs.ImageLaws.{SentenceHasNoMeta}
+use Rattle.prove_term.specs.PlainTerms.{HasNoInjection, HaveNoInjection}
+use Rattle.rule_core.specs.Theories.{RewriteTheory}
+use Rattle.mm_claims.specs.LaterLaws.{FitsLater}
+use Rattle.prove_step.specs.PlainRules.{is_plain, are_plain, is_plain_rule}
+use Rattle.run_prover.specs.Covered.{is_covered}
+use Rattle.std.specs.Prelude.{slice_get, Option}
+use Rattle.term_core.specs.Patterns.{instance_of}
+use Rattle.term_core.specs.RulePatterns.{plain_pattern}
+use Rattle.term_core.specs.declared.rule_patterns.RulePat.{RulePat}
+use Rattle.rule_core.specs.FirstRule.{Matches}
+use Rattle.rule_core.specs.ProgramView.{rewrite_rule, theory_of}
+use Rattle.rule_core.specs.declared.rules.Rule.{Rule}
+use Rattle.rule_core.specs.declared.rules.Program.{Program}
+use Rattle.prove_step.specs.Steps.{SaysStep, SaysStepAt}
+use Rattle.run_prover.specs.RunProof.{RunProof, configuration, reached}
+use Rattle.run_prover.specs.Proving.{CanStep}
+use Rattle.run_prover.proofs.PlainSteps.{match_makes, right_is_plain, plain_at}
+use Rattle.proof_writer.specs.declared.writer.Writer.{Writer}
+use Rattle.run_prover.specs.Reaching.{HasReached}
+use Rattle.run_prover.proofs.ContextLaws.{image_grown, text_grown}
+use Rattle.ml_image.specs.Images.{image_of}
+use Rattle.ml_image.specs.Sentences.{term}
+use Rattle.mm_claims.specs.Kept.{Kept}
+use Rattle.mm_claims.specs.Places.{IsStated}
+use Rattle.prove_term.specs.Contexts.{Context, HasContext, HasGrown, StaysIn}
+use Rattle.proof_writer.specs.Writing.{HasNoVariables, HasStated, MayFollow, Begins, Adds, IsTextOf}
+
+-- a theorem without pattern variables, cited without any, says the same
+pub cited_says : (p q : Pattern) → HasNoMeta p → q ≡ instance [] p → q ≡ p
+cited_says p q no_meta is = is ∙ instance-empty [] p refl no_meta
+
+-- What follows from the theorem that was stated last, which is about images, and from one that stays in the context.
+pub follows_from : (cx : Context) (k : Kept) (last sofar step further : Theorem) (a b : RulePattern) (from to : Pattern)
+    → image_of cx.program.sig cx.names a ≡ Some from → image_of cx.program.sig cx.names b ≡ Some to → sofar.conclusion ≡ imp from (ev to)
+    → IsStated k.stated last.hypotheses last.conclusion → IsByLemma last [] [] sofar → StaysIn cx step → StaysWithin [] (sofar ∷ step ∷ []) further → MayFollow cx k further
+follows_from cx k last sofar step further a b from to image image' says stated by stays closure s has told =
+    let over : IsOver s (imp from (ev to)) = (has.images (term a) from image, has.images (term b) to image') in
+    let sofar_within : IsWithin s sofar = lemma_within s last [] [] sofar by (told last.hypotheses last.conclusion stated) tt (subst (IsOver s) (sym says) over) tt in
+    closure s tt (sofar_within, (stays s has, tt))
+
+-- ---- a step
+
+some_same : {A : Type 0} (a b : A) → Some a ≡ Some b → a ≡ b
+some_same a b h = cc
+
+-- What is known where a step is made: the proof so far, and the theorems that are made.
+pub record Making (old new : Context) (w : Writer) (last sofar step : Theorem) (start : RulePattern) (t u : Tree) : Type 0 where
+  pub stays : ImageStays
+  pub no_metas : SentenceHasNoMeta
+  pub grown : HasGrown old new
+  pub reached : HasReached old w last start (ground_pattern t)
+  pub says : SaysStep new t u step.conclusion
+  pub again : sofar.conclusion ≡ instance [] last.conclusion
+
+-- what was stated last has no pattern variables
+pub last_no_meta : SentenceHasNoMeta → (cx : Context) (w : Writer) (last : Theorem) (start reached : RulePattern) → HasReached cx w last start reached → HasNoMeta last.conclusion
+last_no_meta none cx w last start reached h =
+    subst HasNoMeta (sym h.says) (none cx.program.sig cx.names (term start) h.from h.from_image, none cx.program.sig cx.names (term reached) h.to h.to_image)
+
+pub sofar_says : (old new : Context) (w : Writer) (last sofar step : Theorem) (start : RulePattern) (t u : Tree) (m : Making old new w last sofar step start t u) →
+    sofar.conclusion ≡ imp m.reached.from (ev m.reached.to)
+sofar_says old new w last sofar step start t u m =
+    cited_says last.conclusion sofar.conclusion (last_no_meta m.no_metas old w last start (ground_pattern t) m.reached) m.again ∙ m.reached.says
+
+-- the step is from where the run has come
+same_place : (old new : Context) (w : Writer) (last sofar step : Theorem) (start : RulePattern) (t u : Tree) (m : Making old new w last sofar step start t u) → m.says.from ≡ m.reached.to
+same_place old new w last sofar step start t u m =
+    some_same m.says.from m.reached.to (sym m.says.from_image ∙ image_grown m.stays old new (ground_pattern t) m.reached.to m.grown m.reached.to_image)
+
+step_says : (old new : Context) (w : Writer) (last sofar step : Theorem) (start : RulePattern) (t u : Tree) (m : Making old new w last sofar step start t u) →
+    step.conclusion ≡ imp m.reached.to (next m.says.to)
+step_says old new w last sofar step start t u m =
+    m.says.says ∙ ap (λ (p : Pattern). imp p (next m.says.to)) (same_place old new w last sofar step start t u m)
+
+-- the theorem so far and that of the step are linked
+pub linked : (old new : Context) (w : Writer) (last sofar step : Theorem) (start : RulePattern) (t u : Tree) → Making old new w last sofar step start t u →
+    IsOneStepOn sofar.conclusion step.conclusion
+linked old new w last sofar step start t u m =
+    (m.reached.from, (m.reached.to, (m.says.to, (sofar_says old new w last sofar step start t u m, step_says old new w last sofar step start t u m))))
+
+-- so the start reaches what the step makes
+pub further_says : (old new : Context) (w : Writer) (last sofar step further : Theorem) (start : RulePattern) (t u : Tree) (m : Making old new w last sofar step start t u) →
+    ReachesOneFurther sofar.conclusion step.conclusion further.conclusion → further.conclusion ≡ imp m.reached.from (ev m.says.to)
+further_says old new w last sofar step further start t u m reaches =
+    reaches m.reached.from m.reached.to m.says.to (sofar_says old new w last sofar step start t u m) (step_says old new w last sofar step start t u m)
+
+-- ---- terms without injections
+
+mutual
+  pub ground_has_none : (t : Tree) → HasNoVariables (ground_pattern t)
+  ground_has_none (leaf s v) x h = h
+  ground_has_none (node f ts) x h = ground_have_none ts x h
+  ground_has_none (inj a b t) x h = ground_has_none t x h
+
+  ground_have_none : (ts : Forest) (x : ℕ) → StandsInSome x (ground_patterns ts) → ⊥
+  ground_have_none no_tree x h = h
+  ground_have_none (more_trees t ts) x (inl h) = ground_has_none t x h
+  ground_have_none (more_trees t ts) x (inr h) = ground_have_none ts x h
+
+mutual
+  pub plain_term : (t : Tree) → is_plain (ground_pattern t) ≡ true → HasNoInjection t
+  plain_term (leaf s v) h = tt
+  plain_term (node f ts) h = plain_terms ts h
+  plain_term (inj a b t) h = absurd (false≢true h)
+
+  plain_terms : (ts : Forest) → are_plain (ground_patterns ts) ≡ true → HaveNoInjection ts
+  plain_terms no_tree h = tt
+  plain_terms (more_trees t ts) h =
+      let parts : (is_plain (ground_pattern t) ≡ true) × (are_plain (ground_patterns ts) ≡ true) = split_true (is_plain (ground_pattern t)) (are_plain (ground_patterns ts)) h in
+      (plain_term t parts.0, plain_terms ts parts.1)
+
+mutual
+  pub term_is_plain : (t : Tree) → HasNoInjection t → is_plain (ground_pattern t) ≡ true
+  term_is_plain (leaf s v) h = refl
+  term_is_plain (node f ts) h = terms_are_plain ts h
+  term_is_plain (inj a b t) h = absurd h
+
+  terms_are_plain : (ts : Forest) → HaveNoInjection ts → are_plain (ground_patterns ts) ≡ true
+  terms_are_plain no_tree h = refl
+  terms_are_plain (more_trees t ts) h = both_true (is_plain (ground_pattern t)) (are_plain (ground_patterns ts)) (term_is_plain t h.0) (terms_are_plain ts h.1)
+
+-- ---- a proof begins, and goes on
+
+pub covered_parts : (theory : RewriteTheory) (start : RulePattern) → is_covered theory start ≡ true → (is_plain start ≡ true) × (list_all is_plain_rule theory.rules ≡ true)
+covered_parts theory start h = split_true (is_plain start) (list_all is_plain_rule theory.rules) h
+
+pub covered_start : (theory : RewriteTheory) (start : RulePattern) → is_covered theory start ≡ true → is_plain start ≡ true
+covered_start theory start h = (covered_parts theory start h).0
+
+pub covered_rules : (theory : RewriteTheory) (start : RulePattern) → is_covered theory start ≡ true → list_all is_plain_rule theory.rules ≡ true
+covered_rules theory start h = (covered_parts theory start h).1
+
+-- what a text is that begins, and with a theorem behind it
+pub begun_text : FitsLater → (old new : Context) (k k' : Kept) (before middle after : List ℕ) → k.named ≤ length old.names → HasGrown old new → Begins old k before middle →
+    Adds new k k' middle after → (added : List ℕ) × (after ≡ before ++ added) × IsTextOf new k' added
+begun_text later old new k k' before middle after few grown (m, is, text) (n, is', f) = (
+  m ++ n,
+  is' ∙ ap (λ (l : List ℕ). l ++ n) is ∙ append_assoc before m n,
+  f m (text_grown later old new k m few grown text),
+)
+
+-- ---- what is known of a proof where it makes a step
+
+-- the rule that is named, and the term that the proof has come to
+pub record Standing (prover : Context) (w : Writer) (last : Theorem) (start : RulePattern) (i : ℕ) (theta : List (Option Tree)) (u : Tree) : Type 0 where
+  pub rule : Rule
+  pub there : slice_get prover.program.rules.items i ≡ Some rule
+  pub term : Tree
+  pub matches : Matches (theory_of prover.program) (rewrite_rule rule) term theta
+  pub makes : instance_of theta (plain_pattern rule.right) ≡ Some u
+  pub none : HasNoInjection term
+  pub plain : is_plain_rule (rewrite_rule rule) ≡ true
+  pub reached : HasReached prover w last start (ground_pattern term)
+
+pub standing : (v : RunProof) (prover : Context) (w : Writer) (start : RulePat) (config : Option Tree) (last : Theorem) (i : ℕ) (theta : List (Option Tree)) (u : Tree)
+    → record { program = prover.program; start = start; made = config; names = prover.names; kept = w.renderer } ≡ v
+    → is_plain (configuration (plain_pattern start) config) ≡ true → list_all is_plain_rule (theory_of prover.program).rules ≡ true
+    → HasReached prover w last (plain_pattern start) (configuration (plain_pattern start) config) → CanStep v i theta u → Standing prover w last (plain_pattern start) i theta u
+standing v prover w start config last i theta u is plain rules reach can =
+    let at : configuration (plain_pattern start) config ≡ ground_pattern can.term = ap reached is ∙ can.at in
+    let program : v.program ≡ prover.program = ap (λ (p : RunProof). p.program) (sym is) in
+    let there : slice_get prover.program.rules.items i ≡ Some can.rule = subst (λ (p : Program). slice_get p.rules.items i ≡ Some can.rule) program can.there in
+    record {
+      rule = can.rule;
+      there = there;
+      term = can.term;
+      matches = subst (λ (p : Program). Matches (theory_of p) (rewrite_rule can.rule) can.term theta) program can.matches;
+      makes = can.makes;
+      none = plain_term can.term (subst (λ (p : RulePattern). is_plain p ≡ true) at plain);
+      plain = plain_at prover.program.rules.items i can.rule there rules;
+      reached = subst (HasReached prover w last (plain_pattern start)) at reach;
+    }
+
+pub made_plain : (prover : Context) (w : Writer) (last : Theorem) (start : RulePattern) (i : ℕ) (theta : List (Option Tree)) (u : Tree) → Standing prover w last start i theta u → HasNoInjection u
+made_plain prover w last start i theta u s = right_is_plain (theory_of prover.program) (rewrite_rule s.rule) s.term u theta s.plain s.none s.matches s.makes
+
+pub making : ImageStays → SentenceHasNoMeta → (prover : Context) (w : Writer) (last : Theorem) (start : RulePattern) (i : ℕ) (theta : List (Option Tree)) (u : Tree) (new : Context) (sofar step : Theorem)
+    (s : Standing prover w last start i theta u) → HasGrown prover new → SaysStepAt new i theta step.conclusion → sofar.conclusion ≡ instance [] last.conclusion
+    → Making prover new w last sofar step start s.term u
+making stays no_metas prover w last start i theta u new sofar step s grown says again = record {
+  stays = stays;
+  no_metas = no_metas;
+  grown = grown;
+  reached = s.reached;
+  says = says s.rule (subst (λ (p : Program). slice_get p.rules.items i ≡ Some s.rule) (sym grown.program) s.there) s.term u (match_makes (theory_of prover.program) (rewrite_rule s.rule) s.term theta s.matches) s.makes;
+  again = again;
+}
+
+-- so the theorem that reaches further follows from what is written
+pub further_follows : (prover new : Context) (w : Writer) (last sofar step further : Theorem) (start : RulePattern) (t u : Tree) (m : Making prover new w last sofar step start t u)
+    → IsByLemma last [] [] sofar → StaysIn new step → StaysWithin [] (sofar ∷ step ∷ []) further → MayFollow new w.renderer further
+further_follows prover new w last sofar step further start t u m by stays closure =
+    follows_from new w.renderer last sofar step further start (ground_pattern t) m.reached.from m.reached.to
+    (image_grown m.stays prover new start m.reached.from m.grown m.reached.from_image) (image_grown m.stays prover new (ground_pattern t) m.reached.to m.grown m.reached.to_image)
+    (sofar_says prover new w last sofar step start t u m) m.reached.stated by stays closure
+
+-- and says how far the run has come then
+pub further_reached : (prover new : Context) (w w' : Writer) (last sofar step further : Theorem) (start : RulePattern) (t u : Tree) (m : Making prover new w last sofar step start t u)
+    → ReachesOneFurther sofar.conclusion step.conclusion further.conclusion → further.hypotheses ≡ [] → IsStated w'.renderer.stated further.hypotheses further.conclusion
+    → HasReached new w' further start (ground_pattern u)
+further_reached prover new w w' last sofar step further start t u m reaches none stated = record {
+  from = m.reached.from;
+  to = m.says.to;
+  from_image = image_grown m.stays prover new start m.reached.from m.grown m.reached.from_image;
+  to_image = m.says.to_image;
+  from_ground = m.reached.from_ground;
+  to_ground = ground_has_none u;
+  says = further_says prover new w last sofar step further start t u m reaches;
+  no_hypotheses = none;
+  stated = stated;
+}

@@ -1,0 +1,4 @@
+pub mod ContextLaws
+pub mod FollowLaws
+pub mod PlainSteps
+pub mod WritingOn

@@ -1,0 +1,114 @@
+use Rattle.std.proofs.Common.{◌≡◌, ℕ, true, List, [], ◌∷◌, ◌++◌, Some, None, Option, refl, ap, ◌∙◌, sym, subst}
+use Rattle.std.specs.List.{list_all}
+use Rattle.term_core.specs.Terms.{Tree}
+use Rattle.term_core.specs.Patterns.{Pattern as RulePattern, ground_pattern}
+use Rattle.term_core.specs.RulePatterns.{plain_pattern}
+use Rattle.ml_kernel.specs.Theorems.{Theorem}
+use Rattle.rule_core.specs.ProgramView.{theory_of}
+use Rattle.rule_core.specs.WellSorted.{IsWellSorted}
+use Rattle.rule_core.specs.declared.rules.Program.{Program}
+use Rattle.mm_justify.specs.Justifying.{JustifiesRun}
+use Rattle.mm_claims.specs.Places.{IsStated}
+use Rattle.prove_term.specs.Contexts.{Context}
+use Rattle.prove_step.specs.PlainRules.{is_plain, is_plain_rule}
+use Rattle.proof_writer.specs.PlainNames.{HasPlainNames}
+use Rattle.proof_writer.specs.Writing.{IsTextOf}
+use Rattle.run_prover.specs.RunProof.{RunProof, reached, configuration}
+use Rattle.run_prover.specs.Proving.{CanStep, FitsProof}
+use Rattle.run_prover.specs.Reaching.{HasReached}
+use Rattle.run_prover.specs.ProofView.{run_proof, IsProof}
+use Rattle.run_prover.proofs.ContextLaws.{written_grown, text_grown, image_grown}
+use Rattle.run_prover.proofs.FollowLaws.{Making, Standing, standing, making, made_plain, linked, last_no_meta, further_follows, further_reached, term_is_plain, ground_has_none, further_says}
+use Rattle.run_prover.proofs.proof.Proof.step.Goals as goal
+
+pub step-requires-clause-plain : goal.step-requires-clause-plain
+step-requires-clause-plain c =
+    let p = c.self.inside in
+    let s = standing c.args.self p.prover p.writer p.start.now p.reached p.last c.args.rule c.args.subst.now c.args.config.now c.self.view_is c.self.invariant.plain c.self.invariant.rules c.self.invariant.has_reached c.requires.applies in
+    (s.rule, s.there, s.plain)
+
+pub step-requires-clause-matches : goal.step-requires-clause-matches
+step-requires-clause-matches c =
+    let p = c.self.inside in
+    let s = standing c.args.self p.prover p.writer p.start.now p.reached p.last c.args.rule c.args.subst.now c.args.config.now c.self.view_is c.self.invariant.plain c.self.invariant.rules c.self.invariant.has_reached c.requires.applies in
+    (s.rule, s.there, (s.term, s.none, s.matches))
+
+pub use_lemma-requires-clause-conclusion_metas : goal.use_lemma-requires-clause-conclusion_metas
+use_lemma-requires-clause-conclusion_metas c =
+    let p = c.self.inside in
+    last_no_meta c.image_laws.ensures.metas p.prover p.writer p.last (plain_pattern p.start.now) (configuration (plain_pattern p.start.now) p.reached) c.self.invariant.has_reached
+
+pub reach_step-requires : goal.reach_step-requires
+reach_step-requires c =
+    let p = c.self.inside in
+    let start = plain_pattern p.start.now in
+    let s = standing c.args.self p.prover p.writer p.start.now p.reached p.last c.args.rule c.args.subst.now c.args.config.now c.self.view_is c.self.invariant.plain c.self.invariant.rules c.self.invariant.has_reached c.requires.applies in
+    let m = making c.naming_laws.ensures.image c.image_laws.ensures.metas p.prover p.writer p.last start c.args.rule c.args.subst.now c.args.config.now c.step.new.self c.in_ok-sofar.sofar c.in_ok-step.step s c.in_ok-step.ensures.grown c.in_ok-step.ensures.says c.in_ok-sofar.ensures.conclusion in
+    linked p.prover c.step.new.self p.writer p.last c.in_ok-sofar.sofar c.in_ok-step.step start s.term c.args.config.now m
+
+pub state-requires-clause-written : goal.state-requires-clause-written
+state-requires-clause-written c = written_grown c.self.inside.prover c.step.new.self c.self.inside.writer c.self.invariant.written c.in_ok-step.ensures.grown
+
+pub state-requires-clause-names : goal.state-requires-clause-names
+state-requires-clause-names c = subst (λ (q : Program). HasPlainNames q.sig) (sym c.in_ok-step.ensures.grown.program) c.self.invariant.names
+
+pub state-requires-clause-follows : goal.state-requires-clause-follows
+state-requires-clause-follows c =
+    let p = c.self.inside in
+    let start = plain_pattern p.start.now in
+    let s = standing c.args.self p.prover p.writer p.start.now p.reached p.last c.args.rule c.args.subst.now c.args.config.now c.self.view_is c.self.invariant.plain c.self.invariant.rules c.self.invariant.has_reached c.requires.applies in
+    let m = making c.naming_laws.ensures.image c.image_laws.ensures.metas p.prover p.writer p.last start c.args.rule c.args.subst.now c.args.config.now c.step.new.self c.in_ok-sofar.sofar c.in_ok-step.step s c.in_ok-step.ensures.grown c.in_ok-step.ensures.says c.in_ok-sofar.ensures.conclusion in
+    further_follows p.prover c.step.new.self p.writer p.last c.in_ok-sofar.sofar c.in_ok-step.step c.in_ok-further.further start s.term c.args.config.now m c.in_ok-sofar.ensures.lemma c.in_ok-step.ensures.stays c.in_ok-further.ensures.stays
+
+pub invariant_of-result : goal.invariant_of-result
+invariant_of-result c =
+    let p = c.self.inside in
+    let new = c.step.new.self in
+    let start = plain_pattern p.start.now in
+    let grown = c.in_ok-step.ensures.grown in
+    let s = standing c.args.self p.prover p.writer p.start.now p.reached p.last c.args.rule c.args.subst.now c.args.config.now c.self.view_is c.self.invariant.plain c.self.invariant.rules c.self.invariant.has_reached c.requires.applies in
+    let m = making c.naming_laws.ensures.image c.image_laws.ensures.metas p.prover p.writer p.last start c.args.rule c.args.subst.now c.args.config.now new c.in_ok-sofar.sofar c.in_ok-step.step s grown c.in_ok-step.ensures.says c.in_ok-sofar.ensures.conclusion in
+    let u : c.in_ok-made.made ≡ c.args.config.now = c.in_ok-made.ensures.same in
+    record {
+      well_sorted = subst (λ (q : Program). IsWellSorted (theory_of q)) (sym grown.program) c.self.invariant.well_sorted;
+      names = subst (λ (q : Program). HasPlainNames q.sig) (sym grown.program) c.self.invariant.names;
+      rules = subst (λ (q : Program). list_all is_plain_rule (theory_of q).rules ≡ true) (sym grown.program) c.self.invariant.rules;
+      context = c.in_ok-last.ensures.context;
+      written = c.in_ok-last.ensures.all;
+      plain = subst (λ (t : Tree). is_plain (ground_pattern t) ≡ true) (sym u) (term_is_plain c.args.config.now (made_plain p.prover p.writer p.last start c.args.rule c.args.subst.now c.args.config.now s));
+      has_reached = subst (λ (t : Tree). HasReached new c.state.new.writer c.in_ok-last.last start (ground_pattern t)) (sym u)
+          (subst (λ (t : Theorem). HasReached new c.state.new.writer t start (ground_pattern c.args.config.now)) (sym c.in_ok-last.ensures.lemma)
+          (further_reached p.prover new p.writer c.state.new.writer p.last c.in_ok-sofar.sofar c.in_ok-step.step c.in_ok-further.further start s.term c.args.config.now m c.in_ok-further.ensures.conclusion
+          c.in_ok-last.ensures.no_hypotheses c.in_ok-last.ensures.stated));
+    }
+
+pub returns : goal.returns
+returns c =
+    let p = c.self.inside in
+    let new = c.step.new.self in
+    let start = plain_pattern p.start.now in
+    let grown = c.in_ok-step.ensures.grown in
+    let s = standing c.args.self p.prover p.writer p.start.now p.reached p.last c.args.rule c.args.subst.now c.args.config.now c.self.view_is c.self.invariant.plain c.self.invariant.rules c.self.invariant.has_reached c.requires.applies in
+    let m = making c.naming_laws.ensures.image c.image_laws.ensures.metas p.prover p.writer p.last start c.args.rule c.args.subst.now c.args.config.now new c.in_ok-sofar.sofar c.in_ok-step.step s grown c.in_ok-step.ensures.says c.in_ok-sofar.ensures.conclusion in
+    let further = further_says p.prover new p.writer p.last c.in_ok-sofar.sofar c.in_ok-step.step c.in_ok-further.further start s.term c.args.config.now m c.in_ok-further.ensures.conclusion in
+    record {
+      same_program = grown.program ∙ ap (λ (v : RunProof). v.program) c.self.view_is;
+      same_start = ap (λ (v : RunProof). v.start) c.self.view_is;
+      made = ap (λ (t : Tree). Some t) c.in_ok-made.ensures.same;
+      text = (
+        c.in_ok-last.ensures.text.0,
+        c.in_ok-last.ensures.text.1,
+        λ text h.
+            let fits : FitsProof (run_proof p) text = subst (λ (v : RunProof). FitsProof v text) (sym c.self.view_is) h in
+            let before : IsTextOf new p.writer.renderer text =
+            text_grown c.later_laws.ensures.fits p.prover new p.writer.renderer text c.self.invariant.written.written.named grown (record { fits = fits.fits; only = fits.only }) in
+            let after = c.in_ok-last.ensures.text.2 text before in
+            record {
+              fits = after.fits;
+              only = after.only;
+              justifies = subst (λ (t : Tree). JustifiesRun (text ++ c.in_ok-last.ensures.text.0) (theory_of new.program) start (ground_pattern t)) (sym c.in_ok-made.ensures.same)
+                  (c.in_ok-last.ensures.concludes start (ground_pattern c.args.config.now) m.reached.from m.says.to c.in_ok-last.ensures.text.0 text m.reached.from_ground (ground_has_none c.args.config.now)
+                  (image_grown m.stays p.prover new start m.reached.from grown m.reached.from_image) m.says.to_image further c.in_ok-last.ensures.text.1 before);
+            },
+      );
+    }

@@ -1,0 +1,34 @@
+-- How a `Proof` of the code is seen, and what is true of it.
+use Rattle.std.specs.Prelude.{◌≡◌, true}
+use Rattle.std.specs.List.{list_all}
+use Rattle.term_core.specs.RulePatterns.{plain_pattern}
+use Rattle.rule_core.specs.ProgramView.{theory_of}
+use Rattle.rule_core.specs.WellSorted.{IsWellSorted}
+use Rattle.prove_term.specs.Contexts.{IsContext}
+use Rattle.prove_step.specs.PlainRules.{is_plain, is_plain_rule}
+use Rattle.proof_writer.specs.PlainNames.{HasPlainNames}
+use Rattle.proof_writer.specs.Writing.{HasWrittenAll}
+use Rattle.run_prover.specs.RunProof.{RunProof, configuration}
+use Rattle.run_prover.specs.Reaching.{HasReached}
+use Rattle.run_prover.specs.declared.proof.Proof.TheInside.{Inside}
+
+abbrev pub run_proof : Inside → RunProof
+run_proof p = record {
+  program = p.prover.program;
+  start = p.start.now;
+  made = p.reached;
+  names = p.prover.names;
+  kept = p.writer.renderer;
+}
+
+-- The program is well-sorted, and its names can stand in a text; all that was made is written; and the last theorem
+-- says how far the run has come.
+pub record IsProof (p : Inside) : Type 0 where
+  pub well_sorted : IsWellSorted (theory_of p.prover.program)
+  pub names : HasPlainNames p.prover.program.sig
+  pub rules : list_all is_plain_rule (theory_of p.prover.program).rules ≡ true
+  pub context : IsContext p.prover
+  pub written : HasWrittenAll p.writer p.prover
+  pub plain : is_plain (configuration (plain_pattern p.start.now) p.reached) ≡ true
+  pub has_reached : HasReached p.prover p.writer p.last (plain_pattern p.start.now)
+      (configuration (plain_pattern p.start.now) p.reached)

@@ -1,0 +1,22 @@
+-- What the theorem that was stated last says.
+use Rattle.std.specs.Prelude.{◌≡◌, [], Some}
+use Rattle.term_core.specs.Patterns.{Pattern as RulePattern}
+use Rattle.ml_pat.specs.Patterns.{Pattern, imp, ev}
+use Rattle.ml_kernel.specs.Theorems.{Theorem}
+use Rattle.ml_image.specs.Images.{image_of}
+use Rattle.mm_claims.specs.Places.{IsStated}
+use Rattle.prove_term.specs.Contexts.{Context}
+use Rattle.proof_writer.specs.Writing.{HasNoVariables}
+use Rattle.proof_writer.specs.declared.writer.Writer.{Writer}
+
+-- The theorem that was stated last says that the image of the start reaches that of the present configuration.
+pub record HasReached (cx : Context) (w : Writer) (last : Theorem) (start reached : RulePattern) : Type 0 where
+  pub from : Pattern
+  pub to : Pattern
+  pub from_image : image_of cx.program.sig cx.names start ≡ Some from
+  pub to_image : image_of cx.program.sig cx.names reached ≡ Some to
+  pub from_ground : HasNoVariables start
+  pub to_ground : HasNoVariables reached
+  pub says : last.conclusion ≡ imp from (ev to)
+  pub no_hypotheses : last.hypotheses ≡ []
+  pub stated : IsStated w.renderer.stated last.hypotheses last.conclusion

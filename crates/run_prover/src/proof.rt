@@ -1,0 +1,152 @@
+// A proof of a run, step by step.
+ghost use Rattle.std.specs.Prelude.{◌≡◌, true, [], IfOk, OnOk};
+ghost use Rattle.term_core.specs.RulePatterns.{plain_pattern};
+ghost use Rattle.rule_core.specs.ProgramView.{theory_of};
+ghost use Rattle.rule_core.specs.WellSorted.{IsStart, IsWellSorted};
+ghost use Rattle.mm_claims.specs.Places.{IsStated};
+ghost use Rattle.prove_term.specs.Contexts.{IsContext};
+ghost use Rattle.proof_writer.specs.PlainNames.{HasPlainNames};
+ghost use Rattle.proof_writer.specs.Writing.{Adds, Concludes, HasWritten, HasWrittenAll, Keeps, MayFollow};
+ghost use Rattle.run_prover.specs.Covered.{is_covered};
+ghost use Rattle.run_prover.specs.Proving.{Begins, CanStep, StepsTo};
+
+use ml_derived::{reach_here, reach_step};
+use ml_image::{condition_laws, naming_laws};
+use ml_kernel::{Lemma, Thm};
+use mm_claims::later_laws;
+use mm_justify::image_laws;
+use proof_writer::{Made, Writer};
+use prove_step::Prover;
+use rule_core::Program;
+use std::alloc::{AllocError, Global};
+use std::marker::Model;
+use term_core::{RulePat, Subst, Term};
+
+/// A proof that the start of a run reaches the present configuration. Contracts see it as these two, the program, the
+/// names, and what is kept of the text.
+#[derive(Drop)]
+pub struct Proof<'p> {
+    prover: Prover<'p>,
+    writer: Writer,
+    start: &'p RulePat,
+    // The present configuration, where a step was made.
+    reached: Option<Term>,
+    // The theorem that says so.
+    last: Lemma,
+}
+
+impl<'p> Model for Proof<'p> {
+    ghost use Rattle.std.specs.Coded.{codes};
+    ghost use Rattle.run_prover.specs.RunProof.{RunProof};
+    ghost use Rattle.term_core.specs.TermCode.{tree_code};
+    ghost use Rattle.term_core.specs.contracts.rule_patterns.RulePat as rule_pattern;
+    ghost use Rattle.mm_render.specs.KeptCode.{kept_code};
+
+    ghost Value = { RunProof };
+
+    ghost coded = { Prim.hlevel (codes, rule_pattern.the_row.coded, tree_code, kept_code) };
+
+    ghost use Rattle.run_prover.specs.ProofView.{run_proof, IsProof};
+
+    ghost view = { run_proof };
+
+    ghost invariant = { IsProof };
+}
+
+impl<'p> Proof<'p> {
+    /// The proof of a run of no step: the start reaches itself. Its text is appended to the buffer. The program is
+    /// well-sorted and covered with this start. The error is want of memory; then a part of the text was appended.
+    pub fn begin(
+        alloc: Global,
+        program: &'p Program,
+        start: &'p RulePat,
+        to: &mut Vec<u8>,
+    ) -> Result<Proof<'p>, AllocError>
+        requires names { HasPlainNames program.now.sig }
+        requires well_sorted { IsWellSorted (theory_of program.now) }
+        requires start { IsStart (theory_of program.now) (plain_pattern start.now) }
+        requires covered { is_covered (theory_of program.now) (plain_pattern start.now) ≡ true }
+        ensures { IfOk result (λ proof. Begins program.now start.now proof to.old.items to.new.items) }
+    {
+        condition_laws();
+        later_laws();
+        naming_laws();
+        let mut prover = Prover::new(alloc, program)?;
+        let mut writer = Writer::begin(alloc, program, to)?;
+        let here = prover.image(alloc, start)?;
+        let thm = reach_here(alloc, &here)?;
+        let last = state(&prover, &mut writer, thm, to)?;
+        Ok(Proof {
+            prover,
+            writer,
+            start,
+            reached: None,
+            last,
+        })
+    }
+
+    /// One step more, by the rule at a place of the program, which matches the present configuration with a
+    /// substitution. What it makes of its right side is the present configuration then. The text of the step is
+    /// appended to the buffer. The error is want of memory; then a part of it was appended, and no proof is left.
+    pub fn step(
+        self,
+        alloc: Global,
+        rule: u32,
+        subst: &Subst,
+        config: &Term,
+        to: &mut Vec<u8>,
+    ) -> Result<Proof<'p>, AllocError>
+        requires applies { CanStep self rule subst.now config.now }
+        ensures { IfOk result (λ further. StepsTo self.entry further config.now to.old.items to.new.items) }
+    {
+        image_laws();
+        later_laws();
+        naming_laws();
+        let mut prover = self.prover;
+        let mut writer = self.writer;
+        let step = prover.step(alloc, rule, subst)?;
+        let sofar = Thm::use_lemma(alloc, &self.last, &[], &[])?;
+        let further = reach_step(alloc, &sofar, &step)?;
+        let last = state(&prover, &mut writer, further, to)?;
+        let made = config.share()?;
+        Ok(Proof {
+            prover,
+            writer,
+            start: self.start,
+            reached: Some(made),
+            last,
+        })
+    }
+}
+
+// Writes what was made, and a theorem that follows from it.
+fn state(
+    prover: &Prover<'_>,
+    writer: &mut Writer,
+    thm: Thm,
+    to: &mut Vec<u8>,
+) -> Result<Lemma, AllocError>
+    requires names { HasPlainNames prover.now.program.sig }
+    requires written { HasWritten writer.old prover.now }
+    requires follows { MayFollow prover.now writer.old.renderer thm }
+    ensures lemma { IfOk result (λ lemma. lemma ≡ thm) }
+    ensures no_hypotheses { OnOk result (thm.hypotheses ≡ []) }
+    ensures context { OnOk result (IsContext prover.now) }
+    ensures all { OnOk result (HasWrittenAll writer.new prover.now) }
+    ensures stated { OnOk result (IsStated writer.new.renderer.stated thm.hypotheses thm.conclusion) }
+    ensures concludes { OnOk result (Concludes prover.now writer.old.renderer thm to.old.items to.new.items) }
+    ensures text { OnOk result (Adds prover.now writer.old.renderer writer.new.renderer to.old.items to.new.items) }
+{
+    image_laws();
+    let cx = prover.cx();
+    cx.law();
+    let made = Made {
+        program: cx.program(),
+        names: cx.names(),
+        theory: cx.theory(),
+        lemmas: cx.theorems(),
+    };
+    writer.write(&made, to)?;
+    writer.theorem(&made, &thm, to)?;
+    Lemma::close(thm)
+}
