@@ -117,7 +117,8 @@ fn whole_definitions(rt: HostRuntime) -> Result<(), Fail> {
             Some((6, 27)),
         ),
         (
-            "[] module M sort S{} [] symbol a{}(S{},S{},S{},S{},S{},S{},S{},S{},S{},S{},S{},S{},S{},S{},S{},S{},S{},S{},S{},S{},\
+            "[] module M sort S{} [] symbol a{}(\
+                S{},S{},S{},S{},S{},S{},S{},S{},S{},S{},S{},S{},S{},S{},S{},S{},S{},S{},S{},S{},\
                 S{},S{},S{},S{},S{},S{},S{},S{},S{},S{},S{},S{},S{},S{},S{},S{},S{},S{},S{},S{},\
                 S{},S{},S{},S{},S{},S{},S{},S{},S{},S{},S{},S{},S{},S{},S{},S{},S{},S{},S{},S{},\
                 S{},S{},S{},S{},S{}\

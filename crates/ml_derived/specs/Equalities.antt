@@ -11,7 +11,8 @@ hole = 0
 -- what is given is the context with one side of an equality for x, and the other side can come in its place
 abbrev pub CanCarry : Pattern → Pattern → ℕ → Pattern → Type 0
 CanCarry e context x given =
-    (p : Pattern) × ((q : Pattern) × ((made : Pattern) × ((e ≡ equal p q) × ((substituted context x p ≡ Some given) × (substituted context x q ≡ Some made)))))
+    (p : Pattern) × ((q : Pattern) × ((made : Pattern) ×
+    ((e ≡ equal p q) × ((substituted context x p ≡ Some given) × (substituted context x q ≡ Some made)))))
 
 -- the context with the other side of the equality for x
 abbrev pub IsCarried : Pattern → Pattern → ℕ → Pattern → Type 0

@@ -27,7 +27,8 @@ IsElementOf p t = (s : ℕ) × (t ≡ fun p s)
 -- the sentence binds a variable of the sort at which the fact has a closed pattern
 abbrev pub Takes : Pattern → Pattern → Type 0
 Takes sentence fact =
-    (x : ℕ) × ((s : ℕ) × ((q : Pattern) × ((body : Pattern) × ((sentence ≡ all x s body) × ((fact ≡ fun q s) × HasNoVariable q)))))
+    (x : ℕ) × ((s : ℕ) × ((q : Pattern) × ((body : Pattern) ×
+    ((sentence ≡ all x s body) × ((fact ≡ fun q s) × HasNoVariable q)))))
 
 -- the sentence at the pattern of the fact
 abbrev pub IsPutIn : Pattern → Pattern → Pattern → Type 0

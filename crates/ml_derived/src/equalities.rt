@@ -4,7 +4,8 @@ ghost use Rattle.std.specs.Prelude.{◌≡◌, [], ◌∷◌, IfOk, Some};
 ghost use Rattle.ml_pat.specs.Patterns.{equal, app, var};
 ghost use Rattle.ml_pat.specs.Judgements.{substituted};
 ghost use Rattle.ml_kernel.specs.Lemmas.{HasNoVariable};
-ghost use Rattle.ml_derived.specs.Equalities.{hole, CanCarry, IsCarried, IsFromClosed, IsFlip, AreJoinable, IsJoin, AreApplicable, IsApplied, IsAppliedTo, IsArgument};
+ghost use Rattle.ml_derived.specs.Equalities.{hole, CanCarry, IsCarried, IsFromClosed, IsFlip, AreJoinable, IsJoin};
+ghost use Rattle.ml_derived.specs.Equalities.{AreApplicable, IsApplied, IsAppliedTo, IsArgument};
 ghost use Rattle.ml_derived.specs.Parts.{IsEquality, CanReplace};
 ghost use Rattle.ml_scope.specs.Scopes.{StaysWithin};
 

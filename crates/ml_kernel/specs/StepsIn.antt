@@ -1,6 +1,7 @@
 -- How many steps a derivation has, without those of the lemmas that it cites.
 use Rattle.std.specs.Prelude.{ℕ, ◌+◌}
-use Rattle.ml_kernel.specs.Theorems.{Derivation, Derivations, hypothesis, own_axiom, by_rule, cited, no_derivation, more_derivations}
+use Rattle.ml_kernel.specs.Theorems.{Derivation, Derivations, hypothesis, own_axiom, by_rule, cited}
+use Rattle.ml_kernel.specs.Theorems.{no_derivation, more_derivations}
 
 abbrev mutual
   pub steps_in : Derivation → ℕ

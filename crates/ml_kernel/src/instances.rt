@@ -2,9 +2,9 @@
 ghost use Rattle.std.specs.Prelude.{◌≡◌, length, slice_index_or, option_copied, IfOk};
 ghost use Rattle.ml_pat.specs.PatternView.{pattern_of};
 ghost use Rattle.ml_kernel.specs.Lemmas.{instance, IsMetaBelow};
-ghost use Rattle.ml_kernel.specs.Spines.{first_part, around};
+ghost use Rattle.ml_kernel.specs.Spines.{around};
 
-use ml_pat::{MForm, MPat};
+use ml_pat::{MForm, MPat, first_part};
 use std::alloc::{AllocError, Global};
 
 // The pattern with a pattern in the place of each pattern variable. Where there are none it costs the same for every
@@ -73,27 +73,5 @@ fn filled_meta(metas: &[MPat], i: u32, pat: &MPat) -> Result<MPat, AllocError>
     match metas.get(i as usize) {
         Some(by) => by.share(),
         None => pat.share(),
-    }
-}
-
-// The first part, where there is one.
-fn first_part(form: &MForm) -> Option<&MPat>
-    ensures { option_copied result ≡ first_part (pattern_of form.now) }
-{
-    match form {
-        MForm::Imp(p, _)
-        | MForm::And(p, _)
-        | MForm::Or(p, _)
-        | MForm::Equal(p, _)
-        | MForm::Member(p, _)
-        | MForm::App(p, _)
-        | MForm::Not(p)
-        | MForm::Fun(p, _)
-        | MForm::Ex(_, _, p)
-        | MForm::All(_, _, p)
-        | MForm::At(p, _)
-        | MForm::Next(p)
-        | MForm::Ev(p) => Some(p),
-        MForm::Bot | MForm::Top | MForm::Var(_) | MForm::Meta(_) | MForm::Const(_) => None,
     }
 }

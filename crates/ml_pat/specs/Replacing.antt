@@ -1,6 +1,7 @@
 -- What becomes of a pattern where u comes in the place of each free x, from what becomes of its parts.
 use Rattle.std.specs.Prelude.{ℕ, Bool, true, false, ◌==◌, if◌then◌else◌}
-use Rattle.ml_pat.specs.Patterns.{Pattern, bot, top, imp, not, and, or, equal, member, fun, ex, all, app, at_sort, next, ev, var, meta, constant}
+use Rattle.ml_pat.specs.Patterns.{Pattern, bot, top, imp, not, and, or, equal, member, fun, ex, all}
+use Rattle.ml_pat.specs.Patterns.{app, at_sort, next, ev, var, meta, constant}
 use Rattle.ml_pat.specs.Judgements.{fresh}
 use Rattle.ml_pat.specs.Spines.{with_parts}
 use Rattle.ml_pat.specs.declared.substitution.Outcome.{Outcome}

@@ -1,7 +1,8 @@
 -- A pattern along its first parts, where patterns are deep, and a pattern with other parts.
 use Rattle.std.specs.Prelude.{◌≡◌, List, [], ◌∷◌, Option, Some, None}
 use Rattle.std.specs.Borrow.{Bor}
-use Rattle.ml_pat.specs.Patterns.{Pattern, bot, top, imp, not, and, or, equal, member, fun, ex, all, app, at_sort, next, ev, var, meta, constant}
+use Rattle.ml_pat.specs.Patterns.{Pattern, bot, top, imp, not, and, or, equal, member, fun, ex, all}
+use Rattle.ml_pat.specs.Patterns.{app, at_sort, next, ev, var, meta, constant}
 
 -- the first part, where there is one
 abbrev pub first_part : Pattern → Option Pattern

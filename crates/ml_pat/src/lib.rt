@@ -16,7 +16,7 @@ pub use judgements::{fresh, is_pred};
 pub use names::Names;
 pub use numbers::{ConstNo, MSort, VarNo};
 pub use patterns::{MForm, MPat};
-pub use substitution::subst;
+pub use substitution::{first_part, subst};
 
 #[cfg(test)]
 mod tests;

@@ -170,8 +170,9 @@ fn with_parts(alloc: Global, pat: &MPat, p: &MPat, q: &MPat) -> Result<MPat, All
     }
 }
 
-// The first part, where there is one.
-fn first_part(form: &MForm) -> Option<&MPat>
+/// The first part of a pattern of this form, where it has one: a way down by first parts alone visits a deep pattern
+/// without recursion.
+pub fn first_part(form: &MForm) -> Option<&MPat>
     ensures { option_copied result ≡ first_part (pattern_of form.now) }
 {
     match form {

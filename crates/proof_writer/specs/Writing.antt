@@ -54,7 +54,8 @@ Begins cx k before after = (added : List ℕ) × (after ≡ before ++ added) × 
 -- Bytes were appended to a buffer. Behind every text of what was written before they make one of what was written then.
 abbrev pub Adds : Context → Kept → Kept → List ℕ → List ℕ → Type 0
 Adds cx old new before after =
-    (added : List ℕ) × (after ≡ before ++ added) × ((text : List ℕ) → IsTextOf cx old text → IsTextOf cx new (text ++ added))
+    (added : List ℕ) × (after ≡ before ++ added) ×
+    ((text : List ℕ) → IsTextOf cx old text → IsTextOf cx new (text ++ added))
 
 -- what was stated stays stated
 abbrev pub Keeps : Kept → Kept → Type 0

@@ -5,7 +5,8 @@ ghost use Rattle.mm_claims.specs.Keeping.{with_stated};
 ghost use Rattle.prove_term.specs.Contexts.{IsContext, new_context};
 ghost use Rattle.proof_writer.specs.PlainNames.{HasPlainNames};
 ghost use Rattle.mm_claims.specs.Places.{IsStated, MayProve, StatesLemma};
-ghost use Rattle.proof_writer.specs.Writing.{Adds, Begins, Concludes, HasWritten, HasWrittenAll, Keeps, MayFollow, context_of};
+ghost use Rattle.proof_writer.specs.Writing.{Adds, Begins, Concludes, HasWritten, HasWrittenAll, Keeps, MayFollow};
+ghost use Rattle.proof_writer.specs.Writing.{context_of};
 
 use ml_kernel::{AxiomNo, Theory, Thm};
 use ml_pat::Names;
@@ -63,7 +64,8 @@ impl Writer {
         requires written { HasWritten self.old (context_of made.now) }
         ensures all { OnOk result (HasWrittenAll self.new (context_of made.now)) }
         ensures keeps { OnOk result (Keeps self.old.renderer self.new.renderer) }
-        ensures text { OnOk result (Adds (context_of made.now) self.old.renderer self.new.renderer to.old.items to.new.items) }
+        ensures text { OnOk result
+            (Adds (context_of made.now) self.old.renderer self.new.renderer to.old.items to.new.items) }
     {
         self.declare(made, to)?;
         self.write_axioms(made, to)?;
@@ -78,7 +80,8 @@ impl Writer {
         ensures written { OnOk result (HasWritten self.new (context_of made.now)) }
         ensures named { OnOk result (self.new.renderer.named ≡ length made.now.names.now) }
         ensures keeps { OnOk result (Keeps self.old.renderer self.new.renderer) }
-        ensures text { OnOk result (Adds (context_of made.now) self.old.renderer self.new.renderer to.old.items to.new.items) }
+        ensures text { OnOk result
+            (Adds (context_of made.now) self.old.renderer self.new.renderer to.old.items to.new.items) }
     {
         justifying_laws();
         made.names.tokens_differ();
@@ -96,7 +99,8 @@ impl Writer {
         ensures named { OnOk result (self.new.renderer.named ≡ length made.now.names.now) }
         ensures all { OnOk result (self.new.axioms ≡ length made.now.theory.now) }
         ensures keeps { OnOk result (Keeps self.old.renderer self.new.renderer) }
-        ensures text { OnOk result (Adds (context_of made.now) self.old.renderer self.new.renderer to.old.items to.new.items) }
+        ensures text { OnOk result
+            (Adds (context_of made.now) self.old.renderer self.new.renderer to.old.items to.new.items) }
     {
         for no in self.axioms..made.theory.len() {
             self.axiom(made, no, to)?;
@@ -115,7 +119,8 @@ impl Writer {
         ensures named { OnOk result (self.new.renderer.named ≡ length made.now.names.now) }
         ensures one { OnOk result (self.new.axioms ≡ no + 1) }
         ensures keeps { OnOk result (Keeps self.old.renderer self.new.renderer) }
-        ensures text { OnOk result (Adds (context_of made.now) self.old.renderer self.new.renderer to.old.items to.new.items) }
+        ensures text { OnOk result
+            (Adds (context_of made.now) self.old.renderer self.new.renderer to.old.items to.new.items) }
     {
         image_laws();
         justifying_laws();
@@ -136,7 +141,8 @@ impl Writer {
         requires axioms { self.old.axioms ≡ length made.now.theory.now }
         ensures all { OnOk result (HasWrittenAll self.new (context_of made.now)) }
         ensures keeps { OnOk result (Keeps self.old.renderer self.new.renderer) }
-        ensures text { OnOk result (Adds (context_of made.now) self.old.renderer self.new.renderer to.old.items to.new.items) }
+        ensures text { OnOk result
+            (Adds (context_of made.now) self.old.renderer self.new.renderer to.old.items to.new.items) }
     {
         for place in self.lemmas..made.lemmas.len() as u64 {
             self.lemma(made, place, to)?;
@@ -157,7 +163,8 @@ impl Writer {
         ensures axioms { OnOk result (self.new.axioms ≡ length made.now.theory.now) }
         ensures one { OnOk result (self.new.lemmas ≡ place + 1) }
         ensures keeps { OnOk result (Keeps self.old.renderer self.new.renderer) }
-        ensures text { OnOk result (Adds (context_of made.now) self.old.renderer self.new.renderer to.old.items to.new.items) }
+        ensures text { OnOk result
+            (Adds (context_of made.now) self.old.renderer self.new.renderer to.old.items to.new.items) }
     {
         image_laws();
         later_laws();
@@ -168,7 +175,12 @@ impl Writer {
 
     /// Appends a theorem that follows from what is written. The error is want of memory; then a part of it was
     /// appended.
-    pub fn theorem(&mut self, made: &Made<'_>, thm: &Thm, to: &mut Vec<u8>) -> Result<(), AllocError>
+    pub fn theorem(
+        &mut self,
+        made: &Made<'_>,
+        thm: &Thm,
+        to: &mut Vec<u8>,
+    ) -> Result<(), AllocError>
         requires names { HasPlainNames made.now.program.now.sig }
         requires context { IsContext (context_of made.now) }
         requires all { HasWrittenAll self.old (context_of made.now) }
@@ -176,8 +188,10 @@ impl Writer {
         ensures all { OnOk result (HasWrittenAll self.new (context_of made.now)) }
         ensures stated { OnOk result (IsStated self.new.renderer.stated thm.now.hypotheses thm.now.conclusion) }
         ensures keeps { OnOk result (Keeps self.old.renderer self.new.renderer) }
-        ensures text { OnOk result (Adds (context_of made.now) self.old.renderer self.new.renderer to.old.items to.new.items) }
-        ensures concludes { OnOk result (Concludes (context_of made.now) self.old.renderer thm.now to.old.items to.new.items) }
+        ensures text { OnOk result
+            (Adds (context_of made.now) self.old.renderer self.new.renderer to.old.items to.new.items) }
+        ensures concludes { OnOk result
+            (Concludes (context_of made.now) self.old.renderer thm.now to.old.items to.new.items) }
     {
         justifying_laws();
         image_laws();
@@ -190,10 +204,14 @@ impl Writer {
     fn state(&mut self, made: &Made<'_>, thm: &Thm, to: &mut Vec<u8>) -> Result<(), AllocError>
         requires named { self.old.renderer.named ≡ length made.now.names.now }
         requires proved { MayProve made.now.names.now self.old.renderer thm.now }
-        ensures states { OnOk result (StatesLemma made.now.names.now self.old.renderer self.new.renderer thm.now to.old.items to.new.items) }
-        ensures kept { OnOk result (self.new ≡ record self.old { renderer = with_stated self.old.renderer (claim_of thm.now.hypotheses thm.now.conclusion) }) }
+        ensures states { OnOk result (StatesLemma made.now.names.now self.old.renderer self.new.renderer thm.now
+            to.old.items to.new.items) }
+        ensures kept { OnOk result (self.new ≡ record self.old {
+          renderer = with_stated self.old.renderer (claim_of thm.now.hypotheses thm.now.conclusion);
+        }) }
         ensures keeps { OnOk result (Keeps self.old.renderer self.new.renderer) }
-        ensures text { OnOk result (Adds (context_of made.now) self.old.renderer self.new.renderer to.old.items to.new.items) }
+        ensures text { OnOk result
+            (Adds (context_of made.now) self.old.renderer self.new.renderer to.old.items to.new.items) }
     {
         justifying_laws();
         later_laws();

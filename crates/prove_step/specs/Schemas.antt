@@ -1,7 +1,8 @@
 -- Patterns of rules as schemas: with a pattern variable for each object variable.
 use Rattle.std.specs.Prelude.{◌≡◌, ℕ, ◌+◌, ◌<◌, ◌≤◌, List, [], ◌∷◌, Option, Some, slice_get}
 use Rattle.std.specs.List.{AllZip}
-use Rattle.ml_pat.specs.Patterns.{Pattern, bot, top, imp, not, and, or, equal, member, fun, ex, all, app, at_sort, next, ev, var, meta, constant}
+use Rattle.ml_pat.specs.Patterns.{Pattern, bot, top, imp, not, and, or, equal, member, fun, ex, all}
+use Rattle.ml_pat.specs.Patterns.{app, at_sort, next, ev, var, meta, constant}
 use Rattle.term_core.specs.Terms.{Tree}
 use Rattle.term_core.specs.Patterns.{binding, ground_pattern}
 use Rattle.rule_core.specs.declared.signature.Signature.{Signature}

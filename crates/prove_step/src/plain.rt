@@ -3,7 +3,8 @@ ghost use Rattle.std.specs.Prelude.{◌≡◌};
 ghost use Rattle.term_core.specs.RulePatterns.{plain_pattern};
 ghost use Rattle.term_core.specs.PatternLists.{plain_patterns};
 ghost use Rattle.rule_core.specs.ProgramView.{rewrite_rule, sorts_of};
-ghost use Rattle.prove_step.specs.PlainRules.{are_plain, is_plain, is_plain_rule, stands_in, stands_in_some, uses_each, uses_variables};
+ghost use Rattle.prove_step.specs.PlainRules.{are_plain, is_plain, is_plain_rule, stands_in, stands_in_some};
+ghost use Rattle.prove_step.specs.PlainRules.{uses_each, uses_variables};
 
 use rule_core::{Rule, VarInfo};
 use term_core::RulePat;

@@ -69,7 +69,8 @@ impl<'p> Prover<'p> {
     /// names may have grown then too.
     pub fn image(&mut self, alloc: Global, pat: &RulePat) -> Result<MPat, AllocError>
         requires { HasImage self.old.program.sig (2 ^ 32) (plain_pattern pat.now) }
-        ensures image { IfOk result (λ p. image_of self.new.program.sig self.new.names (plain_pattern pat.now) ≡ Some p) }
+        ensures image { IfOk result
+            (λ p. image_of self.new.program.sig self.new.names (plain_pattern pat.now) ≡ Some p) }
         ensures grown { HasGrown self.old self.new }
     {
         self.cx.image(alloc, pat)

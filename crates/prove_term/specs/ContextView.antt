@@ -20,4 +20,5 @@ pub record IsKept (a : Inside) : Type 0 where
   pub values : (c : ℕ) → IfSome (tree.get nat_cmp a.values c) (λ v. IsValueAxiom (context_of a) c v.sort.0 v.no.0)
   pub theorems : a.theorems.items ≡ a.lemmas.items
   pub constructors : (f : ℕ) → IfSome (tree.get nat_cmp a.constructors f) (IsConstructorAt (context_of a) f)
-  pub injections : (q : ℕ) → IfSome (tree.get nat_cmp a.injections q) (λ l. IsInjectionAt (context_of a) l.from.0 l.to.0 l.place)
+  pub injections : (q : ℕ) →
+      IfSome (tree.get nat_cmp a.injections q) (λ l. IsInjectionAt (context_of a) l.from.0 l.to.0 l.place)

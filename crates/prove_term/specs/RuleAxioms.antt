@@ -11,7 +11,8 @@ use Rattle.prove_term.specs.Contexts.{Context}
 
 -- a rule stands at this place of the program, and has an image
 abbrev pub HasImageAt : Program → ℕ → Type 0
-HasImageAt program i = (r : Rule) × (slice_get program.rules.items i ≡ Some r) × HasRuleImage program.sig (rewrite_rule r)
+HasImageAt program i =
+    (r : Rule) × (slice_get program.rules.items i ≡ Some r) × HasRuleImage program.sig (rewrite_rule r)
 
 -- the pattern is the image of what the rule at this place says
 abbrev pub SaysRuleAt : Context → ℕ → Pattern → Type 0

@@ -4,7 +4,8 @@ ghost use Rattle.ml_pat.specs.Patterns.{Pattern, equal, fun, imp, var};
 ghost use Rattle.ml_scope.specs.Scopes.{StaysWithin};
 ghost use Rattle.prove_term.specs.Assuming.{StaysFrom};
 ghost use Rattle.prove_term.specs.Injections.{injecting, InjectedFrom, Joins, JoinedFrom, StaysJoined};
-ghost use Rattle.prove_term.specs.Carrying.{Twice, TwiceFrom, StaysTwice, Cites, CitedFrom, CitedBy, Carries, CarriedFrom};
+ghost use Rattle.prove_term.specs.Carrying.{Twice, TwiceFrom, StaysTwice, Cites, CitedFrom, CitedBy};
+ghost use Rattle.prove_term.specs.Carrying.{Carries, CarriedFrom};
 
 use crate::elements::subject;
 use crate::schemas::{at_meta, detach, one_element};
@@ -89,7 +90,8 @@ fn carried(alloc: Global, equality: &Thm, made: &Thm) -> Result<Thm, AllocError>
 
 // From an equality: where its left side is one element of a sort, its right side is.
 fn exchanged(alloc: Global, equality: &Thm, old: &MPat, new: &MPat) -> Result<Thm, AllocError>
-    requires { (p q : Pattern) × (s : ℕ) × (equality.now.conclusion ≡ equal p q) × (old.now ≡ fun p s) × (new.now ≡ fun q s) }
+    requires { (p q : Pattern) × (s : ℕ) ×
+        (equality.now.conclusion ≡ equal p q) × (old.now ≡ fun p s) × (new.now ≡ fun q s) }
     ensures conclusion { IfOk result (λ t. t.conclusion ≡ imp old.now new.now) }
     ensures hypotheses { IfOk result (λ t. (h : Pattern) → equality.now.hypotheses ≡ h ∷ [] → t.hypotheses ≡ h ∷ []) }
     ensures stays { IfOk result (StaysWithin (var 0 ∷ old.now ∷ []) (equality.now ∷ [])) }

@@ -1,7 +1,9 @@
 use Rattle.std.proofs.Common.{◌≡◌, ◌++◌, ◌∷◌, [], List, Bor, Some, ◌∙◌, ap, sym, subst, arith, rules}
 use Rattle.ml_pat.specs.Patterns.{Pattern}
-use Rattle.ml_kernel.specs.Spines.{first_part, around, LeadsTo}
-use Rattle.ml_kernel.proofs.SpineLaws.{around-instance, LeadsTo-push, LeadsTo-pop, LeadsTo-smaller}
+use Rattle.ml_pat.specs.Spines.{first_part, LeadsTo}
+use Rattle.ml_pat.proofs.SpineLaws.{LeadsTo-push, LeadsTo-pop, LeadsTo-smaller}
+use Rattle.ml_kernel.specs.Spines.{around}
+use Rattle.ml_kernel.proofs.SpineLaws.{around-instance}
 use Rattle.ml_kernel.proofs.instances.+filled.Goals as goal
 
 pub filled-loop-first-preserved : goal.filled-loop-first-preserved

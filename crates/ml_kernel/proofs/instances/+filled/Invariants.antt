@@ -2,7 +2,7 @@ use Rattle.std.proofs.Common.{◌≡◌, ◌*◌, ◌+◌, length}
 use Rattle.ml_pat.specs.Patterns.{Pattern}
 use Rattle.ml_pat.specs.FormsIn.{forms_in}
 use Rattle.ml_kernel.specs.Lemmas.{instance}
-use Rattle.ml_kernel.specs.Spines.{LeadsTo}
+use Rattle.ml_pat.specs.Spines.{LeadsTo}
 use Rattle.ml_kernel.proofs.instances.+filled.Given as goal
 
 abbrev pub decreases-filled : goal.decreases-filled

@@ -47,9 +47,9 @@ returns-clause-text c =
     let may : MayState cx.names w.renderer p = record { begun = c.requires.written.begun; over = (over, tt) } in
     let gains = c.in_ok-axiom.ensures.gains may in (
       _,
-        c.in_ok-axiom.ensures.text,
-        λ bytes h. record {
-          fits = gains.fits bytes h.fits;
-          only = c.justifying_laws.ensures.axiomatic (theory_of cx.program) cx.names w.renderer c.axiom.new.self own.0 p bytes _ own.1 image gains h.fits h.only;
-        },
+      c.in_ok-axiom.ensures.text,
+      λ bytes h. record {
+        fits = gains.fits bytes h.fits;
+        only = c.justifying_laws.ensures.axiomatic (theory_of cx.program) cx.names w.renderer c.axiom.new.self own.0 p bytes _ own.1 image gains h.fits h.only;
+      },
     )

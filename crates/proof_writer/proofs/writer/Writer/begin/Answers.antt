@@ -12,9 +12,9 @@ returns-clause-written c = nothing_written c.args.program.now (record { renderer
 pub returns-clause-text : goal.returns-clause-text
 returns-clause-text c = (
   header_bytes,
-    c.in_ok-begin.ensures.text,
-    record {
-      fits = c.in_ok-begin.ensures.fits [] [] (subst (λ (k : Kept). Fits [] k []) (sym c.new-renderer.ensures) refl);
-      only = c.justifying_laws.ensures.header (theory_of c.args.program.now);
-    },
+  c.in_ok-begin.ensures.text,
+  record {
+    fits = c.in_ok-begin.ensures.fits [] [] (subst (λ (k : Kept). Fits [] k []) (sym c.new-renderer.ensures) refl);
+    only = c.justifying_laws.ensures.header (theory_of c.args.program.now);
+  },
 )

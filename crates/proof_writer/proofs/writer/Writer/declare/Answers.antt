@@ -34,11 +34,11 @@ returns-clause-text c =
     on_all c.declare.result
     (λ text kept fits. (
       _,
-        text,
-        λ bytes h. record {
-          fits = fits are c.requires.written.begun bytes h.fits;
-          only = c.justifying_laws.ensures.declared (theory_of c.args.made.now.program.now) names w.renderer bytes are c.tokens_differ.ensures few c.requires.written.begun c.requires.written.named
-              (own_behind sig names w.renderer.named c.requires.context.own) h.fits h.only;
-        },
+      text,
+      λ bytes h. record {
+        fits = fits are c.requires.written.begun bytes h.fits;
+        only = c.justifying_laws.ensures.declared (theory_of c.args.made.now.program.now) names w.renderer bytes are c.tokens_differ.ensures few c.requires.written.begun c.requires.written.named
+            (own_behind sig names w.renderer.named c.requires.context.own) h.fits h.only;
+      },
     ))
     c.declare.ensures.text c.declare.ensures.kept c.declare.ensures.fits

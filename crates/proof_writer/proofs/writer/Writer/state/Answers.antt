@@ -13,12 +13,12 @@ returns-clause-text c =
     on_one c.lemma.result
     (λ states. (
       _,
-        states.appended,
-        λ text h. record {
-          fits = c.justifying_laws.ensures.anywhere names w.renderer c.lemma.new.self c.args.thm.now c.args.to.now.items c.lemma.new.to.items text _ states states.appended c.requires.proved h.fits;
-          only = c.justifying_laws.ensures.theorem (theory_of c.args.made.now.program.now) names w.renderer c.lemma.new.self c.args.thm.now c.args.to.now.items c.lemma.new.to.items text _ states states.appended
-              c.requires.proved h.fits h.only;
-        },
+      states.appended,
+      λ text h. record {
+        fits = c.justifying_laws.ensures.anywhere names w.renderer c.lemma.new.self c.args.thm.now c.args.to.now.items c.lemma.new.to.items text _ states states.appended c.requires.proved h.fits;
+        only = c.justifying_laws.ensures.theorem (theory_of c.args.made.now.program.now) names w.renderer c.lemma.new.self c.args.thm.now c.args.to.now.items c.lemma.new.to.items text _ states states.appended
+            c.requires.proved h.fits h.only;
+      },
     ))
     c.lemma.ensures.states
 
