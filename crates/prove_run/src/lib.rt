@@ -1,5 +1,5 @@
-//! The proof of a run, written as the run goes (Chen and Rosu 2019), of programs whose rules have no conditions, and
-//! are built of variables, constructors and domain values (`is_covered`). No command calls it yet.
+//! The proof of a run, written as the run goes (Chen and Rosu 2019), as yet of programs whose rules have no conditions,
+//! and are built of variables, constructors and domain values (`is_covered`).
 //!
 //! A `Proof` begins with `a -> ev a`, a being the image of the initial term. A step concludes `a -> ev c` from `a ->
 //! ev b` and the theorem of the step, `b -> next c`; each such theorem stands in the database, and the next one cites
