@@ -133,10 +133,7 @@ fn blocked<'p>(
 }
 
 /// A run that has reached its limit.
-pub(crate) fn at_limit(
-    limit: u32,
-    steps: ProvedSteps<'_>,
-) -> Result<(RunEnd, Vec<u8>), AllocError>
+pub(crate) fn at_limit(limit: u32, steps: ProvedSteps<'_>) -> Result<(RunEnd, Vec<u8>), AllocError>
     ensures end { IfOk result (λ r. plain_run r.0 ≡ the_run.limited limit steps.entry.run.config) }
     ensures text { IfOk result (λ r. r.1.items ≡ steps.entry.text.items) }
 {
