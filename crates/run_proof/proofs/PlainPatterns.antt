@@ -1,10 +1,10 @@
 -- What plain patterns stand for: an initial term for itself, and the right side of a rule for its instance.
-use Rattle.std.proofs.Common.{◌≡◌, ℕ, Bool, true, false, List, [], ◌∷◌, Option, Some, None, refl, sym, ◌∙◌, ap, subst}
+use Rattle.std.proofs.Common.{◌≡◌, ℕ, Bool, true, false, List, [], Option, Some, None, refl, sym, ◌∙◌, ap, subst}
 use Rattle.std.specs.Prelude.{◌&&◌, option_map}
 use Rattle.term_core.specs.Terms.{Tree, leaf, node, Forest, no_tree, more_trees}
-use Rattle.term_core.specs.Patterns.{Pattern, Patterns, variable, domain_value, application, injection, call, no_pattern, more_patterns, binding, instance_of, instances_of, with_first, ground_pattern, ground_patterns}
+use Rattle.term_core.specs.Patterns.{Pattern, Patterns, variable, domain_value, application, injection, call, no_pattern, more_patterns, instance_of, instances_of, with_first, ground_pattern, ground_patterns}
 use Rattle.rule_core.specs.Theories.{RewriteTheory}
-use Rattle.rule_core.specs.Evaluation.{HasHead, of_constructor, of_injection, of_call, built}
+use Rattle.rule_core.specs.Evaluation.{HasHead, of_constructor, built}
 use Rattle.rule_core.specs.Records as rec
 use Rattle.rule_core.specs.Records.{Record, RecordList, Records, RecordAll, result_of, results_of}
 use Rattle.prove_step.specs.PlainRules.{is_plain, are_plain}

@@ -7,7 +7,7 @@ use Rattle.rule_core.specs.ProgramView.{theory_of}
 use Rattle.rule_core.specs.RunView.{cause_of}
 use Rattle.rule_core.specs.Evaluation.{Evaluates, blocked}
 use Rattle.rule_core.specs.FirstRule.{most_nesting}
-use Rattle.rule_core.specs.Runs.{Steps, next, stays, stops, Reaches, IsRunOf, unstarted}
+use Rattle.rule_core.specs.Runs.{Steps, next, stays, stops, Reaches}
 use Rattle.rule_core.specs.declared.rules.Blocked.{Blocked}
 use Rattle.rule_core.specs.declared.rules.Program.{Program}
 use Rattle.mm_justify.specs.Justifying.{JustifiesRun}
