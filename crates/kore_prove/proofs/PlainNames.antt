@@ -11,7 +11,7 @@ use Rattle.mm_claims.specs.Statements.{is_name_byte}
 use Rattle.ml_image.specs.Tokens.{name_at}
 use Rattle.rule_core.specs.declared.signature.Signature.{Signature}
 use Rattle.kore_rules.specs.Names.{HasIdentifierNames}
-use Rattle.prove_run.specs.PlainNames.{HasPlainNames}
+use Rattle.proof_writer.specs.PlainNames.{HasPlainNames}
 
 word-plain : (c : ℕ) → is_word c ≡ true → is_name_byte c ≡ true
 word-plain c h = grind (arith, nat_tests)

@@ -1,6 +1,6 @@
 // Ends of the top call: faults of the desk and of the streams, verdicts, and proofs of runs.
 use crate::test_calls::{BASE, Case, call, first_failing};
-use crate::test_definitions::INTEGER_FUNCTIONS;
+use crate::test_definitions::{INTEGER_FUNCTIONS, SAME_PAIR, TWO_LISTS};
 use mm_verify::verify;
 use std::test::Fail;
 
@@ -135,7 +135,7 @@ fn each_end_has_its_code_and_lines(rt: HostRuntime) -> Result<(), Fail> {
 }
 
 /// Runs that are proved, and what the last theorem of each states.
-const PROVED: [(Case<'static>, &str); 3] = [
+const PROVED: [(Case<'static>, &str); 6] = [
     (PROVES, "p |- ( \\imp f:a ( \\ev f:c ) ) "),
     (
         Case {
@@ -154,6 +154,34 @@ const PROVED: [(Case<'static>, &str); 3] = [
             ..BASE
         },
         "p |- ( \\imp f:a ( \\ev f:a ) ) ",
+    ),
+    (
+        Case {
+            definition: SAME_PAIR,
+            term: "pair{}(p{}(),p{}())",
+            out: "stuck 1\nok{}()\n",
+            ..PROVES
+        },
+        "p |- ( \\imp ( \\app ( \\app f:pair f:p ) f:p ) ( \\ev f:ok ) ) ",
+    ),
+    (
+        Case {
+            definition: TWO_LISTS,
+            term: "both{}(cons{}(p{}(),cons{}(q{}(),nil{}())),nil{}())",
+            out: "stuck 3\ndone{}(cons{}(q{}(),cons{}(p{}(),nil{}())))\n",
+            ..PROVES
+        },
+        "p |- ( \\imp ( \\app ( \\app f:both ( \\app ( \\app f:cons f:p ) ( \\app ( \\app f:cons f:q ) f:nil ) ) ) \
+         f:nil ) ( \\ev ( \\app f:done ( \\app ( \\app f:cons f:q ) ( \\app ( \\app f:cons f:p ) f:nil ) ) ) ) ) ",
+    ),
+    (
+        Case {
+            definition: INTEGER_FUNCTIONS,
+            term: r#"n{}(\dv{SortInt{}}("7"))"#,
+            out: "stuck 0\nn{}(\\dv{SortInt{}}(\"7\"))\n",
+            ..PROVES
+        },
+        "p |- ( \\imp ( \\app f:n d:SortInt:37 ) ( \\ev ( \\app f:n d:SortInt:37 ) ) ) ",
     ),
 ];
 

@@ -45,6 +45,23 @@ axiom{} \rewrites{T{}}(\and{T{}}(pair{}(X:S{},X:S{}),\top{T{}}()),\and{T{}}(ok{}
 endmodule []
 "#;
 
+pub(crate) const TWO_LISTS: &str = r#"[]
+module B
+sort E{} []
+sort L{} []
+sort T{} []
+symbol p{}() : E{} [constructor{}()]
+symbol q{}() : E{} [constructor{}()]
+symbol nil{}() : L{} [constructor{}()]
+symbol cons{}(E{},L{}) : L{} [constructor{}()]
+symbol both{}(L{},L{}) : T{} [constructor{}()]
+symbol done{}(L{}) : T{} [constructor{}()]
+axiom{} \rewrites{T{}}(\and{T{}}(both{}(cons{}(X:E{},R:L{}),D:L{}),\top{T{}}()),
+  \and{T{}}(both{}(R:L{},cons{}(X:E{},D:L{})),\top{T{}}())) []
+axiom{} \rewrites{T{}}(\and{T{}}(both{}(nil{}(),D:L{}),\top{T{}}()),\and{T{}}(done{}(D:L{}),\top{T{}}())) []
+endmodule []
+"#;
+
 pub(crate) const NESTED_INJECTIONS: &str = r#"[]
 module C
 hooked-sort SortInt{} [hook{}("INT.Int")]

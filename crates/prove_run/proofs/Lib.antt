@@ -1,7 +1,4 @@
-pub mod PlainNameLaws
-pub mod ValueBytes
-pub mod ScriptLaws
-pub mod ScopeLaws
-pub mod StepLaws
-pub mod ProofOpened
-pub mod GroundLaws
+pub mod ContextLaws
+pub mod FollowLaws
+pub mod PlainSteps
+pub mod WritingOn

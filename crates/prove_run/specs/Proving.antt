@@ -1,43 +1,46 @@
--- How a proof of a run begins, and what a step makes of it.
-use Rattle.std.specs.Prelude.{◌≡◌, ℕ, true, false, List, [], ◌∷◌, ◌++◌, length, slice_get, slice_set, replicate, Some}
+-- Which texts fit a proof of a run, how a proof begins, and what a step makes of it.
+use Rattle.std.specs.Prelude.{◌≡◌, ℕ, List, ◌++◌, slice_get, Option, Some, None}
+use Rattle.term_core.specs.Terms.{Tree}
+use Rattle.term_core.specs.Patterns.{ground_pattern, instance_of}
 use Rattle.term_core.specs.declared.rule_patterns.RulePat.{RulePat}
 use Rattle.term_core.specs.RulePatterns.{plain_pattern}
+use Rattle.rule_core.specs.FirstRule.{Matches}
+use Rattle.rule_core.specs.ProgramView.{rewrite_rule, theory_of}
 use Rattle.rule_core.specs.declared.rules.Rule.{Rule}
 use Rattle.rule_core.specs.declared.rules.Program.{Program}
-use Rattle.mm_database.specs.Assertions.{Assertion, assertions_of}
-use Rattle.mm_justify.specs.Justifying.{JustifiesRun}
-use Rattle.rule_core.specs.ProgramView.{theory_of}
-use Rattle.prove_run.specs.RunProof.{RunProof}
+use Rattle.mm_claims.specs.Keeping.{Fits}
+use Rattle.mm_justify.specs.Justifying.{HasOnlyAxiomsOf, JustifiesRun}
+use Rattle.prove_run.specs.RunProof.{RunProof, reached}
 
--- a proof that a start reaches itself, by no step
-pub record Begins (program : Program) (start : RulePat) (proof : RunProof) : Type 0 where
+-- A text fits a proof: it is just what the proof keeps of it, it has only axioms of the program, and it justifies the
+-- run from the start to the present configuration.
+pub record FitsProof (proof : RunProof) (text : List ℕ) : Type 0 where
+  pub fits : Fits proof.names proof.kept text
+  pub only : HasOnlyAxiomsOf (theory_of proof.program) text
+  pub justifies : JustifiesRun text (theory_of proof.program) (plain_pattern proof.start) (reached proof)
+
+-- a proof that a start reaches itself, by no step; what was appended to a buffer is a text that fits it
+pub record Begins (program : Program) (start : RulePat) (proof : RunProof) (before after : List ℕ) : Type 0 where
   pub same_program : proof.program ≡ program
   pub starts : proof.start ≡ start
-  pub reached : proof.reached ≡ start
-  pub used : proof.used ≡ replicate (length program.rules.items) false
+  pub none : proof.made ≡ None
+  pub text : (added : List ℕ) × (after ≡ before ++ added) × FitsProof proof added
 
--- the present configuration is the left side of the rule at a place
-abbrev pub IsAtRule : RunProof → ℕ → Type 0
-IsAtRule proof i = (r : Rule) × ((slice_get proof.program.rules.items i ≡ Some r) × (plain_pattern proof.reached ≡ plain_pattern r.left))
+-- The rule at a place matches the present configuration with the substitution, which makes the term u of its right
+-- side.
+pub record CanStep (proof : RunProof) (place : ℕ) (theta : List (Option Tree)) (u : Tree) : Type 0 where
+  pub rule : Rule
+  pub there : slice_get proof.program.rules.items place ≡ Some rule
+  pub term : Tree
+  pub at : reached proof ≡ ground_pattern term
+  pub matches : Matches (theory_of proof.program) (rewrite_rule rule) term theta
+  pub makes : instance_of theta (plain_pattern rule.right) ≡ Some u
 
--- the proof goes on by the rule at a place: its right side is the present configuration then
-pub record StepsBy (old new : RunProof) (i : ℕ) : Type 0 where
+-- A proof goes on to a term: it is the present configuration then. Bytes were appended to a buffer; with them behind it
+-- each text that fitted the proof fits the new one.
+pub record StepsTo (old new : RunProof) (u : Tree) (before after : List ℕ) : Type 0 where
   pub same_program : new.program ≡ old.program
   pub same_start : new.start ≡ old.start
-  pub reached : (r : Rule) → slice_get old.program.rules.items i ≡ Some r → new.reached ≡ r.right
-  pub used : new.used ≡ slice_set old.used i true
-
--- a step was made by the rule at a place
-abbrev pub IsUsed : RunProof → ℕ → Type 0
-IsUsed proof i = slice_get proof.used i ≡ Some true
-
--- a text has gained a theorem, and no other assertion
-pub record GainsTheorem (old new : List ℕ) : Type 0 where
-  pub theorem : Assertion
-  pub is_proved : theorem.is_proved ≡ true
-  pub assertions : assertions_of new ≡ assertions_of old ++ theorem ∷ []
-
--- the text justifies the run from the start to the present configuration
-abbrev pub IsJustified : RunProof → Type 0
-IsJustified proof =
-    JustifiesRun proof.text (theory_of proof.program) (plain_pattern proof.start) (plain_pattern proof.reached)
+  pub made : new.made ≡ Some u
+  pub text : (added : List ℕ) × (after ≡ before ++ added) × ((text : List ℕ) → FitsProof old text →
+      FitsProof new (text ++ added))

@@ -1,13 +1,25 @@
--- What a proof of a run is of, and its text.
-use Rattle.std.specs.Prelude.{ℕ, Bool, List}
+-- What a proof of a run has come to.
+use Rattle.std.specs.Prelude.{ℕ, List, Option, Some, None}
+use Rattle.term_core.specs.Terms.{Tree}
+use Rattle.term_core.specs.Patterns.{Pattern, ground_pattern}
+use Rattle.term_core.specs.RulePatterns.{plain_pattern}
 use Rattle.term_core.specs.declared.rule_patterns.RulePat.{RulePat}
 use Rattle.rule_core.specs.declared.rules.Program.{Program}
+use Rattle.mm_claims.specs.Kept.{Kept}
 
--- A proof that the start of a program's run reaches a configuration, which is the present one: by which rules of the
--- program steps were made, and the text of the proof.
+-- A proof that the start of a program's run reaches a configuration, with the names in its text and what is kept of the
+-- text. `made` is the configuration that the last step made, where there was one.
 pub record RunProof : Type 0 where
   pub program : Program
   pub start : RulePat
-  pub reached : RulePat
-  pub used : List Bool
-  pub text : List ℕ
+  pub made : Option Tree
+  pub names : List (List ℕ)
+  pub kept : Kept
+
+-- the present configuration: the start, until a step was made
+abbrev pub configuration : Pattern → Option Tree → Pattern
+configuration start None = start
+configuration start (Some t) = ground_pattern t
+
+abbrev pub reached : RunProof → Pattern
+reached proof = configuration (plain_pattern proof.start) proof.made

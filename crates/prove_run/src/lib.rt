@@ -1,17 +1,17 @@
-//! The proof of a run, written as the run goes (Chen and Rosu 2019), as yet of programs whose rules have neither variables
-//! nor conditions (`is_covered`).
+//! The proof of a run, written as the run goes (Chen and Rosu 2019), as yet of programs whose rules have no conditions,
+//! and are built of variables, constructors and domain values (`is_covered`).
 //!
-//! A `Proof` begins with `a -> ev a`, a being the image of the initial term. A step by a rule concludes `a -> ev c` from
-//! `a -> ev b` and the image of the rule, `b & top -> next c`; each is a theorem of the database, which the next one cites. The
-//! contract: the text justifies the run from the start to the present configuration at each moment (`IsJustified`).
+//! A `Proof` begins with `a -> ev a`, a being the image of the initial term. A step concludes `a -> ev c` from `a ->
+//! ev b` and the theorem of the step, `b -> next c`; each such theorem stands in the database, and the next one cites
+//! it. The contract speaks of texts that fit a proof: such a text justifies the run from the start to the present
+//! configuration, and what a step appends makes of each text that fitted before one that fits after it. So the text
+//! can be written to a file as the run goes.
 //!
-//! The text of a step is linear in the sizes of the three configurations that it speaks of. What was stated is kept
-//! as a claim, so memory grows with the text; of the theorems the last alone is kept.
+//! The text of a step is linear in the sizes of the configurations that it speaks of.
 #![tactic(auto)]
 
 mod covered;
 mod proof;
-mod script;
 
 pub use covered::is_covered;
 pub use proof::Proof;

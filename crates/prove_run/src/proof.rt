@@ -1,41 +1,50 @@
 // A proof of a run, step by step.
-ghost use Rattle.std.specs.Prelude.{◌≡◌, true, IfOk};
-ghost use Rattle.std.specs.List.{list_all};
+ghost use Rattle.std.specs.Prelude.{◌≡◌, true, [], IfOk, OnOk};
 ghost use Rattle.term_core.specs.RulePatterns.{plain_pattern};
-ghost use Rattle.rule_core.specs.ProgramView.{rewrite_rules, theory_of};
+ghost use Rattle.rule_core.specs.ProgramView.{theory_of};
 ghost use Rattle.rule_core.specs.WellSorted.{IsStart, IsWellSorted};
-ghost use Rattle.prove_run.specs.PlainNames.{HasPlainNames};
-ghost use Rattle.prove_run.specs.Covered.{is_covered, is_covered_rule};
-ghost use Rattle.prove_run.specs.Proving.{Begins, GainsTheorem, IsAtRule, IsJustified, IsUsed, StepsBy};
+ghost use Rattle.mm_claims.specs.Places.{IsStated};
+ghost use Rattle.prove_term.specs.Contexts.{IsContext};
+ghost use Rattle.proof_writer.specs.PlainNames.{HasPlainNames};
+ghost use Rattle.proof_writer.specs.Writing.{Adds, Concludes, HasWritten, HasWrittenAll, Keeps, MayFollow};
+ghost use Rattle.prove_run.specs.Covered.{is_covered};
+ghost use Rattle.prove_run.specs.Proving.{Begins, CanStep, StepsTo};
 
-use crate::script::Script;
-use ml_derived::{free_of_top, reach_here, reach_step};
+use ml_derived::{reach_here, reach_step};
+use ml_image::{condition_laws, naming_laws};
 use ml_kernel::{Lemma, Thm};
+use mm_claims::later_laws;
 use mm_justify::image_laws;
+use proof_writer::{Made, Writer};
+use prove_step::Prover;
 use rule_core::Program;
 use std::alloc::{AllocError, Global};
 use std::marker::Model;
-use term_core::RulePat;
+use term_core::{RulePat, Subst, Term};
 
 /// A proof that the start of a run reaches the present configuration. Contracts see it as these two, the program, the
-/// rules by which steps were made, and the text.
+/// names, and what is kept of the text.
 #[derive(Drop)]
 pub struct Proof<'p> {
-    script: Script<'p>,
+    prover: Prover<'p>,
+    writer: Writer,
     start: &'p RulePat,
-    reached: &'p RulePat,
+    // The present configuration, where a step was made.
+    reached: Option<Term>,
     // The theorem that says so.
     last: Lemma,
 }
 
 impl<'p> Model for Proof<'p> {
     ghost use Rattle.std.specs.Coded.{codes};
-    ghost use Rattle.term_core.specs.contracts.rule_patterns.RulePat as rule_pattern;
     ghost use Rattle.prove_run.specs.RunProof.{RunProof};
+    ghost use Rattle.term_core.specs.TermCode.{tree_code};
+    ghost use Rattle.term_core.specs.contracts.rule_patterns.RulePat as rule_pattern;
+    ghost use Rattle.mm_render.specs.KeptCode.{kept_code};
 
     ghost Value = { RunProof };
 
-    ghost coded = { Prim.hlevel (codes, rule_pattern.the_row.coded) };
+    ghost coded = { Prim.hlevel (codes, rule_pattern.the_row.coded, tree_code, kept_code) };
 
     ghost use Rattle.prove_run.specs.ProofView.{run_proof, IsProof};
 
@@ -45,63 +54,99 @@ impl<'p> Model for Proof<'p> {
 }
 
 impl<'p> Proof<'p> {
-    /// The proof of a run of no step: the start reaches itself. The program is well-sorted and covered with this start.
-    /// `AllocError` says that memory was wanting.
+    /// The proof of a run of no step: the start reaches itself. Its text is appended to the buffer. The program is
+    /// well-sorted and covered with this start. The error is want of memory; then a part of the text was appended.
     pub fn begin(
         alloc: Global,
         program: &'p Program,
         start: &'p RulePat,
+        to: &mut Vec<u8>,
     ) -> Result<Proof<'p>, AllocError>
         requires names { HasPlainNames program.now.sig }
         requires well_sorted { IsWellSorted (theory_of program.now) }
         requires start { IsStart (theory_of program.now) (plain_pattern start.now) }
         requires covered { is_covered (theory_of program.now) (plain_pattern start.now) ≡ true }
-        ensures { IfOk result (Begins program.now start.now) }
+        ensures { IfOk result (λ proof. Begins program.now start.now proof to.old.items to.new.items) }
+    {
+        condition_laws();
+        later_laws();
+        naming_laws();
+        let mut prover = Prover::new(alloc, program)?;
+        let mut writer = Writer::begin(alloc, program, to)?;
+        let here = prover.image(alloc, start)?;
+        let thm = reach_here(alloc, &here)?;
+        let last = state(&prover, &mut writer, thm, to)?;
+        Ok(Proof {
+            prover,
+            writer,
+            start,
+            reached: None,
+            last,
+        })
+    }
+
+    /// One step more, by the rule at a place of the program, which matches the present configuration with a
+    /// substitution. What it makes of its right side is the present configuration then. The text of the step is
+    /// appended to the buffer. The error is want of memory; then a part of it was appended, and no proof is left.
+    pub fn step(
+        self,
+        alloc: Global,
+        rule: u32,
+        subst: &Subst,
+        config: &Term,
+        to: &mut Vec<u8>,
+    ) -> Result<Proof<'p>, AllocError>
+        requires applies { CanStep self rule subst.now config.now }
+        ensures { IfOk result (λ further. StepsTo self.entry further config.now to.old.items to.new.items) }
     {
         image_laws();
-        let mut script = Script::begin(alloc, program)?;
-        let here = script.image(alloc, start)?;
-        let last = script.state(reach_here(alloc, &here)?)?;
-        Ok(Proof {
-            script,
-            start,
-            reached: start,
-            last,
-        })
-    }
-
-    /// One step more, by the rule at a place of the program, whose left side is the present configuration. Its right
-    /// side is the present configuration then. Where a step was made by this rule before, its axiom is in the text
-    /// already, which gains just the theorem of this step. The error is want of memory, and no proof is left then.
-    pub fn step(self, alloc: Global, rule: u32) -> Result<Proof<'p>, AllocError>
-        requires names { HasPlainNames self.program.sig }
-        requires well_sorted { IsWellSorted (theory_of self.program) }
-        requires covered { list_all is_covered_rule (rewrite_rules self.program.rules.items) ≡ true }
-        requires applies { IsAtRule self rule }
-        ensures steps { IfOk result (λ further. StepsBy self.entry further rule) }
-        ensures once { IfOk result (λ further. IsUsed self.entry rule → GainsTheorem self.entry.text further.text) }
-    {
-        let mut script = self.script;
-        let program = script.program;
-        let no = script.rule(alloc, rule)?;
-        let image = script.theory.axiom(alloc, no)?;
-        let made = free_of_top(alloc, &image)?;
+        later_laws();
+        naming_laws();
+        let mut prover = self.prover;
+        let mut writer = self.writer;
+        let step = prover.step(alloc, rule, subst)?;
         let sofar = Thm::use_lemma(alloc, &self.last, &[], &[])?;
-        let further = reach_step(alloc, &sofar, &made)?;
-        let last = script.state(further)?;
+        let further = reach_step(alloc, &sofar, &step)?;
+        let last = state(&prover, &mut writer, further, to)?;
+        let made = config.share()?;
         Ok(Proof {
-            script,
+            prover,
+            writer,
             start: self.start,
-            reached: &program.rules[rule as usize].right,
+            reached: Some(made),
             last,
         })
     }
+}
 
-    /// The text of the proof, a Metamath database, where no step follows.
-    pub fn into_text(self) -> Vec<u8>
-        ensures text { result.items ≡ self.entry.text }
-        ensures justified { IsJustified self.entry }
-    {
-        self.script.text
-    }
+// Writes what was made, and a theorem that follows from it.
+fn state(
+    prover: &Prover<'_>,
+    writer: &mut Writer,
+    thm: Thm,
+    to: &mut Vec<u8>,
+) -> Result<Lemma, AllocError>
+    requires names { HasPlainNames prover.now.program.sig }
+    requires written { HasWritten writer.old prover.now }
+    requires follows { MayFollow prover.now writer.old.renderer thm }
+    ensures lemma { IfOk result (λ lemma. lemma ≡ thm) }
+    ensures no_hypotheses { OnOk result (thm.hypotheses ≡ []) }
+    ensures context { OnOk result (IsContext prover.now) }
+    ensures all { OnOk result (HasWrittenAll writer.new prover.now) }
+    ensures stated { OnOk result (IsStated writer.new.renderer.stated thm.hypotheses thm.conclusion) }
+    ensures concludes { OnOk result (Concludes prover.now writer.old.renderer thm to.old.items to.new.items) }
+    ensures text { OnOk result (Adds prover.now writer.old.renderer writer.new.renderer to.old.items to.new.items) }
+{
+    image_laws();
+    let cx = prover.cx();
+    cx.law();
+    let made = Made {
+        program: cx.program(),
+        names: cx.names(),
+        theory: cx.theory(),
+        lemmas: cx.theorems(),
+    };
+    writer.write(&made, to)?;
+    writer.theorem(&made, &thm, to)?;
+    Lemma::close(thm)
 }

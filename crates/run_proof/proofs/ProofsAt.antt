@@ -1,116 +1,141 @@
--- A proof that has come to a configuration of a run.
-use Rattle.std.proofs.Common.{◌≡◌, ℕ, zero, suc, true, List, [], ◌∷◌, map, Option, Some, None, slice_get, refl, sym, ◌∙◌, ap, subst}
+-- A proof that has come as far as a run, with its text.
+use Rattle.std.proofs.Common.{◌≡◌, ℕ, zero, suc, true, List, [], ◌∷◌, ◌++◌, Option, Some, None, slice_get, refl, sym, ◌∙◌, ap, subst}
 use Rattle.std.specs.Prelude.{option_map}
 use Rattle.std.specs.List.{list_all}
 use Rattle.std.proofs.lemmas.Option.{slice_get-map}
 use Rattle.term_core.specs.Terms.{Tree}
-use Rattle.term_core.specs.Patterns.{Pattern, ground_pattern}
+use Rattle.term_core.specs.Patterns.{Pattern, ground_pattern, instance_of}
 use Rattle.term_core.specs.RulePatterns.{plain_pattern}
 use Rattle.term_core.specs.declared.rule_patterns.RulePat.{RulePat}
 use Rattle.rule_core.specs.Rules.{RewriteRule}
 use Rattle.rule_core.specs.Theories.{RewriteTheory}
+use Rattle.rule_core.specs.FirstRule.{Matches}
 use Rattle.rule_core.specs.ProgramView.{rewrite_rule, rewrite_rules, theory_of}
-use Rattle.rule_core.specs.Records.{StepRecord, Records, RecordsStep, result_of}
+use Rattle.rule_core.specs.Records.{StepRecord, RecordsStep, result_of}
 use Rattle.rule_core.specs.WellSorted.{IsStart}
-use Rattle.rule_core.specs.Runs.{Run, kept_by}
-use Rattle.rewriter.specs.Configurations.{IsStartOf}
 use Rattle.rule_core.specs.declared.rules.Rule.{Rule}
 use Rattle.rule_core.specs.declared.rules.Program.{Program}
 use Rattle.mm_justify.specs.Justifying.{JustifiesRun}
 use Rattle.fun_eval.specs.Recorded.{IsRecorded}
-use Rattle.prove_run.specs.Covered.{is_constructed, is_covered_rule, is_covered}
-use Rattle.prove_run.specs.RunProof.{RunProof}
-use Rattle.prove_run.specs.Proving.{Begins, IsAtRule, StepsBy, IsJustified}
-use Rattle.run_proof.proofs.Constructed.{both, matched_is, recorded_is}
+use Rattle.prove_step.specs.PlainRules.{is_plain, is_plain_rule}
+use Rattle.prove_step.proofs.PlainLaws.{plain_rule}
+use Rattle.prove_run.specs.Covered.{is_covered}
+use Rattle.prove_run.specs.RunProof.{RunProof, configuration, reached}
+use Rattle.prove_run.specs.Proving.{Begins, CanStep, FitsProof, StepsTo}
+use Rattle.rule_core.specs.Runs.{Steps, next}
+use Rattle.rewriter.specs.Configurations.{IsStartOf, RunState, IsConfiguration}
+use Rattle.run_proof.specs.declared.steps.ProvedSteps.{ProvedSteps}
+use Rattle.run_proof.specs.declared.steps.Going.{Going}
+use Rattle.run_proof.specs.declared.steps.Going.TheVariants as going
+use Rattle.run_proof.specs.ProvedSteps.{IsProofAt, IsAtStep, GoesOn, IsFurther}
+use Rattle.run_proof.proofs.PlainPatterns.{both, recorded_is, instance_is}
 
--- it is a proof of this program from this start, and the configuration is the present one
-pub record IsProofAt (program : Program) (start : Pattern) (at : Pattern) (proof : RunProof) : Type 0 where
-  pub same_program : proof.program ≡ program
-  pub same_start : plain_pattern proof.start ≡ start
-  pub reached : plain_pattern proof.reached ≡ at
+pub covered_start : (theory : RewriteTheory) (start : Pattern) → is_covered theory start ≡ true → is_plain start ≡ true
+covered_start theory start h = (both (is_plain start) (list_all is_plain_rule theory.rules) h).0
 
-pub covered_start : (theory : RewriteTheory) (start : Pattern) → is_covered theory start ≡ true → is_constructed start ≡ true
-covered_start theory start h = (both (is_constructed start) (list_all is_covered_rule theory.rules) h).0
+pub covered_rules : (theory : RewriteTheory) (start : Pattern) → is_covered theory start ≡ true → list_all is_plain_rule theory.rules ≡ true
+covered_rules theory start h = (both (is_plain start) (list_all is_plain_rule theory.rules) h).1
 
-pub covered_rules : (theory : RewriteTheory) (start : Pattern) → is_covered theory start ≡ true → list_all is_covered_rule theory.rules ≡ true
-covered_rules theory start h = (both (is_constructed start) (list_all is_covered_rule theory.rules) h).1
-
-pub begins_at : (program : Program) (start : RulePat) (proof : RunProof) (t : Tree) → Begins program start proof → is_constructed (plain_pattern start) ≡ true → IsRecorded (λ r. Unit {0}) (theory_of program) [] (plain_pattern start) t → IsProofAt program (plain_pattern start) (ground_pattern t) proof
-begins_at program start proof t h good recorded = record {
+-- where the run does not start, the proof is of no step
+pub unstarted_at : (program : Program) (start : RulePat) (proof : RunProof) (before text : List ℕ) → before ≡ [] → Begins program start proof before text →
+    IsProofAt program (plain_pattern start) (plain_pattern start) proof text
+unstarted_at program start proof before text none h = record {
   same_program = h.same_program;
   same_start = ap plain_pattern h.starts;
-  reached = ap plain_pattern h.reached ∙ (sym (recorded_is (theory_of program) [] (plain_pattern start) recorded.0 good recorded.2) ∙ ap ground_pattern recorded.3);
+  is_reached = ap (configuration (plain_pattern proof.start)) h.none ∙ ap plain_pattern h.starts;
+  fits = subst (FitsProof proof) (sym (h.text.1 ∙ ap (λ (l : List ℕ). l ++ h.text.0) none)) h.text.2;
 }
 
--- the rule with a number, of which the one side is a term and the other another
-pub record RuleAt (program : Program) (t u : Tree) (i : ℕ) : Type 0 where
-  pub rule : Rule
-  pub there : slice_get program.rules.items i ≡ Some rule
-  pub left : ground_pattern t ≡ plain_pattern rule.left
-  pub right : ground_pattern u ≡ plain_pattern rule.right
+pub begins_at : (program : Program) (start : RulePat) (proof : RunProof) (before text : List ℕ) (t : Tree) → before ≡ [] → Begins program start proof before text →
+    is_plain (plain_pattern start) ≡ true → IsRecorded (λ r. Unit {0}) (theory_of program) [] (plain_pattern start) t →
+    IsProofAt program (plain_pattern start) (ground_pattern t) proof text
+begins_at program start proof before text t none h good recorded =
+    let at = unstarted_at program start proof before text none h in
+    let is : instance_of [] (plain_pattern start) ≡ Some t =
+    recorded_is (theory_of program) [] (plain_pattern start) recorded.0 good recorded.2 ∙ ap (λ (u : Tree). Some u) recorded.3 in
+    record {
+      same_program = at.same_program;
+      same_start = at.same_start;
+      is_reached = at.is_reached ∙ sym (instance_is (plain_pattern start) t good is);
+      fits = at.fits;
+    }
+
+-- ---- a step
 
 mapped : (o : Option Rule) (rule : RewriteRule) → option_map rewrite_rule o ≡ Some rule → (r : Rule) × (o ≡ Some r) × (rewrite_rule r ≡ rule)
 mapped None rule h = absurd (let z : ⊥ = cc in z)
-mapped (Some r) rule h = (r, refl, let same : rewrite_rule r ≡ rule = cc in same)
+mapped (Some r) rule h = (r, refl, cc)
 
-same_rule : (a b : Rule) → Some a ≡ Some b → a ≡ b
-same_rule a b h = cc
+same_rule : (q r : Rule) → Some q ≡ Some r → q ≡ r
+same_rule q r h = cc
 
-covered_item : (rules : List Rule) (i : ℕ) (r : Rule) → slice_get rules i ≡ Some r → list_all is_covered_rule (rewrite_rules rules) ≡ true → is_covered_rule (rewrite_rule r) ≡ true
+covered_item : (rules : List Rule) (i : ℕ) (r : Rule) → slice_get rules i ≡ Some r → list_all is_plain_rule (rewrite_rules rules) ≡ true → is_plain_rule (rewrite_rule r) ≡ true
 covered_item [] i r there h = absurd (let z : ⊥ = cc in z)
 covered_item (q ∷ rules) zero r there h =
-    subst (λ (x : Rule). is_covered_rule (rewrite_rule x) ≡ true) (same_rule q r there) (both (is_covered_rule (rewrite_rule q)) (list_all is_covered_rule (rewrite_rules rules)) h).0
-covered_item (q ∷ rules) (suc i) r there h = covered_item rules i r there (both (is_covered_rule (rewrite_rule q)) (list_all is_covered_rule (rewrite_rules rules)) h).1
+    subst (λ (x : Rule). is_plain_rule (rewrite_rule x) ≡ true) (same_rule q r there) (both (is_plain_rule (rewrite_rule q)) (list_all is_plain_rule (rewrite_rules rules)) h).0
+covered_item (q ∷ rules) (suc i) r there h = covered_item rules i r there (both (is_plain_rule (rewrite_rule q)) (list_all is_plain_rule (rewrite_rules rules)) h).1
 
-record Sides (r : RewriteRule) : Type 0 where
-  left : is_constructed r.left ≡ true
-  right : is_constructed r.right ≡ true
+plain_right : (r : RewriteRule) → is_plain_rule r ≡ true → is_plain r.right ≡ true
+plain_right r h = (plain_rule r h).right
 
-sides : (r : RewriteRule) → is_covered_rule r ≡ true → Sides r
-sides r h =
-    let rest = both _ _ h in
-    let more = both _ _ rest.1 in
-    let last = both _ _ more.1 in
-    record { left = last.0; right = last.1 }
-
-pub rule_at : (program : Program) (t u : Tree) (i : ℕ) (step : StepRecord) → list_all is_covered_rule (rewrite_rules program.rules.items) ≡ true → step.rule ≡ i → RecordsStep (theory_of program) t step → result_of step.right ≡ u → RuleAt program t u i
-rule_at program t u i step covered number follows result =
+pub can_step : (program : Program) (start : Pattern) (proof : RunProof) (text : List ℕ) (t u : Tree) (i : ℕ) (theta : List (Option Tree)) (step : StepRecord) →
+    IsProofAt program start (ground_pattern t) proof text → list_all is_plain_rule (rewrite_rules program.rules.items) ≡ true → step.rule ≡ i → step.theta ≡ theta →
+    RecordsStep (theory_of program) t step → result_of step.right ≡ u → CanStep proof i theta u
+can_step program start proof text t u i theta step at covered number same follows result =
     let items = program.rules.items in
     let found = mapped (slice_get items step.rule) follows.rule (sym (slice_get-map rewrite_rule items step.rule) ∙ follows.there) in
-    let good : Sides (rewrite_rule found.0) = sides (rewrite_rule found.0) (covered_item items step.rule found.0 found.1 covered) in
-    let is : Sides follows.rule = subst Sides found.2 good in record {
+    let plain : is_plain_rule (rewrite_rule found.0) ≡ true = covered_item items step.rule found.0 found.1 covered in
+    let right : is_plain follows.rule.right ≡ true = plain_right follows.rule (subst (λ (r : RewriteRule). is_plain_rule r ≡ true) found.2 plain) in
+    let makes : instance_of step.theta follows.rule.right ≡ Some u =
+    recorded_is (theory_of program) step.theta follows.rule.right step.right right follows.right ∙ ap (λ (v : Tree). Some v) result in
+    record {
       rule = found.0;
-      there = subst (λ (n : ℕ). slice_get items n ≡ Some found.0) number found.1;
-      left = matched_is (theory_of program) follows.rule t step.theta is.left follows.matches ∙ ap (λ (r : RewriteRule). r.left) (sym found.2);
-      right = ap ground_pattern (sym result) ∙ (recorded_is (theory_of program) step.theta follows.rule.right step.right is.right follows.right ∙ ap (λ (r : RewriteRule). r.right) (sym found.2));
+      there = subst (λ (p : Program). slice_get p.rules.items i ≡ Some found.0) (sym at.same_program) (subst (λ (n : ℕ). slice_get items n ≡ Some found.0) number found.1);
+      term = t;
+      at = at.is_reached;
+      matches = subst (λ (p : Program). Matches (theory_of p) (rewrite_rule found.0) t theta) (sym at.same_program)
+          (subst (λ (s : List (Option Tree)). Matches (theory_of program) (rewrite_rule found.0) t s) same
+          (subst (λ (r : RewriteRule). Matches (theory_of program) r t step.theta) (sym found.2) follows.matches));
+      makes = subst (λ (s : List (Option Tree)). instance_of s (plain_pattern found.0.right) ≡ Some u) same
+          (ap (instance_of step.theta) (ap (λ (r : RewriteRule). r.right) found.2) ∙ makes);
     }
 
-pub is_at_rule : (program : Program) (start : Pattern) (proof : RunProof) (t u : Tree) (i : ℕ) → IsProofAt program start (ground_pattern t) proof → RuleAt program t u i → IsAtRule proof i
-is_at_rule program start proof t u i h at =
-    (at.rule, (subst (λ (p : Program). slice_get p.rules.items i ≡ Some at.rule) (sym h.same_program) at.there, h.reached ∙ at.left))
-
-pub goes_on : (program : Program) (start : Pattern) (proof further : RunProof) (t u : Tree) (i : ℕ) → IsProofAt program start (ground_pattern t) proof → RuleAt program t u i → StepsBy proof further i → IsProofAt program start (ground_pattern u) further
-goes_on program start proof further t u i h at by = record {
+pub goes_on : (program : Program) (start : Pattern) (proof further : RunProof) (before after : List ℕ) (t u : Tree) →
+    IsProofAt program start (ground_pattern t) proof before → StepsTo proof further u before after → IsProofAt program start (ground_pattern u) further after
+goes_on program start proof further before after t u h by = record {
   same_program = by.same_program ∙ h.same_program;
   same_start = ap plain_pattern by.same_start ∙ h.same_start;
-  reached = ap plain_pattern (by.reached at.rule (subst (λ (p : Program). slice_get p.rules.items i ≡ Some at.rule) (sym h.same_program) at.there)) ∙ sym at.right;
+  is_reached = ap (configuration (plain_pattern further.start)) by.made;
+  fits = subst (FitsProof further) (sym by.text.1) (by.text.2 before h.fits);
 }
 
-pub justified : (program : Program) (start at end : Pattern) (proof : RunProof) (text : List ℕ) → IsProofAt program start at proof → IsJustified proof → text ≡ proof.text → at ≡ end → JustifiesRun text (theory_of program) start end
-justified program start at end proof text h is same last =
-    let one : JustifiesRun proof.text (theory_of program) (plain_pattern proof.start) (plain_pattern proof.reached) = subst (λ (p : Program). JustifiesRun proof.text (theory_of p) (plain_pattern proof.start) (plain_pattern proof.reached)) h.same_program is in
-    let two : JustifiesRun proof.text (theory_of program) start (plain_pattern proof.reached) = subst (λ (p : Pattern). JustifiesRun proof.text (theory_of program) p (plain_pattern proof.reached)) h.same_start one in
-    let three : JustifiesRun proof.text (theory_of program) start end = subst (λ (p : Pattern). JustifiesRun proof.text (theory_of program) start p) (h.reached ∙ last) two in
-    subst (λ (bytes : List ℕ). JustifiesRun bytes (theory_of program) start end) (sym same) three
+-- where the step is that of the definition
+pub goes_further : (program : Program) (old : ProvedSteps) (run : RunState) (g : Going) → IsAtStep program old →
+    Steps (theory_of program) old.run.config old.run.calls (next run.config run.calls) → IsConfiguration (theory_of program) run.config →
+    IsFurther run old.proof old.text.items g → GoesOn program old g
+goes_further program old run (going.Further new) at step sorted h =
+    let start : Pattern = plain_pattern old.proof.start in
+    let same : run ≡ new.run = sym h.0 in
+    let further : IsProofAt program start (ground_pattern run.config) new.proof new.text.items =
+    goes_on program start old.proof new.proof old.text.items new.text.items old.run.config run.config at.1 h.1 in (
+      subst (λ (s : RunState). Steps (theory_of program) old.run.config old.run.calls (next s.config s.calls)) same step,
+      (
+        subst (λ (s : RunState). IsConfiguration (theory_of program) s.config) same sorted,
+        subst (λ (s : RunState). IsProofAt program start (ground_pattern s.config) new.proof new.text.items) same further,
+      ),
+    )
+goes_further program old run (going.Stuck last left) at step sorted h = absurd h
+goes_further program old run (going.Blocked why last left) at step sorted h = absurd h
+
+-- so the text justifies the run so far
+pub justified : (program : Program) (start at end : Pattern) (proof : RunProof) (text : List ℕ) → IsProofAt program start at proof text → at ≡ end →
+    JustifiesRun text (theory_of program) start end
+justified program start at end proof text h last =
+    let one : JustifiesRun text (theory_of program) (plain_pattern proof.start) (reached proof) =
+    subst (λ (p : Program). JustifiesRun text (theory_of p) (plain_pattern proof.start) (reached proof)) h.same_program h.fits.justifies in
+    let two : JustifiesRun text (theory_of program) start (reached proof) = subst (λ (p : Pattern). JustifiesRun text (theory_of program) p (reached proof)) h.same_start one in
+    subst (λ (p : Pattern). JustifiesRun text (theory_of program) start p) (h.is_reached ∙ last) two
 
 -- the initial term, as the rewriter asks for it
 pub start_of : (theory : RewriteTheory) (start : Pattern) → IsStart theory start → IsStartOf theory start
 start_of theory start h = (h.0, h.2, h.1)
-
--- where the run does not start, the proof is of no step
-pub unstarted_at : (program : Program) (start : RulePat) (proof : RunProof) → Begins program start proof → IsProofAt program (plain_pattern start) (plain_pattern start) proof
-unstarted_at program start proof h = record {
-  same_program = h.same_program;
-  same_start = ap plain_pattern h.starts;
-  reached = ap plain_pattern h.reached;
-}

@@ -1,1 +1,2 @@
 -- Private: what clauses of private functions cite, and how private fields are seen.
+pub mod ProvedSteps

@@ -6,5 +6,6 @@
 #![tactic(auto)]
 
 mod proved;
+mod steps;
 
 pub use proved::proved_run;

@@ -1,6 +1,6 @@
 use Rattle.std.proofs.Common.{sym, subst}
 use Rattle.rule_core.specs.declared.rules.Program.{Program}
-use Rattle.prove_run.specs.PlainNames.{HasPlainNames}
+use Rattle.proof_writer.specs.PlainNames.{HasPlainNames}
 use Rattle.kore_prove.proofs.PlainNames.{plain_names}
 use Rattle.kore_prove.proofs.running.proved_lines_of_run.Goals as goal
 

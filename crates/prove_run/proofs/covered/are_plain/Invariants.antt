@@ -2,7 +2,7 @@ use Rattle.std.proofs.Common.{◌≡◌, drop}
 use Rattle.std.specs.List.{list_all}
 use Rattle.rule_core.specs.ProgramView.{rewrite_rules}
 use Rattle.prove_step.specs.PlainRules.{is_plain_rule}
-use Rattle.run_prover.proofs.covered.are_plain.Given as goal
+use Rattle.prove_run.proofs.covered.are_plain.Given as goal
 
 abbrev pub invariant-loop-rule : goal.invariant-loop-rule
 invariant-loop-rule l =

@@ -4,8 +4,8 @@ use Rattle.prove_term.specs.Contexts.{Context, IsContext}
 use Rattle.proof_writer.specs.Writing.{context_of, Adds, Concludes, HasWrittenAll, MayFollow}
 use Rattle.proof_writer.specs.declared.writer.Made.{Made}
 use Rattle.proof_writer.proofs.WritingLaws.{theorem_assumes_nothing}
-use Rattle.run_prover.proofs.WritingOn.{on_any, same_context, follows_later, concludes_after, adds_on}
-use Rattle.run_prover.proofs.proof.state.Goals as goal
+use Rattle.prove_run.proofs.WritingOn.{on_any, same_context, follows_later, concludes_after, adds_on}
+use Rattle.prove_run.proofs.proof.state.Goals as goal
 
 pub write-requires-clause-context : goal.write-requires-clause-context
 write-requires-clause-context c =

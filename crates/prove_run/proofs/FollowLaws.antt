@@ -20,7 +20,7 @@ use Rattle.prove_term.specs.PlainTerms.{HasNoInjection, HaveNoInjection}
 use Rattle.rule_core.specs.Theories.{RewriteTheory}
 use Rattle.mm_claims.specs.LaterLaws.{FitsLater}
 use Rattle.prove_step.specs.PlainRules.{is_plain, are_plain, is_plain_rule}
-use Rattle.run_prover.specs.Covered.{is_covered}
+use Rattle.prove_run.specs.Covered.{is_covered}
 use Rattle.std.specs.Prelude.{slice_get, Option}
 use Rattle.term_core.specs.Patterns.{instance_of}
 use Rattle.term_core.specs.RulePatterns.{plain_pattern}
@@ -30,12 +30,12 @@ use Rattle.rule_core.specs.ProgramView.{rewrite_rule, theory_of}
 use Rattle.rule_core.specs.declared.rules.Rule.{Rule}
 use Rattle.rule_core.specs.declared.rules.Program.{Program}
 use Rattle.prove_step.specs.Steps.{SaysStep, SaysStepAt}
-use Rattle.run_prover.specs.RunProof.{RunProof, configuration, reached}
-use Rattle.run_prover.specs.Proving.{CanStep}
-use Rattle.run_prover.proofs.PlainSteps.{match_makes, right_is_plain, plain_at}
+use Rattle.prove_run.specs.RunProof.{RunProof, configuration, reached}
+use Rattle.prove_run.specs.Proving.{CanStep}
+use Rattle.prove_run.proofs.PlainSteps.{match_makes, right_is_plain, plain_at}
 use Rattle.proof_writer.specs.declared.writer.Writer.{Writer}
-use Rattle.run_prover.specs.Reaching.{HasReached}
-use Rattle.run_prover.proofs.ContextLaws.{image_grown, text_grown}
+use Rattle.prove_run.specs.Reaching.{HasReached}
+use Rattle.prove_run.proofs.ContextLaws.{image_grown, text_grown}
 use Rattle.ml_image.specs.Images.{image_of}
 use Rattle.ml_image.specs.Sentences.{term}
 use Rattle.mm_claims.specs.Kept.{Kept}

@@ -1,0 +1,77 @@
+-- A run and its proof, step by step: cited by the clauses of private functions alone.
+use Rattle.std.specs.Prelude.{◌≡◌, ℕ, List, []}
+use Rattle.term_core.specs.Terms.{Tree}
+use Rattle.term_core.specs.Patterns.{Pattern, ground_pattern}
+use Rattle.term_core.specs.RulePatterns.{plain_pattern}
+use Rattle.rule_core.specs.ProgramView.{theory_of}
+use Rattle.rule_core.specs.RunView.{cause_of}
+use Rattle.rule_core.specs.Evaluation.{Evaluates, blocked}
+use Rattle.rule_core.specs.FirstRule.{most_nesting}
+use Rattle.rule_core.specs.Runs.{Steps, next, stays, stops, Reaches}
+use Rattle.rule_core.specs.declared.rules.Blocked.{Blocked}
+use Rattle.rule_core.specs.declared.rules.Program.{Program}
+use Rattle.mm_justify.specs.Justifying.{JustifiesRun}
+use Rattle.rewriter.specs.Configurations.{RunState, IsConfiguration}
+use Rattle.prove_run.specs.RunProof.{RunProof, reached}
+use Rattle.prove_run.specs.Proving.{FitsProof, StepsTo}
+use Rattle.run_proof.specs.declared.steps.ProvedSteps.{ProvedSteps}
+use Rattle.run_proof.specs.declared.steps.Beginning.{Beginning}
+use Rattle.run_proof.specs.declared.steps.Beginning.TheVariants as beginning
+use Rattle.run_proof.specs.declared.steps.Going.{Going}
+use Rattle.run_proof.specs.declared.steps.Going.TheVariants as going
+
+-- a proof of this program from this start has come to a configuration, and the text fits it
+pub record IsProofAt (program : Program) (start at : Pattern) (proof : RunProof) (text : List ℕ) : Type 0 where
+  pub same_program : proof.program ≡ program
+  pub same_start : plain_pattern proof.start ≡ start
+  pub is_reached : reached proof ≡ at
+  pub fits : FitsProof proof text
+
+-- the proof has come as far as the run of a program from some start
+abbrev pub IsProvedRun : Program → Pattern → ProvedSteps → Type 0
+IsProvedRun program start s =
+    IsConfiguration (theory_of program) s.run.config
+    × IsProofAt program start (ground_pattern s.run.config) s.proof s.text.items
+
+-- .. from its own start
+abbrev pub IsAtStep : Program → ProvedSteps → Type 0
+IsAtStep program s = IsProvedRun program (plain_pattern s.proof.start) s
+
+-- the run of a term begins with its value, or the term has none
+abbrev pub BeginsRun : Program → Pattern → ℕ → Beginning → Type 0
+BeginsRun program start calls (beginning.Begun s) =
+    Reaches (theory_of program) start calls 0 s.run.config s.run.calls × IsProvedRun program start s
+BeginsRun program start calls (beginning.Unstarted why text) =
+    Evaluates (theory_of program) most_nesting [] start calls (blocked (cause_of why))
+    × JustifiesRun text.items (theory_of program) start start
+
+-- the run and its proof have made a step, which is that of the definition; or there is none to be made
+abbrev pub GoesOn : Program → ProvedSteps → Going → Type 0
+GoesOn program old (going.Further new) =
+    Steps (theory_of program) old.run.config old.run.calls (next new.run.config new.run.calls)
+    × IsProvedRun program (plain_pattern old.proof.start) new
+GoesOn program old (going.Stuck last text) =
+    Steps (theory_of program) old.run.config old.run.calls stays × (last ≡ old.run.config) × (text.items ≡ old.text.items)
+GoesOn program old (going.Blocked why last text) =
+    Steps (theory_of program) old.run.config old.run.calls (stops (cause_of why)) × (last ≡ old.run.config)
+    × (text.items ≡ old.text.items)
+
+-- a proof went on to the configuration of a run
+abbrev pub IsFurther : RunState → RunProof → List ℕ → Going → Type 0
+IsFurther run proof text (going.Further new) =
+    (new.run ≡ run) × StepsTo proof new.proof run.config text new.text.items
+IsFurther run proof text (going.Stuck last left) = ⊥
+IsFurther run proof text (going.Blocked why last left) = ⊥
+
+-- this is left of a run that is stuck
+abbrev pub IsStuckAt : Tree → List ℕ → Going → Type 0
+IsStuckAt config text (going.Further new) = ⊥
+IsStuckAt config text (going.Stuck last left) = (last ≡ config) × (left.items ≡ text)
+IsStuckAt config text (going.Blocked why last left) = ⊥
+
+-- .. and of one that is blocked
+abbrev pub IsBlockedAt : Blocked → Tree → List ℕ → Going → Type 0
+IsBlockedAt why config text (going.Further new) = ⊥
+IsBlockedAt why config text (going.Stuck last left) = ⊥
+IsBlockedAt why config text (going.Blocked because last left) =
+    (because ≡ why) × (last ≡ config) × (left.items ≡ text)

@@ -1,4 +1,0 @@
-pub mod ContextLaws
-pub mod FollowLaws
-pub mod PlainSteps
-pub mod WritingOn

@@ -1,7 +1,0 @@
--- Believed: what public clauses say, and believed definitions of other crates.
-pub mod Covered
-pub mod RunProof
-pub mod Proving
--- Private: what clauses of private functions cite, and how private fields are seen.
-pub mod Reaching
-pub mod ProofView
