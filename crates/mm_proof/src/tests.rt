@@ -104,13 +104,7 @@ fn proves_a_substitution(rt: HostRuntime) -> Result<(), Fail> {
 fn labels(alloc: Global, pat: &MPat, made: &MPat) -> Result<usize, AllocError> {
     let a = MPat::constant(alloc, ConstNo(1))?;
     let text = text_of(alloc, Work::Substituted(VarNo(0), &a, pat, made))?;
-    let mut count = 0;
-    for byte in &text {
-        if *byte == b' ' {
-            count += 1;
-        }
-    }
-    Ok(count)
+    Ok(text.iter().filter(|byte| **byte == b' ').count())
 }
 
 // x stands at one leaf of a configuration of 127 nodes: each part beside the way there is left as it is in one step.
