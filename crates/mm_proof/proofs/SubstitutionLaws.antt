@@ -2,6 +2,7 @@
 use Rattle.std.proofs.Common.{◌≡◌, ℕ, Bool, true, false, List, [], ◌∷◌, ◌++◌, refl, ap, ◌∙◌, sym, Option, Some, None, subst, eqb-true}
 use Rattle.std.proofs.Common as std
 use Rattle.std.specs.Prelude.{◌==◌, ◌||◌, if◌then◌else◌, codes, option_map}
+use Rattle.std.proofs.lemmas.Bool.{false≢true}
 use Rattle.mm_text.specs.Bytes.{Token}
 use Rattle.mm_database.specs.Database.{Context}
 use Rattle.mm_database.specs.Proofs.{Expression, Proves, symbols_apart, texts_apart}
@@ -10,7 +11,7 @@ use Rattle.ml_pat.specs.Judgements.{fresh, substituted, both_parts}
 use Rattle.mm_proof.specs.Tokens.{Naming, letters_of, is_fresh, is_substituted, judgement_by}
 use Rattle.ml_pat.specs.Leaves.{LeafFacts, EachLeaf}
 use Rattle.mm_proof.specs.Serving.{Serves}
-use Rattle.mm_proof.specs.Trees.{cite, syntax_tree, fresh_tree, first_part, unchanged_tree, substitution_tree}
+use Rattle.mm_proof.specs.Trees.{cite, syntax_tree, fresh_tree, unchanged_tree, substitution_tree, substitution_by_form}
 use Rattle.mm_proof.proofs.Schemes.{under}
 use Rattle.mm_proof.proofs.RowProofs.{sigma_of, row_proves}
 use Rattle.mm_proof.proofs.SyntaxLaws.{pattern_text, sort_text, object_text, sort_proves, object_proves, syntax_proves}
@@ -136,101 +137,116 @@ substituted-fresh (var y) x u f = ap (λ (b : Bool). if b then Some u else Some 
 unchanged_law : (c : Context) (l n : Naming) (known : LeafFacts) (x : ℕ) (u p r : Pattern) → Serves c l n known → known.object x → EachLeaf known u → EachLeaf known p → fresh x p ≡ true → Some p ≡ Some r → Proves c (unchanged_tree l x u p) (substitution_text n r p u x)
 unchanged_law c l n known x u p r w hx hu hp f same = subst (λ (t : Pattern). Proves c (unchanged_tree l x u p) (substitution_text n t p u x)) (some_same p r same) (unchanged_proves c l n known x u p w hx hu hp f)
 
-variable_law : (c : Context) (l n : Naming) (known : LeafFacts) (x y : ℕ) (u r : Pattern) → Serves c l n known → known.object x → known.object y → EachLeaf known u → substituted (var y) x u ≡ Some r → Proves c (substitution_tree l x u (var y) r) (substitution_text n r (var y) u x)
-variable_law c l n known x y u r w hx hy hu h = go (x == y) refl h
+-- where it changes, it is proved by its form
+whole_or_form : (c : Context) (l n : Naming) (known : LeafFacts) (x : ℕ) (u p r : Pattern) → Serves c l n known → known.object x → EachLeaf known u → EachLeaf known p → substituted p x u ≡ Some r
+    → (fresh x p ≡ false → Proves c (substitution_by_form l x u p r) (substitution_text n r p u x))
+    → Proves c (substitution_tree l x u p r) (substitution_text n r p u x)
+whole_or_form c l n known x u p r w hx hu hp h below = go (fresh x p) refl
   where
-    go : (b : Bool) → (x == y) ≡ b → (if b then Some u else Some (var y)) ≡ Some r → Proves c (if b then cite (codes "su.v") (syntax_tree l u ∷ cite (l.object x) [] ∷ []) else unchanged_tree l x u (var y)) (substitution_text n r (var y) u x)
-    go true is same =
+    go : (b : Bool) → fresh x p ≡ b → Proves c (if b then unchanged_tree l x u p else substitution_by_form l x u p r) (substitution_text n r p u x)
+    go true is = unchanged_law c l n known x u p r w hx hu hp is (sym (substituted-fresh p x u is) ∙ h)
+    go false is = below is
+
+variable_law : (c : Context) (l n : Naming) (known : LeafFacts) (x y : ℕ) (u r : Pattern) → Serves c l n known → known.object x → EachLeaf known u → substituted (var y) x u ≡ Some r → fresh x (var y) ≡ false → Proves c (substitution_by_form l x u (var y) r) (substitution_text n r (var y) u x)
+variable_law c l n known x y u r w hx hu h free = go (x == y) refl h free
+  where
+    go : (b : Bool) → (x == y) ≡ b → (if b then Some u else Some (var y)) ≡ Some r → std.not b ≡ false → Proves c (cite (codes "su.v") (syntax_tree l u ∷ cite (l.object x) [] ∷ [])) (substitution_text n r (var y) u x)
+    go true is same here =
         let made : Proves c (cite (codes "su.v") (syntax_tree l u ∷ cite (l.object x) [] ∷ [])) (substitution_text n u (var x) u x) = replaced_proves c l n known x u w hx hu in
-        let here : Proves c (cite (codes "su.v") (syntax_tree l u ∷ cite (l.object x) [] ∷ [])) (substitution_text n r (var x) u x) = subst (λ (t : Pattern). Proves c (cite (codes "su.v") (syntax_tree l u ∷ cite (l.object x) [] ∷ [])) (substitution_text n t (var x) u x)) (some_same u r same) made in
-        subst (λ (z : ℕ). Proves c (cite (codes "su.v") (syntax_tree l u ∷ cite (l.object x) [] ∷ [])) (substitution_text n r (var z) u x)) (eqb-true x y is) here
-    go false is same = unchanged_law c l n known x u (var y) r w hx hu hy (ap std.not is) same
+        let found : Proves c (cite (codes "su.v") (syntax_tree l u ∷ cite (l.object x) [] ∷ [])) (substitution_text n r (var x) u x) = subst (λ (t : Pattern). Proves c (cite (codes "su.v") (syntax_tree l u ∷ cite (l.object x) [] ∷ [])) (substitution_text n t (var x) u x)) (some_same u r same) made in
+        subst (λ (z : ℕ). Proves c (cite (codes "su.v") (syntax_tree l u ∷ cite (l.object x) [] ∷ [])) (substitution_text n r (var z) u x)) (eqb-true x y is) found
+    go false is same here = absurd (false≢true (sym here))
 
-ex_law : (c : Context) (l n : Naming) (known : LeafFacts) (x y s : ℕ) (u p r : Pattern) → Serves c l n known → known.object x → EachLeaf known u → EachLeaf known (ex y s p) → EachLeaf known r → substituted (ex y s p) x u ≡ Some r
+ex_law : (c : Context) (l n : Naming) (known : LeafFacts) (x y s : ℕ) (u p r : Pattern) → Serves c l n known → known.object x → EachLeaf known u → EachLeaf known (ex y s p) → EachLeaf known r → substituted (ex y s p) x u ≡ Some r → fresh x (ex y s p) ≡ false
     → ((t : Pattern) → EachLeaf known t → substituted p x u ≡ Some t → Proves c (substitution_tree l x u p t) (substitution_text n t p u x))
-    → Proves c (substitution_tree l x u (ex y s p) r) (substitution_text n r (ex y s p) u x)
-ex_law c l n known x y s u p r w hx hu hp hr h below = go (x == y) (fresh x p) (fresh y u) refl refl refl h
+    → Proves c (substitution_by_form l x u (ex y s p) r) (substitution_text n r (ex y s p) u x)
+ex_law c l n known x y s u p r w hx hu hp hr h free below = go (x == y) (fresh x p) (fresh y u) refl refl h free
   where
-    go : (a b f : Bool) → (x == y) ≡ a → fresh x p ≡ b → fresh y u ≡ f → (if a || b then Some (ex y s p) else (if f then option_map (ex y s) (substituted p x u) else None)) ≡ Some r
-        → Proves c (if a then unchanged_tree l x u (ex y s p) else if f then cite (codes "su.ex") (syntax_tree l p ∷ syntax_tree l (first_part r) ∷ syntax_tree l u ∷ cite (l.object x) [] ∷ cite (l.object y) [] ∷ cite (l.sort s) [] ∷ fresh_tree l y u ∷ substitution_tree l x u p (first_part r) ∷ []) else unchanged_tree l x u (ex y s p)) (substitution_text n r (ex y s p) u x)
-    go true b f same free captured made = unchanged_law c l n known x u (ex y s p) r w hx hu hp (ap (λ z. z || fresh x p) same) made
-    go false true true differ free captured made =
-        subst (λ (r : Pattern). Proves c (cite (codes "su.ex") (syntax_tree l p ∷ syntax_tree l (first_part r) ∷ syntax_tree l u ∷ cite (l.object x) [] ∷ cite (l.object y) [] ∷ cite (l.sort s) [] ∷ fresh_tree l y u ∷ substitution_tree l x u p (first_part r) ∷ [])) (substitution_text n r (ex y s p) u x)) (some_same (ex y s p) r made)
-        (substituted_ex c l n known x y s u p p w hx hp.1.0 hp.1.1 hu hp.0 hp.0 differ captured (below p hp.0 (substituted-fresh p x u free)))
-    go false true false differ free captured made = unchanged_law c l n known x u (ex y s p) r w hx hu hp (ap (λ z. z || fresh x p) differ ∙ free) made
-    go false false true differ free captured made =
+    go : (a b f : Bool) → (x == y) ≡ a → fresh y u ≡ f → (if a || b then Some (ex y s p) else (if f then option_map (ex y s) (substituted p x u) else None)) ≡ Some r → (a || b) ≡ false
+        → Proves c (substitution_by_form l x u (ex y s p) r) (substitution_text n r (ex y s p) u x)
+    go true b f same captured made is = absurd (false≢true (sym is))
+    go false true f differ captured made is = absurd (false≢true (sym is))
+    go false false true differ captured made is =
         let w' : OnePart (ex y s) (substituted p x u) r = one_part_some (ex y s) (substituted p x u) r made in
-        subst (λ (r : Pattern). EachLeaf known r → Proves c (cite (codes "su.ex") (syntax_tree l p ∷ syntax_tree l (first_part r) ∷ syntax_tree l u ∷ cite (l.object x) [] ∷ cite (l.object y) [] ∷ cite (l.sort s) [] ∷ fresh_tree l y u ∷ substitution_tree l x u p (first_part r) ∷ [])) (substitution_text n r (ex y s p) u x)) w'.whole
+        subst (λ (r : Pattern). EachLeaf known r → Proves c (substitution_by_form l x u (ex y s p) r) (substitution_text n r (ex y s p) u x)) w'.whole
         (λ ht. substituted_ex c l n known x y s u p w'.part w hx hp.1.0 hp.1.1 hu hp.0 ht.0 differ captured (below w'.part ht.0 w'.part_is)) hr
-    go false false false differ free captured made = absurd (none_some r made)
+    go false false false differ captured made is = absurd (none_some r made)
 
-all_law : (c : Context) (l n : Naming) (known : LeafFacts) (x y s : ℕ) (u p r : Pattern) → Serves c l n known → known.object x → EachLeaf known u → EachLeaf known (all y s p) → EachLeaf known r → substituted (all y s p) x u ≡ Some r
+all_law : (c : Context) (l n : Naming) (known : LeafFacts) (x y s : ℕ) (u p r : Pattern) → Serves c l n known → known.object x → EachLeaf known u → EachLeaf known (all y s p) → EachLeaf known r → substituted (all y s p) x u ≡ Some r → fresh x (all y s p) ≡ false
     → ((t : Pattern) → EachLeaf known t → substituted p x u ≡ Some t → Proves c (substitution_tree l x u p t) (substitution_text n t p u x))
-    → Proves c (substitution_tree l x u (all y s p) r) (substitution_text n r (all y s p) u x)
-all_law c l n known x y s u p r w hx hu hp hr h below = go (x == y) (fresh x p) (fresh y u) refl refl refl h
+    → Proves c (substitution_by_form l x u (all y s p) r) (substitution_text n r (all y s p) u x)
+all_law c l n known x y s u p r w hx hu hp hr h free below = go (x == y) (fresh x p) (fresh y u) refl refl h free
   where
-    go : (a b f : Bool) → (x == y) ≡ a → fresh x p ≡ b → fresh y u ≡ f → (if a || b then Some (all y s p) else (if f then option_map (all y s) (substituted p x u) else None)) ≡ Some r
-        → Proves c (if a then unchanged_tree l x u (all y s p) else if f then cite (codes "su.all") (syntax_tree l p ∷ syntax_tree l (first_part r) ∷ syntax_tree l u ∷ cite (l.object x) [] ∷ cite (l.object y) [] ∷ cite (l.sort s) [] ∷ fresh_tree l y u ∷ substitution_tree l x u p (first_part r) ∷ []) else unchanged_tree l x u (all y s p)) (substitution_text n r (all y s p) u x)
-    go true b f same free captured made = unchanged_law c l n known x u (all y s p) r w hx hu hp (ap (λ z. z || fresh x p) same) made
-    go false true true differ free captured made =
-        subst (λ (r : Pattern). Proves c (cite (codes "su.all") (syntax_tree l p ∷ syntax_tree l (first_part r) ∷ syntax_tree l u ∷ cite (l.object x) [] ∷ cite (l.object y) [] ∷ cite (l.sort s) [] ∷ fresh_tree l y u ∷ substitution_tree l x u p (first_part r) ∷ [])) (substitution_text n r (all y s p) u x)) (some_same (all y s p) r made)
-        (substituted_all c l n known x y s u p p w hx hp.1.0 hp.1.1 hu hp.0 hp.0 differ captured (below p hp.0 (substituted-fresh p x u free)))
-    go false true false differ free captured made = unchanged_law c l n known x u (all y s p) r w hx hu hp (ap (λ z. z || fresh x p) differ ∙ free) made
-    go false false true differ free captured made =
+    go : (a b f : Bool) → (x == y) ≡ a → fresh y u ≡ f → (if a || b then Some (all y s p) else (if f then option_map (all y s) (substituted p x u) else None)) ≡ Some r → (a || b) ≡ false
+        → Proves c (substitution_by_form l x u (all y s p) r) (substitution_text n r (all y s p) u x)
+    go true b f same captured made is = absurd (false≢true (sym is))
+    go false true f differ captured made is = absurd (false≢true (sym is))
+    go false false true differ captured made is =
         let w' : OnePart (all y s) (substituted p x u) r = one_part_some (all y s) (substituted p x u) r made in
-        subst (λ (r : Pattern). EachLeaf known r → Proves c (cite (codes "su.all") (syntax_tree l p ∷ syntax_tree l (first_part r) ∷ syntax_tree l u ∷ cite (l.object x) [] ∷ cite (l.object y) [] ∷ cite (l.sort s) [] ∷ fresh_tree l y u ∷ substitution_tree l x u p (first_part r) ∷ [])) (substitution_text n r (all y s p) u x)) w'.whole
+        subst (λ (r : Pattern). EachLeaf known r → Proves c (substitution_by_form l x u (all y s p) r) (substitution_text n r (all y s p) u x)) w'.whole
         (λ ht. substituted_all c l n known x y s u p w'.part w hx hp.1.0 hp.1.1 hu hp.0 ht.0 differ captured (below w'.part ht.0 w'.part_is)) hr
-    go false false false differ free captured made = absurd (none_some r made)
+    go false false false differ captured made is = absurd (none_some r made)
 
 pub substitution_proves : (c : Context) (l n : Naming) (known : LeafFacts) (x : ℕ) (u p r : Pattern) → Serves c l n known → known.object x → EachLeaf known u → EachLeaf known p → EachLeaf known r → substituted p x u ≡ Some r → Proves c (substitution_tree l x u p r) (substitution_text n r p u x)
 substitution_proves c l n known x u bot r w hx hu hp hr h = unchanged_law c l n known x u bot r w hx hu tt refl h
 substitution_proves c l n known x u top r w hx hu hp hr h = unchanged_law c l n known x u top r w hx hu tt refl h
 substitution_proves c l n known x u (meta i) r w hx hu hp hr h = unchanged_law c l n known x u (meta i) r w hx hu hp refl h
 substitution_proves c l n known x u (constant i) r w hx hu hp hr h = unchanged_law c l n known x u (constant i) r w hx hu hp refl h
-substitution_proves c l n known x u (var y) r w hx hu hp hr h = variable_law c l n known x y u r w hx hp hu h
+substitution_proves c l n known x u (var y) r w hx hu hp hr h = whole_or_form c l n known x u (var y) r w hx hu hp h (variable_law c l n known x y u r w hx hu h)
 substitution_proves c l n known x u (imp p q) r w hx hu hp hr h =
     let made : BothParts imp (substituted p x u) (substituted q x u) r = both_parts_some imp (substituted p x u) (substituted q x u) r h in
-    subst (λ (r : Pattern). EachLeaf known r → Proves c (substitution_tree l x u (imp p q) r) (substitution_text n r (imp p q) u x)) made.whole
-    (λ ht. substituted_two c l n (codes "su.imp") imp x u p q made.first made.second known w su_imp refl hx hu hp.0 hp.1 ht.0 ht.1 (substitution_proves c l n known x u p made.first w hx hu hp.0 ht.0 made.first_is) (substitution_proves c l n known x u q made.second w hx hu hp.1 ht.1 made.second_is)) hr
+    whole_or_form c l n known x u (imp p q) r w hx hu hp h (λ free.
+    subst (λ (r : Pattern). EachLeaf known r → Proves c (substitution_by_form l x u (imp p q) r) (substitution_text n r (imp p q) u x)) made.whole
+    (λ ht. substituted_two c l n (codes "su.imp") imp x u p q made.first made.second known w su_imp refl hx hu hp.0 hp.1 ht.0 ht.1 (substitution_proves c l n known x u p made.first w hx hu hp.0 ht.0 made.first_is) (substitution_proves c l n known x u q made.second w hx hu hp.1 ht.1 made.second_is)) hr)
 substitution_proves c l n known x u (and p q) r w hx hu hp hr h =
     let made : BothParts and (substituted p x u) (substituted q x u) r = both_parts_some and (substituted p x u) (substituted q x u) r h in
-    subst (λ (r : Pattern). EachLeaf known r → Proves c (substitution_tree l x u (and p q) r) (substitution_text n r (and p q) u x)) made.whole
-    (λ ht. substituted_two c l n (codes "su.and") and x u p q made.first made.second known w su_and refl hx hu hp.0 hp.1 ht.0 ht.1 (substitution_proves c l n known x u p made.first w hx hu hp.0 ht.0 made.first_is) (substitution_proves c l n known x u q made.second w hx hu hp.1 ht.1 made.second_is)) hr
+    whole_or_form c l n known x u (and p q) r w hx hu hp h (λ free.
+    subst (λ (r : Pattern). EachLeaf known r → Proves c (substitution_by_form l x u (and p q) r) (substitution_text n r (and p q) u x)) made.whole
+    (λ ht. substituted_two c l n (codes "su.and") and x u p q made.first made.second known w su_and refl hx hu hp.0 hp.1 ht.0 ht.1 (substitution_proves c l n known x u p made.first w hx hu hp.0 ht.0 made.first_is) (substitution_proves c l n known x u q made.second w hx hu hp.1 ht.1 made.second_is)) hr)
 substitution_proves c l n known x u (or p q) r w hx hu hp hr h =
     let made : BothParts or (substituted p x u) (substituted q x u) r = both_parts_some or (substituted p x u) (substituted q x u) r h in
-    subst (λ (r : Pattern). EachLeaf known r → Proves c (substitution_tree l x u (or p q) r) (substitution_text n r (or p q) u x)) made.whole
-    (λ ht. substituted_two c l n (codes "su.or") or x u p q made.first made.second known w su_or refl hx hu hp.0 hp.1 ht.0 ht.1 (substitution_proves c l n known x u p made.first w hx hu hp.0 ht.0 made.first_is) (substitution_proves c l n known x u q made.second w hx hu hp.1 ht.1 made.second_is)) hr
+    whole_or_form c l n known x u (or p q) r w hx hu hp h (λ free.
+    subst (λ (r : Pattern). EachLeaf known r → Proves c (substitution_by_form l x u (or p q) r) (substitution_text n r (or p q) u x)) made.whole
+    (λ ht. substituted_two c l n (codes "su.or") or x u p q made.first made.second known w su_or refl hx hu hp.0 hp.1 ht.0 ht.1 (substitution_proves c l n known x u p made.first w hx hu hp.0 ht.0 made.first_is) (substitution_proves c l n known x u q made.second w hx hu hp.1 ht.1 made.second_is)) hr)
 substitution_proves c l n known x u (equal p q) r w hx hu hp hr h =
     let made : BothParts equal (substituted p x u) (substituted q x u) r = both_parts_some equal (substituted p x u) (substituted q x u) r h in
-    subst (λ (r : Pattern). EachLeaf known r → Proves c (substitution_tree l x u (equal p q) r) (substitution_text n r (equal p q) u x)) made.whole
-    (λ ht. substituted_two c l n (codes "su.eq") equal x u p q made.first made.second known w su_eq refl hx hu hp.0 hp.1 ht.0 ht.1 (substitution_proves c l n known x u p made.first w hx hu hp.0 ht.0 made.first_is) (substitution_proves c l n known x u q made.second w hx hu hp.1 ht.1 made.second_is)) hr
+    whole_or_form c l n known x u (equal p q) r w hx hu hp h (λ free.
+    subst (λ (r : Pattern). EachLeaf known r → Proves c (substitution_by_form l x u (equal p q) r) (substitution_text n r (equal p q) u x)) made.whole
+    (λ ht. substituted_two c l n (codes "su.eq") equal x u p q made.first made.second known w su_eq refl hx hu hp.0 hp.1 ht.0 ht.1 (substitution_proves c l n known x u p made.first w hx hu hp.0 ht.0 made.first_is) (substitution_proves c l n known x u q made.second w hx hu hp.1 ht.1 made.second_is)) hr)
 substitution_proves c l n known x u (member p q) r w hx hu hp hr h =
     let made : BothParts member (substituted p x u) (substituted q x u) r = both_parts_some member (substituted p x u) (substituted q x u) r h in
-    subst (λ (r : Pattern). EachLeaf known r → Proves c (substitution_tree l x u (member p q) r) (substitution_text n r (member p q) u x)) made.whole
-    (λ ht. substituted_two c l n (codes "su.mem") member x u p q made.first made.second known w su_mem refl hx hu hp.0 hp.1 ht.0 ht.1 (substitution_proves c l n known x u p made.first w hx hu hp.0 ht.0 made.first_is) (substitution_proves c l n known x u q made.second w hx hu hp.1 ht.1 made.second_is)) hr
+    whole_or_form c l n known x u (member p q) r w hx hu hp h (λ free.
+    subst (λ (r : Pattern). EachLeaf known r → Proves c (substitution_by_form l x u (member p q) r) (substitution_text n r (member p q) u x)) made.whole
+    (λ ht. substituted_two c l n (codes "su.mem") member x u p q made.first made.second known w su_mem refl hx hu hp.0 hp.1 ht.0 ht.1 (substitution_proves c l n known x u p made.first w hx hu hp.0 ht.0 made.first_is) (substitution_proves c l n known x u q made.second w hx hu hp.1 ht.1 made.second_is)) hr)
 substitution_proves c l n known x u (app p q) r w hx hu hp hr h =
     let made : BothParts app (substituted p x u) (substituted q x u) r = both_parts_some app (substituted p x u) (substituted q x u) r h in
-    subst (λ (r : Pattern). EachLeaf known r → Proves c (substitution_tree l x u (app p q) r) (substitution_text n r (app p q) u x)) made.whole
-    (λ ht. substituted_two c l n (codes "su.app") app x u p q made.first made.second known w su_app refl hx hu hp.0 hp.1 ht.0 ht.1 (substitution_proves c l n known x u p made.first w hx hu hp.0 ht.0 made.first_is) (substitution_proves c l n known x u q made.second w hx hu hp.1 ht.1 made.second_is)) hr
+    whole_or_form c l n known x u (app p q) r w hx hu hp h (λ free.
+    subst (λ (r : Pattern). EachLeaf known r → Proves c (substitution_by_form l x u (app p q) r) (substitution_text n r (app p q) u x)) made.whole
+    (λ ht. substituted_two c l n (codes "su.app") app x u p q made.first made.second known w su_app refl hx hu hp.0 hp.1 ht.0 ht.1 (substitution_proves c l n known x u p made.first w hx hu hp.0 ht.0 made.first_is) (substitution_proves c l n known x u q made.second w hx hu hp.1 ht.1 made.second_is)) hr)
 substitution_proves c l n known x u (not p) r w hx hu hp hr h =
     let made : OnePart not (substituted p x u) r = one_part_some not (substituted p x u) r h in
-    subst (λ (r : Pattern). EachLeaf known r → Proves c (substitution_tree l x u (not p) r) (substitution_text n r (not p) u x)) made.whole
-    (λ ht. substituted_one c l n (codes "su.not") not x u p made.part known w su_not refl hx hu hp ht (substitution_proves c l n known x u p made.part w hx hu hp ht made.part_is)) hr
+    whole_or_form c l n known x u (not p) r w hx hu hp h (λ free.
+    subst (λ (r : Pattern). EachLeaf known r → Proves c (substitution_by_form l x u (not p) r) (substitution_text n r (not p) u x)) made.whole
+    (λ ht. substituted_one c l n (codes "su.not") not x u p made.part known w su_not refl hx hu hp ht (substitution_proves c l n known x u p made.part w hx hu hp ht made.part_is)) hr)
 substitution_proves c l n known x u (next p) r w hx hu hp hr h =
     let made : OnePart next (substituted p x u) r = one_part_some next (substituted p x u) r h in
-    subst (λ (r : Pattern). EachLeaf known r → Proves c (substitution_tree l x u (next p) r) (substitution_text n r (next p) u x)) made.whole
-    (λ ht. substituted_one c l n (codes "su.next") next x u p made.part known w su_next refl hx hu hp ht (substitution_proves c l n known x u p made.part w hx hu hp ht made.part_is)) hr
+    whole_or_form c l n known x u (next p) r w hx hu hp h (λ free.
+    subst (λ (r : Pattern). EachLeaf known r → Proves c (substitution_by_form l x u (next p) r) (substitution_text n r (next p) u x)) made.whole
+    (λ ht. substituted_one c l n (codes "su.next") next x u p made.part known w su_next refl hx hu hp ht (substitution_proves c l n known x u p made.part w hx hu hp ht made.part_is)) hr)
 substitution_proves c l n known x u (ev p) r w hx hu hp hr h =
     let made : OnePart ev (substituted p x u) r = one_part_some ev (substituted p x u) r h in
-    subst (λ (r : Pattern). EachLeaf known r → Proves c (substitution_tree l x u (ev p) r) (substitution_text n r (ev p) u x)) made.whole
-    (λ ht. substituted_one c l n (codes "su.ev") ev x u p made.part known w su_ev refl hx hu hp ht (substitution_proves c l n known x u p made.part w hx hu hp ht made.part_is)) hr
+    whole_or_form c l n known x u (ev p) r w hx hu hp h (λ free.
+    subst (λ (r : Pattern). EachLeaf known r → Proves c (substitution_by_form l x u (ev p) r) (substitution_text n r (ev p) u x)) made.whole
+    (λ ht. substituted_one c l n (codes "su.ev") ev x u p made.part known w su_ev refl hx hu hp ht (substitution_proves c l n known x u p made.part w hx hu hp ht made.part_is)) hr)
 substitution_proves c l n known x u (at_sort p s) r w hx hu hp hr h =
     let made : OnePart (λ t. at_sort t s) (substituted p x u) r = one_part_some (λ t. at_sort t s) (substituted p x u) r h in
-    subst (λ (r : Pattern). EachLeaf known r → Proves c (substitution_tree l x u (at_sort p s) r) (substitution_text n r (at_sort p s) u x)) made.whole
-    (λ ht. substituted_sort c l n (codes "su.at") at_sort x u p made.part s known w su_at refl hx hu hp.0 ht.0 hp.1 (substitution_proves c l n known x u p made.part w hx hu hp.0 ht.0 made.part_is)) hr
+    whole_or_form c l n known x u (at_sort p s) r w hx hu hp h (λ free.
+    subst (λ (r : Pattern). EachLeaf known r → Proves c (substitution_by_form l x u (at_sort p s) r) (substitution_text n r (at_sort p s) u x)) made.whole
+    (λ ht. substituted_sort c l n (codes "su.at") at_sort x u p made.part s known w su_at refl hx hu hp.0 ht.0 hp.1 (substitution_proves c l n known x u p made.part w hx hu hp.0 ht.0 made.part_is)) hr)
 substitution_proves c l n known x u (fun p s) r w hx hu hp hr h =
     let made : OnePart (λ t. fun t s) (substituted p x u) r = one_part_some (λ t. fun t s) (substituted p x u) r h in
-    subst (λ (r : Pattern). EachLeaf known r → Proves c (substitution_tree l x u (fun p s) r) (substitution_text n r (fun p s) u x)) made.whole
-    (λ ht. substituted_sort c l n (codes "su.fun") fun x u p made.part s known w su_fun refl hx hu hp.0 ht.0 hp.1 (substitution_proves c l n known x u p made.part w hx hu hp.0 ht.0 made.part_is)) hr
-substitution_proves c l n known x u (ex y s p) r w hx hu hp hr h = ex_law c l n known x y s u p r w hx hu hp hr h (λ t ht is. substitution_proves c l n known x u p t w hx hu hp.0 ht is)
-substitution_proves c l n known x u (all y s p) r w hx hu hp hr h = all_law c l n known x y s u p r w hx hu hp hr h (λ t ht is. substitution_proves c l n known x u p t w hx hu hp.0 ht is)
+    whole_or_form c l n known x u (fun p s) r w hx hu hp h (λ free.
+    subst (λ (r : Pattern). EachLeaf known r → Proves c (substitution_by_form l x u (fun p s) r) (substitution_text n r (fun p s) u x)) made.whole
+    (λ ht. substituted_sort c l n (codes "su.fun") fun x u p made.part s known w su_fun refl hx hu hp.0 ht.0 hp.1 (substitution_proves c l n known x u p made.part w hx hu hp.0 ht.0 made.part_is)) hr)
+substitution_proves c l n known x u (ex y s p) r w hx hu hp hr h = whole_or_form c l n known x u (ex y s p) r w hx hu hp h (λ free. ex_law c l n known x y s u p r w hx hu hp hr h free (λ t ht is. substitution_proves c l n known x u p t w hx hu hp.0 ht is))
+substitution_proves c l n known x u (all y s p) r w hx hu hp hr h = whole_or_form c l n known x u (all y s p) r w hx hu hp h (λ free. all_law c l n known x y s u p r w hx hu hp hr h free (λ t ht is. substitution_proves c l n known x u p t w hx hu hp.0 ht is))

@@ -1,14 +1,11 @@
 -- What proof a derivation is written as, by recursion. How hypotheses, axioms and lemmas are cited is a matter of the
 -- statement in which it stands; a rule is its label over the proofs of what it concludes from.
-use Rattle.std.specs.Prelude.{ℕ, List, [], ◌∷◌, map, Contains}
-use Rattle.mm_database.specs.Database.{Context}
-use Rattle.mm_database.specs.Proofs.{Expression, ProofTree, Proves, AllProve}
+use Rattle.std.specs.Prelude.{ℕ, List, [], ◌∷◌}
+use Rattle.mm_database.specs.Proofs.{Expression, ProofTree}
 use Rattle.ml_pat.specs.Patterns.{Pattern}
-use Rattle.ml_kernel.specs.Lemmas.{instance, instances, HaveNoVariables}
 use Rattle.ml_kernel.specs.Theorems.{Derivation, Derivations, hypothesis, own_axiom, by_rule, cited, no_derivation, more_derivations}
-use Rattle.ml_kernel.specs.MayCite.{MayCite}
 use Rattle.mm_proof.specs.Tokens.{Naming, letters_of, holds, judgement_by}
-use Rattle.mm_proof.specs.Trees.{trees_of, rule_tree}
+use Rattle.mm_proof.specs.Trees.{rule_tree}
 
 -- what is written of a pattern that holds
 abbrev pub holds_text : Naming → Pattern → Expression

@@ -1,14 +1,13 @@
 -- When what is cited of a database proves what a derivation says.
-use Rattle.std.specs.Prelude.{ℕ, List, [], ◌∷◌, map, Contains}
+use Rattle.std.specs.Prelude.{ℕ, List, map, Contains}
 use Rattle.mm_database.specs.Database.{Context}
-use Rattle.mm_database.specs.Proofs.{Expression, ProofTree, Proves, AllProve}
+use Rattle.mm_database.specs.Proofs.{ProofTree, Proves, AllProve}
 use Rattle.ml_pat.specs.Patterns.{Pattern}
 use Rattle.ml_kernel.specs.Lemmas.{instance, instances, HaveNoVariables}
-use Rattle.ml_kernel.specs.Theorems.{Derivation, Derivations, hypothesis, own_axiom, by_rule, cited, no_derivation, more_derivations}
 use Rattle.ml_kernel.specs.Renamings.{Renames, by_place}
 use Rattle.ml_kernel.specs.MayCite.{MayCite}
-use Rattle.mm_proof.specs.Tokens.{Naming, letters_of, holds, judgement_by}
-use Rattle.mm_proof.specs.Trees.{trees_of, rule_tree}
+use Rattle.mm_proof.specs.Tokens.{Naming}
+use Rattle.mm_proof.specs.Trees.{trees_of}
 use Rattle.mm_proof.specs.Derivations.{Citing, holds_text}
 
 -- what may be cited proves what it stands for

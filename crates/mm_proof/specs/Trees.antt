@@ -3,7 +3,7 @@ use Rattle.std.specs.Prelude.{ℕ, ◌==◌, if◌then◌else◌, List, [], ◌�
 use Rattle.mm_text.specs.Bytes.{Token}
 use Rattle.mm_database.specs.Proofs.{ProofTree, proof_node, ProofForest, no_proof, more_proofs}
 use Rattle.ml_pat.specs.Patterns.{Pattern, bot, top, imp, not, and, or, equal, member, fun, ex, all, app, at_sort, next, ev, var, meta, constant}
-use Rattle.ml_pat.specs.Judgements.{fresh}
+use Rattle.ml_pat.specs.Judgements.{absent, fresh}
 use Rattle.ml_kernel.specs.Rules.{Instance, pattern, variable, sort, label}
 use Rattle.ml_kernel.specs.declared.rules.Rule.{Rule}
 use Rattle.ml_kernel.specs.declared.rules.Rule.TheVariants as rule
@@ -39,32 +39,69 @@ syntax_tree l (var x) = cite (codes "w.var") (cite (l.object x) [] ∷ [])
 syntax_tree l (meta i) = cite (l.meta i) []
 syntax_tree l (constant c) = cite (l.constant c) []
 
--- the proof that x is not free in a pattern, where it is not
-abbrev pub fresh_tree : Naming → ℕ → Pattern → ProofTree
-fresh_tree l x bot = cite (codes "fr.d") (syntax_tree l bot ∷ cite (l.object x) [] ∷ [])
-fresh_tree l x top = cite (codes "fr.d") (syntax_tree l top ∷ cite (l.object x) [] ∷ [])
-fresh_tree l x (var y) = cite (codes "fr.d") (syntax_tree l (var y) ∷ cite (l.object x) [] ∷ [])
-fresh_tree l x (meta i) = cite (codes "fr.d") (syntax_tree l (meta i) ∷ cite (l.object x) [] ∷ [])
-fresh_tree l x (constant c) = cite (codes "fr.d") (syntax_tree l (constant c) ∷ cite (l.object x) [] ∷ [])
-fresh_tree l x (imp p q) = cite (codes "fr.imp") (syntax_tree l p ∷ syntax_tree l q ∷ cite (l.object x) [] ∷ fresh_tree l x p ∷ fresh_tree l x q ∷ [])
-fresh_tree l x (and p q) = cite (codes "fr.and") (syntax_tree l p ∷ syntax_tree l q ∷ cite (l.object x) [] ∷ fresh_tree l x p ∷ fresh_tree l x q ∷ [])
-fresh_tree l x (or p q) = cite (codes "fr.or") (syntax_tree l p ∷ syntax_tree l q ∷ cite (l.object x) [] ∷ fresh_tree l x p ∷ fresh_tree l x q ∷ [])
-fresh_tree l x (equal p q) = cite (codes "fr.eq") (syntax_tree l p ∷ syntax_tree l q ∷ cite (l.object x) [] ∷ fresh_tree l x p ∷ fresh_tree l x q ∷ [])
-fresh_tree l x (member p q) = cite (codes "fr.mem") (syntax_tree l p ∷ syntax_tree l q ∷ cite (l.object x) [] ∷ fresh_tree l x p ∷ fresh_tree l x q ∷ [])
-fresh_tree l x (app p q) = cite (codes "fr.app") (syntax_tree l p ∷ syntax_tree l q ∷ cite (l.object x) [] ∷ fresh_tree l x p ∷ fresh_tree l x q ∷ [])
-fresh_tree l x (not p) = cite (codes "fr.not") (syntax_tree l p ∷ cite (l.object x) [] ∷ fresh_tree l x p ∷ [])
-fresh_tree l x (next p) = cite (codes "fr.next") (syntax_tree l p ∷ cite (l.object x) [] ∷ fresh_tree l x p ∷ [])
-fresh_tree l x (ev p) = cite (codes "fr.ev") (syntax_tree l p ∷ cite (l.object x) [] ∷ fresh_tree l x p ∷ [])
-fresh_tree l x (at_sort p s) = cite (codes "fr.at") (syntax_tree l p ∷ cite (l.object x) [] ∷ cite (l.sort s) [] ∷ fresh_tree l x p ∷ [])
-fresh_tree l x (fun p s) = cite (codes "fr.fun") (syntax_tree l p ∷ cite (l.object x) [] ∷ cite (l.sort s) [] ∷ fresh_tree l x p ∷ [])
-fresh_tree l x (ex y s p) =
+-- the proof that x is not free in a pattern in which it stands nowhere
+abbrev pub absent_tree : Naming → ℕ → Pattern → ProofTree
+absent_tree l x p = cite (codes "fr.d") (syntax_tree l p ∷ cite (l.object x) [] ∷ [])
+
+-- one row for the whole of a pattern in which x stands nowhere, or else the other proof
+abbrev pub absent_or : Naming → ℕ → Pattern → ProofTree → ProofTree
+absent_or l x p other = if absent x p then absent_tree l x p else other
+
+-- the proof that x is not free in a pattern, by its form
+abbrev pub fresh_by_form : Naming → ℕ → Pattern → ProofTree
+fresh_by_form l x (imp p q) =
+    cite (codes "fr.imp")
+    (syntax_tree l p ∷ syntax_tree l q ∷ cite (l.object x) [] ∷
+    absent_or l x p (fresh_by_form l x p) ∷ absent_or l x q (fresh_by_form l x q) ∷ [])
+fresh_by_form l x (and p q) =
+    cite (codes "fr.and")
+    (syntax_tree l p ∷ syntax_tree l q ∷ cite (l.object x) [] ∷
+    absent_or l x p (fresh_by_form l x p) ∷ absent_or l x q (fresh_by_form l x q) ∷ [])
+fresh_by_form l x (or p q) =
+    cite (codes "fr.or")
+    (syntax_tree l p ∷ syntax_tree l q ∷ cite (l.object x) [] ∷
+    absent_or l x p (fresh_by_form l x p) ∷ absent_or l x q (fresh_by_form l x q) ∷ [])
+fresh_by_form l x (equal p q) =
+    cite (codes "fr.eq")
+    (syntax_tree l p ∷ syntax_tree l q ∷ cite (l.object x) [] ∷
+    absent_or l x p (fresh_by_form l x p) ∷ absent_or l x q (fresh_by_form l x q) ∷ [])
+fresh_by_form l x (member p q) =
+    cite (codes "fr.mem")
+    (syntax_tree l p ∷ syntax_tree l q ∷ cite (l.object x) [] ∷
+    absent_or l x p (fresh_by_form l x p) ∷ absent_or l x q (fresh_by_form l x q) ∷ [])
+fresh_by_form l x (app p q) =
+    cite (codes "fr.app")
+    (syntax_tree l p ∷ syntax_tree l q ∷ cite (l.object x) [] ∷
+    absent_or l x p (fresh_by_form l x p) ∷ absent_or l x q (fresh_by_form l x q) ∷ [])
+fresh_by_form l x (not p) =
+    cite (codes "fr.not") (syntax_tree l p ∷ cite (l.object x) [] ∷ absent_or l x p (fresh_by_form l x p) ∷ [])
+fresh_by_form l x (next p) =
+    cite (codes "fr.next") (syntax_tree l p ∷ cite (l.object x) [] ∷ absent_or l x p (fresh_by_form l x p) ∷ [])
+fresh_by_form l x (ev p) =
+    cite (codes "fr.ev") (syntax_tree l p ∷ cite (l.object x) [] ∷ absent_or l x p (fresh_by_form l x p) ∷ [])
+fresh_by_form l x (at_sort p s) =
+    cite (codes "fr.at")
+    (syntax_tree l p ∷ cite (l.object x) [] ∷ cite (l.sort s) [] ∷ absent_or l x p (fresh_by_form l x p) ∷ [])
+fresh_by_form l x (fun p s) =
+    cite (codes "fr.fun")
+    (syntax_tree l p ∷ cite (l.object x) [] ∷ cite (l.sort s) [] ∷ absent_or l x p (fresh_by_form l x p) ∷ [])
+fresh_by_form l x (ex y s p) =
     if x == y
     then cite (codes "fr.exb") (syntax_tree l p ∷ cite (l.object x) [] ∷ cite (l.sort s) [] ∷ [])
-    else cite (codes "fr.ex") (syntax_tree l p ∷ cite (l.object x) [] ∷ cite (l.object y) [] ∷ cite (l.sort s) [] ∷ fresh_tree l x p ∷ [])
-fresh_tree l x (all y s p) =
+    else cite (codes "fr.ex")
+    (syntax_tree l p ∷ cite (l.object x) [] ∷ cite (l.object y) [] ∷ cite (l.sort s) [] ∷
+    absent_or l x p (fresh_by_form l x p) ∷ [])
+fresh_by_form l x (all y s p) =
     if x == y
     then cite (codes "fr.allb") (syntax_tree l p ∷ cite (l.object x) [] ∷ cite (l.sort s) [] ∷ [])
-    else cite (codes "fr.all") (syntax_tree l p ∷ cite (l.object x) [] ∷ cite (l.object y) [] ∷ cite (l.sort s) [] ∷ fresh_tree l x p ∷ [])
+    else cite (codes "fr.all")
+    (syntax_tree l p ∷ cite (l.object x) [] ∷ cite (l.object y) [] ∷ cite (l.sort s) [] ∷
+    absent_or l x p (fresh_by_form l x p) ∷ [])
+fresh_by_form l x p = absent_tree l x p
+
+-- the proof that x is not free in a pattern, where it is not
+abbrev pub fresh_tree : Naming → ℕ → Pattern → ProofTree
+fresh_tree l x p = absent_or l x p (fresh_by_form l x p)
 
 -- the parts of a pattern
 abbrev pub first_part : Pattern → Pattern
@@ -94,69 +131,107 @@ second_part p = p
 
 -- the proof that a pattern in which x is not free stays as it is with u for x
 abbrev pub unchanged_tree : Naming → ℕ → Pattern → Pattern → ProofTree
-unchanged_tree l x u p = cite (codes "su.f") (syntax_tree l p ∷ syntax_tree l u ∷ cite (l.object x) [] ∷ fresh_tree l x p ∷ [])
+unchanged_tree l x u p =
+    cite (codes "su.f") (syntax_tree l p ∷ syntax_tree l u ∷ cite (l.object x) [] ∷ fresh_tree l x p ∷ [])
+
+-- one row for the whole of a pattern in which x is not free, or else the other proof
+abbrev pub unchanged_or : Naming → ℕ → Pattern → Pattern → ProofTree → ProofTree
+unchanged_or l x u p other = if fresh x p then unchanged_tree l x u p else other
+
+-- The proof, by its form, that a pattern in which x is free is the other with u for x. Where it is a quantifier of y, x is
+-- free in the body, and y is not free in u, which would be captured.
+abbrev pub substitution_by_form : Naming → ℕ → Pattern → Pattern → Pattern → ProofTree
+substitution_by_form l x u (var y) r = cite (codes "su.v") (syntax_tree l u ∷ cite (l.object x) [] ∷ [])
+substitution_by_form l x u (imp p q) r =
+    cite (codes "su.imp")
+    (syntax_tree l p ∷ syntax_tree l q ∷ syntax_tree l (second_part r) ∷ syntax_tree l (first_part r) ∷
+    syntax_tree l u ∷ cite (l.object x) [] ∷
+    unchanged_or l x u p (substitution_by_form l x u p (first_part r)) ∷
+    unchanged_or l x u q (substitution_by_form l x u q (second_part r)) ∷ [])
+substitution_by_form l x u (and p q) r =
+    cite (codes "su.and")
+    (syntax_tree l p ∷ syntax_tree l q ∷ syntax_tree l (second_part r) ∷ syntax_tree l (first_part r) ∷
+    syntax_tree l u ∷ cite (l.object x) [] ∷
+    unchanged_or l x u p (substitution_by_form l x u p (first_part r)) ∷
+    unchanged_or l x u q (substitution_by_form l x u q (second_part r)) ∷ [])
+substitution_by_form l x u (or p q) r =
+    cite (codes "su.or")
+    (syntax_tree l p ∷ syntax_tree l q ∷ syntax_tree l (second_part r) ∷ syntax_tree l (first_part r) ∷
+    syntax_tree l u ∷ cite (l.object x) [] ∷
+    unchanged_or l x u p (substitution_by_form l x u p (first_part r)) ∷
+    unchanged_or l x u q (substitution_by_form l x u q (second_part r)) ∷ [])
+substitution_by_form l x u (equal p q) r =
+    cite (codes "su.eq")
+    (syntax_tree l p ∷ syntax_tree l q ∷ syntax_tree l (second_part r) ∷ syntax_tree l (first_part r) ∷
+    syntax_tree l u ∷ cite (l.object x) [] ∷
+    unchanged_or l x u p (substitution_by_form l x u p (first_part r)) ∷
+    unchanged_or l x u q (substitution_by_form l x u q (second_part r)) ∷ [])
+substitution_by_form l x u (member p q) r =
+    cite (codes "su.mem")
+    (syntax_tree l p ∷ syntax_tree l q ∷ syntax_tree l (second_part r) ∷ syntax_tree l (first_part r) ∷
+    syntax_tree l u ∷ cite (l.object x) [] ∷
+    unchanged_or l x u p (substitution_by_form l x u p (first_part r)) ∷
+    unchanged_or l x u q (substitution_by_form l x u q (second_part r)) ∷ [])
+substitution_by_form l x u (app p q) r =
+    cite (codes "su.app")
+    (syntax_tree l p ∷ syntax_tree l q ∷ syntax_tree l (second_part r) ∷ syntax_tree l (first_part r) ∷
+    syntax_tree l u ∷ cite (l.object x) [] ∷
+    unchanged_or l x u p (substitution_by_form l x u p (first_part r)) ∷
+    unchanged_or l x u q (substitution_by_form l x u q (second_part r)) ∷ [])
+substitution_by_form l x u (not p) r =
+    cite (codes "su.not")
+    (syntax_tree l p ∷ syntax_tree l (first_part r) ∷ syntax_tree l u ∷ cite (l.object x) [] ∷
+    unchanged_or l x u p (substitution_by_form l x u p (first_part r)) ∷ [])
+substitution_by_form l x u (next p) r =
+    cite (codes "su.next")
+    (syntax_tree l p ∷ syntax_tree l (first_part r) ∷ syntax_tree l u ∷ cite (l.object x) [] ∷
+    unchanged_or l x u p (substitution_by_form l x u p (first_part r)) ∷ [])
+substitution_by_form l x u (ev p) r =
+    cite (codes "su.ev")
+    (syntax_tree l p ∷ syntax_tree l (first_part r) ∷ syntax_tree l u ∷ cite (l.object x) [] ∷
+    unchanged_or l x u p (substitution_by_form l x u p (first_part r)) ∷ [])
+substitution_by_form l x u (at_sort p s) r =
+    cite (codes "su.at")
+    (syntax_tree l p ∷ syntax_tree l (first_part r) ∷ syntax_tree l u ∷ cite (l.object x) [] ∷ cite (l.sort s) [] ∷
+    unchanged_or l x u p (substitution_by_form l x u p (first_part r)) ∷ [])
+substitution_by_form l x u (fun p s) r =
+    cite (codes "su.fun")
+    (syntax_tree l p ∷ syntax_tree l (first_part r) ∷ syntax_tree l u ∷ cite (l.object x) [] ∷ cite (l.sort s) [] ∷
+    unchanged_or l x u p (substitution_by_form l x u p (first_part r)) ∷ [])
+substitution_by_form l x u (ex y s p) r =
+    cite (codes "su.ex")
+    (syntax_tree l p ∷ syntax_tree l (first_part r) ∷ syntax_tree l u ∷ cite (l.object x) [] ∷ cite (l.object y) [] ∷
+    cite (l.sort s) [] ∷ fresh_tree l y u ∷
+    unchanged_or l x u p (substitution_by_form l x u p (first_part r)) ∷ [])
+substitution_by_form l x u (all y s p) r =
+    cite (codes "su.all")
+    (syntax_tree l p ∷ syntax_tree l (first_part r) ∷ syntax_tree l u ∷ cite (l.object x) [] ∷ cite (l.object y) [] ∷
+    cite (l.sort s) [] ∷ fresh_tree l y u ∷
+    unchanged_or l x u p (substitution_by_form l x u p (first_part r)) ∷ [])
+substitution_by_form l x u p r = unchanged_tree l x u p
 
 -- the proof that a pattern with u for x is the other, where it is
 abbrev pub substitution_tree : Naming → ℕ → Pattern → Pattern → Pattern → ProofTree
-substitution_tree l x u bot r = unchanged_tree l x u bot
-substitution_tree l x u top r = unchanged_tree l x u top
-substitution_tree l x u (meta i) r = unchanged_tree l x u (meta i)
-substitution_tree l x u (constant c) r = unchanged_tree l x u (constant c)
-substitution_tree l x u (var y) r = if x == y then cite (codes "su.v") (syntax_tree l u ∷ cite (l.object x) [] ∷ []) else unchanged_tree l x u (var y)
-substitution_tree l x u (imp p q) r =
-    cite (codes "su.imp") (syntax_tree l p ∷ syntax_tree l q ∷ syntax_tree l (second_part r) ∷ syntax_tree l (first_part r) ∷ syntax_tree l u ∷ cite (l.object x) [] ∷
-    substitution_tree l x u p (first_part r) ∷ substitution_tree l x u q (second_part r) ∷ [])
-substitution_tree l x u (and p q) r =
-    cite (codes "su.and") (syntax_tree l p ∷ syntax_tree l q ∷ syntax_tree l (second_part r) ∷ syntax_tree l (first_part r) ∷ syntax_tree l u ∷ cite (l.object x) [] ∷
-    substitution_tree l x u p (first_part r) ∷ substitution_tree l x u q (second_part r) ∷ [])
-substitution_tree l x u (or p q) r =
-    cite (codes "su.or") (syntax_tree l p ∷ syntax_tree l q ∷ syntax_tree l (second_part r) ∷ syntax_tree l (first_part r) ∷ syntax_tree l u ∷ cite (l.object x) [] ∷
-    substitution_tree l x u p (first_part r) ∷ substitution_tree l x u q (second_part r) ∷ [])
-substitution_tree l x u (equal p q) r =
-    cite (codes "su.eq") (syntax_tree l p ∷ syntax_tree l q ∷ syntax_tree l (second_part r) ∷ syntax_tree l (first_part r) ∷ syntax_tree l u ∷ cite (l.object x) [] ∷
-    substitution_tree l x u p (first_part r) ∷ substitution_tree l x u q (second_part r) ∷ [])
-substitution_tree l x u (member p q) r =
-    cite (codes "su.mem") (syntax_tree l p ∷ syntax_tree l q ∷ syntax_tree l (second_part r) ∷ syntax_tree l (first_part r) ∷ syntax_tree l u ∷ cite (l.object x) [] ∷
-    substitution_tree l x u p (first_part r) ∷ substitution_tree l x u q (second_part r) ∷ [])
-substitution_tree l x u (app p q) r =
-    cite (codes "su.app") (syntax_tree l p ∷ syntax_tree l q ∷ syntax_tree l (second_part r) ∷ syntax_tree l (first_part r) ∷ syntax_tree l u ∷ cite (l.object x) [] ∷
-    substitution_tree l x u p (first_part r) ∷ substitution_tree l x u q (second_part r) ∷ [])
-substitution_tree l x u (not p) r =
-    cite (codes "su.not") (syntax_tree l p ∷ syntax_tree l (first_part r) ∷ syntax_tree l u ∷ cite (l.object x) [] ∷ substitution_tree l x u p (first_part r) ∷ [])
-substitution_tree l x u (next p) r =
-    cite (codes "su.next") (syntax_tree l p ∷ syntax_tree l (first_part r) ∷ syntax_tree l u ∷ cite (l.object x) [] ∷ substitution_tree l x u p (first_part r) ∷ [])
-substitution_tree l x u (ev p) r =
-    cite (codes "su.ev") (syntax_tree l p ∷ syntax_tree l (first_part r) ∷ syntax_tree l u ∷ cite (l.object x) [] ∷ substitution_tree l x u p (first_part r) ∷ [])
-substitution_tree l x u (at_sort p s) r =
-    cite (codes "su.at") (syntax_tree l p ∷ syntax_tree l (first_part r) ∷ syntax_tree l u ∷ cite (l.object x) [] ∷ cite (l.sort s) [] ∷ substitution_tree l x u p (first_part r) ∷ [])
-substitution_tree l x u (fun p s) r =
-    cite (codes "su.fun") (syntax_tree l p ∷ syntax_tree l (first_part r) ∷ syntax_tree l u ∷ cite (l.object x) [] ∷ cite (l.sort s) [] ∷ substitution_tree l x u p (first_part r) ∷ [])
-substitution_tree l x u (ex y s p) r =
-    if x == y then unchanged_tree l x u (ex y s p) else
-    if fresh y u
-    then cite (codes "su.ex") (syntax_tree l p ∷ syntax_tree l (first_part r) ∷ syntax_tree l u ∷ cite (l.object x) [] ∷ cite (l.object y) [] ∷ cite (l.sort s) [] ∷
-    fresh_tree l y u ∷ substitution_tree l x u p (first_part r) ∷ [])
-    else unchanged_tree l x u (ex y s p)
-substitution_tree l x u (all y s p) r =
-    if x == y then unchanged_tree l x u (all y s p) else
-    if fresh y u
-    then cite (codes "su.all") (syntax_tree l p ∷ syntax_tree l (first_part r) ∷ syntax_tree l u ∷ cite (l.object x) [] ∷ cite (l.object y) [] ∷ cite (l.sort s) [] ∷
-    fresh_tree l y u ∷ substitution_tree l x u p (first_part r) ∷ [])
-    else unchanged_tree l x u (all y s p)
+substitution_tree l x u p r = unchanged_or l x u p (substitution_by_form l x u p r)
 
 -- the proof that a pattern is everything or nothing, where it is built so
 abbrev pub predicate_tree : Naming → Pattern → ProofTree
 predicate_tree l bot = cite (codes "pr.bot") []
 predicate_tree l top = cite (codes "pr.top") []
-predicate_tree l (imp p q) = cite (codes "pr.imp") (syntax_tree l p ∷ syntax_tree l q ∷ predicate_tree l p ∷ predicate_tree l q ∷ [])
-predicate_tree l (and p q) = cite (codes "pr.and") (syntax_tree l p ∷ syntax_tree l q ∷ predicate_tree l p ∷ predicate_tree l q ∷ [])
-predicate_tree l (or p q) = cite (codes "pr.or") (syntax_tree l p ∷ syntax_tree l q ∷ predicate_tree l p ∷ predicate_tree l q ∷ [])
+predicate_tree l (imp p q) =
+    cite (codes "pr.imp") (syntax_tree l p ∷ syntax_tree l q ∷ predicate_tree l p ∷ predicate_tree l q ∷ [])
+predicate_tree l (and p q) =
+    cite (codes "pr.and") (syntax_tree l p ∷ syntax_tree l q ∷ predicate_tree l p ∷ predicate_tree l q ∷ [])
+predicate_tree l (or p q) =
+    cite (codes "pr.or") (syntax_tree l p ∷ syntax_tree l q ∷ predicate_tree l p ∷ predicate_tree l q ∷ [])
 predicate_tree l (equal p q) = cite (codes "pr.eq") (syntax_tree l p ∷ syntax_tree l q ∷ [])
 predicate_tree l (member p q) = cite (codes "pr.mem") (syntax_tree l p ∷ syntax_tree l q ∷ [])
 predicate_tree l (not p) = cite (codes "pr.not") (syntax_tree l p ∷ predicate_tree l p ∷ [])
 predicate_tree l (fun p s) = cite (codes "pr.fun") (syntax_tree l p ∷ cite (l.sort s) [] ∷ [])
-predicate_tree l (ex x s p) = cite (codes "pr.ex") (syntax_tree l p ∷ cite (l.object x) [] ∷ cite (l.sort s) [] ∷ predicate_tree l p ∷ [])
-predicate_tree l (all x s p) = cite (codes "pr.all") (syntax_tree l p ∷ cite (l.object x) [] ∷ cite (l.sort s) [] ∷ predicate_tree l p ∷ [])
+predicate_tree l (ex x s p) =
+    cite (codes "pr.ex") (syntax_tree l p ∷ cite (l.object x) [] ∷ cite (l.sort s) [] ∷ predicate_tree l p ∷ [])
+predicate_tree l (all x s p) =
+    cite (codes "pr.all") (syntax_tree l p ∷ cite (l.object x) [] ∷ cite (l.sort s) [] ∷ predicate_tree l p ∷ [])
 predicate_tree l p = syntax_tree l p
 
 -- the proof that what stands for a variable of a rule is of its type
@@ -184,7 +259,8 @@ variable_at is i = variable_of_instance (slice_index_or is i (sort 0))
 
 -- The judgements of a rule, before and behind the proofs of what it concludes from.
 abbrev pub trees_before : Naming → Rule → List Instance → List ProofTree
-trees_before l rule.Inst is = substitution_tree l (variable_at is 3) (pattern_at is 1) (pattern_at is 0) (pattern_at is 2) ∷ []
+trees_before l rule.Inst is =
+    substitution_tree l (variable_at is 3) (pattern_at is 1) (pattern_at is 0) (pattern_at is 2) ∷ []
 trees_before l rule.EqEl is =
     substitution_tree l (variable_at is 5) (pattern_at is 0) (pattern_at is 2) (pattern_at is 3) ∷
     substitution_tree l (variable_at is 5) (pattern_at is 1) (pattern_at is 2) (pattern_at is 4) ∷ []

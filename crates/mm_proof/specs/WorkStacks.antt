@@ -1,12 +1,11 @@
 -- Stacks of works, and what is put on one for each form of a pattern.
-use Rattle.std.specs.Prelude.{◌≡◌, ℕ, ◌+◌, ◌*◌, ◌<◌, ◌≤◌, ◌==◌, if◌then◌else◌, codes, List, [], ◌∷◌, ◌++◌, length}
+use Rattle.std.specs.Prelude.{◌≡◌, ℕ, ◌+◌, ◌*◌, ◌<◌, ◌≤◌, ◌==◌, if◌then◌else◌, List, [], ◌∷◌, ◌++◌, length}
 use Rattle.mm_text.specs.Bytes.{Token}
-use Rattle.mm_database.specs.Proofs.{ProofTree, postorder}
+use Rattle.mm_database.specs.Proofs.{postorder}
 use Rattle.ml_pat.specs.Patterns.{Pattern}
-use Rattle.ml_pat.specs.Judgements.{fresh}
 use Rattle.mm_proof.specs.Tokens.{Naming, bracketed, bracket, tokens_of, name_of, object_token}
-use Rattle.mm_proof.specs.Labels.{object_label, own_labels}
-use Rattle.mm_proof.specs.Trees.{cite, first_part, second_part, syntax_tree, fresh_tree, unchanged_tree, substitution_tree, predicate_tree}
+use Rattle.mm_proof.specs.Labels.{own_labels}
+use Rattle.mm_proof.specs.Trees.{cite, first_part, second_part, syntax_tree, fresh_tree, substitution_tree, predicate_tree}
 use Rattle.mm_proof.specs.Writing.{work_tokens}
 use Rattle.mm_proof.specs.declared.works.Work.{Work}
 use Rattle.mm_text.specs.Written.{written}
@@ -29,17 +28,20 @@ stack_weight names k (w ∷ ws) = stack_weight names k ws + weight names k w
 -- works that write these tokens were put on a stack, and weigh less than twice as many
 abbrev pub PutsOn : (List Token → ℕ → List Token) → List Work → List Work → Type 0
 PutsOn tokens old new =
-    (names : List Token) (k : ℕ) → (stack_tokens names k new ≡ tokens names k ++ stack_tokens names k old) × (stack_weight names k new < stack_weight names k old + 2 * length (tokens names k))
+    (names : List Token) (k : ℕ) → (stack_tokens names k new ≡ tokens names k ++ stack_tokens names k old)
+    × (stack_weight names k new < stack_weight names k old + 2 * length (tokens names k))
 
 -- the same, where no word has to be among them
 abbrev pub PutsMore : (List Token → ℕ → List Token) → List Work → List Work → Type 0
 PutsMore tokens old new =
-    (names : List Token) (k : ℕ) → (stack_tokens names k new ≡ tokens names k ++ stack_tokens names k old) × (stack_weight names k new ≤ stack_weight names k old + 2 * length (tokens names k))
+    (names : List Token) (k : ℕ) → (stack_tokens names k new ≡ tokens names k ++ stack_tokens names k old)
+    × (stack_weight names k new ≤ stack_weight names k old + 2 * length (tokens names k))
 
 -- The tokens and the steps that are put on the stack for one form of a pattern.
 
 abbrev pub quantifier_tokens : List Token → Token → ℕ → ℕ → Pattern → List Token
-quantifier_tokens names connective x s p = bracketed connective (object_token x ∷ (name_of names s ∷ (tokens_of names p ++ bracket)))
+quantifier_tokens names connective x s p =
+    bracketed connective (object_token x ∷ (name_of names s ∷ (tokens_of names p ++ bracket)))
 
 abbrev pub quantifier_steps : ℕ → ℕ → ℕ → Pattern → Token → List Token
 quantifier_steps k x s p label = postorder (
@@ -51,7 +53,8 @@ quantified_steps k x y s p bound other = postorder (
     let l : Naming = own_labels k in
     if x == y
     then cite bound (syntax_tree l p ∷ cite (l.object x) [] ∷ cite (l.sort s) [] ∷ [])
-    else cite other (syntax_tree l p ∷ cite (l.object x) [] ∷ cite (l.object y) [] ∷ cite (l.sort s) [] ∷ fresh_tree l x p ∷ []))
+    else cite other
+    (syntax_tree l p ∷ cite (l.object x) [] ∷ cite (l.object y) [] ∷ cite (l.sort s) [] ∷ fresh_tree l x p ∷ []))
 
 abbrev pub fresh_two_steps : ℕ → ℕ → Pattern → Pattern → Token → List Token
 fresh_two_steps k x p q label = postorder (
@@ -81,38 +84,34 @@ predicate_under_steps k x s p label = postorder (
 abbrev pub two_steps : ℕ → ℕ → Pattern → Pattern → Pattern → Pattern → Token → List Token
 two_steps k x u p q r label = postorder (
     let l : Naming = own_labels k in
-    cite label (syntax_tree l p ∷ syntax_tree l q ∷ syntax_tree l (second_part r) ∷ syntax_tree l (first_part r) ∷ syntax_tree l u ∷ cite (l.object x) [] ∷
+    cite label
+    (syntax_tree l p ∷ syntax_tree l q ∷ syntax_tree l (second_part r) ∷ syntax_tree l (first_part r) ∷
+    syntax_tree l u ∷ cite (l.object x) [] ∷
     substitution_tree l x u p (first_part r) ∷ substitution_tree l x u q (second_part r) ∷ []))
 
 abbrev pub one_steps : ℕ → ℕ → Pattern → Pattern → Pattern → Token → List Token
 one_steps k x u p r label = postorder (
     let l : Naming = own_labels k in
-    cite label (syntax_tree l p ∷ syntax_tree l (first_part r) ∷ syntax_tree l u ∷ cite (l.object x) [] ∷ substitution_tree l x u p (first_part r) ∷ []))
+    cite label
+    (syntax_tree l p ∷ syntax_tree l (first_part r) ∷ syntax_tree l u ∷ cite (l.object x) [] ∷
+    substitution_tree l x u p (first_part r) ∷ []))
 
 abbrev pub sorted_steps : ℕ → ℕ → Pattern → Pattern → ℕ → Pattern → Token → List Token
 sorted_steps k x u p s r label = postorder (
     let l : Naming = own_labels k in
-    cite label (syntax_tree l p ∷ syntax_tree l (first_part r) ∷ syntax_tree l u ∷ cite (l.object x) [] ∷ cite (l.sort s) [] ∷ substitution_tree l x u p (first_part r) ∷ []))
-
-abbrev pub under_tree : ℕ → ℕ → Pattern → ℕ → ℕ → Pattern → Pattern → Token → ProofTree
-under_tree k x u y s p r label =
-    let l : Naming = own_labels k in
-    cite label (syntax_tree l p ∷ syntax_tree l (first_part r) ∷ syntax_tree l u ∷ cite (l.object x) [] ∷ cite (l.object y) [] ∷ cite (l.sort s) [] ∷
-    fresh_tree l y u ∷ substitution_tree l x u p (first_part r) ∷ [])
+    cite label
+    (syntax_tree l p ∷ syntax_tree l (first_part r) ∷ syntax_tree l u ∷ cite (l.object x) [] ∷ cite (l.sort s) [] ∷
+    substitution_tree l x u p (first_part r) ∷ []))
 
 abbrev pub under_steps : ℕ → ℕ → Pattern → ℕ → ℕ → Pattern → Pattern → Token → List Token
-under_steps k x u y s p r label = postorder (under_tree k x u y s p r label)
-
-abbrev pub variable_steps : ℕ → ℕ → Pattern → ℕ → Pattern → List Token
-variable_steps k x u y whole = postorder (
-    if x == y then cite (codes "su.v") (syntax_tree (own_labels k) u ∷ cite (object_label k x) [] ∷ []) else unchanged_tree (own_labels k) x u whole)
-
-abbrev pub quantified_substitution : ℕ → ℕ → Pattern → ℕ → ℕ → Pattern → Pattern → Pattern → Token → List Token
-quantified_substitution k x u y s p whole r label = postorder (
-    if x == y then unchanged_tree (own_labels k) x u whole else
-    if fresh y u then under_tree k x u y s p r label else unchanged_tree (own_labels k) x u whole)
+under_steps k x u y s p r label = postorder (
+    let l : Naming = own_labels k in
+    cite label
+    (syntax_tree l p ∷ syntax_tree l (first_part r) ∷ syntax_tree l u ∷ cite (l.object x) [] ∷ cite (l.object y) [] ∷
+    cite (l.sort s) [] ∷ fresh_tree l y u ∷ substitution_tree l x u p (first_part r) ∷ []))
 
 -- a work is taken from a stack: a token of it is written, or smaller works were put on the stack
 abbrev pub IsTaken : List Token → ℕ → Work → List Work → List Work → List ℕ → List ℕ → Type 0
 IsTaken names k w old new text text' =
-    (text' ++ written (stack_tokens names k new) ≡ text ++ written (work_tokens names k w ++ stack_tokens names k old)) × (stack_weight names k new < stack_weight names k old + weight names k w)
+    (text' ++ written (stack_tokens names k new) ≡ text ++ written (work_tokens names k w ++ stack_tokens names k old))
+    × (stack_weight names k new < stack_weight names k old + weight names k w)

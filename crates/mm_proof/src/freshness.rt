@@ -3,9 +3,10 @@ ghost use Rattle.std.specs.Prelude.{OnOk};
 ghost use Rattle.mm_proof.specs.WorkStacks.{PutsOn, quantified_steps, fresh_two_steps, fresh_one_steps, fresh_sorted_steps, predicate_two_steps, predicate_under_steps};
 ghost use Rattle.mm_proof.specs.Labels.{own_labels};
 ghost use Rattle.mm_database.specs.Proofs.{postorder};
-ghost use Rattle.mm_proof.specs.Trees.{fresh_tree, unchanged_tree, predicate_tree};
+ghost use Rattle.mm_proof.specs.Trees.{absent_tree, fresh_by_form, fresh_tree, predicate_tree, unchanged_tree};
 
 use crate::patterns::expand_syntax;
+use crate::searching::is_absent;
 use crate::stacks::put_steps;
 use crate::words::Word;
 use crate::works::Work;
@@ -113,13 +114,39 @@ fn put_fresh_sorted<'a>(
     )
 }
 
-/// The proof that x is not free in a pattern.
+/// The proof that x is not free in a pattern, in one step where x stands nowhere in it. To look for x takes no longer than
+/// to write the proof, which has the syntax of the whole pattern in either case.
 pub(crate) fn expand_fresh<'a>(
     stack: &mut Vec<Work<'a>>,
     x: VarNo,
     pat: &'a MPat,
 ) -> Result<(), AllocError>
     ensures { OnOk result (PutsOn (λ names k. postorder (fresh_tree (own_labels k) x.0 pat.now)) stack.old.items stack.new.items) }
+{
+    if is_absent(*stack.allocator(), x, pat)? {
+        return put_absent(stack, x, pat);
+    }
+    expand_fresh_by_form(stack, x, pat)
+}
+
+/// The proof that x is not free in a pattern in which it stands nowhere.
+fn put_absent<'a>(stack: &mut Vec<Work<'a>>, x: VarNo, pat: &'a MPat) -> Result<(), AllocError>
+    ensures { OnOk result (PutsOn (λ names k. postorder (absent_tree (own_labels k) x.0 pat.now)) stack.old.items stack.new.items) }
+{
+    put_steps(
+        stack,
+        &[Work::Syntax(pat), Work::One(Word::ObjectLabel(x.0))],
+        "fr.d",
+    )
+}
+
+/// The proof that x is not free in a pattern, by its form.
+fn expand_fresh_by_form<'a>(
+    stack: &mut Vec<Work<'a>>,
+    x: VarNo,
+    pat: &'a MPat,
+) -> Result<(), AllocError>
+    ensures { OnOk result (PutsOn (λ names k. postorder (fresh_by_form (own_labels k) x.0 pat.now)) stack.old.items stack.new.items) }
 {
     match pat.form() {
         MForm::Imp(p, q) => put_fresh_two(stack, x, p, q, "fr.imp"),
@@ -135,10 +162,8 @@ pub(crate) fn expand_fresh<'a>(
         MForm::Fun(p, s) => put_fresh_sorted(stack, x, p, *s, "fr.fun"),
         MForm::Ex(y, s, p) => put_quantified(stack, x, *y, *s, p, "fr.exb", "fr.ex"),
         MForm::All(y, s, p) => put_quantified(stack, x, *y, *s, p, "fr.allb", "fr.all"),
-        MForm::Bot | MForm::Top | MForm::Var(_) | MForm::Meta(_) | MForm::Const(_) => put_steps(
-            stack,
-            &[Work::Syntax(pat), Work::One(Word::ObjectLabel(x.0))],
-            "fr.d",
+        MForm::Bot | MForm::Top | MForm::Var(_) | MForm::Meta(_) | MForm::Const(_) => put_absent(
+            stack, x, pat,
         ),
     }
 }

@@ -1,20 +1,20 @@
-// Whether a variable is free in a pattern.
-ghost use Rattle.std.specs.Prelude.{◌≡◌, ◌&&◌, ◌||◌, ◌==◌, ◌+◌, ◌<◌, IfOk, OnOk};
-ghost use Rattle.ml_pat.specs.Judgements.{fresh};
+// Whether a variable stands in a pattern.
+ghost use Rattle.std.specs.Prelude.{◌≡◌, ◌&&◌, ◌==◌, ◌+◌, ◌<◌, IfOk, not};
+ghost use Rattle.ml_pat.specs.Judgements.{absent};
 ghost use Rattle.ml_pat.specs.FormsIn.{forms_in};
-ghost use Rattle.mm_proof.specs.Searching.{IsLeft, all_fresh, all_forms, patterns_of};
+ghost use Rattle.mm_proof.specs.Searching.{IsLeft, all_absent, all_forms, patterns_of};
 
 use ml_pat::{MForm, MPat, VarNo};
 use std::alloc::{AllocError, Global};
 
-/// Whether x is not free in a pattern. A stack takes the place of recursion.
-pub(crate) fn is_fresh(alloc: Global, x: VarNo, pat: &MPat) -> Result<bool, AllocError>
-    ensures { IfOk result (λ found. found ≡ fresh x.0 pat.now) }
+/// Whether x stands nowhere in a pattern, bound or free. A stack takes the place of recursion.
+pub(crate) fn is_absent(alloc: Global, x: VarNo, pat: &MPat) -> Result<bool, AllocError>
+    ensures { IfOk result (λ found. found ≡ absent x.0 pat.now) }
 {
     let mut stack = Vec::new(alloc);
     stack.push(pat)?;
     while let Some(next) = stack.pop() {
-        let going = is_fresh_at(&mut stack, x, next)?;
+        let going = is_absent_at(&mut stack, x, next)?;
         if !going {
             return Ok(false);
         }
@@ -22,9 +22,9 @@ pub(crate) fn is_fresh(alloc: Global, x: VarNo, pat: &MPat) -> Result<bool, Allo
     Ok(true)
 }
 
-/// Whether x may still be not free, with the parts that are left to be looked at on the stack.
-fn is_fresh_at<'a>(stack: &mut Vec<&'a MPat>, x: VarNo, pat: &'a MPat) -> Result<bool, AllocError>
-    ensures { IfOk result (λ going. IsLeft x.0 (fresh x.0 pat.now) (forms_in pat.now) stack.old.items stack.new.items going) }
+/// Whether x may still stand nowhere, with the parts that are left to be looked at on the stack.
+fn is_absent_at<'a>(stack: &mut Vec<&'a MPat>, x: VarNo, pat: &'a MPat) -> Result<bool, AllocError>
+    ensures { IfOk result (λ going. IsLeft x.0 (absent x.0 pat.now) (forms_in pat.now) stack.old.items stack.new.items going) }
 {
     match pat.form() {
         MForm::Bot => Ok(true),
@@ -50,7 +50,7 @@ fn is_fresh_at<'a>(stack: &mut Vec<&'a MPat>, x: VarNo, pat: &'a MPat) -> Result
 
 /// Puts a part on the stack.
 fn put_part<'a>(stack: &mut Vec<&'a MPat>, x: VarNo, p: &'a MPat) -> Result<bool, AllocError>
-    ensures { IfOk result (λ going. IsLeft x.0 (fresh x.0 p.now) (forms_in p.now + 1) stack.old.items stack.new.items going) }
+    ensures { IfOk result (λ going. IsLeft x.0 (absent x.0 p.now) (forms_in p.now + 1) stack.old.items stack.new.items going) }
 {
     stack.push(p)?;
     Ok(true)
@@ -63,7 +63,7 @@ fn put_both<'a>(
     p: &'a MPat,
     q: &'a MPat,
 ) -> Result<bool, AllocError>
-    ensures { IfOk result (λ going. IsLeft x.0 (fresh x.0 p.now && fresh x.0 q.now) (forms_in p.now + forms_in q.now + 1) stack.old.items stack.new.items going) }
+    ensures { IfOk result (λ going. IsLeft x.0 (absent x.0 p.now && absent x.0 q.now) (forms_in p.now + forms_in q.now + 1) stack.old.items stack.new.items going) }
 {
     stack.push(q)?;
     stack.push(p)?;
@@ -77,10 +77,10 @@ fn put_body<'a>(
     y: VarNo,
     p: &'a MPat,
 ) -> Result<bool, AllocError>
-    ensures { IfOk result (λ going. IsLeft x.0 ((x.0 == y.0) || fresh x.0 p.now) (forms_in p.now + 1) stack.old.items stack.new.items going) }
+    ensures { IfOk result (λ going. IsLeft x.0 (not (x.0 == y.0) && absent x.0 p.now) (forms_in p.now + 1) stack.old.items stack.new.items going) }
 {
     if x == y {
-        return Ok(true);
+        return Ok(false);
     }
     put_part(stack, x, p)
 }

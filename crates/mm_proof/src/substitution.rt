@@ -1,16 +1,15 @@
 // How the proof of a substitution comes apart.
 ghost use Rattle.std.specs.Prelude.{◌≡◌, OnOk};
-ghost use Rattle.mm_proof.specs.WorkStacks.{PutsOn, two_steps, one_steps, sorted_steps, under_steps, variable_steps, quantified_substitution};
+ghost use Rattle.mm_proof.specs.WorkStacks.{PutsOn, one_steps, sorted_steps, two_steps, under_steps};
 ghost use Rattle.mm_proof.specs.Labels.{own_labels};
 ghost use Rattle.mm_database.specs.Proofs.{postorder};
-ghost use Rattle.mm_proof.specs.Trees.{substitution_tree, first_part, second_part};
+ghost use Rattle.mm_proof.specs.Trees.{first_part, second_part, substitution_by_form, substitution_tree};
 
 use crate::freshness::expand_unchanged;
-use crate::searching::is_fresh;
 use crate::stacks::put_steps;
 use crate::words::Word;
 use crate::works::Work;
-use ml_pat::{MForm, MPat, MSort, VarNo};
+use ml_pat::{MForm, MPat, MSort, VarNo, fresh};
 use std::alloc::AllocError;
 
 /// The first part of a pattern; itself where it has none.
@@ -161,50 +160,8 @@ fn put_under<'a>(
     )
 }
 
-/// The proof of the substitution under the quantifier of y.
-fn put_substituted_quantified<'a>(
-    stack: &mut Vec<Work<'a>>,
-    x: VarNo,
-    u: &'a MPat,
-    y: VarNo,
-    s: MSort,
-    p: &'a MPat,
-    whole: &'a MPat,
-    made: &'a MPat,
-    label: &'static str,
-) -> Result<(), AllocError>
-    ensures { OnOk result (PutsOn (λ names k. quantified_substitution k x.0 u.now y.0 s.0 p.now whole.now made.now label.now) stack.old.items stack.new.items) }
-{
-    if x == y {
-        return expand_unchanged(stack, x, u, whole);
-    }
-    if is_fresh(*stack.allocator(), y, u)? {
-        return put_under(stack, x, u, y, s, p, made, label);
-    }
-    expand_unchanged(stack, x, u, whole)
-}
-
-/// The proof for a variable: it is replaced, or stays.
-fn put_variable<'a>(
-    stack: &mut Vec<Work<'a>>,
-    x: VarNo,
-    u: &'a MPat,
-    y: VarNo,
-    whole: &'a MPat,
-) -> Result<(), AllocError>
-    ensures { OnOk result (PutsOn (λ names k. variable_steps k x.0 u.now y.0 whole.now) stack.old.items stack.new.items) }
-{
-    if x == y {
-        return put_steps(
-            stack,
-            &[Work::Syntax(u), Work::One(Word::ObjectLabel(x.0))],
-            "su.v",
-        );
-    }
-    expand_unchanged(stack, x, u, whole)
-}
-
-/// The proof that a pattern with u for x is the one that was made.
+/// The proof that a pattern with u for x is the one that was made, in one step where x is not free in the pattern. To look
+/// for x takes no longer than to write the proof, which has the syntax of the whole pattern, but where it is x itself.
 pub(crate) fn expand_substituted<'a>(
     stack: &mut Vec<Work<'a>>,
     x: VarNo,
@@ -213,6 +170,22 @@ pub(crate) fn expand_substituted<'a>(
     made: &'a MPat,
 ) -> Result<(), AllocError>
     ensures { OnOk result (PutsOn (λ names k. postorder (substitution_tree (own_labels k) x.0 u.now pat.now made.now)) stack.old.items stack.new.items) }
+{
+    if fresh(x, pat) {
+        return expand_unchanged(stack, x, u, pat);
+    }
+    expand_by_form(stack, x, u, pat, made)
+}
+
+/// The proof of the substitution by the form of a pattern, in which x is free.
+fn expand_by_form<'a>(
+    stack: &mut Vec<Work<'a>>,
+    x: VarNo,
+    u: &'a MPat,
+    pat: &'a MPat,
+    made: &'a MPat,
+) -> Result<(), AllocError>
+    ensures { OnOk result (PutsOn (λ names k. postorder (substitution_by_form (own_labels k) x.0 u.now pat.now made.now)) stack.old.items stack.new.items) }
 {
     match pat.form() {
         MForm::Imp(p, q) => put_two(stack, x, u, p, q, made, "su.imp"),
@@ -226,13 +199,13 @@ pub(crate) fn expand_substituted<'a>(
         MForm::Ev(p) => put_one(stack, x, u, p, made, "su.ev"),
         MForm::At(p, s) => put_sorted(stack, x, u, p, *s, made, "su.at"),
         MForm::Fun(p, s) => put_sorted(stack, x, u, p, *s, made, "su.fun"),
-        MForm::Ex(y, s, p) => put_substituted_quantified(
-            stack, x, u, *y, *s, p, pat, made, "su.ex",
+        MForm::Ex(y, s, p) => put_under(stack, x, u, *y, *s, p, made, "su.ex"),
+        MForm::All(y, s, p) => put_under(stack, x, u, *y, *s, p, made, "su.all"),
+        MForm::Var(_) => put_steps(
+            stack,
+            &[Work::Syntax(u), Work::One(Word::ObjectLabel(x.0))],
+            "su.v",
         ),
-        MForm::All(y, s, p) => put_substituted_quantified(
-            stack, x, u, *y, *s, p, pat, made, "su.all",
-        ),
-        MForm::Var(y) => put_variable(stack, x, u, *y, pat),
         MForm::Bot | MForm::Top | MForm::Meta(_) | MForm::Const(_) => expand_unchanged(
             stack, x, u, pat,
         ),

@@ -99,3 +99,56 @@ fn proves_a_substitution(rt: HostRuntime) -> Result<(), Fail> {
     );
     Ok(())
 }
+
+// The labels of the proof that a pattern with a for x is the other.
+fn labels(alloc: Global, pat: &MPat, made: &MPat) -> Result<usize, AllocError> {
+    let a = MPat::constant(alloc, ConstNo(1))?;
+    let text = text_of(alloc, Work::Substituted(VarNo(0), &a, pat, made))?;
+    Ok(text.iter().filter(|byte| **byte == b' ').count())
+}
+
+// x stands at one leaf of a configuration of 127 nodes: each part beside the way there is left as it is in one step.
+#[test]
+fn substitutes_at_one_leaf(rt: HostRuntime) -> Result<(), Fail> {
+    let alloc = rt.alloc();
+    let mut made = MPat::constant(alloc, ConstNo(1))?;
+    let mut pat = MPat::var(alloc, VarNo(0))?;
+    let mut beside = made.share()?;
+    for _ in 0..6 {
+        pat = MPat::app(alloc, &pat, &beside)?;
+        made = MPat::app(alloc, &made, &beside)?;
+        beside = MPat::app(alloc, &beside, &beside)?;
+    }
+    assert_eq!(rt; labels(alloc, &pat, &made)?, 777);
+    Ok(())
+}
+
+// x stands at the end of a list of 100 items.
+#[test]
+fn substitutes_at_the_end_of_a_list(rt: HostRuntime) -> Result<(), Fail> {
+    let alloc = rt.alloc();
+    let mut made = MPat::constant(alloc, ConstNo(1))?;
+    let mut pat = MPat::var(alloc, VarNo(0))?;
+    let item = MPat::app(alloc, &MPat::constant(alloc, ConstNo(2))?, &made)?;
+    for _ in 0..100 {
+        pat = MPat::app(alloc, &item, &pat)?;
+        made = MPat::app(alloc, &item, &made)?;
+    }
+    assert_eq!(rt; labels(alloc, &pat, &made)?, 41903);
+    Ok(())
+}
+
+// x stands nowhere in the one part, and is bound in the other.
+#[test]
+fn proves_freshness_of_a_part_in_one_step(rt: HostRuntime) -> Result<(), Fail> {
+    let alloc = rt.alloc();
+    let a = MPat::constant(alloc, ConstNo(1))?;
+    let bound = MPat::all(alloc, VarNo(4), MSort(0), &a)?;
+    let pat = MPat::imp(alloc, &MPat::next(alloc, &a)?, &bound)?;
+    let text = text_of(alloc, Work::Fresh(VarNo(4), &pat))?;
+    assert_eq!(rt;
+        text.as_slice(),
+        b"n.1 w.next n.1 x.7.4 n.0 w.all x.7.4 n.1 w.next x.7.4 fr.d n.1 x.7.4 n.0 fr.allb fr.imp ".as_slice()
+    );
+    Ok(())
+}

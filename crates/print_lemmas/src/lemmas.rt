@@ -3,7 +3,7 @@ ghost use Rattle.std.specs.Prelude.{◌≡◌, [], ◌∷◌, IfOk};
 ghost use Rattle.ml_pat.specs.Patterns.{imp, meta, next, var};
 
 use ml_kernel::{Lemma, Thm};
-use ml_pat::{ConstNo, MPat, VarNo};
+use ml_pat::{ConstNo, MPat, MSort, VarNo, subst};
 use std::alloc::{AllocError, Global};
 
 // Where x leads to m, each predecessor of x leads to one of m: a lemma with two variables and a hypothesis.
@@ -45,4 +45,20 @@ pub(crate) fn everything(alloc: Global) -> Result<Thm, AllocError> {
         &onward,
     )?;
     Thm::mp(alloc, &first, &second, &way, &top)
+}
+
+// What holds of all x holds of a. x stands nowhere in the one part of the pattern, and is free and bound in the other.
+pub(crate) fn instance_at_a(alloc: Global) -> Result<Thm, AllocError> {
+    let sort = MSort(0);
+    let (x, y) = (VarNo(0), VarNo(1));
+    let a = MPat::constant(alloc, ConstNo(1))?;
+    let applied = MPat::app(alloc, &MPat::var(alloc, y)?, &MPat::meta(alloc, 0)?)?;
+    let without = MPat::ex(alloc, y, sort, &applied)?;
+    let here = MPat::var(alloc, x)?;
+    let bound = MPat::all(alloc, x, sort, &MPat::fun(alloc, &here, sort)?)?;
+    let pat = MPat::imp(alloc, &without, &MPat::app(alloc, &here, &bound)?)?;
+    match subst(alloc, &pat, x, &a)? {
+        Some(made) => Thm::inst(alloc, &pat, &a, &made, x, sort),
+        None => Thm::top(alloc),
+    }
 }

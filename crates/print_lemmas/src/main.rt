@@ -1,10 +1,10 @@
-// Prints a database of lemmas: one with variables and a hypothesis, one that cites it, and one that has a variable in its proof
-// alone. So other Metamath verifiers can be run over it.
+// Prints a database of lemmas: one with variables and a hypothesis, one that cites it, one that has a variable in its proof
+// alone, and an instance, whose proof has a substitution. So other Metamath verifiers can be run over it.
 #![tactic(auto)]
 
 mod lemmas;
 
-use crate::lemmas::{everything, next_lemma, next_of_a};
+use crate::lemmas::{everything, instance_at_a, next_lemma, next_of_a};
 use ml_kernel::Lemma;
 use ml_pat::Names;
 use mm_render::Renderer;
@@ -32,6 +32,7 @@ fn database(alloc: Global) -> Result<Vec<u8>, AllocError> {
     let next = Lemma::close(next)?;
     renderer.lemma(&names, &next_of_a(alloc, &next)?, &mut text)?;
     renderer.lemma(&names, &everything(alloc)?, &mut text)?;
+    renderer.lemma(&names, &instance_at_a(alloc)?, &mut text)?;
     Ok(text)
 }
 
