@@ -19,12 +19,14 @@ use Rattle.prove_term.specs.Contexts.{Context, HasContext, StaysIn}
 use Rattle.prove_term.specs.Schemas.{AreImages, applied_to}
 
 -- the pattern, of this sort, becomes the term under a substitution that gives its variables normal terms of their sorts
-pub record IsInstance (sig : Signature) (variables : List ℕ) (theta : List (Option Tree)) (p : RulePattern) (sort : ℕ) (u : Tree) : Type 0 where
+pub record IsInstance (sig : Signature) (variables : List ℕ) (theta : List (Option Tree)) (p : RulePattern) (sort : ℕ)
+    (u : Tree) : Type 0 where
   pub sorted : HasSort sig variables p sort
   pub respects : RespectsSorts sig variables theta
   pub makes : instance_of theta p ≡ Some u
 
-pub record AreInstances (sig : Signature) (variables : List ℕ) (theta : List (Option Tree)) (ps : RulePatterns) (refs : List SortRef) (us : Forest) : Type 0 where
+pub record AreInstances (sig : Signature) (variables : List ℕ) (theta : List (Option Tree)) (ps : RulePatterns)
+    (refs : List SortRef) (us : Forest) : Type 0 where
   pub sorted : HaveSorts sig variables [] ps refs
   pub respects : RespectsSorts sig variables theta
   pub make : instances_of theta ps ≡ Some us
@@ -42,7 +44,8 @@ AreMade sig ps ws =
 
 -- What p becomes as it is written differs from the term u, whose image is this, and the theorem says that the images
 -- are equal.
-pub record IsJoined (cx : Context) (theta : List (Option Tree)) (p : RulePattern) (u : Tree) (image : Pattern) (t : Theorem) : Type 0 where
+pub record IsJoined (cx : Context) (theta : List (Option Tree)) (p : RulePattern) (u : Tree) (image : Pattern)
+    (t : Theorem) : Type 0 where
   pub written : Tree
   pub is_written : substituted theta p ≡ Some written
   pub differs : written ≢ u
@@ -64,7 +67,8 @@ Compares cx p w image o =
     IsInstance cx.program.sig variables theta p sort u → w ≡ ground_pattern u → IsCompared cx theta p u image o
 
 -- the same of arguments, to which a head is applied
-pub record AreJoined (cx : Context) (theta : List (Option Tree)) (ps : RulePatterns) (us : Forest) (head : Pattern) (images : List Pattern) (t : Theorem) : Type 0 where
+pub record AreJoined (cx : Context) (theta : List (Option Tree)) (ps : RulePatterns) (us : Forest) (head : Pattern)
+    (images : List Pattern) (t : Theorem) : Type 0 where
   pub written : Forest
   pub are_written : all_substituted theta ps ≡ Some written
   pub differ : written ≢ us
@@ -74,7 +78,8 @@ pub record AreJoined (cx : Context) (theta : List (Option Tree)) (ps : RulePatte
   pub says : t.conclusion ≡ equal (applied_to head lefts) (applied_to head images)
   pub stays : StaysIn cx t
 
-abbrev pub AreCompared : Context → List (Option Tree) → RulePatterns → Forest → Pattern → List Pattern → Option Theorem → Type 0
+abbrev pub AreCompared : Context → List (Option Tree) → RulePatterns → Forest → Pattern → List Pattern →
+    Option Theorem → Type 0
 AreCompared cx theta ps us head images None = all_substituted theta ps ≡ Some us
 AreCompared cx theta ps us head images (Some t) = AreJoined cx theta ps us head images t
 

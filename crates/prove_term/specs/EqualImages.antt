@@ -17,8 +17,8 @@ pub record SaysEqual (cx : Context) (t u : Tree) (p : Pattern) : Type 0 where
   pub says : p ≡ equal left right
   pub no_variable : HasNoVariable left × HasNoVariable right
 
--- What the pattern becomes under the substitution is normal as it is written, and there is no theorem; or it is not, and
--- the theorem says that its image equals that of its normal form.
+-- What the pattern becomes under the substitution is normal as it is written, and there is no theorem; or it is not,
+-- and the theorem says that its image equals that of its normal form.
 abbrev pub SaysEqualImages : Context → List (Option Tree) → RulePattern → Option Theorem → Type 0
 SaysEqualImages cx theta p None = substituted theta p ≡ instance_of theta p
 SaysEqualImages cx theta p (Some thm) =

@@ -37,7 +37,8 @@ pub fn inj_eq(
     subst: &Subst,
 ) -> Result<Option<Thm>, AllocError>
     requires signature { IsSignature cx.old.program.sig }
-    requires sorted { (variables : List ℕ) × (sort : ℕ) × HasSort cx.old.program.sig variables (plain_pattern pat.now) sort
+    requires sorted { (variables : List ℕ) × (sort : ℕ)
+        × HasSort cx.old.program.sig variables (plain_pattern pat.now) sort
         × RespectsSorts cx.old.program.sig variables subst.now }
     requires fits { FitsWithin MAX_HEIGHT subst.now (plain_pattern pat.now) }
     ensures says { IfOk result (SaysEqualImages cx.new subst.now (plain_pattern pat.now)) }
@@ -85,7 +86,8 @@ fn constructor_compared(
     image: &MPat,
 ) -> Result<Option<Thm>, AllocError>
     requires signature { IsSignature cx.old.program.sig }
-    requires made { (f : ℕ) × IsMade cx.old.program.sig (application f (plain_patterns args.now)) (plain_pattern whole.now) }
+    requires made { (f : ℕ)
+        × IsMade cx.old.program.sig (application f (plain_patterns args.now)) (plain_pattern whole.now) }
     requires image { image_of cx.old.program.sig cx.old.names (plain_pattern whole.now) ≡ Some image.now }
     ensures says { IfOk result (λ o. (f : ℕ) →
         Compares cx.new (application f (plain_patterns args.now)) (plain_pattern whole.now) image.now o) }
@@ -112,7 +114,8 @@ fn all_compared(
     requires made { AreMade cx.old.program.sig (plain_patterns args.now) (plain_patterns wholes.now) }
     requires head { HasNoVariable head.now × IsOverContext cx.old head.now }
     requires images { AreImages cx.old.program.sig cx.old.names (plain_patterns wholes.now) images.now }
-    ensures says { IfOk result (AllCompare cx.new (plain_patterns args.now) (plain_patterns wholes.now) head.now images.now) }
+    ensures says { IfOk result
+        (AllCompare cx.new (plain_patterns args.now) (plain_patterns wholes.now) head.now images.now) }
     ensures grown { HasGrown cx.old cx.new }
 {
     let mut made: Option<Thm> = None;
@@ -138,7 +141,8 @@ fn injection_compared(
     image: &MPat,
 ) -> Result<Option<Thm>, AllocError>
     requires signature { IsSignature cx.old.program.sig }
-    requires made { IsMade cx.old.program.sig (injection from.0 to.0 (plain_pattern below.now)) (plain_pattern whole.now) }
+    requires made { IsMade cx.old.program.sig (injection from.0 to.0 (plain_pattern below.now))
+        (plain_pattern whole.now) }
     requires image { image_of cx.old.program.sig cx.old.names (plain_pattern whole.now) ≡ Some image.now }
     ensures says { IfOk result
         (Compares cx.new (injection from.0 to.0 (plain_pattern below.now)) (plain_pattern whole.now) image.now) }
@@ -171,7 +175,8 @@ fn beneath(
     ensures says { IfOk result (λ o. (a b : ℕ) →
         image_of cx.old.program.sig cx.old.names (injection a b (plain_pattern base.now)) ≡ Some image.now →
         IsMade cx.old.program.sig (plain_pattern below.now) (plain_pattern base.now) →
-        Compares cx.new (injection a b (plain_pattern below.now)) (injection a b (plain_pattern base.now)) image.now o) }
+        Compares cx.new (injection a b (plain_pattern below.now)) (injection a b (plain_pattern base.now))
+        image.now o) }
     ensures grown { HasGrown cx.old cx.new }
 {
     let (head, argument) = halves(image);
@@ -226,9 +231,11 @@ fn middle_compared(
     image: &MPat,
 ) -> Result<Option<Thm>, AllocError>
     requires signature { IsSignature cx.old.program.sig }
-    requires made { IsMade cx.old.program.sig (plain_pattern pat.now) (injection lowest.0 to.0 (plain_pattern base.now)) }
+    requires made { IsMade cx.old.program.sig (plain_pattern pat.now)
+        (injection lowest.0 to.0 (plain_pattern base.now)) }
     requires fact { IsFactOn cx.old (plain_pattern base.now) lowest.0 fact.now }
-    requires image { image_of cx.old.program.sig cx.old.names (injection lowest.0 to.0 (plain_pattern base.now)) ≡ Some image.now }
+    requires image { image_of cx.old.program.sig cx.old.names (injection lowest.0 to.0 (plain_pattern base.now)) ≡
+        Some image.now }
     ensures says { IfOk result
         (Compares cx.new (plain_pattern pat.now) (injection lowest.0 to.0 (plain_pattern base.now)) image.now) }
     ensures grown { HasGrown cx.old cx.new }
