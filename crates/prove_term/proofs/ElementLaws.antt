@@ -1,5 +1,5 @@
 -- Elements one by one, and a constructor of them.
-use Rattle.std.proofs.Common.{◌≡◌, ◌+◌, ℕ, suc, List, [], ◌∷◌, ◌++◌, Option, Some, length, map, reverse, refl, sym, ◌∙◌, ap, subst, arith, slice_get, get_or}
+use Rattle.std.proofs.Common.{◌≡◌, ℕ, suc, List, [], ◌∷◌, ◌++◌, Option, Some, length, map, reverse, refl, sym, ◌∙◌, ap, subst, arith, slice_get, get_or}
 use Rattle.std.proofs.lemmas.Option.{get_or_from_slice_get}
 use Rattle.ml_pat.specs.Patterns.{Pattern, app, fun, constant}
 use Rattle.ml_kernel.specs.Lemmas.{instance, instances, HasNoVariable, HaveNoVariables, HasNoMeta, IsMetaBelow, AreMetasBelow}

@@ -3,7 +3,6 @@ use Rattle.std.proofs.Common.{◌≡◌, ℕ, List, ◌++◌, Option, Some, None
 use Rattle.std.specs.Prelude.{IfSome}
 use Rattle.std.specs.BTreeMap as tree
 use Rattle.std.specs.BTreeMap.{BTreeMap}
-use Rattle.std.specs.Ordering.{nat_cmp}
 use Rattle.std.proofs.lemmas.Option.{IfSome_then}
 use Rattle.ml_pat.specs.Patterns.{Pattern, constant}
 use Rattle.rule_core.specs.declared.rules.Program.{Program}
@@ -11,8 +10,8 @@ use Rattle.rule_core.specs.declared.signature.Signature.{Signature}
 use Rattle.ml_image.specs.Images.{some_symbol_image, injection_symbol}
 use Rattle.ml_image.proofs.ImageLaws.{none_some, symbol-keeps}
 use Rattle.prove_term.specs.Contexts.{Context, HasGrown}
-use Rattle.prove_term.specs.Injections.{HasEnds, SaysInjecting, SaysCollapsing, IsInjectionAt}
-use Rattle.prove_term.specs.declared.context.InjectionLemma.{InjectionLemma}
+use Rattle.prove_term.specs.Injections.{HasEnds, SaysInjecting, SaysCollapsing, IsInjectionAt, IsCollapseAt}
+use Rattle.prove_term.specs.SortKeys.{pair_cmp, triple_cmp}
 use Rattle.prove_term.proofs.ContextLaws.{lemma_there_grown}
 use Rattle.prove_term.proofs.KeptLaws.{sort_grown}
 
@@ -44,9 +43,21 @@ injection_grown a b x y k g h = record {
   is = record { ends = ends_grown a b x y g h.is.ends; says = h.is.says };
 }
 
-pub injections_grown : (a b : Context) (kept : BTreeMap ℕ InjectionLemma) → HasGrown a b → ((q : ℕ) → IfSome (tree.get nat_cmp kept q) (λ l. IsInjectionAt a l.from.0 l.to.0 l.place))
-    → (q : ℕ) → IfSome (tree.get nat_cmp kept q) (λ l. IsInjectionAt b l.from.0 l.to.0 l.place)
-injections_grown a b kept g h = λ q. IfSome_then (tree.get nat_cmp kept q) (h q) (λ l is. injection_grown a b l.from.0 l.to.0 l.place g is)
+pub injections_grown : (a b : Context) (kept : BTreeMap (ℕ × ℕ) ℕ) → HasGrown a b → ((q : ℕ × ℕ) → IfSome (tree.get pair_cmp kept q) (IsInjectionAt a q.0 q.1))
+    → (q : ℕ × ℕ) → IfSome (tree.get pair_cmp kept q) (IsInjectionAt b q.0 q.1)
+injections_grown a b kept g h = λ q. IfSome_then (tree.get pair_cmp kept q) (h q) (λ k is. injection_grown a b q.0 q.1 k g is)
+
+pub collapse_grown : (a b : Context) (x y z k : ℕ) → HasGrown a b → IsCollapseAt a x y z k → IsCollapseAt b x y z k
+unfolding ends_grown
+collapse_grown a b x y z k g h = record {
+  lemma = h.lemma;
+  there = lemma_there_grown a b k h.lemma g h.there;
+  is = record { ends = ends_grown a b x y g h.is.ends; last = h.is.last; is_last = sort_grown a b z h.is.last g h.is.is_last; says = h.is.says };
+}
+
+pub collapses_grown : (a b : Context) (kept : BTreeMap (ℕ × ℕ × ℕ) ℕ) → HasGrown a b → ((q : ℕ × ℕ × ℕ) → IfSome (tree.get triple_cmp kept q) (IsCollapseAt a q.0 q.1 q.2))
+    → (q : ℕ × ℕ × ℕ) → IfSome (tree.get triple_cmp kept q) (IsCollapseAt b q.0 q.1 q.2)
+collapses_grown a b kept g h = λ q. IfSome_then (tree.get triple_cmp kept q) (h q) (λ k is. collapse_grown a b q.0 q.1 q.2 k g is)
 
 pub injecting_grown : (a b : Context) (x y : ℕ) (p : Pattern) → HasGrown a b → SaysInjecting a x y p → SaysInjecting b x y p
 unfolding ends_grown

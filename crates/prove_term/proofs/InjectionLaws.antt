@@ -1,14 +1,14 @@
 -- The lemmas of injections, step by step.
-use Rattle.std.proofs.Common.{◌≡◌, ◌+◌, ℕ, List, [], ◌∷◌, ◌++◌, get_or, refl, sym, ◌∙◌, ap, subst, arith, inl, inr}
+use Rattle.std.proofs.Common.{◌≡◌, ℕ, List, [], ◌∷◌, ◌++◌, get_or, refl, sym, ◌∙◌, ap, subst, arith, inl, inr}
 use Rattle.std.specs.Prelude.{Contains}
 use Rattle.ml_pat.specs.Patterns.{Pattern, ex, equal, fun, var, meta}
 use Rattle.ml_kernel.specs.Lemmas.{instance, instances, IsMetaBelow, AreMetasBelow}
 use Rattle.ml_kernel.specs.Theorems.{Theorem, AddsNew, all_hypotheses, conclusions, IsByLemma}
 use Rattle.ml_scope.specs.Scopes.{IsOver, IsWithin, StaysWithin, AssumesWithin}
 use Rattle.ml_scope.proofs.RuleLaws.{lemma_within}
-use Rattle.prove_term.specs.Assuming.{StaysFrom, Opens, OpenedFrom, IsSome, OneElementFrom}
-use Rattle.prove_term.specs.Injections.{inject, injecting, collapsing, SaysInjected, InjectedFrom, Joins, JoinedFrom, StaysJoined}
-use Rattle.prove_term.specs.Carrying.{Cites, CitedFrom, CitedBy, Twice, SaysTwice, TwiceFrom, StaysTwice, Carries, CarriedFrom}
+use Rattle.prove_term.specs.Assuming.{Opens, OpenedFrom, IsSome, OneElementFrom}
+use Rattle.prove_term.specs.Injections.{inject, injecting, collapsing, SaysInjected, SaysCollapsed, InjectedFrom, CollapsedFrom, Joins, StaysJoined}
+use Rattle.prove_term.specs.Carrying.{Cites, CitedFrom, CitedBy, Collapses, CollapsesTo, CollapsesBy, Twice, SaysTwice, TwiceFrom, StaysTwice, Carries, CarriedFrom}
 
 -- ---- one hypothesis
 
@@ -168,31 +168,72 @@ carried_as equality made t left right subject sort is says result keeps = λ p q
     let fact : (subject ≡ p) × (sort ≡ s) = same_fun subject p sort s (sym says ∙ carries.says) in
     (result ∙ ap (λ (r : Pattern). fun r sort) sides.1 ∙ ap (λ (n : ℕ). fun q n) fact.1, keeps h carries.first carries.second)
 
--- ---- both lemmas and the equality
+-- ---- the lemma of a collapse
 
-pub joins_twice : (c s t u : ℕ) (collapse equality lower upper : Theorem) → Joins c s t u collapse lower upper → collapse.hypotheses ≡ [] → OpenedFrom 0 collapse equality → Twice c s t u equality lower upper
-joins_twice c s t u collapse equality lower upper joins none opened =
-    let at : (equality.conclusion ≡ equal (inject c t u (inject c s t (meta 0))) (inject c s u (meta 0))) × (equality.hypotheses ≡ fun (meta 0) s ∷ []) = collapsing_opened collapse equality c s t u joins.collapses none opened in
-    record { first = joins.lower; second = joins.upper; assumes = at.1; equals = at.0 }
+pub collapsed_from : (collapse made : Theorem) → collapse.hypotheses ≡ [] → OpenedFrom 0 collapse made → CollapsedFrom collapse made
+collapsed_from collapse made none opened = λ c s t u is.
+    let at : (made.conclusion ≡ equal (inject c t u (inject c s t (meta 0))) (inject c s u (meta 0))) × (made.hypotheses ≡ fun (meta 0) s ∷ []) = collapsing_opened collapse made c s t u is none opened in
+    record { hypotheses = at.1; conclusion = at.0 }
+
+pub collapses_hypotheses : (c s t u : ℕ) (p : Pattern) (lemma proof : Theorem) → Collapses c s t u p lemma proof → conclusions (proof ∷ []) ≡ instances (p ∷ []) lemma.hypotheses
+collapses_hypotheses c s t u p lemma proof h = ap (λ (q : Pattern). q ∷ []) h.proved ∙ sym (ap (instances (p ∷ [])) h.says.hypotheses)
+
+pub collapses_metas : (c s t u : ℕ) (p : Pattern) (lemma proof : Theorem) → Collapses c s t u p lemma proof → AreMetasBelow 1 lemma.hypotheses × IsMetaBelow 1 lemma.conclusion
+collapses_metas c s t u p lemma proof h =
+    (subst (AreMetasBelow 1) (sym h.says.hypotheses) (omega arith, tt), subst (IsMetaBelow 1) (sym h.says.conclusion) ((tt, (tt, omega arith)), (tt, omega arith)))
+
+pub collapses_conclusion : (c s t u : ℕ) (p : Pattern) (lemma proof : Theorem) → Collapses c s t u p lemma proof → instance (p ∷ []) lemma.conclusion ≡ equal (inject c t u (inject c s t p)) (inject c s u p)
+collapses_conclusion c s t u p lemma proof h = ap (instance (p ∷ [])) h.says.conclusion
+
+pub collapses_once : (c s t u : ℕ) (collapse base : Theorem) → SaysCollapsed c s t u collapse → base.conclusion ≡ fun (meta 0) s → Collapses c s t u (meta 0) collapse base
+collapses_once c s t u collapse base says is = record { says = says; proved = is; closed = tt }
+
+-- ---- three lemmas
+
+pub joins_twice : (c s t u : ℕ) (collapse base equality lower upper : Theorem) → Joins c s t u collapse lower upper → base.conclusion ≡ fun (meta 0) s → base.hypotheses ≡ fun (meta 0) s ∷ []
+    → CollapsesTo collapse base equality → CollapsesBy collapse base equality → Twice c s t u equality lower upper
+joins_twice c s t u collapse base equality lower upper joins is assumes to by =
+    let at : Collapses c s t u (meta 0) collapse base = collapses_once c s t u collapse base joins.collapses is in
+    record {
+      first = joins.lower;
+      second = joins.upper;
+      assumes = cited_keeps collapse base equality (meta 0) (fun (meta 0) s) (by c s t u (meta 0) at) assumes;
+      equals = to c s t u (meta 0) at;
+    }
 
 pub twice_carries : (c s t u : ℕ) (equality lower upper twice : Theorem) → Twice c s t u equality lower upper → SaysTwice c s t u twice → Carries (inject c t u (inject c s t (meta 0))) (inject c s u (meta 0)) u (fun (meta 0) s) equality twice
 twice_carries c s t u equality lower upper twice both says = record { equals = both.equals; says = says.conclusion; first = both.assumes; second = says.hypotheses }
 
-pub joined_from : (collapse equality lower upper twice made : Theorem) → collapse.hypotheses ≡ [] → OpenedFrom 0 collapse equality → TwiceFrom equality lower upper twice → CarriedFrom equality twice made → JoinedFrom collapse lower upper made
-joined_from collapse equality lower upper twice made none opened from carried = λ c s t u joins.
-    let both : Twice c s t u equality lower upper = joins_twice c s t u collapse equality lower upper joins none opened in
+-- what is assumed, and what the lemma makes of it
+pub record IsOnce (hypothesis : Pattern) (collapse base equality : Theorem) : Type 0 where
+  pub conclusion : base.conclusion ≡ hypothesis
+  pub hypotheses : base.hypotheses ≡ hypothesis ∷ []
+  pub stays : AssumesWithin hypothesis base
+  pub to : CollapsesTo collapse base equality
+  pub by : CollapsesBy collapse base equality
+
+pub once_twice : (c s t u : ℕ) (h : Pattern) (collapse base equality lower upper : Theorem) → IsOnce h collapse base equality → h ≡ fun (meta 0) s → Joins c s t u collapse lower upper → Twice c s t u equality lower upper
+once_twice c s t u h collapse base equality lower upper once is joins =
+    joins_twice c s t u collapse base equality lower upper joins (once.conclusion ∙ is) (once.hypotheses ∙ ap (λ (p : Pattern). p ∷ []) is) once.to once.by
+
+pub joined_as : (c s t u : ℕ) (equality lower upper twice made : Theorem) → Twice c s t u equality lower upper → TwiceFrom equality lower upper twice → CarriedFrom equality twice made → SaysInjected c s u made
+joined_as c s t u equality lower upper twice made both from carried =
     let became : (made.conclusion ≡ fun (inject c s u (meta 0)) u) × (made.hypotheses ≡ fun (meta 0) s ∷ []) =
     carried (inject c t u (inject c s t (meta 0))) (inject c s u (meta 0)) u (fun (meta 0) s) (twice_carries c s t u equality lower upper twice both (from c s t u both)) in
     record { hypotheses = became.1; conclusion = became.0 }
 
-pub joined_stays : (c s t u : ℕ) (collapse equality lower upper twice made : Theorem) → Joins c s t u collapse lower upper → collapse.hypotheses ≡ [] → OpenedFrom 0 collapse equality → TwiceFrom equality lower upper twice → CarriedFrom equality twice made
-    → StaysFrom collapse equality → StaysTwice equality lower upper twice → StaysWithin (var 0 ∷ []) (equality ∷ twice ∷ []) made → StaysJoined collapse lower upper made
-joined_stays c s t u collapse equality lower upper twice made joins none opened from carried opening twice_stays after = λ sc objects metas within stated stated' assumed.
-    let both : Twice c s t u equality lower upper = joins_twice c s t u collapse equality lower upper joins none opened in
+pub joined_stays : (c s t u : ℕ) (h : Pattern) (collapse base equality lower upper twice made : Theorem) → IsOnce h collapse base equality → h ≡ fun (meta 0) s → Joins c s t u collapse lower upper → TwiceFrom equality lower upper twice → CarriedFrom equality twice made
+    → StaysTwice equality lower upper twice → StaysWithin (var 0 ∷ []) (equality ∷ twice ∷ []) made → StaysJoined collapse lower upper made
+joined_stays c s t u h collapse base equality lower upper twice made once is joins from carried twice_stays after = λ sc objects metas over_said said stated stated' assumed.
+    let both : Twice c s t u equality lower upper = once_twice c s t u h collapse base equality lower upper once is joins in
     let says : SaysTwice c s t u twice = from c s t u both in
-    let became : SaysInjected c s u made = joined_from collapse equality lower upper twice made none opened from carried c s t u joins in
-    let from_equality : (p : Pattern) → Contains equality.hypotheses p → Contains sc.assumed p = λ p there. assumed p (subst (λ (hs : List Pattern). Contains hs p) (both.assumes ∙ sym became.hypotheses) there) in
+    let became : SaysInjected c s u made = joined_as c s t u equality lower upper twice made both from carried in
+    let at : Collapses c s t u (meta 0) collapse base = collapses_once c s t u collapse base joins.collapses (once.conclusion ∙ is) in
+    let over : IsOver sc (equal (inject c t u (inject c s t (meta 0))) (inject c s u (meta 0))) = subst (IsOver sc) joins.collapses.conclusion over_said in
+    let there : Contains made.hypotheses (fun (meta 0) s) = subst (λ (hs : List Pattern). Contains hs (fun (meta 0) s)) (sym became.hypotheses) (0, omega arith, refl) in
+    let base_within : IsWithin sc base = once.stays sc (subst (Contains sc.assumed) (sym is) (assumed (fun (meta 0) s) there)) (subst (IsOver sc) (sym is) (metas 0, over.0.1.0.0.1)) in
+    let equality_over : IsOver sc equality.conclusion = subst (IsOver sc) (sym both.equals) over in
+    let equality_within : IsWithin sc equality = lemma_within sc collapse (meta 0 ∷ []) (base ∷ []) equality (once.by c s t u (meta 0) at) said (metas 0, tt) equality_over (base_within, tt) in
     let from_twice : (p : Pattern) → Contains twice.hypotheses p → Contains sc.assumed p = λ p there. assumed p (subst (λ (hs : List Pattern). Contains hs p) (says.hypotheses ∙ sym became.hypotheses) there) in
-    let equality_within : IsWithin sc equality = opening sc metas within from_equality in
     let twice_within : IsWithin sc twice = twice_stays sc metas equality_within stated stated' from_twice in
     after sc (objects 0, tt) (equality_within, (twice_within, tt))

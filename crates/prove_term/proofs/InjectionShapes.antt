@@ -15,7 +15,7 @@ use Rattle.ml_image.specs.HasImages.{CanInject}
 use Rattle.ml_image.proofs.ImageLaws.{none_some, some_same}
 use Rattle.prove_term.specs.Contexts.{Context, IsAssumed}
 use Rattle.prove_term.specs.Injections.{inject, HasEnds, SaysInjecting, SaysCollapsing}
-use Rattle.prove_term.specs.InjectionTables.{AllowsPair}
+use Rattle.prove_term.specs.InjectionTables.{AllowsPair, InjectsBelow}
 use Rattle.prove_term.proofs.ImageShapes.{both_some, map_some}
 
 -- ---- images
@@ -53,13 +53,16 @@ injection_shape sig names a b q p is =
     (head.0, w.1, w.3, w.4 ∙ ap (λ (h : Pattern). logic.app h w.1) head.1)
 
 -- .. and the other way round
-pub injection_made : (sig : Signature) (names : List (List ℕ)) (a b : ℕ) (e : HasEnds sig names a b) (q : Option Pattern) (r : Pattern) → q ≡ Some r → both logic.app (injection_image sig names a b) q ≡ Some (inject e.symbol e.lower e.upper r)
-injection_made sig names a b e q r is =
-    let head : injection_image sig names a b ≡ Some (logic.at_sort (logic.at_sort (logic.constant e.symbol) e.lower) e.upper) =
+pub head_made : (sig : Signature) (names : List (List ℕ)) (a b : ℕ) (e : HasEnds sig names a b) → injection_image sig names a b ≡ Some (logic.at_sort (logic.at_sort (logic.constant e.symbol) e.lower) e.upper)
+head_made sig names a b e =
     ap (λ (o : Option Pattern). both logic.at_sort (both logic.at_sort o (sort_image sig names a)) (sort_image sig names b)) e.is_symbol
     ∙ ap (λ (o : Option ℕ). both logic.at_sort (both logic.at_sort (Some (logic.constant e.symbol)) o) (sort_image sig names b)) e.is_lower
-    ∙ ap (λ (o : Option ℕ). both logic.at_sort (Some (logic.at_sort (logic.constant e.symbol) e.lower)) o) e.is_upper in
-    ap (λ (o : Option Pattern). both logic.app o q) head ∙ ap (λ (o : Option Pattern). both logic.app (Some (logic.at_sort (logic.at_sort (logic.constant e.symbol) e.lower) e.upper)) o) is
+    ∙ ap (λ (o : Option ℕ). both logic.at_sort (Some (logic.at_sort (logic.constant e.symbol) e.lower)) o) e.is_upper
+
+pub injection_made : (sig : Signature) (names : List (List ℕ)) (a b : ℕ) (e : HasEnds sig names a b) (q : Option Pattern) (r : Pattern) → q ≡ Some r → both logic.app (injection_image sig names a b) q ≡ Some (inject e.symbol e.lower e.upper r)
+injection_made sig names a b e q r is =
+    ap (λ (o : Option Pattern). both logic.app o q) (head_made sig names a b e)
+    ∙ ap (λ (o : Option Pattern). both logic.app (Some (logic.at_sort (logic.at_sort (logic.constant e.symbol) e.lower) e.upper)) o) is
 
 same_constant : (c d : ℕ) → logic.constant c ≡ logic.constant d → c ≡ d
 same_constant c d h = cc
@@ -146,8 +149,8 @@ can_inject sig a b h =
     let w : (a < length sig.sorts) × (b < length sig.sorts) = both_sorts sig a b h.signature (by_pair h.pair) in
     (h.symbol, (w.0, (w.1, tt)))
 
-pub can_collapse : (sig : Signature) (a b d : ℕ) → IsBelow sig.subsorts a b → AllowsPair sig b d → CanInject sig (a ∷ b ∷ d ∷ [])
+pub can_collapse : (sig : Signature) (a b d : ℕ) → IsBelow sig.subsorts a b → InjectsBelow sig b d → CanInject sig (a ∷ b ∷ d ∷ [])
 can_collapse sig a b d below h =
     let w : (a < length sig.sorts) × (b < length sig.sorts) = both_sorts sig a b h.signature below in
-    let v : (b < length sig.sorts) × (d < length sig.sorts) = both_sorts sig b d h.signature (by_pair h.pair) in
+    let v : (b < length sig.sorts) × (d < length sig.sorts) = both_sorts sig b d h.signature h.below in
     (h.symbol, (w.0, (w.1, (v.1, tt))))

@@ -1,17 +1,21 @@
 -- Injections along chains of pairs of sorts, one pair further each time.
-use Rattle.std.proofs.Common.{◌≡◌, ◌<◌, ◌+◌, ℕ, zero, suc, List, [], ◌∷◌, ◌++◌, length, get_or, refl, sym, ◌∙◌, ap, subst, arith}
+use Rattle.std.proofs.Common.{◌≡◌, ◌<◌, ◌+◌, ℕ, zero, suc, List, [], ◌∷◌, ◌++◌, Some, length, get_or, refl, sym, ◌∙◌, ap, subst, arith}
 use Rattle.std.specs.Prelude.{Contains}
-use Rattle.ml_pat.specs.Patterns.{constant}
+use Rattle.ml_pat.specs.Patterns.{Pattern, constant, at_sort, equal, var, meta}
 use Rattle.ml_kernel.specs.Theorems.{Theorem}
+use Rattle.ml_scope.specs.Scopes.{Scope, IsOver}
+use Rattle.term_core.specs.Patterns.{injection, variable}
 use Rattle.term_core.specs.RulePatterns.{sort_numbers}
 use Rattle.term_core.specs.declared.ids.SortId.{SortId}
 use Rattle.rule_core.specs.Subsorts.{IsBelow, IsPath, by_pair}
 use Rattle.rule_core.proofs.Belows.{IsBelow-trans}
+use Rattle.ml_image.specs.Sentences.{term}
 use Rattle.ml_image.proofs.ImageLaws.{some_same}
-use Rattle.prove_term.specs.Contexts.{Context, StaysIn, IsLemmaIn}
-use Rattle.prove_term.specs.Injections.{HasEnds, SaysInjecting, SaysCollapsing, SaysInjected, IsInjected, IsInjectionAt, InjectedFrom, Joins, JoinedFrom, StaysJoined}
+use Rattle.prove_term.specs.Contexts.{Context, HasContext, IsLemmaIn}
+use Rattle.prove_term.specs.Injections.{inject, HasEnds, SaysInjecting, SaysCollapsing, SaysInjected, IsInjected, IsInjectionAt, IsCollapsed, IsCollapseAt, InjectedFrom, CollapsedFrom, Joins, JoinedFrom, StaysJoined}
 use Rattle.prove_term.proofs.ContextLaws.{contains_there}
 use Rattle.prove_term.proofs.KeptInside.{last_there}
+use Rattle.prove_term.proofs.InjectionShapes.{injection_made}
 
 pub injection_learned : (cx : Context) (a b place : ℕ) (lemma : Theorem) → IsInjected cx a b lemma → place ≡ length cx.lemmas → IsInjectionAt (record cx { lemmas = cx.lemmas ++ lemma ∷ [] }) a b place
 injection_learned cx a b place lemma is last = record {
@@ -33,36 +37,64 @@ same_constant c d h = cc
 said_with : (c s t c' s' t' : ℕ) (lemma : Theorem) → c ≡ c' → s ≡ s' → t ≡ t' → SaysInjected c s t lemma → SaysInjected c' s' t' lemma
 said_with c s t c' s' t' lemma e f g h = subst (λ (x : ℕ). SaysInjected x s' t' lemma) e (subst (λ (x : ℕ). SaysInjected c x t' lemma) f (subst (λ (x : ℕ). SaysInjected c s x lemma) g h))
 
-pub joins_of : (cx : Context) (a b d k l : ℕ) (collapse : Theorem) (says : SaysCollapsing cx a b d collapse.conclusion) (low : IsInjectionAt cx a b k) (up : IsInjectionAt cx b d l)
-    → Joins says.ends.symbol says.ends.lower says.ends.upper says.last collapse low.lemma up.lemma
-joins_of cx a b d k l collapse says low up =
-    let e : HasEnds cx.program.sig cx.names a b = says.ends in
-    let symbol : low.is.ends.symbol ≡ says.ends.symbol = same_constant low.is.ends.symbol says.ends.symbol (some_same (constant low.is.ends.symbol) (constant says.ends.symbol) (sym low.is.ends.is_symbol ∙ says.ends.is_symbol)) in
-    let symbol' : up.is.ends.symbol ≡ says.ends.symbol = same_constant up.is.ends.symbol says.ends.symbol (some_same (constant up.is.ends.symbol) (constant says.ends.symbol) (sym up.is.ends.is_symbol ∙ says.ends.is_symbol)) in
-    record {
-      collapses = says.says;
-      lower = said_with low.is.ends.symbol low.is.ends.lower low.is.ends.upper says.ends.symbol says.ends.lower says.ends.upper low.lemma symbol
-          (some_same low.is.ends.lower says.ends.lower (sym low.is.ends.is_lower ∙ says.ends.is_lower)) (some_same low.is.ends.upper says.ends.upper (sym low.is.ends.is_upper ∙ says.ends.is_upper)) low.is.says;
-      upper = said_with up.is.ends.symbol up.is.ends.lower up.is.ends.upper says.ends.symbol says.ends.upper says.last up.lemma symbol'
-          (some_same up.is.ends.lower says.ends.upper (sym up.is.ends.is_lower ∙ says.ends.is_upper)) (some_same up.is.ends.upper says.last (sym up.is.ends.is_upper ∙ says.is_last)) up.is.says;
-    }
-
-pub injected_by_chain : (cx : Context) (a b d k l : ℕ) (collapse made : Theorem) → SaysCollapsing cx a b d collapse.conclusion → (low : IsInjectionAt cx a b k) (up : IsInjectionAt cx b d l) → JoinedFrom collapse low.lemma up.lemma made → IsInjected cx a d made
-injected_by_chain cx a b d k l collapse made says low up from = record {
-  ends = record {
-    symbol = says.ends.symbol;
-    is_symbol = says.ends.is_symbol;
-    lower = says.ends.lower;
-    is_lower = says.ends.is_lower;
-    upper = says.last;
-    is_upper = says.is_last;
-  };
-  says = from says.ends.symbol says.ends.lower says.ends.upper says.last (joins_of cx a b d k l collapse says low up);
+pub collapse_learned : (cx : Context) (a b d place : ℕ) (lemma : Theorem) → IsCollapsed cx a b d lemma → place ≡ length cx.lemmas → IsCollapseAt (record cx { lemmas = cx.lemmas ++ lemma ∷ [] }) a b d place
+collapse_learned cx a b d place lemma is last = record {
+  lemma = lemma;
+  there = last_there cx.lemmas lemma place last;
+  is = record { ends = is.ends; last = is.last; is_last = is.is_last; says = is.says };
 }
 
-pub chain_stays : (cx : Context) (a b d k l : ℕ) (collapse made : Theorem) → StaysIn cx collapse → (low : IsInjectionAt cx a b k) (up : IsInjectionAt cx b d l) → StaysJoined collapse low.lemma up.lemma made → IsLemmaIn cx made
-chain_stays cx a b d k l collapse made stays low up joined = λ s has assumed.
-    joined s has.objects has.metas (stays s has) (has.lemmas low.lemma (contains_there cx.lemmas k low.lemma low.there)) (has.lemmas up.lemma (contains_there cx.lemmas l up.lemma up.there)) assumed
+pub collapsed_by_axiom : (cx : Context) (a b d : ℕ) (stated lemma : Theorem) → SaysCollapsing cx a b d stated.conclusion → CollapsedFrom stated lemma → IsCollapsed cx a b d lemma
+collapsed_by_axiom cx a b d stated lemma says from = record {
+  ends = says.ends;
+  last = says.last;
+  is_last = says.is_last;
+  says = from says.ends.symbol says.ends.lower says.ends.upper says.last says.says;
+}
+
+-- the injection symbol at two sorts has what a scope of the context has
+pub ends_over : (s : Scope) (cx : Context) (a b : ℕ) (e : HasEnds cx.program.sig cx.names a b) → HasContext s cx → IsOver s (at_sort (at_sort (constant e.symbol) e.lower) e.upper)
+ends_over s cx a b e has =
+    (has.images (term (injection a b (variable 0))) (inject e.symbol e.lower e.upper (var 0)) (injection_made cx.program.sig cx.names a b e (Some (var 0)) (var 0) refl)).0
+
+pub collapse_over : (s : Scope) (cx : Context) (a b d : ℕ) (lemma : Theorem) (is : IsCollapsed cx a b d lemma) (p : Pattern) → HasContext s cx → IsOver s p
+    → IsOver s (equal (inject is.ends.symbol is.ends.upper is.last (inject is.ends.symbol is.ends.lower is.ends.upper p)) (inject is.ends.symbol is.ends.lower is.last p))
+collapse_over s cx a b d lemma is p has over =
+    let low = ends_over s cx a b is.ends has in
+    let far = ends_over s cx a d (record { symbol = is.ends.symbol; is_symbol = is.ends.is_symbol; lower = is.ends.lower; is_lower = is.ends.is_lower; upper = is.last; is_upper = is.is_last }) has in
+    ((((low.0.0, low.1), far.1), (low, over)), (far, over))
+
+pub joins_of : (cx : Context) (a b d m k l : ℕ) (col : IsCollapseAt cx a b d m) (low : IsInjectionAt cx a b k) (up : IsInjectionAt cx b d l)
+    → Joins col.is.ends.symbol col.is.ends.lower col.is.ends.upper col.is.last col.lemma low.lemma up.lemma
+joins_of cx a b d m k l col low up =
+    let e : HasEnds cx.program.sig cx.names a b = col.is.ends in
+    let symbol : low.is.ends.symbol ≡ e.symbol = same_constant low.is.ends.symbol e.symbol (some_same (constant low.is.ends.symbol) (constant e.symbol) (sym low.is.ends.is_symbol ∙ e.is_symbol)) in
+    let symbol' : up.is.ends.symbol ≡ e.symbol = same_constant up.is.ends.symbol e.symbol (some_same (constant up.is.ends.symbol) (constant e.symbol) (sym up.is.ends.is_symbol ∙ e.is_symbol)) in
+    record {
+      collapses = col.is.says;
+      lower = said_with low.is.ends.symbol low.is.ends.lower low.is.ends.upper e.symbol e.lower e.upper low.lemma symbol
+          (some_same low.is.ends.lower e.lower (sym low.is.ends.is_lower ∙ e.is_lower)) (some_same low.is.ends.upper e.upper (sym low.is.ends.is_upper ∙ e.is_upper)) low.is.says;
+      upper = said_with up.is.ends.symbol up.is.ends.lower up.is.ends.upper e.symbol e.upper col.is.last up.lemma symbol'
+          (some_same up.is.ends.lower e.upper (sym up.is.ends.is_lower ∙ e.is_upper)) (some_same up.is.ends.upper col.is.last (sym up.is.ends.is_upper ∙ col.is.is_last)) up.is.says;
+    }
+
+pub injected_by_chain : (cx : Context) (a b d m k l : ℕ) (made : Theorem) (col : IsCollapseAt cx a b d m) (low : IsInjectionAt cx a b k) (up : IsInjectionAt cx b d l) → JoinedFrom col.lemma low.lemma up.lemma made → IsInjected cx a d made
+injected_by_chain cx a b d m k l made col low up from = record {
+  ends = record {
+    symbol = col.is.ends.symbol;
+    is_symbol = col.is.ends.is_symbol;
+    lower = col.is.ends.lower;
+    is_lower = col.is.ends.is_lower;
+    upper = col.is.last;
+    is_upper = col.is.is_last;
+  };
+  says = from col.is.ends.symbol col.is.ends.lower col.is.ends.upper col.is.last (joins_of cx a b d m k l col low up);
+}
+
+pub chain_stays : (cx : Context) (a b d m k l : ℕ) (made : Theorem) (col : IsCollapseAt cx a b d m) (low : IsInjectionAt cx a b k) (up : IsInjectionAt cx b d l) → StaysJoined col.lemma low.lemma up.lemma made → IsLemmaIn cx made
+chain_stays cx a b d m k l made col low up joined = λ s has assumed.
+    joined s has.objects has.metas (subst (IsOver s) (sym col.is.says.conclusion) (collapse_over s cx a b d col.lemma col.is (meta 0) has (has.metas 0)))
+    (has.lemmas col.lemma (contains_there cx.lemmas m col.lemma col.there)) (has.lemmas low.lemma (contains_there cx.lemmas k low.lemma low.there)) (has.lemmas up.lemma (contains_there cx.lemmas l up.lemma up.there)) assumed
 
 -- ---- chains
 

@@ -13,7 +13,7 @@ use Rattle.prove_term.specs.ContextView.{context_of, IsKept}
 use Rattle.prove_term.specs.declared.context.Cx.TheInside.{Inside}
 use Rattle.prove_term.proofs.ContextLaws.{grown_none, grown_names, grown_axiom, grown_lemma, context_gains, context_states, context_learns}
 use Rattle.prove_term.proofs.KeptLaws.{rules_grown, values_grown, constructors_grown}
-use Rattle.prove_term.proofs.InjectionGrown.{injections_grown}
+use Rattle.prove_term.proofs.InjectionGrown.{injections_grown, collapses_grown}
 use Rattle.prove_term.proofs.ImageShapes.{sentence_has_no_meta}
 
 either_way : {A E P Q : Type 0} (r : Result A E) → OnOk r P → OnErr r Q → P ⊎ Q
@@ -31,6 +31,7 @@ kept_gains a names h gained =
       constructors = constructors_grown (context_of a) (context_of (record a { names = names })) a.constructors g h.constructors;
       theorems = h.theorems;
       injections = injections_grown (context_of a) (context_of (record a { names = names })) a.injections g h.injections;
+      collapses = collapses_grown (context_of a) (context_of (record a { names = names })) a.collapses g h.collapses;
     }
 
 pub grown_gains : (a : Inside) (v : Context) (names : List (List ℕ)) → context_of a ≡ v → HasGained a.program.now.sig a.names names → HasGrown v (context_of (record a { names = names }))
@@ -55,6 +56,7 @@ kept_states {A} {E} r a v p theory is h image ok err = go (either_way r ok err)
           constructors = constructors_grown (context_of a) (context_of (record a { theory = a.theory ++ p ∷ [] })) a.constructors g h.constructors;
           theorems = h.theorems;
           injections = injections_grown (context_of a) (context_of (record a { theory = a.theory ++ p ∷ [] })) a.injections g h.injections;
+          collapses = collapses_grown (context_of a) (context_of (record a { theory = a.theory ++ p ∷ [] })) a.collapses g h.collapses;
         })
     go (inr same) = subst (λ (t : List Pattern). IsKept (record a { theory = t })) (sym same) h
 
@@ -80,6 +82,7 @@ kept_learns a v t lemmas theorems is h stays more told =
       constructors = constructors_grown (context_of a) (context_of (record a { lemmas = lemmas })) a.constructors g h.constructors;
       theorems = told ∙ ap (λ (ts : List Theorem). ts ++ t ∷ []) h.theorems ∙ sym more;
       injections = injections_grown (context_of a) (context_of (record a { lemmas = lemmas })) a.injections g h.injections;
+      collapses = collapses_grown (context_of a) (context_of (record a { lemmas = lemmas })) a.collapses g h.collapses;
     }
 
 pub last_there : {A : Type 0} (xs : List A) (x : A) (n : ℕ) → n ≡ length xs → slice_get (xs ++ x ∷ []) n ≡ Some x

@@ -1,4 +1,9 @@
+pub mod ApplicationLaws
 pub mod AssumingLaws
+pub mod ComparingCalls
+pub mod ComparingInjections
+pub mod ComparingLaws
+pub mod ComparingLoop
 pub mod ConstructingLaws
 pub mod ContextLaws
 pub mod ElementLaws
@@ -13,5 +18,6 @@ pub mod InjectionSteps
 pub mod Instances
 pub mod KeptInside
 pub mod KeptLaws
+pub mod KeptSorts
 pub mod ResultLaws
 pub mod Substituting

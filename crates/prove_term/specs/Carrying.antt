@@ -4,7 +4,7 @@ use Rattle.ml_pat.specs.Patterns.{Pattern, equal, fun, meta}
 use Rattle.ml_kernel.specs.Lemmas.{HasNoVariable}
 use Rattle.ml_kernel.specs.Theorems.{Theorem, IsByLemma}
 use Rattle.ml_scope.specs.Scopes.{Scope, IsStatedIn, IsWithin}
-use Rattle.prove_term.specs.Injections.{inject, SaysInjected}
+use Rattle.prove_term.specs.Injections.{inject, SaysInjected, SaysCollapsed}
 
 -- the lemma is on an injection from s to t, and the proof says that p is one element of s
 pub record Cites (c s t : ℕ) (p : Pattern) (lemma proof : Theorem) : Type 0 where
@@ -19,6 +19,21 @@ CitedFrom lemma proof made =
 abbrev pub CitedBy : Theorem → Theorem → Theorem → Type 0
 CitedBy lemma proof made =
     (c s t : ℕ) (p : Pattern) → Cites c s t p lemma proof → IsByLemma lemma (p ∷ []) (proof ∷ []) made
+
+-- the lemma is on injections from s to t and on to u, and the proof says that p is one element of s
+pub record Collapses (c s t u : ℕ) (p : Pattern) (lemma proof : Theorem) : Type 0 where
+  pub says : SaysCollapsed c s t u lemma
+  pub proved : proof.conclusion ≡ fun p s
+  pub closed : HasNoVariable p
+
+abbrev pub CollapsesTo : Theorem → Theorem → Theorem → Type 0
+CollapsesTo lemma proof made =
+    (c s t u : ℕ) (p : Pattern) → Collapses c s t u p lemma proof →
+    made.conclusion ≡ equal (inject c t u (inject c s t p)) (inject c s u p)
+
+abbrev pub CollapsesBy : Theorem → Theorem → Theorem → Type 0
+CollapsesBy lemma proof made =
+    (c s t u : ℕ) (p : Pattern) → Collapses c s t u p lemma proof → IsByLemma lemma (p ∷ []) (proof ∷ []) made
 
 -- two lemmas on injections, one after the other, and a theorem that both together are one injection, of a pattern
 -- variable whose sort it assumes

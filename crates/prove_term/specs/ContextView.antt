@@ -7,7 +7,8 @@ use Rattle.prove_term.specs.declared.context.Cx.TheInside.{Inside}
 use Rattle.prove_term.specs.Stated.{IsRuleAxiom}
 use Rattle.prove_term.specs.ValueAxioms.{IsValueAxiom}
 use Rattle.prove_term.specs.Constructing.{IsConstructorAt}
-use Rattle.prove_term.specs.Injections.{IsInjectionAt}
+use Rattle.prove_term.specs.Injections.{IsInjectionAt, IsCollapseAt}
+use Rattle.prove_term.specs.SortKeys.{pair_cmp, triple_cmp}
 
 abbrev pub context_of : Inside → Context
 context_of a = record { program = a.program.now; names = a.names; axioms = a.theory; lemmas = a.lemmas.items }
@@ -20,5 +21,7 @@ pub record IsKept (a : Inside) : Type 0 where
   pub values : (c : ℕ) → IfSome (tree.get nat_cmp a.values c) (λ v. IsValueAxiom (context_of a) c v.sort.0 v.no.0)
   pub theorems : a.theorems.items ≡ a.lemmas.items
   pub constructors : (f : ℕ) → IfSome (tree.get nat_cmp a.constructors f) (IsConstructorAt (context_of a) f)
-  pub injections : (q : ℕ) →
-      IfSome (tree.get nat_cmp a.injections q) (λ l. IsInjectionAt (context_of a) l.from.0 l.to.0 l.place)
+  pub injections : (q : ℕ × ℕ) →
+      IfSome (tree.get pair_cmp a.injections q) (IsInjectionAt (context_of a) q.0 q.1)
+  pub collapses : (q : ℕ × ℕ × ℕ) →
+      IfSome (tree.get triple_cmp a.collapses q) (IsCollapseAt (context_of a) q.0 q.1 q.2)

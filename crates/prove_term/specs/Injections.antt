@@ -2,7 +2,7 @@
 use Rattle.std.specs.Prelude.{◌≡◌, ℕ, Some, IsTrue, List, [], ◌∷◌, Contains, slice_get}
 use Rattle.ml_pat.specs.Patterns.{Pattern, all, ex, equal, fun, app, at_sort, var, meta, constant}
 use Rattle.ml_kernel.specs.Theorems.{Theorem}
-use Rattle.ml_scope.specs.Scopes.{Scope, IsStatedIn, IsWithin}
+use Rattle.ml_scope.specs.Scopes.{Scope, IsOver, IsStatedIn, IsWithin}
 use Rattle.rule_core.specs.declared.signature.Signature.{Signature}
 use Rattle.ml_image.specs.Images.{injection_symbol, some_symbol_image, sort_image}
 use Rattle.prove_term.specs.Contexts.{Context}
@@ -54,13 +54,35 @@ pub record IsInjectionAt (cx : Context) (a b k : ℕ) : Type 0 where
   pub there : slice_get cx.lemmas k ≡ Some lemma
   pub is : IsInjected cx a b lemma
 
+-- the theorem says that a pattern variable, one element of the sort s, injected into t and on into u is injected into u
+-- at once
+pub record SaysCollapsed (c s t u : ℕ) (made : Theorem) : Type 0 where
+  pub hypotheses : made.hypotheses ≡ fun (meta 0) s ∷ []
+  pub conclusion : made.conclusion ≡ equal (inject c t u (inject c s t (meta 0))) (inject c s u (meta 0))
+
+-- the lemma says so of these sorts
+pub record IsCollapsed (cx : Context) (a b d : ℕ) (lemma : Theorem) : Type 0 where
+  pub ends : HasEnds cx.program.sig cx.names a b
+  pub last : ℕ
+  pub is_last : sort_image cx.program.sig cx.names d ≡ Some last
+  pub says : SaysCollapsed ends.symbol ends.lower ends.upper last lemma
+
+-- .. and stands at this place
+pub record IsCollapseAt (cx : Context) (a b d k : ℕ) : Type 0 where
+  pub lemma : Theorem
+  pub there : slice_get cx.lemmas k ≡ Some lemma
+  pub is : IsCollapsed cx a b d lemma
+
 -- what is made of an axiom
+abbrev pub CollapsedFrom : Theorem → Theorem → Type 0
+CollapsedFrom first made = (c s t u : ℕ) → first.conclusion ≡ collapsing c s t u → SaysCollapsed c s t u made
+
 abbrev pub InjectedFrom : Theorem → Theorem → Type 0
 InjectedFrom first made = (c s t : ℕ) → first.conclusion ≡ injecting c s t → SaysInjected c s t made
 
--- what is made of an axiom and two lemmas
+-- what is made of three lemmas
 pub record Joins (c s t u : ℕ) (collapse first second : Theorem) : Type 0 where
-  pub collapses : collapse.conclusion ≡ collapsing c s t u
+  pub collapses : SaysCollapsed c s t u collapse
   pub lower : SaysInjected c s t first
   pub upper : SaysInjected c t u second
 
@@ -68,9 +90,10 @@ abbrev pub JoinedFrom : Theorem → Theorem → Theorem → Theorem → Type 0
 JoinedFrom collapse first second made =
     (c s t u : ℕ) → Joins c s t u collapse first second → SaysInjected c s u made
 
--- a scope that has all these, and each variable, has it, where its hypotheses may be assumed
+-- a scope that has all these, what the first says, and each variable, has it, where its hypotheses may be assumed
 abbrev pub StaysJoined : Theorem → Theorem → Theorem → Theorem → Type 0
 StaysJoined collapse first second made =
-    (s : Scope) → ((x : ℕ) → IsTrue (s.object x)) → ((i : ℕ) → IsTrue (s.meta i)) → IsWithin s collapse
+    (s : Scope) → ((x : ℕ) → IsTrue (s.object x)) → ((i : ℕ) → IsTrue (s.meta i)) → IsOver s collapse.conclusion
+    → IsStatedIn s collapse.hypotheses collapse.conclusion
     → IsStatedIn s first.hypotheses first.conclusion → IsStatedIn s second.hypotheses second.conclusion
     → ((p : Pattern) → Contains made.hypotheses p → Contains s.assumed p) → IsWithin s made

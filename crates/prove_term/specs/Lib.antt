@@ -3,6 +3,7 @@ pub mod Contexts
 pub mod PlainTerms
 pub mod Functional
 pub mod RuleAxioms
+pub mod EqualImages
 -- Private: what clauses of private functions cite, and how private fields are seen.
 pub mod Schemas
 pub mod Falling
@@ -12,6 +13,8 @@ pub mod Constructing
 pub mod Assuming
 pub mod Injections
 pub mod InjectionTables
+pub mod SortKeys
 pub mod Carrying
 pub mod Elements
+pub mod Comparing
 pub mod ContextView

@@ -17,7 +17,7 @@ use rule_core::Program;
 use std::alloc::{AllocError, Global};
 use std::collections::BTreeMap;
 use std::marker::Model;
-use term_core::{RulePat, SortId};
+use term_core::RulePat;
 
 /// What the proofs about a program use: the names of its sorts, symbols and values, axioms, and lemmas. Contracts see
 /// it as a plain `Context`.
@@ -35,16 +35,10 @@ pub struct Cx<'p> {
     pub(crate) values: BTreeMap<u64, ValueAxiom>,
     // The place of the lemma of each constructor that was used.
     pub(crate) constructors: BTreeMap<u32, usize>,
-    // That of each injection that was used, by a number for its sorts.
-    pub(crate) injections: BTreeMap<u64, InjectionLemma>,
-}
-
-/// The place of the lemma of an injection, and its sorts.
-#[derive(Clone, Copy)]
-pub(crate) struct InjectionLemma {
-    pub(crate) from: SortId,
-    pub(crate) to: SortId,
-    pub(crate) place: usize,
+    // That of each injection that was used, by the sorts that it comes from and goes to.
+    pub(crate) injections: BTreeMap<(u32, u32), usize>,
+    // That of each two injections in a row that were made one, by the three sorts.
+    pub(crate) collapses: BTreeMap<(u32, u32, u32), usize>,
 }
 
 /// The axiom of a value, and the sort that it names.
@@ -87,6 +81,7 @@ impl<'p> Cx<'p> {
             values: BTreeMap::new(alloc),
             constructors: BTreeMap::new(alloc),
             injections: BTreeMap::new(alloc),
+            collapses: BTreeMap::new(alloc),
         }
     }
 

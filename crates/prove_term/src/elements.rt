@@ -37,7 +37,7 @@ pub fn fun_of(alloc: Global, cx: &mut Cx<'_>, term: &Term) -> Result<Thm, AllocE
 
 // That a pattern without variables and calls is one element of its sort.
 #[cycle(element)]
-fn element(alloc: Global, cx: &mut Cx<'_>, pat: &RulePat) -> Result<Thm, AllocError>
+pub(crate) fn element(alloc: Global, cx: &mut Cx<'_>, pat: &RulePat) -> Result<Thm, AllocError>
     requires signature { IsSignature cx.old.program.sig }
     requires sorted { IsSorted cx.old.program.sig (plain_pattern pat.now) }
     requires ground { IsGround (plain_pattern pat.now) }

@@ -7,12 +7,12 @@ ghost use Rattle.ml_image.specs.HasImages.{CanInject};
 ghost use Rattle.ml_image.specs.Sentences.{IsImageOf};
 ghost use Rattle.prove_term.specs.Contexts.{HasGrown, IsAssumed, IsLemmaIn, StaysIn};
 ghost use Rattle.prove_term.specs.InjectionTables.{InjectsBelow, AllowsPair};
-ghost use Rattle.prove_term.specs.Injections.{IsInjectionAt, IsInjected, SaysInjecting, SaysCollapsing};
+ghost use Rattle.prove_term.specs.Injections.{IsInjectionAt, IsInjected, IsCollapseAt, SaysInjecting, SaysCollapsing};
 
-use crate::context::{Cx, InjectionLemma};
-use crate::joining::{injected, joined};
+use crate::context::Cx;
+use crate::joining::{collapsed, injected, joined};
 use ml_image::{inj_collapse, inj_total};
-use ml_kernel::{Lemma, Thm};
+use ml_kernel::Thm;
 use ml_pat::MPat;
 use std::alloc::{AllocError, Global};
 use term_core::SortId;
@@ -93,7 +93,7 @@ impl<'p> Cx<'p> {
         let upper = self.direct(alloc, through, to)?;
         let collapse = self.collapse(alloc, from, through, to)?;
         let lemmas = self.lemmas();
-        let lemma = joined(alloc, &collapse, &lemmas[lower], &lemmas[upper])?;
+        let lemma = joined(alloc, &lemmas[collapse], &lemmas[lower], &lemmas[upper])?;
         self.add_injection(alloc, from, to, lemma)
     }
 
@@ -120,12 +120,7 @@ impl<'p> Cx<'p> {
     fn known_injection(&self, from: SortId, to: SortId) -> Option<usize>
         ensures { IfSome result (IsInjectionAt self.now from.0 to.0) }
     {
-        let known = self.injections.get(&key(from, to))?;
-        if known.from == from && known.to == to {
-            Some(known.place)
-        } else {
-            None
-        }
+        self.injections.get(&(from.0, to.0)).copied()
     }
 
     // Keeps the place of the lemma of an injection.
@@ -133,8 +128,7 @@ impl<'p> Cx<'p> {
         requires { IsInjectionAt self.old from.0 to.0 place }
         ensures { self.new ≡ self.old }
     {
-        let lemma = InjectionLemma { from, to, place };
-        self.injections.insert(key(from, to), lemma)?;
+        self.injections.insert((from.0, to.0), place)?;
         Ok(())
     }
 
@@ -162,8 +156,54 @@ impl<'p> Cx<'p> {
         inj_total(alloc, &self.program.sig, &mut self.names, from, to)
     }
 
+    // The place of the lemma that an injection through a sort is the injection at once.
+    pub(crate) fn collapse(
+        &mut self,
+        alloc: Global,
+        from: SortId,
+        through: SortId,
+        to: SortId,
+    ) -> Result<usize, AllocError>
+        requires below { IsBelow self.old.program.sig.subsorts from.0 through.0 }
+        requires above { InjectsBelow self.old.program.sig through.0 to.0 }
+        ensures lemma { IfOk result (IsCollapseAt self.new from.0 through.0 to.0) }
+        ensures grown { HasGrown self.old self.new }
+    {
+        if let Some(place) = self.known_collapse(from, through, to) {
+            return Ok(place);
+        }
+        let stated = self.collapse_axiom(alloc, from, through, to)?;
+        let lemma = collapsed(alloc, &stated)?;
+        let place = self.lemmas().len();
+        self.add_lemma(alloc, lemma)?;
+        self.keep_collapse(from, through, to, place)?;
+        Ok(place)
+    }
+
+    // The place of that lemma, where there is one.
+    fn known_collapse(&self, from: SortId, through: SortId, to: SortId) -> Option<usize>
+        ensures { IfSome result (IsCollapseAt self.now from.0 through.0 to.0) }
+    {
+        self.collapses.get(&(from.0, through.0, to.0)).copied()
+    }
+
+    // Keeps its place.
+    fn keep_collapse(
+        &mut self,
+        from: SortId,
+        through: SortId,
+        to: SortId,
+        place: usize,
+    ) -> Result<(), AllocError>
+        requires { IsCollapseAt self.old from.0 through.0 to.0 place }
+        ensures { self.new ≡ self.old }
+    {
+        self.collapses.insert((from.0, through.0, to.0), place)?;
+        Ok(())
+    }
+
     // That an injection through a sort is the injection at once.
-    fn collapse(
+    fn collapse_axiom(
         &mut self,
         alloc: Global,
         from: SortId,
@@ -171,7 +211,7 @@ impl<'p> Cx<'p> {
         to: SortId,
     ) -> Result<Thm, AllocError>
         requires below { IsBelow self.old.program.sig.subsorts from.0 through.0 }
-        requires pair { AllowsPair self.old.program.sig through.0 to.0 }
+        requires above { InjectsBelow self.old.program.sig through.0 to.0 }
         ensures says { IfOk result (λ t. SaysCollapsing self.new from.0 through.0 to.0 t.conclusion) }
         ensures no_hypotheses { IfOk result (λ t. t.hypotheses ≡ []) }
         ensures stays { IfOk result (StaysIn self.new) }
@@ -191,7 +231,7 @@ impl<'p> Cx<'p> {
         to: SortId,
     ) -> Result<MPat, AllocError>
         requires below { IsBelow self.old.program.sig.subsorts from.0 through.0 }
-        requires pair { AllowsPair self.old.program.sig through.0 to.0 }
+        requires above { InjectsBelow self.old.program.sig through.0 to.0 }
         ensures says { IfOk result (SaysCollapsing self.new from.0 through.0 to.0) }
         ensures assumed { IfOk result
             (IsImageOf self.new.program.sig self.new.names (IsAssumed (theory_of self.new.program))) }
@@ -199,9 +239,4 @@ impl<'p> Cx<'p> {
     {
         inj_collapse(alloc, &self.program.sig, &mut self.names, from, through, to)
     }
-}
-
-// A number for a pair of sorts.
-fn key(from: SortId, to: SortId) -> u64 {
-    ((from.0 as u64) << 32) | (to.0 as u64)
 }

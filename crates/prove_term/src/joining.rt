@@ -3,9 +3,10 @@ ghost use Rattle.std.specs.Prelude.{◌≡◌, ◌∷◌, ℕ, [], IfOk};
 ghost use Rattle.ml_pat.specs.Patterns.{Pattern, equal, fun, imp, var};
 ghost use Rattle.ml_scope.specs.Scopes.{StaysWithin};
 ghost use Rattle.prove_term.specs.Assuming.{StaysFrom};
-ghost use Rattle.prove_term.specs.Injections.{injecting, InjectedFrom, Joins, JoinedFrom, StaysJoined};
+ghost use Rattle.prove_term.specs.Injections.{injecting, collapsing, InjectedFrom, CollapsedFrom};
+ghost use Rattle.prove_term.specs.Injections.{Joins, JoinedFrom, StaysJoined};
 ghost use Rattle.prove_term.specs.Carrying.{Twice, TwiceFrom, StaysTwice, Cites, CitedFrom, CitedBy};
-ghost use Rattle.prove_term.specs.Carrying.{Carries, CarriedFrom};
+ghost use Rattle.prove_term.specs.Carrying.{Carries, CarriedFrom, Collapses, CollapsesTo, CollapsesBy};
 
 use crate::elements::subject;
 use crate::schemas::{at_meta, detach, one_element};
@@ -26,22 +27,44 @@ pub(crate) fn injected(alloc: Global, total: &Thm) -> Result<Thm, AllocError>
     one_element(alloc, &instance)
 }
 
+// That a pattern variable, one element of a sort, is injected at once where it is injected through a sort between, as a
+// lemma, from the same for all elements.
+pub(crate) fn collapsed(alloc: Global, collapse: &Thm) -> Result<Thm, AllocError>
+    requires collapse { (c s t u : ℕ) × (collapse.now.conclusion ≡ collapsing c s t u) }
+    requires no_hypotheses { collapse.now.hypotheses ≡ [] }
+    ensures says { IfOk result (CollapsedFrom collapse.now) }
+    ensures stays { IfOk result (StaysFrom collapse.now) }
+{
+    at_meta(alloc, collapse, 0)
+}
+
 // The lemma of an injection from those of one into a sort between and of one from there, and from that both together
 // are the injection at once.
 pub(crate) fn joined(
     alloc: Global,
-    collapse: &Thm,
+    collapse: &Lemma,
     lower: &Lemma,
     upper: &Lemma,
 ) -> Result<Thm, AllocError>
-    requires joins { (c s t u : ℕ) × Joins c s t u collapse.now lower.now upper.now }
-    requires no_hypotheses { collapse.now.hypotheses ≡ [] }
+    requires { (c s t u : ℕ) × Joins c s t u collapse.now lower.now upper.now }
     ensures says { IfOk result (JoinedFrom collapse.now lower.now upper.now) }
     ensures stays { IfOk result (StaysJoined collapse.now lower.now upper.now) }
 {
-    let equality = at_meta(alloc, collapse, 0)?;
+    let base = assume(alloc, collapse.hypotheses()[0].share()?)?;
+    let equality = at_once(alloc, collapse, &base)?;
     let twice = injected_twice(alloc, &equality, lower, upper)?;
     carried(alloc, &equality, &twice)
+}
+
+// The lemma that two injections are one, of one element.
+pub(crate) fn at_once(alloc: Global, lemma: &Lemma, proof: &Thm) -> Result<Thm, AllocError>
+    requires { (c s t u : ℕ) × (p : Pattern) × Collapses c s t u p lemma.now proof.now }
+    ensures conclusion { IfOk result (CollapsesTo lemma.now proof.now) }
+    ensures by { IfOk result (CollapsesBy lemma.now proof.now) }
+{
+    let images = vec![in alloc; subject(proof)?]?;
+    let proofs = vec![in alloc; proof.share(alloc)?]?;
+    Thm::use_lemma(alloc, lemma, &images, &proofs)
 }
 
 // The pattern variable, injected by both, from what the equality assumes.

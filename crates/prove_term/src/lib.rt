@@ -5,6 +5,8 @@
 // stays in the context as it is afterwards, and contexts only grow (`StaysIn`, `HasGrown`).
 #![tactic(auto, using(crate::proofs::ContextLaws::grown_twice, crate::proofs::ContextLaws::grown_none))]
 
+mod comparing;
+mod congruence;
 mod constructors;
 mod context;
 mod elements;
@@ -13,5 +15,6 @@ mod joining;
 mod schemas;
 mod values;
 
+pub use comparing::inj_eq;
 pub use context::Cx;
 pub use elements::fun_of;

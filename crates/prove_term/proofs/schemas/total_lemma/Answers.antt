@@ -1,5 +1,4 @@
-use Rattle.std.proofs.Common.{sym, subst}
-use Rattle.prove_term.specs.Assuming.{IsSome, TotalFrom, StaysFrom}
+use Rattle.prove_term.specs.Assuming.{IsSome}
 use Rattle.prove_term.proofs.ResultLaws.{if_ok, if_ok_two}
 use Rattle.prove_term.proofs.AssumingLaws.{partly_is_some, total_from, total_stays}
 use Rattle.prove_term.proofs.schemas.total_lemma.Goals as goal

@@ -1,4 +1,4 @@
-use Rattle.std.proofs.Common.{◌≡◌, ◌∷◌, ◌++◌, [], List, sym, ap, ◌∙◌, subst, rules}
+use Rattle.std.proofs.Common.{◌≡◌, ◌∷◌, ◌++◌, [], ap, ◌∙◌, rules}
 use Rattle.ml_kernel.specs.Theorems.{Theorem}
 use Rattle.prove_term.proofs.KeptInside.{kept_learns}
 use Rattle.prove_term.proofs.context.Cx.add_lemma.Goals as goal

@@ -1,0 +1,124 @@
+-- Patterns beside the normal terms that they become, part by part: what they become as they are written, and equalities
+-- of the images of both.
+use Rattle.std.specs.Prelude.{◌≡◌, ◌≢◌, ℕ, List, [], ◌∷◌, Option, Some, None}
+use Rattle.ml_pat.specs.Patterns.{Pattern, equal, fun, var}
+use Rattle.ml_kernel.specs.Lemmas.{HasNoVariable}
+use Rattle.ml_kernel.specs.Theorems.{Theorem}
+use Rattle.ml_scope.specs.Scopes.{Scope, IsOver, StaysWithin}
+use Rattle.ml_derived.specs.Equalities.{IsApplied, IsAppliedTo, IsArgument}
+use Rattle.term_core.specs.Terms.{Tree, Forest}
+use Rattle.term_core.specs.Patterns.{Pattern as RulePattern, Patterns as RulePatterns}
+use Rattle.term_core.specs.Patterns.{substituted, all_substituted, instance_of, instances_of}
+use Rattle.term_core.specs.Patterns.{ground_pattern, ground_patterns}
+use Rattle.rule_core.specs.Sorting.{HasSort, HaveSorts}
+use Rattle.rule_core.specs.Matching.{RespectsSorts}
+use Rattle.rule_core.specs.declared.signature.Signature.{Signature}
+use Rattle.rule_core.specs.declared.signature.SortRef.{SortRef}
+use Rattle.ml_image.specs.Images.{image_of, sort_image}
+use Rattle.prove_term.specs.Contexts.{Context, HasContext, StaysIn}
+use Rattle.prove_term.specs.Schemas.{AreImages, applied_to}
+
+-- the pattern, of this sort, becomes the term under a substitution that gives its variables normal terms of their sorts
+pub record IsInstance (sig : Signature) (variables : List ℕ) (theta : List (Option Tree)) (p : RulePattern) (sort : ℕ)
+    (u : Tree) : Type 0 where
+  pub sorted : HasSort sig variables p sort
+  pub respects : RespectsSorts sig variables theta
+  pub makes : instance_of theta p ≡ Some u
+
+pub record AreInstances (sig : Signature) (variables : List ℕ) (theta : List (Option Tree)) (ps : RulePatterns)
+    (refs : List SortRef) (us : Forest) : Type 0 where
+  pub sorted : HaveSorts sig variables [] ps refs
+  pub respects : RespectsSorts sig variables theta
+  pub make : instances_of theta ps ≡ Some us
+
+-- the pattern w stands for the term that p becomes under some such substitution
+abbrev pub IsMade : Signature → RulePattern → RulePattern → Type 0
+IsMade sig p w =
+    (variables : List ℕ) × (theta : List (Option Tree)) × (sort : ℕ) × (u : Tree)
+    × IsInstance sig variables theta p sort u × (w ≡ ground_pattern u)
+
+abbrev pub AreMade : Signature → RulePatterns → RulePatterns → Type 0
+AreMade sig ps ws =
+    (variables : List ℕ) × (theta : List (Option Tree)) × (refs : List SortRef) × (us : Forest)
+    × AreInstances sig variables theta ps refs us × (ws ≡ ground_patterns us)
+
+-- What p becomes as it is written differs from the term u, whose image is this, and the theorem says that the images
+-- are equal.
+pub record IsJoined (cx : Context) (theta : List (Option Tree)) (p : RulePattern) (u : Tree) (image : Pattern)
+    (t : Theorem) : Type 0 where
+  pub written : Tree
+  pub is_written : substituted theta p ≡ Some written
+  pub differs : written ≢ u
+  pub left : Pattern
+  pub is_left : image_of cx.program.sig cx.names (ground_pattern written) ≡ Some left
+  pub closed : HasNoVariable left
+  pub says : t.conclusion ≡ equal left image
+  pub stays : StaysIn cx t
+
+-- it is the term u, and there is no theorem, or it is not
+abbrev pub IsCompared : Context → List (Option Tree) → RulePattern → Tree → Pattern → Option Theorem → Type 0
+IsCompared cx theta p u image None = substituted theta p ≡ Some u
+IsCompared cx theta p u image (Some t) = IsJoined cx theta p u image t
+
+-- the same, whatever the substitution
+abbrev pub Compares : Context → RulePattern → RulePattern → Pattern → Option Theorem → Type 0
+Compares cx p w image o =
+    (variables : List ℕ) (theta : List (Option Tree)) (sort : ℕ) (u : Tree) →
+    IsInstance cx.program.sig variables theta p sort u → w ≡ ground_pattern u → IsCompared cx theta p u image o
+
+-- the same of arguments, to which a head is applied
+pub record AreJoined (cx : Context) (theta : List (Option Tree)) (ps : RulePatterns) (us : Forest) (head : Pattern)
+    (images : List Pattern) (t : Theorem) : Type 0 where
+  pub written : Forest
+  pub are_written : all_substituted theta ps ≡ Some written
+  pub differ : written ≢ us
+  pub lefts : List Pattern
+  pub are_lefts : AreImages cx.program.sig cx.names (ground_patterns written) lefts
+  pub closed : HasNoVariable (applied_to head lefts)
+  pub says : t.conclusion ≡ equal (applied_to head lefts) (applied_to head images)
+  pub stays : StaysIn cx t
+
+abbrev pub AreCompared : Context → List (Option Tree) → RulePatterns → Forest → Pattern → List Pattern →
+    Option Theorem → Type 0
+AreCompared cx theta ps us head images None = all_substituted theta ps ≡ Some us
+AreCompared cx theta ps us head images (Some t) = AreJoined cx theta ps us head images t
+
+abbrev pub AllCompare : Context → RulePatterns → RulePatterns → Pattern → List Pattern → Option Theorem → Type 0
+AllCompare cx ps ws head images o =
+    (variables : List ℕ) (theta : List (Option Tree)) (refs : List SortRef) (us : Forest) →
+    AreInstances cx.program.sig variables theta ps refs us → ws ≡ ground_patterns us →
+    AreCompared cx theta ps us head images o
+
+-- each scope that has what the context has has the pattern
+abbrev pub IsOverContext : Context → Pattern → Type 0
+IsOverContext cx p = (s : Scope) → HasContext s cx → IsOver s p
+
+-- the theorem says of a pattern w of this sort that its image, in which no object variable stands, is one element of it
+pub record IsFactOn (cx : Context) (w : RulePattern) (sort : ℕ) (fact : Theorem) : Type 0 where
+  pub image : Pattern
+  pub is_image : image_of cx.program.sig cx.names w ≡ Some image
+  pub number : ℕ
+  pub is_number : sort_image cx.program.sig cx.names sort ≡ Some number
+  pub says : fact.conclusion ≡ fun image number
+  pub closed : HasNoVariable image
+  pub no_hypotheses : fact.hypotheses ≡ []
+  pub stays : StaysIn cx fact
+
+-- the theorem, where there is one, says that a closed pattern equals this one
+abbrev pub SaysEqualTo : Pattern → Option Theorem → Type 0
+SaysEqualTo p None = Unit {0}
+SaysEqualTo p (Some t) = (left : Pattern) × (t.conclusion ≡ equal left p) × HasNoVariable left
+
+-- the theorem says what this is said of, and stays within this
+pub record IsTheorem (P : Pattern → Type 0) (ps : List Pattern) (ts : List Theorem) (o : Option Theorem) : Type 0 where
+  pub made : Theorem
+  pub is : o ≡ Some made
+  pub says : P made.conclusion
+  pub stays : StaysWithin ps ts made
+
+-- what is made of equalities of a function and of its argument, where there are such
+abbrev pub IsApplication : Pattern → Pattern → Option Theorem → Option Theorem → Option Theorem → Type 0
+IsApplication f a None None o = o ≡ None
+IsApplication f a (Some d) None o = IsTheorem (IsAppliedTo d.conclusion a) (a ∷ var 0 ∷ []) (d ∷ []) o
+IsApplication f a None (Some e) o = IsTheorem (IsArgument f e.conclusion) (f ∷ var 0 ∷ []) (e ∷ []) o
+IsApplication f a (Some d) (Some e) o = IsTheorem (IsApplied d.conclusion e.conclusion) (var 0 ∷ []) (d ∷ e ∷ []) o

@@ -1,0 +1,69 @@
+// Applications: their parts, and what equalities of their parts make of them.
+ghost use Rattle.std.specs.Prelude.{◌≡◌, ℕ, List, IfOk, length};
+ghost use Rattle.ml_pat.specs.Patterns.{Pattern, app};
+ghost use Rattle.ml_kernel.specs.Lemmas.{HasNoVariable};
+ghost use Rattle.prove_term.specs.Schemas.{applied_to};
+ghost use Rattle.prove_term.specs.Comparing.{IsApplication, SaysEqualTo};
+
+use ml_derived::{cong_app, cong_arg, cong_fun};
+use ml_kernel::Thm;
+use ml_pat::{MForm, MPat};
+use std::alloc::{AllocError, Global};
+
+// A head, and the patterns that it is applied to.
+#[derive(Drop)]
+pub(crate) struct Parts {
+    pub(crate) head: MPat,
+    pub(crate) arguments: Vec<MPat>,
+}
+
+// The head of a pattern that is applied to so many.
+pub(crate) fn taken_apart(alloc: Global, image: &MPat, count: usize) -> Result<Parts, AllocError>
+    requires { (head : Pattern) × (qs : List Pattern) × (image.now ≡ applied_to head qs) × (count ≡ length qs) }
+    ensures { IfOk result (λ a. (head : Pattern) (qs : List Pattern) → image.now ≡ applied_to head qs →
+        count ≡ length qs → (a.head ≡ head) × (a.arguments.items ≡ qs)) }
+{
+    let mut arguments = Vec::with_capacity(alloc, count)?;
+    let mut rest = image;
+    for i in 0..count {
+        let (function, argument) = halves(rest);
+        arguments.push(argument.share()?)?;
+        rest = function;
+    }
+    arguments.reverse();
+    let head = rest.share()?;
+    Ok(Parts { head, arguments })
+}
+
+// What is applied, and what it is applied to.
+pub(crate) fn halves(p: &MPat) -> (&MPat, &MPat)
+    requires { (f a : Pattern) × (p.now ≡ app f a) }
+    ensures { p.now ≡ app result.0.now result.1.now }
+{
+    match p.form() {
+        MForm::App(function, argument) => (function, argument),
+        _ => unreachable!(),
+    }
+}
+
+// An application, with what equals the function and the argument in their places, where something does: that it equals
+// the application as it is.
+pub(crate) fn applied(
+    alloc: Global,
+    function: &Option<Thm>,
+    f: &MPat,
+    argument: &Option<Thm>,
+    a: &MPat,
+) -> Result<Option<Thm>, AllocError>
+    requires function { SaysEqualTo f.now function.now }
+    requires argument { SaysEqualTo a.now argument.now }
+    requires closed { HasNoVariable f.now × HasNoVariable a.now }
+    ensures { IfOk result (IsApplication f.now a.now function.now argument.now) }
+{
+    match (function, argument) {
+        (None, None) => Ok(None),
+        (Some(d), None) => Ok(Some(cong_fun(alloc, d, a)?)),
+        (None, Some(e)) => Ok(Some(cong_arg(alloc, f, e)?)),
+        (Some(d), Some(e)) => Ok(Some(cong_app(alloc, d, e)?)),
+    }
+}
