@@ -1,5 +1,6 @@
 -- The variables of texts, each pair of them once: cited by the clauses of private functions alone.
-use Rattle.std.specs.Prelude.{◌≡◌, ℕ, suc, ◌<◌, Bool, true, not, ◌&&◌, nat_eq, List, [], ◌∷◌, length, slice_get, slice_index_or, Some}
+use Rattle.std.specs.Prelude.{◌≡◌, ℕ, suc, ◌<◌, Bool, true, not, ◌&&◌}
+use Rattle.std.specs.Prelude.{nat_eq, List, [], ◌∷◌, length, slice_get, slice_index_or, Some}
 use Rattle.std.specs.List.{list_all}
 use Rattle.mm_frame.specs.FramesHeld.{has_number}
 use Rattle.mm_frame.specs.NumberedSteps.{NumberedPlace}

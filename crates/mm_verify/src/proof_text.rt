@@ -10,7 +10,8 @@ ghost use Rattle.mm_verify.specs.Running.{citation_of, step_of, steps_in};
 ghost use Rattle.mm_verify.specs.Reading.{letters_of, behind_items, citations_in, table_of};
 ghost use Rattle.mm_frame.specs.Labels.{HasLabels, label_in};
 ghost use Rattle.mm_verify.specs.Citing.{all_cited};
-ghost use Rattle.mm_verify.specs.ProofSteps.{clashes, listed_citations, compressed_proof, citing as citing_all, steps_named, labels_in};
+ghost use Rattle.mm_verify.specs.ProofSteps.{clashes, listed_citations, compressed_proof};
+ghost use Rattle.mm_verify.specs.ProofSteps.{citing as citing_all, steps_named, labels_in};
 ghost use Rattle.mm_database.specs.ProofText.{before_close, behind_close};
 
 use crate::known::Known;
@@ -32,7 +33,9 @@ pub(crate) fn read_proof<'s, 'a>(
     mandatory: &'s Mandatory<'a>,
     proof: &[MmToken],
 ) -> Result<Option<Vec<Step<'s, 'a>>>, AllocError>
-    ensures { IfOk result (λ r. option_map steps_in r ≡ steps_named (held known.now.scopes.now) (hypotheses_held mandatory.now.hyps.items) (words_of bytes.now proof.now)) }
+    ensures { IfOk result (λ r. option_map steps_in r
+        ≡ steps_named (held known.now.scopes.now) (hypotheses_held mandatory.now.hyps.items)
+        (words_of bytes.now proof.now)) }
 {
     match proof {
         [] => Ok(None),
@@ -53,7 +56,8 @@ fn read_normal<'s, 'a>(
     bytes: &'a [u8],
     proof: &[MmToken],
 ) -> Result<Option<Vec<Step<'s, 'a>>>, AllocError>
-    ensures { IfOk result (λ r. option_map steps_in r ≡ option_map citing_all (all_cited (held known.now.scopes.now) (words_of bytes.now proof.now))) }
+    ensures { IfOk result (λ r. option_map steps_in r
+        ≡ option_map citing_all (all_cited (held known.now.scopes.now) (words_of bytes.now proof.now))) }
 {
     match all_cited(alloc, known, bytes, proof)? {
         None => Ok(None),
@@ -82,7 +86,8 @@ fn all_cited<'s, 'a>(
     bytes: &'a [u8],
     labels: &[MmToken],
 ) -> Result<Option<Vec<Citation<'s, 'a>>>, AllocError>
-    ensures { IfOk result (λ r. option_map citations_in r ≡ all_cited (held known.now.scopes.now) (words_of bytes.now labels.now)) }
+    ensures { IfOk result (λ r. option_map citations_in r
+        ≡ all_cited (held known.now.scopes.now) (words_of bytes.now labels.now)) }
 {
     let mut citations = Vec::new(alloc);
     if cite_all(known, bytes, labels, &mut citations)? {
@@ -119,7 +124,9 @@ fn read_compressed<'s, 'a>(
     mandatory: &'s Mandatory<'a>,
     tokens: &[MmToken],
 ) -> Result<Option<Vec<Step<'s, 'a>>>, AllocError>
-    ensures { IfOk result (λ r. option_map steps_in r ≡ compressed_proof (held known.now.scopes.now) (hypotheses_held mandatory.now.hyps.items) (words_of bytes.now tokens.now)) }
+    ensures { IfOk result (λ r. option_map steps_in r
+        ≡ compressed_proof (held known.now.scopes.now) (hypotheses_held mandatory.now.hyps.items)
+        (words_of bytes.now tokens.now)) }
 {
     match split_at_close(bytes, tokens) {
         None => Ok(None),
@@ -154,7 +161,9 @@ fn read_listed<'s, 'a>(
     mandatory: &Mandatory<'a>,
     labels: &[MmToken],
 ) -> Result<Option<Vec<Citation<'s, 'a>>>, AllocError>
-    ensures { IfOk result (λ r. option_map citations_in r ≡ listed_citations (held known.now.scopes.now) (hypotheses_held mandatory.now.hyps.items) (words_of bytes.now labels.now)) }
+    ensures { IfOk result (λ r. option_map citations_in r
+        ≡ listed_citations (held known.now.scopes.now) (hypotheses_held mandatory.now.hyps.items)
+        (words_of bytes.now labels.now)) }
 {
     if clash(alloc, bytes, mandatory, labels)? {
         return Ok(None);
@@ -170,7 +179,8 @@ fn clash<'a>(
     mandatory: &Mandatory<'a>,
     labels: &[MmToken],
 ) -> Result<bool, AllocError>
-    ensures { IfOk result (λ r. r ≡ clashes (labels_in (hypotheses_held mandatory.now.hyps.items)) (words_of bytes.now labels.now)) }
+    ensures { IfOk result (λ r. r
+        ≡ clashes (labels_in (hypotheses_held mandatory.now.hyps.items)) (words_of bytes.now labels.now)) }
 {
     match mandatory.labels() {
         None => has_clash(alloc, bytes, &mandatory.hyps, labels),
@@ -234,7 +244,8 @@ pub(crate) fn read_letters<'s, 'a>(
     bytes: &[u8],
     tokens: &[MmToken],
 ) -> Result<Option<Vec<Step<'s, 'a>>>, AllocError>
-    ensures { IfOk result (λ r. option_map steps_in r ≡ lettered_steps (table_of hyps.now listed.entry.items) (letters_of bytes.now tokens.now)) }
+    ensures { IfOk result (λ r. option_map steps_in r
+        ≡ lettered_steps (table_of hyps.now listed.entry.items) (letters_of bytes.now tokens.now)) }
 {
     let mut read = ReadSteps::new(alloc, hyps, listed, count_letters(tokens))?;
     if read.take_words(bytes, tokens)? {

@@ -1,10 +1,12 @@
 // Whether texts keep apart what `$d` asks for.
-ghost use Rattle.std.specs.Prelude.{◌≡◌, ℕ, List, suc, Some, length, drop, All, IfOk, slice_get, slice_index_or, if◌then◌else◌, slice_set, ◌++◌, ◌∷◌, [], ◌<◌};
+ghost use Rattle.std.specs.Prelude.{◌≡◌, ℕ, List, suc, Some, length, drop, All};
+ghost use Rattle.std.specs.Prelude.{IfOk, slice_get, slice_index_or, if◌then◌else◌, slice_set, ◌++◌, ◌∷◌, [], ◌<◌};
 ghost use Rattle.std.specs.List.{list_all};
 ghost use Rattle.mm_database.specs.Proofs.{texts_apart};
 ghost use Rattle.mm_frame.specs.NumberedSteps.{NumberedPlace, numbers_apart};
 ghost use Rattle.mm_verify.specs.Filling.{GroupWithin, AreWithin, IsWithin, text_at};
-ghost use Rattle.mm_verify.specs.Filling.{are_groups_apart as groups_apart, is_group_apart as group_apart, are_parts_apart as parts_apart};
+ghost use Rattle.mm_verify.specs.Filling.{are_groups_apart as groups_apart, is_group_apart as group_apart};
+ghost use Rattle.mm_verify.specs.Filling.{are_parts_apart as parts_apart};
 ghost use Rattle.mm_verify.specs.Pairs.{HasVariables, AreKnown, Keeps};
 ghost use Rattle.mm_verify.specs.Pairs.{are_variables_apart as variables_apart, is_variable_apart as variable_apart};
 
