@@ -55,6 +55,12 @@ def premises_between(n):
     return HEAD + "${\n" + "".join(f"e{i} $e t u $. a{i} $a t u $.\n" for i in range(n)) + "$}\n"
 
 
+def proofs_under_premises(n):
+    """n active `$e`, and n theorems under them, whose proofs list a label."""
+    premises = "".join(f"e{i} $e t u $.\n" for i in range(n))
+    return HEAD + "ax $a t u $. ${\n" + premises + "".join(f"p{i} $p t u $= ( ax ) A $.\n" for i in range(n)) + "$}\n"
+
+
 def repeated_groups(n):
     """The same `$d` n times, and n axioms."""
     return HEAD + "$d x y $.\n" * n + "".join(f"a{i} $a t x y $.\n" for i in range(n))
@@ -98,6 +104,19 @@ def wide_group(n):
     return HEAD + declared + f"$d {text} $.\nax $a u {text} $.\nth $p u {text} $= {given} ax $.\n"
 
 
+def groups_at_long_text(n):
+    """An axiom with n / 8 groups of two variables, all with one variable in common, which gets a text of n symbols."""
+    steps = n.bit_length() - 1
+    many = max(n // 8, 2)
+    names, declared = variables(many)
+    groups = "".join(f"$d x {v} $. $d y {v} $.\n" for v in names)
+    given = "".join(number(i + 2) for i in range(many))
+    double, apart = number(many + 2), number(many + 3)
+    rules = f"dx $a t x x $.\nax $a u x {' '.join(names)} $.\n"
+    text = " ".join(["y"] * 2**steps + names)
+    return HEAD + declared + groups + rules + f"th $p u {text} $= ( dx ax ) A{double * steps}{given}{apart} $.\n"
+
+
 def letters_alone(n):
     """Proofs without listed labels, of hypotheses and saved steps alone."""
     return HEAD + "".join(f"p{i} $p t x $= ( ) A $.\n" for i in range(n))
@@ -124,11 +143,13 @@ CASES = {
     "long_texts": (long_texts, 2**17),
     "many_premises": (many_premises, 12500),
     "premises_between": (premises_between, 6000),
+    "proofs_under_premises": (proofs_under_premises, 5000),
     "repeated_groups": (repeated_groups, 12500),
     "repeated_groups_between": (repeated_groups_between, 6000),
     "many_pairs": (many_pairs, 12500),
     "one_group": (one_group, 20000),
     "wide_group": (wide_group, 1000),
+    "groups_at_long_text": (groups_at_long_text, 2**15),
     "letters_alone": (letters_alone, 25000),
     "one_long_proof": (one_long_proof, 200000),
     "listed_labels": (listed_labels, 50000),

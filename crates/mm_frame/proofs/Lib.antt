@@ -20,6 +20,7 @@ pub mod Taken
 pub mod StandReads
 pub mod StandSteps
 pub mod SharedFrames
+pub mod Labelled
 mod FramesKept
 mod Proposed
 mod KnownEntries

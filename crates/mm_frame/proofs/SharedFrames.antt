@@ -14,7 +14,7 @@ use Rattle.mm_frame.specs.HeldTests.{types_in, is_held_typed}
 use Rattle.mm_frame.specs.Listed.{group_places}
 use Rattle.mm_frame.specs.Sharing.{IsMandatory}
 use Rattle.mm_frame.specs.HeldTests.{is_covered}
-use Rattle.mm_frame.specs.declared.frames.Mandatory.{Mandatory}
+use Rattle.mm_frame.specs.declared.labels.Mandatory.{Mandatory}
 use Rattle.mm_frame.proofs.Apartness.{and-left, and-right, common-apart}
 use Rattle.mm_frame.proofs.Grouped.{all-at, groups-differ, groups-turned}
 use Rattle.mm_frame.proofs.FramePlaces.{typed-there}

@@ -14,6 +14,7 @@ pub mod HeldReads
 pub mod Proposing
 pub mod AddedView
 pub mod CitedView
+pub mod Labels
 -- Laws: what follows from that. Each is a clause of a function that does nothing.
 pub mod NumberedSteps
 pub mod StandingLaws

@@ -6,7 +6,7 @@ use Rattle.mm_frame.specs.FramesHeld.{has_number, in_groups, groups_of, hypothes
 use Rattle.mm_frame.specs.NeededNumbers.{is_needed_number, is_mandatory_number}
 use Rattle.mm_text.specs.Bytes.{Token}
 use Rattle.mm_database.specs.Frames.{floating}
-use Rattle.mm_frame.specs.declared.frames.Mandatory.{Mandatory}
+use Rattle.mm_frame.specs.declared.labels.Mandatory.{Mandatory}
 use Rattle.mm_frame.specs.declared.sharing.Shared.{Shared}
 
 -- each `$f` stands at the place that is kept for its variable

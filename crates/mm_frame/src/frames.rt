@@ -5,6 +5,7 @@ ghost use Rattle.mm_frame.specs.FramesHeld.{types_number, hypothesis_held};
 ghost use Rattle.mm_database.specs.Frames.{label_of};
 ghost use Rattle.mm_frame.specs.Listed.{is_essential};
 
+use crate::labels::Mandatory;
 use std::rc::Rc;
 
 /// A hypothesis, whose symbols are numbers.
@@ -14,14 +15,6 @@ pub enum Hyp<'a> {
     Floating(&'a [u8], u32, u32),
     /// An `$e`: its label and statement.
     Essential(&'a [u8], Vec<u32>),
-}
-
-/// What an assertion asks for: its mandatory hypotheses in order, and the variables that have to stay
-/// apart from each other, as lists.
-#[derive(Drop)]
-pub struct Mandatory<'a> {
-    pub hyps: Vec<Hyp<'a>>,
-    pub apart: Vec<Vec<u32>>,
 }
 
 /// The frame of an assertion: its label, what it asks for, and its statement. Assertions of one place may

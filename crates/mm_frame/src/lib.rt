@@ -13,6 +13,7 @@ mod forms;
 mod frames;
 mod hypotheses;
 mod judge;
+mod labels;
 mod laws;
 mod mandatory;
 mod names;
@@ -23,7 +24,8 @@ mod theorem;
 
 pub use declare::{Added, FrameEnd};
 pub use forms::{Form, Keyword, Plain, read_form};
-pub use frames::{Cited, Frame, Hyp, Mandatory};
+pub use frames::{Cited, Frame, Hyp};
+pub use labels::{Mandatory, own_labels};
 pub use laws::{number_laws, scope_laws};
 pub use scopes::Scopes;
 pub use theorem::Theorem;

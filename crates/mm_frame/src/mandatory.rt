@@ -12,8 +12,9 @@ ghost use Rattle.mm_frame.specs.Sharing.{IsMandatory};
 ghost use Rattle.mm_frame.specs.Listed.{is_essential};
 ghost use Rattle.mm_frame.specs.HeldPlaces.{premise_at, ArePlaced, typed_places};
 
-use crate::frames::{Frame, Hyp, Mandatory};
+use crate::frames::{Frame, Hyp};
 use crate::judge::Stated;
+use crate::labels::Mandatory;
 use crate::scopes::Scopes;
 use std::alloc::{AllocError, Global};
 use std::rc::Rc;
@@ -47,6 +48,7 @@ impl<'a> Scopes<'a> {
         Ok(Mandatory {
             hyps: self.mandatory(alloc, &needed)?,
             apart: self.disjoint.within(alloc, &needed)?,
+            labels: None,
         })
     }
 

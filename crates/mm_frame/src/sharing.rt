@@ -9,7 +9,7 @@ ghost use Rattle.mm_frame.specs.Sharing.{IsMandatory};
 ghost use Rattle.mm_frame.specs.HeldTests.{is_covered};
 
 use crate::disjoint::is_among;
-use crate::frames::Mandatory;
+use crate::labels::Mandatory;
 use crate::scopes::Scopes;
 use std::alloc::{AllocError, Global};
 use std::rc::Rc;
@@ -64,7 +64,7 @@ impl<'a> Scopes<'a> {
             return Ok(());
         }
         let symbols = self.needed(alloc, &[])?;
-        let mandatory = self.mandatory_for(alloc, &[])?;
+        let mandatory = self.mandatory_for(alloc, &[])?.with_labels(alloc)?;
         self.shared = Some(Shared {
             symbols,
             mandatory: Rc::new(alloc, mandatory)?,

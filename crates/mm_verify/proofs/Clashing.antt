@@ -4,8 +4,13 @@ use Rattle.std.specs.Prelude.{◌||◌, Option, Some, is_some, bytes_eq}
 use Rattle.std.proofs.lemmas.List.{drop-map, take_more, map-append}
 use Rattle.mm_text.specs.Bytes.{Token, has_token}
 use Rattle.mm_text.specs.Reader.{word_of, words_of}
+use Rattle.std.specs.List.{list_any}
+use Rattle.mm_frame.specs.FramesHeld.{hypotheses_held}
+use Rattle.mm_frame.specs.Labels.{label_in}
+use Rattle.mm_frame.specs.declared.frames.Hyp.{Hyp}
+use Rattle.mm_frame.proofs.Labelled.{is_some-cond, or-swap, labels-held}
 use Rattle.mm_text.specs.declared.tokens.MmToken.{MmToken}
-use Rattle.mm_verify.specs.ProofSteps.{clashes}
+use Rattle.mm_verify.specs.ProofSteps.{clashes, labels_in}
 
 or-true : (a b : Bool) → b ≡ true → (a || b) ≡ true
 or-true true b h = refl
@@ -39,15 +44,6 @@ pub no-clash : (others : List Token) (bytes : List ℕ) (ts : List MmToken) (at 
 no-clash others bytes ts at d w some within is new tail =
     ap (clashes others) (words-before bytes ts at d some within) ∙ both-false _ (clashes others (words_of bytes (drop at ts))) (ap (λ u. has_token others u || has_token (words_of bytes (drop at ts)) u) (sym is) ∙ new) tail
 
-is_some-cond : {V : Type 0} (b : Bool) (v : V) (o : Option V) → is_some (cond b (Some v) o) ≡ (b || is_some o)
-is_some-cond true v o = refl
-is_some-cond false v o = refl
-
-or-swap : (a b c : Bool) → (a || (b || c)) ≡ (b || (a || c))
-or-swap true true c = refl
-or-swap true false c = refl
-or-swap false b c = refl
-
 pub seen-more : {V : Type 0} (others : List Token) (bytes : List ℕ) (ts : List MmToken) (at : ℕ) (d : MmToken) (w q : Token) (old new : Option V) (v : V) → 0 < at → at ≤ length ts → w ≡ word_of bytes (slice_index_or ts (at - 1) d) → new ≡ cond (bytes_eq w q) (Some v) old → is_some old ≡ (has_token others q || has_token (words_of bytes (drop at ts)) q) → is_some new ≡ (has_token others q || has_token (words_of bytes (drop (at - 1) ts)) q)
 seen-more others bytes ts at d w q old new v some within is grown had =
     ap is_some grown ∙ is_some-cond (bytes_eq w q) v old ∙ ap (λ b. bytes_eq w q || b) had
@@ -55,14 +51,50 @@ seen-more others bytes ts at d w q old new v some within is grown had =
     ∙ ap (λ u. has_token others q || (bytes_eq u q || has_token (words_of bytes (drop at ts)) q)) is
     ∙ sym (ap (λ (us : List Token). has_token others q || has_token us q) (words-before bytes ts at d some within))
 
--- one more label at the end of some
-pub has_token-push : (ws : List Token) (w q : Token) → has_token (ws ++ w ∷ []) q ≡ (bytes_eq w q || has_token ws q)
-has_token-push [] w q = refl
-has_token-push (v ∷ ws) w q = ap (λ (b : Bool). bytes_eq v q || b) (has_token-push ws w q) ∙ or-swap (bytes_eq v q) (bytes_eq w q) (has_token ws q)
+-- the labels of hypotheses, as they are held
+pub own-or : (hs : List Hyp) (ws : List Token) (q : Token) → (has_token (map label_in hs) q || has_token ws q) ≡ (has_token (labels_in (hypotheses_held hs)) q || has_token ws q)
+own-or hs ws q = ap (λ (ts : List Token). has_token ts q || has_token ws q) (labels-held hs)
 
-pub label-more : {X V : Type 0} (key : X → Token) (xs : List X) (i : ℕ) (x : X) (w q : Token) (old new : Option V) (v : V) → i < length xs → x ≡ get_or xs i x → w ≡ key x → new ≡ cond (bytes_eq w q) (Some v) old → is_some old ≡ has_token (map key (take i xs)) q → is_some new ≡ has_token (map key (take (i + 1) xs)) q
-label-more key xs i x w q old new v lt is at grown had =
-    ap is_some grown ∙ is_some-cond (bytes_eq w q) v old ∙ ap (λ b. bytes_eq w q || b) had
-    ∙ sym (has_token-push (map key (take i xs)) w q)
-    ∙ ap (λ u. has_token (map key (take i xs) ++ u ∷ []) q) (at ∙ ap key is)
-    ∙ ap (λ (us : List Token). has_token us q) (sym (ap (map key) (take_more xs i x lt) ∙ map-append key (take i xs) (get_or xs i x ∷ [])))
+-- a label is one of the others, or else labels clash among themselves
+clashes-split : (others ws : List Token) → clashes others ws ≡ (list_any (has_token others) ws || clashes [] ws)
+clashes-split others [] = refl
+clashes-split others (w ∷ ws) = go (has_token others w) (has_token ws w) (list_any (has_token others) ws) (clashes [] ws) (clashes-split others ws)
+  where
+    go : (a b c d : Bool) {t : Bool} → t ≡ (c || d) → ((a || b) || t) ≡ ((a || c) || (b || d))
+    go true b c d e = refl
+    go false true true d e = refl
+    go false true false d e = refl
+    go false false c d e = e
+
+pub clashes-own : (hs : List Hyp) (ws : List Token) → list_any (has_token (map label_in hs)) ws ≡ true → true ≡ clashes (labels_in (hypotheses_held hs)) ws
+clashes-own hs ws has =
+    let there : list_any (has_token (labels_in (hypotheses_held hs))) ws ≡ true = sym (ap (λ (ts : List Token). list_any (has_token ts) ws) (labels-held hs)) ∙ has in
+    sym (clashes-split (labels_in (hypotheses_held hs)) ws ∙ ap (λ (b : Bool). b || clashes [] ws) there)
+
+pub clashes-others : (hs : List Hyp) (ws : List Token) → list_any (has_token (map label_in hs)) ws ≡ false → clashes [] ws ≡ clashes (labels_in (hypotheses_held hs)) ws
+clashes-others hs ws none =
+    let there : list_any (has_token (labels_in (hypotheses_held hs))) ws ≡ false = sym (ap (λ (ts : List Token). list_any (has_token ts) ws) (labels-held hs)) ∙ none in
+    sym (clashes-split (labels_in (hypotheses_held hs)) ws ∙ ap (λ (b : Bool). b || clashes [] ws) there)
+
+-- labels of which one is found, or none
+pub found-among : (test : Token → Bool) (bytes : List ℕ) (ts : List MmToken) (i : ℕ) (d : MmToken) (w : Token) → i < length ts → w ≡ word_of bytes (get_or ts i d) → test w ≡ true → true ≡ list_any test (words_of bytes ts)
+found-among test bytes [] i d w lt is found = absurd (none i lt)
+  where
+    none : (i : ℕ) → i < 0 → ⊥
+    none i lt = omega (arith, lt)
+found-among test bytes (t ∷ ts) zero d w lt is found = sym (first-true (test (word_of bytes t)) (list_any test (words_of bytes ts)) (ap test (sym is) ∙ found))
+found-among test bytes (t ∷ ts) (suc i) d w lt is found = sym (or-true (test (word_of bytes t)) (list_any test (words_of bytes ts)) (sym (found-among test bytes ts i d w (omega (arith, lt)) is found)))
+
+any-push : (test : Token → Bool) (ws : List Token) (w : Token) → list_any test ws ≡ false → test w ≡ false → list_any test (ws ++ w ∷ []) ≡ false
+any-push test [] w none no_label = both-false (test w) false no_label refl
+any-push test (v ∷ ws) w none no_label = go (test v) (list_any test ws) (any-push test ws w) none
+  where
+    go : (a b : Bool) → (b ≡ false → test w ≡ false → list_any test (ws ++ w ∷ []) ≡ false) → (a || b) ≡ false → (a || list_any test (ws ++ w ∷ [])) ≡ false
+    go true b rest e = absurd (cc)
+    go false b rest e = rest e no_label
+
+pub none-among : (test : Token → Bool) (bytes : List ℕ) (ts : List MmToken) (i : ℕ) (d : MmToken) (w : Token) → i < length ts → w ≡ word_of bytes (get_or ts i d) → test w ≡ false → list_any test (words_of bytes (take i ts)) ≡ false → list_any test (words_of bytes (take (i + 1) ts)) ≡ false
+none-among test bytes ts i d w lt is no_label none =
+    ap (λ (us : List MmToken). list_any test (words_of bytes us)) (take_more ts i d lt)
+    ∙ ap (list_any test) (map-append (word_of bytes) (take i ts) (get_or ts i d ∷ []))
+    ∙ any-push test (words_of bytes (take i ts)) (word_of bytes (get_or ts i d)) none (ap test (sym is) ∙ no_label)

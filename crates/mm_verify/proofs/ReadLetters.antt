@@ -5,7 +5,15 @@ use Rattle.mm_text.specs.Compressed.{Letter, last_digit, digit, saves, no_letter
 use Rattle.mm_database.specs.Steps.{Step, cites, saves as saves_last, repeats}
 use Rattle.mm_database.specs.ProofText.{meaning, with_step, meanings}
 use Rattle.mm_frame.specs.NumberedSteps.{Citation}
-use Rattle.mm_verify.specs.Reading.{left_meanings, behind_items}
+use Rattle.std.specs.Prelude.{map}
+use Rattle.std.proofs.lemmas.List.{length-map}
+use Rattle.mm_database.specs.Frames.{statement_of}
+use Rattle.mm_frame.specs.NumberedSteps.{gives}
+use Rattle.mm_frame.specs.FramesHeld.{hypothesis_held}
+use Rattle.mm_frame.specs.declared.frames.Hyp.{Hyp}
+use Rattle.mm_verify.specs.declared.machine.Citation as code
+use Rattle.mm_verify.specs.Running.{citation_of}
+use Rattle.mm_verify.specs.Reading.{left_meanings, behind_items, table_of}
 
 -- a saved step again, under a test
 abbrev pub repeat_if : Bool → ℕ → Option (Step Citation)
@@ -83,6 +91,18 @@ pub step-behind : (done : List (Step Citation)) (step : Step Citation) (left : O
 step-behind done step None = refl
 step-behind done step (Some steps) = ap (λ (s : List (Step Citation)). Some s) (sym (append_assoc done (step ∷ []) steps))
 
+-- a whole number and a `Z` are steps behind what is read
+pub number-on : (done : List (Step Citation)) (table : List Citation) (saved d b : ℕ) (before : Before) (others : List ℕ) (step : Step Citation) → letter_of b ≡ last_digit d → meaning table saved (20 * value_before before + d - 1) ≡ Some step → behind_items done (left_meanings table saved before (b ∷ others)) ≡ behind_items (done ++ step ∷ []) (left_meanings table saved a_number others)
+number-on done table saved d b before others step is found =
+    ap (behind_items done) (last-read table saved d b before others is ∙ ap (λ (o : Option (Step Citation)). with_step o (left_meanings table saved a_number others)) found)
+    ∙ step-behind done step (left_meanings table saved a_number others)
+
+pub save-on : (done : List (Step Citation)) (table : List Citation) (saved b : ℕ) (before : Before) (others : List ℕ) → before ≡ a_number → letter_of b ≡ saves → behind_items done (left_meanings table saved before (b ∷ others)) ≡ behind_items (done ++ saves_last ∷ []) (left_meanings table (saved + 1) a_save others)
+save-on done table saved b before others number is =
+    ap (λ (x : Before). behind_items done (left_meanings table saved x (b ∷ others))) number
+    ∙ ap (behind_items done) (saves-read table saved b others is)
+    ∙ step-behind done saves_last (left_meanings table (saved + 1) a_save others)
+
 pub meaning-in : (table : List Citation) (saved n : ℕ) (s : Citation) → n < length table → s ≡ get_or table n s → meaning table saved n ≡ Some (cites s)
 meaning-in [] saved n s lt is = absurd (none n lt)
   where
@@ -114,3 +134,24 @@ letters-past table saved v (b ∷ letters) le = go (letter_of b) refl (λ w more
     go (digit d) is rest = digit-read table saved d b (digits v) letters is ∙ rest (5 * v + d) (omega (arith, le))
     go saves is rest = no-save-read table saved b (digits v) letters is (λ e. absurd (cc))
     go no_letter is rest = other-read table saved b (digits v) letters is
+
+-- how much the first numbers cite, and what each of them does
+pub table-length : (hyps : List Hyp) (listed : List code.Citation) → length (table_of hyps listed) ≡ length hyps + length listed
+table-length [] listed = omega (arith, length-map listed citation_of)
+table-length (h ∷ hyps) listed = omega (arith, table-length hyps listed)
+
+pub meaning-given : (hyps : List Hyp) (listed : List code.Citation) (saved n : ℕ) (h : Hyp) → n < length hyps → h ≡ get_or hyps n h → Some (cites (gives (statement_of (hypothesis_held h)))) ≡ meaning (table_of hyps listed) saved n
+meaning-given [] listed saved n h lt is = absurd (none n lt)
+  where
+    none : (n : ℕ) → n < 0 → ⊥
+    none n lt = omega (arith, lt)
+meaning-given (x ∷ hyps) listed saved zero h lt is = ap (λ (k : Hyp). Some (cites (gives (statement_of (hypothesis_held k))))) is
+meaning-given (x ∷ hyps) listed saved (suc n) h lt is = meaning-given hyps listed saved n h (omega (arith, lt)) is
+
+pub meaning-listed : (hyps : List Hyp) (listed : List code.Citation) (saved n m : ℕ) → length hyps ≤ n → m ≡ n - length hyps → meaning (map citation_of listed) saved m ≡ meaning (table_of hyps listed) saved n
+meaning-listed [] listed saved n m le is = ap (λ (k : ℕ). meaning (map citation_of listed) saved k) (omega (arith, is))
+meaning-listed (x ∷ hyps) listed saved zero m le is = absurd (none (length hyps) le)
+  where
+    none : (k : ℕ) → suc k ≤ 0 → ⊥
+    none k le = omega (arith, le)
+meaning-listed (x ∷ hyps) listed saved (suc n) m le is = meaning-listed hyps listed saved n m (omega (arith, le)) (omega (arith, is))

@@ -7,7 +7,8 @@ use Rattle.mm_text.specs.Bytes.{Token, has_token}
 use Rattle.mm_text.specs.Reader.{word_of, words_of}
 use Rattle.mm_text.specs.declared.tokens.MmToken.{MmToken}
 use Rattle.mm_verify.specs.Marks.{mark_of, AreMarked}
-use Rattle.mm_verify.proofs.Clashing.{words-before, has_token-push}
+use Rattle.mm_verify.proofs.Clashing.{words-before}
+use Rattle.mm_frame.proofs.Labelled.{has_token-push}
 
 -- a mark takes no mark away
 unmarked-before : (marks : List Bool) (i j : ℕ) → slice_index_or (slice_set marks i true) j false ≡ false → slice_index_or marks j false ≡ false

@@ -1,20 +1,20 @@
 -- Texts are kept apart where their variables are, each pair of texts looked at once.
-use Rattle.std.proofs.Common.{◌≡◌, ℕ, ◌+◌, ◌<◌, Bool, true, false, List, [], ◌∷◌, ◌++◌, length, take, get_or, nat_eq, Option, Some, None, refl, ap, ◌∙◌, sym, subst, arith}
+use Rattle.std.proofs.Common.{◌≡◌, ℕ, zero, suc, ◌+◌, ◌<◌, ◌≤◌, Bool, true, false, List, [], ◌∷◌, ◌++◌, length, drop, drop-cons, get_or, nat_eq, Option, Some, None, refl, ap, ◌∙◌, sym, subst, arith, replicate}
 use Rattle.std.specs.Prelude.{not, ◌&&◌, ◌||◌}
-use Rattle.std.specs.Prelude.{filter}
+use Rattle.std.specs.Prelude.{filter, slice_get, slice_set, slice_index_or}
 use Rattle.std.specs.List.{list_all, dedup}
 use Rattle.std.specs.List.Sorted.{IsPermutation}
-use Rattle.std.proofs.lemmas.List.{take_more}
+use Rattle.std.proofs.lemmas.List.{length-append, length-set, length-replicate, get_or_append_left, get_or_push}
 use Rattle.mm_frame.proofs.FramePlaces.{sorted-has}
 use Rattle.mm_frame.proofs.Groups.{has_number-filter}
 use Rattle.mm_frame.specs.FramesHeld.{has_number}
 use Rattle.mm_frame.specs.NumberedSteps.{NumberedPlace, numbers_apart}
 use Rattle.mm_database.specs.Proofs.{texts_apart}
 use Rattle.mm_verify.specs.declared.parts.Part.{Part}
-use Rattle.mm_verify.specs.declared.spreads.Spread.{Spread}
+use Rattle.mm_verify.specs.declared.spreads.Spreads.{Spreads}
 use Rattle.mm_verify.specs.Places.{symbol_of, place_in}
-use Rattle.mm_verify.specs.Filling.{text_for, places_apart, are_parts_apart, is_group_apart}
-use Rattle.mm_verify.specs.Pairs.{each_pair, HasVariables, Spreads, AreSpread, is_variable_apart, are_variables_apart, are_spreads_apart}
+use Rattle.mm_verify.specs.Filling.{text_at, text_for, places_apart, are_parts_apart, is_group_apart}
+use Rattle.mm_verify.specs.Pairs.{each_pair, HasVariables, AreKnown, Keeps, is_variable_apart, are_variables_apart}
 use Rattle.mm_verify.specs.Turned.{and-turned, same-turned}
 use Rattle.mm_verify.proofs.Resolving.{same-test, both-true, and-true}
 
@@ -52,6 +52,16 @@ pairs-is f (x ∷ xs) alone turned =
     ∙ twice (f x x) (list_all (f x) xs) (list_all (λ a. list_all (f a) xs) xs) (alone x)
     ∙ ap (λ (b : Bool). list_all (f x) xs && b) (pairs-is f xs alone turned)
 
+-- a test of each two, as far as it is done
+pub pairs-end : {X : Type 0} (f : X → X → Bool) (xs : List X) (i : ℕ) (d : X) → i < length xs → list_all (f (get_or xs i d)) (drop (i + 1) xs) ≡ false → each_pair f (drop i xs) ≡ each_pair f xs → false ≡ each_pair f xs
+pairs-end f xs i d lt none same =
+    let next : suc i ≡ i + 1 = omega arith in
+    let row : list_all (f (get_or xs i d)) (drop (suc i) xs) ≡ false = ap (λ n. list_all (f (get_or xs i d)) (drop n xs)) next ∙ none in
+    sym (sym same ∙ ap (each_pair f) (drop-cons xs i d lt) ∙ ap (λ (b : Bool). b && each_pair f (drop (suc i) xs)) row)
+
+pub pairs-all : {X : Type 0} (f : X → X → Bool) (xs : List X) (i : ℕ) → drop i xs ≡ [] → each_pair f (drop i xs) ≡ each_pair f xs → true ≡ each_pair f xs
+pairs-all f xs i all same = sym (ap (each_pair f) all) ∙ same
+
 -- numbers that pass
 
 eq-from : (a b : ℕ) → nat_eq a b ≡ true → a ≡ b
@@ -83,7 +93,7 @@ all-from f (x ∷ xs) h =
 
 module _ (p : NumberedPlace) where
   -- the texts of a place and their variables
-  apart-variables : (xs ys vs ws : List ℕ) → HasVariables p xs vs → HasVariables p ys ws → texts_apart (numbers_apart p) xs ys ≡ are_variables_apart p vs ws
+  pub apart-variables : (xs ys vs ws : List ℕ) → HasVariables p xs vs → HasVariables p ys ws → texts_apart (numbers_apart p) xs ys ≡ are_variables_apart p vs ws
   apart-variables xs ys vs ws hv hw = same-test _ _ there back
     where
       both : (x y : ℕ) → p.is_variable x ≡ true → p.is_variable y ≡ true → numbers_apart p x y ≡ is_variable_apart p x y
@@ -116,28 +126,6 @@ module _ (p : NumberedPlace) where
   places-texts entries (Some a) None = sym (all-true (text_for entries (Some a)))
   places-texts entries (Some a) (Some b) = refl
 
-  spread-apart : (entries : List (List ℕ)) (a b : Part) (s t : Spread) → Spreads p entries a s → Spreads p entries b t → are_parts_apart p entries a b ≡ are_spreads_apart p s t
-  spread-apart entries a b s t hs ht =
-      ap (λ (n : ℕ). nat_eq n (symbol_of b) || places_apart p entries (place_in a) (place_in b)) (sym hs.0)
-      ∙ ap (λ (n : ℕ). nat_eq s.symbol n || places_apart p entries (place_in a) (place_in b)) (sym ht.0)
-      ∙ ap (λ (c : Bool). nat_eq s.symbol t.symbol || c) (places-texts entries (place_in a) (place_in b) ∙ apart-variables (text_for entries (place_in a)) (text_for entries (place_in b)) s.variables.items t.variables.items hs.1 ht.1)
-
-  row-apart : (entries : List (List ℕ)) (a : Part) (s : Spread) (parts : List Part) (ss : List Spread) → Spreads p entries a s → AreSpread p entries parts ss → list_all (are_parts_apart p entries a) parts ≡ list_all (are_spreads_apart p s) ss
-  row-apart entries a s [] [] h hs = refl
-  row-apart entries a s [] (t ∷ ts) h hs = absurd (hs)
-  row-apart entries a s (b ∷ bs) [] h hs = absurd (hs)
-  row-apart entries a s (b ∷ bs) (t ∷ ts) h hs =
-      ap (λ (c : Bool). c && list_all (are_parts_apart p entries a) bs) (spread-apart entries a b s t h hs.0)
-      ∙ ap (λ (c : Bool). are_spreads_apart p s t && c) (row-apart entries a s bs ts h hs.1)
-
-  pairs-apart : (entries : List (List ℕ)) (parts : List Part) (ss : List Spread) → AreSpread p entries parts ss → each_pair (are_parts_apart p entries) parts ≡ each_pair (are_spreads_apart p) ss
-  pairs-apart entries [] [] hs = refl
-  pairs-apart entries [] (t ∷ ts) hs = absurd (hs)
-  pairs-apart entries (b ∷ bs) [] hs = absurd (hs)
-  pairs-apart entries (b ∷ bs) (t ∷ ts) hs =
-      ap (λ (c : Bool). c && each_pair (are_parts_apart p entries) bs) (row-apart entries b t bs ts hs.0 hs.1)
-      ∙ ap (λ (c : Bool). list_all (are_spreads_apart p t) ts && c) (pairs-apart entries bs ts hs.1)
-
   texts-turned : ((a b : ℕ) → p.apart a b ≡ p.apart b a) → (xs ys : List ℕ) → texts_apart (numbers_apart p) xs ys ≡ texts_apart (numbers_apart p) ys xs
   texts-turned turned xs ys = same-test _ _ (one xs ys) (one ys xs)
     where
@@ -158,22 +146,85 @@ module _ (p : NumberedPlace) where
       ∙ ap (λ (c : Bool). nat_eq (symbol_of b) (symbol_of a) || c)
       (places-texts entries (place_in a) (place_in b) ∙ texts-turned turned (text_for entries (place_in a)) (text_for entries (place_in b)) ∙ sym (places-texts entries (place_in b) (place_in a)))
 
-  pub group-spread : ((a b : ℕ) → p.apart a b ≡ p.apart b a) → (entries : List (List ℕ)) (parts : List Part) (ss : List Spread) → AreSpread p entries parts ss → is_group_apart p entries parts ≡ each_pair (are_spreads_apart p) ss
-  group-spread turned entries parts ss h =
+  pub group-pairs : ((a b : ℕ) → p.apart a b ≡ p.apart b a) → (entries : List (List ℕ)) (parts : List Part) → is_group_apart p entries parts ≡ each_pair (are_parts_apart p entries) parts
+  group-pairs turned entries parts =
       pairs-is (are_parts_apart p entries) parts (λ a. or-left (nat_eq (symbol_of a) (symbol_of a)) (places_apart p entries (place_in a) (place_in a)) (eq-same (symbol_of a))) (parts-turned turned entries)
-      ∙ pairs-apart entries parts ss h
-
-pub spread-more : (p : NumberedPlace) (entries : List (List ℕ)) (parts : List Part) (ss : List Spread) (a : Part) (s : Spread) → AreSpread p entries parts ss → Spreads p entries a s → AreSpread p entries (parts ++ a ∷ []) (ss ++ s ∷ [])
-spread-more p entries [] [] a s hs h = (h, tt)
-spread-more p entries [] (t ∷ ts) a s hs h = absurd (hs)
-spread-more p entries (b ∷ bs) [] a s hs h = absurd (hs)
-spread-more p entries (b ∷ bs) (t ∷ ts) a s hs h = (hs.0, spread-more p entries bs ts a s hs.1 h)
-
-pub spread-next : (p : NumberedPlace) (entries : List (List ℕ)) (parts : List Part) (i : ℕ) (d : Part) (ss : List Spread) (s : Spread) → i < length parts → AreSpread p entries (take i parts) ss → Spreads p entries (get_or parts i d) s → AreSpread p entries (take (i + 1) parts) (ss ++ s ∷ [])
-spread-next p entries parts i d ss s within hs h =
-    subst (λ (xs : List Part). AreSpread p entries xs (ss ++ s ∷ [])) (sym (take_more parts i d within)) (spread-more p entries (take i parts) ss (get_or parts i d) s hs h)
 
 -- the symbols of a text that are variables, sorted, each once
 pub variables-sorted : (p : NumberedPlace) (text gathered sorted kept : List ℕ) → gathered ≡ filter p.is_variable text → IsPermutation gathered sorted → kept ≡ dedup nat_eq sorted → HasVariables p text kept
 variables-sorted p text gathered sorted kept is moved once n =
     sorted-has gathered sorted kept moved once n ∙ ap (λ (ms : List ℕ). has_number ms n) is ∙ has_number-filter p.is_variable text n
+
+-- a number that stands at a place, where one is set
+get-set : (xs : List ℕ) (i j v w : ℕ) (P : Type 0) → slice_get (slice_set xs i v) j ≡ Some w → (slice_get xs j ≡ Some w → P) → (i ≡ j → v ≡ w → P) → P
+get-set [] i j v w P at old new = old at
+get-set (x ∷ xs) zero zero v w P at old new = new refl (cc)
+get-set (x ∷ xs) zero (suc j) v w P at old new = old at
+get-set (x ∷ xs) (suc i) zero v w P at old new = old at
+get-set (x ∷ xs) (suc i) (suc j) v w P at old new = get-set xs i j v w P at old (λ is. new (ap (λ (n : ℕ). suc n) is))
+
+get-kept : (xs : List ℕ) (i j v w : ℕ) → slice_get xs i ≡ Some 0 → slice_get xs j ≡ Some (suc w) → slice_get (slice_set xs i v) j ≡ Some (suc w)
+get-kept [] i j v w none at = at
+get-kept (x ∷ xs) zero zero v w none at = absurd (cc)
+get-kept (x ∷ xs) zero (suc j) v w none at = at
+get-kept (x ∷ xs) (suc i) zero v w none at = at
+get-kept (x ∷ xs) (suc i) (suc j) v w none at = get-kept xs i j v w none at
+
+get-there : (xs : List ℕ) (i v : ℕ) → i < length xs → slice_get (slice_set xs i v) i ≡ Some v
+get-there [] i v lt = absurd (none i lt)
+  where
+    none : (i : ℕ) → i < 0 → ⊥
+    none i lt = omega (arith, lt)
+get-there (x ∷ xs) zero v lt = refl
+get-there (x ∷ xs) (suc i) v lt = get-there xs i v (omega (arith, lt))
+
+pub none-there : (xs : List ℕ) (i v : ℕ) → i < length xs → v ≡ get_or xs i v → v ≤ 0 → slice_get xs i ≡ Some 0
+none-there xs i v lt is low = get-is xs i v lt is ∙ ap (λ (n : ℕ). Some n) (omega (arith, low))
+  where
+    get-is : (xs : List ℕ) (i v : ℕ) → i < length xs → v ≡ get_or xs i v → slice_get xs i ≡ Some v
+    get-is [] i v lt is = absurd (none i lt)
+      where
+        none : (i : ℕ) → i < 0 → ⊥
+        none i lt = omega (arith, lt)
+    get-is (x ∷ xs) zero v lt is = ap (λ (n : ℕ). Some n) (sym is)
+    get-is (x ∷ xs) (suc i) v lt is = get-is xs i v (omega (arith, lt)) is
+
+-- the list of one more text
+module _ (p : NumberedPlace) (entries : List (List ℕ)) (s t : Spreads) (i k : ℕ) (vs : List ℕ) (known : AreKnown p entries s) (within : i < length s.numbers.items) (none : slice_get s.numbers.items i ≡ Some 0) (has : HasVariables p (text_at entries i) vs) (numbers : t.numbers.items ≡ slice_set s.numbers.items i (suc k)) (lists : t.lists ≡ s.lists ++ vs ∷ []) (last : k ≡ length s.lists) where
+  pub keeps-more : Keeps s t
+  keeps-more j m at = ap (λ (ns : List ℕ). slice_get ns j) numbers ∙ get-kept s.numbers.items i j (suc k) m none at
+
+  pub found-more : slice_get t.numbers.items i ≡ Some (suc k)
+  found-more = ap (λ (ns : List ℕ). slice_get ns i) numbers ∙ get-there s.numbers.items i (suc k) within
+
+  longer : length t.lists ≡ suc (length s.lists)
+  longer = omega (arith, ap length lists, length-append s.lists (vs ∷ []))
+
+  pub known-more : AreKnown p entries t
+  known-more = record {
+    room = ap length numbers ∙ length-set s.numbers.items i (suc k) ∙ known.room;
+    lists = λ j m at. get-set s.numbers.items i j (suc k) (suc m) (m < length t.lists) (ap (λ (ns : List ℕ). slice_get ns j) (sym numbers) ∙ at)
+        (λ old. let lt = known.lists j m old in omega (arith, lt, longer))
+        (λ same is. omega (arith, is, last, longer));
+    variables = λ j m at. get-set s.numbers.items i j (suc k) (suc m) (HasVariables p (text_at entries j) (slice_index_or t.lists m [])) (ap (λ (ns : List ℕ). slice_get ns j) (sym numbers) ∙ at)
+        (λ old. subst (λ (ws : List ℕ). HasVariables p (text_at entries j) ws) (sym (ap (λ (ls : List (List ℕ)). slice_index_or ls m []) lists ∙ get_or_append_left s.lists (vs ∷ []) [] m (known.lists j m old))) (known.variables j m old))
+        (λ same is. subst (λ (ws : List ℕ). HasVariables p (text_at entries j) ws) (sym (ap (λ (ls : List (List ℕ)). slice_index_or ls m []) lists ∙ get_or_push s.lists vs [] m (omega (arith, is, last)))) (subst (λ (n : ℕ). HasVariables p (text_at entries n) vs) same has));
+  }
+
+-- the texts of two entries, by their lists
+pub lists-apart : (p : NumberedPlace) (entries : List (List ℕ)) (s : Spreads) (i j x y : ℕ) → AreKnown p entries s → slice_get s.numbers.items i ≡ Some (suc x) → slice_get s.numbers.items j ≡ Some (suc y) → are_variables_apart p (slice_index_or s.lists x []) (slice_index_or s.lists y []) ≡ texts_apart (numbers_apart p) (text_at entries i) (text_at entries j)
+lists-apart p entries s i j x y known at there =
+    sym (apart-variables p (text_at entries i) (text_at entries j) (slice_index_or s.lists x []) (slice_index_or s.lists y []) (known.variables i x at) (known.variables j y there))
+
+-- nothing is known
+pub nothing-known : (p : NumberedPlace) (entries : List (List ℕ)) (s : Spreads) (n : ℕ) → s.numbers.items ≡ replicate n 0 → length entries ≡ n → AreKnown p entries s
+nothing-known p entries s n zeros size = record {
+  room = ap length zeros ∙ length-replicate n 0 ∙ sym size;
+  lists = λ i k at. absurd (none n i k (ap (λ (ns : List ℕ). slice_get ns i) (sym zeros) ∙ at));
+  variables = λ i k at. absurd (none n i k (ap (λ (ns : List ℕ). slice_get ns i) (sym zeros) ∙ at));
+}
+  where
+    none : (n i k : ℕ) → slice_get (replicate n 0) i ≡ Some (suc k) → ⊥
+    none zero i k e = cc
+    none (suc n) zero k e = cc
+    none (suc n) (suc i) k e = none n i k e

@@ -1,12 +1,11 @@
 -- The variables of texts, each pair of them once: cited by the clauses of private functions alone.
-use Rattle.std.specs.Prelude.{◌≡◌, ℕ, Bool, true, not, ◌&&◌, ◌||◌, nat_eq, List, [], ◌∷◌}
+use Rattle.std.specs.Prelude.{◌≡◌, ℕ, suc, ◌<◌, Bool, true, not, ◌&&◌}
+use Rattle.std.specs.Prelude.{nat_eq, List, [], ◌∷◌, length, slice_get, slice_index_or, Some}
 use Rattle.std.specs.List.{list_all}
 use Rattle.mm_frame.specs.FramesHeld.{has_number}
 use Rattle.mm_frame.specs.NumberedSteps.{NumberedPlace}
-use Rattle.mm_verify.specs.declared.parts.Part.{Part}
-use Rattle.mm_verify.specs.declared.spreads.Spread.{Spread}
-use Rattle.mm_verify.specs.Places.{symbol_of, place_in}
-use Rattle.mm_verify.specs.Filling.{text_for}
+use Rattle.mm_verify.specs.declared.spreads.Spreads.{Spreads}
+use Rattle.mm_verify.specs.Filling.{text_at}
 
 -- a test of each two, the first of them earlier in the list
 abbrev pub each_pair : {X : Type 0} → (X → X → Bool) → List X → Bool
@@ -17,21 +16,19 @@ each_pair test (x ∷ xs) = list_all (test x) xs && each_pair test xs
 abbrev pub HasVariables : NumberedPlace → List ℕ → List ℕ → Type 0
 HasVariables p text variables = (n : ℕ) → has_number variables n ≡ (has_number text n && p.is_variable n)
 
--- the symbol of a part, with the variables of its text
-abbrev pub Spreads : NumberedPlace → List (List ℕ) → Part → Spread → Type 0
-Spreads p entries a s = (s.symbol ≡ symbol_of a) × HasVariables p (text_for entries (place_in a)) s.variables.items
+-- the lists of the variables of texts, each at the number that stands at the place of its entry
+pub record AreKnown (p : NumberedPlace) (entries : List (List ℕ)) (s : Spreads) : Type 0 where
+  pub room : length s.numbers.items ≡ length entries
+  pub lists : (i k : ℕ) → slice_get s.numbers.items i ≡ Some (suc k) → k < length s.lists
+  pub variables : (i k : ℕ) → slice_get s.numbers.items i ≡ Some (suc k)
+      → HasVariables p (text_at entries i) (slice_index_or s.lists k [])
 
-abbrev pub AreSpread : NumberedPlace → List (List ℕ) → List Part → List Spread → Type 0
-AreSpread p entries [] [] = Unit {0}
-AreSpread p entries [] (s ∷ ss) = ⊥
-AreSpread p entries (a ∷ parts) [] = ⊥
-AreSpread p entries (a ∷ parts) (s ∷ ss) = Spreads p entries a s × AreSpread p entries parts ss
+-- what is known stays known
+abbrev pub Keeps : Spreads → Spreads → Type 0
+Keeps s t = (i k : ℕ) → slice_get s.numbers.items i ≡ Some (suc k) → slice_get t.numbers.items i ≡ Some (suc k)
 
 abbrev pub is_variable_apart : NumberedPlace → ℕ → ℕ → Bool
 is_variable_apart p x y = not (nat_eq x y) && p.apart x y
 
 abbrev pub are_variables_apart : NumberedPlace → List ℕ → List ℕ → Bool
 are_variables_apart p xs ys = list_all (λ x. list_all (is_variable_apart p x) ys) xs
-
-abbrev pub are_spreads_apart : NumberedPlace → Spread → Spread → Bool
-are_spreads_apart p s t = nat_eq s.symbol t.symbol || are_variables_apart p s.variables.items t.variables.items

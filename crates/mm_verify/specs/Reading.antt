@@ -6,7 +6,12 @@ use Rattle.mm_text.specs.declared.tokens.MmToken.{MmToken}
 use Rattle.mm_database.specs.Steps.{Step}
 use Rattle.mm_database.specs.ProofText.{meanings}
 use Rattle.mm_frame.specs.NumberedSteps.{Citation}
+use Rattle.std.specs.Global.{Vec}
+use Rattle.mm_frame.specs.FramesHeld.{hypotheses_held}
+use Rattle.mm_frame.specs.declared.frames.Hyp.{Hyp}
 use Rattle.mm_verify.specs.declared.letters.ReadSteps.{ReadSteps}
+use Rattle.mm_verify.specs.declared.machine.Citation as code
+use Rattle.mm_verify.specs.ProofSteps.{given_by}
 use Rattle.mm_verify.specs.Running.{citation_of, step_of}
 use Rattle.mm_verify.specs.Digits.{before_of}
 
@@ -18,9 +23,19 @@ left_meanings table saved before letters = option_and_then (meanings table saved
 abbrev pub behind_items : {A : Type 0} → List A → Option (List A) → Option (List A)
 behind_items done left = option_map (λ others. done ++ others) left
 
+-- what is cited
+abbrev pub citations_in : Vec code.Citation → List Citation
+citations_in v = map citation_of v.items
+
+-- what the first numbers cite: the hypotheses, and behind them what is listed
+abbrev pub table_of : List Hyp → List code.Citation → List Citation
+table_of hyps listed = given_by (hypotheses_held hyps) ++ map citation_of listed
+
 -- the steps that are read, and those that the letters left stand for
 abbrev pub meant : ReadSteps → List ℕ → Option (List (Step Citation))
-meant r letters = behind_items (map step_of r.steps.items) (left_meanings (map citation_of r.table.items) r.saved (before_of r.behind) letters)
+meant r letters =
+    behind_items (map step_of r.steps.items)
+    (left_meanings (table_of r.hyps.now r.listed.items) r.saved (before_of r.behind) letters)
 
 -- Some letters are read, so that they and others stand for what is read with what the others stand for;
 -- or, with whatever others, they stand for nothing.

@@ -8,7 +8,7 @@ use crate::filling::{fill, filled_length};
 use crate::finding::find_places;
 use crate::parts::{Part, Wanted, all_wanted, groups_located, located};
 use crate::place::Place;
-use crate::spreads::are_groups_apart;
+use crate::spreads::{Spreads, are_groups_apart};
 use crate::stack::Stack;
 use mm_frame::Frame;
 use std::alloc::{AllocError, Global};
@@ -64,16 +64,16 @@ impl<'a> Assertion<'a> {
     /// Whether the entries from `base` on, one for each mandatory hypothesis, are what it asks for.
     pub(crate) fn is_met<P: Place>(
         &self,
-        alloc: Global,
         place: &P,
         stack: &Stack,
         base: usize,
+        spreads: &mut Spreads,
     ) -> Result<bool, AllocError>
         requires { length (assertion_frame self.now).hypotheses ≡ length (drop base stack.now) }
         ensures { IfOk result (λ r. r ≡ met (P.place place.now) (assertion_frame self.now) (drop base stack.now)) }
     {
         if self.agrees(stack, base) {
-            self.is_apart(alloc, place, stack, base)
+            self.is_apart(place, stack, base, spreads)
         } else {
             Ok(false)
         }
@@ -90,17 +90,17 @@ impl<'a> Assertion<'a> {
     /// Whether the texts keep apart what `$d` asks for.
     fn is_apart<P: Place>(
         &self,
-        alloc: Global,
         place: &P,
         stack: &Stack,
         base: usize,
+        spreads: &mut Spreads,
     ) -> Result<bool, AllocError>
         requires { length (assertion_frame self.now).hypotheses ≡ length (drop base stack.now) }
         ensures { IfOk result (λ r. r
             ≡ keeps_apart (numbers_apart (P.place place.now)) (assertion_frame self.now)
             (bindings_in (assertion_frame self.now) (drop base stack.now))) }
     {
-        are_groups_apart(alloc, place, &self.apart, stack, base)
+        are_groups_apart(place, &self.apart, stack, base, spreads)
     }
 
     /// Whether its statement may be long, by what the entries from `base` on have all together.

@@ -1,11 +1,13 @@
 // Letters and the numbers that they make.
-ghost use Rattle.std.specs.Prelude.{◌≡◌, ◌≤◌, ◌-◌, ◌*◌, ◌+◌, ◌^◌, map, option_map, MatchOption};
+ghost use Rattle.std.specs.Prelude.{◌≡◌, ◌≤◌, ◌-◌, ◌*◌, ◌+◌, ◌^◌, option_map, MatchOption};
 ghost use Rattle.mm_text.specs.Compressed.{letter_of, value_before};
 ghost use Rattle.mm_database.specs.ProofText.{meaning as meaning_in};
-ghost use Rattle.mm_verify.specs.Running.{citation_of, step_of};
+ghost use Rattle.mm_verify.specs.Running.{step_of};
+ghost use Rattle.mm_verify.specs.Reading.{table_of};
 ghost use Rattle.mm_verify.specs.Digits.{before_of, letter_is, IsLetter};
 
 use crate::machine::{Citation, Step};
+use mm_frame::Hyp;
 
 /// A letter.
 #[derive(Clone, Copy, PartialEq, Eq)]
@@ -53,21 +55,29 @@ pub(crate) fn extended(value: u64, factor: u64, digit: u8) -> Option<u64>
     }
 }
 
-/// The step that a number from 1 on stands for: it cites what the table has, or is a saved step again.
+/// The step that a number from 1 on stands for: it cites a hypothesis or what is listed, or is a saved
+/// step again.
 pub(crate) fn meaning<'s, 'a>(
-    table: &[Citation<'s, 'a>],
+    hyps: &'s [Hyp<'a>],
+    listed: &[Citation<'s, 'a>],
     saved: usize,
     number: u64,
 ) -> Option<Step<'s, 'a>>
     requires { 1 ≤ number }
-    ensures { option_map step_of result ≡ meaning_in (map citation_of table.now) saved (number - 1) }
+    ensures { option_map step_of result ≡ meaning_in (table_of hyps.now listed.now) saved (number - 1) }
 {
     let place = number - 1;
-    let count = table.len() as u64;
-    if place < count {
-        Some(Step::Cites(table[place as usize]))
-    } else if place - count < saved as u64 {
-        Some(Step::Repeats((place - count) as usize))
+    let given = hyps.len() as u64;
+    if place < given {
+        let hyp = &hyps[place as usize];
+        return Some(Step::Cites(Citation::Gives(hyp)));
+    }
+    let behind = place - given;
+    let count = listed.len() as u64;
+    if behind < count {
+        Some(Step::Cites(listed[behind as usize]))
+    } else if behind - count < saved as u64 {
+        Some(Step::Repeats((behind - count) as usize))
     } else {
         None
     }

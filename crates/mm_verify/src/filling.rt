@@ -1,6 +1,6 @@
 // Statements of assertions with the texts of a stack's entries in the places of variables.
 ghost use Rattle.std.specs.Prelude.{◌≡◌, ◌+◌, ◌-◌, ◌<◌, ◌≤◌, ◌++◌, ◌∷◌, [], ℕ, List, false, length, drop, OnOk, MatchOption};
-ghost use Rattle.mm_verify.specs.Filling.{part_text, filled, IsWithin, AreWithin};
+ghost use Rattle.mm_verify.specs.Filling.{part_text, text_at, filled, IsWithin, AreWithin};
 ghost use Rattle.mm_database.specs.Stack.{behind_first};
 ghost use Rattle.mm_frame.specs.NumberedSteps.{same_numbers};
 
@@ -17,8 +17,16 @@ pub(crate) fn text_of<'a>(part: &'a Part, stack: &'a Stack, base: usize) -> &'a 
 {
     match part {
         Part::Kept(symbol) => from_ref(symbol),
-        Part::Replaced(_symbol, place) => behind_typecode(stack.entry_above(base, *place)),
+        Part::Replaced(_symbol, place) => text_at(stack, base, *place),
     }
+}
+
+/// The text of the entry at a place from `base` on: what stands behind its typecode.
+pub(crate) fn text_at(stack: &Stack, base: usize, place: usize) -> &[u32]
+    requires { place < length (drop base stack.now) }
+    ensures { result.now ≡ text_at (drop base stack.now) place }
+{
+    behind_typecode(stack.entry_above(base, place))
 }
 
 /// What stands behind the first symbol of an entry.
@@ -67,7 +75,7 @@ fn append_part(part: &Part, stack: &Stack, base: usize, to: &mut Vec<u32>) -> Re
     match part {
         Part::Kept(symbol) => to.push(*symbol)?,
         Part::Replaced(_symbol, place) => {
-            to.extend_from_slice(behind_typecode(stack.entry_above(base, *place)))?;
+            to.extend_from_slice(text_at(stack, base, *place))?;
         }
     }
     Ok(())
@@ -95,9 +103,7 @@ fn behind_part<'r>(part: &Part, stack: &Stack, base: usize, symbols: &'r [u32]) 
 {
     match part {
         Part::Kept(symbol) => behind_symbol(*symbol, symbols),
-        Part::Replaced(_symbol, place) => {
-            behind_text(behind_typecode(stack.entry_above(base, *place)), symbols)
-        }
+        Part::Replaced(_symbol, place) => { behind_text(text_at(stack, base, *place), symbols) }
     }
 }
 

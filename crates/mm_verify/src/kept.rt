@@ -9,6 +9,7 @@ ghost use Rattle.mm_verify.specs.Applied.{Answers};
 use crate::applying::apply;
 use crate::assertion::Assertion;
 use crate::place::Place;
+use crate::spreads::Spreads;
 use crate::stack::Stack;
 use mm_frame::{Frame, Hyp};
 use std::alloc::{AllocError, Global};
@@ -48,16 +49,17 @@ impl<'a> Kept<'a> {
         place: &P,
         stack: &mut Stack,
         buffer: &mut Vec<u32>,
+        spreads: &mut Spreads,
     ) -> Result<bool, AllocError>
         ensures { IfOk result
             (Answers (stack_with (numbered_applied (P.place place.now) (kept_frame self.now))
             (length (kept_frame self.now).hypotheses) stack.old) stack.old stack.new) }
     {
         match self {
-            Kept::Built(assertion) => apply(alloc, place, assertion, stack, buffer),
+            Kept::Built(assertion) => apply(place, assertion, stack, buffer, spreads),
             Kept::Shared(frame) => {
                 let assertion = Assertion::of(alloc, frame)?;
-                apply(alloc, place, &assertion, stack, buffer)
+                apply(place, &assertion, stack, buffer, spreads)
             }
         }
     }

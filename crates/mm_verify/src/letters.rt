@@ -1,19 +1,26 @@
 // The letters of compressed proofs.
-ghost use Rattle.std.specs.Prelude.{◌≤◌, length};
+ghost use Rattle.std.specs.Prelude.{◌≤◌, ◌+◌, ◌^◌, length};
 
 use crate::digits::{Behind, Letter, extended, meaning, read_letter, value};
 use crate::machine::{Citation, Step};
+use mm_frame::Hyp;
 use mm_text::MmToken;
 use std::alloc::{AllocError, Global};
 
-/// The steps that letters stand for, as far as they are read. The table has what the first numbers cite.
+/// More hypotheses or labels than memory has room for.
+const MANY: usize = 1 << 62;
+
+/// The steps that letters stand for, as far as they are read. The first numbers are those of the
+/// hypotheses, and the next ones of what is listed.
 #[derive(Drop)]
 pub(crate) struct ReadSteps<'s, 'a> {
-    table: Vec<Citation<'s, 'a>>,
+    hyps: &'s [Hyp<'a>],
+    listed: Vec<Citation<'s, 'a>>,
     steps: Vec<Step<'s, 'a>>,
     behind: Behind,
     saved: usize,
     ghost few: { saved ≤ length steps.items },
+    ghost given: { length hyps.now + length listed.items ≤ 2 ^ 63 },
 }
 
 impl<'s, 'a> ReadSteps<'s, 'a> {
@@ -28,16 +35,22 @@ impl<'s, 'a> ReadSteps<'s, 'a> {
     /// Nothing is read. There is room for this many steps.
     pub(crate) fn new(
         alloc: Global,
-        table: Vec<Citation<'s, 'a>>,
+        hyps: &'s [Hyp<'a>],
+        listed: Vec<Citation<'s, 'a>>,
         count: usize,
     ) -> Result<ReadSteps<'s, 'a>, AllocError>
-        ensures table { IfOk result (λ r. r.table ≡ table.entry) }
+        ensures hyps { IfOk result (λ r. r.hyps.now ≡ hyps.now) }
+        ensures listed { IfOk result (λ r. r.listed ≡ listed.entry) }
         ensures steps { IfOk result (λ r. r.steps.items ≡ []) }
         ensures behind { IfOk result (λ r. r.behind ≡ Nothing) }
         ensures saved { IfOk result (λ r. r.saved ≡ 0) }
     {
+        if hyps.len() > MANY || listed.len() > MANY {
+            return Err(AllocError);
+        }
         Ok(ReadSteps {
-            table,
+            hyps,
+            listed,
             steps: Vec::with_capacity(alloc, count)?,
             behind: Behind::Nothing,
             saved: 0,
@@ -64,7 +77,7 @@ impl<'s, 'a> ReadSteps<'s, 'a> {
         let Some(number) = extended(value(self.behind), 20, d) else {
             return Ok(false);
         };
-        match meaning(&self.table, self.saved, number) {
+        match meaning(self.hyps, &self.listed, self.saved, number) {
             None => Ok(false),
             Some(step) => {
                 self.steps.push(step)?;

@@ -11,6 +11,7 @@ ghost use Rattle.mm_database.specs.Frames.{statement_of};
 
 use crate::kept::Kept;
 use crate::place::Place;
+use crate::spreads::Spreads;
 use crate::stack::Stack;
 use mm_frame::Hyp;
 use std::alloc::{AllocError, Global};
@@ -35,12 +36,13 @@ pub(crate) enum Step<'s, 'a> {
     Repeats(usize),
 }
 
-/// A stack with the entries that were saved, and a buffer for new ones.
+/// A stack with the entries that were saved, a buffer for new ones, and lists for what `$d` asks for.
 #[derive(Drop)]
 pub(crate) struct Machine {
     stack: Stack,
     saved: Stack,
     buffer: Vec<u32>,
+    spreads: Spreads,
 }
 
 /// Why steps do not prove a statement.
@@ -61,6 +63,7 @@ impl Machine {
             stack: Stack::new(alloc)?,
             saved: Stack::new(alloc)?,
             buffer: Vec::new(alloc),
+            spreads: Spreads::new(alloc)?,
         })
     }
 
@@ -76,7 +79,13 @@ impl Machine {
         match step {
             Step::Cites(Citation::Gives(hyp)) => self.give(place, hyp),
             Step::Cites(Citation::Applies(kept)) => {
-                kept.apply(alloc, place, &mut self.stack, &mut self.buffer)
+                kept.apply(
+                    alloc,
+                    place,
+                    &mut self.stack,
+                    &mut self.buffer,
+                    &mut self.spreads,
+                )
             }
             Step::Saves => self.save(place),
             Step::Repeats(number) => self.repeat(place, number),

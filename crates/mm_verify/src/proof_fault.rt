@@ -40,7 +40,7 @@ pub(crate) fn proof_fault<'a>(
         alloc,
         &known,
         bytes,
-        &theorem.frame.mandatory.hyps,
+        &theorem.frame.mandatory,
         theorem.proof,
     )? {
         None => Ok(Some(BAD_PROOF_TEXT)),

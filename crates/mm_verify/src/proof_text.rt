@@ -1,46 +1,47 @@
 // The texts of proofs, as steps.
-ghost use Rattle.std.specs.Prelude.{◌≡◌, ◌↔◌, ◌++◌, ◌||◌, map, IfOk, IfSome, IsNone, Some, None, true, false, option_map, option_and_then, if◌then◌else◌, codes};
-ghost use Rattle.std.specs.Prelude.{is_some};
-ghost use Rattle.std.specs.BTreeMap.{get_by};
-ghost use Rattle.std.specs.Cmp.Lexicographic.{slice_cmp};
-ghost use Rattle.std.specs.Ordering.{nat_cmp};
-ghost use Rattle.mm_text.specs.Bytes.{Token, has_token};
+ghost use Rattle.std.specs.Prelude.{◌≡◌, map, IfOk, IfSome, Some, None, true, false, option_map, if◌then◌else◌, codes};
+ghost use Rattle.std.specs.List.{list_any};
+ghost use Rattle.mm_text.specs.Bytes.{has_token};
 ghost use Rattle.mm_text.specs.Reader.{words_of};
 ghost use Rattle.mm_frame.specs.FramesHeld.{hypotheses_held};
 ghost use Rattle.mm_frame.specs.Held.{held};
 ghost use Rattle.mm_database.specs.ProofText.{lettered_steps};
 ghost use Rattle.mm_verify.specs.Running.{citation_of, step_of, steps_in};
-ghost use Rattle.mm_verify.specs.Reading.{letters_of, behind_items};
+ghost use Rattle.mm_verify.specs.Reading.{letters_of, behind_items, citations_in, table_of};
+ghost use Rattle.mm_frame.specs.Labels.{HasLabels, label_in};
 ghost use Rattle.mm_verify.specs.Citing.{all_cited};
-ghost use Rattle.mm_verify.specs.ProofSteps.{given_by, clashes, listed_citations, compressed_proof, citing as citing_all, steps_named, labels_in};
+ghost use Rattle.mm_verify.specs.ProofSteps.{clashes, listed_citations, compressed_proof};
+ghost use Rattle.mm_verify.specs.ProofSteps.{citing as citing_all, steps_named, labels_in};
 ghost use Rattle.mm_database.specs.ProofText.{before_close, behind_close};
 
 use crate::known::Known;
 use crate::letters::ReadSteps;
 use crate::machine::{Citation, Step};
 use crate::scattered::are_scattered;
-use mm_frame::Hyp;
+use mm_frame::{Hyp, Mandatory, own_labels};
 use mm_text::MmToken;
 use std::alloc::{AllocError, Global};
 use std::collections::BTreeMap;
 
-/// The steps of a proof of an assertion with these mandatory hypotheses: none exactly where its text
-/// names no steps. It takes time in the number of the proof's tokens and letters, but for a factor of
-/// the logarithm of the number of labels.
+/// The steps of a proof of an assertion that asks for this: none exactly where its text names no steps.
+/// It takes time in the number of the proof's tokens and letters, and of the mandatory hypotheses where
+/// these are not shared, but for a factor of the logarithm of the number of labels.
 pub(crate) fn read_proof<'s, 'a>(
     alloc: Global,
     known: &Known<'s, 'a>,
     bytes: &'a [u8],
-    hyps: &'s [Hyp<'a>],
+    mandatory: &'s Mandatory<'a>,
     proof: &[MmToken],
 ) -> Result<Option<Vec<Step<'s, 'a>>>, AllocError>
-    ensures { IfOk result (λ r. option_map steps_in r ≡ steps_named (held known.now.scopes.now) (hypotheses_held hyps.now) (words_of bytes.now proof.now)) }
+    ensures { IfOk result (λ r. option_map steps_in r
+        ≡ steps_named (held known.now.scopes.now) (hypotheses_held mandatory.now.hyps.items)
+        (words_of bytes.now proof.now)) }
 {
     match proof {
         [] => Ok(None),
         [first, rest @ ..] => {
             if first.word(bytes) == b"(".as_slice() {
-                read_compressed(alloc, known, bytes, hyps, rest)
+                read_compressed(alloc, known, bytes, mandatory, rest)
             } else {
                 read_normal(alloc, known, bytes, proof)
             }
@@ -55,13 +56,12 @@ fn read_normal<'s, 'a>(
     bytes: &'a [u8],
     proof: &[MmToken],
 ) -> Result<Option<Vec<Step<'s, 'a>>>, AllocError>
-    ensures { IfOk result (λ r. option_map steps_in r ≡ option_map citing_all (all_cited (held known.now.scopes.now) (words_of bytes.now proof.now))) }
+    ensures { IfOk result (λ r. option_map steps_in r
+        ≡ option_map citing_all (all_cited (held known.now.scopes.now) (words_of bytes.now proof.now))) }
 {
-    let mut citations = Vec::new(alloc);
-    if cite_all(known, bytes, proof, &mut citations)? {
-        Ok(Some(citing(alloc, &citations)?))
-    } else {
-        Ok(None)
+    match all_cited(alloc, known, bytes, proof)? {
+        None => Ok(None),
+        Some(citations) => Ok(Some(citing(alloc, &citations)?)),
     }
 }
 
@@ -77,6 +77,24 @@ fn citing<'s, 'a>(
         steps.push(Step::Cites(*citation))?;
     }
     Ok(steps)
+}
+
+/// What labels cite, where each cites something.
+fn all_cited<'s, 'a>(
+    alloc: Global,
+    known: &Known<'s, 'a>,
+    bytes: &'a [u8],
+    labels: &[MmToken],
+) -> Result<Option<Vec<Citation<'s, 'a>>>, AllocError>
+    ensures { IfOk result (λ r. option_map citations_in r
+        ≡ all_cited (held known.now.scopes.now) (words_of bytes.now labels.now)) }
+{
+    let mut citations = Vec::new(alloc);
+    if cite_all(known, bytes, labels, &mut citations)? {
+        Ok(Some(citations))
+    } else {
+        Ok(None)
+    }
 }
 
 /// Appends what labels cite, where each cites something.
@@ -103,21 +121,19 @@ fn read_compressed<'s, 'a>(
     alloc: Global,
     known: &Known<'s, 'a>,
     bytes: &'a [u8],
-    hyps: &'s [Hyp<'a>],
+    mandatory: &'s Mandatory<'a>,
     tokens: &[MmToken],
 ) -> Result<Option<Vec<Step<'s, 'a>>>, AllocError>
-    ensures { IfOk result (λ r. option_map steps_in r ≡ compressed_proof (held known.now.scopes.now) (hypotheses_held hyps.now) (words_of bytes.now tokens.now)) }
+    ensures { IfOk result (λ r. option_map steps_in r
+        ≡ compressed_proof (held known.now.scopes.now) (hypotheses_held mandatory.now.hyps.items)
+        (words_of bytes.now tokens.now)) }
 {
     match split_at_close(bytes, tokens) {
         None => Ok(None),
-        Some((listed, letters)) => {
-            let mut table = given(alloc, hyps)?;
-            if read_listed(alloc, known, bytes, hyps, listed, &mut table)? {
-                read_letters(alloc, table, bytes, letters)
-            } else {
-                Ok(None)
-            }
-        }
+        Some((labels, letters)) => match read_listed(alloc, known, bytes, mandatory, labels)? {
+            None => Ok(None),
+            Some(listed) => read_letters(alloc, &mandatory.hyps, listed, bytes, letters),
+        },
     }
 }
 
@@ -136,36 +152,66 @@ fn split_at_close<'t>(bytes: &[u8], tokens: &'t [MmToken]) -> Option<(&'t [MmTok
     None
 }
 
-/// What the labels of mandatory hypotheses cite.
-fn given<'s, 'a>(alloc: Global, hyps: &'s [Hyp<'a>]) -> Result<Vec<Citation<'s, 'a>>, AllocError>
-    ensures { IfOk result (λ v. map citation_of v.items ≡ given_by (hypotheses_held hyps.now)) }
-{
-    let mut citations = Vec::with_capacity(alloc, hyps.len())?;
-    for hyp in hyps {
-        citations.push(Citation::Gives(hyp))?;
-    }
-    Ok(citations)
-}
-
-/// Appends what the labels cite that a compressed proof lists, where each cites something, and none
-/// stands twice or is that of a mandatory hypothesis.
+/// What the labels cite that a compressed proof lists, where each cites something, and none stands
+/// twice or is that of a mandatory hypothesis.
 fn read_listed<'s, 'a>(
     alloc: Global,
     known: &Known<'s, 'a>,
     bytes: &'a [u8],
-    hyps: &'s [Hyp<'a>],
-    listed: &[MmToken],
-    table: &mut Vec<Citation<'s, 'a>>,
-) -> Result<bool, AllocError>
-    ensures { IfOk result (λ all. behind_items (map citation_of table.old.items) (listed_citations (held known.now.scopes.now) (hypotheses_held hyps.now) (words_of bytes.now listed.now)) ≡ (if all then Some (map citation_of table.new.items) else None)) }
+    mandatory: &Mandatory<'a>,
+    labels: &[MmToken],
+) -> Result<Option<Vec<Citation<'s, 'a>>>, AllocError>
+    ensures { IfOk result (λ r. option_map citations_in r
+        ≡ listed_citations (held known.now.scopes.now) (hypotheses_held mandatory.now.hyps.items)
+        (words_of bytes.now labels.now)) }
 {
-    if has_clash(alloc, bytes, hyps, listed)? {
-        return Ok(false);
+    if clash(alloc, bytes, mandatory, labels)? {
+        return Ok(None);
     }
-    cite_all(known, bytes, listed, table)
+    all_cited(alloc, known, bytes, labels)
 }
 
-/// Whether a label stands twice or is that of a mandatory hypothesis.
+/// Whether a label stands twice or is that of a mandatory hypothesis. Where these are shared, it takes
+/// no time in their number.
+fn clash<'a>(
+    alloc: Global,
+    bytes: &'a [u8],
+    mandatory: &Mandatory<'a>,
+    labels: &[MmToken],
+) -> Result<bool, AllocError>
+    ensures { IfOk result (λ r. r
+        ≡ clashes (labels_in (hypotheses_held mandatory.now.hyps.items)) (words_of bytes.now labels.now)) }
+{
+    match mandatory.labels() {
+        None => has_clash(alloc, bytes, &mandatory.hyps, labels),
+        Some(own) => {
+            if lists_own(bytes, own, &mandatory.hyps, labels) {
+                return Ok(true);
+            }
+            has_clash(alloc, bytes, &[], labels)
+        }
+    }
+}
+
+/// Whether a label is one of these hypotheses, whose labels stand in the table.
+fn lists_own<'a>(
+    bytes: &'a [u8],
+    own: &BTreeMap<&'a [u8], ()>,
+    hyps: &[Hyp<'a>],
+    labels: &[MmToken],
+) -> bool
+    requires { HasLabels own.now hyps.now }
+    ensures { result ≡ list_any (has_token (map label_in hyps.now)) (words_of bytes.now labels.now) }
+{
+    for label in labels {
+        if own.contains_key(&label.word(bytes)) {
+            return true;
+        }
+    }
+    false
+}
+
+/// Whether a label stands twice or is that of one of these hypotheses.
 fn has_clash<'a>(
     alloc: Global,
     bytes: &'a [u8],
@@ -188,29 +234,20 @@ fn has_clash<'a>(
     Ok(false)
 }
 
-/// The labels of hypotheses.
-fn own_labels<'a>(alloc: Global, hyps: &[Hyp<'a>]) -> Result<BTreeMap<&'a [u8], ()>, AllocError>
-    ensures { IfOk result (λ s. (t : Token) → is_some (get_by (λ k. slice_cmp nat_cmp t k.now) s) ≡ has_token (labels_in (hypotheses_held hyps.now)) t) }
-{
-    let mut labels = BTreeMap::new(alloc);
-    for hyp in hyps {
-        labels.insert(hyp.label(), ())?;
-    }
-    Ok(labels)
-}
-
 /// The steps that the letters of some tokens stand for: none exactly where they stand for none. The
-/// table has what the first numbers cite; the next numbers are those of the saved steps, in order.
-/// It takes time in the number of letters.
+/// first numbers are those of the hypotheses, the next ones of what is listed, and then of the saved
+/// steps, in order. It takes time in the number of letters.
 pub(crate) fn read_letters<'s, 'a>(
     alloc: Global,
-    table: Vec<Citation<'s, 'a>>,
+    hyps: &'s [Hyp<'a>],
+    listed: Vec<Citation<'s, 'a>>,
     bytes: &[u8],
     tokens: &[MmToken],
 ) -> Result<Option<Vec<Step<'s, 'a>>>, AllocError>
-    ensures { IfOk result (λ r. option_map steps_in r ≡ lettered_steps (map citation_of table.entry.items) (letters_of bytes.now tokens.now)) }
+    ensures { IfOk result (λ r. option_map steps_in r
+        ≡ lettered_steps (table_of hyps.now listed.entry.items) (letters_of bytes.now tokens.now)) }
 {
-    let mut read = ReadSteps::new(alloc, table, count_letters(tokens))?;
+    let mut read = ReadSteps::new(alloc, hyps, listed, count_letters(tokens))?;
     if read.take_words(bytes, tokens)? {
         Ok(read.ended())
     } else {

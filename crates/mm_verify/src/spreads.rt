@@ -1,97 +1,225 @@
-// Whether the texts of variables are kept apart.
-ghost use Rattle.std.specs.Prelude.{◌≡◌, ◌++◌, ◌∷◌, [], if◌then◌else◌, length, drop, All, IfOk};
+// Whether texts keep apart what `$d` asks for.
+ghost use Rattle.std.specs.Prelude.{◌≡◌, ℕ, List, suc, Some, length, drop, All};
+ghost use Rattle.std.specs.Prelude.{IfOk, slice_get, slice_index_or, if◌then◌else◌, slice_set, ◌++◌, ◌∷◌, [], ◌<◌};
 ghost use Rattle.std.specs.List.{list_all};
-ghost use Rattle.mm_verify.specs.Filling.{IsWithin, AreWithin, GroupWithin, is_group_apart as group_apart};
-ghost use Rattle.mm_verify.specs.Filling.{are_groups_apart as groups_apart};
-ghost use Rattle.mm_verify.specs.Pairs.{each_pair, HasVariables, Spreads, are_spreads_apart as spreads_apart};
+ghost use Rattle.mm_database.specs.Proofs.{texts_apart};
+ghost use Rattle.mm_frame.specs.NumberedSteps.{NumberedPlace, numbers_apart};
+ghost use Rattle.mm_verify.specs.Filling.{GroupWithin, AreWithin, IsWithin, text_at};
+ghost use Rattle.mm_verify.specs.Filling.{are_groups_apart as groups_apart, is_group_apart as group_apart};
+ghost use Rattle.mm_verify.specs.Filling.{are_parts_apart as parts_apart};
+ghost use Rattle.mm_verify.specs.Pairs.{HasVariables, AreKnown, Keeps};
 ghost use Rattle.mm_verify.specs.Pairs.{are_variables_apart as variables_apart, is_variable_apart as variable_apart};
 
-use crate::filling::text_of;
+use crate::filling::text_at;
 use crate::parts::Part;
 use crate::place::Place;
 use crate::stack::Stack;
 use std::alloc::{AllocError, Global};
 
-/// The variables in the text that stands for a symbol, each once.
+/// The variables in the texts of entries, each text looked at once. At the place of an entry stands 0
+/// where its text is not looked at yet, else one more than the number of its list.
 #[derive(Drop)]
-pub(crate) struct Spread {
-    symbol: u32,
-    variables: Vec<u32>,
+pub(crate) struct Spreads {
+    numbers: Vec<usize>,
+    lists: Stack,
+    gathered: Vec<u32>,
+}
+
+impl Spreads {
+    /// Nothing is known, with room for what most steps need.
+    pub(crate) fn new(alloc: Global) -> Result<Spreads, AllocError> {
+        Ok(Spreads {
+            numbers: Vec::with_capacity(alloc, 64)?,
+            lists: Stack::new(alloc)?,
+            gathered: Vec::with_capacity(alloc, 64)?,
+        })
+    }
+
+    /// Nothing is known of the entries of this many places.
+    fn clear(&mut self, count: usize) -> Result<(), AllocError>
+        ensures { IfOk result (λ _. (p : NumberedPlace) (entries : List (List ℕ)) → length entries ≡ count
+            → AreKnown p entries self.new) }
+    {
+        self.lists.truncate(0);
+        self.numbers.clear();
+        self.numbers.resize(count, 0)?;
+        Ok(())
+    }
+
+    /// The number of the list of the variables in the text of the entry at a place.
+    fn find<P: Place>(
+        &mut self,
+        place: &P,
+        stack: &Stack,
+        base: usize,
+        i: usize,
+    ) -> Result<usize, AllocError>
+        requires within { i < length (drop base stack.now) }
+        requires known { AreKnown (P.place place.now) (drop base stack.now) self.old }
+        ensures known { IfOk result (λ _. AreKnown (P.place place.now) (drop base stack.now) self.new) }
+        ensures keeps { IfOk result (λ _. Keeps self.old self.new) }
+        ensures found { IfOk result (λ k. slice_get self.new.numbers.items i ≡ Some (suc k)) }
+    {
+        let number = self.numbers[i];
+        if number > 0 {
+            return Ok(number - 1);
+        }
+        gather(place, text_at(stack, base, i), &mut self.gathered)?;
+        let number = self.add(i)?;
+        Ok(number)
+    }
+
+    /// Adds the variables that are gathered as the list of a place.
+    fn add(&mut self, i: usize) -> Result<usize, AllocError>
+        requires within { i < length self.old.numbers.items }
+        ensures numbers { IfOk result (λ k. self.new.numbers.items ≡ slice_set self.old.numbers.items i (suc k)) }
+        ensures lists { IfOk result (λ k. self.new.lists ≡ self.old.lists ++ self.old.gathered.items ∷ []) }
+        ensures last { IfOk result (λ k. k ≡ length self.old.lists) }
+    {
+        let number = self.lists.len();
+        self.lists.push(&self.gathered)?;
+        self.numbers[i] = self.lists.len();
+        Ok(number)
+    }
+
+    /// The list with this number.
+    fn list(&self, number: usize) -> &[u32]
+        requires { number < length self.now.lists }
+        ensures { result.now ≡ slice_index_or self.now.lists number [] }
+    {
+        self.lists.entry(number)
+    }
 }
 
 /// Whether in each group the texts of variables that are not the same have no variable in common, and
-/// each pair of their variables is kept apart at the place.
+/// each pair of their variables is kept apart at the place. The variables of each text are found once.
 pub(crate) fn are_groups_apart<P: Place>(
-    alloc: Global,
     place: &P,
     groups: &[Vec<Part>],
     stack: &Stack,
     base: usize,
+    spreads: &mut Spreads,
 ) -> Result<bool, AllocError>
     requires within { All (GroupWithin (length (drop base stack.now))) groups.now }
     ensures { IfOk result (λ r. r ≡ groups_apart (P.place place.now) (drop base stack.now) groups.now) }
 {
+    if groups.is_empty() {
+        return Ok(true);
+    }
+    spreads.clear(stack.len().saturating_sub(base))?;
     for group in groups {
-        if !is_group_apart(alloc, place, group, stack, base)? {
+        if !is_group_apart(place, group, stack, base, spreads)? {
             return Ok(false);
         }
     }
     Ok(true)
 }
 
-/// The same of one group. It takes time in the length of the texts, but for a factor of its logarithm,
-/// and a test for each two variables of different texts.
+/// The same of one group. It takes time in the length of the texts whose variables are not known yet,
+/// but for a factor of its logarithm, and a test for each two variables of different texts.
 fn is_group_apart<P: Place>(
-    alloc: Global,
     place: &P,
     group: &[Part],
     stack: &Stack,
     base: usize,
+    spreads: &mut Spreads,
 ) -> Result<bool, AllocError>
     requires within { AreWithin (length (drop base stack.now)) group.now }
-    ensures { IfOk result (λ r. r ≡ group_apart (P.place place.now) (drop base stack.now) group.now) }
+    requires known { AreKnown (P.place place.now) (drop base stack.now) spreads.old }
+    ensures known { IfOk result (λ _. AreKnown (P.place place.now) (drop base stack.now) spreads.new) }
+    ensures apart { IfOk result (λ r. r ≡ group_apart (P.place place.now) (drop base stack.now) group.now) }
 {
-    let mut spreads = Vec::with_capacity(alloc, group.len())?;
-    for part in group {
-        spreads.push(spread_of(alloc, place, part, stack, base)?)?;
+    for i in 0..group.len() {
+        if !is_part_apart(place, &group[i], &group[i + 1..], stack, base, spreads)? {
+            return Ok(false);
+        }
     }
-    Ok(are_spreads_apart(place, &spreads))
+    Ok(true)
 }
 
-/// The variables in the text that stands for a part; none where the part is kept.
-fn spread_of<P: Place>(
-    alloc: Global,
+/// Whether one part is kept apart from each of others.
+fn is_part_apart<P: Place>(
     place: &P,
-    part: &Part,
+    one: &Part,
+    others: &[Part],
     stack: &Stack,
     base: usize,
-) -> Result<Spread, AllocError>
-    requires within { IsWithin (length (drop base stack.now)) part.now }
-    ensures { IfOk result (λ s. Spreads (P.place place.now) (drop base stack.now) part.now s) }
+    spreads: &mut Spreads,
+) -> Result<bool, AllocError>
+    requires one { IsWithin (length (drop base stack.now)) one.now }
+    requires others { AreWithin (length (drop base stack.now)) others.now }
+    requires known { AreKnown (P.place place.now) (drop base stack.now) spreads.old }
+    ensures known { IfOk result (λ _. AreKnown (P.place place.now) (drop base stack.now) spreads.new) }
+    ensures apart { IfOk result (λ r. r
+        ≡ list_all (parts_apart (P.place place.now) (drop base stack.now) one.now) others.now) }
 {
-    match part {
-        Part::Kept(symbol) => Ok(Spread {
-            symbol: *symbol,
-            variables: Vec::new(alloc),
-        }),
-        Part::Replaced(symbol, _place) => Ok(Spread {
-            symbol: *symbol,
-            variables: variables(alloc, place, text_of(part, stack, base))?,
-        }),
+    for other in others {
+        if !are_parts_apart(place, one, other, stack, base, spreads)? {
+            return Ok(false);
+        }
+    }
+    Ok(true)
+}
+
+/// Whether two parts are kept apart.
+fn are_parts_apart<P: Place>(
+    place: &P,
+    one: &Part,
+    other: &Part,
+    stack: &Stack,
+    base: usize,
+    spreads: &mut Spreads,
+) -> Result<bool, AllocError>
+    requires one { IsWithin (length (drop base stack.now)) one.now }
+    requires other { IsWithin (length (drop base stack.now)) other.now }
+    requires known { AreKnown (P.place place.now) (drop base stack.now) spreads.old }
+    ensures known { IfOk result (λ _. AreKnown (P.place place.now) (drop base stack.now) spreads.new) }
+    ensures apart { IfOk result (λ r. r
+        ≡ parts_apart (P.place place.now) (drop base stack.now) one.now other.now) }
+{
+    match (one, other) {
+        (Part::Replaced(symbol, i), Part::Replaced(another, j)) => {
+            if *symbol == *another {
+                return Ok(true);
+            }
+            are_texts_apart(place, *i, *j, stack, base, spreads)
+        }
+        _ => Ok(true),
     }
 }
 
-/// The variables of a text, each once.
-fn variables<P: Place>(alloc: Global, place: &P, text: &[u32]) -> Result<Vec<u32>, AllocError>
-    ensures { IfOk result (λ v. HasVariables (P.place place.now) text.now v.items) }
+/// Whether the texts of two entries are kept apart.
+fn are_texts_apart<P: Place>(
+    place: &P,
+    i: usize,
+    j: usize,
+    stack: &Stack,
+    base: usize,
+    spreads: &mut Spreads,
+) -> Result<bool, AllocError>
+    requires one { i < length (drop base stack.now) }
+    requires other { j < length (drop base stack.now) }
+    requires known { AreKnown (P.place place.now) (drop base stack.now) spreads.old }
+    ensures known { IfOk result (λ _. AreKnown (P.place place.now) (drop base stack.now) spreads.new) }
+    ensures apart { IfOk result (λ r. r ≡ texts_apart (numbers_apart (P.place place.now))
+        (text_at (drop base stack.now) i) (text_at (drop base stack.now) j)) }
 {
-    let mut variables = Vec::new(alloc);
+    let x = spreads.find(place, stack, base, i)?;
+    let y = spreads.find(place, stack, base, j)?;
+    Ok(are_variables_apart(place, spreads.list(x), spreads.list(y)))
+}
+
+/// Gathers the variables of a text, each once.
+fn gather<P: Place>(place: &P, text: &[u32], to: &mut Vec<u32>) -> Result<(), AllocError>
+    ensures { IfOk result (λ _. HasVariables (P.place place.now) text.now to.new.items) }
+{
+    to.clear();
     for symbol in text {
-        push_variable(place, &mut variables, *symbol)?;
+        push_variable(place, to, *symbol)?;
     }
-    variables.sort_unstable();
-    variables.dedup();
-    Ok(variables)
+    to.sort_unstable();
+    to.dedup();
+    Ok(())
 }
 
 /// Appends the symbol, if it is a variable.
@@ -103,32 +231,6 @@ fn push_variable<P: Place>(place: &P, to: &mut Vec<u32>, symbol: u32) -> Result<
         to.push(symbol)?;
     }
     Ok(())
-}
-
-/// Whether the variables of each two are kept apart.
-fn are_spreads_apart<P: Place>(place: &P, spreads: &[Spread]) -> bool
-    ensures { result ≡ each_pair (spreads_apart (P.place place.now)) spreads.now }
-{
-    for i in 0..spreads.len() {
-        if !is_apart_from(place, &spreads[i], &spreads[i + 1..]) {
-            return false;
-        }
-    }
-    true
-}
-
-/// Whether the variables of one are kept apart from those of each other one.
-fn is_apart_from<P: Place>(place: &P, one: &Spread, others: &[Spread]) -> bool
-    ensures { result ≡ list_all (spreads_apart (P.place place.now) one.now) others.now }
-{
-    for other in others {
-        if one.symbol != other.symbol
-            && !are_variables_apart(place, &one.variables, &other.variables)
-        {
-            return false;
-        }
-    }
-    true
 }
 
 /// Whether variables have none in common with others, and each pair of them is kept apart.

@@ -4,8 +4,7 @@ use Rattle.mm_text.specs.Reader.{words_of}
 use Rattle.mm_frame.specs.Held.{held}
 use Rattle.mm_frame.specs.FramesHeld.{hypotheses_held}
 use Rattle.mm_frame.specs.StandingLaws.{place_of}
-use Rattle.mm_frame.specs.declared.frames.Hyp.{Hyp}
-use Rattle.mm_frame.specs.declared.frames.Mandatory.{Mandatory}
+use Rattle.mm_frame.specs.declared.labels.Mandatory.{Mandatory}
 use Rattle.mm_verify.specs.declared.machine.Step.{Step}
 use Rattle.mm_verify.specs.Running.{step_of, steps_in, steps_fault}
 use Rattle.mm_verify.specs.ProofSteps.{steps_named}
@@ -17,7 +16,7 @@ returns-in_ok-check_steps-in-Some c =
     let frame = c.args.theorem.now.frame in
     let words = words_of c.args.bytes.now c.args.theorem.now.proof.now in
     let known = held c.new-known.result.scopes.now in
-    let named = ap (λ (hyps : List Hyp). steps_named known (hypotheses_held hyps) words) (sym (c.deref-2.ensures.value ∙ ap (λ (m : Mandatory). m.hyps.items) c.deref.ensures)) ∙ sym c.in_ok-read_proof.ensures ∙ ap (option_map steps_in) c.in-Some.is in
+    let named = ap (λ (m : Mandatory). steps_named known (hypotheses_held m.hyps.items) words) (sym c.deref.ensures) ∙ sym c.in_ok-read_proof.ensures ∙ ap (option_map steps_in) c.in-Some.is in
     let fault =
     c.in_ok-check_steps-in-Some.ensures
     ∙ ap (λ (ss : List Step). steps_fault (place_of known) (map step_of ss) c.deref-in-Some-2.result.now) c.deref-in-Some.ensures.value

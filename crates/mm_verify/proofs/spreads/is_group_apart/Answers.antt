@@ -1,26 +1,26 @@
-use Rattle.std.proofs.Common.{◌≡◌, ◌+◌, ◌∙◌, ap, sym, subst, drop, take, List}
-use Rattle.std.proofs.lemmas.List.{take_all}
-use Rattle.mm_verify.specs.declared.parts.Part.{Part}
+use Rattle.std.proofs.Common.{rules, ◌≡◌, ◌∙◌, ◌+◌, sym, ap, drop, get_or, false}
+use Rattle.std.specs.List.{list_all}
+use Rattle.std.proofs.lemmas.List.{drop_all, take_rest}
 use Rattle.mm_verify.specs.declared.parts.Part.TheVariants as part
-use Rattle.mm_verify.specs.declared.spreads.Spread.{Spread}
-use Rattle.mm_verify.specs.Pairs.{AreSpread, each_pair, are_spreads_apart}
-use Rattle.mm_verify.proofs.Spreading.{spread-next, group-spread}
+use Rattle.mm_verify.specs.Filling.{are_parts_apart}
+use Rattle.mm_verify.proofs.Spreading.{group-pairs, pairs-end, pairs-all}
 use Rattle.mm_verify.proofs.spreads.is_group_apart.Goals as goal
 
-pub loop-part-preserved : goal.loop-part-preserved
-loop-part-preserved g c =
+pub returns-then-not-branch-clause-apart : goal.returns-then-not-branch-clause-apart
+returns-then-not-branch-clause-apart g c =
     let p = g.P.Place.place c.args.place.now in
     let entries = drop c.args.base c.args.stack.now in
-    subst (λ (ss : List Spread). AreSpread p entries (take (c.loop-part.part-index + 1) c.args.group.now) ss) (sym c.in_ok-push.ensures.items)
-    (spread-next p entries c.args.group.now c.loop-part.part-index (part.Kept 0) c.loop-part.spreads.items c.in_ok-spread_of.field-0
-    c.loop-part-test.true c.loop-part.invariant c.in_ok-spread_of.ensures)
+    let group = c.args.group.now in
+    let row : list_all (are_parts_apart p entries (get_or group c.loop-i.i (part.Kept 0))) (drop (c.loop-i.i + 1) group) ≡ false =
+    ap (list_all (are_parts_apart p entries (get_or group c.loop-i.i (part.Kept 0)))) (sym (take_rest group (c.loop-i.i + 1)))
+    ∙ sym c.in_ok-is_part_apart.ensures.apart ∙ search rules in
+    pairs-end (are_parts_apart p entries) group c.loop-i.i (part.Kept 0) c.loop-i-test.true row c.loop-i.invariant.pairs
+    ∙ sym (group-pairs p (g.met.P.Place.turned c.args.place.now) entries group)
 
-pub returns : goal.returns
-returns g c =
+pub returns-clause-apart : goal.returns-clause-apart
+returns-clause-apart g c =
     let p = g.P.Place.place c.args.place.now in
     let entries = drop c.args.base c.args.stack.now in
-    let all : take c.loop-part.part-index c.args.group.now ≡ c.args.group.now = take_all _ c.args.group.now c.loop-part-test.false in
-    c.are_spreads_apart.ensures
-    ∙ ap (λ (ss : List Spread). each_pair (are_spreads_apart p) ss) c.deref.ensures.value
-    ∙ sym (group-spread p (g.met.P.Place.turned c.args.place.now) entries c.args.group.now c.loop-part.spreads.items
-    (subst (λ (xs : List Part). AreSpread p entries xs c.loop-part.spreads.items) all c.loop-part.invariant))
+    let group = c.args.group.now in
+    pairs-all (are_parts_apart p entries) group c.loop-i.i (drop_all _ group c.loop-i-test.false) c.loop-i.invariant.pairs
+    ∙ sym (group-pairs p (g.met.P.Place.turned c.args.place.now) entries group)

@@ -1,7 +1,0 @@
-use Rattle.std.proofs.Common.{◌≡◌, ◌++◌, drop}
-use Rattle.std.specs.Prelude.{filter}
-use Rattle.mm_verify.proofs.spreads.variables.Given as goal
-
-abbrev pub invariant-loop-symbol : goal.invariant-loop-symbol
-invariant-loop-symbol g l =
-    l.variables.items ++ filter (g.P.Place.place l.place).is_variable (drop l.symbol-index l.text) ≡ filter (g.P.Place.place l.place).is_variable l.text
