@@ -1,7 +1,7 @@
 -- The instance of a pattern, around that of its first part.
 use Rattle.std.proofs.Common.{◌≡◌, List, Some, sym, ap}
 use Rattle.ml_pat.specs.Patterns.{Pattern, bot, top, imp, not, and, or, equal, member, fun, ex, all, app, at_sort, next, ev, var, meta, constant}
-use Rattle.ml_pat.specs.Spines.{first_part}
+use Rattle.ml_pat.specs.FirstPart.{first_part}
 use Rattle.ml_pat.proofs.SpineLaws.{some_same, none_some}
 use Rattle.ml_kernel.specs.Lemmas.{instance}
 use Rattle.ml_kernel.specs.Spines.{around}

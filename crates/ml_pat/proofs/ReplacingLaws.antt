@@ -3,7 +3,8 @@ use Rattle.std.proofs.Common.{◌≡◌, ◌==◌, ◌||◌, ◌&&◌, ℕ, Bool
 use Rattle.std.proofs.Common as std
 use Rattle.ml_pat.specs.Patterns.{Pattern, bot, top, imp, not, and, or, equal, member, fun, ex, all, app, at_sort, next, ev, var, meta, constant}
 use Rattle.ml_pat.specs.Judgements.{fresh, substituted, both_parts, under_quantifier}
-use Rattle.ml_pat.specs.Spines.{first_part, with_parts}
+use Rattle.ml_pat.specs.FirstPart.{first_part}
+use Rattle.ml_pat.specs.Spines.{with_parts}
 use Rattle.ml_pat.specs.Replacing.{both_replaced, one_replaced, under_replaced, replaced, around}
 use Rattle.ml_pat.specs.declared.substitution.Outcome.{Outcome}
 use Rattle.ml_pat.specs.declared.substitution.Outcome.TheVariants.{Kept, New, Captured}

@@ -3,7 +3,8 @@ use Rattle.std.proofs.Common.{◌≡◌, ◌≤◌, ◌<◌, List, [], ◌∷◌
 use Rattle.std.specs.Borrow.{Bor}
 use Rattle.ml_pat.specs.Patterns.{Pattern, bot, top, imp, not, and, or, equal, member, fun, ex, all, app, at_sort, next, ev, var, meta, constant}
 use Rattle.ml_pat.specs.FormsIn.{forms_in}
-use Rattle.ml_pat.specs.Spines.{first_part, LeadsTo}
+use Rattle.ml_pat.specs.FirstPart.{first_part}
+use Rattle.ml_pat.specs.Spines.{LeadsTo}
 
 pub some_same : (p q : Pattern) → Some p ≡ Some q → p ≡ q
 some_same p q h = cc

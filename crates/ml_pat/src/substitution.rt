@@ -2,7 +2,8 @@
 ghost use Rattle.std.specs.Prelude.{◌≡◌, ◌==◌, option_copied, IfOk};
 ghost use Rattle.ml_pat.specs.Judgements.{fresh, substituted};
 ghost use Rattle.ml_pat.specs.PatternView.{pattern_of};
-ghost use Rattle.ml_pat.specs.Spines.{first_part, with_parts};
+ghost use Rattle.ml_pat.specs.FirstPart.{first_part};
+ghost use Rattle.ml_pat.specs.Spines.{with_parts};
 ghost use Rattle.ml_pat.specs.Replacing.{replaced, around, both_replaced, one_replaced, under_replaced};
 ghost use Rattle.ml_pat.specs.declared.substitution.Outcome.TheVariants.{New};
 

@@ -1,6 +1,7 @@
 use Rattle.std.proofs.Common.{◌≡◌, ◌++◌, ◌∷◌, [], List, Bor, Some, ◌∙◌, ap, sym, subst, arith, rules}
 use Rattle.ml_pat.specs.Patterns.{Pattern}
-use Rattle.ml_pat.specs.Spines.{first_part, LeadsTo}
+use Rattle.ml_pat.specs.FirstPart.{first_part}
+use Rattle.ml_pat.specs.Spines.{LeadsTo}
 use Rattle.ml_pat.proofs.SpineLaws.{LeadsTo-push, LeadsTo-pop, LeadsTo-smaller}
 use Rattle.ml_kernel.specs.Spines.{around}
 use Rattle.ml_kernel.proofs.SpineLaws.{around-instance}
