@@ -27,7 +27,7 @@ PutsFile-then : (a b c : List (List ℕ × List ℕ)) (name xs ys : List ℕ) �
 PutsFile-then a b c name xs ys p q = (q.0, λ other differ. q.1 other differ ∙ p.1 other differ)
 
 -- two writes
-Writes-then : (a b c : Option Told) (xs ys : List ℕ) → Writes a b xs → Writes b c ys → Writes a c (xs ++ ys)
+pub Writes-then : (a b c : Option Told) (xs ys : List ℕ) → Writes a b xs → Writes b c ys → Writes a c (xs ++ ys)
 Writes-then None b c xs ys p q = tt
 Writes-then (Some old) b c xs ys p q =
     let r : Writes (Some (record old { files = p.2 })) c ys = rw p.6 at q in

@@ -2,6 +2,9 @@
 ghost use Rattle.std.specs.Prelude.{◌≡◌, ℕ, Bool, true, false, ◌<◌, ◌≤◌, Option, length, take, is_ok, IsTrue, IsFalse, IfOk, OnOk, OnErr, IsErrOf};
 ghost use Rattle.desk_io.specs.Told.{Told, Opens, Passed, AtEnd, Same, TellsCreated, Creates, Writes, Closes};
 ghost use Rattle.desk_io.specs.Counts.{Rose};
+ghost use Rattle.desk_io.specs.declared.desk.DeskFault.TheVariants.{Memory};
+
+use std::alloc::AllocError;
 
 /// Why a call on a desk or a sink did nothing.
 #[derive(Clone, Copy, Debug, PartialEq, Eq)]
@@ -11,6 +14,14 @@ pub enum DeskFault {
 
     /// Memory ran out.
     Memory,
+}
+
+impl From<AllocError> for DeskFault {
+    ghost from_gives = { λ _ e. e ≡ Memory };
+
+    fn from(_error: AllocError) -> DeskFault {
+        DeskFault::Memory
+    }
 }
 
 /// A place with named files. One at a time is read, and one at a time is created and written. Each

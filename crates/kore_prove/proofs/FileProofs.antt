@@ -1,8 +1,12 @@
 -- The file of a proof, and what becomes of the other files.
 use Rattle.std.proofs.Common.{◌≡◌, ◌≢◌, ℕ, List, [], ◌++◌, Option, Some, None, true, refl, sym, ◌∙◌, ap, subst}
-use Rattle.desk_io.specs.Told.{Told, KeepsFiles, Same, TellsCreated, Creates, Writes, WritesFront, Closes, PutsFile, file_of}
-use Rattle.kore_prove.specs.ProvedRun.{Tells, TellsNow, KeepsOthers}
-use Rattle.kore_prove.specs.ProofFiles.{PutsCreated, KeepsOthersNow}
+use Rattle.desk_io.specs.Told.{Told, KeepsFiles, Same, TellsCreated, Creates, Writes, Closes, PutsFile, file_of}
+use Rattle.term_core.specs.Patterns.{Pattern}
+use Rattle.rule_core.specs.Theories.{RewriteTheory}
+use Rattle.rule_core.specs.Runs.{Run}
+use Rattle.run_proof.specs.WrittenProofs.{WritesProof, WritesSome}
+use Rattle.kore_prove.specs.ProvedRun.{Tells, TellsNow, KeepsOthers, HoldsProof}
+use Rattle.kore_prove.specs.ProofFiles.{PutsCreated, PutsProof, KeepsOthersNow}
 
 some_same : {A : Type 0} (a b : A) → Some a ≡ Some b → a ≡ b
 some_same a b h = cc
@@ -80,7 +84,20 @@ puts_others (Some made) new name bytes told h = (
       (h.2 created told.1 is held).1 other differs),
 )
 
--- a part that was written, and closed
-pub front_closed : (made mid new : Option Told) (bytes : List ℕ) → WritesFront made mid bytes → Closes mid new → TellsCreated true made → KeepsOthersNow made new
-front_closed None mid new bytes h k told = tt
-front_closed (Some made) mid new bytes h k told = puts_others (Some made) new told.0 h.0 told (written_closed (Some made) mid new h.0 h.3 k)
+-- some bytes that were written, and closed
+pub some_closed : (made mid new : Option Told) → WritesSome made mid → Closes mid new → TellsCreated true made → KeepsOthersNow made new
+some_closed None mid new h k told = tt
+some_closed (Some made) mid new h k told = puts_others (Some made) new told.0 h.0 told (written_closed (Some made) mid new h.0 h.1 k)
+
+-- a proof that was written, and closed
+pub proof_closed : (made mid new : Option Told) (theory : RewriteTheory) (start : Pattern) (run : Run) → WritesProof made mid theory start run → Closes mid new → PutsProof made new theory start run
+proof_closed made mid new theory start run h k = (h.0, written_closed made mid new h.0 h.1 k, h.2)
+
+-- the file that was created holds it
+pub created_proof : (old made new : Option Told) (file : List ℕ) (theory : RewriteTheory) (start : Pattern) (run : Run) → Creates old made file → PutsProof made new theory start run →
+    HoldsProof old new file theory start run
+created_proof old made new file theory start run h k = record {
+  bytes = k.0;
+  held = created_tells old made new file k.0 h k.1;
+  justifies = k.2;
+}

@@ -1,11 +1,11 @@
 // The lines of a run and, where one is wanted, the file of its proof.
-ghost use Rattle.std.specs.Prelude.{◌≡◌, ◌≤◌, true, Some, IsTrue, IsFalse, OnOk, IfOk, IsErrOf};
+ghost use Rattle.std.specs.Prelude.{◌≡◌, ◌≤◌, true, Some, IsTrue, IsFalse, IfOk, IsErrOf};
 ghost use Rattle.term_core.specs.RulePatterns.{plain_pattern};
 ghost use Rattle.rule_core.specs.ProgramView.{theory_of};
 ghost use Rattle.desk_io.specs.Counts.{Rose};
 ghost use Rattle.prove_run.specs.Covered.{is_covered};
 ghost use Rattle.run_loop.specs.RunEnds.{plain_run};
-ghost use Rattle.kore_prove.specs.ProofFiles.{PutsCreated, KeepsOthersNow};
+ghost use Rattle.kore_prove.specs.ProofFiles.{PutsProof, KeepsOthersNow};
 ghost use Rattle.kore_prove.specs.ProvedRun.{IsProvable, HoldsProof, HasWantedProof, KeepsOthers};
 ghost use Rattle.kore_prove.specs.Requests.{request, IsWanted};
 ghost use Rattle.kore_prove.specs.Runnable.{IsRunnable};
@@ -14,12 +14,12 @@ ghost use Rattle.kore_prove.specs.RunsDone.{HasLines};
 use crate::files::Accepted;
 use crate::running::{lines_of_run, proved_lines_of_run};
 use command_words::RunWords;
-use desk_io::{Desk, DeskFault, write_whole};
+use desk_io::{Desk, DeskFault};
 use run_loop::RunEnd;
 use std::alloc::Global;
 
 /// How the run that is asked for ends, and its two lines. Where a file for the proof is named, it is created before the
-/// run, and written and closed after it. The error is want of memory or a fault that the desk counted.
+/// run, written as the run goes, and closed after it. The error is want of memory or a fault that the desk counted.
 pub fn made_lines<D: Desk>(
     alloc: Global,
     desk: &mut D,
@@ -69,34 +69,38 @@ fn proved_lines<D: Desk>(
     ensures reads { D.read_faults desk.new ≡ D.read_faults desk.old }
 {
     match desk.create_file(file) {
-        Ok(()) => match proved_lines_of_run(alloc, accepted, asked) {
-            Ok(proved) => match put_and_close(desk, &proved.text) {
-                Ok(()) => Ok((proved.end, proved.lines)),
-                Err(fault) => Err(fault),
-            },
-            Err(_) => {
-                let _closed = desk.close_file();
-                Err(DeskFault::Memory)
-            }
-        },
+        Ok(()) => proved_and_closed(alloc, desk, accepted, asked),
         Err(fault) => Err(fault),
     }
 }
 
-// Writes all of the text to the created file and closes it, after a fault too.
-fn put_and_close<D: Desk>(desk: &mut D, text: &[u8]) -> Result<(), DeskFault>
-    requires { IsTrue (D.created desk.old) }
-    ensures puts { OnOk result (PutsCreated (D.told desk.old) (D.told desk.new) text.now) }
+// The same, in the created file, which is closed then, after a fault too.
+fn proved_and_closed<D: Desk>(
+    alloc: Global,
+    desk: &mut D,
+    accepted: &Accepted,
+    asked: &RunWords<'_>,
+) -> Result<(RunEnd, Vec<u8>), DeskFault>
+    requires file { IsTrue (D.created desk.old) }
+    requires runnable { IsRunnable accepted.now }
+    requires covered { is_covered (theory_of accepted.now.program) (plain_pattern accepted.now.start) ≡ true }
+    ensures run { IfOk result (λ r. HasLines (request asked.now)
+        (theory_of accepted.now.program) (plain_pattern accepted.now.start) (plain_run r.0) r.1.items) }
+    ensures proof { IfOk result (λ r. PutsProof (D.told desk.old) (D.told desk.new)
+        (theory_of accepted.now.program) (plain_pattern accepted.now.start) (plain_run r.0)) }
     ensures files { KeepsOthersNow (D.told desk.old) (D.told desk.new) }
     ensures failed { IsErrOf result DeskFault.Failed → Rose (D.write_faults desk.old) (D.write_faults desk.new) }
     ensures counts { D.write_faults desk.old ≤ D.write_faults desk.new }
     ensures created { IsFalse (D.created desk.new) }
     ensures reads { D.read_faults desk.new ≡ D.read_faults desk.old }
 {
-    let written = write_whole(desk, text);
+    let proved = proved_lines_of_run(alloc, desk, accepted, asked);
     let closed = desk.close_file();
-    match written {
-        Ok(()) => closed,
+    match proved {
+        Ok(lines) => match closed {
+            Ok(()) => Ok(lines),
+            Err(fault) => Err(fault),
+        },
         Err(fault) => Err(fault),
     }
 }

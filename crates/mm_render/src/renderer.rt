@@ -124,12 +124,7 @@ impl Renderer {
     /// that stand in it or in its proof where there are any. Where it is over the names that were declared, and its
     /// proof uses only these and cites only what was stated before, each text that fits fits with it behind, and has
     /// gained just this theorem. Where memory is wanting, nothing changes.
-    pub fn lemma(
-        &mut self,
-        names: &Names,
-        lemma: &Thm,
-        to: &mut Vec<u8>,
-    ) -> Result<(), AllocError>
+    pub fn lemma(&mut self, names: &Names, lemma: &Thm, to: &mut Vec<u8>) -> Result<(), AllocError>
         ensures states { OnOk result (StatesLemma names.now self.old self.new lemma.now to.old.items to.new.items) }
         ensures kept { OnOk result (self.new ≡ with_stated self.old (claim_of lemma.now.hypotheses lemma.now.conclusion)) }
         ensures unchanged { OnErr result (to.new.items ≡ to.old.items) }

@@ -1,7 +1,10 @@
 -- What stays true of what was written when a context grows, and of initial terms.
 use Rattle.std.proofs.Common.{◌≡◌, ℕ, ◌<◌, ◌≤◌, ◌^◌, List, [], ◌∷◌, ◌++◌, Some, None, length, zero, suc, inl, inr, refl, ap, ◌∙◌, sym, subst, arith, length-append}
-use Rattle.std.specs.Prelude.{slice_get}
+use Rattle.std.specs.Prelude.{slice_get, Contains}
+use Rattle.std.proofs.lemmas.List.Elements.{Contains-append_left, Contains-append_right}
 use Rattle.ml_pat.specs.Patterns.{Pattern}
+use Rattle.ml_kernel.specs.Lemmas.{HasNoVariable}
+use Rattle.ml_kernel.specs.Theorems.{Theorem}
 use Rattle.term_core.specs.Patterns.{Pattern as RulePattern, Patterns as RulePatterns, variable, domain_value, application, injection, call, no_pattern, more_patterns}
 use Rattle.rule_core.specs.Matching.{StandsIn, StandsInSome}
 use Rattle.rule_core.specs.Sorting.{HasSort, HaveSorts}
@@ -17,6 +20,8 @@ use Rattle.mm_claims.specs.Keeping.{Fits}
 use Rattle.mm_claims.specs.LaterLaws.{FitsLater}
 use Rattle.mm_justify.specs.Justifying.{HasOnlyAxiomsOf}
 use Rattle.prove_term.specs.Contexts.{Context, HasGrown}
+use Rattle.prove_step.specs.Schemas.{IsOpenFrom}
+use Rattle.prove_step.proofs.SchemaLaws.{open_no_variable, open_closed, image_is_open}
 use Rattle.proof_writer.specs.declared.writer.Writer.{Writer}
 use Rattle.proof_writer.specs.Writing.{HasNoVariables, HasWritten, HasWrittenAll, IsTextOf}
 
@@ -58,7 +63,23 @@ image_grown stays old new a p g h =
     subst (λ (names : List (List ℕ)). image_of new.program.sig names a ≡ Some p) (sym g.names.all)
     (subst (λ (q : Program). image_of q.sig (old.names ++ g.names.gained) a ≡ Some p) (sym g.program) (stays old.program.sig old.names g.names.gained a p h))
 
+pub lemma_grown : (old new : Context) (t : Theorem) → HasGrown old new → Contains old.lemmas t → Contains new.lemmas t
+lemma_grown old new t g there =
+    subst (λ (ts : List Theorem). Contains ts t) (sym g.more_lemmas) (Contains-append_left old.lemmas g.lemmas t there)
+
+-- the lemma that was kept last is there
+pub kept_lemma : (old new : Context) (t lemma : Theorem) → new ≡ record old { lemmas = old.lemmas ++ t ∷ [] } → lemma ≡ t → Contains new.lemmas lemma
+kept_lemma old new t lemma is same =
+    subst (λ (cx : Context). Contains cx.lemmas lemma) (sym is)
+    (Contains-append_right old.lemmas (t ∷ []) lemma (zero, omega arith, sym same))
+
 -- ---- initial terms
+
+-- no object variable stands in the image of a pattern without variables
+pub image_is_closed : (sig : Signature) (names : List (List ℕ)) (p : RulePattern) (q : Pattern) → HasImage sig 0 p → image_of sig names p ≡ Some q → HasNoVariable q
+image_is_closed sig names p q has is =
+    let is_open : IsOpenFrom 0 0 q = image_is_open sig names 0 p has q is in
+    subst HasNoVariable (open_closed 0 q is_open) (open_no_variable 0 0 q is_open)
 
 none_some : {A : Type 0} (x : A) → None ≡ Some x → ⊥
 none_some x h = cc

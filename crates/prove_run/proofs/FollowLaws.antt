@@ -5,9 +5,9 @@ use Rattle.std.proofs.lemmas.Bool.{false≢true}
 use Rattle.std.proofs.lemmas.List.{append_assoc}
 use Rattle.ml_pat.specs.Patterns.{Pattern, imp, next, ev}
 use Rattle.ml_kernel.specs.Theorems.{Theorem, IsByLemma}
-use Rattle.ml_kernel.specs.Lemmas.{HasNoMeta, instance}
+use Rattle.ml_kernel.specs.Lemmas.{HasNoMeta, HasNoVariable, instance}
 use Rattle.ml_kernel.proofs.InstanceLaws.{instance-empty}
-use Rattle.ml_scope.specs.Scopes.{Scope, IsOver, IsWithin, StaysWithin}
+use Rattle.ml_scope.specs.Scopes.{Scope, IsOver, IsWithin}
 use Rattle.ml_scope.proofs.RuleLaws.{lemma_within}
 use Rattle.term_core.specs.Terms.{Tree, Forest, leaf, node, inj, no_tree, more_trees}
 use Rattle.term_core.specs.Patterns.{Pattern as RulePattern, ground_pattern, ground_patterns}
@@ -21,7 +21,7 @@ use Rattle.rule_core.specs.Theories.{RewriteTheory}
 use Rattle.mm_claims.specs.LaterLaws.{FitsLater}
 use Rattle.prove_step.specs.PlainRules.{is_plain, are_plain, is_plain_rule}
 use Rattle.prove_run.specs.Covered.{is_covered}
-use Rattle.std.specs.Prelude.{slice_get, Option}
+use Rattle.std.specs.Prelude.{slice_get, Option, Contains}
 use Rattle.term_core.specs.Patterns.{instance_of}
 use Rattle.term_core.specs.RulePatterns.{plain_pattern}
 use Rattle.term_core.specs.declared.rule_patterns.RulePat.{RulePat}
@@ -35,7 +35,8 @@ use Rattle.prove_run.specs.Proving.{CanStep}
 use Rattle.prove_run.proofs.PlainSteps.{match_makes, right_is_plain, plain_at}
 use Rattle.proof_writer.specs.declared.writer.Writer.{Writer}
 use Rattle.prove_run.specs.Reaching.{HasReached}
-use Rattle.prove_run.proofs.ContextLaws.{image_grown, text_grown}
+use Rattle.prove_run.specs.ReachLemma.{GoesFurther}
+use Rattle.prove_run.proofs.ContextLaws.{image_grown, text_grown, lemma_grown}
 use Rattle.ml_image.specs.Images.{image_of}
 use Rattle.ml_image.specs.Sentences.{term}
 use Rattle.mm_claims.specs.Kept.{Kept}
@@ -48,13 +49,13 @@ pub cited_says : (p q : Pattern) → HasNoMeta p → q ≡ instance [] p → q �
 cited_says p q no_meta is = is ∙ instance-empty [] p refl no_meta
 
 -- What follows from the theorem that was stated last, which is about images, and from one that stays in the context.
-pub follows_from : (cx : Context) (k : Kept) (last sofar step further : Theorem) (a b : RulePattern) (from to : Pattern)
+pub follows_from : (cx : Context) (k : Kept) (last sofar step further reach : Theorem) (a b : RulePattern) (from to : Pattern)
     → image_of cx.program.sig cx.names a ≡ Some from → image_of cx.program.sig cx.names b ≡ Some to → sofar.conclusion ≡ imp from (ev to)
-    → IsStated k.stated last.hypotheses last.conclusion → IsByLemma last [] [] sofar → StaysIn cx step → StaysWithin [] (sofar ∷ step ∷ []) further → MayFollow cx k further
-follows_from cx k last sofar step further a b from to image image' says stated by stays closure s has told =
+    → IsStated k.stated last.hypotheses last.conclusion → IsByLemma last [] [] sofar → StaysIn cx step → Contains cx.lemmas reach → GoesFurther reach sofar step further → MayFollow cx k further
+follows_from cx k last sofar step further reach a b from to image image' says stated by stays listed goes s has told =
     let over : IsOver s (imp from (ev to)) = (has.images (term a) from image, has.images (term b) to image') in
     let sofar_within : IsWithin s sofar = lemma_within s last [] [] sofar by (told last.hypotheses last.conclusion stated) tt (subst (IsOver s) (sym says) over) tt in
-    closure s tt (sofar_within, (stays s has, tt))
+    goes s (has.lemmas reach listed) (sofar_within, (stays s has, tt))
 
 -- ---- a step
 
@@ -95,6 +96,14 @@ pub linked : (old new : Context) (w : Writer) (last sofar step : Theorem) (start
     IsOneStepOn sofar.conclusion step.conclusion
 linked old new w last sofar step start t u m =
     (m.reached.from, (m.reached.to, (m.says.to, (sofar_says old new w last sofar step start t u m, step_says old new w last sofar step start t u m))))
+
+-- no object variable stands in what they say
+pub both_closed : (old new : Context) (w : Writer) (last sofar step : Theorem) (start : RulePattern) (t u : Tree) (m : Making old new w last sofar step start t u) →
+    HasNoVariable sofar.conclusion × HasNoVariable step.conclusion
+both_closed old new w last sofar step start t u m = (
+  subst HasNoVariable (sym (sofar_says old new w last sofar step start t u m)) m.reached.closed,
+  subst HasNoVariable (sym m.says.says) m.says.no_variable,
+)
 
 -- so the start reaches what the step makes
 pub further_says : (old new : Context) (w : Writer) (last sofar step further : Theorem) (start : RulePattern) (t u : Tree) (m : Making old new w last sofar step start t u) →
@@ -205,12 +214,12 @@ making stays no_metas prover w last start i theta u new sofar step s grown says 
 }
 
 -- so the theorem that reaches further follows from what is written
-pub further_follows : (prover new : Context) (w : Writer) (last sofar step further : Theorem) (start : RulePattern) (t u : Tree) (m : Making prover new w last sofar step start t u)
-    → IsByLemma last [] [] sofar → StaysIn new step → StaysWithin [] (sofar ∷ step ∷ []) further → MayFollow new w.renderer further
-further_follows prover new w last sofar step further start t u m by stays closure =
-    follows_from new w.renderer last sofar step further start (ground_pattern t) m.reached.from m.reached.to
+pub further_follows : (prover new : Context) (w : Writer) (last sofar step further reach : Theorem) (start : RulePattern) (t u : Tree) (m : Making prover new w last sofar step start t u)
+    → IsByLemma last [] [] sofar → StaysIn new step → Contains prover.lemmas reach → GoesFurther reach sofar step further → MayFollow new w.renderer further
+further_follows prover new w last sofar step further reach start t u m by stays listed goes =
+    follows_from new w.renderer last sofar step further reach start (ground_pattern t) m.reached.from m.reached.to
     (image_grown m.stays prover new start m.reached.from m.grown m.reached.from_image) (image_grown m.stays prover new (ground_pattern t) m.reached.to m.grown m.reached.to_image)
-    (sofar_says prover new w last sofar step start t u m) m.reached.stated by stays closure
+    (sofar_says prover new w last sofar step start t u m) m.reached.stated by stays (lemma_grown prover new reach m.grown listed) goes
 
 -- and says how far the run has come then
 pub further_reached : (prover new : Context) (w w' : Writer) (last sofar step further : Theorem) (start : RulePattern) (t u : Tree) (m : Making prover new w last sofar step start t u)
@@ -223,6 +232,7 @@ further_reached prover new w w' last sofar step further start t u m reaches none
   to_image = m.says.to_image;
   from_ground = m.reached.from_ground;
   to_ground = ground_has_none u;
+  closed = (m.reached.closed.0, m.says.no_variable.1);
   says = further_says prover new w last sofar step further start t u m reaches;
   no_hypotheses = none;
   stated = stated;

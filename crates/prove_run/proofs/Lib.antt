@@ -2,3 +2,4 @@ pub mod ContextLaws
 pub mod FollowLaws
 pub mod PlainSteps
 pub mod WritingOn
+pub mod ReachLaws

@@ -1,5 +1,5 @@
 -- How a `Proof` of the code is seen, and what is true of it.
-use Rattle.std.specs.Prelude.{◌≡◌, true}
+use Rattle.std.specs.Prelude.{◌≡◌, true, Contains}
 use Rattle.std.specs.List.{list_all}
 use Rattle.term_core.specs.RulePatterns.{plain_pattern}
 use Rattle.rule_core.specs.ProgramView.{theory_of}
@@ -10,6 +10,7 @@ use Rattle.proof_writer.specs.PlainNames.{HasPlainNames}
 use Rattle.proof_writer.specs.Writing.{HasWrittenAll}
 use Rattle.prove_run.specs.RunProof.{RunProof, configuration}
 use Rattle.prove_run.specs.Reaching.{HasReached}
+use Rattle.prove_run.specs.ReachLemma.{IsReachLemma}
 use Rattle.prove_run.specs.declared.proof.Proof.TheInside.{Inside}
 
 abbrev pub run_proof : Inside → RunProof
@@ -21,8 +22,8 @@ run_proof p = record {
   kept = p.writer.renderer;
 }
 
--- The program is well-sorted, and its names can stand in a text; all that was made is written; and the last theorem
--- says how far the run has come.
+-- The program is well-sorted, and its names can stand in a text; all that was made is written; the last theorem says
+-- how far the run has come; and the lemma by which it goes further is one of the context's.
 pub record IsProof (p : Inside) : Type 0 where
   pub well_sorted : IsWellSorted (theory_of p.prover.program)
   pub names : HasPlainNames p.prover.program.sig
@@ -32,3 +33,5 @@ pub record IsProof (p : Inside) : Type 0 where
   pub plain : is_plain (configuration (plain_pattern p.start.now) p.reached) ≡ true
   pub has_reached : HasReached p.prover p.writer p.last (plain_pattern p.start.now)
       (configuration (plain_pattern p.start.now) p.reached)
+  pub reach : IsReachLemma p.reach
+  pub listed : Contains p.prover.lemmas p.reach

@@ -2,6 +2,7 @@
 use Rattle.std.specs.Prelude.{◌≡◌, [], Some}
 use Rattle.term_core.specs.Patterns.{Pattern as RulePattern}
 use Rattle.ml_pat.specs.Patterns.{Pattern, imp, ev}
+use Rattle.ml_kernel.specs.Lemmas.{HasNoVariable}
 use Rattle.ml_kernel.specs.Theorems.{Theorem}
 use Rattle.ml_image.specs.Images.{image_of}
 use Rattle.mm_claims.specs.Places.{IsStated}
@@ -17,6 +18,7 @@ pub record HasReached (cx : Context) (w : Writer) (last : Theorem) (start reache
   pub to_image : image_of cx.program.sig cx.names reached ≡ Some to
   pub from_ground : HasNoVariables start
   pub to_ground : HasNoVariables reached
+  pub closed : HasNoVariable from × HasNoVariable to
   pub says : last.conclusion ≡ imp from (ev to)
   pub no_hypotheses : last.hypotheses ≡ []
   pub stated : IsStated w.renderer.stated last.hypotheses last.conclusion

@@ -11,6 +11,7 @@
 #![tactic(auto)]
 
 mod covered;
+mod further;
 mod proof;
 
 pub use covered::is_covered;

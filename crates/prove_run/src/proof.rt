@@ -1,16 +1,18 @@
 // A proof of a run, step by step.
-ghost use Rattle.std.specs.Prelude.{◌≡◌, true, [], IfOk, OnOk};
+ghost use Rattle.std.specs.Prelude.{◌≡◌, true, [], Contains, IfOk, OnOk};
 ghost use Rattle.term_core.specs.RulePatterns.{plain_pattern};
 ghost use Rattle.rule_core.specs.ProgramView.{theory_of};
 ghost use Rattle.rule_core.specs.WellSorted.{IsStart, IsWellSorted};
 ghost use Rattle.mm_claims.specs.Places.{IsStated};
-ghost use Rattle.prove_term.specs.Contexts.{IsContext};
+ghost use Rattle.prove_term.specs.Contexts.{HasGrown, IsContext};
 ghost use Rattle.proof_writer.specs.PlainNames.{HasPlainNames};
 ghost use Rattle.proof_writer.specs.Writing.{Adds, Concludes, HasWritten, HasWrittenAll, Keeps, MayFollow};
 ghost use Rattle.prove_run.specs.Covered.{is_covered};
 ghost use Rattle.prove_run.specs.Proving.{Begins, CanStep, StepsTo};
+ghost use Rattle.prove_run.specs.ReachLemma.{IsReachLemma};
 
-use ml_derived::{reach_here, reach_step};
+use crate::further::{reach_further, reach_lemma};
+use ml_derived::reach_here;
 use ml_image::{condition_laws, naming_laws};
 use ml_kernel::{Lemma, Thm};
 use mm_claims::later_laws;
@@ -33,6 +35,8 @@ pub struct Proof<'p> {
     reached: Option<Term>,
     // The theorem that says so.
     last: Lemma,
+    // The lemma by which it goes one step further.
+    reach: Lemma,
 }
 
 impl<'p> Model for Proof<'p> {
@@ -73,6 +77,7 @@ impl<'p> Proof<'p> {
         naming_laws();
         let mut prover = Prover::new(alloc, program)?;
         let mut writer = Writer::begin(alloc, program, to)?;
+        let reach = keep_reach_lemma(alloc, &mut prover)?;
         let here = prover.image(alloc, start)?;
         let thm = reach_here(alloc, &here)?;
         let last = state(&prover, &mut writer, thm, to)?;
@@ -82,6 +87,7 @@ impl<'p> Proof<'p> {
             start,
             reached: None,
             last,
+            reach,
         })
     }
 
@@ -106,7 +112,7 @@ impl<'p> Proof<'p> {
         let mut writer = self.writer;
         let step = prover.step(alloc, rule, subst)?;
         let sofar = Thm::use_lemma(alloc, &self.last, &[], &[])?;
-        let further = reach_step(alloc, &sofar, &step)?;
+        let further = reach_further(alloc, &self.reach, &sofar, &step)?;
         let last = state(&prover, &mut writer, further, to)?;
         let made = config.share()?;
         Ok(Proof {
@@ -115,8 +121,22 @@ impl<'p> Proof<'p> {
             start: self.start,
             reached: Some(made),
             last,
+            reach: self.reach,
         })
     }
+}
+
+// Keeps the lemma by which a run goes further in the context.
+fn keep_reach_lemma(alloc: Global, prover: &mut Prover<'_>) -> Result<Lemma, AllocError>
+    ensures says { IfOk result IsReachLemma }
+    ensures there { IfOk result (Contains prover.new.lemmas) }
+    ensures grown { HasGrown prover.old prover.new }
+{
+    let thm = reach_lemma(alloc)?;
+    let shared = thm.share(alloc)?;
+    let lemma = Lemma::close(shared)?;
+    prover.add_lemma(alloc, thm)?;
+    Ok(lemma)
 }
 
 // Writes what was made, and a theorem that follows from it.

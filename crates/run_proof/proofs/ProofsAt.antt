@@ -1,7 +1,8 @@
 -- A proof that has come as far as a run, with its text.
 use Rattle.std.proofs.Common.{◌≡◌, ℕ, zero, suc, true, List, [], ◌∷◌, ◌++◌, Option, Some, None, slice_get, refl, sym, ◌∙◌, ap, subst}
-use Rattle.std.specs.Prelude.{option_map}
+use Rattle.std.specs.Prelude.{option_map, Result, Ok, Err, IfOk, OnOk, OnErr}
 use Rattle.std.specs.List.{list_all}
+use Rattle.std.proofs.lemmas.List.{append_assoc}
 use Rattle.std.proofs.lemmas.Option.{slice_get-map}
 use Rattle.term_core.specs.Terms.{Tree}
 use Rattle.term_core.specs.Patterns.{Pattern, ground_pattern, instance_of}
@@ -27,7 +28,11 @@ use Rattle.rewriter.specs.Configurations.{IsStartOf, RunState, IsConfiguration}
 use Rattle.run_proof.specs.declared.steps.ProvedSteps.{ProvedSteps}
 use Rattle.run_proof.specs.declared.steps.Going.{Going}
 use Rattle.run_proof.specs.declared.steps.Going.TheVariants as going
-use Rattle.run_proof.specs.ProvedSteps.{IsProofAt, IsAtStep, GoesOn, IsFurther}
+use Rattle.run_proof.specs.ProvedSteps.{IsProofAt, IsProvedRun, GoesOn, IsFurther}
+use Rattle.desk_io.specs.Told.{Told, TellsCreated, Writes, WritesFront}
+use Rattle.desk_io.proofs.Told.{Writes-nil, Writes-then}
+use Rattle.rule_core.specs.Runs.{Run, kept_by}
+use Rattle.run_proof.specs.WrittenProofs.{WritesProof, WritesSome}
 use Rattle.run_proof.proofs.PlainPatterns.{both, recorded_is, instance_is}
 
 pub covered_start : (theory : RewriteTheory) (start : Pattern) → is_covered theory start ≡ true → is_plain start ≡ true
@@ -100,32 +105,29 @@ can_step program start proof text t u i theta step at covered number same follow
           (ap (instance_of step.theta) (ap (λ (r : RewriteRule). r.right) found.2) ∙ makes);
     }
 
-pub goes_on : (program : Program) (start : Pattern) (proof further : RunProof) (before after : List ℕ) (t u : Tree) →
-    IsProofAt program start (ground_pattern t) proof before → StepsTo proof further u before after → IsProofAt program start (ground_pattern u) further after
-goes_on program start proof further before after t u h by = record {
+pub goes_on : (program : Program) (start : Pattern) (proof further : RunProof) (written before after : List ℕ) (t u : Tree) →
+    IsProofAt program start (ground_pattern t) proof (written ++ before) → StepsTo proof further u before after → IsProofAt program start (ground_pattern u) further (written ++ after)
+goes_on program start proof further written before after t u h by = record {
   same_program = by.same_program ∙ h.same_program;
   same_start = ap plain_pattern by.same_start ∙ h.same_start;
   is_reached = ap (configuration (plain_pattern further.start)) by.made;
-  fits = subst (FitsProof further) (sym by.text.1) (by.text.2 before h.fits);
+  fits = subst (FitsProof further) (append_assoc written before by.text.0 ∙ ap (λ (l : List ℕ). written ++ l) (sym by.text.1)) (by.text.2 (written ++ before) h.fits);
 }
 
 -- where the step is that of the definition
-pub goes_further : (program : Program) (old : ProvedSteps) (run : RunState) (g : Going) → IsAtStep program old →
-    Steps (theory_of program) old.run.config old.run.calls (next run.config run.calls) → IsConfiguration (theory_of program) run.config →
-    IsFurther run old.proof old.text.items g → GoesOn program old g
-goes_further program old run (going.Further new) at step sorted h =
-    let start : Pattern = plain_pattern old.proof.start in
-    let same : run ≡ new.run = sym h.0 in
-    let further : IsProofAt program start (ground_pattern run.config) new.proof new.text.items =
-    goes_on program start old.proof new.proof old.text.items new.text.items old.run.config run.config at.1 h.1 in (
+pub goes_further : (program : Program) (old : ProvedSteps) (run : RunState) (g : Going) → Steps (theory_of program) old.run.config old.run.calls (next run.config run.calls) →
+    IsConfiguration (theory_of program) run.config → IsFurther run old.proof old.text.items g → GoesOn program old g
+goes_further program old run (going.Further new) step sorted h =
+    let same : run ≡ new.run = sym h.0 in (
       subst (λ (s : RunState). Steps (theory_of program) old.run.config old.run.calls (next s.config s.calls)) same step,
-      (
+      λ start written at. (
         subst (λ (s : RunState). IsConfiguration (theory_of program) s.config) same sorted,
-        subst (λ (s : RunState). IsProofAt program start (ground_pattern s.config) new.proof new.text.items) same further,
+        subst (λ (s : RunState). IsProofAt program start (ground_pattern s.config) new.proof (written ++ new.text.items)) same
+            (goes_on program start old.proof new.proof written old.text.items new.text.items old.run.config run.config at.1 h.1),
       ),
     )
-goes_further program old run (going.Stuck last left) at step sorted h = absurd h
-goes_further program old run (going.Blocked why last left) at step sorted h = absurd h
+goes_further program old run (going.Stuck last left) step sorted h = absurd h
+goes_further program old run (going.Blocked why last left) step sorted h = absurd h
 
 -- so the text justifies the run so far
 pub justified : (program : Program) (start at end : Pattern) (proof : RunProof) (text : List ℕ) → IsProofAt program start at proof text → at ≡ end →
@@ -139,3 +141,51 @@ justified program start at end proof text h last =
 -- the initial term, as the rewriter asks for it
 pub start_of : (theory : RewriteTheory) (start : Pattern) → IsStart theory start → IsStartOf theory start
 start_of theory start h = (h.0, h.2, h.1)
+
+-- ---- the text that was written
+
+pub on_err : {T E : Type 0} (r : Result T E) (P : Type 0) → P → OnErr r P
+on_err (Ok t) P h = tt
+on_err (Err e) P h = h
+
+-- nothing was written
+pub none_written : (told : Option Told) → TellsCreated true told → WritesSome told told
+none_written told h = ([], Writes-nil told h)
+
+-- bytes were written up to a fault
+pub front_written : (old new : Option Told) (bytes : List ℕ) → WritesFront old new bytes → WritesSome old new
+front_written None new bytes h = ([], tt)
+front_written (Some old) new bytes h = (h.0, h.3)
+
+-- more bytes were written
+pub more_written : (old mid new : Option Told) → WritesSome old mid → WritesSome mid new → WritesSome old new
+more_written old mid new h k = (h.0 ++ k.0, Writes-then old mid new h.0 k.0 h.1 k.1)
+
+-- all of the text was written, of which some was before
+pub all_written : (old mid new : Option Told) (program : Program) (start : Pattern) (run : Run) (written : List ℕ) (s : ProvedSteps) → Writes old mid written → Writes mid new s.text.items →
+    IsProvedRun program start written s → ground_pattern s.run.config ≡ kept_by start run → WritesProof old new (theory_of program) start run
+all_written old mid new program start run written s first rest proved kept =
+    (written ++ s.text.items, Writes-then old mid new written s.text.items first rest, justified program start (ground_pattern s.run.config) (kept_by start run) s.proof (written ++ s.text.items) proved.1 kept)
+
+-- so at the end of a run
+pub ended_proof : {T E : Type 0} (run_of : T → Run) (r : Result T E) (end : T) (old mid new : Option Told) (program : Program) (start : Pattern) (written bytes : List ℕ) (s : ProvedSteps) →
+    Writes old mid written → IsProvedRun program start written s → bytes ≡ s.text.items → ground_pattern s.run.config ≡ kept_by start (run_of end) → IfOk r (λ e. e ≡ end) →
+    OnOk r (Writes mid new bytes) → IfOk r (λ e. WritesProof old new (theory_of program) start (run_of e))
+ended_proof run_of (Err fault) end old mid new program start written bytes s first proved text kept is rest = tt
+ended_proof run_of (Ok e) end old mid new program start written bytes s first proved text kept is rest =
+    all_written old mid new program start (run_of e) written s first (subst (Writes mid new) text rest) proved (kept ∙ ap (λ x. kept_by start (run_of x)) (sym is))
+
+pub on_err_more : {T E : Type 0} (r : Result T E) (P Q : Type 0) → (P → Q) → OnErr r P → OnErr r Q
+on_err_more (Ok t) P Q f h = tt
+on_err_more (Err e) P Q f h = f h
+
+-- some bytes of the text were written, and are not to be written any longer
+pub handed_on : (program : Program) (start : Pattern) (written piece : List ℕ) (old new : ProvedSteps) → new.run ≡ old.run → new.proof ≡ old.proof →
+    old.text.items ≡ piece ++ new.text.items → IsProvedRun program start written old → IsProvedRun program start (written ++ piece) new
+handed_on program start written piece old new run proof text h =
+    let whole : written ++ old.text.items ≡ (written ++ piece) ++ new.text.items = ap (λ (l : List ℕ). written ++ l) text ∙ sym (append_assoc written piece new.text.items) in (
+      subst (λ (s : RunState). IsConfiguration (theory_of program) s.config) (sym run) h.0,
+      subst (λ (s : RunState). IsProofAt program start (ground_pattern s.config) new.proof ((written ++ piece) ++ new.text.items)) (sym run)
+          (subst (λ (p : RunProof). IsProofAt program start (ground_pattern old.run.config) p ((written ++ piece) ++ new.text.items)) (sym proof)
+          (subst (IsProofAt program start (ground_pattern old.run.config) old.proof) whole h.1)),
+    )

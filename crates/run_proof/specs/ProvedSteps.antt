@@ -1,5 +1,5 @@
 -- A run and its proof, step by step: cited by the clauses of private functions alone.
-use Rattle.std.specs.Prelude.{◌≡◌, ℕ, List, []}
+use Rattle.std.specs.Prelude.{◌≡◌, ℕ, List, [], ◌++◌}
 use Rattle.term_core.specs.Terms.{Tree}
 use Rattle.term_core.specs.Patterns.{Pattern, ground_pattern}
 use Rattle.term_core.specs.RulePatterns.{plain_pattern}
@@ -27,20 +27,20 @@ pub record IsProofAt (program : Program) (start at : Pattern) (proof : RunProof)
   pub is_reached : reached proof ≡ at
   pub fits : FitsProof proof text
 
--- the proof has come as far as the run of a program from some start
-abbrev pub IsProvedRun : Program → Pattern → ProvedSteps → Type 0
-IsProvedRun program start s =
+-- the proof has come as far as the run of a program from some start; its text is what was written and what is not yet
+abbrev pub IsProvedRun : Program → Pattern → List ℕ → ProvedSteps → Type 0
+IsProvedRun program start written s =
     IsConfiguration (theory_of program) s.run.config
-    × IsProofAt program start (ground_pattern s.run.config) s.proof s.text.items
+    × IsProofAt program start (ground_pattern s.run.config) s.proof (written ++ s.text.items)
 
 -- .. from its own start
 abbrev pub IsAtStep : Program → ProvedSteps → Type 0
-IsAtStep program s = IsProvedRun program (plain_pattern s.proof.start) s
+IsAtStep program s = (written : List ℕ) × IsProvedRun program (plain_pattern s.proof.start) written s
 
 -- the run of a term begins with its value, or the term has none
 abbrev pub BeginsRun : Program → Pattern → ℕ → Beginning → Type 0
 BeginsRun program start calls (beginning.Begun s) =
-    Reaches (theory_of program) start calls 0 s.run.config s.run.calls × IsProvedRun program start s
+    Reaches (theory_of program) start calls 0 s.run.config s.run.calls × IsProvedRun program start [] s
 BeginsRun program start calls (beginning.Unstarted why text) =
     Evaluates (theory_of program) most_nesting [] start calls (blocked (cause_of why))
     × JustifiesRun text.items (theory_of program) start start
@@ -49,7 +49,7 @@ BeginsRun program start calls (beginning.Unstarted why text) =
 abbrev pub GoesOn : Program → ProvedSteps → Going → Type 0
 GoesOn program old (going.Further new) =
     Steps (theory_of program) old.run.config old.run.calls (next new.run.config new.run.calls)
-    × IsProvedRun program (plain_pattern old.proof.start) new
+    × ((start : Pattern) (written : List ℕ) → IsProvedRun program start written old → IsProvedRun program start written new)
 GoesOn program old (going.Stuck last text) =
     Steps (theory_of program) old.run.config old.run.calls stays × (last ≡ old.run.config) × (text.items ≡ old.text.items)
 GoesOn program old (going.Blocked why last text) =

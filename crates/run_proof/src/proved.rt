@@ -1,50 +1,65 @@
 // The loop of a run that is proved as it goes.
-ghost use Rattle.std.specs.Prelude.{◌≡◌, true, IfOk};
+ghost use Rattle.std.specs.Prelude.{◌≡◌, ◌≤◌, true, IsTrue, IfOk, OnErr, IsErrOf};
 ghost use Rattle.term_core.specs.RulePatterns.{plain_pattern};
 ghost use Rattle.rule_core.specs.ProgramView.{theory_of};
-ghost use Rattle.rule_core.specs.Runs.{IsRunOf, kept_by};
+ghost use Rattle.rule_core.specs.Runs.{IsRunOf};
 ghost use Rattle.rule_core.specs.WellSorted.{IsStart};
-ghost use Rattle.mm_justify.specs.Justifying.{JustifiesRun};
+ghost use Rattle.desk_io.specs.Counts.{Rose};
 ghost use Rattle.proof_writer.specs.PlainNames.{HasPlainNames};
 ghost use Rattle.prove_run.specs.Covered.{is_covered};
 ghost use Rattle.run_loop.specs.RunEnds.{plain_run, IsSortedEnd};
+ghost use Rattle.run_proof.specs.WrittenProofs.{WritesProof, WritesSome};
 
-use crate::steps::{Beginning, Going, at_limit, proved_beginning, proved_step};
+use crate::steps::{Beginning, Going, proved_beginning, proved_step};
+use crate::writing::{at_limit, ended, hand_on};
+use desk_io::{Desk, DeskFault};
 use fun_eval::Engine;
 use run_loop::RunEnd;
-use std::alloc::{AllocError, Global};
+use std::alloc::Global;
 use term_core::RulePat;
 
-/// The run of an initial term, with so many steps and so many calls of functions at most, and a Metamath database that
-/// justifies it, from the initial term to what the run keeps. `AllocError` says that memory was wanting.
+/// The run of an initial term, with at most `limit` steps and `calls` calls of functions. A Metamath database that
+/// justifies it, from the initial term to what the run keeps, is appended to the desk's created file as the run goes.
+/// The error is want of memory or a fault that the desk counted; then some bytes were appended.
 ///
-/// The text of each step is linear in the sizes of the configurations that it speaks of. All of it is held in memory.
-pub fn proved_run<'p>(
+/// The text of a step is linear in the sizes of the configurations that it speaks of. The text of one step and less than
+/// 64 KiB before it are held in memory.
+pub fn proved_run<'p, D: Desk>(
     alloc: Global,
+    desk: &mut D,
     engine: &Engine<'p>,
     start: &'p RulePat,
     limit: u32,
     calls: u32,
-) -> Result<(RunEnd, Vec<u8>), AllocError>
+) -> Result<RunEnd, DeskFault>
+    requires file { IsTrue (D.created desk.old) }
     requires start { IsStart (theory_of engine.now) (plain_pattern start.now) }
     requires covered { is_covered (theory_of engine.now) (plain_pattern start.now) ≡ true }
     requires names { HasPlainNames engine.now.sig }
     ensures run { IfOk result
-        (λ r. IsRunOf (theory_of engine.now) limit calls (plain_pattern start.now) (plain_run r.0)) }
-    ensures sorted { IfOk result (λ r. IsSortedEnd (theory_of engine.now) (plain_run r.0)) }
-    ensures justified { IfOk result (λ r. JustifiesRun r.1.items (theory_of engine.now)
-        (plain_pattern start.now) (kept_by (plain_pattern start.now) (plain_run r.0))) }
+        (λ end. IsRunOf (theory_of engine.now) limit calls (plain_pattern start.now) (plain_run end)) }
+    ensures sorted { IfOk result (λ end. IsSortedEnd (theory_of engine.now) (plain_run end)) }
+    ensures justified { IfOk result (λ end. WritesProof (D.told desk.old) (D.told desk.new)
+        (theory_of engine.now) (plain_pattern start.now) (plain_run end)) }
+    ensures some { OnErr result (WritesSome (D.told desk.old) (D.told desk.new)) }
+    ensures created { IsTrue (D.created desk.new) }
+    ensures failed { IsErrOf result DeskFault.Failed → Rose (D.write_faults desk.old) (D.write_faults desk.new) }
+    ensures counts { D.write_faults desk.old ≤ D.write_faults desk.new }
+    ensures reads { D.read_faults desk.new ≡ D.read_faults desk.old }
 {
     let mut steps = match proved_beginning(alloc, engine, start, calls)? {
         Beginning::Begun(steps) => steps,
-        Beginning::Unstarted(why, text) => return Ok((RunEnd::Unstarted(why), text)),
+        Beginning::Unstarted(why, text) => return ended(desk, &text, RunEnd::Unstarted(why)),
     };
     for made in 0..limit {
         match proved_step(alloc, engine, steps)? {
             Going::Further(further) => steps = further,
-            Going::Stuck(last, text) => return Ok((RunEnd::Stuck(made, last), text)),
-            Going::Blocked(why, last, text) => return Ok((RunEnd::Blocked(made, why, last), text)),
+            Going::Stuck(last, text) => return ended(desk, &text, RunEnd::Stuck(made, last)),
+            Going::Blocked(why, last, text) => {
+                return ended(desk, &text, RunEnd::Blocked(made, why, last));
+            }
         }
+        hand_on(desk, &mut steps.text)?;
     }
-    at_limit(limit, steps)
+    at_limit(desk, limit, steps)
 }

@@ -3,12 +3,10 @@ ghost use Rattle.std.specs.Prelude.{◌≡◌, true, IfOk};
 ghost use Rattle.std.specs.List.{list_all};
 ghost use Rattle.term_core.specs.RulePatterns.{plain_pattern};
 ghost use Rattle.rule_core.specs.ProgramView.{theory_of};
-ghost use Rattle.rule_core.specs.Runs as the_run;
 ghost use Rattle.rule_core.specs.WellSorted.{IsStart};
 ghost use Rattle.proof_writer.specs.PlainNames.{HasPlainNames};
 ghost use Rattle.prove_step.specs.PlainRules.{is_plain_rule};
 ghost use Rattle.prove_run.specs.Covered.{is_covered};
-ghost use Rattle.run_loop.specs.RunEnds.{plain_run};
 ghost use Rattle.prove_run.specs.Proving.{CanStep};
 ghost use Rattle.run_proof.specs.ProvedSteps.{BeginsRun, GoesOn, IsAtStep, IsBlockedAt, IsFurther, IsStuckAt};
 
@@ -16,11 +14,10 @@ use fun_eval::{Engine, EvalEnd, Unrecorded};
 use prove_run::Proof;
 use rewriter::{Made, Next, Run};
 use rule_core::Blocked;
-use run_loop::RunEnd;
 use std::alloc::{AllocError, Global};
 use term_core::{RulePat, Term};
 
-/// A run, the proof of its steps, and the text of the proof.
+/// A run, the proof of its steps, and what is not yet written of the proof's text.
 #[derive(Drop)]
 pub(crate) struct ProvedSteps<'p> {
     pub(crate) run: Run,
@@ -37,7 +34,7 @@ pub(crate) enum Beginning<'p> {
     Unstarted(Blocked, Vec<u8>),
 }
 
-/// What comes of a step. Where none is made, the last configuration and the text are left.
+/// What comes of a step. Where none is made, the last configuration and what is not yet written are left.
 #[derive(Drop)]
 pub(crate) enum Going<'p> {
     /// The step was made.
@@ -130,13 +127,4 @@ fn blocked<'p>(
     ensures { IfOk result (IsBlockedAt why run.now.config text.items) }
 {
     Ok(Going::Blocked(why, run.config().share()?, text))
-}
-
-/// A run that has reached its limit.
-pub(crate) fn at_limit(limit: u32, steps: ProvedSteps<'_>) -> Result<(RunEnd, Vec<u8>), AllocError>
-    ensures end { IfOk result (λ r. plain_run r.0 ≡ the_run.limited limit steps.entry.run.config) }
-    ensures text { IfOk result (λ r. r.1.items ≡ steps.entry.text.items) }
-{
-    let ProvedSteps { run, text, .. } = steps;
-    Ok((RunEnd::Limit(limit, run.config().share()?), text))
 }

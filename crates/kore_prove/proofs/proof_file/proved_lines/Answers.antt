@@ -1,24 +1,26 @@
-use Rattle.std.proofs.Common.{ℕ, List, subst}
-use Rattle.kore_prove.specs.ProofFiles.{PutsCreated}
-use Rattle.kore_prove.proofs.FileProofs.{created_tells, created_others}
+use Rattle.std.proofs.Common.{Result, Ok, Err, IfOk}
+use Rattle.term_core.specs.RulePatterns.{plain_pattern}
+use Rattle.rule_core.specs.ProgramView.{theory_of}
+use Rattle.run_loop.specs.RunEnds.{plain_run}
+use Rattle.kore_prove.specs.ProofFiles.{PutsProof}
+use Rattle.kore_prove.specs.ProvedRun.{HoldsProof}
+use Rattle.kore_prove.proofs.FileProofs.{created_proof, created_others}
 use Rattle.kore_prove.proofs.proof_file.proved_lines.Goals as goal
 
-pub returns-in-Ok-put_and_close-clause-proof : goal.returns-in-Ok-put_and_close-clause-proof
-returns-in-Ok-put_and_close-clause-proof g c =
+if_ok : {T E : Type 0} (r : Result T E) (P Q : T → Type 0) → ((t : T) → P t → Q t) → IfOk r P → IfOk r Q
+if_ok (Ok t) P Q f h = f t h
+if_ok (Err e) P Q f h = tt
+
+pub returns-in-Ok-clause-proof : goal.returns-in-Ok-clause-proof
+returns-in-Ok-clause-proof g c =
     let old = g.D.Desk.told c.args.desk.now in
     let made = g.D.Desk.told c.create_file.new.self in
-    let new = g.D.Desk.told c.put_and_close.new.desk in
-    record {
-      bytes = c.in-Ok-proved_lines_of_run.proved.text.items;
-      held = created_tells old made new c.args.file.now c.in-Ok-proved_lines_of_run.proved.text.items c.in-Ok.ensures.creates
-          (subst (λ (bytes : List ℕ). PutsCreated made new bytes) c.deref.ensures.value c.in-Ok-put_and_close.ensures.puts);
-      justifies = c.in-Ok-proved_lines_of_run.ensures.justified;
-    }
+    let new = g.D.Desk.told c.proved_and_closed.new.desk in
+    let theory = theory_of c.args.accepted.now.program in
+    let start = plain_pattern c.args.accepted.now.start in
+    if_ok c.proved_and_closed.result (λ r. PutsProof made new theory start (plain_run r.0)) (λ r. HoldsProof old new c.args.file.now theory start (plain_run r.0))
+    (λ r h. created_proof old made new c.args.file.now theory start (plain_run r.0) c.in-Ok.ensures.creates h) c.proved_and_closed.ensures.proof
 
-pub returns-in-Ok-put_and_close-clause-files : goal.returns-in-Ok-put_and_close-clause-files
-returns-in-Ok-put_and_close-clause-files g c =
-    created_others (g.D.Desk.told c.args.desk.now) (g.D.Desk.told c.create_file.new.self) (g.D.Desk.told c.put_and_close.new.desk) c.args.file.now c.in-Ok.ensures.creates c.in-Ok-put_and_close.ensures.files
-
-pub returns-in-Err-put_and_close-clause-files : goal.returns-in-Err-put_and_close-clause-files
-returns-in-Err-put_and_close-clause-files g c =
-    created_others (g.D.Desk.told c.args.desk.now) (g.D.Desk.told c.create_file.new.self) (g.D.Desk.told c.put_and_close.new.desk) c.args.file.now c.in-Ok.ensures.creates c.in-Err-put_and_close.ensures.files
+pub returns-in-Ok-clause-files : goal.returns-in-Ok-clause-files
+returns-in-Ok-clause-files g c =
+    created_others (g.D.Desk.told c.args.desk.now) (g.D.Desk.told c.create_file.new.self) (g.D.Desk.told c.proved_and_closed.new.desk) c.args.file.now c.in-Ok.ensures.creates c.proved_and_closed.ensures.files

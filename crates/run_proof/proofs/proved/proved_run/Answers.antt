@@ -1,12 +1,14 @@
-use Rattle.std.proofs.Common.{◌≡◌, ℕ, ◌+◌, Result, Ok, Err, IfOk, refl, sym, subst, arith, add-one}
+use Rattle.std.proofs.Common.{◌≡◌, ℕ, ◌+◌, [], ◌++◌, Result, Ok, Err, IfOk, refl, sym, ◌∙◌, ap, subst, arith, add-one}
+use Rattle.desk_io.proofs.Told.{Writes-nil, Writes-then}
 use Rattle.term_core.specs.Terms.{Tree}
-use Rattle.term_core.specs.Patterns.{Pattern}
+use Rattle.term_core.specs.Patterns.{Pattern, ground_pattern}
 use Rattle.term_core.specs.RulePatterns.{plain_pattern}
 use Rattle.rule_core.specs.ProgramView.{theory_of}
 use Rattle.rule_core.specs.Theories.{RewriteTheory}
 use Rattle.rule_core.specs.Runs.{Run, limited, IsRunOf, Steps, next, Reaches, after_step}
 use Rattle.run_loop.specs.RunEnds.{plain_run}
-use Rattle.run_proof.specs.ProvedSteps.{IsProvedRun}
+use Rattle.run_proof.specs.WrittenProofs.{WritesSome}
+use Rattle.run_proof.proofs.ProofsAt.{on_err, on_err_more, none_written, more_written, ended_proof, handed_on}
 use Rattle.run_proof.proofs.proved.proved_run.Goals as goal
 
 if_ok : {T E : Type 0} (r : Result T E) (P Q : T → Type 0) → ((t : T) → P t → Q t) → IfOk r P → IfOk r Q
@@ -17,17 +19,69 @@ one_more : (theory : RewriteTheory) (start : Pattern) (calls n c d : ℕ) (t u :
 one_more theory start calls n c d t u reached step =
     subst (λ (m : ℕ). Reaches theory start calls m u d) (sym (add-one n)) (after_step reached step)
 
-pub loop-made-preserved : goal.loop-made-preserved
-loop-made-preserved c =
-    let further = c.in-Further.further in
-    let before = c.loop-made.invariant in
-    let made = rw c.in-Further.is at c.in_ok-further.ensures in record {
-      reached = one_more _ _ _ _ _ _ _ _ before.reached made.0;
-      proved = subst (λ (p : Pattern). IsProvedRun c.args.engine.now p further) before.proved.1.same_start made.1;
+pub returns-in_err-steps-clause-some : goal.returns-in_err-steps-clause-some
+returns-in_err-steps-clause-some g c =
+    let told = g.D.Desk.told c.args.desk.now in
+    on_err c.from_residual.result (WritesSome told told) (none_written told (rw c.requires.file at (g.met.D.Desk.tells_created c.args.desk.now)))
+
+pub loop-made-init : goal.loop-made-init
+loop-made-init g c =
+    let begun = rw c.in-Begun.is at c.in_ok-steps.ensures in record {
+      created = c.requires.file;
+      counts = omega arith;
+      reads = refl;
+      reached = begun.0;
+      written = ([], Writes-nil (g.D.Desk.told c.args.desk.now) (rw c.requires.file at (g.met.D.Desk.tells_created c.args.desk.now)), begun.1);
     }
 
+pub loop-made-preserved : goal.loop-made-preserved
+loop-made-preserved g c =
+    let before = c.loop-made.invariant in
+    let made = rw c.in-Further.is at c.in_ok-further.ensures in
+    let piece = c.in_ok-hand_on.ensures.piece in record {
+      created = c.hand_on.ensures.created;
+      counts = omega (arith, c.loop-made.invariant.counts, c.hand_on.ensures.counts);
+      reads = c.hand_on.ensures.reads ∙ c.loop-made.invariant.reads;
+      reached = one_more _ _ _ _ _ _ _ _ before.reached made.0;
+      written = (
+        before.written.0 ++ piece.0,
+        Writes-then (g.D.Desk.told c.args.desk.now) (g.D.Desk.told c.loop-made.desk) (g.D.Desk.told c.hand_on.new.desk) before.written.0 piece.0 before.written.1 piece.1,
+        handed_on c.args.engine.now (plain_pattern c.args.start.now) before.written.0 piece.0 c.in-Further.further (record c.in-Further.further { text = c.hand_on.new.text }) refl refl piece.2
+            (made.1 (plain_pattern c.args.start.now) before.written.0 before.written.2),
+      );
+    }
+
+pub returns-in-Stuck-clause-justified : goal.returns-in-Stuck-clause-justified
+returns-in-Stuck-clause-justified g c =
+    let going = rw c.in-Stuck.is at c.in_ok-further.ensures in
+    let before = c.loop-made.invariant.written in
+    ended_proof plain_run c.ended-in-Stuck.result _ (g.D.Desk.told c.args.desk.now) (g.D.Desk.told c.loop-made.desk) (g.D.Desk.told c.ended-in-Stuck.new.desk) c.args.engine.now (plain_pattern c.args.start.now)
+    before.0 c.deref-in-Stuck.result.now c.loop-made.steps before.1 before.2 (c.deref-in-Stuck.ensures.value ∙ going.2) (ap ground_pattern (sym going.1)) c.ended-in-Stuck.ensures.end c.ended-in-Stuck.ensures.text
+
+pub returns-in-Stuck-clause-some : goal.returns-in-Stuck-clause-some
+returns-in-Stuck-clause-some g c =
+    on_err_more c.ended-in-Stuck.result (WritesSome (g.D.Desk.told c.loop-made.desk) (g.D.Desk.told c.ended-in-Stuck.new.desk)) (WritesSome (g.D.Desk.told c.args.desk.now) (g.D.Desk.told c.ended-in-Stuck.new.desk))
+    (more_written (g.D.Desk.told c.args.desk.now) (g.D.Desk.told c.loop-made.desk) (g.D.Desk.told c.ended-in-Stuck.new.desk) (c.loop-made.invariant.written.0, c.loop-made.invariant.written.1)) c.ended-in-Stuck.ensures.some
+
+pub returns-in-Blocked-clause-justified : goal.returns-in-Blocked-clause-justified
+returns-in-Blocked-clause-justified g c =
+    let going = rw c.in-Blocked.is at c.in_ok-further.ensures in
+    let before = c.loop-made.invariant.written in
+    ended_proof plain_run c.ended-in-Blocked.result _ (g.D.Desk.told c.args.desk.now) (g.D.Desk.told c.loop-made.desk) (g.D.Desk.told c.ended-in-Blocked.new.desk) c.args.engine.now (plain_pattern c.args.start.now)
+    before.0 c.deref-in-Blocked.result.now c.loop-made.steps before.1 before.2 (c.deref-in-Blocked.ensures.value ∙ going.2) (ap ground_pattern (sym going.1)) c.ended-in-Blocked.ensures.end c.ended-in-Blocked.ensures.text
+
+pub returns-in-Blocked-clause-some : goal.returns-in-Blocked-clause-some
+returns-in-Blocked-clause-some g c =
+    on_err_more c.ended-in-Blocked.result (WritesSome (g.D.Desk.told c.loop-made.desk) (g.D.Desk.told c.ended-in-Blocked.new.desk)) (WritesSome (g.D.Desk.told c.args.desk.now) (g.D.Desk.told c.ended-in-Blocked.new.desk))
+    (more_written (g.D.Desk.told c.args.desk.now) (g.D.Desk.told c.loop-made.desk) (g.D.Desk.told c.ended-in-Blocked.new.desk) (c.loop-made.invariant.written.0, c.loop-made.invariant.written.1)) c.ended-in-Blocked.ensures.some
+
+pub returns-in_err-hand_on-clause-some : goal.returns-in_err-hand_on-clause-some
+returns-in_err-hand_on-clause-some g c =
+    on_err c.from_residual-in_err-hand_on.result (WritesSome (g.D.Desk.told c.args.desk.now) (g.D.Desk.told c.hand_on.new.desk))
+    (more_written (g.D.Desk.told c.args.desk.now) (g.D.Desk.told c.loop-made.desk) (g.D.Desk.told c.hand_on.new.desk) (c.loop-made.invariant.written.0, c.loop-made.invariant.written.1) c.in_err-hand_on.ensures.some)
+
 pub returns-clause-run : goal.returns-clause-run
-returns-clause-run c =
+returns-clause-run g c =
     let theory = theory_of c.args.engine.now in
     let start = plain_pattern c.args.start.now in
     let limit = c.args.limit in
@@ -36,5 +90,10 @@ returns-clause-run c =
     let number : c.loop-made.made ≡ limit = omega arith in
     let reached : Reaches theory start calls limit run.config run.calls = subst (λ (n : ℕ). Reaches theory start calls n run.config run.calls) number c.loop-made.invariant.reached in
     let whole : IsRunOf theory limit calls start (limited limit run.config) = (run.calls, reached, refl) in
-    if_ok c.at_limit.result (λ r. plain_run r.0 ≡ limited limit run.config) (λ r. IsRunOf theory limit calls start (plain_run r.0))
+    if_ok c.at_limit.result (λ r. plain_run r ≡ limited limit run.config) (λ r. IsRunOf theory limit calls start (plain_run r))
     (λ r e. subst (λ (end : Run). IsRunOf theory limit calls start end) (sym e) whole) c.at_limit.ensures.end
+
+pub returns-clause-some : goal.returns-clause-some
+returns-clause-some g c =
+    on_err_more c.at_limit.result (WritesSome (g.D.Desk.told c.loop-made.desk) (g.D.Desk.told c.at_limit.new.desk)) (WritesSome (g.D.Desk.told c.args.desk.now) (g.D.Desk.told c.at_limit.new.desk))
+    (more_written (g.D.Desk.told c.args.desk.now) (g.D.Desk.told c.loop-made.desk) (g.D.Desk.told c.at_limit.new.desk) (c.loop-made.invariant.written.0, c.loop-made.invariant.written.1)) c.at_limit.ensures.some

@@ -1,3 +1,6 @@
+use Rattle.std.proofs.Common.{◌≡◌, ◌≤◌, ℕ, List}
+use Rattle.std.specs.Prelude.{IsTrue}
+use Rattle.desk_io.specs.Told.{Writes}
 use Rattle.term_core.specs.RulePatterns.{plain_pattern}
 use Rattle.rule_core.specs.ProgramView.{theory_of}
 use Rattle.rule_core.specs.Runs.{Reaches}
@@ -5,7 +8,11 @@ use Rattle.run_proof.specs.ProvedSteps.{IsProvedRun}
 use Rattle.run_proof.proofs.proved.proved_run.Given as goal
 
 abbrev pub invariant-loop-made : goal.invariant-loop-made
-invariant-loop-made l = record {
+invariant-loop-made g l = record {
+  created : IsTrue (g.D.Desk.created l.desk);
+  counts : g.D.Desk.write_faults l.initial.desk ≤ g.D.Desk.write_faults l.desk;
+  reads : g.D.Desk.read_faults l.desk ≡ g.D.Desk.read_faults l.initial.desk;
   reached : Reaches (theory_of l.engine) (plain_pattern l.start) l.calls l.made l.steps.run.config l.steps.run.calls;
-  proved : IsProvedRun l.engine (plain_pattern l.start) l.steps;
+  written : (text : List ℕ) × Writes (g.D.Desk.told l.initial.desk) (g.D.Desk.told l.desk) text
+      × IsProvedRun l.engine (plain_pattern l.start) text l.steps;
 }

@@ -1,4 +1,4 @@
-use Rattle.std.proofs.Common.{Result, Ok, Err, IfOk}
+use Rattle.std.proofs.Common.{Result, Ok, Err, IfOk, ◌++◌}
 use Rattle.term_core.specs.RulePatterns.{plain_pattern}
 use Rattle.run_proof.specs.declared.steps.Going.{Going}
 use Rattle.run_proof.specs.ProvedSteps.{GoesOn, IsFurther}
@@ -10,13 +10,13 @@ if_ok (Ok t) P Q f h = f t h
 if_ok (Err e) P Q f h = tt
 
 pub step_as-requires : goal.step_as-requires
-step_as-requires c = c.requires.at.0
+step_as-requires c = c.requires.at.1.0
 
 pub further-requires : goal.further-requires
 further-requires c =
     let s = c.args.steps in
     let told = rw c.in-Made.is at c.in_ok-step.ensures.recorded in record {
-      applies = can_step c.args.engine.now (plain_pattern s.proof.start) s.proof s.text.items s.run.config c.step_as.new.self.config c.in-Made.step.rule c.in-Made.step.subst told.step c.requires.at.1 c.requires.rules told.rule told.theta told.follows told.result;
+      applies = can_step c.args.engine.now (plain_pattern s.proof.start) s.proof (c.requires.at.0 ++ s.text.items) s.run.config c.step_as.new.self.config c.in-Made.step.rule c.in-Made.step.subst told.step c.requires.at.1.1 c.requires.rules told.rule told.theta told.follows told.result;
     }
 
 pub returns-in-Made : goal.returns-in-Made
@@ -24,4 +24,4 @@ returns-in-Made c =
     let s = c.args.steps in
     let run = c.step_as.new.self in
     if_ok c.further.result (IsFurther run s.proof s.text.items) (GoesOn c.args.engine.now s)
-    (λ (g : Going). goes_further c.args.engine.now s run g c.requires.at (rw c.in-Made.is at c.in_ok-step.ensures.next) c.step_as.ensures.sorted) c.further.ensures
+    (λ (g : Going). goes_further c.args.engine.now s run g (rw c.in-Made.is at c.in_ok-step.ensures.next) c.step_as.ensures.sorted) c.further.ensures

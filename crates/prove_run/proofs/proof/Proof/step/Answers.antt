@@ -17,8 +17,8 @@ use Rattle.prove_run.specs.RunProof.{RunProof, reached, configuration}
 use Rattle.prove_run.specs.Proving.{CanStep, FitsProof}
 use Rattle.prove_run.specs.Reaching.{HasReached}
 use Rattle.prove_run.specs.ProofView.{run_proof, IsProof}
-use Rattle.prove_run.proofs.ContextLaws.{written_grown, text_grown, image_grown}
-use Rattle.prove_run.proofs.FollowLaws.{Making, Standing, standing, making, made_plain, linked, last_no_meta, further_follows, further_reached, term_is_plain, ground_has_none, further_says}
+use Rattle.prove_run.proofs.ContextLaws.{written_grown, text_grown, image_grown, lemma_grown}
+use Rattle.prove_run.proofs.FollowLaws.{Making, Standing, standing, making, made_plain, linked, both_closed, last_no_meta, further_follows, further_reached, term_is_plain, ground_has_none, further_says}
 use Rattle.prove_run.proofs.proof.Proof.step.Goals as goal
 
 pub step-requires-clause-plain : goal.step-requires-clause-plain
@@ -38,13 +38,21 @@ use_lemma-requires-clause-conclusion_metas c =
     let p = c.self.inside in
     last_no_meta c.image_laws.ensures.metas p.prover p.writer p.last (plain_pattern p.start.now) (configuration (plain_pattern p.start.now) p.reached) c.self.invariant.has_reached
 
-pub reach_step-requires : goal.reach_step-requires
-reach_step-requires c =
+pub reach_further-requires-clause-linked : goal.reach_further-requires-clause-linked
+reach_further-requires-clause-linked c =
     let p = c.self.inside in
     let start = plain_pattern p.start.now in
     let s = standing c.args.self p.prover p.writer p.start.now p.reached p.last c.args.rule c.args.subst.now c.args.config.now c.self.view_is c.self.invariant.plain c.self.invariant.rules c.self.invariant.has_reached c.requires.applies in
     let m = making c.naming_laws.ensures.image c.image_laws.ensures.metas p.prover p.writer p.last start c.args.rule c.args.subst.now c.args.config.now c.step.new.self c.in_ok-sofar.sofar c.in_ok-step.step s c.in_ok-step.ensures.grown c.in_ok-step.ensures.says c.in_ok-sofar.ensures.conclusion in
     linked p.prover c.step.new.self p.writer p.last c.in_ok-sofar.sofar c.in_ok-step.step start s.term c.args.config.now m
+
+pub reach_further-requires-clause-closed : goal.reach_further-requires-clause-closed
+reach_further-requires-clause-closed c =
+    let p = c.self.inside in
+    let start = plain_pattern p.start.now in
+    let s = standing c.args.self p.prover p.writer p.start.now p.reached p.last c.args.rule c.args.subst.now c.args.config.now c.self.view_is c.self.invariant.plain c.self.invariant.rules c.self.invariant.has_reached c.requires.applies in
+    let m = making c.naming_laws.ensures.image c.image_laws.ensures.metas p.prover p.writer p.last start c.args.rule c.args.subst.now c.args.config.now c.step.new.self c.in_ok-sofar.sofar c.in_ok-step.step s c.in_ok-step.ensures.grown c.in_ok-step.ensures.says c.in_ok-sofar.ensures.conclusion in
+    both_closed p.prover c.step.new.self p.writer p.last c.in_ok-sofar.sofar c.in_ok-step.step start s.term c.args.config.now m
 
 pub state-requires-clause-written : goal.state-requires-clause-written
 state-requires-clause-written c = written_grown c.self.inside.prover c.step.new.self c.self.inside.writer c.self.invariant.written c.in_ok-step.ensures.grown
@@ -58,7 +66,7 @@ state-requires-clause-follows c =
     let start = plain_pattern p.start.now in
     let s = standing c.args.self p.prover p.writer p.start.now p.reached p.last c.args.rule c.args.subst.now c.args.config.now c.self.view_is c.self.invariant.plain c.self.invariant.rules c.self.invariant.has_reached c.requires.applies in
     let m = making c.naming_laws.ensures.image c.image_laws.ensures.metas p.prover p.writer p.last start c.args.rule c.args.subst.now c.args.config.now c.step.new.self c.in_ok-sofar.sofar c.in_ok-step.step s c.in_ok-step.ensures.grown c.in_ok-step.ensures.says c.in_ok-sofar.ensures.conclusion in
-    further_follows p.prover c.step.new.self p.writer p.last c.in_ok-sofar.sofar c.in_ok-step.step c.in_ok-further.further start s.term c.args.config.now m c.in_ok-sofar.ensures.lemma c.in_ok-step.ensures.stays c.in_ok-further.ensures.stays
+    further_follows p.prover c.step.new.self p.writer p.last c.in_ok-sofar.sofar c.in_ok-step.step c.in_ok-further.further p.reach start s.term c.args.config.now m c.in_ok-sofar.ensures.lemma c.in_ok-step.ensures.stays c.self.invariant.listed c.in_ok-further.ensures.stays
 
 pub invariant_of-result : goal.invariant_of-result
 invariant_of-result c =
@@ -80,6 +88,8 @@ invariant_of-result c =
           (subst (λ (t : Theorem). HasReached new c.state.new.writer t start (ground_pattern c.args.config.now)) (sym c.in_ok-last.ensures.lemma)
           (further_reached p.prover new p.writer c.state.new.writer p.last c.in_ok-sofar.sofar c.in_ok-step.step c.in_ok-further.further start s.term c.args.config.now m c.in_ok-further.ensures.conclusion
           c.in_ok-last.ensures.no_hypotheses c.in_ok-last.ensures.stated));
+      reach = c.self.invariant.reach;
+      listed = lemma_grown p.prover new p.reach grown c.self.invariant.listed;
     }
 
 pub returns : goal.returns
