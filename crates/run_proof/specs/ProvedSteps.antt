@@ -49,9 +49,11 @@ BeginsRun program start calls (beginning.Unstarted why text) =
 abbrev pub GoesOn : Program → ProvedSteps → Going → Type 0
 GoesOn program old (going.Further new) =
     Steps (theory_of program) old.run.config old.run.calls (next new.run.config new.run.calls)
-    × ((start : Pattern) (written : List ℕ) → IsProvedRun program start written old → IsProvedRun program start written new)
+    × ((start : Pattern) (written : List ℕ) → IsProvedRun program start written old →
+    IsProvedRun program start written new)
 GoesOn program old (going.Stuck last text) =
-    Steps (theory_of program) old.run.config old.run.calls stays × (last ≡ old.run.config) × (text.items ≡ old.text.items)
+    Steps (theory_of program) old.run.config old.run.calls stays × (last ≡ old.run.config)
+    × (text.items ≡ old.text.items)
 GoesOn program old (going.Blocked why last text) =
     Steps (theory_of program) old.run.config old.run.calls (stops (cause_of why)) × (last ≡ old.run.config)
     × (text.items ≡ old.text.items)

@@ -22,8 +22,8 @@ use term_core::RulePat;
 /// justifies it, from the initial term to what the run keeps, is appended to the desk's created file as the run goes.
 /// The error is want of memory or a fault that the desk counted; then some bytes were appended.
 ///
-/// The text of a step is linear in the sizes of the configurations that it speaks of. The text of one step and less than
-/// 64 KiB before it are held in memory.
+/// The text of a step is linear in the sizes of the configurations that it speaks of. The text of one step and less
+/// than 64 KiB before it are held in memory.
 pub fn proved_run<'p, D: Desk>(
     alloc: Global,
     desk: &mut D,
