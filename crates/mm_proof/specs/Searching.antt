@@ -22,4 +22,5 @@ all_forms (p ∷ ps) = all_forms ps + forms_in p
 -- A pattern was taken from a stack: where the search goes on, the answer is left to what was put there, and else it is no.
 abbrev pub IsLeft : ℕ → Bool → ℕ → List (Bor Pattern) → List (Bor Pattern) → Bool → Type 0
 IsLeft x test size old new going =
-    ((going && all_absent x (patterns_of new)) ≡ (test && all_absent x (patterns_of old))) × (all_forms (patterns_of new) < all_forms (patterns_of old) + size)
+    ((going && all_absent x (patterns_of new)) ≡ (test && all_absent x (patterns_of old)))
+    × (all_forms (patterns_of new) < all_forms (patterns_of old) + size)

@@ -138,8 +138,8 @@ unchanged_tree l x u p =
 abbrev pub unchanged_or : Naming → ℕ → Pattern → Pattern → ProofTree → ProofTree
 unchanged_or l x u p other = if fresh x p then unchanged_tree l x u p else other
 
--- The proof, by its form, that a pattern in which x is free is the other with u for x. Where it is a quantifier of y, x is
--- free in the body, and y is not free in u, which would be captured.
+-- The proof, by its form, that a pattern in which x is free is the other with u for x. Where it is a quantifier of y,
+-- x is free in the body, and y is not free in u, which would be captured.
 abbrev pub substitution_by_form : Naming → ℕ → Pattern → Pattern → Pattern → ProofTree
 substitution_by_form l x u (var y) r = cite (codes "su.v") (syntax_tree l u ∷ cite (l.object x) [] ∷ [])
 substitution_by_form l x u (imp p q) r =

@@ -5,7 +5,8 @@ use Rattle.mm_database.specs.Proofs.{postorder}
 use Rattle.ml_pat.specs.Patterns.{Pattern}
 use Rattle.mm_proof.specs.Tokens.{Naming, bracketed, bracket, tokens_of, name_of, object_token}
 use Rattle.mm_proof.specs.Labels.{own_labels}
-use Rattle.mm_proof.specs.Trees.{cite, first_part, second_part, syntax_tree, fresh_tree, substitution_tree, predicate_tree}
+use Rattle.mm_proof.specs.Trees.{cite, first_part, second_part, syntax_tree}
+use Rattle.mm_proof.specs.Trees.{fresh_tree, substitution_tree, predicate_tree}
 use Rattle.mm_proof.specs.Writing.{work_tokens}
 use Rattle.mm_proof.specs.declared.works.Work.{Work}
 use Rattle.mm_text.specs.Written.{written}

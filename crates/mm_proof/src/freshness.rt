@@ -114,8 +114,8 @@ fn put_fresh_sorted<'a>(
     )
 }
 
-/// The proof that x is not free in a pattern, in one step where x stands nowhere in it. To look for x takes no longer than
-/// to write the proof, which has the syntax of the whole pattern in either case.
+/// The proof that x is not free in a pattern, in one step where x stands nowhere in it. To look for x takes no longer
+/// than to write the proof, which has the syntax of the whole pattern in either case.
 pub(crate) fn expand_fresh<'a>(
     stack: &mut Vec<Work<'a>>,
     x: VarNo,
@@ -131,7 +131,8 @@ pub(crate) fn expand_fresh<'a>(
 
 /// The proof that x is not free in a pattern in which it stands nowhere.
 fn put_absent<'a>(stack: &mut Vec<Work<'a>>, x: VarNo, pat: &'a MPat) -> Result<(), AllocError>
-    ensures { OnOk result (PutsOn (λ names k. postorder (absent_tree (own_labels k) x.0 pat.now)) stack.old.items stack.new.items) }
+    ensures { OnOk result (PutsOn (λ names k. postorder (absent_tree (own_labels k) x.0 pat.now))
+        stack.old.items stack.new.items) }
 {
     put_steps(
         stack,
@@ -146,7 +147,8 @@ fn expand_fresh_by_form<'a>(
     x: VarNo,
     pat: &'a MPat,
 ) -> Result<(), AllocError>
-    ensures { OnOk result (PutsOn (λ names k. postorder (fresh_by_form (own_labels k) x.0 pat.now)) stack.old.items stack.new.items) }
+    ensures { OnOk result (PutsOn (λ names k. postorder (fresh_by_form (own_labels k) x.0 pat.now))
+        stack.old.items stack.new.items) }
 {
     match pat.form() {
         MForm::Imp(p, q) => put_fresh_two(stack, x, p, q, "fr.imp"),

@@ -2,8 +2,8 @@
 //! holds, and that a rule concludes what it does.
 //!
 //! **What is written.** A pattern is a list of tokens (`specs/Tokens`). That it is one, and each judgement on it, has a
-//! proof by the rows of the header, form by form, but one row for a whole part in which the variable of a judgement does
-//! not stand; a rule is its label over the proofs of what it concludes from, and a derivation is written by recursion
+//! proof by the rows of the header, form by form, but one row for a whole part in which the variable of a judgement
+//! does not stand; a rule is its label over the proofs of what it concludes from, and a derivation is written by recursion
 //! (`specs/Trees`, `specs/Derivations`). `proof_laws` says of patterns, judgements and rules that these are proofs in
 //! every database that has the header and the declarations that they cite (`specs/Serving`, `specs/RenderLaws`).
 //!

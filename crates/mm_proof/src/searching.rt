@@ -24,7 +24,8 @@ pub(crate) fn is_absent(alloc: Global, x: VarNo, pat: &MPat) -> Result<bool, All
 
 /// Whether x may still stand nowhere, with the parts that are left to be looked at on the stack.
 fn is_absent_at<'a>(stack: &mut Vec<&'a MPat>, x: VarNo, pat: &'a MPat) -> Result<bool, AllocError>
-    ensures { IfOk result (λ going. IsLeft x.0 (absent x.0 pat.now) (forms_in pat.now) stack.old.items stack.new.items going) }
+    ensures { IfOk result (λ going. IsLeft x.0 (absent x.0 pat.now) (forms_in pat.now)
+        stack.old.items stack.new.items going) }
 {
     match pat.form() {
         MForm::Bot => Ok(true),
@@ -50,7 +51,8 @@ fn is_absent_at<'a>(stack: &mut Vec<&'a MPat>, x: VarNo, pat: &'a MPat) -> Resul
 
 /// Puts a part on the stack.
 fn put_part<'a>(stack: &mut Vec<&'a MPat>, x: VarNo, p: &'a MPat) -> Result<bool, AllocError>
-    ensures { IfOk result (λ going. IsLeft x.0 (absent x.0 p.now) (forms_in p.now + 1) stack.old.items stack.new.items going) }
+    ensures { IfOk result (λ going. IsLeft x.0 (absent x.0 p.now) (forms_in p.now + 1)
+        stack.old.items stack.new.items going) }
 {
     stack.push(p)?;
     Ok(true)
@@ -63,7 +65,8 @@ fn put_both<'a>(
     p: &'a MPat,
     q: &'a MPat,
 ) -> Result<bool, AllocError>
-    ensures { IfOk result (λ going. IsLeft x.0 (absent x.0 p.now && absent x.0 q.now) (forms_in p.now + forms_in q.now + 1) stack.old.items stack.new.items going) }
+    ensures { IfOk result (λ going. IsLeft x.0 (absent x.0 p.now && absent x.0 q.now) (forms_in p.now + forms_in q.now + 1)
+        stack.old.items stack.new.items going) }
 {
     stack.push(q)?;
     stack.push(p)?;
@@ -77,7 +80,8 @@ fn put_body<'a>(
     y: VarNo,
     p: &'a MPat,
 ) -> Result<bool, AllocError>
-    ensures { IfOk result (λ going. IsLeft x.0 (not (x.0 == y.0) && absent x.0 p.now) (forms_in p.now + 1) stack.old.items stack.new.items going) }
+    ensures { IfOk result (λ going. IsLeft x.0 (not (x.0 == y.0) && absent x.0 p.now) (forms_in p.now + 1)
+        stack.old.items stack.new.items going) }
 {
     if x == y {
         return Ok(false);

@@ -59,7 +59,8 @@ fn put_two<'a>(
     made: &'a MPat,
     label: &'static str,
 ) -> Result<(), AllocError>
-    ensures { OnOk result (PutsOn (λ names k. two_steps k x.0 u.now p.now q.now made.now label.now) stack.old.items stack.new.items) }
+    ensures { OnOk result (PutsOn (λ names k. two_steps k x.0 u.now p.now q.now made.now label.now)
+        stack.old.items stack.new.items) }
 {
     let first = first_part(made);
     let second = second_part(made);
@@ -88,7 +89,8 @@ fn put_one<'a>(
     made: &'a MPat,
     label: &'static str,
 ) -> Result<(), AllocError>
-    ensures { OnOk result (PutsOn (λ names k. one_steps k x.0 u.now p.now made.now label.now) stack.old.items stack.new.items) }
+    ensures { OnOk result (PutsOn (λ names k. one_steps k x.0 u.now p.now made.now label.now)
+        stack.old.items stack.new.items) }
 {
     let first = first_part(made);
     put_steps(
@@ -113,7 +115,8 @@ fn put_sorted<'a>(
     made: &'a MPat,
     label: &'static str,
 ) -> Result<(), AllocError>
-    ensures { OnOk result (PutsOn (λ names k. sorted_steps k x.0 u.now p.now s.0 made.now label.now) stack.old.items stack.new.items) }
+    ensures { OnOk result (PutsOn (λ names k. sorted_steps k x.0 u.now p.now s.0 made.now label.now)
+        stack.old.items stack.new.items) }
 {
     let first = first_part(made);
     put_steps(
@@ -141,7 +144,8 @@ fn put_under<'a>(
     made: &'a MPat,
     label: &'static str,
 ) -> Result<(), AllocError>
-    ensures { OnOk result (PutsOn (λ names k. under_steps k x.0 u.now y.0 s.0 p.now made.now label.now) stack.old.items stack.new.items) }
+    ensures { OnOk result (PutsOn (λ names k. under_steps k x.0 u.now y.0 s.0 p.now made.now label.now)
+        stack.old.items stack.new.items) }
 {
     let first = first_part(made);
     put_steps(
@@ -160,8 +164,8 @@ fn put_under<'a>(
     )
 }
 
-/// The proof that a pattern with u for x is the one that was made, in one step where x is not free in the pattern. To look
-/// for x takes no longer than to write the proof, which has the syntax of the whole pattern, but where it is x itself.
+/// The proof that a pattern with u for x is the one that was made, in one step where x is not free in the pattern. To
+/// look for x takes no longer than to write the proof, which has the syntax of the whole pattern, but where it is x itself.
 pub(crate) fn expand_substituted<'a>(
     stack: &mut Vec<Work<'a>>,
     x: VarNo,
@@ -169,7 +173,8 @@ pub(crate) fn expand_substituted<'a>(
     pat: &'a MPat,
     made: &'a MPat,
 ) -> Result<(), AllocError>
-    ensures { OnOk result (PutsOn (λ names k. postorder (substitution_tree (own_labels k) x.0 u.now pat.now made.now)) stack.old.items stack.new.items) }
+    ensures { OnOk result (PutsOn (λ names k. postorder (substitution_tree (own_labels k) x.0 u.now pat.now made.now))
+        stack.old.items stack.new.items) }
 {
     if fresh(x, pat) {
         return expand_unchanged(stack, x, u, pat);
@@ -185,7 +190,8 @@ fn expand_by_form<'a>(
     pat: &'a MPat,
     made: &'a MPat,
 ) -> Result<(), AllocError>
-    ensures { OnOk result (PutsOn (λ names k. postorder (substitution_by_form (own_labels k) x.0 u.now pat.now made.now)) stack.old.items stack.new.items) }
+    ensures { OnOk result (PutsOn (λ names k. postorder (substitution_by_form (own_labels k) x.0 u.now pat.now made.now))
+        stack.old.items stack.new.items) }
 {
     match pat.form() {
         MForm::Imp(p, q) => put_two(stack, x, u, p, q, made, "su.imp"),

@@ -1,5 +1,5 @@
-// Prints a database of lemmas: one with variables and a hypothesis, one that cites it, one that has a variable in its proof
-// alone, and an instance, whose proof has a substitution. So other Metamath verifiers can be run over it.
+// Prints a database of lemmas: one with variables and a hypothesis, one that cites it, one that has a variable in its
+// proof alone, and an instance, whose proof has a substitution. So other Metamath verifiers can be run over it.
 #![tactic(auto)]
 
 mod lemmas;
