@@ -3,6 +3,7 @@ pub mod Contexts
 pub mod PlainTerms
 pub mod Functional
 pub mod RuleAxioms
+pub mod Filling
 pub mod EqualImages
 -- Private: what clauses of private functions cite, and how private fields are seen.
 pub mod Schemas

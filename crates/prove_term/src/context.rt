@@ -185,8 +185,8 @@ impl<'p> Cx<'p> {
         Ok(())
     }
 
-    // States the image of what is assumed as an axiom.
-    pub(crate) fn state(&mut self, image: MPat) -> Result<AxiomNo, AllocError>
+    /// States the image of what is assumed as an axiom. `AllocError` says that memory was wanting.
+    pub fn state(&mut self, image: MPat) -> Result<AxiomNo, AllocError>
         requires { IsImageOf self.old.program.sig self.old.names (IsAssumed (theory_of self.old.program)) image }
         ensures there { IfOk result (λ no. slice_get self.new.axioms no.0 ≡ Some image) }
         ensures grown { HasGrown self.old self.new }
@@ -195,8 +195,8 @@ impl<'p> Cx<'p> {
         self.theory.add(image)
     }
 
-    // An axiom as a theorem.
-    pub(crate) fn axiom(&self, alloc: Global, no: AxiomNo) -> Result<Thm, AllocError>
+    /// An axiom as a theorem. `AllocError` says that memory was wanting.
+    pub fn axiom(&self, alloc: Global, no: AxiomNo) -> Result<Thm, AllocError>
         requires { no.0 < length self.now.axioms }
         ensures conclusion { IfOk result (λ t. slice_get self.now.axioms no.0 ≡ Some t.conclusion) }
         ensures no_hypotheses { IfOk result (λ t. t.hypotheses ≡ []) }
