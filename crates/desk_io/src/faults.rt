@@ -14,7 +14,7 @@ pub fn raised(count: u64) -> u64
     count.saturating_add(1)
 }
 
-/// The fault that an error of the system is. Each is counted, but for want of memory.
+/// The fault that an error of the system is. Each is counted, but for out of memory.
 pub fn counted(error: &io::Error, faults: &mut u64) -> DeskFault
     ensures failed { result ≡ DeskFault.Failed → Rose faults.old faults.new }
     ensures counts { faults.old ≤ faults.new }

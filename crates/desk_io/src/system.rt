@@ -8,7 +8,7 @@ use crate::faults::{counted, raised};
 use std::io::{Read, Write};
 
 /// Reads the next bytes of a file to the front of `buf`, and answers how many: 0 only where none is
-/// left. After a fault none was read. A fault is counted, but for want of memory.
+/// left. After a fault none was read. A fault is counted, but for out of memory.
 pub fn read_some<F: Read>(
     file: &mut F,
     buf: &mut [u8],
@@ -27,7 +27,7 @@ pub fn read_some<F: Read>(
 
 /// Writes the first bytes of `piece`, and answers how many: 0 only where the piece is empty, so that
 /// a write that takes nothing of some bytes is a fault. After a fault none was written. A fault is
-/// counted, but for want of memory.
+/// counted, but for out of memory.
 pub fn write_some<W: Write>(
     writer: &mut W,
     piece: &[u8],

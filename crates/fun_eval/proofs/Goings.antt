@@ -9,7 +9,7 @@ use Rattle.term_core.specs.declared.rule_patterns.RulePat.{RulePat}
 use Rattle.rule_core.specs.Theories.{RewriteTheory}
 use Rattle.rule_core.specs.Evaluation.{Cause, value, blocked, AllEvaluated, values, stopped, Evaluates, EvaluateAll, none_left, first_blocked, later_blocked, one_more}
 
--- trees in front of what comes of the patterns behind theirs
+-- trees in front of what comes of the patterns after theirs
 abbrev pub in_front : Tree → AllEvaluated → AllEvaluated
 in_front t (values ts d) = values (more_trees t ts) d
 in_front t (stopped cause) = stopped cause

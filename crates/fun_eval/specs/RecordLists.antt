@@ -3,7 +3,7 @@ use Rattle.std.specs.Prelude.{◌≡◌, Option, Some, None}
 use Rattle.rule_core.specs.Records.{Record, RecordList, no_record, more_records, OptionalRecord, unconditional}
 use Rattle.rule_core.specs.Records.{conditional}
 
--- one more record, behind the others
+-- one more record, after the others
 abbrev pub at_end : RecordList → Record → RecordList
 at_end no_record r = more_records r no_record
 at_end (more_records s rs) r = more_records s (at_end rs r)

@@ -26,7 +26,7 @@ pub trait Recording: Drop {
     fn none(alloc: Global) -> Vec<Self>
         ensures { all_tell result.items no_record };
 
-    /// One more record, behind the others.
+    /// One more record, after the others.
     fn push(others: &mut Vec<Self>, one: Self) -> Result<(), AllocError>
         ensures { OnOk result ((rs : RecordList) (r : Record) → all_tell others.old.items rs → tells one r
             → all_tell others.new.items (at_end rs r)) };

@@ -14,7 +14,7 @@ use Rattle.kore_ast.proofs.Steps.{any-step, placed-step, given-step, end-step}
 use Rattle.kore_ast.proofs.Lists.{Begins}
 use Rattle.kore_ast.proofs.Sequences.{Follows, No, follows-end}
 
--- a token and the stream behind it
+-- a token and the stream after it
 pub any-to : (t : Token) (k : List Want) (s s1 e : Stream) → s1 ≡ after s → Has (any t ∷ k) s e → (seen s ≡ Some t) × Has k s1 e
 any-to t k s s1 e p h = let x = any-step t k s e h in (x.0, subst (λ u. Has k u e) (sym p) x.1)
 
@@ -324,7 +324,7 @@ pub apart-modules : (us : List ModuleTree) (k : List Want) (e : Stream) → Apar
 apart-modules [] k e a = a
 apart-modules (m ∷ us) k e a = refl
 
--- the wishes behind the declarations of a module
+-- the wishes after the declarations of a module
 abbrev pub ending : List Want → List Want
 ending k = any (identifier (codes "endmodule")) ∷ k
 

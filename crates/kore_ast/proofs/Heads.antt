@@ -39,7 +39,7 @@ name-text : (bs : List ℕ) → IsToken Ident bs → is_utf8 bs ≡ true
 name-text [] h = absurd h
 name-text (c ∷ cs) h = is_utf8-from_IsUtf8 _ (IsUtf8-from_ascii (c ∷ cs) (name-ascii (c ∷ cs) h))
 
--- .. and that of a set variable behind its first byte
+-- .. and that of a set variable after its first byte
 set-text : (bs : List ℕ) → IsToken SetIdent bs → is_utf8 (drop 1 bs) ≡ true
 set-text [] h = absurd h
 set-text (c ∷ cs) h = is_utf8-from_IsUtf8 _ (IsUtf8-from_ascii cs (name-ascii cs h.1))

@@ -33,7 +33,7 @@ patterns-exact b xs s r h ps k e a g =
     let x = h.exact (listed_patterns ps) k e a (subst (λ fs. Has (listed fs 41 k) s e) (spell_patterns-listed b ps) g) in
     (pattern_trees-listed ps ∙ ap pattern_trees x.0, x.1)
 
--- what stands behind a binder
+-- what stands after a binder
 abbrev behind-binder : Bool → SortTrees → PatternTree → PatternTree → Spelling
 behind-binder b ss x q k =
     any (mark 123) ∷ listed (spell_sorts ss) 125 (any (mark 40) ∷ spell_pattern b x (any (mark 44) ∷ spell_pattern b q (any (mark 41) ∷ k)))

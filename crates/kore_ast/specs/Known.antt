@@ -10,7 +10,7 @@ abbrev pub name_bytes : Next → List ℕ
 name_bytes (next.Token Ident at bytes) = bytes.now
 name_bytes _ = []
 
--- .. of that of a set variable, behind its `@`
+-- .. of that of a set variable, after its `@`
 abbrev pub set_name_bytes : Next → List ℕ
 set_name_bytes (next.Token SetIdent at bytes) = drop 1 bytes.now
 set_name_bytes _ = []

@@ -18,7 +18,7 @@ ReadsPattern bytes p = IsShallow 0 (tokens_of bytes) × ((e : ℕ) × Takes (spe
 abbrev pub ReadsDefinition : List ℕ → DefinitionTree → Type 0
 ReadsDefinition bytes d = IsShallow 0 (tokens_of bytes) × ((e : ℕ) × Takes (spell_definition d []) (tokens_of bytes) (end e))
 
--- the fault that is told is the first of the text; nothing is said where memory was wanting
+-- the fault that is told is the first of the text; nothing is said where memory ran out
 abbrev pub IsFault : (Stream → Type 0) → List ℕ → ReadFault → Type 0
 IsFault L bytes (read_fault.Lex at) = IsFirstFault L 0 (tokens_of bytes) (Some (text_fault.Lex at))
 IsFault L bytes (read_fault.Syntax at) = IsFirstFault L 0 (tokens_of bytes) (Some (text_fault.Syntax at))

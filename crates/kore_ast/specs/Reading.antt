@@ -21,11 +21,11 @@ pub record Has (k : List Want) (s e : Stream) : Type 0 where
   pub takes : Takes k s e
 
 -- whatever is spelled at the one stream, where no opening brace follows, is this thing, and what
--- comes behind it is spelled at the other
+-- comes after it is spelled at the other
 pub record Reads {T : Type 0} (spell : T → Spelling) (x : T) (s r : Stream) : Type 0 where
   pub exact : (t : T) (k : List Want) (e : Stream) → Apart k e → Has (spell t k) s e → (t ≡ x) × Has k r e
 
--- a list from behind its opening bracket
+-- a list from after its opening bracket
 abbrev pub spell_list : {T : Type 0} → (T → Spelling) → ℕ → List T → Spelling
 spell_list spell close xs k = listed (map spell xs) close k
 

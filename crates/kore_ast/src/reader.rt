@@ -127,7 +127,7 @@ impl<'a> Reader<'a> {
         }
     }
 
-    /// Goes on behind the next token.
+    /// Goes on after the next token.
     #[tactic(auto, using(crate::proofs::Heads::comes_first, crate::proofs::Heads::comes_name, crate::proofs::Heads::comes_set_name, crate::proofs::Heads::comes_string))]
     fn advance(&mut self)
         requires { is_done (seen (left self.old)) ≡ false }
@@ -161,7 +161,7 @@ impl<'a> Reader<'a> {
         }
     }
 
-    /// The name of the next token behind `@`, where it is the identifier of a set variable.
+    /// The name of the next token after `@`, where it is the identifier of a set variable.
     fn own_set_name(&self) -> Result<Text, AllocError>
         ensures { IfOk result (λ n. n ≡ set_name_of (seen (left self.now))) }
     {
@@ -195,7 +195,7 @@ impl<'a> Reader<'a> {
         Ok((self.pass(), name))
     }
 
-    /// Takes the identifier of a set variable: its place and its name behind `@`.
+    /// Takes the identifier of a set variable: its place and its name after `@`.
     pub(crate) fn set_name(&mut self) -> Result<(u32, Text), AllocError>
         ensures read { IfOk result (λ x. (x.0 ≡ place (left self.old)) × (x.1 ≡ set_name_of (seen (left self.old)))) }
         ensures rest { OnOk result (left self.new ≡ after (left self.old)) }
@@ -222,7 +222,7 @@ impl<'a> Reader<'a> {
         self.is_done() || self.has_mark(close)
     }
 
-    /// Whether another item of a list comes: the first, or one behind a comma, which is taken.
+    /// Whether another item of a list comes: the first, or one after a comma, which is taken.
     /// None comes at the closing mark, which is taken too.
     pub(crate) fn another(&mut self, first: bool, close: u8) -> bool
         ensures comes { result ≡ not (is_over close (seen (left self.old))) }
@@ -242,7 +242,7 @@ impl<'a> Reader<'a> {
     }
 }
 
-/// The bytes behind the first, which is `@` or `\`.
+/// The bytes after the first, which is `@` or `\`.
 fn behind_first(bytes: &[u8]) -> &[u8]
     ensures { result.now ≡ drop 1 bytes.now }
 {

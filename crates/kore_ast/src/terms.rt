@@ -36,7 +36,7 @@ impl<'a> Reader<'a> {
         })
     }
 
-    /// Sorts from behind their opening bracket up to and with the closing mark.
+    /// Sorts from after their opening bracket up to and with the closing mark.
     #[cycle(sorts)]
     pub(crate) fn sorts(&mut self, close: u8) -> Result<Vec<Sort>, AllocError>
         requires { is_closing close ≡ true }
@@ -202,7 +202,7 @@ impl<'a> Reader<'a> {
         })
     }
 
-    /// Patterns from behind their opening bracket up to and with the closing mark.
+    /// Patterns from after their opening bracket up to and with the closing mark.
     #[cycle(patterns)]
     pub(crate) fn patterns(&mut self, close: u8) -> Result<Vec<Pat>, AllocError>
         requires { is_closing close ≡ true }

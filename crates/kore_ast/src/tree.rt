@@ -74,7 +74,7 @@ pub struct AliasDecl {
     pub params: Vec<Text>,
     pub args: Vec<Sort>,
     pub result: Sort,
-    /// The name and the sorts behind `where`.
+    /// The name and the sorts after `where`.
     pub left_name: Text,
     pub left_sorts: Vec<Sort>,
     pub vars: Vec<Pat>,

@@ -27,7 +27,7 @@ unbound_some : (sig : Signature) (qs : Unfoldeds) (test : Option PatternTree) �
 unbound_some sig qs None clear h = absurd (false≢true (sym h))
 unbound_some sig qs (Some p) clear h = unbound_more sig qs (unfolded p) (clear p refl) h
 
--- all variables of a rule behind those of its left side
+-- all variables of a rule after those of its left side
 abbrev all_of : Signature → Unfoldeds → Option PatternTree → PatternTree → List (List ℕ × ℕ)
 all_of sig qs test right = with_variables sig (with_some_variables sig (of sig qs) test) (unfolded right)
 

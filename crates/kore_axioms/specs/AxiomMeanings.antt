@@ -12,7 +12,7 @@ use Rattle.kore_axioms.specs.Conditions.{tested}
 use Rattle.kore_axioms.specs.RuleParts.{rule_parts, left_of, right_of}
 use Rattle.kore_axioms.specs.Priorities.{priority_of}
 
--- the variables, and those of the pattern, where there is one, behind them
+-- the variables, and those of the pattern, where there is one, after them
 abbrev pub with_some_variables : Signature → List (List ℕ × ℕ) → Option PatternTree → List (List ℕ × ℕ)
 with_some_variables sig vars None = vars
 with_some_variables sig vars (Some p) = with_variables sig vars (unfolded p)

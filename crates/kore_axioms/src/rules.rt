@@ -187,7 +187,7 @@ fn rule_patterns(
     })
 }
 
-/// What the pattern means that a condition tests, where there is one. Its variables stand behind those that were there.
+/// What the pattern means that a condition tests, where there is one. Its variables stand after those that were there.
 pub fn built_condition(
     alloc: Global,
     sig: &Signature,

@@ -20,7 +20,7 @@ const DECLARED: &str =
     symbol m{}(S{},S{}) : S{} [function{}(),comm{}()] symbol n{}() : S{} [] symbol t{}() : T{} [constructor{}()] \
     symbol is{}(S{}) : B{} [function{}()] symbol i{}(I{}) : S{} [constructor{}()] ";
 
-/// The first fault of the axioms, by its number and its byte behind what is declared.
+/// The first fault of the axioms, by its number and its byte after what is declared.
 fn first_fault(alloc: Global, axioms: &str) -> Result<Option<(u8, u32)>, Fail> {
     let text = format!(in alloc; "{DECLARED}{axioms} endmodule []")?;
     if text.len() > LONGEST {

@@ -44,7 +44,7 @@ own_clash sig byte name ss s p q wanted k =
     ap (λ (b : ℕ). clash_faults b (result_sort (symbol_named sig name) ss (sort_numbers sig ss)) wanted) (sym k.at)
     ∙ ap (λ (o : Option ℕ). clash_faults s.at o wanted) (sym k.own)
 
--- from the left: of the patterns behind an application that is built already
+-- from the left: of the patterns after an application that is built already
 abbrev left_rest : Signature → FoldSorts → Unfoldeds → List Fault
 left_rest sig s no_more = []
 left_rest sig s (and_more q qs) =
@@ -91,7 +91,7 @@ left_same sig s q (and_more r qs) =
     (same-eq _ _ (ap (λ (x : List Fault). own ++ x) (sym (append_assoc last outer behind))))
     (same-append own own ((last ++ outer) ++ behind) _ (same-refl own) (same-append (last ++ outer) (last ++ outer) behind _ (same-refl (last ++ outer)) (left_same sig s r qs)))
 
--- behind the faults of the symbol one may stand for the other, whatever stands between
+-- after the faults of the symbol one may stand for the other, whatever stands between
 through : (h z xs ys : List Fault) → SameFaults (h ++ xs) (h ++ ys) → SameFaults (h ++ (z ++ xs)) (h ++ (z ++ ys))
 through h z xs ys same =
     same-trans (h ++ (z ++ xs)) (z ++ (h ++ xs)) (h ++ (z ++ ys)) (same-front h z xs)
@@ -100,7 +100,7 @@ through h z xs ys same =
 regroup_right : (h p k x y c : List Fault) → h ++ ((h ++ (p ++ (k ++ (x ++ (y ++ []))))) ++ c) ≡ h ++ (h ++ (p ++ (k ++ ((x ++ y) ++ c))))
 regroup_right h p k x y c = simp (append_assoc, append-nil)
 
--- from the right: of a pattern that is no first one, and of those behind it
+-- from the right: of a pattern that is no first one, and of those after it
 right_built : (sig : Signature) (byte : ℕ) (name : List ℕ) (ss : List SortTree) (s : FoldSorts) (p : Unfolded) (qs : Unfoldeds) → Knows sig byte name ss s
     → SameFaults (head_of sig byte name ss ++ (pattern_faults sig (folded_right byte name ss p qs) ++ clash sig (folded_right byte name ss p qs) (option_map sort_no s.upper)))
     (head_of sig byte name ss ++ rest_faults sig false s (and_more p qs))

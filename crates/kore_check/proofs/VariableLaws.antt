@@ -1,4 +1,4 @@
--- The numbers of variables after one has come behind the others, and after the last one has gone.
+-- The numbers of variables after one has come after the others, and after the last one has gone.
 use Rattle.std.proofs.Common.{inl, inr, ◌≡◌, ◌<◌, ◌+◌, ℕ, zero, suc, List, [], ◌∷◌, ◌++◌, length, Bool, true, false, cond, Option, Some, None, refl, sym, ◌∙◌, ap, subst, slice_get, arith, String, eq-eqb}
 use Rattle.std.specs.Prelude.{is_some, if◌then◌else◌, ◌&&◌, ◌==◌, ◌⊎◌}
 use Rattle.std.specs.List.{position_from}

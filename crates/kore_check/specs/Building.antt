@@ -17,7 +17,7 @@ use Rattle.term_core.specs.PatternLists.{plain_patterns}
 use Rattle.term_core.specs.declared.rule_patterns.RulePat.{RulePat}
 use Rattle.rule_core.specs.declared.signature.SymInfo.{SymInfo}
 
--- the variables, and maybe more behind them
+-- the variables, and maybe more after them
 abbrev pub Extends : List (List ℕ × ℕ) → List (List ℕ × ℕ) → Type 0
 Extends vars more = (behind : List (List ℕ × ℕ)) × (more ≡ vars ++ behind)
 
@@ -56,7 +56,7 @@ right_pattern kind f ns (p ∷ []) = Some p
 right_pattern kind f ns (p ∷ (q ∷ qs)) = option_and_then (pair_pattern kind f ns p) (right_pattern kind f ns (q ∷ qs))
 
 -- what is built of a pattern: nothing where it has a fault or another form, else what it means, and its variables stand
--- behind those that were there
+-- after those that were there
 abbrev pub Built : Signature → List (List ℕ × ℕ) → List (List ℕ × ℕ) → Unfolded → Option RulePat → Type 0
 Built sig old new u None = IsFaultless sig u → ⊥
 Built sig old new u (Some p) = (new ≡ with_variables sig old u) × MeansFrom sig new u (plain_pattern p)

@@ -38,7 +38,7 @@ refusal_of kind.NoKind at = answer.NoKind at
 abbrev pub as_refusal : PatternFault → CheckFault
 as_refusal f = refusal_of f.kind f.at
 
--- the answer is the first of these faults, or that memory was wanting
+-- the answer is the first of these faults, or that memory ran out
 abbrev pub IsRefusal : List Fault → CheckFault → Type 0
 IsRefusal faults (answer.Deep at) = IsFirstBy ByByte (Contains faults) (Some (record { number = 3; byte = at }))
 IsRefusal faults (answer.UnknownSort at) = IsFirstBy ByByte (Contains faults) (Some (record { number = 6; byte = at }))

@@ -8,7 +8,7 @@ use Rattle.kore_check.specs.PatternSorts.{sort_of}
 use Rattle.kore_check.specs.PatternFaults.{pattern_faults, clash_faults}
 use Rattle.kore_check.specs.Notes.{sort_no}
 
--- the clashes at an argument behind the first one, which stands at this byte and has this sort
+-- the clashes at an argument after the first one, which stands at this byte and has this sort
 abbrev pub next_faults : Bool → Bool → ℕ → Option ℕ → FoldSorts → List Fault
 next_faults true left at own s = clash_faults at own (option_map sort_no s.upper)
 next_faults false true at own s =
@@ -22,7 +22,7 @@ abbrev pub is_none_more : Unfoldeds → Bool
 is_none_more no_more = true
 is_none_more (and_more p ps) = false
 
--- of the arguments behind the first one
+-- of the arguments after the first one
 abbrev pub rest_faults : Signature → Bool → FoldSorts → Unfoldeds → List Fault
 rest_faults sig left s no_more = []
 rest_faults sig left s (and_more p ps) =

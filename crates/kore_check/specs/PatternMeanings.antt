@@ -29,12 +29,12 @@ named_sorts vars = map (λ (v : VarInfo). (string_bytes v.name, v.sort.0)) vars
 abbrev pub variable_number : List (List ℕ × ℕ) → List ℕ → ℕ → Option ℕ
 variable_number vars name s = position_from (λ (v : List ℕ × ℕ). bytes_eq name v.0 && (s == v.1)) 0 vars
 
--- the variables, and this one behind them where it is none of them
+-- the variables, and this one after them where it is none of them
 abbrev pub with_variable : List (List ℕ × ℕ) → List ℕ → Option ℕ → List (List ℕ × ℕ)
 with_variable vars name None = vars
 with_variable vars name (Some s) = if is_some (variable_number vars name s) then vars else vars ++ (name, s) ∷ []
 
--- the variables, and those of the pattern behind them
+-- the variables, and those of the pattern after them
 abbrev mutual
   pub with_variables : Signature → List (List ℕ × ℕ) → Unfolded → List (List ℕ × ℕ)
   with_variables sig vars (named_variable at name s) = with_variable vars name (sort_number sig.sorts s)

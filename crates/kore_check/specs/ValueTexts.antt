@@ -8,7 +8,7 @@ use Rattle.term_core.specs.Terms.{DomainValue, integer, truth, text}
 use Rattle.rule_core.specs.declared.signature.SortKind.{SortKind}
 use Rattle.rule_core.specs.declared.signature.SortKind.TheVariants as kind
 
--- the number that digits stand for behind those of this one
+-- the number that digits stand for after those of this one
 abbrev pub digits_behind : ℕ → List ℕ → ℕ
 digits_behind n [] = n
 digits_behind n (b ∷ bytes) = digits_behind (n * 10 + (b - 48)) bytes

@@ -164,7 +164,7 @@ fn check_folded(
     }
 }
 
-// Notes the clashes at an argument of a fold behind the first one. The last one is the second argument of an
+// Notes the clashes at an argument of a fold after the first one. The last one is the second argument of an
 // application. Any other one is the second argument from the left and the first one from the right, and the application
 // in which it stands is an argument too.
 fn check_next(

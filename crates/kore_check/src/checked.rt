@@ -20,7 +20,7 @@ use std::alloc::{AllocError, Global};
 use term_core::{RulePat, SortId};
 
 /// The rule pattern that a pattern means, and its sort; or the first of its faults, by byte, and at one byte by number.
-/// Its variables stand behind those that were there, numbered by name and sort at their first occurrence. After a fault
+/// Its variables stand after those that were there, numbered by name and sort at their first occurrence. After a fault
 /// the variables are as before.
 ///
 /// It takes a time linear in the pattern, up to a logarithm of the numbers of sorts, symbols and variables.
@@ -51,7 +51,7 @@ pub fn check_pattern(
     Ok((made, sort))
 }
 
-/// The rule pattern that a pattern without faults means. Its variables stand behind those that were there, numbered by
+/// The rule pattern that a pattern without faults means. Its variables stand after those that were there, numbered by
 /// name and sort at their first occurrence. After `AllocError` the variables are as before.
 pub fn build_pattern(
     alloc: Global,

@@ -91,8 +91,8 @@ impl Variables {
         self.numbers.get(wanted).copied()
     }
 
-    /// The number of the variable with this name and this sort, which is added behind the others where it is not there.
-    /// A number past 32 bits counts as want of memory, which so many variables would not fit into. After `AllocError`
+    /// The number of the variable with this name and this sort, which is added after the others where it is not there.
+    /// A number past 32 bits counts as out of memory, which so many variables would not fit into. After `AllocError`
     /// the variables are as before. It costs what `number` does, and two copies of the name of a new variable.
     pub fn number_or_add(
         &mut self,

@@ -54,7 +54,7 @@ pub(crate) fn equation_patterns(
     })
 }
 
-/// What patterns without faults mean. Their variables stand behind those that were there.
+/// What patterns without faults mean. Their variables stand after those that were there.
 fn built_patterns(
     alloc: Global,
     sig: &Signature,

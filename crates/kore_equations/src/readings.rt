@@ -30,7 +30,7 @@ pub enum Reading {
 
 /// The equation that an axiom of this statement means, or that it is not readable. Its variables are those of the
 /// patterns that the arguments match, in the order of their first occurrence. As many parameters as 32 bits do not
-/// count are taken for want of memory, which they would not fit into.
+/// count are taken for out of memory, which they would not fit into.
 ///
 /// It goes through the axiom a few times, with a look-up for each sort, symbol and variable; where it has the form that
 /// kompile writes, also once for each argument of its function.

@@ -1,4 +1,4 @@
--- The law of `lexed`: the piece at the head, and the stream of what is behind it.
+-- The law of `lexed`: the piece at the head, and the stream of what is after it.
 use Rattle.std.proofs.Common.{◌≡◌, ◌≤◌, ◌+◌, ◌-◌, ℕ, zero, suc, Bool, true, false, List, [], ◌∷◌, length, take, drop, refl, ap, sym, ◌∙◌, subst, if◌then◌else◌, not, ◌==◌, arith, length-drop, Option, Some, None, Ok, Result}
 use Rattle.std.specs.Option.{IfSome}
 use Rattle.std.specs.Str.{is_utf8}

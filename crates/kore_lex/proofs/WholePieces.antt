@@ -18,7 +18,7 @@ use Rattle.kore_lex.proofs.Lexing.{lexed-is}
 abbrev pub whole : TokenKind → ℕ → Piece
 whole k n = Whole k n
 
--- what is behind it is cut on
+-- what is after it is cut on
 pub lexed-whole : (k : TokenKind) (n at : ℕ) (bs : List ℕ) → piece bs ≡ whole k n → lexed at bs ≡ token k at (at + n) (lexed (at + n) (drop n bs))
 lexed-whole k n at bs h = lexed-is at bs ∙ ap (onward lexed at bs) h
 

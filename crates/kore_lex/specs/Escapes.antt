@@ -16,13 +16,13 @@ abbrev pub bind : Option ℕ → (ℕ → Option ℕ) → Option ℕ
 bind None f = None
 bind (Some n) f = f n
 
--- the scalar value of Unicode of which so many digits are still to come, behind digits that give n
+-- the scalar value of Unicode of which so many digits are still to come, after digits that give n
 unfoldable pub hex_number : ℕ → ℕ → List ℕ → Option ℕ
 hex_number zero n bs = if scalar n then Some n else None
 hex_number (suc k) n [] = None
 hex_number (suc k) n (c ∷ cs) = bind (hex_digit c) (λ d. hex_number k (16 * n + d) cs)
 
--- an escape by a number, behind its letter
+-- an escape by a number, after its letter
 abbrev pub by_number : ℕ → Option ℕ → Option Escape
 by_number k None = None
 by_number k (Some c) = Some (record { character = c; len = k + 1 })
@@ -33,7 +33,7 @@ numbered k bs = by_number k (hex_number k 0 bs)
 abbrev pub single : ℕ → Option Escape
 single c = Some (record { character = c; len = 1 })
 
--- the escape that begins here, behind a backslash: n r t f " \ x u U
+-- the escape that begins here, after a backslash: n r t f " \ x u U
 unfoldable pub escape : List ℕ → Option Escape
 escape [] = None
 escape (c ∷ cs) =
@@ -53,7 +53,7 @@ abbrev pub further : ℕ → Option ℕ → Option ℕ
 further n None = None
 further n (Some m) = Some (n + m)
 
--- what is found at a backslash, by the escape that begins behind it
+-- what is found at a backslash, by the escape that begins after it
 abbrev pub on_escape : {T : Type 0} → T → (ℕ → T) → Option Escape → T
 on_escape bad more None = bad
 on_escape bad more (Some e) = more e.len

@@ -8,7 +8,7 @@ use Rattle.kore_lex.specs.declared.piece.Piece.{Piece}
 use Rattle.kore_lex.specs.declared.piece.Piece.TheVariants.{Nothing, Gap, Whole, Bad}
 use Rattle.kore_lex.specs.Pieces.{piece}
 
--- tokens in order, each with its first byte and the byte behind it, and then the end of the text
+-- tokens in order, each with its first byte and the byte after it, and then the end of the text
 -- or the byte of a fault
 pub data Stream : Type 0 where
   end : ℕ → Stream
@@ -37,7 +37,7 @@ head (end n) = Ok (record { kind = End; from = n; to = n })
 head (fault n) = Err (record { at = n })
 head (token k from to s) = Ok (record { kind = k; from = from; to = to })
 
--- what comes behind the first token; the end and a fault stay
+-- what comes after the first token; the end and a fault stay
 abbrev pub tail : Stream → Stream
 tail (end n) = end n
 tail (fault n) = fault n

@@ -17,7 +17,7 @@ is_space c = (c == 32) || (c == 9) || (c == 13) || (c == 10)
 abbrev pub is_letter : ℕ → Bool
 is_letter c = (nat_le 65 c && nat_le c 90) || (nat_le 97 c && nat_le c 122)
 
--- what a name has behind its first letter: letters, digits, `'` and `-`
+-- what a name has after its first letter: letters, digits, `'` and `-`
 abbrev pub is_word : ℕ → Bool
 is_word c = is_letter c || (nat_le 48 c && nat_le c 57) || (c == 39) || (c == 45)
 
@@ -44,18 +44,18 @@ block_len [] = None
 block_len (c ∷ []) = None
 block_len (c ∷ d ∷ rest) = if ends_block c d then Some 2 else further 1 (block_len (d ∷ rest))
 
--- the bytes that stand together with this one in a string: one behind a backslash
+-- the bytes that stand together with this one in a string: one after a backslash
 abbrev pub passed : ℕ → ℕ
 passed c = if c == 92 then 1 else 0
 
 -- the bytes up to and with the quote that ends a string, where so many bytes at the head stand
--- behind a backslash
+-- after a backslash
 unfoldable pub quote_len : ℕ → List ℕ → Option ℕ
 quote_len n [] = None
 quote_len (suc n) (c ∷ cs) = further 1 (quote_len n cs)
 quote_len zero (c ∷ cs) = if c == 34 then Some 1 else further 1 (quote_len (passed c) cs)
 
--- behind a slash: `//` up to the end of the line, `/*` up to and with the first `*/` behind it
+-- after a slash: `//` up to the end of the line, `/*` up to and with the first `*/` after it
 abbrev pub block : Option ℕ → Piece
 block None = Bad 0
 block (Some n) = Gap (n + 2)
@@ -74,7 +74,7 @@ by_escapes body (Some n) = Bad (n + 1)
 abbrev pub body_piece : List ℕ → Piece
 body_piece body = if is_utf8 body then by_escapes body (bad_at 0 body) else Bad 0
 
--- behind the opening quote
+-- after the opening quote
 abbrev pub by_end : List ℕ → Option ℕ → Piece
 by_end bs None = Bad 0
 by_end bs (Some n) = body_piece (take (n - 1) bs)
@@ -82,12 +82,12 @@ by_end bs (Some n) = body_piece (take (n - 1) bs)
 abbrev pub string : List ℕ → Piece
 string bs = by_end bs (quote_len 0 bs)
 
--- a name of this kind, behind its first byte, `@` or `\`
+-- a name of this kind, after its first byte, `@` or `\`
 abbrev pub named : TokenKind → List ℕ → Piece
 named k [] = Bad 0
 named k (c ∷ cs) = if is_letter c then Whole k (word_len cs + 2) else Bad 0
 
--- behind a colon
+-- after a colon
 abbrev pub colon : List ℕ → Piece
 colon [] = Whole (Punct 58) 1
 colon (c ∷ cs) = if c == 61 then Whole Assign 2 else Whole (Punct 58) 1

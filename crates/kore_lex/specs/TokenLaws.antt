@@ -27,7 +27,7 @@ abbrev pub TokensAreFew : Type 0
 TokensAreFew = (text : List ℕ) → token_count (lexed 0 text) ≤ length text
 
 -- so many bytes at the head are a byte of white space or a comment: `//` up to the end of the
--- line, or `/*` up to and with the first `*/` behind it
+-- line, or `/*` up to and with the first `*/` after it
 pub data IsBlank : ℕ → List ℕ → Type 0 where
   white : (c : ℕ) (cs : List ℕ) → is_space c ≡ true → IsBlank 1 (c ∷ cs)
   line_comment : (cs : List ℕ) → IsBlank (line_len cs + 2) (47 ∷ 47 ∷ cs)

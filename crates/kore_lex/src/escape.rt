@@ -14,7 +14,7 @@ const LAST_CHAR: u32 = 0x10_FFFF;
 pub(crate) struct Escape {
     /// The character that it stands for.
     pub(crate) character: char,
-    /// Its bytes behind the backslash.
+    /// Its bytes after the backslash.
     pub(crate) len: usize,
 }
 
@@ -48,7 +48,7 @@ fn hex_number(digits: usize, bytes: &[u8]) -> Option<char>
     char::from_u32(number)
 }
 
-/// The escape by a number of so many digits, behind its letter.
+/// The escape by a number of so many digits, after its letter.
 fn numbered(digits: usize, bytes: &[u8]) -> Option<Escape>
     requires { digits < 2 ^ 32 }
     ensures value { result ≡ numbered digits bytes.now }
@@ -70,7 +70,7 @@ fn single(character: char) -> Option<Escape>
     Some(Escape { character, len: 1 })
 }
 
-/// The escape that begins here, behind a backslash.
+/// The escape that begins here, after a backslash.
 #[tactic(auto, unfolding(crate::specs::Escapes::escape))]
 pub(crate) fn escape_at(bytes: &[u8]) -> Option<Escape>
     ensures value { result ≡ escape bytes.now }

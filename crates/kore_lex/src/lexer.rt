@@ -29,7 +29,7 @@ pub enum TokenKind {
     End,
 }
 
-/// A token and where it stands: the byte of its first byte, and the byte behind its last. At the
+/// A token and where it stands: the byte of its first byte, and the byte after its last. At the
 /// end both are the length of the text.
 #[derive(Clone, Copy, PartialEq, Eq)]
 pub struct Token {

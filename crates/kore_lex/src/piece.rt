@@ -43,7 +43,7 @@ fn block_len(bytes: &[u8]) -> Option<usize>
     None
 }
 
-/// The bytes that stand together with this one in a string: one behind a backslash.
+/// The bytes that stand together with this one in a string: one after a backslash.
 fn passed(byte: u8) -> usize
     ensures { result ≡ passed byte }
 {
@@ -109,7 +109,7 @@ fn string(bytes: &[u8]) -> Piece
     }
 }
 
-/// A name of this kind, behind its first byte.
+/// A name of this kind, after its first byte.
 fn named(kind: TokenKind, bytes: &[u8]) -> Piece
     requires { length bytes.now < 2 ^ 32 }
     ensures { result ≡ named kind bytes.now }

@@ -34,7 +34,7 @@ pub record Settled {T : Type 0} (spell : T → Spelling) (bare : T → T) (x : T
   pub holds : Holds k
   pub spelled : (w : List Want) (e : Stream) → Takes w (stream_of rest k) e → Takes (spell to w) (stream_of at (spell x k)) e
 
--- the place behind a token
+-- the place after a token
 abbrev behind : ℕ → Token → ℕ
 behind at t = at + length (token_text t)
 

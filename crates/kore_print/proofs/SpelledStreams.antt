@@ -14,7 +14,7 @@ use Rattle.kore_print.specs.PrintLaws.{CanStand, IsTextual}
 use Rattle.kore_lex.proofs.WholePieces.{begins_word, begins_equals}
 use Rattle.kore_print.proofs.TokenPieces.{IsApart, token-cut, behind-token}
 
--- the wished tokens from a place on, each behind the text of those in front of it
+-- the wished tokens from a place on, each after the text of those in front of it
 abbrev pub stream_of : ℕ → List Want → Stream
 stream_of at [] = end at
 stream_of at (given b ∷ ws) = stream_of at ws

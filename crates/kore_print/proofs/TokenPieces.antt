@@ -155,7 +155,7 @@ token-cut t r whole at h a d =
     ∙ named-token whole (kind_of t) at (at + n) (lexed (at + n) r) (kind-no-end t)
     ∙ ap (λ (u : Token). token u at (named_stream whole (lexed (at + n) r))) (ap (token_of (kind_of t)) b ∙ token-back t r h a)
 
--- what follows it stands behind it
+-- what follows it stands after it
 pub behind-token : (t : Token) (r whole : List ℕ) (at : ℕ) → drop at whole ≡ token_text t ++ r → drop (at + length (token_text t)) whole ≡ r
 behind-token t r whole at d =
     sym (drop-drop (length (token_text t)) at whole) ∙ ap (drop (length (token_text t))) d ∙ drop-append_seam (token_text t) r

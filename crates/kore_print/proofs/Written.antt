@@ -43,7 +43,7 @@ item-more f fs (suc i) close k = refl
 after-some : (i : ℕ) (fs : List Spelling) (close : ℕ) (k : List Want) → text_of (listed_after (i + 1) fs close k) ≡ text_of (more_listed fs close k)
 after-some i fs close k = let e : i + 1 ≡ suc i = omega arith in ap (λ (n : ℕ). text_of (listed_after n fs close k)) e
 
--- an item was added behind its comma, and the list is as before what is written and what is left
+-- an item was added after its comma, and the list is as before what is written and what is left
 pub item_written : {T : Type 0} (spell : T → Spelling) (xs : List T) (x : T) (i close : ℕ) (old comma new : List ℕ)
     → drop i xs ≡ x ∷ drop (i + 1) xs → comma ≡ old ++ comma_after i → Writes (spell x) comma new
     → (k : List Want) → new ++ text_of (listed_after (i + 1) (map spell (drop (i + 1) xs)) close k) ≡ old ++ text_of (listed_after i (map spell (drop i xs)) close k)

@@ -22,7 +22,7 @@ numbered_text c =
     else (if nat_lt c 65536 then codes "\\u" ++ hexadecimal 4 c
     else codes "\\U" ++ hexadecimal 8 c)
 
--- a character inside a string: `"` and `\` behind a backslash, LF, CR, tab and FF by their letters,
+-- a character inside a string: `"` and `\` after a backslash, LF, CR, tab and FF by their letters,
 -- other characters from the space to the tilde as themselves, and all others by their numbers
 unfoldable pub character_text : ℕ → List ℕ
 character_text c =
@@ -65,7 +65,7 @@ binder_name binder.Forall = codes "forall"
 binder_name binder.Mu = codes "mu"
 binder_name binder.Nu = codes "nu"
 
--- the name of a built-in thing, behind its backslash
+-- the name of a built-in thing, after its backslash
 abbrev pub built_name : Built → List ℕ
 built_name (Connective o) = op_name o
 built_name (Binding o) = binder_name o

@@ -14,7 +14,7 @@ abbrev pub comma_after : ℕ → List ℕ
 comma_after zero = []
 comma_after (suc i) = 44 ∷ []
 
--- what is left of a list, behind so many items
+-- what is left of a list, after so many items
 abbrev pub listed_after : ℕ → List Spelling → ℕ → Spelling
 listed_after zero fs close = listed fs close
 listed_after (suc i) fs close = more_listed fs close

@@ -12,7 +12,7 @@ use Rattle.rule_core.specs.Rules.{ComesBefore}
 use Rattle.rule_core.specs.WellSorted.{AreInOrder}
 use Rattle.kore_rules.specs.AxiomsRead.{AreApart}
 
--- the first does not stand behind the second
+-- the first does not stand after the second
 abbrev Leads : ℕ × ℕ → ℕ × ℕ → Type 0
 Leads x y = (x.0 < y.0) ⊎ ((x.0 ≡ y.0) × (x.1 ≤ y.1))
 

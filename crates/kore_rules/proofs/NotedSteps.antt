@@ -1,4 +1,4 @@
--- Noting the faults of one thing and of others behind it.
+-- Noting the faults of one thing and of others after it.
 use Rattle.std.proofs.Common.{◌≡◌, ◌++◌, List, ℕ, sym, ap, ◌∙◌}
 use Rattle.std.specs.Prelude.{Option}
 use Rattle.kore_sig.specs.FirstFault.{Fault}

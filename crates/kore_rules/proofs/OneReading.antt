@@ -430,7 +430,7 @@ kind (alias_declaration d) = 4
 kind (axiom_declaration d) = 5
 kind (claim_declaration d) = 6
 
--- what stands behind the parts of an alias
+-- what stands after the parts of an alias
 abbrev behind_vars : AliasDeclaration → Spelling
 behind_vars d k = any assign ∷ spell_pattern false d.body (spell_attributes d.attributes k)
 

@@ -200,7 +200,7 @@ alias-skips d low high k h =
 
 -- ---- axioms
 
--- the axioms stand at places that rise, and from behind the last of them on P holds
+-- the axioms stand at places that rise, and from after the last of them on P holds
 abbrev pub Rise : (ℕ → Type 0) → ℕ → ℕ → List AxiomDeclaration → Type 0
 Rise P high low [] = P low
 Rise P high low (a ∷ axioms) = (low ≤ a.at) × (a.at < high) × Rise P high (a.at + 1) axioms

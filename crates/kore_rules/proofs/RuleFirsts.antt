@@ -54,7 +54,7 @@ not_not : (b : Bool) → not b ≡ false → b ≡ true
 not_not true h = refl
 not_not false h = sym h
 
--- a rule behind one of this sort has it
+-- a rule after one of this sort has it
 same_sort_of : (sig : Signature) (s : SortTree) (a : AxiomDeclaration) (w : Rewriting) → FirstOfRule sig (Some s) a w None → same_sort s w.sort ≡ true
 same_sort_of sig s a w clear =
     let v = rule_parts sig w in

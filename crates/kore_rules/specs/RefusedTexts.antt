@@ -8,7 +8,7 @@ use Rattle.kore_sig.specs.FirstFault.{Fault}
 use Rattle.kore_axioms.specs.declared.refusals.Refusal.{Refusal}
 use Rattle.kore_axioms.specs.declared.refusals.Refusal.TheVariants.{Refused, Memory}
 
--- P holds of the fault for which the text is refused; want of memory says nothing
+-- P holds of the fault for which the text is refused; out of memory says nothing
 abbrev pub RefusesFor : (Fault → Type 0) → Refusal → Type 0
 RefusesFor P (Refused number byte) = P (record { number = number; byte = byte })
 RefusesFor P Memory = Unit {0}

@@ -151,7 +151,7 @@ fn whole_definitions(rt: HostRuntime) -> Result<(), Fail> {
     Ok(())
 }
 
-/// Each refusal of an axiom, by its byte behind what is declared: the axioms in the order of the file, and at one axiom
+/// Each refusal of an axiom, by its byte after what is declared: the axioms in the order of the file, and at one axiom
 /// its form, its sorts and its uses.
 #[test]
 fn axioms(rt: HostRuntime) -> Result<(), Fail> {

@@ -6,7 +6,7 @@ use Rattle.std.proofs.lemmas.List.{append_assoc}
 use Rattle.kore_text.specs.Trees.{SortTree, PatternTree}
 use Rattle.kore_shapes.specs.EquationForms.{entry, members}
 
--- the patterns behind an entry
+-- the patterns after an entry
 abbrev behind : SortTree → List PatternTree → PatternTree × PatternTree → Option (List PatternTree)
 behind r xs e = option_map (λ (ps : List PatternTree). e.0 ∷ ps) (members r xs e.1)
 
@@ -18,7 +18,7 @@ in_front : (ys : List PatternTree) (p : PatternTree) (o : Option (List PatternTr
 in_front ys p None = refl
 in_front ys p (Some ps) = ap Some (append_assoc ys (p ∷ []) ps)
 
--- one entry more behind patterns that are found
+-- one entry more after patterns that are found
 pub members-next : (ys : List PatternTree) (r : SortTree) (x : PatternTree) (xs : List PatternTree) (g p rest : PatternTree) → entry r x g ≡ Some (p, rest)
     → option_map (λ (ps : List PatternTree). (ys ++ p ∷ []) ++ ps) (members r xs rest) ≡ option_map (λ (ps : List PatternTree). ys ++ ps) (members r (x ∷ xs) g)
 members-next ys r x xs g p rest found =

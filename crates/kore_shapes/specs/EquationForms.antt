@@ -91,7 +91,7 @@ abbrev pub stands_alone : PatternTree → List PatternTree → Bool
 stands_alone (element_variable at n s) others = not (list_any (has_variable n s) others)
 stands_alone p others = false
 
--- the first patterns are element variables, each of which stands in none of those behind it and in none of the others
+-- the first patterns are element variables, each of which stands in none of those after it and in none of the others
 abbrev pub stand_apart : List PatternTree → List PatternTree → Bool
 stand_apart [] others = true
 stand_apart (x ∷ xs) others = (stands_alone x xs && stands_alone x others) && stand_apart xs others

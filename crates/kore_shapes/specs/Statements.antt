@@ -1,4 +1,4 @@
--- How kompile writes the equations of functions: `\equals{S,R}(f{}(..),d)`, alone or behind a guard in an
+-- How kompile writes the equations of functions: `\equals{S,R}(f{}(..),d)`, alone or after a guard in an
 -- `\implies{R}(g,..)`.
 use Rattle.std.specs.Prelude.{ℕ, List, [], ◌∷◌, if◌then◌else◌, Option, Some, None, option_map}
 use Rattle.std.specs.Option.{option_and_then}

@@ -203,7 +203,7 @@ fn is_beside(name: &str, sort: &Sort, pats: &[&Pat]) -> bool
     false
 }
 
-/// Whether the pattern is an element variable that stands in none of the others: those behind it, c, d, and those that
+/// Whether the pattern is an element variable that stands in none of the others: those after it, c, d, and those that
 /// the guard gives.
 fn stands_apart(
     variable: &Pat,
@@ -228,7 +228,7 @@ fn stands_apart(
     }
 }
 
-/// Whether the variables are element variables, each of which stands in none of those behind it and in none of the
+/// Whether the variables are element variables, each of which stands in none of those after it and in none of the
 /// other patterns. It goes through all patterns once for each variable; a function has at most 64 arguments.
 fn stand_apart(variables: &[Pat], condition: &Pat, value: &Pat, patterns: &[&Pat]) -> bool
     ensures { result ≡ do_stand_apart (map plain_pattern variables.now) (plain_pattern condition.now

@@ -10,7 +10,7 @@ ghost use Rattle.kore_shapes.specs.StatementViews.{plain_statement, plain_call};
 use crate::sorts::same_sort;
 use kore_ast::{Op, Pat, PatForm, Sort, Text};
 
-/// The parts of `\equals{S,R}(f{}(..),d)`, which may stand behind a guard g in `\implies{R}(g,..)`.
+/// The parts of `\equals{S,R}(f{}(..),d)`, which may stand after a guard g in `\implies{R}(g,..)`.
 #[derive(Clone, Copy)]
 pub struct Statement<'a> {
     /// The guard g.
@@ -47,7 +47,7 @@ fn statement_with<'a>(op: Op, sorts: &'a [Sort], args: &'a [Pat]) -> Option<Stat
     }
 }
 
-/// The equality behind this guard, where it is over the same sort.
+/// The equality after this guard, where it is over the same sort.
 fn guarded<'a>(over: &Sort, guard: &'a Pat, stated: &'a Pat) -> Option<Statement<'a>>
     ensures { option_map plain_statement result
         ≡ option_and_then (the_guarded (plain_sort over.now) (plain_pattern guard.now))

@@ -14,7 +14,7 @@ use term_core::RulePat;
 
 /// The Kore pattern that a pattern without variables is, by the names of the signature, with 0 for each place. The
 /// pattern is one that has such a pattern, as each has that is well-sorted and without variables (`shown_laws`).
-/// `AllocError` says that memory was wanting.
+/// `AllocError` says that memory ran out.
 ///
 /// It takes a time linear in the pattern and its names, and one pass over the symbols to find the injection symbol. It
 /// recurses as deep as the pattern is.

@@ -12,7 +12,7 @@ use Rattle.kore_sig.specs.Placing.{marks_of, plain_placed}
 use Rattle.kore_sig.specs.SignatureFaults.{Placed, placed_at, placed, name_behind}
 use Rattle.kore_sig.proofs.ListLaws.{drop_step}
 
--- the modules behind the one before this place
+-- the modules after the one before this place
 pub behind : (modules : List Module) (i : ℕ) (m : Module) → 0 < i → i ≤ length modules → m ≡ get_or modules (i - 1) m → map plain_module (drop (i - 1) modules) ≡ plain_module m ∷ map plain_module (drop i modules)
 behind modules i m some within is =
     let lt : i - 1 < length modules = omega arith in

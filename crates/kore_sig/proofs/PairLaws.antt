@@ -148,7 +148,7 @@ attribute_pairs at ps p = ap (map (pair_at at)) (filter_map-append subsort_sorts
 pub pairs_push : (ds : List Declaration) (d : Declaration) → pairs_in (ds ++ d ∷ []) ≡ pairs_in ds ++ pairs_in (d ∷ [])
 pairs_push ds d = ap (flat_map pairs_of_axiom) (filter_map-append axiom_declared ds (d ∷ [])) ∙ flat_map-append pairs_of_axiom (filter_map axiom_declared ds) (filter_map axiom_declared (d ∷ []))
 
--- a first fault behind pairs that pass is that of all
+-- a first fault after pairs that pass is that of all
 pub first_behind : (sorts : List (List ℕ × SortInfo)) (before behind : List (ℕ × ℕ)) (xs : List SubsortPair) (f : SigFault) (rest : List SubsortPair) → Passes sorts before behind xs → Refuses (λ r. FirstFrom sorts behind rest r) f → Refuses (λ r. FirstFrom sorts before (xs ++ rest) r) f
 first_behind sorts before behind xs f rest passes first =
     refuses_map (λ r. FirstFrom sorts behind rest r) (λ r. FirstFrom sorts before (xs ++ rest) r) f (λ r h. passes.first rest r h) first

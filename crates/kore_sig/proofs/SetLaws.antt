@@ -30,7 +30,7 @@ number_among {V} entries n = some_position (λ (e : List ℕ × V). bytes_eq n e
 pub among_append : (xs ys : List (List ℕ)) (n : List ℕ) → is_among (xs ++ ys) n ≡ (is_among xs n || is_among ys n)
 among_append xs ys n = list_any-append (bytes_eq n) xs ys
 
--- in front or behind is the same
+-- in front or after is the same
 pub among_swap : (xs ys : List (List ℕ)) (n : List ℕ) → is_among (xs ++ ys) n ≡ is_among (ys ++ xs) n
 among_swap xs ys n = among_append xs ys n ∙ or_comm (is_among xs n) (is_among ys n) ∙ sym (among_append ys xs n)
 
@@ -73,6 +73,6 @@ knows_more false old new name v known fresh is knows n =
 pub knows_same : {V : Type 0} (old new : List (List ℕ × V)) (xs ys : List (List ℕ)) → new ≡ old → xs ≡ ys → Knows old xs → Knows new ys
 knows_same old new xs ys e f h n = ap (λ es. is_some (number_of es n)) e ∙ h n ∙ ap (λ ns. is_among ns n) f
 
--- what stands in front may stand behind
+-- what stands in front may stand after
 pub knows_swap : {V : Type 0} (es : List (List ℕ × V)) (xs ys : List (List ℕ)) → Knows es (xs ++ ys) → Knows es (ys ++ xs)
 knows_swap es xs ys h n = h n ∙ among_swap xs ys n

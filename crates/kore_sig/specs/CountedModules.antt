@@ -12,7 +12,7 @@ import_name d = None
 abbrev pub imports_of : ModuleTree → List (List ℕ)
 imports_of m = filter_map import_name m.declarations
 
--- a module counts, where these stand behind it, of which those count: it is the last, or one that counts imports it
+-- a module counts, where these stand after it, of which those count: it is the last, or one that counts imports it
 abbrev pub counts : ModuleTree → List ModuleTree → List ModuleTree → Bool
 counts m [] counted_later = true
 counts m (next ∷ later) counted_later = is_among (flat_map imports_of counted_later) m.name

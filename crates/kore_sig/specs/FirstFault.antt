@@ -33,7 +33,7 @@ Then P Q None = P None × Q None
 Then P Q (Some f) = P (Some f) ⊎ (P None × Q (Some f))
 
 -- The first fault of the first thing that has any. R says what the first fault of a thing is, where some state stands
--- before it; next gives the state that stands behind it.
+-- before it; next gives the state that stands after it.
 abbrev pub InOrder : {S A : Type 0} → (S → A → Option Fault → Type 0) → (S → A → S) → S → List A → Option Fault →
     Type 0
 InOrder R next s [] r = r ≡ None

@@ -10,7 +10,7 @@ use Rattle.kore_sig.specs.declared.faults.SigFault.TheVariants.{SubsortCycle, Me
 abbrev pub fault_at : ℕ → ℕ → Option Fault
 fault_at number byte = Some (record { number = number; byte = byte })
 
--- P holds of the fault that is answered; want of memory says nothing
+-- P holds of the fault that is answered; out of memory says nothing
 abbrev pub Refuses : (Option Fault → Type 0) → SigFault → Type 0
 Refuses P (Import at) = P (fault_at 4 at)
 Refuses P (Duplicate at) = P (fault_at 5 at)

@@ -79,7 +79,7 @@ declaration_faults sorts before earlier (sort_declaration d) = sort_faults befor
 declaration_faults sorts before earlier (symbol_declaration d) = symbol_faults sorts before.symbols d
 declaration_faults sorts before earlier d = []
 
--- the names that are declared behind it
+-- the names that are declared after it
 abbrev pub declared_behind : Before → Declaration → Before
 declared_behind before (sort_declaration d) = record before { sorts = before.sorts ++ d.name ∷ [] }
 declared_behind before (symbol_declaration d) = record before { symbols = before.symbols ++ d.name ∷ [] }
@@ -108,7 +108,7 @@ pub data HasPairFault (sorts : List (List ℕ × SortInfo)) (before : List (ℕ 
   cycle : {a b : ℕ} → sort_number sorts p.lower ≡ Some a → sort_number sorts p.upper ≡ Some b →
       (HasNoCycle (before ++ (a, b) ∷ []) → ⊥) → HasPairFault sorts before p (record { number = 24; byte = p.at })
 
--- the numbers of the sorts of a pair behind those of the pairs in front of it
+-- the numbers of the sorts of a pair after those of the pairs in front of it
 abbrev pub with_numbers : List (ℕ × ℕ) → Option ℕ → Option ℕ → List (ℕ × ℕ)
 with_numbers before None b = before
 with_numbers before (Some a) None = before

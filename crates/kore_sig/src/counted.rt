@@ -23,7 +23,7 @@ pub(crate) struct Placed<'a> {
 /// counts, and each module that one that counts imports; an import names a module that stands earlier.
 ///
 /// It looks at each declaration a few times, and at each name that is imported as many times as the logarithm of their
-/// number. `AllocError` says that memory was wanting.
+/// number. `AllocError` says that memory ran out.
 pub fn counted_declarations(
     alloc: Global,
     definition: &Definition,

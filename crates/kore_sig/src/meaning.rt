@@ -28,7 +28,7 @@ use std::alloc::Global;
 ///
 /// It looks at each declaration a few times, and at each name as many times as the logarithm of the number of names;
 /// `Subsorts` tells what the pairs cost. It does not recurse. More than 2^32 sorts, symbols, or parameters of one
-/// symbol are answered as want of memory.
+/// symbol are answered as out of memory.
 pub fn signature(alloc: Global, definition: &Definition) -> Result<Signature, SigFault>
     ensures declared { IfOk result (IsSignatureOf (plain_definition definition.now)) }
     ensures faultless { OnOk result (FirstOfSignature (plain_definition definition.now) None) }

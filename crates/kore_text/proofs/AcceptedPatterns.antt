@@ -99,7 +99,7 @@ no-close (end x) h = absurd h
 no-close (fault x) h = absurd h
 no-close (token t p s) h = rw (unmarked 41 t h) refl
 
--- behind the head of what is folded stands more than `)`
+-- after the head of what is folded stands more than `)`
 head-filled : (t : Token) (p : ℕ) (bs : List Symbol) (v w : List Want) (s e : Stream)
     → step (symbol.EmptyFolded ∷ []) t ≡ Some (bs ++ (symbol.Mark 41 ∷ []))
     → Takes (placed p t ∷ v) s e → ((q : Stream) → Takes v q e → Reaches bs w q e) → ((q : Stream) → Takes w q e → IsPlain q)

@@ -7,7 +7,7 @@ use Rattle.kore_text.specs.TokenStream.{Token, Stream, end, fault, token, tokens
 use Rattle.kore_text.specs.Faults.{opened, IsEmptyFold, Same, Begins, ShallowTo, FilledTo, open_behind, behind, IsGood, Stops, GoesDeep, IsFirstFault, IsPattern, IsDefinition}
 use Rattle.kore_text.specs.TextLaws.{DefinitionFaultIsUnique, PatternFaultIsUnique}
 
--- what stands behind so many good tokens, at this fault
+-- what stands after so many good tokens, at this fault
 abbrev Stands : (Stream → Type 0) → ℕ → Stream → ℕ → TextFault → Type 0
 Stands L n s m (Lex at) = behind m s ≡ fault at
 Stands L n s m (Syntax at) = Stops L m s (behind m s) at

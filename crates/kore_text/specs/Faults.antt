@@ -1,6 +1,6 @@
 -- The first fault of a text. The tokens in front of it are good: they begin a text of the language,
 -- at most 500 brackets are open among them, and no fold without an argument stands there. What
--- comes behind them is the fault.
+-- comes after them is the fault.
 use Rattle.std.specs.Prelude.{◌≡◌, ◌≤◌, ◌<◌, ℕ, zero, suc, ◌+◌, ◌-◌, Bool, false, ◌==◌, ◌||◌, List, [], ◌∷◌, ◌⊎◌, if◌then◌else◌, Option, Some, None}
 use Rattle.kore_text.specs.declared.names.Op.{Op}
 use Rattle.kore_text.specs.declared.names.Built.TheVariants.{Connective, Fold}
@@ -10,7 +10,7 @@ use Rattle.kore_text.specs.TokenStream.{Token, identifier, builtin, mark, Stream
 use Rattle.kore_text.specs.Trees.{PatternTree, SortTrees, sort_count, DefinitionTree}
 use Rattle.kore_text.specs.Grammar.{Want, any, given, Takes, listed, spell_sorts, spell_pattern, spell_definition, is_associative}
 
--- the brackets `(` and `{` that are open behind a token, where so many are open before it
+-- the brackets `(` and `{` that are open after a token, where so many are open before it
 abbrev pub opened : Token → ℕ → ℕ
 opened (mark c) n =
     if (c == 40) || (c == 123) then n + 1 else (if (c == 41) || (c == 125) then n - 1 else n)
@@ -68,13 +68,13 @@ FilledTo zero s = Unit {0}
 FilledTo (suc m) (token t p s) = (IsEmptyFold t s → ⊥) × FilledTo m s
 FilledTo (suc m) _ = ⊥
 
--- the brackets that are open behind the first so many tokens
+-- the brackets that are open after the first so many tokens
 abbrev pub open_behind : ℕ → ℕ → Stream → ℕ
 open_behind zero n s = n
 open_behind (suc m) n (token t p s) = open_behind m (opened t n) s
 open_behind (suc m) n _ = n
 
--- what comes behind the first so many tokens
+-- what comes after the first so many tokens
 abbrev pub behind : ℕ → Stream → Stream
 behind zero s = s
 behind (suc m) (token t p s) = behind m s
@@ -86,14 +86,14 @@ pub record IsGood (L : Stream → Type 0) (m : ℕ) (n : ℕ) (s : Stream) : Typ
   pub shallow : ShallowTo m n s
   pub filled : FilledTo m s
 
--- with what comes behind the good tokens no text of the language begins, or it is the end and the
+-- with what comes after the good tokens no text of the language begins, or it is the end and the
 -- tokens are no such text, or it is a fold without an argument
 abbrev pub Stops : (Stream → Type 0) → ℕ → Stream → Stream → ℕ → Type 0
 Stops L m s (end e) at = (at ≡ e) × (L s → ⊥)
 Stops L m s (fault e) at = ⊥
 Stops L m s (token t p r) at = (at ≡ p) × ((Begins L (suc m) s → ⊥) ⊎ IsEmptyFold t r)
 
--- the token behind the good ones goes on a text of the language, and opens one bracket too many
+-- the token after the good ones goes on a text of the language, and opens one bracket too many
 abbrev pub GoesDeep : (Stream → Type 0) → ℕ → ℕ → Stream → Stream → ℕ → Type 0
 GoesDeep L m n s (end e) at = ⊥
 GoesDeep L m n s (fault e) at = ⊥

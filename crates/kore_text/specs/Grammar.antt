@@ -87,13 +87,13 @@ is_foldable _ = false
 abbrev pub Spelling : Type 0
 Spelling = List Want → List Want
 
--- a list from behind its opening bracket up to and with the closing mark, with commas
+-- a list from after its opening bracket up to and with the closing mark, with commas
 abbrev mutual
   pub listed : List Spelling → ℕ → Spelling
   listed [] close k = any (mark close) ∷ k
   listed (f ∷ fs) close k = f (more_listed fs close k)
 
-  -- .. from behind an item
+  -- .. from after an item
   pub more_listed : List Spelling → ℕ → Spelling
   more_listed [] close k = any (mark close) ∷ k
   more_listed (f ∷ fs) close k = any (mark 44) ∷ f (more_listed fs close k)
@@ -195,7 +195,7 @@ spell_alias d k =
     ∷ any (mark 123) ∷ listed (map spell_sort d.left_sorts) 125 (any (mark 40) ∷ listed (map (spell_pattern false) d.vars) 41
     (any assign ∷ spell_pattern false d.body (spell_attributes d.attributes k)))))
 
--- an axiom or a claim, behind its keyword
+-- an axiom or a claim, after its keyword
 abbrev pub spell_statement : AxiomDeclaration → Spelling
 spell_statement d k = spell_names d.params (spell_pattern false d.pattern (spell_attributes d.attributes k))
 

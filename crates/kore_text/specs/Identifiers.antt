@@ -14,7 +14,7 @@ abbrev mutual
   AreNamedSorts no_sorts = Unit {0}
   AreNamedSorts (sort_then s ss) = IsNamedSort s × AreNamedSorts ss
 
--- the name of a set variable is what stands behind its `@`; a string is no name
+-- the name of a set variable is what stands after its `@`; a string is no name
 abbrev mutual
   pub IsNamedPattern : PatternTree → Type 0
   IsNamedPattern (element_variable at n s) = IsName n × IsNamedSort s

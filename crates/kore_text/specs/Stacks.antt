@@ -16,7 +16,7 @@ Expands true None k new = ⊥
 Expands false (Some b) k new = ⊥
 Expands false None k new = Unit {0}
 
--- the stack behind the token, if there is one
+-- the stack after the token, if there is one
 abbrev pub Steps : Bool → Option (List Symbol) → List Symbol → Type 0
 Steps true (Some b) new = new ≡ b
 Steps true None new = ⊥

@@ -53,7 +53,7 @@ abbrev pub when : Bool → List Symbol → Option (List Symbol)
 when true b = Some b
 when false b = None
 
--- so many of these from behind an opening bracket, with commas, and the closing mark
+-- so many of these from after an opening bracket, with commas, and the closing mark
 abbrev pub more_exactly : Symbol → Close → ℕ → List Symbol → List Symbol
 more_exactly f c zero k = symbol.Mark (byte_of c) ∷ k
 more_exactly f c (suc n) k = symbol.Mark 44 ∷ f ∷ more_exactly f c n k
@@ -67,7 +67,7 @@ abbrev pub argument_symbols : Bool → Option ℕ → List Symbol
 argument_symbols b None = symbol.First (item.Pattern b) close.Paren ∷ []
 argument_symbols b (Some n) = exactly (symbol.Pattern b) close.Paren n []
 
--- what comes behind a built-in name
+-- what comes after a built-in name
 abbrev pub built_symbols : Bool → Built → List Symbol
 built_symbols b (Connective o) =
     symbol.Mark 123 ∷ exactly symbol.Sort close.Brace (sorts_of o) (symbol.Mark 40 ∷ argument_symbols b (arguments_of o))
@@ -135,7 +135,7 @@ item_move item.Name t = name_move t
 item_move item.Sort t = sort_move t
 item_move (item.Pattern b) t = pattern_move b t
 
--- what comes behind the keyword of a declaration
+-- what comes after the keyword of a declaration
 abbrev pub word_move : List ℕ → Option (List Symbol)
 word_move n =
     if bytes_eq n (codes "endmodule") then Some (symbol.Attributes ∷ [])
@@ -160,7 +160,7 @@ declarations_move _ = None
 abbrev pub keyword_move : List ℕ → List Symbol → Token → Option (List Symbol)
 keyword_move w b t = when (is_word w t) b
 
--- what stands in the place of a symbol behind a token that fits it
+-- what stands in the place of a symbol after a token that fits it
 unfoldable pub turn : Symbol → Token → Option (List Symbol)
 turn (symbol.Mark c) t = when (is_mark c t) []
 turn symbol.Name t = name_move t
@@ -185,7 +185,7 @@ turn symbol.Declarations t = declarations_move t
 turn symbol.Module t = keyword_move (codes "module") (symbol.Name ∷ symbol.Declarations ∷ []) t
 turn symbol.Modules t = keyword_move (codes "module") (symbol.Name ∷ symbol.Declarations ∷ symbol.Modules ∷ []) t
 
--- what is still to come of the symbol's list behind its first token
+-- what is still to come of the symbol's list after its first token
 abbrev pub rest_of : Symbol → Token → List Symbol → List Symbol
 rest_of (symbol.First i c) t k = if is_mark (byte_of c) t then k else symbol.More i c ∷ k
 rest_of _ t k = k
@@ -200,7 +200,7 @@ abbrev pub onto : Option (List Symbol) → List Symbol → Option (List Symbol) 
 onto (Some b) k other = Some (b ++ k)
 onto None k other = other
 
--- the stack behind a token; a symbol of which nothing need come may be left out
+-- the stack after a token; a symbol of which nothing need come may be left out
 unfoldable pub step : List Symbol → Token → Option (List Symbol)
 step [] t = None
 step (f ∷ k) t = onto (turn f t) (rest_of f t k) (if is_empty f then step k t else None)
@@ -220,7 +220,7 @@ passes (end e) (f ∷ k) = false
 passes (fault e) (f ∷ k) = false
 passes (token t p s) (f ∷ k) = passes_on (passes s) (step (f ∷ k) t)
 
--- what makes a fold one without an argument, behind its name
+-- what makes a fold one without an argument, after its name
 abbrev pub empty_fold : List Symbol
 empty_fold = symbol.Mark 123 ∷ symbol.Mark 125 ∷ symbol.Mark 40 ∷ symbol.EmptyFolded ∷ []
 
@@ -228,7 +228,7 @@ abbrev pub is_fold : Token → Bool
 is_fold (builtin (Some (Fold left))) = true
 is_fold _ = false
 
--- the brackets that are open behind a token, where they are counted
+-- the brackets that are open after a token, where they are counted
 abbrev pub counted : Token → Option ℕ → Option ℕ
 counted t None = None
 counted t (Some n) = Some (opened t n)

@@ -11,7 +11,7 @@ use Rattle.kore_text.specs.declared.names.Binder.TheVariants as binder
 use Rattle.kore_text.specs.declared.names.Built.{Built}
 use Rattle.kore_text.specs.declared.names.Built.TheVariants.{Connective, Binding, Value, Fold}
 
--- an identifier; the identifier of a set variable, behind its `@`; what a built-in name stands
+-- an identifier; the identifier of a set variable, after its `@`; what a built-in name stands
 -- for, where that is anything; the text of a string; a mark; or `:=`
 pub data Token : Type 0 where
   identifier : List ℕ → Token
@@ -21,7 +21,7 @@ pub data Token : Type 0 where
   mark : ℕ → Token
   assign : Token
 
--- what the name behind a backslash stands for
+-- what the name after a backslash stands for
 unfoldable pub built_of : List ℕ → Option Built
 built_of n =
     if bytes_eq n (codes "top") then Some (Connective op.Top)

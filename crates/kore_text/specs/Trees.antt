@@ -86,7 +86,7 @@ pub record SymbolDeclaration : Type 0 where
   pub result : SortTree
   pub attributes : List PatternTree
 
--- the name and the sorts behind `where`, the variables there, and the body behind `:=`
+-- the name and the sorts after `where`, the variables there, and the body after `:=`
 pub record AliasDeclaration : Type 0 where
   pub at : ℕ
   pub hooked : Bool

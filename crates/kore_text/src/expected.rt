@@ -160,7 +160,7 @@ impl Expected {
         Ok(fits)
     }
 
-    /// Puts what comes in the place of a symbol behind a token, where the token fits it.
+    /// Puts what comes in the place of a symbol after a token, where the token fits it.
     #[tactic(auto, unfolding(crate::specs::Table::turn))]
     fn expand(&mut self, symbol: Symbol, word: &Word<'_>) -> Result<bool, AllocError>
         requires { word.now.kind ≢ End }
@@ -210,7 +210,7 @@ impl Expected {
         }
     }
 
-    /// What comes behind a built-in name.
+    /// What comes after a built-in name.
     fn built(&mut self, strings: bool, built: Built) -> Result<(), AllocError>
         ensures { OnOk result (stack self.new ≡ built_symbols strings built ++ stack self.old) }
     {
@@ -235,7 +235,7 @@ impl Expected {
         }
     }
 
-    /// What comes behind the name of a connective.
+    /// What comes after the name of a connective.
     #[tactic(auto, using(crate::proofs::StackLaws::exactly_append))]
     fn connective(&mut self, strings: bool, op: Op) -> Result<(), AllocError>
         ensures { OnOk result (stack self.new ≡ built_symbols strings (Connective op) ++ stack self.old) }
@@ -249,7 +249,7 @@ impl Expected {
         self.put(&[Symbol::Mark(b'{')])
     }
 
-    /// What comes behind the name of a binder.
+    /// What comes after the name of a binder.
     #[tactic(auto, using(crate::proofs::StackLaws::exactly_append))]
     fn binding(&mut self, strings: bool, binder: Binder) -> Result<(), AllocError>
         ensures { OnOk result (stack self.new ≡ built_symbols strings (Binding binder) ++ stack self.old) }
@@ -265,7 +265,7 @@ impl Expected {
         self.put(&[Symbol::Mark(b'{')])
     }
 
-    /// A list of just so many of a symbol, from behind its opening bracket.
+    /// A list of just so many of a symbol, from after its opening bracket.
     #[tactic(auto, using(crate::proofs::StackLaws::exactly_first, crate::proofs::StackLaws::exactly_more))]
     fn exactly(&mut self, symbol: Symbol, close: Close, count: usize) -> Result<(), AllocError>
         ensures { OnOk result (stack self.new ≡ exactly symbol close count (stack self.old)) }
@@ -346,7 +346,7 @@ impl Expected {
         }
     }
 
-    /// A list from behind its opening bracket.
+    /// A list from after its opening bracket.
     fn first(&mut self, item: Item, close: Close, word: &Word<'_>) -> Result<bool, AllocError>
         ensures { IfOk result (λ yes. Expands yes (if is_mark (byte_of close) (token_of word.now.kind word.now.bytes.now) then Some [] else item_move item (token_of word.now.kind word.now.bytes.now))
             (rest_of (First item close) (token_of word.now.kind word.now.bytes.now) (stack self.old)) (stack self.new)) }
@@ -362,7 +362,7 @@ impl Expected {
         }
     }
 
-    /// A list from behind an item.
+    /// A list from after an item.
     fn more(&mut self, item: Item, close: Close, word: &Word<'_>) -> Result<bool, AllocError>
         ensures { IfOk result (λ yes. Expands yes (if is_mark (byte_of close) (token_of word.now.kind word.now.bytes.now) then Some []
             else when (is_mark 44 (token_of word.now.kind word.now.bytes.now)) (symbol_of item ∷ More item close ∷ [])) (stack self.old) (stack self.new)) }
@@ -386,7 +386,7 @@ impl Expected {
         }
     }
 
-    /// What comes behind a declaration's keyword.
+    /// What comes after a declaration's keyword.
     fn declared(&mut self, name: &[u8]) -> Result<bool, AllocError>
         ensures { IfOk result (λ yes. Expands yes (word_move name.now) (stack self.old) (stack self.new)) }
     {

@@ -17,7 +17,7 @@ use std::alloc::{AllocError, Global};
 /// The most brackets `(` and `{` that may be open at once.
 const MOST_OPEN: usize = 500;
 
-/// What makes a fold one without an argument, behind its name.
+/// What makes a fold one without an argument, after its name.
 const EMPTY_FOLD: [Symbol; 4] = [
     Symbol::Mark(b'{'),
     Symbol::Mark(b'}'),
@@ -169,7 +169,7 @@ fn is_empty_fold(alloc: Global, mut tokens: Tokens<'_>) -> Result<bool, AllocErr
     Ok(true)
 }
 
-/// The brackets that are open behind a token.
+/// The brackets that are open after a token.
 fn opened(kind: TokenKind, depth: usize) -> usize
     requires { depth ≤ 500 }
     ensures { (bytes : List ℕ) → result ≡ opened (token_of kind bytes) depth }

@@ -45,7 +45,7 @@ pub enum Built {
 }
 
 impl Built {
-    /// What the name behind a backslash stands for.
+    /// What the name after a backslash stands for.
     #[tactic(auto, unfolding(crate::specs::TokenStream::built_of))]
     pub fn of_name(name: &[u8]) -> Option<Built>
         ensures { result ≡ built_of name.now }

@@ -49,9 +49,9 @@ pub(crate) enum Symbol {
     Folded(bool),
     /// The same without an argument.
     EmptyFolded,
-    /// A list from behind its opening bracket.
+    /// A list from after its opening bracket.
     First(Item, Close),
-    /// A list from behind an item.
+    /// A list from after an item.
     More(Item, Close),
     /// Attributes in brackets.
     Attributes,

@@ -91,7 +91,7 @@ impl<'a> Word<'a> {
         }
     }
 
-    /// The bytes behind the first, which is `@` or `\`.
+    /// The bytes after the first, which is `@` or `\`.
     pub(crate) fn behind_first(&self) -> &[u8]
         ensures { result.now ≡ drop 1 self.now.bytes.now }
     {

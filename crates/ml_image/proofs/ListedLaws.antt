@@ -24,7 +24,7 @@ use Rattle.ml_image.proofs.NamingLaws.{gained-sentence}
 
 -- ---- values
 
--- one value more behind as many sorts as values
+-- one value more after as many sorts as values
 values-push : (sig : Signature) (names : List (List ℕ)) (ss : List ℕ) (vs : List DomainValue) (s : ℕ) (v : DomainValue) (head : Option Pattern) → length ss ≡ length vs
     → applied sig names head (value_patterns (ss ++ s ∷ []) (vs ++ v ∷ [])) ≡ both app (applied sig names head (value_patterns ss vs)) (image_of sig names (domain_value s v))
 values-push sig names [] [] s v head same = refl

@@ -7,7 +7,7 @@ use Rattle.ml_image.specs.Images.{image_of}
 use Rattle.ml_image.specs.Sentences.{Sentence, sentence_image}
 use Rattle.ml_image.specs.Gained.{AreOwnTokens, HasGained}
 
--- names that have gained tokens have own tokens behind what they were
+-- names that have gained tokens have own tokens after what they were
 abbrev pub GainedAreOwn : Type 0
 GainedAreOwn =
     (sig : Signature) (old new : List (List ℕ)) → HasGained sig old new → AreOwnTokens sig (drop (length old) new)

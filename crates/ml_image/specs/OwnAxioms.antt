@@ -58,7 +58,7 @@ pub record SaysRule (sig : Signature) (r : RewriteRule) (p : Sentence) : Type 0 
 abbrev pub direct_sentence : ℕ → Equation → Sentence → Sentence
 direct_sentence f e c = for_all 0 e.variables (implies c (equals (term (call f [] e.arguments)) (term e.right)))
 
--- an equation behind parameters of these sorts, which are its first variables then
+-- an equation after parameters of these sorts, which are its first variables then
 abbrev pub behind_parameters : List ℕ → Equation → Equation
 behind_parameters sorts e = record e {
   arguments = all_shifted (length sorts) e.arguments;

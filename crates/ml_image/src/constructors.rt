@@ -17,7 +17,7 @@ use std::alloc::{AllocError, Global};
 use term_core::{SortId, SymId};
 
 /// That a constructor is total (Chen and Rosu 2019): for all arguments of its sorts it makes one element of its result
-/// sort. An error is want of memory; the names may have gained tokens then too.
+/// sort. An error: out of memory; the names may have gained tokens then too.
 pub fn ctor_total(
     alloc: Global,
     sig: &Signature,
@@ -38,7 +38,7 @@ pub fn ctor_total(
 }
 
 /// That two constructors of one result sort make different things (K framework, attribute `constructor`): neither of
-/// them is said to be associative or the like. An error is want of memory; the names may have gained tokens then too.
+/// them is said to be associative or the like. An error: out of memory; the names may have gained tokens then too.
 pub fn ctor_apart(
     alloc: Global,
     sig: &Signature,
@@ -61,7 +61,7 @@ pub fn ctor_apart(
 }
 
 /// That a constructor is free (K framework, attribute `constructor`): it makes the same of the same arguments alone. It
-/// takes at least one, and is not said to be associative or the like. An error is want of memory; the names may have
+/// takes at least one, and is not said to be associative or the like. An error: out of memory; the names may have
 /// gained tokens then too.
 pub fn ctor_free(
     alloc: Global,

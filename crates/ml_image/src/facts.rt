@@ -21,7 +21,7 @@ use rule_core::{Signature, SymInfo, SymKind};
 use std::alloc::{AllocError, Global};
 use term_core::{Scalar, SortId, SymId, Value};
 
-/// That a domain value is one element of its sort. An error is want of memory; the names may have gained tokens then
+/// That a domain value is one element of its sort. An error: out of memory; the names may have gained tokens then
 /// too.
 pub fn value_fact(
     alloc: Global,
@@ -40,7 +40,7 @@ pub fn value_fact(
 }
 
 /// That a function with a hook is, of values, the value that the hook gives (K framework, "domains.md"). It has one
-/// there. An error is want of memory; the names may have gained tokens then too.
+/// there. An error: out of memory; the names may have gained tokens then too.
 pub fn hook_fact(
     alloc: Global,
     sig: &Signature,

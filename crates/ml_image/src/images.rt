@@ -17,7 +17,7 @@ use std::alloc::{AllocError, Global};
 use term_core::{RulePat, SortId};
 
 /// The image of a pattern whose sorts and symbols are the signature's (Chen and Rosu 2019): a symbol's token, applied
-/// to the sorts' tokens and to the images of the arguments, one after another. An error is want of memory; the names
+/// to the sorts' tokens and to the images of the arguments, one after another. An error: out of memory; the names
 /// may have gained tokens then too.
 pub fn term_image(
     alloc: Global,

@@ -2,7 +2,7 @@
 ghost use Rattle.ml_image.specs.ConditionLaws.{ConstructorHasTotality, EquationHasImage, RuleHasImage, SortedHasImage};
 ghost use Rattle.ml_image.specs.NamingLaws.{GainedAreOwn, ImageStays, SentenceStays};
 
-/// Names that have gained tokens have own tokens behind what they were, and an image of a pattern or a sentence stays
+/// Names that have gained tokens have own tokens after what they were, and an image of a pattern or a sentence stays
 /// the same then.
 pub fn naming_laws()
     ensures gained { GainedAreOwn }

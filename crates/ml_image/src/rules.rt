@@ -24,7 +24,7 @@ use std::alloc::{AllocError, Global};
 use term_core::{RulePat, SortId, SymId, Value};
 
 /// The image of a rewrite rule (Chen and Rosu 2019): for all its variables, what is its left side, where the condition
-/// is `true`, makes a step to its right side. An error is want of memory; the names may have gained tokens then too.
+/// is `true`, makes a step to its right side. An error: out of memory; the names may have gained tokens then too.
 pub fn rule_image(
     alloc: Global,
     sig: &Signature,
@@ -131,7 +131,7 @@ fn made_sort(sig: &Signature, symbol: SymId, sorts: &[SortId]) -> Option<SortId>
 /// The image of an equation of a function (Chen and Rosu 2019; K framework, "Functions"): for all its variables, where
 /// the condition is `true`, the function of its arguments is its right side. An equation in the form of kompile gives
 /// the function parameters, says that each is in its argument, and has the parameters before its other variables. An
-/// error is want of memory; the names may have gained tokens then too.
+/// error: out of memory; the names may have gained tokens then too.
 pub fn equation_image(
     alloc: Global,
     sig: &Signature,

@@ -18,7 +18,7 @@ use std::alloc::{AllocError, Global};
 use term_core::SortId;
 
 /// That each element of a sort is, injected into a sort that the definition puts right above it, one element of that (K
-/// framework, attribute `subsort`). An error is want of memory; the names may have gained tokens then too.
+/// framework, attribute `subsort`). An error: out of memory; the names may have gained tokens then too.
 pub fn inj_total(
     alloc: Global,
     sig: &Signature,
@@ -38,7 +38,7 @@ pub fn inj_total(
 }
 
 /// That an injection from a sort to one above it, and on to one above that, is the injection from the first to the last
-/// (K framework, `INJ`). An error is want of memory; the names may have gained tokens then too.
+/// (K framework, `INJ`). An error: out of memory; the names may have gained tokens then too.
 pub fn inj_collapse(
     alloc: Global,
     sig: &Signature,

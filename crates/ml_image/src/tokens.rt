@@ -115,7 +115,7 @@ fn digit(n: u8) -> char
     }
 }
 
-// A name behind the letters that say what it names.
+// A name after the letters that say what it names.
 fn prefixed(alloc: Global, prefix: &str, name: &str) -> Result<String, AllocError>
     ensures { IfOk result (λ token. string_bytes token ≡ prefix.now ++ name.now) }
 {

@@ -102,7 +102,7 @@ AddsNew-next_new old from mid new i p h lt is k e =
     subst (λ (ps : List Pattern). AddsNew old ps new) (sym (next_taken from i p lt is))
     (subst (λ (o : List Pattern). AddsNew old (take i from ++ p ∷ []) o) (sym e) (AddsNew-new old (take i from) mid p h k))
 
--- the theorems behind the references up to one more
+-- the theorems after the references up to one more
 pub theorems_of-next : (xs : List (Bor Theorem)) (i : ℕ) (x : Bor Theorem) → i < length xs → x ≡ get_or xs i x → theorems_of (take (i + 1) xs) ≡ theorems_of (take i xs) ++ x.now ∷ []
 theorems_of-next xs i x lt is = ap theorems_of (next_taken xs i x lt is) ∙ theorems_of-push (take i xs) x
 

@@ -16,7 +16,7 @@ abbrev pub parts_of : List Part → List Instance
 parts_of [] = []
 parts_of (p ∷ ps) = part_of p ∷ parts_of ps
 
--- the theorems behind references
+-- the theorems after references
 abbrev pub theorems_of : List (Bor Theorem) → List Theorem
 theorems_of [] = []
 theorems_of (t ∷ ts) = t.now ∷ theorems_of ts

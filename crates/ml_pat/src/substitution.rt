@@ -25,7 +25,7 @@ pub(crate) enum Outcome {
 
 /// The pattern with `by` in the place of each free x, or None where a free variable of `by` would be captured. Each
 /// part in which x is not free is shared. It is a loop along first parts, where patterns are deep; other parts are
-/// read one level further down. An error: memory was refused.
+/// read one level further down. An error: out of memory.
 pub fn subst(alloc: Global, pat: &MPat, x: VarNo, by: &MPat) -> Result<Option<MPat>, AllocError>
     ensures { IfOk result (λ r. r ≡ substituted pat.now x.0 by.now) }
 {

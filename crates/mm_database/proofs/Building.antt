@@ -14,7 +14,7 @@ built-joined before steps trees between more others behind (more_steps _ first t
     subst (λ (ss : List (Step Token)). AllBuild before ss (more_proofs tree (with_trees last others)) behind) (sym (append_assoc first rest more))
     (more_steps before first tree middle (rest ++ more) (with_trees last others) behind b (built-joined middle rest last between more others behind all w))
 
--- a forest that is built, cut behind some of its trees
+-- a forest that is built, cut after some of its trees
 pub record Cut (before : List ProofTree) (steps : List (Step Token)) (front back : ProofForest) (behind : List ProofTree) : Type 0 where
   pub first : List (Step Token)
   pub rest : List (Step Token)

@@ -22,7 +22,7 @@ from_dollar-clean (t ∷ tokens) rest token clean marked =
     let here : has_dollar t ≡ false = not_true (has_dollar t) both.0 in
     rw here (from_dollar-clean tokens rest token both.1 marked)
 
--- a list with a token in it and one behind it has two tokens at least
+-- a list with a token in it and one after it has two tokens at least
 form_of-labelled : (labels : List Token) (token next : Token) (rest : List Token) → form_of (labels ++ token ∷ (next ∷ rest)) ≡ labelled_form (before_dollar (labels ++ token ∷ (next ∷ rest))) (from_dollar (labels ++ token ∷ (next ∷ rest)))
 form_of-labelled [] token next rest = refl
 form_of-labelled (l ∷ []) token next rest = refl
@@ -34,7 +34,7 @@ form_of-keyword labels token next rest clean marked =
     ∙ ap (λ (ls : List Token). labelled_form ls (from_dollar (labels ++ token ∷ (next ∷ rest)))) (before_dollar-clean labels (next ∷ rest) token clean marked)
     ∙ ap (labelled_form labels) (from_dollar-clean labels (next ∷ rest) token clean marked)
 
--- the form of clean symbols with `$.` behind them
+-- the form of clean symbols with `$.` after them
 keyword_form-clean : (labels : List Token) (keyword : Keyword) (symbol : Token) (symbols : List Token) → has_proof keyword ≡ false → are_clean (symbol ∷ symbols) ≡ true → keyword_form labels (before_dollar ((symbol ∷ symbols) ++ codes "$." ∷ [])) (from_dollar ((symbol ∷ symbols) ++ codes "$." ∷ [])) keyword ≡ Some (plain labels keyword (symbol ∷ symbols) [])
 keyword_form-clean labels keyword symbol symbols no_proof clean =
     ap (λ (ts : List Token). keyword_form labels ts (from_dollar ((symbol ∷ symbols) ++ codes "$." ∷ [])) keyword) (before_dollar-clean (symbol ∷ symbols) [] (codes "$.") clean refl)
@@ -74,7 +74,7 @@ plain_tokens_say labels keyword symbol symbols clean_labels clean no_proof =
     ∙ ap (option_and_then (keyword_form labels (before_dollar ((symbol ∷ symbols) ++ codes "$." ∷ [])) (from_dollar ((symbol ∷ symbols) ++ codes "$." ∷ [])))) (keyword_of-token keyword)
     ∙ keyword_form-clean labels keyword symbol symbols no_proof clean
 
--- the form of clean symbols with a proof behind them
+-- the form of clean symbols with a proof after them
 proof_form-clean : (labels symbols proof : List Token) → are_clean symbols ≡ true → are_clean proof ≡ true → keyword_form labels (before_dollar (symbols ++ codes "$=" ∷ (proof ++ codes "$." ∷ []))) (from_dollar (symbols ++ codes "$=" ∷ (proof ++ codes "$." ∷ []))) proves ≡ Some (plain labels proves symbols proof)
 proof_form-clean labels symbols proof clean clean_proof =
     let last : from_dollar (proof ++ codes "$." ∷ []) ≡ codes "$." ∷ [] = from_dollar-clean proof [] (codes "$.") clean_proof refl in

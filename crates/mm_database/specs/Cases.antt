@@ -4,7 +4,7 @@ use Rattle.std.specs.Prelude.{◌≡◌, ℕ, List, [], ◌∷◌, ◌++◌, Som
 use Rattle.mm_text.specs.FaultKinds.{fault}
 use Rattle.mm_database.specs.ComputedFault.{first_fault}
 
--- one constant and two variables, of 44 bytes, and an axiom behind them, of 15
+-- one constant and two variables, of 44 bytes, and an axiom after them, of 15
 abbrev pub declared : List ℕ
 declared = codes "$c t $. $v x y $. fx $f t x $. fy $f t y $. "
 

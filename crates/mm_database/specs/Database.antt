@@ -75,7 +75,7 @@ with_assertion c label symbols = record c {
   frames = with_frame c.frames label (frame_of c.scope label symbols);
 }
 
--- the context behind a statement with these labels, this keyword and these symbols
+-- the context after a statement with these labels, this keyword and these symbols
 abbrev pub with_declared : Context → List Token → Keyword → List Token → Context
 with_declared c labels declares_constants symbols =
     record c { constants = with_tokens c.constants symbols }
@@ -108,11 +108,11 @@ after_form c at (Some block_start) = with_block_opened c at
 after_form c at (Some block_end) = with_block_closed c c.blocks
 after_form c at (Some (plain labels keyword symbols proof)) = with_declared c labels keyword symbols
 
--- the context behind a statement
+-- the context after a statement
 abbrev pub context_after : Context → Statement → Context
 context_after c s = after_form c s.at (form_of s.tokens)
 
--- the context behind some statements
+-- the context after some statements
 abbrev pub context_behind : Context → List Statement → Context
 context_behind c [] = c
 context_behind c (s ∷ statements) = context_behind (context_after c s) statements

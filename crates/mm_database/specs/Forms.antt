@@ -1,5 +1,5 @@
 -- What the tokens of a statement say (Metamath book, "The Complete Language Specification"). Its
--- keyword is its first token with a `$`. Labels stand before it, symbols behind it, and behind the `$=`
+-- keyword is its first token with a `$`. Labels stand before it, symbols after it, and after the `$=`
 -- of a `$p` its proof.
 use Rattle.std.specs.Prelude.{Bool, true, false, ◌&&◌, ◌==◌, if◌then◌else◌, List, [], ◌∷◌, Option, Some, None, option_and_then, codes, bytes_eq}
 use Rattle.std.specs.List.{list_any}
@@ -57,7 +57,7 @@ is_nil (token ∷ tokens) = false
 abbrev pub form_if : Bool → Form → Option Form
 form_if test form = if test then Some form else None
 
--- `rest` begins with the first token with a `$` behind the symbols: a declaration names a symbol
+-- `rest` begins with the first token with a `$` after the symbols: a declaration names a symbol
 abbrev pub declaration_form : List Token → Keyword → List Token → List Token → Option Form
 declaration_form labels keyword [] rest = None
 declaration_form labels keyword (symbol ∷ symbols) rest = form_if (is_end rest) (plain labels keyword (symbol ∷ symbols) [])

@@ -41,7 +41,7 @@ FirstFaultIsComputed = (bytes : List ℕ) (f : MmFault) → IsFirstFault bytes f
 abbrev pub FaultlessIsFine : Type 0
 FaultlessIsFine = (c : Context) (tokens : List Token) → statement_fault c tokens ≡ None → IsFine c tokens
 
--- statements, and others behind them
+-- statements, and others after them
 abbrev pub in_front : List Statement → Statements → Statements
 in_front [] statements = statements
 in_front (s ∷ before) statements = next_statement s (in_front before statements)

@@ -41,7 +41,7 @@ meanings table saved [] = Some []
 meanings table saved (step ∷ steps) =
     with_step (meaning_of table saved step) (meanings table (saved_after saved step) steps)
 
--- the tokens before the first `)`, and those behind it
+-- the tokens before the first `)`, and those after it
 abbrev pub before_close : List Token → List Token
 before_close [] = []
 before_close (token ∷ tokens) = if bytes_eq token (codes ")") then [] else token ∷ before_close tokens
@@ -62,7 +62,7 @@ mandatory_labels f = map label_of f.hypotheses
 abbrev pub lettered_steps : {A : Type 0} → List A → List ℕ → Option (List (Step A))
 lettered_steps table letters = option_and_then (meanings table 0) (steps_of letters)
 
--- the steps of the tokens behind the `(` of a compressed proof
+-- the steps of the tokens after the `(` of a compressed proof
 abbrev pub compressed_steps : Context → Frame → List Token → Option (List (Step Token))
 compressed_steps c f tokens =
     if has_token tokens (codes ")") && are_listed c (mandatory_labels f) (before_close tokens)

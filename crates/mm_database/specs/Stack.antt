@@ -84,7 +84,7 @@ stack_with result n stack =
     then option_map (λ e. take (length stack - n) stack ++ e ∷ []) (result (drop (length stack - n) stack))
     else None
 
--- the stack behind a label
+-- the stack after a label
 abbrev pub stack_after_label : Context → Token → List Expression → Option (List Expression)
 stack_after_label c label stack = stack_with (step_result c label) (arity c label) stack
 
@@ -113,6 +113,6 @@ saving_after cited (step ∷ steps) w = option_and_then (saving_after cited step
 abbrev pub stack_left : {A E : Type 0} → (A → List E → Option (List E)) → List (Step A) → Option (List E)
 stack_left cited steps = option_map (λ w. w.stack) (saving_after cited steps (saving [] []))
 
--- the stack behind the steps of a proof
+-- the stack after the steps of a proof
 abbrev pub stack_after : Context → List (Step Token) → Option (List Expression)
 stack_after c steps = stack_left (stack_after_label c) steps

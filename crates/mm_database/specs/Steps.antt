@@ -1,5 +1,5 @@
 -- The steps of a proof (Metamath book, "The Proof" and "Compressed Proof Format"). They build proof
--- trees, each tree behind those below it. In a compressed proof a step may save the tree that was built
+-- trees, each tree after those below it. In a compressed proof a step may save the tree that was built
 -- last, and a saved step is its whole tree again.
 use Rattle.std.specs.Prelude.{◌≡◌, ℕ, List, [], ◌∷◌, ◌++◌, Some, slice_get}
 use Rattle.mm_text.specs.Bytes.{Token}
@@ -13,7 +13,7 @@ pub data Step (A : Type 0) : Type 0 where
   saves : Step A
   repeats : ℕ → Step A
 
--- Steps build a tree, or a forest, where some trees are saved before them and some behind them.
+-- Steps build a tree, or a forest, where some trees are saved before them and some after them.
 mutual
   pub data Builds : List ProofTree → List (Step Token) → ProofTree → List ProofTree → Type 0 where
     by_label : (before : List ProofTree) (steps : List (Step Token)) (label : Token) (trees : ProofForest) (behind : List ProofTree) → AllBuild before steps trees behind → Builds before (steps ++ cites label ∷ []) (proof_node label trees) behind

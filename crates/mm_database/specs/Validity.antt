@@ -1,6 +1,6 @@
 -- The first fault of a Metamath text, and that it is valid where there is none (Metamath book, "The
 -- Complete Language Specification"). Faults are reported by statement, and within a statement by
--- kind. A block that is not closed is looked at behind all other faults.
+-- kind. A block that is not closed is looked at after all other faults.
 use Rattle.std.specs.Prelude.{◌≡◌, ℕ, Bool, true, false, not, ◌&&◌, ◌||◌, ◌⊎◌, if◌then◌else◌, List, [], ◌∷◌, Option, Some, None, IfSome, is_none, option_map}
 use Rattle.std.specs.List.{list_any, list_all}
 use Rattle.mm_text.specs.Bytes.{Token, has_repeated}

@@ -17,7 +17,7 @@ use Rattle.mm_database.specs.Leaving.{Leaves}
 abbrev pub LeavesIsValid : Type 0
 LeavesIsValid = (bytes : List ℕ) (c : Context) → Leaves bytes c → IsValid bytes
 
--- and so is it with written statements behind it that are without fault there
+-- and so is it with written statements after it that are without fault there
 abbrev pub ContinuedLeaves : Type 0
 ContinuedLeaves =
     (bytes : List ℕ) (c left : Context) (statements : List (List Token)) → Leaves bytes c →

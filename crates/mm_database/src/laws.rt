@@ -24,7 +24,7 @@ pub fn proof_laws()
     ensures first_fault { FirstFaultIsComputed }
 {}
 
-/// A valid text stays valid with statements behind it that are without fault in what it declares, and
+/// A valid text stays valid with statements after it that are without fault in what it declares, and
 /// has gained what they state. Written statements are read as they are.
 pub fn database_laws()
     ensures appended { AppendedIsFine }

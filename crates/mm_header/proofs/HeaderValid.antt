@@ -19,7 +19,7 @@ header_faultless = refl
 pub header_valid : IsValid header_bytes
 header_valid = faultless_valid header_bytes header_faultless
 
--- the context behind statements
+-- the context after statements
 context_past : Context → Statements → Context
 context_past c no_statement = c
 context_past c (unended at) = c

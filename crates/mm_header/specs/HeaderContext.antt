@@ -70,7 +70,7 @@ row_labels r = map label_of (premises r) ++ r.label ∷ []
 unfoldable pub header_labels : List Token
 header_labels = map label_of header_types ++ flat_map row_labels header_rows
 
--- what is declared behind the header, and what is active there
+-- what is declared after the header, and what is active there
 unfoldable pub header_context : Context
 header_context = record {
   constants = with_tokens (λ t. false) (words_of constants_text);

@@ -28,7 +28,7 @@ fn whole_header(alloc: Global) -> Result<Vec<u8>, AllocError>
     Ok(text)
 }
 
-/// Adds pieces of text, one behind the other.
+/// Adds pieces of text, one after the other.
 fn push(to: &mut Vec<u8>, pieces: &[&str]) -> Result<(), AllocError>
     ensures text { OnOk result (to.new.items ≡ to.old.items ++ flat_map (λ p. p.now) pieces.now) }
 {

@@ -11,7 +11,7 @@ use Rattle.mm_text.proofs.Truths.{printable_class, white_class}
 pub end_at : EndAt
 end_at bytes at h = ap (pieces_from at) (drop_all at bytes h)
 
--- the rest from a place on is its byte and the rest behind
+-- the rest from a place on is its byte and the rest after
 rest_at : (bytes : List ℕ) (at : ℕ) → at < length bytes → drop at bytes ≡ slice_index bytes at ∷ drop (at + 1) bytes
 rest_at bytes at h = rw add-one (drop-cons bytes at 0 h)
 

@@ -25,7 +25,7 @@ joined-nil (Some rest) = refl
 pub steps-digit : (v b d : ℕ) (bs : List ℕ) → letter_of b ≡ digit d → steps_from (digits v) (b ∷ bs) ≡ steps_from (digits (5 * v + d)) bs
 steps-digit v b d bs h = rw h (joined-nil (steps_from (digits (5 * v + d)) bs))
 
--- letters behind a number make no number of it
+-- letters after a number make no number of it
 abbrev goes_on : Option (List CompressedStep) → Bool
 goes_on None = true
 goes_on (Some []) = false
@@ -56,7 +56,7 @@ no_more n None h = refl
 no_more n (Some []) h = absurd (cc)
 no_more n (Some (s ∷ ss)) h = refl
 
--- one letter behind digits
+-- one letter after digits
 left-one : (v : ℕ) (l : Letter) → leading_value l ≡ None → number_of_steps (joined_steps (steps_of_letter (digits v) l) (steps_from (before_next (digits v) l) [])) ≡ option_map (λ d. 20 * v + d) (last_value l)
 left-one v (last_digit d) h = refl
 left-one v (digit d) h = absurd (cc)

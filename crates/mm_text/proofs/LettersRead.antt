@@ -16,7 +16,7 @@ nothing_in_front : (o : Option (List CompressedStep)) → joined_steps (Some [])
 nothing_in_front None = refl
 nothing_in_front (Some steps) = refl
 
--- behind digits a number follows
+-- after digits a number follows
 digits_go_on : (v : ℕ) (letters : List ℕ) → steps_from (digits v) letters ≡ Some [] → ⊥
 digits_go_on v [] h = cc
 digits_go_on v (b ∷ letters) h = go (letter_of b) h (λ w. digits_go_on w letters)
@@ -27,7 +27,7 @@ digits_go_on v (b ∷ letters) h = go (letter_of b) h (λ w. digits_go_on w lett
     go saves is behind = cc
     go no_letter is behind = cc
 
--- behind a number no letter says nothing
+-- after a number no letter says nothing
 pub ends_here : (letters : List ℕ) → steps_from a_number letters ≡ Some [] → letters ≡ []
 ends_here [] h = refl
 ends_here (b ∷ letters) h = absurd (go (letter_of b) h)
@@ -61,7 +61,7 @@ no_save a_number None n h = cc
 no_save a_number (Some steps) n h = cc
 no_save a_save o n h = cc
 
--- the letters of a number, behind any step or the same digits, and in front of any letters
+-- the letters of a number, after any step or the same digits, and in front of any letters
 in_front : (letters more : List ℕ) (n : ℕ) (before other : Before) → value_before before ≡ value_before other → steps_from before letters ≡ Some (numbered n ∷ []) → steps_from other (letters ++ more) ≡ joined_steps (Some (numbered n ∷ [])) (steps_from a_number more)
 in_front [] more n before other same h = absurd (no_number_at_end before n h)
 in_front (b ∷ letters) more n before other same h = go (letter_of b) h (λ d is. in_front letters more n (digits (5 * value_before before + d)) (digits (5 * value_before other + d)) (ap (λ (v : ℕ). 5 * v + d) same) is)

@@ -16,7 +16,7 @@ abbrev AreDigits : List ℕ → Type 0
 AreDigits [] = Unit {0}
 AreDigits (b ∷ bs) = (85 ≤ b) × (b ≤ 89) × AreDigits bs
 
--- letters behind those that were read, the last one first
+-- letters after those that were read, the last one first
 abbrev onto : List ℕ → List ℕ → List ℕ
 onto [] bs = bs
 onto (r ∷ rs) bs = onto rs (r ∷ bs)

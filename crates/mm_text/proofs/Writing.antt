@@ -13,7 +13,7 @@ use Rattle.mm_text.specs.PlainTokens.{is_plain_token, ends_once}
 abbrev are_printable : List ℕ → Bool
 are_printable bytes = list_all (λ c. is_printable_class (class_of c)) bytes
 
--- what stands behind a token is white space
+-- what stands after a token is white space
 behind_is_white : (token : Token) → class_of (white_behind token) ≡ white
 behind_is_white token = go (is_whole token)
   where
@@ -21,7 +21,7 @@ behind_is_white token = go (is_whole token)
     go true = refl
     go false = refl
 
--- printable bytes with white space behind them are one piece
+-- printable bytes with white space after them are one piece
 pub pieces_from-token : (at b w : ℕ) (bytes rest : List ℕ) → class_of w ≡ white → are_printable (b ∷ bytes) ≡ true → pieces_from at ((b ∷ bytes) ++ (w ∷ rest)) ≡ run at (b ∷ bytes) ∷ pieces_from (at + length (b ∷ bytes) + 1) rest
 pieces_from-token at b w [] rest blank h =
     rw (printable_class (class_of b) ((both_true _ _ h).0), blank) refl
@@ -64,7 +64,7 @@ statements_in-first at token s h = rw h refl
 statements_in-whole : (at : ℕ) (token : Token) (s : Tokens) → is_whole token ≡ true → statements_in between (next_token at token s) ≡ next_statement (statement at (token ∷ [])) (statements_in between s)
 statements_in-whole at token s h = rw h refl
 
--- the place behind the text of some tokens
+-- the place after the text of some tokens
 place_behind : (at : ℕ) (token : Token) (tokens : List Token) → at + length (token ++ (white_behind token ∷ [])) + length (written tokens) ≡ at + length (written (token ∷ tokens))
 place_behind at token tokens = omega (arith, length-append (token ++ (white_behind token ∷ [])) (written tokens))
 

@@ -36,7 +36,7 @@ abbrev pub mark_ahead : List ℕ → Bool
 mark_ahead [] = false
 mark_ahead (b ∷ bytes) = begins_with_mark b bytes
 
--- the tokens from a place behind a comment's `$(` on
+-- the tokens from a place after a comment's `$(` on
 abbrev pub commented : List ℕ → ℕ → ℕ → Option ℕ → Tokens
 commented bytes opened at bad = tokens_in (in_comment opened bad) (pieces_at bytes at)
 

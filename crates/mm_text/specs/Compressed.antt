@@ -54,7 +54,7 @@ steps_of_letter before (digit d) = Some []
 steps_of_letter before saves = save_after before
 steps_of_letter before no_letter = None
 
--- letters end behind a number or a `Z`
+-- letters end after a number or a `Z`
 abbrev pub steps_at_end : Before → Option (List CompressedStep)
 steps_at_end beginning = None
 steps_at_end (digits n) = None

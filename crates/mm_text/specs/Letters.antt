@@ -2,8 +2,8 @@
 use Rattle.std.specs.Prelude.{◌≡◌, ℕ, List, [], ◌∷◌, ◌++◌, Some}
 use Rattle.mm_text.specs.Compressed.{beginning, a_number, a_save, numbered, save, joined_steps, steps_from, number_of}
 
--- the letters of a number, at the beginning or behind another step, say the number, and those behind
--- them what they say behind a number
+-- the letters of a number, at the beginning or after another step, say the number, and those after
+-- them what they say after a number
 abbrev pub NumberInFront : Type 0
 NumberInFront =
     (letters more : List ℕ) (n : ℕ) → number_of letters ≡ Some n →
@@ -11,7 +11,7 @@ NumberInFront =
     (steps_from a_number (letters ++ more) ≡ joined_steps (Some (numbered n ∷ [])) (steps_from a_number more)) ×
     (steps_from a_save (letters ++ more) ≡ joined_steps (Some (numbered n ∷ [])) (steps_from a_number more))
 
--- and so does a `Z` behind a number
+-- and so does a `Z` after a number
 abbrev pub SaveInFront : Type 0
 SaveInFront =
     (more : List ℕ) → steps_from a_number (90 ∷ more) ≡ joined_steps (Some (save ∷ [])) (steps_from a_save more)

@@ -17,7 +17,7 @@ Gives bytes before behind (Ok (Some t)) = before ≡ next_token t.from (slice_ra
 Gives bytes before behind (Ok None) = (before ≡ no_token) × (behind ≡ no_token)
 Gives bytes before behind (Err f) = (before ≡ bad_text f) × (behind ≡ bad_text f)
 
--- a token lies at or behind one place, and ends at another
+-- a token lies at or after one place, and ends at another
 abbrev pub Lies : List ℕ → ℕ → ℕ → Option MmToken → Type 0
 Lies bytes old new (Some t) = (old ≤ t.from) × (t.from < t.to) × (t.to ≤ length bytes) × (new ≡ t.to)
 Lies bytes old new None = Unit {0}

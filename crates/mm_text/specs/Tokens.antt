@@ -59,7 +59,7 @@ abbrev pub first_stray : Option ℕ → ℕ → Option ℕ
 first_stray None at = Some at
 first_stray (Some first) at = Some first
 
--- the place behind a piece
+-- the place after a piece
 abbrev pub place_after : Place → Piece → Place
 place_after outside (stray at) = outside
 place_after outside (run at token) = if opens_comment token then in_comment at None else outside

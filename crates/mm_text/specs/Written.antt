@@ -9,10 +9,10 @@ ends_white [] = true
 ends_white (b ∷ []) = is_white b
 ends_white (b ∷ (c ∷ bytes)) = ends_white (c ∷ bytes)
 
--- The white space behind a token: a line ends with a statement, and all else is parted by spaces.
+-- The white space after a token: a line ends with a statement, and all else is parted by spaces.
 abbrev pub white_behind : Token → ℕ
 white_behind token = if is_whole token then 10 else 32
 
--- the text of tokens, with white space behind each
+-- the text of tokens, with white space after each
 abbrev pub written : List Token → List ℕ
 written tokens = flat_map (λ token. token ++ white_behind token ∷ []) tokens

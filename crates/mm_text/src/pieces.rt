@@ -61,7 +61,7 @@ fn skip_white(bytes: &[u8], from: usize) -> usize
     from + white_len(behind(bytes, from))
 }
 
-/// What comes at or behind `from`.
+/// What comes at or after `from`.
 pub(crate) fn next_piece(bytes: &[u8], from: usize) -> Ahead
     requires { from ≤ length bytes.now }
     ensures { Shows bytes.now from result }

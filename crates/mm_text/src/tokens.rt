@@ -88,7 +88,7 @@ impl<'a> MmTokens<'a> {
     }
 }
 
-/// The place behind the comment whose `$(` begins at `opened` and ends at `from`.
+/// The place after the comment whose `$(` begins at `opened` and ends at `from`.
 fn comment_end(bytes: &[u8], opened: usize, from: usize) -> Result<usize, MmFault>
     requires { from ≤ length bytes.now }
     ensures { Closes bytes.now opened from result }
@@ -122,7 +122,7 @@ fn comment_end(bytes: &[u8], opened: usize, from: usize) -> Result<usize, MmFaul
     }
 }
 
-/// The place behind a comment, but the fault where a byte in it may not stand.
+/// The place after a comment, but the fault where a byte in it may not stand.
 fn closed(end: usize, bad: Option<usize>) -> Result<usize, MmFault>
     ensures { result ≡ closed end bad }
 {

@@ -118,7 +118,7 @@ impl Run {
     }
 
     /// One step, by the engine that the run was made with. After `Stuck`, `Blocked` or an error the run is as before,
-    /// and the same comes again. `AllocError` says that memory was wanting.
+    /// and the same comes again. `AllocError` says that memory ran out.
     ///
     /// Rules are tried one by one: one whose root is another than the configuration's costs one look.
     pub fn step(

@@ -101,7 +101,7 @@ serves_start theory start sort h = record {
 start_answer : (theory : RewriteTheory) → IsWellSorted theory → (calls sort : ℕ) (start : Pattern) → HasSort theory.sig [] start sort → (r : Evaluated) × Evaluates theory most_nesting [] start calls r × IsGood theory.sig sort r
 start_answer theory good calls sort start h = (answers theory good most_nesting).0 [] [] start sort calls h (serves_start theory start sort h)
 
--- the run goes on by this step, where each configuration behind it has a run with less to the limit
+-- the run goes on by this step, where each configuration after it has a run with less to the limit
 run_by : (theory : RewriteTheory) (limit calls sort : ℕ) (start : Pattern) (n : ℕ) (t : Tree) (c : ℕ) → Reaches theory start calls n t c → n < limit → (s : Stepped) → Steps theory t c s → IsGoodStep theory sort s → ((u : Tree) (d : ℕ) → Reaches theory start calls (suc n) u d → IsGoodTree theory.sig u sort → (r : Run) × IsRunOf theory limit calls start r) → (r : Run) × IsRunOf theory limit calls start r
 run_by theory limit calls sort start n t c r lt (next u d) step fine later = later u d (after_step r step) fine
 run_by theory limit calls sort start n t c r lt stays step fine later = (stuck n t, (c, r, lt, step))

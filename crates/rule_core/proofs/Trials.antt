@@ -48,7 +48,7 @@ one_more sig rules from i t r j rule before there last low at (inr same) =
     let one : r ≡ rule = cc in
     let P : RewriteRule → Type 0 = λ x. NoneMatches sig x.variables (more_patterns x.left no_pattern) (more_trees t no_tree) in subst P one last
 
--- a trial goes on behind a rule that does not match
+-- a trial goes on after a rule that does not match
 pub NoneSoFar-more : (pairs : List (ℕ × ℕ)) (rules : List RewriteRule) (from i count : ℕ) (t : Tree) (r : RewriteRule) → NoneSoFar pairs rules from i t → slice_get rules i ≡ Some r → length r.variables ≡ count → FindsMatch pairs count (more_patterns r.left no_pattern) (more_trees t no_tree) None → NoneSoFar pairs rules from (i + 1) t
 NoneSoFar-more pairs rules from i count t r before there len finds =
     λ sig sort is all sorted j rule low high at.

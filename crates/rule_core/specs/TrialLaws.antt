@@ -5,7 +5,7 @@ use Rattle.rule_core.specs.Theories.{RewriteTheory}
 use Rattle.rule_core.specs.FirstRule.{Trial, Tries}
 use Rattle.rule_core.specs.Trial.{NoRuleMatches}
 
--- Rules that do not match change nothing: a trial that begins behind them comes out as one that begins at the first of
+-- Rules that do not match change nothing: a trial that begins after them comes out as one that begins at the first of
 -- them.
 abbrev pub UnmatchedAreSkipped : Type 0
 UnmatchedAreSkipped =

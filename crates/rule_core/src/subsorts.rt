@@ -117,7 +117,7 @@ impl Subsorts {
     }
 
     /// Adds a pair and answers true. Where a sort would then be below itself, it answers false and changes nothing.
-    /// `AllocError` says that memory was wanting, and then no pair is added either.
+    /// `AllocError` says that memory ran out, and then no pair is added either.
     ///
     /// Where the first sort is below the second already, only the set right above the first is made anew. Else it
     /// looks at a few entries of each set, and a set that gets new sorts takes a step for each 64 numbers from the

@@ -84,7 +84,7 @@ impl<V: Drop> Table<V> {
     }
 
     /// Gives a new name the next number and a value, and answers true. Where the table has the name already, it answers
-    /// false and changes nothing. `AllocError` says that memory was wanting, and then nothing is changed either. It
+    /// false and changes nothing. `AllocError` says that memory ran out, and then nothing is changed either. It
     /// costs what a look-up does and a copy of the name, and now and then a move of all entries to a larger room.
     pub fn insert(&mut self, name: String, value: V) -> Result<bool, AllocError>
         ensures fresh { IfOk result (λ added. added ≡ is_none (number_of self.old (string_bytes name))) }

@@ -64,7 +64,7 @@ fn number_rule(alloc: Global, at: u32, left: i128, right: i128) -> Rule
     }
 }
 
-// The rules 5 => 6 and 5 => 7 have one left side: the earlier is found, or the later where the trial starts behind it.
+// The rules 5 => 6 and 5 => 7 have one left side: the earlier is found, or the later where the trial starts after it.
 #[test]
 fn finds_the_first_rule_from_a_place_on(rt: HostRuntime) -> Result<(), Fail> {
     let alloc = rt.alloc();

@@ -18,7 +18,7 @@ use term_core::{RulePat, Term, pattern_of};
 
 /// The two lines of the run of an initial term that ended so, by the names of the signature. What the run keeps is a
 /// pattern that has a Kore pattern, as each has that is well-sorted and without variables (`shown_laws` of `kore_show`).
-/// `AllocError` says that memory was wanting.
+/// `AllocError` says that memory ran out.
 ///
 /// It takes a time linear in what is printed, and one pass over the symbols. Of the last configuration two copies are
 /// made, one after the other.

@@ -13,7 +13,7 @@ use std::alloc::{AllocError, Global};
 use term_core::RulePat;
 
 /// The run of an initial term, with so many steps and so many calls of functions at most. Where there are rules, the
-/// term has their sort. `AllocError` says that memory was wanting.
+/// term has their sort. `AllocError` says that memory ran out.
 ///
 /// A step costs what `Run::step_as` says. Memory does not grow with the number of steps.
 pub fn run(
