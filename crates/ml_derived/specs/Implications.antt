@@ -18,10 +18,17 @@ IsOneStepOn sofar step = (a : Pattern) × ((b : Pattern) × ((c : Pattern) × ((
 abbrev pub ReachesOneFurther : Pattern → Pattern → Pattern → Type 0
 ReachesOneFurther sofar step whole = (a b c : Pattern) → sofar ≡ imp a (ev b) → step ≡ imp b (next c) → whole ≡ imp a (ev c)
 
--- `p & top -> q`
-abbrev pub HasTopCondition : Pattern → Type 0
-HasTopCondition rule = (p : Pattern) × ((q : Pattern) × (rule ≡ imp (and p top) q))
+-- `p & c -> q`
+abbrev pub HasCondition : Pattern → Pattern → Type 0
+HasCondition c rule = (p : Pattern) × ((q : Pattern) × (rule ≡ imp (and p c) q))
 
--- the rule without its condition, which is no more than `top`
+-- the rule without its condition c
+abbrev pub IsFreedOf : Pattern → Pattern → Pattern → Type 0
+IsFreedOf c rule freed = (p q : Pattern) → rule ≡ imp (and p c) q → freed ≡ imp p q
+
+-- .. where that is no more than `top`
+abbrev pub HasTopCondition : Pattern → Type 0
+HasTopCondition = HasCondition top
+
 abbrev pub IsFreed : Pattern → Pattern → Type 0
-IsFreed rule freed = (p q : Pattern) → rule ≡ imp (and p top) q → freed ≡ imp p q
+IsFreed = IsFreedOf top

@@ -2,6 +2,7 @@
 ghost use Rattle.std.specs.Prelude.{◌≡◌, [], ◌∷◌, IfOk};
 ghost use Rattle.ml_pat.specs.Patterns.{top, imp, and};
 ghost use Rattle.ml_derived.specs.Implications.{AreLinked, HasTopCondition, IsChain, IsFreed};
+ghost use Rattle.ml_derived.specs.Implications.{HasCondition, IsFreedOf};
 ghost use Rattle.ml_derived.specs.Parts.{IsConjunction, IsImplication};
 ghost use Rattle.ml_scope.specs.Scopes.{StaysWithin};
 
@@ -105,29 +106,39 @@ fn distributed(
     mp(alloc, b, &rule, b.conclusion(), &sides)
 }
 
-/// `p -> q`, from `p & top -> q`: a condition that always holds is left out.
+/// `p -> q`, from `p & top -> q`: a condition that always holds is left out. An error: out of memory.
 pub fn free_of_top(alloc: Global, rule: &Thm) -> Result<Thm, AllocError>
     requires { HasTopCondition rule.now.conclusion }
     ensures conclusion { IfOk result (λ t. IsFreed rule.now.conclusion t.conclusion) }
     ensures stays { IfOk result (StaysWithin [] (rule.now ∷ [])) }
 {
-    let (from, q) = sides(rule.conclusion());
-    let (p, truth) = conjuncts(from);
-    let with_top = add_top(alloc, p, from, truth)?;
-    chained(alloc, &with_top, rule, p, from, q)
+    let holds = top(alloc)?;
+    free_of_condition(alloc, rule, &holds)
 }
 
-// `p -> p & top`; both is `p & top`.
-fn add_top(alloc: Global, p: &MPat, both: &MPat, truth: &MPat) -> Result<Thm, AllocError>
-    requires both { both.now ≡ and p.now truth.now }
-    requires truth { truth.now ≡ top }
-    ensures conclusion { IfOk result (λ t. t.conclusion ≡ imp p.now both.now) }
-    ensures stays { IfOk result (StaysWithin (p.now ∷ []) []) }
+/// `p -> q`, from `p & c -> q` and c: a condition that holds is left out. An error: out of memory.
+pub fn free_of_condition(alloc: Global, rule: &Thm, condition: &Thm) -> Result<Thm, AllocError>
+    requires { HasCondition condition.now.conclusion rule.now.conclusion }
+    ensures conclusion { IfOk result
+        (λ t. IsFreedOf condition.now.conclusion rule.now.conclusion t.conclusion) }
+    ensures stays { IfOk result (StaysWithin [] (rule.now ∷ condition.now ∷ [])) }
 {
-    let holds = top(alloc)?;
-    let lifted = lift(alloc, p, &holds)?;
-    let joining = and_3(alloc, p, truth)?;
-    under(alloc, &lifted, &joining, p, truth, both)
+    let (from, q) = sides(rule.conclusion());
+    let (p, _) = conjuncts(from);
+    let with_condition = add_condition(alloc, p, from, condition)?;
+    chained(alloc, &with_condition, rule, p, from, q)
+}
+
+// `p -> p & c`, from c; both is `p & c`.
+fn add_condition(alloc: Global, p: &MPat, both: &MPat, condition: &Thm) -> Result<Thm, AllocError>
+    requires { both.now ≡ and p.now condition.now.conclusion }
+    ensures conclusion { IfOk result (λ t. t.conclusion ≡ imp p.now both.now) }
+    ensures stays { IfOk result (StaysWithin (p.now ∷ []) (condition.now ∷ [])) }
+{
+    let c = condition.conclusion();
+    let lifted = lift(alloc, p, condition)?;
+    let joining = and_3(alloc, p, c)?;
+    under(alloc, &lifted, &joining, p, c, both)
 }
 
 // The parts of a conjunction.

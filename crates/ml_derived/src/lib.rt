@@ -10,7 +10,7 @@ mod instances;
 mod reaching;
 
 pub use equalities::{carry, cong_app, cong_arg, cong_fun, flip, join};
-pub use implications::{both, chain, free_of_top};
+pub use implications::{both, chain, free_of_condition, free_of_top};
 pub use instances::instance;
 pub use reaching::{reach_here, reach_step};
 
