@@ -25,7 +25,7 @@ use Rattle.prove_step.specs.RuleLemmas.{IsMetaFact}
 use Rattle.prove_step.specs.Applying.{CanApply, CanProve, IsBound, IsFactOf, IsImageFor, Proves, SaysApplied}
 use Rattle.prove_step.proofs.PlainLaws.{plain_rule}
 use Rattle.prove_step.proofs.ClosingLaws.{numbers_length}
-use Rattle.prove_step.proofs.StepLaws.{Applied, same_variable, step_says}
+use Rattle.prove_step.proofs.StepLaws.{Applied, same_variable, filled_says}
 use Rattle.prove_step.proofs.GrowthLaws.{pattern_grown, functional_grown, schema_grown}
 
 -- ---- two lists side by side
@@ -133,7 +133,7 @@ applied_at old mid new r lemma theta ps qs ts g k same proofs images can = recor
 
 pub says_applied : (old new : Context) (lemma : Theorem) (theta : List (Option Tree)) (qs : List Pattern) (ts : List Theorem) (t : Theorem) → ((r : RewriteRule) → CanApply old r lemma theta → Applied new r lemma theta qs ts)
     → t.conclusion ≡ instance qs lemma.conclusion → SaysApplied old lemma theta new t
-says_applied old new lemma theta qs ts t known is = λ r can a b from to. step_says new r lemma theta qs ts a b t.conclusion (known r can) from to is
+says_applied old new lemma theta qs ts t known is = λ r can. filled_says new r lemma theta qs ts t.conclusion (known r can) is
 
 -- ---- facts at hand
 

@@ -8,3 +8,4 @@ pub mod LemmaLaws
 pub mod StepLaws
 pub mod ApplyingLaws
 pub mod ProverLaws
+pub mod NormalizingLaws

@@ -1,15 +1,12 @@
--- Plain patterns and rules, and their instances.
+-- Plain patterns and rules.
 use Rattle.std.proofs.Common.{◌≡◌, ◌<◌, ◌+◌, ℕ, Bool, true, false, zero, suc, List, [], ◌∷◌, Option, Some, None, option_map, length, drop, inl, inr, refl, sym, ◌∙◌, ap, subst, arith}
 use Rattle.std.specs.Prelude.{◌⊎◌, ◌≤◌, ◌-◌, ◌^◌, ◌&&◌, ◌||◌, nat_le}
 use Rattle.std.proofs.lemmas.Bool.{eqb-true, leb-true}
 use Rattle.std.proofs.lemmas.List.{drop_more}
 use Rattle.ml_pat.proofs.LeafLaws.{split_true}
-use Rattle.term_core.specs.Terms.{Tree, leaf, node, Forest, no_tree, more_trees}
-use Rattle.term_core.specs.Patterns.{Pattern, Patterns, variable, domain_value, application, injection, call, no_pattern, more_patterns, binding, with_first, substituted, all_substituted, instance_of, instances_of}
+use Rattle.term_core.specs.Patterns.{Pattern, Patterns, variable, domain_value, application, injection, call, no_pattern, more_patterns}
 use Rattle.rule_core.specs.Rules.{RewriteRule}
 use Rattle.rule_core.specs.Matching.{StandsIn, StandsInSome}
-use Rattle.rule_core.proofs.SortedInstances.{mapped, both_there}
-use Rattle.prove_term.specs.PlainTerms.{HasNoInjection, HaveNoInjection}
 use Rattle.prove_step.specs.PlainRules.{is_plain, are_plain, stands_in, stands_in_some, uses_each, uses_variables, is_missing, is_plain_rule}
 
 false_true : false ≡ true → ⊥
@@ -91,78 +88,6 @@ pub rule_uses : (r : RewriteRule) (x : ℕ) → is_plain_rule r ≡ true → x <
 rule_uses r x plain low =
     let same : 0 + x ≡ x = omega arith in
     subst (λ (y : ℕ). StandsIn y r.left) same (uses_one 0 r.variables r.left x (plain_rule r plain).uses low)
-
--- ---- instances
-
--- the instance of a plain pattern is as it is written
-mutual
-  pub plain_instance : (theta : List (Option Tree)) (p : Pattern) → is_plain p ≡ true → instance_of theta p ≡ substituted theta p
-  plain_instance theta (variable x) h = refl
-  plain_instance theta (domain_value s v) h = refl
-  plain_instance theta (application f ps) h = ap (option_map (node f)) (plain_instances theta ps h)
-  plain_instance theta (injection a b p) h = absurd (false_true h)
-  plain_instance theta (call f ss ps) h = refl
-
-  plain_instances : (theta : List (Option Tree)) (ps : Patterns) → are_plain ps ≡ true → instances_of theta ps ≡ all_substituted theta ps
-  plain_instances theta no_pattern h = refl
-  plain_instances theta (more_patterns p ps) h =
-      let parts : (is_plain p ≡ true) × (are_plain ps ≡ true) = split_true (is_plain p) (are_plain ps) h in
-      ap (λ (o : Option Tree). with_first o (instances_of theta ps)) (plain_instance theta p parts.0)
-      ∙ ap (with_first (substituted theta p)) (plain_instances theta ps parts.1)
-
--- what stands for a variable of a plain pattern has no injection, where the instance has none
-mutual
-  pub binding_is_plain : (theta : List (Option Tree)) (p : Pattern) (t : Tree) (x : ℕ) (u : Tree) → is_plain p ≡ true →
-      instance_of theta p ≡ Some t → HasNoInjection t → StandsIn x p → binding theta x ≡ Some u → HasNoInjection u
-  binding_is_plain theta (variable y) t x u h e none stands bound =
-      let same : t ≡ u = some_same t u (sym e ∙ ap (binding theta) (sym stands) ∙ bound) in
-      subst HasNoInjection same none
-  binding_is_plain theta (domain_value s v) t x u h e none stands bound = absurd stands
-  binding_is_plain theta (application f ps) t x u h e none stands bound =
-      let from : (ts : Forest) × ((instances_of theta ps ≡ Some ts) × (node f ts ≡ t)) =
-      mapped (node f) (instances_of theta ps) t e in
-      bindings_are_plain theta ps from.0 x u h from.1.0 (subst HasNoInjection (sym from.1.1) none) stands bound
-  binding_is_plain theta (injection a b p) t x u h e none stands bound = absurd (false_true h)
-  binding_is_plain theta (call f ss ps) t x u h e none stands bound = absurd (false_true h)
-
-  bindings_are_plain : (theta : List (Option Tree)) (ps : Patterns) (ts : Forest) (x : ℕ) (u : Tree) → are_plain ps ≡ true →
-      instances_of theta ps ≡ Some ts → HaveNoInjection ts → StandsInSome x ps → binding theta x ≡ Some u → HasNoInjection u
-  bindings_are_plain theta no_pattern ts x u h e none stands bound = absurd stands
-  bindings_are_plain theta (more_patterns p ps) ts x u h e none stands bound =
-      let parts : (is_plain p ≡ true) × (are_plain ps ≡ true) = split_true (is_plain p) (are_plain ps) h in
-      let there : (t : Tree) × ((us : Forest) × ((ts ≡ more_trees t us) × ((instance_of theta p ≡ Some t) × (instances_of theta ps ≡ Some us)))) =
-      both_there (instance_of theta p) (instances_of theta ps) ts e in
-      let each : HaveNoInjection (more_trees there.0 there.1.0) = subst HaveNoInjection there.1.1.0 none in
-      either (λ (k : StandsIn x p). binding_is_plain theta p there.0 x u parts.0 there.1.1.1.0 each.0 k bound)
-      (λ (k : StandsInSome x ps). bindings_are_plain theta ps there.1.0 x u parts.1 there.1.1.1.1 each.1 k bound) stands
-
--- a substitution by terms without injections
-abbrev pub GivesPlain : List (Option Tree) → Type 0
-GivesPlain theta = (x : ℕ) (u : Tree) → binding theta x ≡ Some u → HasNoInjection u
-
--- makes of a plain pattern a term without injections
-mutual
-  pub instance_is_plain : (theta : List (Option Tree)) (p : Pattern) (t : Tree) → is_plain p ≡ true → GivesPlain theta →
-      instance_of theta p ≡ Some t → HasNoInjection t
-  instance_is_plain theta (variable y) t h gives e = gives y t e
-  instance_is_plain theta (domain_value s v) t h gives e =
-      subst HasNoInjection (some_same (leaf s v) t e) tt
-  instance_is_plain theta (application f ps) t h gives e =
-      let from : (ts : Forest) × ((instances_of theta ps ≡ Some ts) × (node f ts ≡ t)) =
-      mapped (node f) (instances_of theta ps) t e in
-      subst HasNoInjection from.1.1 (instances_are_plain theta ps from.0 h gives from.1.0)
-  instance_is_plain theta (injection a b p) t h gives e = absurd (false_true h)
-  instance_is_plain theta (call f ss ps) t h gives e = absurd (false_true h)
-
-  instances_are_plain : (theta : List (Option Tree)) (ps : Patterns) (ts : Forest) → are_plain ps ≡ true → GivesPlain theta →
-      instances_of theta ps ≡ Some ts → HaveNoInjection ts
-  instances_are_plain theta no_pattern ts h gives e = subst HaveNoInjection (some_same no_tree ts e) tt
-  instances_are_plain theta (more_patterns p ps) ts h gives e =
-      let parts : (is_plain p ≡ true) × (are_plain ps ≡ true) = split_true (is_plain p) (are_plain ps) h in
-      let there : (t : Tree) × ((us : Forest) × ((ts ≡ more_trees t us) × ((instance_of theta p ≡ Some t) × (instances_of theta ps ≡ Some us)))) =
-      both_there (instance_of theta p) (instances_of theta ps) ts e in
-      subst HaveNoInjection (sym there.1.1.0)
-      (instance_is_plain theta p there.0 parts.0 gives there.1.1.1.0, instances_are_plain theta ps there.1.0 parts.1 gives there.1.1.1.1)
 
 -- ---- the loop over the variables
 

@@ -6,8 +6,8 @@ use Rattle.std.proofs.lemmas.List.{get_or-set_same, get_or-set_other}
 use Rattle.std.proofs.lemmas.List.Elements.{All-contains}
 use Rattle.std.proofs.lemmas.Option.{slice_get_within, slice_get-get_or, get_or_from_slice_get}
 use Rattle.ml_kernel.specs.Theorems.{Theorem}
-use Rattle.term_core.specs.Terms.{Tree, Forest, no_tree, more_trees}
-use Rattle.term_core.specs.Patterns.{no_pattern, more_patterns, binding, instance_of, instances_of}
+use Rattle.term_core.specs.Terms.{Tree}
+use Rattle.term_core.specs.Patterns.{no_pattern, more_patterns, binding}
 use Rattle.rule_core.specs.Rules.{RewriteRule}
 use Rattle.rule_core.specs.Theories.{RewriteTheory}
 use Rattle.rule_core.specs.Matching.{StandsInSome}
@@ -16,18 +16,16 @@ use Rattle.rule_core.specs.WellSorted.{IsRuleOf, IsWellSorted}
 use Rattle.rule_core.specs.ProgramView.{rewrite_rule, rewrite_rules, theory_of}
 use Rattle.rule_core.specs.declared.rules.Rule.{Rule}
 use Rattle.rule_core.specs.declared.rules.Program.{Program}
-use Rattle.rule_core.proofs.SortedInstances.{both_there}
 use Rattle.ml_image.proofs.ImageLaws.{none_some, some_same}
 use Rattle.ml_image.proofs.WellSortedLaws.{rule_has_image}
 use Rattle.prove_term.specs.Contexts.{Context, HasGrown}
 use Rattle.prove_term.specs.RuleAxioms.{HasImageAt}
 use Rattle.prove_term.proofs.ContextLaws.{grown_none, grown_lemma}
-use Rattle.prove_term.specs.PlainTerms.{HasNoInjection}
 use Rattle.prove_step.specs.PlainRules.{is_plain_rule}
-use Rattle.prove_step.specs.Steps.{SaysStepAt, MatchesAt, IsPlainAt}
+use Rattle.prove_step.specs.Steps.{MatchesAt, IsPlainAt}
 use Rattle.prove_step.specs.RuleLemmas.{IsRuleLemma, IsLemmaOf, SaysSchemaAt, AreRuleLemmas}
-use Rattle.prove_step.specs.Applying.{CanApply, IsBound, SaysApplied}
-use Rattle.prove_step.proofs.PlainLaws.{plain_rule, rule_uses, binding_is_plain}
+use Rattle.prove_step.specs.Applying.{CanApply, IsBound, SaysApplied, SaysFilledAt}
+use Rattle.prove_step.proofs.PlainLaws.{plain_rule, rule_uses}
 use Rattle.prove_step.proofs.GrowthLaws.{lemma_of_grown, schema_at_grown}
 
 -- ---- the rule at a place
@@ -37,7 +35,7 @@ listed_at [] i r there = absurd (none_some r there)
 listed_at (q ∷ rules) zero r there = ap (λ (x : Rule). Some (rewrite_rule x)) (some_same q r there)
 listed_at (q ∷ rules) (suc i) r there = listed_at rules i r there
 
-rule_listed : (program : Program) (i : ℕ) (r : Rule) → slice_get program.rules.items i ≡ Some r → Contains (theory_of program).rules (rewrite_rule r)
+pub rule_listed : (program : Program) (i : ℕ) (r : Rule) → slice_get program.rules.items i ≡ Some r → Contains (theory_of program).rules (rewrite_rule r)
 rule_listed program i r there =
     let at : slice_get (rewrite_rules program.rules.items) i ≡ Some (rewrite_rule r) = listed_at program.rules.items i r there in
     (i, slice_get_within (rewrite_rules program.rules.items) i (rewrite_rule r) at, get_or_from_slice_get (rewrite_rules program.rules.items) i (rewrite_rule r) (rewrite_rule r) at)
@@ -52,7 +50,7 @@ nothing_in : {P : Type 0} (rules : List RewriteRule) (r : RewriteRule) → rules
 nothing_in [] r none there = absurd (omega (arith, there.1))
 nothing_in (q ∷ rules) r none there = let no : ⊥ = cc in absurd no
 
-sorted_rule : (theory : RewriteTheory) (r : RewriteRule) → IsWellSorted theory → Contains theory.rules r → (sort : ℕ) × IsRuleOf theory.sig sort r
+pub sorted_rule : (theory : RewriteTheory) (r : RewriteRule) → IsWellSorted theory → Contains theory.rules r → (sort : ℕ) × IsRuleOf theory.sig sort r
 sorted_rule theory r ok there = go ok.one_sort
   where
     go : (theory.rules ≡ []) ⊎ ((sort : ℕ) × All (IsRuleOf theory.sig sort) theory.rules) → (sort : ℕ) × IsRuleOf theory.sig sort r
@@ -63,22 +61,14 @@ is_there : (o : Option Tree) → IsSome o → (t : Tree) × (o ≡ Some t)
 is_there None h = let no : ⊥ = cc in absurd no
 is_there (Some t) h = (t, refl)
 
--- what stands for each variable of a rule that matches a term without injections
-bound_by : (theory : RewriteTheory) (r : RewriteRule) (t : Tree) (theta : List (Option Tree)) (x : ℕ) → is_plain_rule r ≡ true → HasNoInjection t → Matches theory r t theta → x < length theta → IsBound theory.sig theta x
-bound_by theory r t theta x plain none matches low =
+-- what stands for each variable of a rule that matches a term
+bound_by : (theory : RewriteTheory) (r : RewriteRule) (t : Tree) (theta : List (Option Tree)) (x : ℕ) → is_plain_rule r ≡ true → Matches theory r t theta → x < length theta → IsBound theory.sig theta x
+bound_by theory r t theta x plain matches low =
     let within : x < length r.variables = omega (arith, low, matches.binds.room) in
-    let stands = rule_uses r x plain within in
-    let some : StandsInSome x (more_patterns r.left no_pattern) = inl stands in
+    let some : StandsInSome x (more_patterns r.left no_pattern) = inl (rule_uses r x plain within) in
     let bound : (u : Tree) × (binding theta x ≡ Some u) = is_there (binding theta x) ((matches.binds.just x).1 some) in
-    let made : (u : Tree) × ((us : Forest) × ((more_trees t no_tree ≡ more_trees u us) × ((instance_of theta r.left ≡ Some u) × (instances_of theta no_pattern ≡ Some us)))) =
-    both_there (instance_of theta r.left) (instances_of theta no_pattern) (more_trees t no_tree) matches.makes in
-    let same : t ≡ made.0 = first_tree t made.0 no_tree made.1.0 made.1.1.0 in
-    let makes : instance_of theta r.left ≡ Some t = made.1.1.1.0 ∙ ap (λ (u : Tree). Some u) (sym same) in
     let of_sort = (matches.binds.sorted x bound.0 bound.1).1 in
-    (bound.0, bound.1, (of_sort.0, of_sort.2), binding_is_plain theta r.left t x bound.0 (plain_rule r plain).left makes none stands bound.1)
-  where
-    first_tree : (a b : Tree) (rest other : Forest) → more_trees a rest ≡ more_trees b other → a ≡ b
-    first_tree a b rest other e = cc
+    (bound.0, bound.1, (of_sort.0, of_sort.2))
 
 -- the lemma of the rule may be used
 pub can_step : (old cx : Context) (i : ℕ) (lemma : Theorem) (theta : List (Option Tree)) (r : Rule) → HasGrown old cx → IsWellSorted (theory_of old.program) → IsPlainAt old.program i → MatchesAt old.program i theta → IsRuleLemma cx i lemma
@@ -89,7 +79,7 @@ can_step old cx i lemma theta r g ok plain matches is there = go
     (subst (λ (p : Program). MatchesAt p i theta) (sym g.program) matches)
   where
     go : IsWellSorted (theory_of cx.program) → IsPlainAt cx.program i → MatchesAt cx.program i theta → CanApply cx (rewrite_rule r) lemma theta
-    go sorted (q, q_there, q_plain) (m, m_there, (t, none, m_matches)) =
+    go sorted (q, q_there, q_plain) (m, m_there, (t, high, m_matches)) =
         let is_plain : is_plain_rule (rewrite_rule r) ≡ true =
         subst (λ (x : Rule). is_plain_rule (rewrite_rule x) ≡ true) (some_same q r (sym q_there ∙ there)) q_plain in
         let does_match : Matches (theory_of cx.program) (rewrite_rule r) t theta =
@@ -103,17 +93,17 @@ can_step old cx i lemma theta r g ok plain matches is there = go
           right = (rule.0, rule.1.right);
           room = does_match.binds.room;
           respects = does_match.binds.sorted;
-          bound = λ x low. bound_by (theory_of cx.program) (rewrite_rule r) t theta x is_plain none does_match low;
+          bound = λ x low. bound_by (theory_of cx.program) (rewrite_rule r) t theta x is_plain does_match low;
           schema = is.1 r there;
           listed = is.0;
         }
 
--- what the lemma says then is the step by the rule
-pub applied_step : (old mid new : Context) (i : ℕ) (lemma : Theorem) (theta : List (Option Tree)) (t : Theorem) → HasGrown old mid → HasGrown mid new → IsWellSorted (theory_of old.program) → IsPlainAt old.program i → MatchesAt old.program i theta
-    → IsRuleLemma mid i lemma → SaysApplied mid lemma theta new t → SaysStepAt new i theta t.conclusion
-applied_step old mid new i lemma theta t g k ok plain matches is says r there a b from to =
+-- what the lemma says then of the rule's sides
+pub applied_sides : (old mid new : Context) (i : ℕ) (lemma : Theorem) (theta : List (Option Tree)) (t : Theorem) → HasGrown old mid → HasGrown mid new → IsWellSorted (theory_of old.program) → IsPlainAt old.program i → MatchesAt old.program i theta
+    → IsRuleLemma mid i lemma → SaysApplied mid lemma theta new t → SaysFilledAt new i theta t.conclusion
+applied_sides old mid new i lemma theta t g k ok plain matches is says r there =
     says (rewrite_rule r)
-    (can_step old mid i lemma theta r g ok plain matches is (subst (λ (p : Program). slice_get p.rules.items i ≡ Some r) k.program there)) a b from to
+    (can_step old mid i lemma theta r g ok plain matches is (subst (λ (p : Program). slice_get p.rules.items i ≡ Some r) k.program there))
 
 -- ---- places of lemmas
 

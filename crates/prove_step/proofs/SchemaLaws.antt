@@ -1,20 +1,23 @@
 -- Images of patterns as schemas: what stands in them, and their instances.
-use Rattle.std.proofs.Common.{◌≡◌, ℕ, List, [], ◌∷◌, Option, Some, None, option_map, slice_get, refl, sym, ◌∙◌, ap, subst, arith}
+use Rattle.std.proofs.Common.{◌≡◌, ◌<◌, ℕ, List, [], ◌∷◌, Option, Some, None, option_map, slice_get, refl, sym, ◌∙◌, ap, subst, arith}
 use Rattle.std.specs.Prelude.{IsTrue}
 use Rattle.std.proofs.lemmas.Option.{get_or_from_slice_get}
 use Rattle.ml_pat.specs.Patterns.{Pattern, bot, top, imp, not, and, or, equal, member, fun, ex, all, app, at_sort, next, ev, var, meta, constant}
 use Rattle.ml_pat.specs.Leaves.{LeafFacts, EachLeaf}
 use Rattle.ml_kernel.specs.Lemmas.{instance, IsMetaBelow, HasNoVariable}
 use Rattle.ml_scope.specs.Scopes.{Scope, IsOver}
-use Rattle.term_core.specs.Terms.{Tree, leaf, node, inj, Forest, no_tree, more_trees}
-use Rattle.term_core.specs.Patterns.{Pattern as RulePattern, Patterns as RulePatterns, variable, domain_value, application, injection, call, no_pattern, more_patterns, substituted, all_substituted, ground_pattern, ground_patterns}
+use Rattle.term_core.specs.Terms.{Tree}
+use Rattle.term_core.specs.Patterns.{Pattern as RulePattern, Patterns as RulePatterns, variable, domain_value, application, injection, call, no_pattern, more_patterns, ground_pattern}
 use Rattle.rule_core.specs.declared.signature.Signature.{Signature}
-use Rattle.rule_core.proofs.SortedInstances.{mapped, both_there}
+use Rattle.rule_core.specs.WellSorted.{IsSignature}
 use Rattle.ml_image.specs.Tokens.{token_of_symbol, token_of_value, numbered}
 use Rattle.ml_image.specs.Images.{both, symbol_image, sort_image, at_sorts, image_of, applied, some_symbol_image, injection_symbol, injection_image}
 use Rattle.ml_image.specs.HasImages.{HasImage, HaveImages}
 use Rattle.ml_image.proofs.ImageLaws.{none_some, some_same}
+use Rattle.ml_image.proofs.WellSortedLaws.{sorted_has_image}
+use Rattle.prove_term.specs.Filling.{in_place, filled, all_filled}
 use Rattle.prove_step.specs.Schemas.{with_metas, IsOpenFrom, AreImages}
+use Rattle.prove_step.specs.Applying.{IsBound}
 
 -- ---- what stands in a schema
 
@@ -184,38 +187,60 @@ becomes_some : (sig : Signature) (names : List (List ℕ)) (qs : List Pattern) (
 becomes_some sig names qs None p e = absurd (none_some p e)
 becomes_some sig names qs (Some f) p e = becomes_constant qs (numbered names (token_of_symbol sig f)) p e
 
--- The image of a pattern under a substitution is the instance of its schema at the images of what stands for its
--- variables.
-mutual
-  pub instance_image : (sig : Signature) (names : List (List ℕ)) (theta : List (Option Tree)) (qs : List Pattern) (p : RulePattern) (t : Tree) → AreImages sig names theta qs
-      → substituted theta p ≡ Some t → Becomes qs (image_of sig names p) (image_of sig names (ground_pattern t))
-  instance_image sig names theta qs (variable x) t are e =
-      let at : (q : Pattern) × ((slice_get qs x ≡ Some q) × (image_of sig names (ground_pattern t) ≡ Some q)) = are x t e in
-      λ q is. at.1.1 ∙ ap (λ (r : Pattern). Some r) (sym (get_or_from_slice_get qs x at.0 (meta x) at.1.0))
-      ∙ ap (λ (r : Pattern). Some (instance qs (with_metas r))) (some_same (var x) q is)
-  instance_image sig names theta qs (domain_value s v) t are e =
-      subst (λ (u : Tree). Becomes qs (option_map constant (numbered names (token_of_value sig s v))) (image_of sig names (ground_pattern u))) (some_same (leaf s v) t e)
-      (becomes_constant qs (numbered names (token_of_value sig s v)))
-  instance_image sig names theta qs (application f ps) t are e =
-      let from : (ts : Forest) × ((all_substituted theta ps ≡ Some ts) × (node f ts ≡ t)) = mapped (node f) (all_substituted theta ps) t e in
-      subst (λ (u : Tree). Becomes qs (applied sig names (symbol_image sig names f) ps) (image_of sig names (ground_pattern u))) from.1.1
-      (instance_applied sig names theta qs ps from.0 (symbol_image sig names f) (symbol_image sig names f) are from.1.0
-      (becomes_constant qs (numbered names (token_of_symbol sig f))))
-  instance_image sig names theta qs (injection a b p) t are e =
-      let from : (u : Tree) × ((substituted theta p ≡ Some u) × (inj a b u ≡ t)) = mapped (inj a b) (substituted theta p) t e in
-      subst (λ (u : Tree). Becomes qs (both app (injection_image sig names a b) (image_of sig names p)) (image_of sig names (ground_pattern u))) from.1.1
-      (becomes_app qs (injection_image sig names a b) (injection_image sig names a b) (image_of sig names p) (image_of sig names (ground_pattern from.0))
-      (becomes_at_sorts sig names qs (a ∷ b ∷ []) (some_symbol_image sig names (injection_symbol sig)) (some_symbol_image sig names (injection_symbol sig)) (becomes_some sig names qs (injection_symbol sig)))
-      (instance_image sig names theta qs p from.0 are from.1.0))
-  instance_image sig names theta qs (call f ss ps) t are e = absurd (none_some t e)
+-- each of the first variables, so many, is bound to a term of a sort
+abbrev pub AreBound : Signature → ℕ → List (Option Tree) → Type 0
+AreBound sig n theta = (x : ℕ) → x < n → IsBound sig theta x
 
-  instance_applied : (sig : Signature) (names : List (List ℕ)) (theta : List (Option Tree)) (qs : List Pattern) (ps : RulePatterns) (ts : Forest) (head new : Option Pattern) → AreImages sig names theta qs
-      → all_substituted theta ps ≡ Some ts → Becomes qs head new → Becomes qs (applied sig names head ps) (applied sig names new (ground_patterns ts))
-  instance_applied sig names theta qs no_pattern ts head new are e k =
-      subst (λ (us : Forest). Becomes qs head (applied sig names new (ground_patterns us))) (some_same no_tree ts e) k
-  instance_applied sig names theta qs (more_patterns p ps) ts head new are e k =
-      let there : (t : Tree) × ((us : Forest) × ((ts ≡ more_trees t us) × ((substituted theta p ≡ Some t) × (all_substituted theta ps ≡ Some us)))) =
-      both_there (substituted theta p) (all_substituted theta ps) ts e in
-      subst (λ (us : Forest). Becomes qs (applied sig names (both app head (image_of sig names p)) ps) (applied sig names new (ground_patterns us))) (sym there.1.1.0)
-      (instance_applied sig names theta qs ps there.1.0 (both app head (image_of sig names p)) (both app new (image_of sig names (ground_pattern there.0))) are there.1.1.1.1
-      (becomes_app qs head new (image_of sig names p) (image_of sig names (ground_pattern there.0)) k (instance_image sig names theta qs p there.0 are there.1.1.1.0)))
+-- The image of a pattern with terms in the places of its variables is the instance of its schema at the images of these
+-- terms.
+mutual
+  pub filled_image : (sig : Signature) (names : List (List ℕ)) (theta : List (Option Tree)) (qs : List Pattern) (n : ℕ) (p : RulePattern) → AreImages sig names theta qs
+      → AreBound sig n theta → HasImage sig n p → Becomes qs (image_of sig names p) (image_of sig names (filled theta p))
+  filled_image sig names theta qs n (variable x) are bound has =
+      let here : IsBound sig theta x = bound x has in
+      let at : (q : Pattern) × ((slice_get qs x ≡ Some q) × (image_of sig names (ground_pattern here.0) ≡ Some q)) = are x here.0 here.1 in
+      λ q is. ap (λ (o : Option Tree). image_of sig names (in_place x o)) here.1 ∙ at.1.1
+      ∙ ap (λ (r : Pattern). Some r) (sym (get_or_from_slice_get qs x at.0 (meta x) at.1.0))
+      ∙ ap (λ (r : Pattern). Some (instance qs (with_metas r))) (some_same (var x) q is)
+  filled_image sig names theta qs n (domain_value s v) are bound has = becomes_constant qs (numbered names (token_of_value sig s v))
+  filled_image sig names theta qs n (application f ps) are bound has =
+      filled_applied sig names theta qs n ps (symbol_image sig names f) (symbol_image sig names f) are bound has.1
+      (becomes_constant qs (numbered names (token_of_symbol sig f)))
+  filled_image sig names theta qs n (injection a b p) are bound has =
+      becomes_app qs (injection_image sig names a b) (injection_image sig names a b) (image_of sig names p) (image_of sig names (filled theta p))
+      (becomes_at_sorts sig names qs (a ∷ b ∷ []) (some_symbol_image sig names (injection_symbol sig)) (some_symbol_image sig names (injection_symbol sig)) (becomes_some sig names qs (injection_symbol sig)))
+      (filled_image sig names theta qs n p are bound has.2)
+  filled_image sig names theta qs n (call f ss ps) are bound has =
+      filled_applied sig names theta qs n ps (at_sorts sig names (symbol_image sig names f) ss) (at_sorts sig names (symbol_image sig names f) ss) are bound has.2
+      (becomes_at_sorts sig names qs ss (symbol_image sig names f) (symbol_image sig names f) (becomes_constant qs (numbered names (token_of_symbol sig f))))
+
+  filled_applied : (sig : Signature) (names : List (List ℕ)) (theta : List (Option Tree)) (qs : List Pattern) (n : ℕ) (ps : RulePatterns) (head new : Option Pattern) → AreImages sig names theta qs
+      → AreBound sig n theta → HaveImages sig n ps → Becomes qs head new → Becomes qs (applied sig names head ps) (applied sig names new (all_filled theta ps))
+  filled_applied sig names theta qs n no_pattern head new are bound has k = k
+  filled_applied sig names theta qs n (more_patterns p ps) head new are bound has k =
+      filled_applied sig names theta qs n ps (both app head (image_of sig names p)) (both app new (image_of sig names (filled theta p))) are bound has.1
+      (becomes_app qs head new (image_of sig names p) (image_of sig names (filled theta p)) k (filled_image sig names theta qs n p are bound has.0))
+
+-- ---- what stands in a filled pattern
+
+mutual
+  filled_has_image : (sig : Signature) (theta : List (Option Tree)) (n : ℕ) (p : RulePattern) → IsSignature sig → AreBound sig n theta → HasImage sig n p → HasImage sig 0 (filled theta p)
+  filled_has_image sig theta n (variable x) ok bound has =
+      let here : IsBound sig theta x = bound x has in
+      subst (λ (o : Option Tree). HasImage sig 0 (in_place x o)) (sym here.1) (sorted_has_image sig [] (ground_pattern here.0) here.2.0 ok here.2.1)
+  filled_has_image sig theta n (domain_value s v) ok bound has = has
+  filled_has_image sig theta n (application f ps) ok bound has = (has.0, all_filled_have_images sig theta n ps ok bound has.1)
+  filled_has_image sig theta n (injection a b p) ok bound has = (has.0, has.1, filled_has_image sig theta n p ok bound has.2)
+  filled_has_image sig theta n (call f ss ps) ok bound has = (has.0, has.1, all_filled_have_images sig theta n ps ok bound has.2)
+
+  all_filled_have_images : (sig : Signature) (theta : List (Option Tree)) (n : ℕ) (ps : RulePatterns) → IsSignature sig → AreBound sig n theta → HaveImages sig n ps → HaveImages sig 0 (all_filled theta ps)
+  all_filled_have_images sig theta n no_pattern ok bound has = tt
+  all_filled_have_images sig theta n (more_patterns p ps) ok bound has =
+      (filled_has_image sig theta n p ok bound has.0, all_filled_have_images sig theta n ps ok bound has.1)
+
+-- no object variable stands in the image of a filled pattern
+pub filled_closed : (sig : Signature) (names : List (List ℕ)) (theta : List (Option Tree)) (n : ℕ) (p : RulePattern) (q : Pattern) → IsSignature sig → AreBound sig n theta → HasImage sig n p
+    → image_of sig names (filled theta p) ≡ Some q → HasNoVariable q
+filled_closed sig names theta n p q ok bound has image =
+    let is_open : IsOpenFrom 0 0 q = image_is_open sig names 0 (filled theta p) (filled_has_image sig theta n p ok bound has) q image in
+    subst HasNoVariable (open_closed 0 q is_open) (open_no_variable 0 0 q is_open)

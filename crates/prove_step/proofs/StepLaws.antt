@@ -10,26 +10,24 @@ use Rattle.ml_kernel.specs.Lemmas.{instance, instances, IsMetaBelow, AreMetasBel
 use Rattle.ml_kernel.specs.Theorems.{Theorem, conclusions}
 use Rattle.ml_scope.specs.Scopes.{Scope, leaves_of, place_leaves_of, AreOver, IsOverPlaces, AreWithin, CitesWithin}
 use Rattle.term_core.specs.Terms.{Tree}
-use Rattle.term_core.specs.Patterns.{Pattern as RulePattern, instance_of, ground_pattern}
+use Rattle.term_core.specs.Patterns.{Pattern as RulePattern, ground_pattern}
 use Rattle.term_core.specs.Patterns as rules
 use Rattle.rule_core.specs.Rules.{RewriteRule}
 use Rattle.rule_core.specs.Sorting.{HasSort, IsTermOf, IsSymbol, sort_at}
 use Rattle.rule_core.specs.WellSorted.{IsSignature}
 use Rattle.rule_core.specs.declared.signature.Signature.{Signature}
 use Rattle.rule_core.specs.declared.signature.SymInfo.{SymInfo}
-use Rattle.rule_core.proofs.SortedInstances.{instance_is_sorted}
 use Rattle.ml_image.specs.Images.{image_of, sort_image}
+use Rattle.ml_image.specs.HasImages.{HasImage}
 use Rattle.ml_image.specs.Sentences.{term}
 use Rattle.ml_image.proofs.ImageLaws.{none_some, some_same}
 use Rattle.ml_image.proofs.WellSortedLaws.{sorted_has_image}
 use Rattle.prove_term.specs.Contexts.{Context, HasContext, StaysIn}
-use Rattle.prove_step.specs.PlainRules.{is_plain}
+use Rattle.prove_term.specs.Filling.{filled}
 use Rattle.prove_step.specs.Schemas.{with_metas, IsOpenFrom, AreImages}
-use Rattle.prove_step.specs.Steps.{SaysStep}
 use Rattle.prove_step.specs.RuleLemmas.{IsMetaFact}
-use Rattle.prove_step.specs.Applying.{CanApply, Proves, IsImageFor}
-use Rattle.prove_step.proofs.PlainLaws.{plain_instance, plain_rule}
-use Rattle.prove_step.proofs.SchemaLaws.{open_no_variable, open_metas, open_closed, image_is_open, instance_image, schema_leaves}
+use Rattle.prove_step.specs.Applying.{CanApply, Proves, IsImageFor, SaysFilled}
+use Rattle.prove_step.proofs.SchemaLaws.{AreBound, open_no_variable, open_metas, open_closed, image_is_open, filled_image, filled_closed, schema_leaves}
 use Rattle.prove_step.proofs.ClosingLaws.{numbers_length, number_at}
 
 -- ---- sorts
@@ -193,37 +191,40 @@ applied_stays cx r lemma theta qs ts t w cites s has =
 
 -- ---- the step
 
-side_image : (cx : Context) (theta : List (Option Tree)) (qs : List Pattern) (side : RulePattern) (image : Pattern) (t : Tree) → AreImages cx.program.sig cx.names theta qs → is_plain side ≡ true
-    → image_of cx.program.sig cx.names side ≡ Some image → instance_of theta side ≡ Some t → image_of cx.program.sig cx.names (ground_pattern t) ≡ Some (instance qs (with_metas image))
-side_image cx theta qs side image t images plain is makes =
-    instance_image cx.program.sig cx.names theta qs side t images (sym (plain_instance theta side plain) ∙ makes) image is
+each_bound : (cx : Context) (r : RewriteRule) (lemma : Theorem) (theta : List (Option Tree)) → CanApply cx r lemma theta → AreBound cx.program.sig (length r.variables) theta
+each_bound cx r lemma theta can x low = can.bound x (omega (arith, low, can.room))
 
-side_closed : (cx : Context) (r : RewriteRule) (lemma : Theorem) (theta : List (Option Tree)) (side : RulePattern) (sort : ℕ) (t : Tree) (p : Pattern) → CanApply cx r lemma theta
-    → HasSort cx.program.sig r.variables side sort → instance_of theta side ≡ Some t → image_of cx.program.sig cx.names (ground_pattern t) ≡ Some p → HasNoVariable p × HasNoMeta p
-side_closed cx r lemma theta side sort t p can sorted makes image =
-    closed_term cx.program.sig cx.names t sort p can.well_sorted.signature
-    (instance_is_sorted cx.program.sig r.variables side sort theta t sorted can.respects makes).0 image
+side_has_image : (cx : Context) (r : RewriteRule) (lemma : Theorem) (theta : List (Option Tree)) (side : RulePattern) (sort : ℕ) → CanApply cx r lemma theta → HasSort cx.program.sig r.variables side sort
+    → HasImage cx.program.sig (length r.variables) side
+side_has_image cx r lemma theta side sort can sorted = sorted_has_image cx.program.sig r.variables side sort can.well_sorted.signature sorted
 
--- The lemma at these images says that the instance of the left side makes a step to that of the right side.
-pub step_says : (cx : Context) (r : RewriteRule) (lemma : Theorem) (theta : List (Option Tree)) (qs : List Pattern) (ts : List Theorem) (a b : Tree) (p : Pattern) → Applied cx r lemma theta qs ts
-    → instance_of theta r.left ≡ Some a → instance_of theta r.right ≡ Some b → p ≡ instance qs lemma.conclusion → SaysStep cx a b p
-step_says cx r lemma theta qs ts a b p w from to is =
+side_image : (cx : Context) (r : RewriteRule) (lemma : Theorem) (theta : List (Option Tree)) (qs : List Pattern) (ts : List Theorem) (side : RulePattern) (sort : ℕ) (image : Pattern) → Applied cx r lemma theta qs ts
+    → HasSort cx.program.sig r.variables side sort → image_of cx.program.sig cx.names side ≡ Some image → image_of cx.program.sig cx.names (filled theta side) ≡ Some (instance qs (with_metas image))
+side_image cx r lemma theta qs ts side sort image w sorted is =
+    filled_image cx.program.sig cx.names theta qs (length r.variables) side (images_are cx theta qs w.images) (each_bound cx r lemma theta w.can) (side_has_image cx r lemma theta side sort w.can sorted) image is
+
+side_closed : (cx : Context) (r : RewriteRule) (lemma : Theorem) (theta : List (Option Tree)) (side : RulePattern) (sort : ℕ) (q : Pattern) → CanApply cx r lemma theta
+    → HasSort cx.program.sig r.variables side sort → image_of cx.program.sig cx.names (filled theta side) ≡ Some q → HasNoVariable q
+side_closed cx r lemma theta side sort q can sorted image =
+    filled_closed cx.program.sig cx.names theta (length r.variables) side q can.well_sorted.signature (each_bound cx r lemma theta can) (side_has_image cx r lemma theta side sort can sorted) image
+
+-- The lemma at these images says that the left side, with terms in the places of its variables, makes a step to the
+-- right side.
+pub filled_says : (cx : Context) (r : RewriteRule) (lemma : Theorem) (theta : List (Option Tree)) (qs : List Pattern) (ts : List Theorem) (p : Pattern) → Applied cx r lemma theta qs ts
+    → p ≡ instance qs lemma.conclusion → SaysFilled cx theta r.left r.right p
+filled_says cx r lemma theta qs ts p w is =
     let can : CanApply cx r lemma theta = w.can in
     let left : Pattern = instance qs (with_metas can.schema.left) in
     let right : Pattern = instance qs (with_metas can.schema.right) in
-    let images : AreImages cx.program.sig cx.names theta qs = images_are cx theta qs w.images in
-    let left_image : image_of cx.program.sig cx.names (ground_pattern a) ≡ Some left =
-    side_image cx theta qs r.left can.schema.left a images (plain_rule r can.plain).left can.schema.left_image from in
-    let right_image : image_of cx.program.sig cx.names (ground_pattern b) ≡ Some right =
-    side_image cx theta qs r.right can.schema.right b images (plain_rule r can.plain).right can.schema.right_image to in
-    let left_closed : HasNoVariable left × HasNoMeta left = side_closed cx r lemma theta r.left can.left.0 a left can can.left.1 from left_image in
-    let right_closed : HasNoVariable right × HasNoMeta right = side_closed cx r lemma theta r.right can.right.0 b right can can.right.1 to right_image in
+    let left_image : image_of cx.program.sig cx.names (filled theta r.left) ≡ Some left =
+    side_image cx r lemma theta qs ts r.left can.left.0 can.schema.left w can.left.1 can.schema.left_image in
+    let right_image : image_of cx.program.sig cx.names (filled theta r.right) ≡ Some right =
+    side_image cx r lemma theta qs ts r.right can.right.0 can.schema.right w can.right.1 can.schema.right_image in
     record {
       from = left;
       from_image = left_image;
       to = right;
       to_image = right_image;
       says = is ∙ ap (instance qs) can.schema.says;
-      no_variable = (left_closed.0, right_closed.0);
-      no_meta = (left_closed.1, right_closed.1);
+      no_variable = (side_closed cx r lemma theta r.left can.left.0 left can can.left.1 left_image, side_closed cx r lemma theta r.right can.right.0 right can can.right.1 right_image);
     }

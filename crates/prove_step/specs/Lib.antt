@@ -5,4 +5,5 @@ pub mod Steps
 pub mod Schemas
 pub mod RuleLemmas
 pub mod Applying
+pub mod Normalizing
 pub mod ProverView

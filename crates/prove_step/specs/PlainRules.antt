@@ -1,17 +1,17 @@
--- The rules whose steps are proved as yet: without a condition, and built of variables, domain values and constructors.
+-- The rules whose steps are proved as yet: without a condition, and without calls of functions.
 use Rattle.std.specs.Prelude.{ℕ, ◌+◌, ◌-◌, ◌^◌, ◌==◌, ◌&&◌, ◌||◌, Bool, true, false, nat_le}
 use Rattle.std.specs.Prelude.{List, [], ◌∷◌, length, Option, Some, None}
 use Rattle.term_core.specs.Patterns.{Pattern, Patterns, variable, domain_value, application, injection, call}
 use Rattle.term_core.specs.Patterns.{no_pattern, more_patterns}
 use Rattle.rule_core.specs.Rules.{RewriteRule}
 
--- no injection and no call stands in the pattern
+-- no function is called in the pattern
 abbrev mutual
   pub is_plain : Pattern → Bool
   is_plain (variable x) = true
   is_plain (domain_value s v) = true
   is_plain (application f ps) = are_plain ps
-  is_plain (injection a b p) = false
+  is_plain (injection a b p) = is_plain p
   is_plain (call f ss ps) = false
 
   pub are_plain : Patterns → Bool

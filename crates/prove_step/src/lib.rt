@@ -1,7 +1,9 @@
-// One step of a run as a theorem: the rule that applies is a lemma, made once, and the step is its instance.
+// One step of a run as a theorem: the rule that applies is a lemma, made once, and the step is its instance, in which
+// injections that meet are made one.
 #![tactic(auto)]
 
 mod applying;
+mod normalizing;
 mod plain;
 mod prover;
 mod schemas;

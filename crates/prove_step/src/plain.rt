@@ -1,4 +1,4 @@
-// Patterns and rules without injections, calls and conditions.
+// Patterns and rules without calls and conditions.
 ghost use Rattle.std.specs.Prelude.{◌≡◌};
 ghost use Rattle.term_core.specs.RulePatterns.{plain_pattern};
 ghost use Rattle.term_core.specs.PatternLists.{plain_patterns};
@@ -23,7 +23,7 @@ fn uses_variables(rule: &Rule) -> bool
     rule.vars.len() <= u32::MAX as usize && uses_each(&rule.vars, &rule.left)
 }
 
-/// Whether no injection and no call stands in a pattern.
+/// Whether no function is called in a pattern.
 #[cycle(plain)]
 pub fn is_plain(pat: &RulePat) -> bool
     ensures { result ≡ is_plain (plain_pattern pat.now) }
@@ -31,7 +31,8 @@ pub fn is_plain(pat: &RulePat) -> bool
     match pat {
         RulePat::Var(_) | RulePat::Value(..) => true,
         RulePat::Ctor(_, args) => are_plain(args),
-        RulePat::Inj(..) | RulePat::Call(..) => false,
+        RulePat::Inj(_, _, below) => is_plain(below),
+        RulePat::Call(..) => false,
     }
 }
 

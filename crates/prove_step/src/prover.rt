@@ -1,20 +1,27 @@
 // Steps of a program's runs as theorems.
-ghost use Rattle.std.specs.Prelude.{◌≡◌, ◌<◌, ◌∷◌, ◌++◌, ◌^◌, [], length, replicate, IfOk, OnOk, OnErr, Some, None};
+ghost use Rattle.std.specs.Prelude.{◌≡◌, ◌<◌, ◌∷◌, ◌++◌, ◌^◌, ℕ, List, [], length, replicate};
+ghost use Rattle.std.specs.Prelude.{IfOk, IfSome, OnOk, OnErr, Some, None};
+ghost use Rattle.term_core.specs.Patterns.{FitsWithin};
 ghost use Rattle.term_core.specs.RulePatterns.{plain_pattern};
 ghost use Rattle.rule_core.specs.ProgramView.{theory_of};
-ghost use Rattle.rule_core.specs.WellSorted.{IsWellSorted};
+ghost use Rattle.rule_core.specs.Evaluation.{most_height};
+ghost use Rattle.rule_core.specs.Matching.{RespectsSorts};
+ghost use Rattle.rule_core.specs.Sorting.{HasSort};
+ghost use Rattle.rule_core.specs.WellSorted.{IsSignature, IsWellSorted};
 ghost use Rattle.ml_image.specs.Images.{image_of};
 ghost use Rattle.ml_image.specs.HasImages.{HasImage};
 ghost use Rattle.prove_term.specs.Contexts.{HasGrown, IsLemmaIn, StaysIn, new_context};
+ghost use Rattle.prove_term.specs.EqualImages.{SaysEqualImages};
 ghost use Rattle.prove_term.specs.RuleAxioms.{HasImageAt};
-ghost use Rattle.prove_step.specs.Steps.{MatchesAt, SaysStepAt, IsPlainAt};
+ghost use Rattle.prove_step.specs.Steps.{MakesAt, MatchesAt, SaysStepAt, IsPlainAt};
 ghost use Rattle.prove_step.specs.RuleLemmas.{IsLemmaOf, IsRuleLemma};
 
 use crate::applying::applied;
+use crate::normalizing::normalized;
 use crate::schemas::rule_schema;
 use ml_kernel::{Lemma, Thm};
 use ml_pat::MPat;
-use prove_term::Cx;
+use prove_term::{Cx, inj_eq};
 use rule_core::Program;
 use std::alloc::{AllocError, Global};
 use std::marker::Model;
@@ -76,6 +83,27 @@ impl<'p> Prover<'p> {
         self.cx.image(alloc, pat)
     }
 
+    /// That the image of a pattern, with the images of a substitution's terms in the places of its variables, equals
+    /// that of the term that the pattern becomes. Where no two injections meet both are the same, and there is no
+    /// theorem. `AllocError` says that memory was wanting; the context may have grown then too.
+    pub fn inj_eq(
+        &mut self,
+        alloc: Global,
+        pat: &RulePat,
+        subst: &Subst,
+    ) -> Result<Option<Thm>, AllocError>
+        requires signature { IsSignature self.old.program.sig }
+        requires sorted { (variables : List ℕ) × (sort : ℕ)
+            × HasSort self.old.program.sig variables (plain_pattern pat.now) sort
+            × RespectsSorts self.old.program.sig variables subst.now }
+        requires fits { FitsWithin most_height subst.now (plain_pattern pat.now) }
+        ensures says { IfOk result (SaysEqualImages self.new subst.now (plain_pattern pat.now)) }
+        ensures stays { IfOk result (λ o. IfSome o (StaysIn self.new)) }
+        ensures grown { HasGrown self.old self.new }
+    {
+        inj_eq(alloc, &mut self.cx, pat, subst)
+    }
+
     /// Keeps a theorem as a lemma: it stays in the context but for its own hypotheses. `AllocError` says that memory
     /// was wanting, and nothing changes then.
     pub fn add_lemma(&mut self, alloc: Global, thm: Thm) -> Result<(), AllocError>
@@ -93,13 +121,15 @@ impl<'p> Prover<'p> {
         requires well_sorted { IsWellSorted (theory_of self.old.program) }
         requires plain { IsPlainAt self.old.program rule }
         requires matches { MatchesAt self.old.program rule subst.now }
+        requires makes { MakesAt self.old.program rule subst.now }
         ensures says { IfOk result (λ thm. SaysStepAt self.new rule subst.now thm.conclusion) }
         ensures no_hypotheses { IfOk result (λ thm. thm.hypotheses ≡ []) }
         ensures stays { IfOk result (StaysIn self.new) }
         ensures grown { HasGrown self.old self.new }
     {
         let lemma = self.rule_lemma(alloc, rule)?;
-        applied(alloc, &mut self.cx, &lemma, subst)
+        let written = applied(alloc, &mut self.cx, &lemma, subst)?;
+        normalized(alloc, &mut self.cx, rule, subst, written)
     }
 
     // The lemma of a rule, which is made when it is first asked for.

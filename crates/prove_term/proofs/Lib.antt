@@ -8,6 +8,7 @@ pub mod ConstructingLaws
 pub mod ContextLaws
 pub mod ElementLaws
 pub mod ElementLoop
+pub mod FillingLaws
 pub mod Hypotheses
 pub mod ImageShapes
 pub mod InjectedElements

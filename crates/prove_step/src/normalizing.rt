@@ -1,0 +1,95 @@
+// The step of a rule as it is written, carried to terms in which no two injections meet.
+ghost use Rattle.std.specs.Prelude.{◌∷◌, [], IfOk, Some};
+ghost use Rattle.ml_pat.specs.Patterns.{var};
+ghost use Rattle.ml_scope.specs.Scopes.{StaysWithin};
+ghost use Rattle.rule_core.specs.ProgramView.{theory_of};
+ghost use Rattle.rule_core.specs.WellSorted.{IsWellSorted};
+ghost use Rattle.prove_term.specs.Contexts.{HasGrown, StaysIn};
+ghost use Rattle.prove_step.specs.Applying.{SaysFilledAt};
+ghost use Rattle.prove_step.specs.Normalizing.{CanTurnLeft, CanTurnRight, StaysTurned, TurnsLeft, TurnsRight};
+ghost use Rattle.prove_step.specs.Steps.{MakesAt, MatchesAt, SaysStepAt};
+
+use ml_derived::carry;
+use ml_kernel::Thm;
+use ml_pat::{MForm, MPat, VarNo};
+use prove_term::{Cx, inj_eq};
+use std::alloc::{AllocError, Global};
+use term_core::Subst;
+
+// The variable that marks the place in the contexts made here.
+const HOLE: VarNo = VarNo(0);
+
+// The step by a rule, from the theorem that says it of the rule's sides with terms in the places of the variables.
+pub(crate) fn normalized(
+    alloc: Global,
+    cx: &mut Cx<'_>,
+    rule: u32,
+    subst: &Subst,
+    written: Thm,
+) -> Result<Thm, AllocError>
+    requires well_sorted { IsWellSorted (theory_of cx.old.program) }
+    requires matches { MatchesAt cx.old.program rule subst.now }
+    requires makes { MakesAt cx.old.program rule subst.now }
+    requires says { SaysFilledAt cx.old rule subst.now written.conclusion }
+    requires stays { StaysIn cx.old written }
+    ensures says { IfOk result (λ thm. SaysStepAt cx.new rule subst.now thm.conclusion) }
+    ensures stays { IfOk result (StaysIn cx.new) }
+    ensures grown { HasGrown cx.old cx.new }
+{
+    let sides = &cx.program().rules[rule as usize];
+    let left = inj_eq(alloc, cx, &sides.left, subst)?;
+    let right = inj_eq(alloc, cx, &sides.right, subst)?;
+    let from = left_turned(alloc, &left, written)?;
+    right_turned(alloc, &right, from)
+}
+
+// The step from what its left side is turned into.
+fn left_turned(alloc: Global, equality: &Option<Thm>, step: Thm) -> Result<Thm, AllocError>
+    requires { CanTurnLeft equality.now step }
+    ensures conclusion { IfOk result (TurnsLeft equality.now step) }
+    ensures stays { IfOk result (StaysTurned equality.now step) }
+{
+    match equality {
+        Some(e) => from_other(alloc, e, &step),
+        None => Ok(step),
+    }
+}
+
+// The step to what its right side is turned into.
+fn right_turned(alloc: Global, equality: &Option<Thm>, step: Thm) -> Result<Thm, AllocError>
+    requires { CanTurnRight equality.now step }
+    ensures conclusion { IfOk result (TurnsRight equality.now step) }
+    ensures stays { IfOk result (StaysTurned equality.now step) }
+{
+    match equality {
+        Some(e) => to_other(alloc, e, &step),
+        None => Ok(step),
+    }
+}
+
+// `q -> next r`, from `p = q` and `p -> next r`.
+fn from_other(alloc: Global, e: &Thm, step: &Thm) -> Result<Thm, AllocError>
+    requires { CanTurnLeft (Some e.now) step.now }
+    ensures conclusion { IfOk result (TurnsLeft (Some e.now) step.now) }
+    ensures stays { IfOk result (StaysWithin (var 0 ∷ []) (e.now ∷ step.now ∷ [])) }
+{
+    let MForm::Imp(_, after) = step.conclusion().form() else {
+        unreachable!()
+    };
+    let context = MPat::imp(alloc, &MPat::var(alloc, HOLE)?, after)?;
+    carry(alloc, e, &context, HOLE, step)
+}
+
+// `p -> next q`, from `r = q` and `p -> next r`.
+fn to_other(alloc: Global, e: &Thm, step: &Thm) -> Result<Thm, AllocError>
+    requires { CanTurnRight (Some e.now) step.now }
+    ensures conclusion { IfOk result (TurnsRight (Some e.now) step.now) }
+    ensures stays { IfOk result (StaysWithin (var 0 ∷ []) (e.now ∷ step.now ∷ [])) }
+{
+    let MForm::Imp(before, _) = step.conclusion().form() else {
+        unreachable!()
+    };
+    let place = MPat::next(alloc, &MPat::var(alloc, HOLE)?)?;
+    let context = MPat::imp(alloc, before, &place)?;
+    carry(alloc, e, &context, HOLE, step)
+}
