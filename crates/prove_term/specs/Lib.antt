@@ -5,6 +5,7 @@ pub mod Functional
 pub mod RuleAxioms
 pub mod Filling
 pub mod EqualImages
+pub mod Values
 -- Private: what clauses of private functions cite, and how private fields are seen.
 pub mod Schemas
 pub mod Falling
