@@ -16,7 +16,7 @@ use crate::congruence::taken_apart;
 use crate::context::Cx;
 use ml_kernel::Thm;
 use std::alloc::{AllocError, Global};
-use term_core::{RulePat, Subst, SymId, Term, pattern_of};
+use term_core::{RulePat, SortId, Subst, SymId, Term, pattern_of};
 
 /// That a function of patterns, with a substitution's terms in the places of their variables, equals the function of
 /// the terms that the patterns become. Both are literally the same where no two injections meet, and then there is no
@@ -54,7 +54,8 @@ fn called(alloc: Global, function: SymId, terms: &[Term]) -> Result<RulePat, All
     ensures { IfOk result (λ p. plain_pattern p ≡ call function.0 [] (ground_patterns (forest terms.now))) }
 {
     let args = patterns(alloc, terms)?;
-    Ok(RulePat::Call(function, Vec::new(alloc), args))
+    let sorts: Vec<SortId> = Vec::new(alloc);
+    Ok(RulePat::Call(function, sorts, args))
 }
 
 // The patterns of terms.
