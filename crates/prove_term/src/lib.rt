@@ -5,16 +5,19 @@
 // stays in the context as it is afterwards, and contexts only grow (`StaysIn`, `HasGrown`).
 #![tactic(auto, using(crate::proofs::ContextLaws::grown_twice, crate::proofs::ContextLaws::grown_none))]
 
+mod calls;
 mod comparing;
 mod congruence;
 mod constructors;
 mod context;
 mod elements;
+mod equations;
 mod injections;
 mod joining;
 mod schemas;
 mod values;
 
+pub use calls::call_eq;
 pub use comparing::inj_eq;
 pub use context::Cx;
 pub use elements::fun_of;
