@@ -15,7 +15,7 @@ use Rattle.ml_image.proofs.ImageLaws.{none_some}
 use Rattle.prove_term.specs.Contexts.{Context, HasGrown}
 use Rattle.prove_term.specs.Functional.{SaysFunctional}
 use Rattle.prove_term.proofs.ContextLaws.{image_grown, stays_grown}
-use Rattle.prove_schema.specs.Elements.{IsBound, AllBound, IsElementOf, IsElementFor, AreElementsFor}
+use Rattle.prove_schema.specs.Elements.{IsBound, AllBound, AreTerms, IsElementOf, IsElementFor, AreElementsFor}
 use Rattle.prove_schema.proofs.UsingLaws.{zip_push}
 
 pub pattern_grown : (old new : Context) (a : RulePattern) (p : Pattern) → HasGrown old new → image_of old.program.sig old.names a ≡ Some p → image_of new.program.sig new.names a ≡ Some p
@@ -79,3 +79,8 @@ one_more_term old new us i u ts t low is g before here =
 
 pub bound_grown : (old new : Context) (theta : List (Option Tree)) (x : ℕ) → HasGrown old new → AllBound old.program.sig theta → x < length theta → IsBound new.program.sig theta x
 bound_grown old new theta x g each low = subst (λ (p : Program). IsBound p.sig theta x) (sym g.program) (each x low)
+
+pub term_sorted : (old new : Context) (us : List Tree) (i : ℕ) (u : Tree) → HasGrown old new → AreTerms old.program.sig us → i < length us → u ≡ get_or us i u → (sort : ℕ) × IsTermOf new.program.sig u sort
+term_sorted old new us i u g each low is =
+    subst (λ (p : Program). (sort : ℕ) × IsTermOf p.sig u sort) (sym g.program)
+    (subst (λ (v : Tree). (sort : ℕ) × IsTermOf old.program.sig v sort) (sym is) (each i u low))

@@ -6,3 +6,4 @@ pub mod OpeningLaws
 pub mod InstanceLaws
 pub mod UsingLaws
 pub mod ElementLaws
+pub mod SentenceLaws

@@ -6,10 +6,10 @@
 // (specs/Using.antt); `elements` gives those on sorts for what a substitution gives the variables.
 #![tactic(auto)]
 
-mod elements;
+mod bindings;
 mod opening;
 mod using;
 
-pub use elements::{elements, term_elements};
+pub use bindings::{elements, term_elements};
 pub use opening::{schema, without_condition};
 pub use using::schema_at;
