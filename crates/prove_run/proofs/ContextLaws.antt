@@ -20,8 +20,8 @@ use Rattle.mm_claims.specs.Keeping.{Fits}
 use Rattle.mm_claims.specs.LaterLaws.{FitsLater}
 use Rattle.mm_justify.specs.Justifying.{HasOnlyAxiomsOf}
 use Rattle.prove_term.specs.Contexts.{Context, HasGrown}
-use Rattle.prove_step.specs.Schemas.{IsOpenFrom}
-use Rattle.prove_step.proofs.SchemaLaws.{open_no_variable, open_closed, image_is_open}
+use Rattle.prove_schema.specs.Schemas.{IsOpenFrom}
+use Rattle.prove_schema.proofs.OpenLaws.{open_no_variable, open_closed, image_is_open}
 use Rattle.proof_writer.specs.declared.writer.Writer.{Writer}
 use Rattle.proof_writer.specs.Writing.{HasNoVariables, HasWritten, HasWrittenAll, IsTextOf}
 

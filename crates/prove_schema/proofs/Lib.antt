@@ -7,3 +7,4 @@ pub mod InstanceLaws
 pub mod UsingLaws
 pub mod ElementLaws
 pub mod SentenceLaws
+pub mod BindingLaws

@@ -1,6 +1,6 @@
 -- The image of a rule without a condition, and what it becomes at pattern variables.
-use Rattle.std.proofs.Common.{◌≡◌, ◌+◌, ℕ, true, List, [], ◌∷◌, Option, Some, None, option_map, length, refl, sym, ◌∙◌, ap, subst, arith}
-use Rattle.ml_pat.specs.Patterns.{Pattern, top, imp, and, fun, next, meta}
+use Rattle.std.proofs.Common.{◌≡◌, ℕ, true, List, Option, Some, None, option_map, length, refl, sym, ◌∙◌, ap, subst}
+use Rattle.ml_pat.specs.Patterns.{Pattern, top, imp, and, next}
 use Rattle.term_core.specs.Patterns.{Pattern as RulePattern}
 use Rattle.rule_core.specs.Rules.{RewriteRule}
 use Rattle.rule_core.specs.declared.signature.Signature.{Signature}
@@ -11,11 +11,11 @@ use Rattle.ml_image.specs.Sentences.{Sentence, sentence_image, IsImageOf, for_al
 use Rattle.ml_image.specs.Sentences as says
 use Rattle.ml_image.proofs.ImageLaws.{none_some, some_same}
 use Rattle.prove_step.specs.PlainRules.{is_plain_rule}
-use Rattle.ml_derived.specs.Instances.{IsInstance}
-use Rattle.prove_step.specs.Schemas.{with_metas, IsOpenFrom, closed, meta_facts, facts_of, AreNumbers}
+use Rattle.prove_schema.specs.Schemas.{IsOpenFrom, closed, IsSentence}
+use Rattle.prove_schema.proofs.OpenLaws.{image_is_open}
+use Rattle.prove_schema.proofs.ClosingLaws.{IsClosed, closed_image, numbers_length}
+use Rattle.prove_step.specs.RuleLemmas.{AreNumbers}
 use Rattle.prove_step.proofs.PlainLaws.{plain_rule}
-use Rattle.prove_step.proofs.SchemaLaws.{image_is_open}
-use Rattle.prove_step.proofs.ClosingLaws.{IsClosed, closed_image, schema_instance, numbers_length}
 
 -- what is the left side makes a step to the right side
 abbrev pub body_of : Pattern → Pattern → Pattern
@@ -74,20 +74,6 @@ plain_image sig names r p plain has (s, rule, image) =
       );
     }
 
-closed_facts : (k : ℕ) (ns : List ℕ) (p : Pattern) → facts_of p ≡ [] → facts_of (closed k ns p) ≡ meta_facts k ns
-closed_facts k [] p none = none
-closed_facts k (n ∷ ns) p none = ap (λ (ps : List Pattern). fun (meta k) n ∷ ps) (closed_facts (k + 1) ns p none)
-
--- the quantifiers in front of the image are those of the rule's variables
-pub image_facts : (sig : Signature) (names : List (List ℕ)) (r : RewriteRule) (p : Pattern) (i : IsPlainImage sig names r p) → facts_of p ≡ meta_facts 0 i.numbers
-image_facts sig names r p i = ap facts_of i.says ∙ closed_facts 0 i.numbers (body_of i.left i.right) refl
-
--- its instance at pattern variables
-pub image_instance : (sig : Signature) (names : List (List ℕ)) (r : RewriteRule) (p : Pattern) (i : IsPlainImage sig names r p) →
-    IsInstance p (facts_of p) (body_of (with_metas i.left) (with_metas i.right))
-image_instance sig names r p i =
-    let zero_more : 0 + length i.numbers ≡ length i.numbers = omega arith in
-    let closed_one : IsInstance (closed 0 i.numbers (body_of i.left i.right)) (meta_facts 0 i.numbers) (body_of (with_metas i.left) (with_metas i.right)) =
-    schema_instance 0 (length i.numbers) i.numbers (body_of i.left i.right) zero_more i.is_open in
-    subst (λ (fs : List Pattern). IsInstance p fs (body_of (with_metas i.left) (with_metas i.right))) (sym (image_facts sig names r p i))
-    (subst (λ (q : Pattern). IsInstance q (meta_facts 0 i.numbers) (body_of (with_metas i.left) (with_metas i.right))) (sym i.says) closed_one)
+-- the image says the body of all elements of the sorts of the rule's variables
+pub image_sentence : (sig : Signature) (names : List (List ℕ)) (r : RewriteRule) (p : Pattern) (i : IsPlainImage sig names r p) → IsSentence i.numbers (body_of i.left i.right) p
+image_sentence sig names r p i = record { says = i.says; is_open = i.is_open }

@@ -1,7 +1,4 @@
 pub mod PlainLaws
-pub mod SchemaLaws
-pub mod ClosingLaws
-pub mod ScopeLaws
 pub mod AxiomLaws
 pub mod GrowthLaws
 pub mod LemmaLaws

@@ -1,5 +1,5 @@
 -- A step as it is written, and the same step between normal terms.
-use Rattle.std.proofs.Common.{◌≡◌, ◌≤◌, ℕ, List, [], ◌∷◌, Option, Some, None, slice_get, get_or, refl, sym, ◌∙◌, ap, subst}
+use Rattle.std.proofs.Common.{◌≡◌, ◌≤◌, ℕ, List, Option, Some, None, slice_get, get_or, refl, sym, ◌∙◌, ap, subst}
 use Rattle.std.specs.Prelude.{IsSomeAnd, IfSome}
 use Rattle.ml_pat.specs.Patterns.{Pattern, imp, equal, next, var}
 use Rattle.ml_pat.specs.Judgements.{substituted}
@@ -31,7 +31,7 @@ use Rattle.prove_term.proofs.KeptLaws.{rule_found}
 use Rattle.prove_step.specs.Applying.{SaysFilled, SaysFilledAt}
 use Rattle.prove_step.specs.Normalizing.{Turns, CanTurnLeft, CanTurnRight, TurnsLeft, TurnsRight, StaysTurned}
 use Rattle.prove_step.specs.Steps.{MakesAt, MatchesAt, SaysStep, SaysStepAt}
-use Rattle.prove_step.proofs.GrowthLaws.{pattern_grown}
+use Rattle.prove_schema.proofs.ElementLaws.{pattern_grown}
 use Rattle.prove_step.proofs.ProverLaws.{rule_listed, sorted_rule}
 use Rattle.prove_step.proofs.StepLaws.{closed_term}
 

@@ -1,5 +1,5 @@
 -- Plain patterns and rules.
-use Rattle.std.proofs.Common.{◌≡◌, ◌<◌, ◌+◌, ℕ, Bool, true, false, zero, suc, List, [], ◌∷◌, Option, Some, None, option_map, length, drop, inl, inr, refl, sym, ◌∙◌, ap, subst, arith}
+use Rattle.std.proofs.Common.{◌≡◌, ◌<◌, ◌+◌, ℕ, Bool, true, false, zero, suc, List, [], ◌∷◌, Option, Some, None, length, drop, inl, inr, refl, sym, ◌∙◌, ap, subst, arith}
 use Rattle.std.specs.Prelude.{◌⊎◌, ◌≤◌, ◌-◌, ◌^◌, ◌&&◌, ◌||◌, nat_le}
 use Rattle.std.proofs.lemmas.Bool.{eqb-true, leb-true}
 use Rattle.std.proofs.lemmas.List.{drop_more}
@@ -7,7 +7,7 @@ use Rattle.ml_pat.proofs.LeafLaws.{split_true}
 use Rattle.term_core.specs.Patterns.{Pattern, Patterns, variable, domain_value, application, injection, call, no_pattern, more_patterns}
 use Rattle.rule_core.specs.Rules.{RewriteRule}
 use Rattle.rule_core.specs.Matching.{StandsIn, StandsInSome}
-use Rattle.prove_step.specs.PlainRules.{is_plain, are_plain, stands_in, stands_in_some, uses_each, uses_variables, is_missing, is_plain_rule}
+use Rattle.prove_step.specs.PlainRules.{is_plain, stands_in, stands_in_some, uses_each, uses_variables, is_missing, is_plain_rule}
 
 false_true : false ≡ true → ⊥
 false_true h = cc

@@ -24,7 +24,8 @@ use Rattle.prove_term.proofs.ContextLaws.{grown_none, grown_lemma}
 use Rattle.prove_step.specs.PlainRules.{is_plain_rule}
 use Rattle.prove_step.specs.Steps.{MatchesAt, IsPlainAt}
 use Rattle.prove_step.specs.RuleLemmas.{IsRuleLemma, IsLemmaOf, SaysSchemaAt, AreRuleLemmas}
-use Rattle.prove_step.specs.Applying.{CanApply, IsBound, SaysApplied, SaysFilledAt}
+use Rattle.prove_schema.specs.Elements.{IsBound}
+use Rattle.prove_step.specs.Applying.{CanApply, SaysApplied, SaysFilledAt}
 use Rattle.prove_step.proofs.PlainLaws.{plain_rule, rule_uses}
 use Rattle.prove_step.proofs.GrowthLaws.{lemma_of_grown, schema_at_grown}
 

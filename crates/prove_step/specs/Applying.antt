@@ -1,28 +1,23 @@
 -- Where the lemma of a rule is used: what stands for the rule's variables, and what is proved of it.
-use Rattle.std.specs.Prelude.{◌≡◌, ◌<◌, ℕ, true, List, length, Option, Some, None, Contains, slice_get}
-use Rattle.ml_pat.specs.Patterns.{Pattern, imp, fun, next, meta}
+use Rattle.std.specs.Prelude.{◌≡◌, ℕ, true, List, length, Option, Some, Contains, slice_get}
+use Rattle.ml_pat.specs.Patterns.{Pattern, imp, next}
 use Rattle.ml_kernel.specs.Theorems.{Theorem}
 use Rattle.term_core.specs.Terms.{Tree}
-use Rattle.term_core.specs.Patterns.{Pattern as RulePattern, binding, ground_pattern}
+use Rattle.term_core.specs.Patterns.{Pattern as RulePattern}
 use Rattle.term_core.specs.RulePatterns.{plain_pattern}
 use Rattle.rule_core.specs.Rules.{RewriteRule}
-use Rattle.rule_core.specs.Sorting.{HasSort, IsTermOf}
+use Rattle.rule_core.specs.Sorting.{HasSort}
 use Rattle.rule_core.specs.Matching.{RespectsSorts}
 use Rattle.rule_core.specs.WellSorted.{IsWellSorted}
 use Rattle.rule_core.specs.ProgramView.{theory_of}
 use Rattle.rule_core.specs.declared.rules.Rule.{Rule}
-use Rattle.rule_core.specs.declared.signature.Signature.{Signature}
 use Rattle.ml_kernel.specs.Lemmas.{HasNoVariable}
 use Rattle.ml_image.specs.Images.{image_of}
-use Rattle.prove_term.specs.Contexts.{Context, StaysIn}
-use Rattle.prove_term.specs.Functional.{SaysFunctional}
+use Rattle.prove_term.specs.Contexts.{Context}
 use Rattle.prove_term.specs.Filling.{filled}
+use Rattle.prove_schema.specs.Elements.{AllBound}
 use Rattle.prove_step.specs.PlainRules.{is_plain_rule}
-use Rattle.prove_step.specs.RuleLemmas.{SaysOfMeta, SaysRuleSchema}
-
--- what stands for a variable is a term of a sort
-abbrev pub IsBound : Signature → List (Option Tree) → ℕ → Type 0
-IsBound sig theta x = (t : Tree) × (binding theta x ≡ Some t) × ((sort : ℕ) × IsTermOf sig t sort)
+use Rattle.prove_step.specs.RuleLemmas.{SaysRuleSchema}
 
 -- the lemma of the rule may be used with this substitution
 pub record CanApply (cx : Context) (r : RewriteRule) (lemma : Theorem) (theta : List (Option Tree)) : Type 0 where
@@ -32,29 +27,9 @@ pub record CanApply (cx : Context) (r : RewriteRule) (lemma : Theorem) (theta : 
   pub right : (sort : ℕ) × HasSort cx.program.sig r.variables r.right sort
   pub room : length theta ≡ length r.variables
   pub respects : RespectsSorts cx.program.sig r.variables theta
-  pub bound : (x : ℕ) → x < length theta → IsBound cx.program.sig theta x
+  pub bound : AllBound cx.program.sig theta
   pub schema : SaysRuleSchema cx r lemma
   pub listed : Contains cx.lemmas lemma
-
--- the pattern says of a pattern variable that it is one element of a sort, and something stands for the variable
-abbrev pub CanProve : Signature → List (Option Tree) → Pattern → Type 0
-CanProve sig theta p = (x n : ℕ) × (p ≡ fun (meta x) n) × IsBound sig theta x
-
--- the theorem says of what stands for the variable of such a pattern that it is one element of its sort
-abbrev pub Proves : Context → List (Option Tree) → Pattern → Theorem → Type 0
-Proves cx theta p t =
-    (x n : ℕ) × (u : Tree) × (p ≡ fun (meta x) n) × (binding theta x ≡ Some u) × SaysFunctional cx u t.conclusion
-    × StaysIn cx t
-
--- the theorem stands among the proofs of hypotheses, and its hypothesis says something of this pattern variable
-abbrev pub IsFactOf : List Pattern → List Theorem → ℕ → Theorem → Type 0
-IsFactOf ps ts x t =
-    (k : ℕ) × (p : Pattern) × (slice_get ps k ≡ Some p) × (slice_get ts k ≡ Some t) × SaysOfMeta x p
-
--- the pattern is the image of the term that stands for a variable, and no object variable stands in it
-abbrev pub IsImageFor : Context → Option Tree → Pattern → Type 0
-IsImageFor cx None q = ⊥
-IsImageFor cx (Some t) q = (image_of cx.program.sig cx.names (ground_pattern t) ≡ Some q) × HasNoVariable q
 
 -- the pattern says that the image of the left side, with terms in the places of its variables, makes a step to that of
 -- the right side; no object variable stands in them

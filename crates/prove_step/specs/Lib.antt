@@ -2,7 +2,6 @@
 pub mod PlainRules
 pub mod Steps
 -- Private: what clauses of private functions cite, and how private fields are seen.
-pub mod Schemas
 pub mod RuleLemmas
 pub mod Applying
 pub mod Normalizing

@@ -1,14 +1,19 @@
 -- Rules as lemmas: what a lemma of a rule says, by its pattern variables.
-use Rattle.std.specs.Prelude.{◌≡◌, ℕ, List, [], ◌∷◌, All, Contains, Option, Some, None, slice_get, slice_index_or}
+use Rattle.std.specs.Prelude.{◌≡◌, ℕ, List, All, Contains, Option, Some, None, slice_get, slice_index_or}
+use Rattle.std.specs.List.{AllZip}
 use Rattle.ml_pat.specs.Patterns.{Pattern, imp, fun, next, meta}
 use Rattle.ml_kernel.specs.Theorems.{Theorem}
-use Rattle.ml_scope.specs.Scopes.{AssumesWithin}
 use Rattle.rule_core.specs.Rules.{RewriteRule}
 use Rattle.rule_core.specs.ProgramView.{rewrite_rule}
 use Rattle.rule_core.specs.declared.rules.Rule.{Rule}
-use Rattle.ml_image.specs.Images.{image_of}
+use Rattle.rule_core.specs.declared.signature.Signature.{Signature}
+use Rattle.ml_image.specs.Images.{image_of, sort_image}
 use Rattle.prove_term.specs.Contexts.{Context}
-use Rattle.prove_step.specs.Schemas.{with_metas, AreNumbers}
+use Rattle.prove_schema.specs.Schemas.{with_metas}
+
+-- the numbers of these sorts, in order
+abbrev pub AreNumbers : Signature → List (List ℕ) → List ℕ → List ℕ → Type 0
+AreNumbers sig names ss ns = AllZip (λ (s n : ℕ). sort_image sig names s ≡ Some n) ss ns
 
 -- the pattern says that one of the pattern variables is one element of the sort with its number
 abbrev pub IsMetaFact : List ℕ → Pattern → Type 0
@@ -34,15 +39,6 @@ SaysSchemaAt cx i t =
 -- a lemma of the context, by its number, is that of the rule at this place
 abbrev pub IsLemmaOf : Context → ℕ → ℕ → Type 0
 IsLemmaOf cx i k = (t : Theorem) × (slice_get cx.lemmas k ≡ Some t) × SaysSchemaAt cx i t
-
--- each theorem says no more than what it assumes
-abbrev pub AreAssumptions : List Theorem → Type 0
-AreAssumptions [] = Unit {0}
-AreAssumptions (t ∷ ts) = AssumesWithin t.conclusion t × AreAssumptions ts
-
--- the pattern says that a pattern variable is one element of a sort
-abbrev pub SaysOfMeta : ℕ → Pattern → Type 0
-SaysOfMeta x p = (n : ℕ) × (p ≡ fun (meta x) n)
 
 -- the theorem is a lemma of the context, that of the rule at this place
 abbrev pub IsRuleLemma : Context → ℕ → Theorem → Type 0

@@ -8,7 +8,7 @@ use Rattle.prove_term.specs.Contexts.{Context, HasGrown, StaysIn}
 use Rattle.prove_term.proofs.ContextLaws.{grown_twice}
 use Rattle.prove_step.specs.Steps.{MakesAt, MatchesAt}
 use Rattle.prove_step.specs.RuleLemmas.{IsRuleLemma}
-use Rattle.prove_step.proofs.ScopeLaws.{stays_no_hypotheses}
+use Rattle.prove_schema.proofs.ScopeLaws.{stays_no_hypotheses}
 use Rattle.prove_step.proofs.ProverLaws.{plain_has_image, can_step_at, applied_sides, rule_lemmas_grown, rules_kept}
 use Rattle.prove_step.proofs.prover.Prover.step.Goals as goal
 

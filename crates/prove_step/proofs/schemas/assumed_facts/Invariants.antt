@@ -1,9 +1,0 @@
-use Rattle.std.proofs.Common.{◌≡◌, ◌++◌}
-use Rattle.ml_kernel.specs.Theorems.{conclusions}
-use Rattle.prove_step.specs.Schemas.{facts_of}
-use Rattle.prove_step.specs.RuleLemmas.{AreAssumptions}
-use Rattle.prove_step.proofs.schemas.assumed_facts.Given as goal
-
-abbrev pub invariant-loop-x : goal.invariant-loop-x
-invariant-loop-x l =
-    AreAssumptions l.facts.items × (conclusions l.facts.items ++ facts_of l.rest ≡ facts_of l.fn.sentence)
