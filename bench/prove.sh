@@ -27,6 +27,42 @@ cat > "$work/turn.kore" << 'END'
 endmodule []
 END
 echo "t{}(n{}(p{}(),q{}()),n{}(q{}(),p{}()),n{}(p{}(),p{}()))" > "$work/turn.term"
+# Rules under which two injections meet in either side, on a configuration with a list of numbers, which stays: at once
+# below the root, and below five symbols. The third definition is the same without meeting injections.
+subsort() {
+    echo "  axiom{R} \\exists{R}(V:$2{},\\equals{$2{},R}(V:$2{},inj{$1{},$2{}}(W:$1{}))) [subsort{$1{},$2{}}()]"
+}
+turning() {
+    echo "  axiom{} \\rewrites{T{}}(\\and{T{}}(t{}($1{}(),$3),\\top{T{}}()),\\and{T{}}(t{}($2{}(),$3),\\top{T{}}())) []"
+}
+below() { echo "w{}(w{}(w{}(w{}(w{}($1)))))"; }
+lists() {
+    echo '[] module LISTS'
+    echo '  hooked-sort SortInt{} [hook{}("INT.Int")]'
+    for sort in Exp Item List State W T; do echo "  sort $sort{} []"; done
+    echo '  symbol inj{From,To}(From) : To [sortInjection{}()]'
+    subsort SortInt Exp
+    subsort Exp Item
+    echo '  symbol nil{}() : List{} [constructor{}()]'
+    echo '  symbol cons{}(Item{},List{}) : List{} [constructor{}()]'
+    echo '  symbol ping{}() : State{} [constructor{}()]'
+    echo '  symbol pong{}() : State{} [constructor{}()]'
+    echo '  symbol e{}(Item{},List{}) : W{} [constructor{}()]'
+    echo '  symbol w{}(W{}) : W{} [constructor{}()]'
+    echo '  symbol t{}(State{},W{}) : T{} [constructor{}()]'
+    turning ping pong "$1"
+    turning pong ping "$1"
+    echo 'endmodule []'
+}
+number() { echo "inj{SortInt{},Item{}}(\\dv{SortInt{}}(\"$1\"))"; }
+numbers() {
+    local list='nil{}()'
+    for ((i = 0; i < $1; i++)); do list="cons{}($(number $((i % 10))),$list)"; done
+    echo "$list"
+}
+lists 'e{}(inj{Exp{},Item{}}(X:Exp{}),L:List{})' > "$work/meeting.kore"
+lists "$(below 'e{}(inj{Exp{},Item{}}(X:Exp{}),L:List{})')" > "$work/below.kore"
+lists 'e{}(K:Item{},L:List{})' > "$work/plain.kore"
 seconds() { local TIMEFORMAT=%U; { time "$@" > /dev/null || true; } 2>&1; }
 "$top/kore_prove" verify "$top/crates/print_header/stdout" > /dev/null
 for name in cycle turn; do
@@ -35,5 +71,18 @@ for name in cycle turn; do
         check=$(seconds "$top/kore_prove" verify "$work/proof.mm")
         bytes=$(wc -c < "$work/proof.mm")
         echo "$name, $steps steps: $run s with the proof, $bytes bytes ($((bytes / steps)) a step), verified in $check s"
+    done
+done
+for length in 10 100 400; do
+    part="e{}($(number 5),$(numbers "$length"))"
+    echo "t{}(ping{}(),$part)" | tee "$work/plain.term" > "$work/meeting.term"
+    echo "t{}(ping{}(),$(below "$part"))" > "$work/below.term"
+    for name in plain meeting below; do
+        for steps in 1 101; do
+            run=$(seconds "$top/kore_prove" run "$work/$name.kore" "$work/$name.term" --limit "$steps" --proof "$work/proof.mm")
+            bytes[steps]=$(wc -c < "$work/proof.mm")
+        done
+        check=$(seconds "$top/kore_prove" verify "$work/proof.mm")
+        echo "$name, $length numbers: $(((bytes[101] - bytes[1]) / 100)) bytes a step, 101 steps in $run s, verified in $check s"
     done
 done

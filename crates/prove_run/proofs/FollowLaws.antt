@@ -1,28 +1,27 @@
 -- The theorem of a step follows from what is written.
-use Rattle.std.proofs.Common.{◌≡◌, ℕ, ◌≤◌, true, List, [], ◌∷◌, ◌++◌, Some, length, inl, inr, refl, ap, ◌∙◌, sym, subst}
+use Rattle.std.proofs.Common.{◌≡◌, ℕ, ◌≤◌, true, List, [], ◌++◌, Some, length, inl, inr, refl, ap, ◌∙◌, sym, subst}
 use Rattle.std.specs.List.{list_all}
-use Rattle.std.proofs.lemmas.Bool.{false≢true}
 use Rattle.std.proofs.lemmas.List.{append_assoc}
 use Rattle.ml_pat.specs.Patterns.{Pattern, imp, next, ev}
 use Rattle.ml_kernel.specs.Theorems.{Theorem, IsByLemma}
 use Rattle.ml_kernel.specs.Lemmas.{HasNoMeta, HasNoVariable, instance}
 use Rattle.ml_kernel.proofs.InstanceLaws.{instance-empty}
-use Rattle.ml_scope.specs.Scopes.{Scope, IsOver, IsWithin}
+use Rattle.ml_scope.specs.Scopes.{IsOver, IsWithin}
 use Rattle.ml_scope.proofs.RuleLaws.{lemma_within}
-use Rattle.term_core.specs.Terms.{Tree, Forest, leaf, node, inj, no_tree, more_trees}
+use Rattle.term_core.specs.Terms.{Tree, Forest, leaf, node, inj, no_tree, more_trees, height}
 use Rattle.term_core.specs.Patterns.{Pattern as RulePattern, ground_pattern, ground_patterns}
 use Rattle.rule_core.specs.Matching.{StandsInSome}
-use Rattle.ml_pat.proofs.LeafLaws.{split_true, both_true}
+use Rattle.ml_pat.proofs.LeafLaws.{split_true}
 use Rattle.ml_derived.specs.Implications.{IsOneStepOn, ReachesOneFurther}
 use Rattle.ml_image.specs.NamingLaws.{ImageStays}
 use Rattle.mm_justify.specs.ImageLaws.{SentenceHasNoMeta}
-use Rattle.prove_term.specs.PlainTerms.{HasNoInjection, HaveNoInjection}
+use Rattle.rule_core.specs.Evaluation.{most_height}
 use Rattle.rule_core.specs.Theories.{RewriteTheory}
 use Rattle.mm_claims.specs.LaterLaws.{FitsLater}
-use Rattle.prove_step.specs.PlainRules.{is_plain, are_plain, is_plain_rule}
+use Rattle.prove_step.specs.PlainRules.{is_plain, is_plain_rule}
 use Rattle.prove_run.specs.Covered.{is_covered}
-use Rattle.std.specs.Prelude.{slice_get, Option, Contains}
-use Rattle.term_core.specs.Patterns.{instance_of}
+use Rattle.std.specs.Prelude.{slice_get, Option, Contains, IsSomeAnd}
+use Rattle.term_core.specs.Patterns.{instance_of, FitsWithin}
 use Rattle.term_core.specs.RulePatterns.{plain_pattern}
 use Rattle.term_core.specs.declared.rule_patterns.RulePat.{RulePat}
 use Rattle.rule_core.specs.FirstRule.{Matches}
@@ -32,7 +31,7 @@ use Rattle.rule_core.specs.declared.rules.Program.{Program}
 use Rattle.prove_step.specs.Steps.{SaysStep, SaysStepAt}
 use Rattle.prove_run.specs.RunProof.{RunProof, configuration, reached}
 use Rattle.prove_run.specs.Proving.{CanStep}
-use Rattle.prove_run.proofs.PlainSteps.{match_makes, right_is_plain, plain_at}
+use Rattle.prove_run.proofs.PlainSteps.{match_makes, plain_at}
 use Rattle.proof_writer.specs.declared.writer.Writer.{Writer}
 use Rattle.prove_run.specs.Reaching.{HasReached}
 use Rattle.prove_run.specs.ReachLemma.{GoesFurther}
@@ -41,8 +40,8 @@ use Rattle.ml_image.specs.Images.{image_of}
 use Rattle.ml_image.specs.Sentences.{term}
 use Rattle.mm_claims.specs.Kept.{Kept}
 use Rattle.mm_claims.specs.Places.{IsStated}
-use Rattle.prove_term.specs.Contexts.{Context, HasContext, HasGrown, StaysIn}
-use Rattle.proof_writer.specs.Writing.{HasNoVariables, HasStated, MayFollow, Begins, Adds, IsTextOf}
+use Rattle.prove_term.specs.Contexts.{Context, HasGrown, StaysIn}
+use Rattle.proof_writer.specs.Writing.{HasNoVariables, MayFollow, Begins, Adds, IsTextOf}
 
 -- a theorem without pattern variables, cited without any, says the same
 pub cited_says : (p q : Pattern) → HasNoMeta p → q ≡ instance [] p → q ≡ p
@@ -111,7 +110,7 @@ pub further_says : (old new : Context) (w : Writer) (last sofar step further : T
 further_says old new w last sofar step further start t u m reaches =
     reaches m.reached.from m.reached.to m.says.to (sofar_says old new w last sofar step start t u m) (step_says old new w last sofar step start t u m)
 
--- ---- terms without injections
+-- ---- terms without variables
 
 mutual
   pub ground_has_none : (t : Tree) → HasNoVariables (ground_pattern t)
@@ -124,35 +123,10 @@ mutual
   ground_have_none (more_trees t ts) x (inl h) = ground_has_none t x h
   ground_have_none (more_trees t ts) x (inr h) = ground_have_none ts x h
 
-mutual
-  pub plain_term : (t : Tree) → is_plain (ground_pattern t) ≡ true → HasNoInjection t
-  plain_term (leaf s v) h = tt
-  plain_term (node f ts) h = plain_terms ts h
-  plain_term (inj a b t) h = absurd (false≢true h)
-
-  plain_terms : (ts : Forest) → are_plain (ground_patterns ts) ≡ true → HaveNoInjection ts
-  plain_terms no_tree h = tt
-  plain_terms (more_trees t ts) h =
-      let parts : (is_plain (ground_pattern t) ≡ true) × (are_plain (ground_patterns ts) ≡ true) = split_true (is_plain (ground_pattern t)) (are_plain (ground_patterns ts)) h in
-      (plain_term t parts.0, plain_terms ts parts.1)
-
-mutual
-  pub term_is_plain : (t : Tree) → HasNoInjection t → is_plain (ground_pattern t) ≡ true
-  term_is_plain (leaf s v) h = refl
-  term_is_plain (node f ts) h = terms_are_plain ts h
-  term_is_plain (inj a b t) h = absurd h
-
-  terms_are_plain : (ts : Forest) → HaveNoInjection ts → are_plain (ground_patterns ts) ≡ true
-  terms_are_plain no_tree h = refl
-  terms_are_plain (more_trees t ts) h = both_true (is_plain (ground_pattern t)) (are_plain (ground_patterns ts)) (term_is_plain t h.0) (terms_are_plain ts h.1)
-
 -- ---- a proof begins, and goes on
 
 pub covered_parts : (theory : RewriteTheory) (start : RulePattern) → is_covered theory start ≡ true → (is_plain start ≡ true) × (list_all is_plain_rule theory.rules ≡ true)
 covered_parts theory start h = split_true (is_plain start) (list_all is_plain_rule theory.rules) h
-
-pub covered_start : (theory : RewriteTheory) (start : RulePattern) → is_covered theory start ≡ true → is_plain start ≡ true
-covered_start theory start h = (covered_parts theory start h).0
 
 pub covered_rules : (theory : RewriteTheory) (start : RulePattern) → is_covered theory start ≡ true → list_all is_plain_rule theory.rules ≡ true
 covered_rules theory start h = (covered_parts theory start h).1
@@ -175,15 +149,15 @@ pub record Standing (prover : Context) (w : Writer) (last : Theorem) (start : Ru
   pub term : Tree
   pub matches : Matches (theory_of prover.program) (rewrite_rule rule) term theta
   pub makes : instance_of theta (plain_pattern rule.right) ≡ Some u
-  pub none : HasNoInjection term
+  pub low : height term ≤ most_height
   pub plain : is_plain_rule (rewrite_rule rule) ≡ true
   pub reached : HasReached prover w last start (ground_pattern term)
 
 pub standing : (v : RunProof) (prover : Context) (w : Writer) (start : RulePat) (config : Option Tree) (last : Theorem) (i : ℕ) (theta : List (Option Tree)) (u : Tree)
     → record { program = prover.program; start = start; made = config; names = prover.names; kept = w.renderer } ≡ v
-    → is_plain (configuration (plain_pattern start) config) ≡ true → list_all is_plain_rule (theory_of prover.program).rules ≡ true
+    → list_all is_plain_rule (theory_of prover.program).rules ≡ true
     → HasReached prover w last (plain_pattern start) (configuration (plain_pattern start) config) → CanStep v i theta u → Standing prover w last (plain_pattern start) i theta u
-standing v prover w start config last i theta u is plain rules reach can =
+standing v prover w start config last i theta u is rules reach can =
     let at : configuration (plain_pattern start) config ≡ ground_pattern can.term = ap reached is ∙ can.at in
     let program : v.program ≡ prover.program = ap (λ (p : RunProof). p.program) (sym is) in
     let there : slice_get prover.program.rules.items i ≡ Some can.rule = subst (λ (p : Program). slice_get p.rules.items i ≡ Some can.rule) program can.there in
@@ -193,13 +167,14 @@ standing v prover w start config last i theta u is plain rules reach can =
       term = can.term;
       matches = subst (λ (p : Program). Matches (theory_of p) (rewrite_rule can.rule) can.term theta) program can.matches;
       makes = can.makes;
-      none = plain_term can.term (subst (λ (p : RulePattern). is_plain p ≡ true) at plain);
+      low = can.low;
       plain = plain_at prover.program.rules.items i can.rule there rules;
       reached = subst (HasReached prover w last (plain_pattern start)) at reach;
     }
 
-pub made_plain : (prover : Context) (w : Writer) (last : Theorem) (start : RulePattern) (i : ℕ) (theta : List (Option Tree)) (u : Tree) → Standing prover w last start i theta u → HasNoInjection u
-made_plain prover w last start i theta u s = right_is_plain (theory_of prover.program) (rewrite_rule s.rule) s.term u theta s.plain s.none s.matches s.makes
+-- what the step makes is not too high
+pub makes_low : (theta : List (Option Tree)) (r : Rule) (u : Tree) → instance_of theta (plain_pattern r.right) ≡ Some u → height u ≤ most_height → FitsWithin most_height theta (plain_pattern r.right)
+makes_low theta r u makes low = subst (λ (o : Option Tree). IsSomeAnd o (λ (t : Tree). height t ≤ most_height)) (sym makes) low
 
 pub making : ImageStays → SentenceHasNoMeta → (prover : Context) (w : Writer) (last : Theorem) (start : RulePattern) (i : ℕ) (theta : List (Option Tree)) (u : Tree) (new : Context) (sofar step : Theorem)
     (s : Standing prover w last start i theta u) → HasGrown prover new → SaysStepAt new i theta step.conclusion → sofar.conclusion ≡ instance [] last.conclusion

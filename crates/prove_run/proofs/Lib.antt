@@ -3,3 +3,4 @@ pub mod FollowLaws
 pub mod PlainSteps
 pub mod WritingOn
 pub mod ReachLaws
+pub mod StartingLaws

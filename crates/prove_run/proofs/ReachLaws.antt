@@ -8,7 +8,7 @@ use Rattle.ml_kernel.specs.Lemmas.{instance, instances, AreMetasBelow, IsMetaBel
 use Rattle.ml_kernel.specs.Theorems.{Theorem, conclusions}
 use Rattle.ml_scope.specs.Scopes.{Scope, IsOver, AreOver, IsOverPlaces, IsWithin, AreWithin, AssumesWithin, StaysWithin, CitesWithin}
 use Rattle.ml_derived.specs.Implications.{ReachesOneFurther}
-use Rattle.prove_term.specs.Contexts.{Context, HasContext, IsLemmaIn}
+use Rattle.prove_term.specs.Contexts.{Context, IsLemmaIn}
 use Rattle.prove_schema.proofs.ScopeLaws.{StaysAssuming, lemma_of}
 use Rattle.prove_run.specs.ReachLemma.{sofar_form, step_form, IsReachHypothesis, IsReachLemma, ProvesHypothesis, GoesFurther}
 

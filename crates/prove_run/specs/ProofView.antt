@@ -5,7 +5,7 @@ use Rattle.term_core.specs.RulePatterns.{plain_pattern}
 use Rattle.rule_core.specs.ProgramView.{theory_of}
 use Rattle.rule_core.specs.WellSorted.{IsWellSorted}
 use Rattle.prove_term.specs.Contexts.{IsContext}
-use Rattle.prove_step.specs.PlainRules.{is_plain, is_plain_rule}
+use Rattle.prove_step.specs.PlainRules.{is_plain_rule}
 use Rattle.proof_writer.specs.PlainNames.{HasPlainNames}
 use Rattle.proof_writer.specs.Writing.{HasWrittenAll}
 use Rattle.prove_run.specs.RunProof.{RunProof, configuration}
@@ -30,7 +30,6 @@ pub record IsProof (p : Inside) : Type 0 where
   pub rules : list_all is_plain_rule (theory_of p.prover.program).rules ≡ true
   pub context : IsContext p.prover
   pub written : HasWrittenAll p.writer p.prover
-  pub plain : is_plain (configuration (plain_pattern p.start.now) p.reached) ≡ true
   pub has_reached : HasReached p.prover p.writer p.last (plain_pattern p.start.now)
       (configuration (plain_pattern p.start.now) p.reached)
   pub reach : IsReachLemma p.reach

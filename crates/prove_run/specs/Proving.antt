@@ -1,9 +1,10 @@
 -- Which texts fit a proof of a run, how a proof begins, and what a step makes of it.
-use Rattle.std.specs.Prelude.{◌≡◌, ℕ, List, ◌++◌, slice_get, Option, Some, None}
-use Rattle.term_core.specs.Terms.{Tree}
+use Rattle.std.specs.Prelude.{◌≡◌, ◌≤◌, ℕ, List, ◌++◌, slice_get, Option, Some}
+use Rattle.term_core.specs.Terms.{Tree, height}
 use Rattle.term_core.specs.Patterns.{ground_pattern, instance_of}
 use Rattle.term_core.specs.declared.rule_patterns.RulePat.{RulePat}
 use Rattle.term_core.specs.RulePatterns.{plain_pattern}
+use Rattle.rule_core.specs.Evaluation.{most_height}
 use Rattle.rule_core.specs.FirstRule.{Matches}
 use Rattle.rule_core.specs.ProgramView.{rewrite_rule, theory_of}
 use Rattle.rule_core.specs.declared.rules.Rule.{Rule}
@@ -19,20 +20,23 @@ pub record FitsProof (proof : RunProof) (text : List ℕ) : Type 0 where
   pub only : HasOnlyAxiomsOf (theory_of proof.program) text
   pub justifies : JustifiesRun text (theory_of proof.program) (plain_pattern proof.start) (reached proof)
 
--- a proof that a start reaches itself, by no step; what was appended to a buffer is a text that fits it
-pub record Begins (program : Program) (start : RulePat) (proof : RunProof) (before after : List ℕ) : Type 0 where
+-- a proof that a start reaches its value, or where it has none itself, by no step; what was appended to a buffer is a
+-- text that fits it
+pub record Begins (program : Program) (start : RulePat) (value : Option Tree) (proof : RunProof) (before after : List ℕ) :
+    Type 0 where
   pub same_program : proof.program ≡ program
   pub starts : proof.start ≡ start
-  pub none : proof.made ≡ None
+  pub made : proof.made ≡ value
   pub text : (added : List ℕ) × (after ≡ before ++ added) × FitsProof proof added
 
--- The rule at a place matches the present configuration with the substitution, which makes the term u of its right
--- side.
+-- The rule at a place matches the present configuration, which is not too high, with the substitution, which makes the
+-- term u of its right side.
 pub record CanStep (proof : RunProof) (place : ℕ) (theta : List (Option Tree)) (u : Tree) : Type 0 where
   pub rule : Rule
   pub there : slice_get proof.program.rules.items place ≡ Some rule
   pub term : Tree
   pub at : reached proof ≡ ground_pattern term
+  pub low : height term ≤ most_height
   pub matches : Matches (theory_of proof.program) (rewrite_rule rule) term theta
   pub makes : instance_of theta (plain_pattern rule.right) ≡ Some u
 

@@ -1,5 +1,5 @@
 -- The lemma by which a run goes one step further.
-use Rattle.std.specs.Prelude.{◌≡◌, ◌⊎◌, List, [], ◌∷◌, All}
+use Rattle.std.specs.Prelude.{◌≡◌, ◌⊎◌, [], ◌∷◌, All}
 use Rattle.ml_pat.specs.Patterns.{Pattern, imp, next, ev, meta}
 use Rattle.ml_kernel.specs.Theorems.{Theorem}
 use Rattle.ml_scope.specs.Scopes.{Scope, IsStatedIn, IsWithin, AreWithin}

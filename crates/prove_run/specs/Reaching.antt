@@ -10,6 +10,16 @@ use Rattle.prove_term.specs.Contexts.{Context}
 use Rattle.proof_writer.specs.Writing.{HasNoVariables}
 use Rattle.proof_writer.specs.declared.writer.Writer.{Writer}
 
+-- the theorem says that the image of the start reaches that of the present configuration; no object variable stands in
+-- them
+pub record SaysReached (cx : Context) (start reached : RulePattern) (t : Theorem) : Type 0 where
+  pub from : Pattern
+  pub to : Pattern
+  pub from_image : image_of cx.program.sig cx.names start ≡ Some from
+  pub to_image : image_of cx.program.sig cx.names reached ≡ Some to
+  pub closed : HasNoVariable from × HasNoVariable to
+  pub says : t.conclusion ≡ imp from (ev to)
+
 -- The theorem that was stated last says that the image of the start reaches that of the present configuration.
 pub record HasReached (cx : Context) (w : Writer) (last : Theorem) (start reached : RulePattern) : Type 0 where
   pub from : Pattern

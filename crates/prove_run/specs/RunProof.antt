@@ -8,7 +8,8 @@ use Rattle.rule_core.specs.declared.rules.Program.{Program}
 use Rattle.mm_claims.specs.Kept.{Kept}
 
 -- A proof that the start of a program's run reaches a configuration, with the names in its text and what is kept of the
--- text. `made` is the configuration that the last step made, where there was one.
+-- text. `made` is that configuration: the value of the start, or what the last step made. A start without a value reaches
+-- itself alone.
 pub record RunProof : Type 0 where
   pub program : Program
   pub start : RulePat
@@ -16,7 +17,7 @@ pub record RunProof : Type 0 where
   pub names : List (List ℕ)
   pub kept : Kept
 
--- the present configuration: the start, until a step was made
+-- the present configuration, or the start where there is none
 abbrev pub configuration : Pattern → Option Tree → Pattern
 configuration start None = start
 configuration start (Some t) = ground_pattern t

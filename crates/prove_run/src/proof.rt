@@ -1,5 +1,6 @@
 // A proof of a run, step by step.
-ghost use Rattle.std.specs.Prelude.{◌≡◌, true, [], Contains, IfOk, OnOk};
+ghost use Rattle.std.specs.Prelude.{◌≡◌, true, [], Contains, IfOk, IfSome, OnOk, Some};
+ghost use Rattle.term_core.specs.Patterns.{instance_of};
 ghost use Rattle.term_core.specs.RulePatterns.{plain_pattern};
 ghost use Rattle.rule_core.specs.ProgramView.{theory_of};
 ghost use Rattle.rule_core.specs.WellSorted.{IsStart, IsWellSorted};
@@ -12,7 +13,7 @@ ghost use Rattle.prove_run.specs.Proving.{Begins, CanStep, StepsTo};
 ghost use Rattle.prove_run.specs.ReachLemma.{IsReachLemma};
 
 use crate::further::{reach_further, reach_lemma};
-use ml_derived::reach_here;
+use crate::starting::start_reaches;
 use ml_image::{condition_laws, naming_laws};
 use ml_kernel::{Lemma, Thm};
 use mm_claims::later_laws;
@@ -31,7 +32,7 @@ pub struct Proof<'p> {
     prover: Prover<'p>,
     writer: Writer,
     start: &'p RulePat,
-    // The present configuration, where a step was made.
+    // The present configuration, where the start has a value.
     reached: Option<Term>,
     // The theorem that says so.
     last: Lemma,
@@ -58,19 +59,22 @@ impl<'p> Model for Proof<'p> {
 }
 
 impl<'p> Proof<'p> {
-    /// The proof of a run of no step: the start reaches itself. Its text is appended to the buffer. The program is
-    /// well-sorted and covered with this start. The error is want of memory; then a part of the text was appended.
+    /// The proof of a run of no step: the start reaches its value, or where it has none itself. Its text is appended to
+    /// the buffer. The program is well-sorted and covered with this start. The error is want of memory; then a part of
+    /// the text was appended.
     pub fn begin(
         alloc: Global,
         program: &'p Program,
         start: &'p RulePat,
+        value: Option<Term>,
         to: &mut Vec<u8>,
     ) -> Result<Proof<'p>, AllocError>
         requires names { HasPlainNames program.now.sig }
         requires well_sorted { IsWellSorted (theory_of program.now) }
         requires start { IsStart (theory_of program.now) (plain_pattern start.now) }
         requires covered { is_covered (theory_of program.now) (plain_pattern start.now) ≡ true }
-        ensures { IfOk result (λ proof. Begins program.now start.now proof to.old.items to.new.items) }
+        requires value { IfSome value (λ t. instance_of [] (plain_pattern start.now) ≡ Some t) }
+        ensures { IfOk result (λ proof. Begins program.now start.now value proof to.old.items to.new.items) }
     {
         condition_laws();
         later_laws();
@@ -78,14 +82,13 @@ impl<'p> Proof<'p> {
         let mut prover = Prover::new(alloc, program)?;
         let mut writer = Writer::begin(alloc, program, to)?;
         let reach = keep_reach_lemma(alloc, &mut prover)?;
-        let here = prover.image(alloc, start)?;
-        let thm = reach_here(alloc, &here)?;
-        let last = state(&prover, &mut writer, thm, to)?;
+        let first = start_reaches(alloc, &mut prover, start, &value)?;
+        let last = state(&prover, &mut writer, first, to)?;
         Ok(Proof {
             prover,
             writer,
             start,
-            reached: None,
+            reached: value,
             last,
             reach,
         })
@@ -108,6 +111,7 @@ impl<'p> Proof<'p> {
         image_laws();
         later_laws();
         naming_laws();
+        let _high = config.height();
         let mut prover = self.prover;
         let mut writer = self.writer;
         let step = prover.step(alloc, rule, subst)?;

@@ -1,7 +1,6 @@
-use Rattle.std.proofs.Common.{◌≡◌, [], refl, ap, ◌∙◌, sym, subst}
-use Rattle.std.specs.Prelude.{Result, Ok, Err, OnOk}
+use Rattle.std.proofs.Common.{◌≡◌, ap, ◌∙◌, sym, subst}
 use Rattle.prove_term.specs.Contexts.{Context, IsContext}
-use Rattle.proof_writer.specs.Writing.{context_of, Adds, Concludes, HasWrittenAll, MayFollow}
+use Rattle.proof_writer.specs.Writing.{context_of, Adds, Concludes, MayFollow}
 use Rattle.proof_writer.specs.declared.writer.Made.{Made}
 use Rattle.proof_writer.proofs.WritingLaws.{theorem_assumes_nothing}
 use Rattle.prove_run.proofs.WritingOn.{on_any, same_context, follows_later, concludes_after, adds_on}

@@ -1,37 +1,41 @@
-use Rattle.std.proofs.Common.{◌≡◌, ℕ, true, List, [], ◌∷◌, ◌++◌, Some, None, Option, refl, ap, ◌∙◌, sym, subst}
+use Rattle.std.proofs.Common.{◌≡◌, true, ◌++◌, Some, ap, ◌∙◌, sym, subst, arith}
 use Rattle.std.specs.List.{list_all}
 use Rattle.term_core.specs.Terms.{Tree}
-use Rattle.term_core.specs.Patterns.{Pattern as RulePattern, ground_pattern}
+use Rattle.term_core.specs.Patterns.{ground_pattern}
 use Rattle.term_core.specs.RulePatterns.{plain_pattern}
 use Rattle.ml_kernel.specs.Theorems.{Theorem}
 use Rattle.rule_core.specs.ProgramView.{theory_of}
 use Rattle.rule_core.specs.WellSorted.{IsWellSorted}
 use Rattle.rule_core.specs.declared.rules.Program.{Program}
 use Rattle.mm_justify.specs.Justifying.{JustifiesRun}
-use Rattle.mm_claims.specs.Places.{IsStated}
-use Rattle.prove_term.specs.Contexts.{Context}
-use Rattle.prove_step.specs.PlainRules.{is_plain, is_plain_rule}
+use Rattle.prove_step.specs.PlainRules.{is_plain_rule}
 use Rattle.proof_writer.specs.PlainNames.{HasPlainNames}
 use Rattle.proof_writer.specs.Writing.{IsTextOf}
-use Rattle.prove_run.specs.RunProof.{RunProof, reached, configuration}
-use Rattle.prove_run.specs.Proving.{CanStep, FitsProof}
+use Rattle.prove_run.specs.RunProof.{RunProof, configuration}
+use Rattle.prove_run.specs.Proving.{FitsProof}
 use Rattle.prove_run.specs.Reaching.{HasReached}
-use Rattle.prove_run.specs.ProofView.{run_proof, IsProof}
+use Rattle.prove_run.specs.ProofView.{run_proof}
 use Rattle.prove_run.proofs.ContextLaws.{written_grown, text_grown, image_grown, lemma_grown}
-use Rattle.prove_run.proofs.FollowLaws.{Making, Standing, standing, making, made_plain, linked, both_closed, last_no_meta, further_follows, further_reached, term_is_plain, ground_has_none, further_says}
+use Rattle.prove_run.proofs.FollowLaws.{standing, making, makes_low, linked, both_closed, last_no_meta, further_follows, further_reached, ground_has_none, further_says}
 use Rattle.prove_run.proofs.proof.Proof.step.Goals as goal
 
 pub step-requires-clause-plain : goal.step-requires-clause-plain
 step-requires-clause-plain c =
     let p = c.self.inside in
-    let s = standing c.args.self p.prover p.writer p.start.now p.reached p.last c.args.rule c.args.subst.now c.args.config.now c.self.view_is c.self.invariant.plain c.self.invariant.rules c.self.invariant.has_reached c.requires.applies in
+    let s = standing c.args.self p.prover p.writer p.start.now p.reached p.last c.args.rule c.args.subst.now c.args.config.now c.self.view_is c.self.invariant.rules c.self.invariant.has_reached c.requires.applies in
     (s.rule, s.there, s.plain)
 
 pub step-requires-clause-matches : goal.step-requires-clause-matches
 step-requires-clause-matches c =
     let p = c.self.inside in
-    let s = standing c.args.self p.prover p.writer p.start.now p.reached p.last c.args.rule c.args.subst.now c.args.config.now c.self.view_is c.self.invariant.plain c.self.invariant.rules c.self.invariant.has_reached c.requires.applies in
-    (s.rule, s.there, (s.term, s.none, s.matches))
+    let s = standing c.args.self p.prover p.writer p.start.now p.reached p.last c.args.rule c.args.subst.now c.args.config.now c.self.view_is c.self.invariant.rules c.self.invariant.has_reached c.requires.applies in
+    (s.rule, s.there, (s.term, s.low, s.matches))
+
+pub step-requires-clause-makes : goal.step-requires-clause-makes
+step-requires-clause-makes c =
+    let p = c.self.inside in
+    let s = standing c.args.self p.prover p.writer p.start.now p.reached p.last c.args.rule c.args.subst.now c.args.config.now c.self.view_is c.self.invariant.rules c.self.invariant.has_reached c.requires.applies in
+    (s.rule, s.there, makes_low c.args.subst.now s.rule c.args.config.now s.makes (omega (arith, c.height-high.ensures.value, c.height-high.ensures.bound)))
 
 pub use_lemma-requires-clause-conclusion_metas : goal.use_lemma-requires-clause-conclusion_metas
 use_lemma-requires-clause-conclusion_metas c =
@@ -42,7 +46,7 @@ pub reach_further-requires-clause-linked : goal.reach_further-requires-clause-li
 reach_further-requires-clause-linked c =
     let p = c.self.inside in
     let start = plain_pattern p.start.now in
-    let s = standing c.args.self p.prover p.writer p.start.now p.reached p.last c.args.rule c.args.subst.now c.args.config.now c.self.view_is c.self.invariant.plain c.self.invariant.rules c.self.invariant.has_reached c.requires.applies in
+    let s = standing c.args.self p.prover p.writer p.start.now p.reached p.last c.args.rule c.args.subst.now c.args.config.now c.self.view_is c.self.invariant.rules c.self.invariant.has_reached c.requires.applies in
     let m = making c.naming_laws.ensures.image c.image_laws.ensures.metas p.prover p.writer p.last start c.args.rule c.args.subst.now c.args.config.now c.step.new.self c.in_ok-sofar.sofar c.in_ok-step.step s c.in_ok-step.ensures.grown c.in_ok-step.ensures.says c.in_ok-sofar.ensures.conclusion in
     linked p.prover c.step.new.self p.writer p.last c.in_ok-sofar.sofar c.in_ok-step.step start s.term c.args.config.now m
 
@@ -50,7 +54,7 @@ pub reach_further-requires-clause-closed : goal.reach_further-requires-clause-cl
 reach_further-requires-clause-closed c =
     let p = c.self.inside in
     let start = plain_pattern p.start.now in
-    let s = standing c.args.self p.prover p.writer p.start.now p.reached p.last c.args.rule c.args.subst.now c.args.config.now c.self.view_is c.self.invariant.plain c.self.invariant.rules c.self.invariant.has_reached c.requires.applies in
+    let s = standing c.args.self p.prover p.writer p.start.now p.reached p.last c.args.rule c.args.subst.now c.args.config.now c.self.view_is c.self.invariant.rules c.self.invariant.has_reached c.requires.applies in
     let m = making c.naming_laws.ensures.image c.image_laws.ensures.metas p.prover p.writer p.last start c.args.rule c.args.subst.now c.args.config.now c.step.new.self c.in_ok-sofar.sofar c.in_ok-step.step s c.in_ok-step.ensures.grown c.in_ok-step.ensures.says c.in_ok-sofar.ensures.conclusion in
     both_closed p.prover c.step.new.self p.writer p.last c.in_ok-sofar.sofar c.in_ok-step.step start s.term c.args.config.now m
 
@@ -64,7 +68,7 @@ pub state-requires-clause-follows : goal.state-requires-clause-follows
 state-requires-clause-follows c =
     let p = c.self.inside in
     let start = plain_pattern p.start.now in
-    let s = standing c.args.self p.prover p.writer p.start.now p.reached p.last c.args.rule c.args.subst.now c.args.config.now c.self.view_is c.self.invariant.plain c.self.invariant.rules c.self.invariant.has_reached c.requires.applies in
+    let s = standing c.args.self p.prover p.writer p.start.now p.reached p.last c.args.rule c.args.subst.now c.args.config.now c.self.view_is c.self.invariant.rules c.self.invariant.has_reached c.requires.applies in
     let m = making c.naming_laws.ensures.image c.image_laws.ensures.metas p.prover p.writer p.last start c.args.rule c.args.subst.now c.args.config.now c.step.new.self c.in_ok-sofar.sofar c.in_ok-step.step s c.in_ok-step.ensures.grown c.in_ok-step.ensures.says c.in_ok-sofar.ensures.conclusion in
     further_follows p.prover c.step.new.self p.writer p.last c.in_ok-sofar.sofar c.in_ok-step.step c.in_ok-further.further p.reach start s.term c.args.config.now m c.in_ok-sofar.ensures.lemma c.in_ok-step.ensures.stays c.self.invariant.listed c.in_ok-further.ensures.stays
 
@@ -74,7 +78,7 @@ invariant_of-result c =
     let new = c.step.new.self in
     let start = plain_pattern p.start.now in
     let grown = c.in_ok-step.ensures.grown in
-    let s = standing c.args.self p.prover p.writer p.start.now p.reached p.last c.args.rule c.args.subst.now c.args.config.now c.self.view_is c.self.invariant.plain c.self.invariant.rules c.self.invariant.has_reached c.requires.applies in
+    let s = standing c.args.self p.prover p.writer p.start.now p.reached p.last c.args.rule c.args.subst.now c.args.config.now c.self.view_is c.self.invariant.rules c.self.invariant.has_reached c.requires.applies in
     let m = making c.naming_laws.ensures.image c.image_laws.ensures.metas p.prover p.writer p.last start c.args.rule c.args.subst.now c.args.config.now new c.in_ok-sofar.sofar c.in_ok-step.step s grown c.in_ok-step.ensures.says c.in_ok-sofar.ensures.conclusion in
     let u : c.in_ok-made.made ≡ c.args.config.now = c.in_ok-made.ensures.same in
     record {
@@ -83,7 +87,6 @@ invariant_of-result c =
       rules = subst (λ (q : Program). list_all is_plain_rule (theory_of q).rules ≡ true) (sym grown.program) c.self.invariant.rules;
       context = c.in_ok-last.ensures.context;
       written = c.in_ok-last.ensures.all;
-      plain = subst (λ (t : Tree). is_plain (ground_pattern t) ≡ true) (sym u) (term_is_plain c.args.config.now (made_plain p.prover p.writer p.last start c.args.rule c.args.subst.now c.args.config.now s));
       has_reached = subst (λ (t : Tree). HasReached new c.state.new.writer c.in_ok-last.last start (ground_pattern t)) (sym u)
           (subst (λ (t : Theorem). HasReached new c.state.new.writer t start (ground_pattern c.args.config.now)) (sym c.in_ok-last.ensures.lemma)
           (further_reached p.prover new p.writer c.state.new.writer p.last c.in_ok-sofar.sofar c.in_ok-step.step c.in_ok-further.further start s.term c.args.config.now m c.in_ok-further.ensures.conclusion
@@ -98,7 +101,7 @@ returns c =
     let new = c.step.new.self in
     let start = plain_pattern p.start.now in
     let grown = c.in_ok-step.ensures.grown in
-    let s = standing c.args.self p.prover p.writer p.start.now p.reached p.last c.args.rule c.args.subst.now c.args.config.now c.self.view_is c.self.invariant.plain c.self.invariant.rules c.self.invariant.has_reached c.requires.applies in
+    let s = standing c.args.self p.prover p.writer p.start.now p.reached p.last c.args.rule c.args.subst.now c.args.config.now c.self.view_is c.self.invariant.rules c.self.invariant.has_reached c.requires.applies in
     let m = making c.naming_laws.ensures.image c.image_laws.ensures.metas p.prover p.writer p.last start c.args.rule c.args.subst.now c.args.config.now new c.in_ok-sofar.sofar c.in_ok-step.step s grown c.in_ok-step.ensures.says c.in_ok-sofar.ensures.conclusion in
     let further = further_says p.prover new p.writer p.last c.in_ok-sofar.sofar c.in_ok-step.step c.in_ok-further.further start s.term c.args.config.now m c.in_ok-further.ensures.conclusion in
     record {

@@ -1,0 +1,154 @@
+-- What the first theorem of a run says.
+use Rattle.std.proofs.Common.{◌≡◌, ◌≤◌, ◌^◌, ℕ, List, [], ◌∷◌, Option, Some, None, refl, sym, ◌∙◌, ap, subst}
+use Rattle.std.specs.Prelude.{IsSomeAnd}
+use Rattle.ml_pat.specs.Patterns.{Pattern, imp, equal, ev, var}
+use Rattle.ml_pat.specs.Judgements.{substituted}
+use Rattle.ml_kernel.specs.Lemmas.{HasNoVariable}
+use Rattle.ml_kernel.specs.Theorems.{Theorem}
+use Rattle.ml_kernel.proofs.InstanceLaws.{substituted-without}
+use Rattle.ml_scope.specs.Scopes.{StaysWithin}
+use Rattle.ml_derived.specs.Equalities.{CanCarry, IsCarried}
+use Rattle.term_core.specs.Terms.{Tree, height}
+use Rattle.term_core.specs.Patterns.{Pattern as RulePattern, binding, instance_of, ground_pattern, FitsWithin}
+use Rattle.rule_core.specs.Evaluation.{most_height}
+use Rattle.rule_core.specs.Matching.{RespectsSorts}
+use Rattle.rule_core.specs.Sorting.{HasSort}
+use Rattle.rule_core.specs.WellSorted.{IsSignature}
+use Rattle.rule_core.specs.declared.signature.Signature.{Signature}
+use Rattle.ml_image.specs.HasImages.{HasImage}
+use Rattle.ml_image.specs.Images.{image_of}
+use Rattle.ml_image.specs.Sentences.{term}
+use Rattle.ml_image.proofs.ImageLaws.{some_same}
+use Rattle.ml_image.proofs.WellSortedLaws.{sorted_has_image}
+use Rattle.prove_term.specs.Contexts.{Context, HasGrown, StaysIn}
+use Rattle.prove_term.specs.EqualImages.{SaysEqualImages}
+use Rattle.prove_term.proofs.ContextLaws.{grown_none, has_before}
+use Rattle.prove_term.proofs.ComparingLaws.{image_closed}
+use Rattle.prove_term.proofs.FillingLaws.{filled_nothing}
+use Rattle.prove_step.specs.Normalizing.{Turns}
+use Rattle.prove_step.proofs.GrowthLaws.{pattern_grown}
+use Rattle.prove_step.proofs.NormalizingLaws.{turned_side}
+use Rattle.proof_writer.specs.Writing.{HasNoVariables}
+use Rattle.prove_run.specs.RunProof.{configuration}
+use Rattle.prove_run.specs.Reaching.{SaysReached}
+use Rattle.prove_run.proofs.ContextLaws.{image_wherever, image_is_closed}
+use Rattle.prove_run.proofs.FollowLaws.{ground_has_none}
+
+-- ---- initial terms
+
+pub start_has_image : (sig : Signature) (start : RulePattern) (sort : ℕ) → IsSignature sig → HasSort sig [] start sort → HasImage sig (2 ^ 32) start
+start_has_image sig start sort ok sorted = image_wherever sig (2 ^ 32) start (sorted_has_image sig [] start sort ok sorted)
+
+-- nothing stands for a variable
+nothing_bound : {P : Type 0} (x : ℕ) (t : Tree) → binding [] x ≡ Some t → P
+nothing_bound x t e = absurd (let no : ⊥ = cc in no)
+
+pub nothing_respects : (sig : Signature) (theta : List (Option Tree)) → theta ≡ [] → RespectsSorts sig [] theta
+nothing_respects sig theta none = subst (RespectsSorts sig []) (sym none) (λ x t bound. nothing_bound x t bound)
+
+pub value_fits : (theta : List (Option Tree)) (start : RulePattern) (t : Tree) → theta ≡ [] → instance_of [] start ≡ Some t → height t ≤ most_height → FitsWithin most_height theta start
+value_fits theta start t none makes low =
+    subst (λ (s : List (Option Tree)). FitsWithin most_height s start) (sym none)
+    (subst (λ (o : Option Tree). IsSomeAnd o (λ (u : Tree). height u ≤ most_height)) (sym makes) low)
+
+-- no variable stands in the configuration at which a proof begins
+pub begun_has_none : (start : RulePattern) (value : Option Tree) → HasNoVariables start → HasNoVariables (configuration start value)
+begun_has_none start None none = none
+begun_has_none start (Some t) none = ground_has_none t
+
+-- ---- the start reaches itself
+
+pub itself_reached : (cx : Context) (start : RulePattern) (sort : ℕ) (here : Pattern) (t : Theorem) → IsSignature cx.program.sig → HasSort cx.program.sig [] start sort
+    → image_of cx.program.sig cx.names start ≡ Some here → t.conclusion ≡ imp here (ev here) → SaysReached cx start start t
+itself_reached cx start sort here t ok sorted image says =
+    let closed : HasNoVariable here = image_is_closed cx.program.sig cx.names start here (sorted_has_image cx.program.sig [] start sort ok sorted) image in
+    record {
+      from = here;
+      to = here;
+      from_image = image;
+      to_image = image;
+      closed = (closed, closed);
+      says = says;
+    }
+
+pub itself_stays : (cx : Context) (start : RulePattern) (here : Pattern) (t : Theorem) → image_of cx.program.sig cx.names start ≡ Some here → StaysWithin (here ∷ []) [] t → StaysIn cx t
+itself_stays cx start here t image stays s has = stays s (has.images (term start) here image, tt) tt
+
+-- ---- .. and its value
+
+-- the image of the start turns into that of its value
+reaching : (old new : Context) (start : RulePattern) (theta : List (Option Tree)) (u : Tree) (o : Option Theorem) (itself : Theorem) → theta ≡ [] → HasGrown old new → (h : SaysReached old start start itself)
+    → SaysEqualImages new theta start o → instance_of [] start ≡ Some u → (to : Pattern) × Turns o h.to to × (image_of new.program.sig new.names (ground_pattern u) ≡ Some to)
+reaching old new start theta u o itself none g h equal_images makes =
+    turned_side new new [] start o u h.to (grown_none new) (subst (λ (s : List (Option Tree)). SaysEqualImages new s start o) none equal_images) makes
+    (ap (image_of new.program.sig new.names) (filled_nothing start) ∙ pattern_grown old new start h.to g h.to_image)
+
+reached_as : (old new : Context) (start : RulePattern) (u : Tree) (itself t : Theorem) (to : Pattern) → HasGrown old new → (h : SaysReached old start start itself)
+    → image_of new.program.sig new.names (ground_pattern u) ≡ Some to → t.conclusion ≡ imp h.from (ev to) → SaysReached new start (ground_pattern u) t
+reached_as old new start u itself t to g h image says = record {
+  from = h.from;
+  to = to;
+  from_image = pattern_grown old new start h.from g h.from_image;
+  to_image = image;
+  closed = (h.closed.0, image_closed new.program.sig new.names u to image);
+  says = says;
+}
+
+pub same_reached : (old new : Context) (start : RulePattern) (theta : List (Option Tree)) (u : Tree) (itself : Theorem) → theta ≡ [] → HasGrown old new → SaysReached old start start itself
+    → SaysEqualImages new theta start None → instance_of [] start ≡ Some u → SaysReached new start (ground_pattern u) itself
+same_reached old new start theta u itself none g h equal_images makes =
+    let w : (to : Pattern) × Turns None h.to to × (image_of new.program.sig new.names (ground_pattern u) ≡ Some to) = reaching old new start theta u None itself none g h equal_images makes in
+    reached_as old new start u itself itself w.0 g h w.2 (h.says ∙ ap (λ (p : Pattern). imp h.from (ev p)) w.1)
+
+-- what the rule that turns it asks for
+pub can_turn : (old new : Context) (start : RulePattern) (theta : List (Option Tree)) (u : Tree) (e itself : Theorem) → theta ≡ [] → HasGrown old new → SaysReached old start start itself
+    → SaysEqualImages new theta start (Some e) → instance_of [] start ≡ Some u → (p r q : Pattern) × (e.conclusion ≡ equal r q) × (itself.conclusion ≡ imp p (ev r)) × HasNoVariable p
+can_turn old new start theta u e itself none g h equal_images makes =
+    let w : (to : Pattern) × Turns (Some e) h.to to × (image_of new.program.sig new.names (ground_pattern u) ≡ Some to) = reaching old new start theta u (Some e) itself none g h equal_images makes in
+    (h.from, h.to, w.0, w.1, h.says, h.closed.0)
+
+pub other_reached : (old new : Context) (start : RulePattern) (theta : List (Option Tree)) (u : Tree) (e itself t : Theorem) → theta ≡ [] → HasGrown old new → SaysReached old start start itself
+    → SaysEqualImages new theta start (Some e) → instance_of [] start ≡ Some u → ((p r q : Pattern) → e.conclusion ≡ equal r q → itself.conclusion ≡ imp p (ev r) → t.conclusion ≡ imp p (ev q))
+    → SaysReached new start (ground_pattern u) t
+other_reached old new start theta u e itself t none g h equal_images makes turns =
+    let w : (to : Pattern) × Turns (Some e) h.to to × (image_of new.program.sig new.names (ground_pattern u) ≡ Some to) = reaching old new start theta u (Some e) itself none g h equal_images makes in
+    reached_as old new start u itself t w.0 g h w.2 (turns h.from h.to w.0 w.1 h.says)
+
+pub other_stays : (old new : Context) (e itself t : Theorem) → HasGrown old new → StaysIn old itself → StaysIn new e → StaysWithin (var 0 ∷ []) (e ∷ itself ∷ []) t → StaysIn new t
+other_stays old new e itself t g stays on_equality turned s has = turned s (has.objects 0, tt) (on_equality s has, (stays s (has_before old new s g has), tt))
+
+-- ---- a context with a place
+
+at_end : (p u : Pattern) → HasNoVariable p → substituted (imp p (ev (var 0))) 0 u ≡ Some (imp p (ev u))
+at_end p u closed = rw (substituted-without p 0 u closed) refl
+
+imp_parts : (p q r t : Pattern) → imp p q ≡ imp r t → (p ≡ r) × (q ≡ t)
+imp_parts p q r t e = (cc, cc)
+
+-- a reached pattern, and one that equals it
+pub record CanGoOn (e reached : Theorem) : Type 0 where
+  pub from : Pattern
+  pub to : Pattern
+  pub other : Pattern
+  pub equal_to : e.conclusion ≡ equal to other
+  pub says : reached.conclusion ≡ imp from (ev to)
+  pub closed : HasNoVariable from
+
+-- the context with the place, as it is made
+whole : (e reached : Theorem) (context before after : Pattern) (can : CanGoOn e reached) → reached.conclusion ≡ imp before after → context ≡ imp before (ev (var 0)) → context ≡ imp can.from (ev (var 0))
+whole e reached context before after can says is =
+    is ∙ ap (λ (q : Pattern). imp q (ev (var 0))) (sym (imp_parts can.from (ev can.to) before after (sym can.says ∙ says)).0)
+
+pub carry_on : (e reached : Theorem) (context before after : Pattern) → CanGoOn e reached → reached.conclusion ≡ imp before after → context ≡ imp before (ev (var 0)) → CanCarry e.conclusion context 0 reached.conclusion
+carry_on e reached context before after can says is =
+    let at : (u : Pattern) → substituted context 0 u ≡ Some (imp can.from (ev u)) =
+    λ u. ap (λ (q : Pattern). substituted q 0 u) (whole e reached context before after can says is) ∙ at_end can.from u can.closed in
+    (can.to, (can.other, (imp can.from (ev can.other), (can.equal_to, (at can.to ∙ ap (λ (q : Pattern). Some q) (sym can.says), at can.other)))))
+
+pub carried_on : (e reached t : Theorem) (context before after : Pattern) → CanGoOn e reached → reached.conclusion ≡ imp before after → context ≡ imp before (ev (var 0)) → IsCarried e.conclusion context 0 t.conclusion
+    → (p r q : Pattern) → e.conclusion ≡ equal r q → reached.conclusion ≡ imp p (ev r) → t.conclusion ≡ imp p (ev q)
+carried_on e reached t context before after can says is carried p r q turns from =
+    let same : can.from ≡ p = (imp_parts can.from (ev can.to) p (ev r) (sym can.says ∙ from)).0 in
+    some_same t.conclusion (imp p (ev q)) (sym (carried r q turns)
+    ∙ ap (λ (c : Pattern). substituted c 0 q) (whole e reached context before after can says is)
+    ∙ at_end can.from q can.closed ∙ ap (λ (x : Pattern). Some (imp x (ev q))) same)
