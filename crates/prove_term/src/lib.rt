@@ -16,5 +16,6 @@ mod schemas;
 mod values;
 
 pub use comparing::inj_eq;
+pub use congruence::{Parts, applied, halves, taken_apart};
 pub use context::Cx;
 pub use elements::fun_of;
