@@ -10,6 +10,7 @@ mod congruence;
 mod constructors;
 mod context;
 mod elements;
+mod hooks;
 mod injections;
 mod joining;
 mod schemas;
