@@ -1,4 +1,5 @@
 pub mod ApplicationLaws
+pub mod CallLaws
 pub mod AssumingLaws
 pub mod ComparingCalls
 pub mod ComparingInjections
@@ -7,6 +8,7 @@ pub mod ComparingLoop
 pub mod ConstructingLaws
 pub mod ContextLaws
 pub mod ElementLaws
+pub mod EquationLaws
 pub mod ElementLoop
 pub mod Hypotheses
 pub mod ImageShapes

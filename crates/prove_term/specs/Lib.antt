@@ -6,7 +6,9 @@ pub mod Functional
 pub mod RuleAxioms
 pub mod Filling
 pub mod EqualImages
+pub mod EqualCalls
 pub mod Values
+pub mod EquationAxioms
 -- Private: what clauses of private functions cite, and how private fields are seen.
 pub mod Schemas
 pub mod Falling

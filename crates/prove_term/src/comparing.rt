@@ -102,7 +102,7 @@ fn constructor_compared(
 
 // The same of its arguments, to whose images a head is applied.
 #[cycle(compared)]
-fn all_compared(
+pub(crate) fn all_compared(
     alloc: Global,
     cx: &mut Cx<'_>,
     args: &[RulePat],

@@ -5,17 +5,20 @@
 // stays in the context as it is afterwards, and contexts only grow (`StaysIn`, `HasGrown`).
 #![tactic(auto, using(crate::proofs::ContextLaws::grown_twice, crate::proofs::ContextLaws::grown_none))]
 
+mod calls;
 mod comparing;
 mod congruence;
 mod constructors;
 mod context;
 mod elements;
+mod equations;
 mod hooks;
 mod injections;
 mod joining;
 mod schemas;
 mod values;
 
+pub use calls::call_eq;
 pub use comparing::inj_eq;
 pub use congruence::{Parts, applied, halves, taken_apart};
 pub use context::Cx;

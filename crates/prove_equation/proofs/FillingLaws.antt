@@ -1,0 +1,369 @@
+-- An equation's lemma where terms stand for its variables.
+use Rattle.std.proofs.Common.{◌≡◌, ◌≢◌, ◌<◌, ◌≤◌, ◌+◌, ◌⊎◌, ℕ, zero, suc, true, List, [], ◌∷◌, ◌++◌, Option, Some, None, option_map, length, slice_get, inl, inr, refl, sym, ◌∙◌, ap, subst, arith}
+use Rattle.std.specs.Prelude.{All, Contains, IsSome, slice_index_or}
+use Rattle.std.specs.List.{AllZip}
+use Rattle.std.proofs.lemmas.List.Elements.{Contains-get_or, Contains-append_cases, Contains-append_left}
+use Rattle.ml_pat.specs.Patterns.{Pattern, top, imp, and, equal, fun, meta}
+use Rattle.ml_kernel.specs.Lemmas.{instance, HasNoVariable, HaveNoVariables, IsMetaBelow}
+use Rattle.ml_kernel.specs.Theorems.{Theorem}
+use Rattle.ml_scope.specs.Scopes.{Scope, AreWithin, IsWithin, IsOverPlaces}
+use Rattle.term_core.specs.Terms.{Tree, leaf, truth, IsNormal}
+use Rattle.term_core.specs.Patterns.{Pattern as RulePattern, variable, domain_value, application, injection, call, binding, ground_pattern}
+use Rattle.rule_core.specs.Rules.{Equation}
+use Rattle.rule_core.specs.Sorting.{HasSort, HasValue, IsTermOf, IsSymbol, sort_at}
+use Rattle.rule_core.specs.Matching.{RespectsSorts}
+use Rattle.rule_core.specs.declared.signature.Signature.{Signature}
+use Rattle.rule_core.specs.declared.signature.SymInfo.{SymInfo}
+use Rattle.rule_core.specs.declared.rules.Program.{Program}
+use Rattle.ml_image.specs.Images.{both, image_of, sort_image}
+use Rattle.ml_image.specs.HasImages.{HasImage, IsTruth, IsCondition, HasEquationImage}
+use Rattle.ml_image.specs.OwnAxioms.{condition_of, sort_of, made_sort, is_true}
+use Rattle.ml_image.specs.Sentences.{Sentence, sentence_image, term, equals}
+use Rattle.ml_image.specs.Sentences as says
+use Rattle.ml_image.proofs.ImageLaws.{none_some, some_same}
+use Rattle.prove_term.specs.Contexts.{Context, HasContext, HasGrown, StaysIn}
+use Rattle.prove_term.specs.Filling.{filled}
+use Rattle.prove_term.specs.Values.{SaysValue}
+use Rattle.prove_term.specs.Functional.{SaysFunctional}
+use Rattle.prove_term.proofs.ContextLaws.{stays_grown}
+use Rattle.prove_term.proofs.EquationLaws.{says_equation_grown}
+use Rattle.prove_term.proofs.ImageShapes.{both_some}
+use Rattle.prove_schema.specs.Schemas.{with_metas, IsOpenFrom, meta_facts, parts_of}
+use Rattle.prove_schema.specs.Using.{AreFacts, IsProved, by_fact, by_condition, IsUsable, IsUsed, StaysUsed}
+use Rattle.prove_schema.specs.Elements.{AllBound, IsBound, IsElementOf, IsElementFor, AreElementsFor}
+use Rattle.prove_schema.proofs.OpenLaws.{image_is_open, open_metas, open_no_variable}
+use Rattle.prove_schema.proofs.ClosingLaws.{AreNumbers, numbers_length}
+use Rattle.prove_schema.proofs.InstanceLaws.{AreImages, AllThere, Becomes, filled_image, instance_closed}
+use Rattle.prove_schema.proofs.UsingLaws.{as_many_facts, facts_closed}
+use Rattle.prove_schema.proofs.ElementLaws.{pattern_grown}
+use Rattle.prove_schema.proofs.SentenceLaws.{schema_over_places}
+use Rattle.prove_equation.specs.EquationLemmas.{SaysEquationSchema, IsEquationLemma}
+use Rattle.prove_equation.specs.Conditions.{SaysCondition, BindsEach}
+use Rattle.prove_equation.specs.Filled.{CanFill, SaysFilled, listed}
+use Rattle.prove_equation.proofs.ShapeLaws.{IsDirect, direct_shape, closed_same, condition_is}
+
+-- ---- sorts
+
+symbol_unique : (sig : Signature) (f : ℕ) (info other : SymInfo) → IsSymbol sig f info → IsSymbol sig f other → info ≡ other
+symbol_unique sig f info other h k =
+    ap (λ (e : List ℕ × SymInfo). e.1) (some_same (h.0, info) (k.0, other) (sym h.1 ∙ k.1))
+
+-- a pattern has one sort
+pub sort_unique : (sig : Signature) (vars : List ℕ) (p : RulePattern) (s r : ℕ) → HasSort sig vars p s → HasSort sig vars p r → s ≡ r
+sort_unique sig vars (variable x) s r h k = some_same s r (sym h ∙ k)
+sort_unique sig vars (domain_value t v) s r h k = sym h.0 ∙ k.0
+sort_unique sig vars (application f ps) s r h k =
+    some_same s r (sym h.3 ∙ ap (λ (i : SymInfo). sort_at [] i.result) (symbol_unique sig f h.0 k.0 h.1 k.1) ∙ k.3)
+sort_unique sig vars (injection a b p) s r h k = sym h.1 ∙ k.1
+sort_unique sig vars (call f ss ps) s r h k =
+    some_same s r (sym h.5 ∙ ap (λ (i : SymInfo). sort_at ss i.result) (symbol_unique sig f h.0 k.0 h.1 k.1) ∙ k.5)
+
+made_there : (sig : Signature) (f : ℕ) (info : SymInfo) (sorts : List ℕ) → IsSymbol sig f info → made_sort sig f sorts ≡ sort_at sorts info.result
+made_there sig f info sorts there = rw there.1 refl
+
+pub sort_of_sorted : (sig : Signature) (vars : List ℕ) (p : RulePattern) (sort : ℕ) → HasSort sig vars p sort → sort_of sig vars p ≡ Some sort
+sort_of_sorted sig vars (variable x) sort h = h
+sort_of_sorted sig vars (domain_value s v) sort h = ap (λ (n : ℕ). Some n) h.0
+sort_of_sorted sig vars (application f ps) sort h = made_there sig f h.0 [] h.1 ∙ h.3
+sort_of_sorted sig vars (injection a b p) sort h = ap (λ (n : ℕ). Some n) h.1
+sort_of_sorted sig vars (call f ss ps) sort h = made_there sig f h.0 ss h.1 ∙ h.5
+
+-- ---- the terms and their images
+
+some_there : (o : Option Tree) → IsSome o → (t : Tree) × (o ≡ Some t)
+some_there None h = absurd (let no : ⊥ = cc in no)
+some_there (Some t) h = (t, refl)
+
+pub all_bound : (sig : Signature) (vars : List ℕ) (theta : List (Option Tree)) → RespectsSorts sig vars theta → length theta ≡ length vars → BindsEach vars theta → AllBound sig theta
+all_bound sig vars theta respects room binds x low =
+    let there : (t : Tree) × (binding theta x ≡ Some t) = some_there (binding theta x) (binds x (omega (arith, low, room))) in
+    let known : IsNormal there.0 × ((sort : ℕ) × (slice_get vars x ≡ Some sort) × IsTermOf sig there.0 sort) = respects x there.0 there.1 in
+    (there.0, there.1, (known.1.0, known.1.2))
+
+pub all_there : (vars : List ℕ) (theta : List (Option Tree)) → BindsEach vars theta → AllThere theta (length vars)
+all_there vars theta binds x low = some_there (binding theta x) (binds x low)
+
+-- the facts on the terms, with their images
+pub record HasImages (cx : Context) (theta : List (Option Tree)) (numbers : List ℕ) (ts : List Theorem) : Type 0 where
+  pub patterns : List Pattern
+  pub facts : AreFacts patterns numbers ts
+  pub images : AreImages cx.program.sig cx.names theta patterns
+
+pub elements_have : (cx : Context) (theta : List (Option Tree)) (vars numbers : List ℕ) (ts : List Theorem) → AreElementsFor cx theta ts → AreNumbers cx.program.sig cx.names vars numbers → RespectsSorts cx.program.sig vars theta → length theta ≡ length vars
+    → HasImages cx theta numbers ts
+elements_have cx [] [] [] [] are nums respects room = record { patterns = []; facts = tt; images = λ x t bound. absurd (none_some t bound) }
+elements_have cx [] [] [] (t ∷ ts) are nums respects room = absurd are
+elements_have cx [] [] (n ∷ ns) ts are nums respects room = absurd nums
+elements_have cx [] (s ∷ ss) ns ts are nums respects room = absurd (omega (arith, room))
+elements_have cx (o ∷ theta) [] ns ts are nums respects room = absurd (omega (arith, room))
+elements_have cx (o ∷ theta) (s ∷ ss) [] ts are nums respects room = absurd nums
+elements_have cx (o ∷ theta) (s ∷ ss) (n ∷ ns) [] are nums respects room = absurd are
+elements_have cx (None ∷ theta) (s ∷ ss) (n ∷ ns) (t ∷ ts) are nums respects room = absurd are.0
+elements_have cx (Some u ∷ theta) (s ∷ ss) (n ∷ ns) (t ∷ ts) are nums respects room =
+    let below : HasImages cx theta ns ts = elements_have cx theta ss ns ts are.1 nums.1 (λ x v bound. respects (suc x) v bound) (omega (arith, room)) in
+    let f : SaysFunctional cx u t.conclusion = are.0.0 in
+    let known : IsNormal u × ((sort : ℕ) × (Some s ≡ Some sort) × IsTermOf cx.program.sig u sort) = respects zero u refl in
+    let sort_is : f.sort ≡ s = sort_unique cx.program.sig [] (ground_pattern u) f.sort known.1.0 f.sorted known.1.2 ∙ sym (some_same s known.1.0 known.1.1) in
+    let number_is : f.number ≡ n = some_same f.number n (sym f.is_number ∙ ap (sort_image cx.program.sig cx.names) sort_is ∙ nums.0) in
+    record {
+      patterns = f.image ∷ below.patterns;
+      facts = (f.says ∙ ap (fun f.image) number_is, f.no_variable, below.facts);
+      images = here below.patterns f.image f.is_image below.images;
+    }
+  where
+    here : (qs : List Pattern) (q : Pattern) → image_of cx.program.sig cx.names (ground_pattern u) ≡ Some q → AreImages cx.program.sig cx.names theta qs → AreImages cx.program.sig cx.names (Some u ∷ theta) (q ∷ qs)
+    here qs q is below zero v bound = (q, (refl, ap (λ (w : Tree). image_of cx.program.sig cx.names (ground_pattern w)) (sym (some_same u v bound)) ∙ is))
+    here qs q is below (suc x) v bound = below x v bound
+
+-- ---- a lemma of an equality of patterns
+
+pub record IsEqualitySchema (cx : Context) (vars : List ℕ) (l r : RulePattern) (parts : List Pattern) (lemma : Theorem) : Type 0 where
+  pub numbers : List ℕ
+  pub are : AreNumbers cx.program.sig cx.names vars numbers
+  pub left : Pattern
+  pub left_image : image_of cx.program.sig cx.names l ≡ Some left
+  pub left_has : HasImage cx.program.sig (length vars) l
+  pub right : Pattern
+  pub right_image : image_of cx.program.sig cx.names r ≡ Some right
+  pub right_has : HasImage cx.program.sig (length vars) r
+  pub says : lemma.conclusion ≡ equal (with_metas left) (with_metas right)
+  pub assumes : (h : Pattern) → Contains lemma.hypotheses h → Contains (meta_facts 0 numbers ++ parts) h
+
+meta_fact : (k : ℕ) (ns : List ℕ) (p : Pattern) → Contains (meta_facts k ns) p → (x : ℕ) × (n : ℕ) × (slice_get ns x ≡ Some n) × (p ≡ fun (meta (k + x)) n)
+meta_fact k [] p there = absurd (omega (arith, there.1))
+meta_fact k (n ∷ ns) p (zero, low, is) =
+    let same : k ≡ k + zero = omega arith in
+    (zero, n, refl, sym is ∙ ap (λ (y : ℕ). fun (meta y) n) same)
+meta_fact k (n ∷ ns) p (suc i, low, is) =
+    let w : (x : ℕ) × (m : ℕ) × (slice_get ns x ≡ Some m) × (p ≡ fun (meta (k + 1 + x)) m) = meta_fact (k + 1) ns p (i, omega (arith, low), is) in
+    let same : k + 1 + w.0 ≡ k + suc w.0 = omega arith in
+    (suc w.0, w.1, w.2, w.3 ∙ ap (λ (y : ℕ). fun (meta y) w.1) same)
+
+proved_fact : (qs : List Pattern) (ns : List ℕ) (others : List Theorem) (h : Pattern) → Contains (meta_facts 0 ns) h → IsProved qs ns others h
+proved_fact qs ns others h there =
+    let w : (x : ℕ) × (n : ℕ) × (slice_get ns x ≡ Some n) × (h ≡ fun (meta (0 + x)) n) = meta_fact 0 ns h there in
+    let same : 0 + w.0 ≡ w.0 = omega arith in
+    by_fact w.0 w.1 w.2 (w.3 ∙ ap (λ (y : ℕ). fun (meta y) w.1) same)
+
+-- it can be used where the parts of its condition are proved
+pub schema_usable : (cx : Context) (vars : List ℕ) (l r : RulePattern) (parts : List Pattern) (lemma : Theorem) (theta : List (Option Tree)) (ts others : List Theorem) (s : IsEqualitySchema cx vars l r parts lemma) → (i : HasImages cx theta s.numbers ts)
+    → ((h : Pattern) → Contains parts h → IsProved i.patterns s.numbers others h) → IsUsable i.patterns s.numbers lemma ts others
+schema_usable cx vars l r parts lemma theta ts others s i proved =
+    let many : (length i.patterns ≡ length ts) × (length s.numbers ≡ length ts) = as_many_facts i.patterns s.numbers ts i.facts in
+    let total : length vars ≡ length i.patterns = sym (numbers_length cx.program.sig cx.names vars s.numbers s.are) ∙ many.1 ∙ sym many.0 in
+    let left : IsMetaBelow (length vars) (with_metas s.left) = open_metas 0 (length vars) s.left (image_is_open cx.program.sig cx.names (length vars) l s.left_has s.left s.left_image) in
+    let right : IsMetaBelow (length vars) (with_metas s.right) = open_metas 0 (length vars) s.right (image_is_open cx.program.sig cx.names (length vars) r s.right_has s.right s.right_image) in
+    record {
+      are = i.facts;
+      proved = λ k d low. one (slice_index_or lemma.hypotheses k d) (Contains-append_cases (meta_facts 0 s.numbers) parts (slice_index_or lemma.hypotheses k d) (s.assumes (slice_index_or lemma.hypotheses k d) (Contains-get_or lemma.hypotheses k d low)));
+      below = subst (IsMetaBelow (length i.patterns)) (sym s.says) (subst (λ (n : ℕ). IsMetaBelow n (equal (with_metas s.left) (with_metas s.right))) total (left, right));
+    }
+  where
+    one : (h : Pattern) → Contains (meta_facts 0 s.numbers) h ⊎ Contains parts h → IsProved i.patterns s.numbers others h
+    one h (inl fact) = proved_fact i.patterns s.numbers others h fact
+    one h (inr part) = proved h part
+
+-- what it says of the terms
+pub record SaysOfTerms (cx : Context) (theta : List (Option Tree)) (l r : RulePattern) (p : Pattern) : Type 0 where
+  pub left : Pattern
+  pub left_image : image_of cx.program.sig cx.names (filled theta l) ≡ Some left
+  pub right : Pattern
+  pub right_image : image_of cx.program.sig cx.names (filled theta r) ≡ Some right
+  pub says : p ≡ equal left right
+  pub no_variable : HasNoVariable left × HasNoVariable right
+
+pub schema_says : (cx : Context) (vars : List ℕ) (l r : RulePattern) (parts : List Pattern) (lemma : Theorem) (theta : List (Option Tree)) (ts : List Theorem) (t : Theorem) (s : IsEqualitySchema cx vars l r parts lemma) → (i : HasImages cx theta s.numbers ts) → AllThere theta (length vars)
+    → t.conclusion ≡ instance i.patterns lemma.conclusion → SaysOfTerms cx theta l r t.conclusion
+schema_says cx vars l r parts lemma theta ts t s i there is =
+    let closed : HaveNoVariables i.patterns = facts_closed i.patterns s.numbers ts i.facts in
+    record {
+      left = instance i.patterns (with_metas s.left);
+      left_image = filled_image cx.program.sig cx.names theta i.patterns (length vars) l i.images there s.left_has s.left s.left_image;
+      right = instance i.patterns (with_metas s.right);
+      right_image = filled_image cx.program.sig cx.names theta i.patterns (length vars) r i.images there s.right_has s.right s.right_image;
+      says = is ∙ ap (instance i.patterns) s.says;
+      no_variable = (
+        instance_closed i.patterns (with_metas s.left) closed (open_no_variable 0 (length vars) s.left (image_is_open cx.program.sig cx.names (length vars) l s.left_has s.left s.left_image)),
+        instance_closed i.patterns (with_metas s.right) closed (open_no_variable 0 (length vars) s.right (image_is_open cx.program.sig cx.names (length vars) r s.right_has s.right s.right_image)),
+      );
+    }
+
+-- it stays in the context
+pub elements_within : (s : Scope) (cx : Context) (theta : List (Option Tree)) (ts : List Theorem) → HasContext s cx → AreElementsFor cx theta ts → AreWithin s ts
+elements_within s cx [] [] has are = tt
+elements_within s cx [] (t ∷ ts) has are = absurd are
+elements_within s cx (o ∷ theta) [] has are = absurd are
+elements_within s cx (None ∷ theta) (t ∷ ts) has are = absurd are.0
+elements_within s cx (Some u ∷ theta) (t ∷ ts) has are = (are.0.1 s has, elements_within s cx theta ts has are.1)
+
+pub schema_stays : (cx : Context) (vars : List ℕ) (l r : RulePattern) (parts : List Pattern) (lemma : Theorem) (theta : List (Option Tree)) (ts others : List Theorem) (t : Theorem) → IsEqualitySchema cx vars l r parts lemma → Contains cx.lemmas lemma
+    → AreElementsFor cx theta ts → ((s : Scope) → HasContext s cx → AreWithin s others) → StaysUsed lemma ts others t → StaysIn cx t
+schema_stays cx vars l r parts lemma theta ts others t s there are stay used scope has =
+    let image : sentence_image cx.program.sig cx.names (equals (term l) (term r)) ≡ Some (equal s.left s.right) =
+    ap (λ (o : Option Pattern). both equal o (image_of cx.program.sig cx.names r)) s.left_image ∙ ap (both equal (Some s.left)) s.right_image in
+    used scope (has.lemmas lemma there)
+    (subst (λ (p : Pattern). IsOverPlaces scope p) (sym s.says) (schema_over_places scope cx (equals (term l) (term r)) (equal s.left s.right) has image))
+    (elements_within scope cx theta ts has are) (stay scope has)
+
+-- ---- the condition
+
+value_same : (cx : Context) (p : RulePattern) (q r : Pattern) → image_of cx.program.sig cx.names p ≡ Some q → image_of cx.program.sig cx.names p ≡ Some r → q ≡ r
+value_same cx p q r h k = some_same q r (sym h ∙ k)
+
+-- the theorem on a condition proves the part that the lemma assumes of it
+pub condition_proved : (cx : Context) (vars : List ℕ) (theta : List (Option Tree)) (qs : List Pattern) (ns : List ℕ) (others : List Theorem) (x sort : ℕ) (p : RulePattern) (t : Theorem) (condition h : Pattern) → AreImages cx.program.sig cx.names theta qs → AllThere theta (length vars) → length vars ≡ length qs
+    → IsTruth cx.program.sig vars p → HasSort cx.program.sig vars p sort → sentence_image cx.program.sig cx.names (is_true p sort) ≡ Some condition → SaysValue cx theta p (leaf sort (truth true)) t.conclusion → slice_get others x ≡ Some t → x + 1 ≡ length others
+    → Contains (parts_of (with_metas condition)) h → IsProved qs ns others h
+condition_proved cx vars theta qs ns others x sort p t condition h images there many holds sorted image says at last part =
+    let value : RulePattern = domain_value sort (truth true) in
+    let w : (a : Pattern) × (b : Pattern) × (image_of cx.program.sig cx.names p ≡ Some a) × (image_of cx.program.sig cx.names (domain_value sort (truth true)) ≡ Some b) × (condition ≡ equal a b) =
+    both_some equal (image_of cx.program.sig cx.names p) (image_of cx.program.sig cx.names (domain_value sort (truth true))) condition image in
+    let sort_is : holds.sort ≡ sort = some_same holds.sort sort (sym holds.sorted ∙ sort_of_sorted cx.program.sig vars p sort sorted) in
+    let has_value : HasImage cx.program.sig (length vars) (domain_value sort (truth true)) = subst (λ (s : ℕ). HasValue cx.program.sig s (truth true)) sort_is holds.truths in
+    let is : h ≡ equal (with_metas w.0) (with_metas w.1) = sym (only_one (equal (with_metas w.0) (with_metas w.1)) h (subst (λ (q : Pattern). Contains (parts_of (with_metas q)) h) w.4 part)) in
+    let left : says.left ≡ instance qs (with_metas w.0) =
+    value_same cx (filled theta p) says.left (instance qs (with_metas w.0)) says.left_image (filled_image cx.program.sig cx.names theta qs (length vars) p images there holds.image w.0 w.2) in
+    let right : says.right ≡ instance qs (with_metas w.1) =
+    value_same cx (domain_value sort (truth true)) says.right (instance qs (with_metas w.1)) says.right_image (filled_image cx.program.sig cx.names theta qs (length vars) (domain_value sort (truth true)) images there has_value w.1 w.3) in
+    let below : IsMetaBelow (length qs) (equal (with_metas w.0) (with_metas w.1)) =
+    subst (λ (n : ℕ). IsMetaBelow n (equal (with_metas w.0) (with_metas w.1))) many (
+      open_metas 0 (length vars) w.0 (image_is_open cx.program.sig cx.names (length vars) p holds.image w.0 w.2),
+      open_metas 0 (length vars) w.1 (image_is_open cx.program.sig cx.names (length vars) (domain_value sort (truth true)) has_value w.1 w.3),
+    ) in
+    by_condition x (with_metas w.0) (with_metas w.1) t at last is (subst (IsMetaBelow (length qs)) (sym is) below)
+    (says.says ∙ ap (λ (q : Pattern). equal q says.right) left ∙ ap (equal (instance qs (with_metas w.0))) right ∙ ap (instance qs) (sym is))
+  where
+    only_one : (a b : Pattern) → Contains (a ∷ []) b → a ≡ b
+    only_one a b (zero, low, same) = same
+    only_one a b (suc k, low, same) = absurd (omega (arith, low))
+
+pub value_grown : (old new : Context) (theta : List (Option Tree)) (p : RulePattern) (u : Tree) (q : Pattern) → HasGrown old new → SaysValue old theta p u q → SaysValue new theta p u q
+value_grown old new theta p u q g says = record {
+  left = says.left;
+  left_image = pattern_grown old new (filled theta p) says.left g says.left_image;
+  right = says.right;
+  right_image = pattern_grown old new (ground_pattern u) says.right g says.right_image;
+  says = says.says;
+  no_variable = says.no_variable;
+}
+
+pub condition_grown : (old new : Context) (vars : List ℕ) (theta : List (Option Tree)) (o : Option RulePattern) (t : Option Theorem) → HasGrown old new → SaysCondition old vars theta o t → SaysCondition new vars theta o t
+condition_grown old new vars theta None None g h = tt
+condition_grown old new vars theta None (Some t) g h = absurd h
+condition_grown old new vars theta (Some p) None g h = absurd h
+condition_grown old new vars theta (Some p) (Some t) g (sort, sorted, says, stays) =
+    (sort, subst (λ (q : Program). HasSort q.sig vars p sort) (sym g.program) sorted, value_grown old new theta p (leaf sort (truth true)) t.conclusion g says, stays_grown old new t g stays)
+
+pub condition_within : (cx : Context) (vars : List ℕ) (theta : List (Option Tree)) (o : Option RulePattern) (t : Option Theorem) → SaysCondition cx vars theta o t → (s : Scope) → HasContext s cx → AreWithin s (listed t)
+condition_within cx vars theta None None h s has = tt
+condition_within cx vars theta None (Some t) h s has = absurd h
+condition_within cx vars theta (Some p) None h s has = absurd h
+condition_within cx vars theta (Some p) (Some t) (sort, sorted, says, stays) s has = (stays s has, tt)
+
+-- ---- an equation that is written directly
+
+pub equation_lemma_grown : (old new : Context) (f : ℕ) (e : Equation) (t : Theorem) → HasGrown old new → IsEquationLemma old f e t → IsEquationLemma new f e t
+equation_lemma_grown old new f e t g is = record {
+  listed = subst (λ (ts : List Theorem). Contains ts t) (sym g.more_lemmas) (Contains-append_left old.lemmas g.lemmas t is.listed);
+  says = record {
+    sentence = is.says.sentence;
+    is_sentence = says_equation_grown old new f e is.says.sentence g is.says.is_sentence;
+    numbers = is.says.numbers;
+    condition = is.says.condition;
+    equality = is.says.equality;
+    closes = is.says.closes;
+    says = is.says.says;
+    assumes = is.says.assumes;
+  };
+}
+
+pub can_fill_grown : (old new : Context) (f : ℕ) (e : Equation) (lemma : Theorem) (theta : List (Option Tree)) (o : Option Theorem) → HasGrown old new → CanFill old f e lemma theta o → CanFill new f e lemma theta o
+can_fill_grown old new f e lemma theta o g can = record {
+  image = subst (λ (p : Program). HasEquationImage p.sig f e) (sym g.program) can.image;
+  direct = can.direct;
+  is_lemma = equation_lemma_grown old new f e lemma g can.is_lemma;
+  room = can.room;
+  respects = subst (λ (p : Program). RespectsSorts p.sig e.variables theta) (sym g.program) can.respects;
+  bound = can.bound;
+  condition = condition_grown old new e.variables theta e.condition o g can.condition;
+}
+
+shape_of : (cx : Context) (f : ℕ) (e : Equation) (lemma : Theorem) → e.parameters ≡ 0 → (s : SaysEquationSchema cx f e lemma) → IsDirect cx.program.sig cx.names f e s.sentence
+shape_of cx f e lemma none s = direct_shape cx.program.sig cx.names f e s.sentence none s.is_sentence
+
+direct_schema : (cx : Context) (f : ℕ) (e : Equation) (lemma : Theorem) → HasEquationImage cx.program.sig f e → (s : SaysEquationSchema cx f e lemma) → (d : IsDirect cx.program.sig cx.names f e s.sentence)
+    → IsEqualitySchema cx e.variables (call f [] e.arguments) e.right (parts_of (with_metas d.condition)) lemma
+direct_schema cx f e lemma has s d =
+    let same : (s.numbers ≡ d.numbers) × (s.condition ≡ d.condition) × (s.equality ≡ equal d.left d.right) =
+    closed_same 0 s.numbers d.numbers s.condition s.equality d.condition (equal d.left d.right) (sym s.closes.says ∙ d.says) in
+    record {
+      numbers = d.numbers;
+      are = d.are;
+      left = d.left;
+      left_image = d.left_image;
+      left_has = (has.function, tt, has.arguments);
+      right = d.right;
+      right_image = d.right_image;
+      right_has = has.right;
+      says = s.says ∙ ap with_metas same.2;
+      assumes = λ h there. subst (λ (ns : List ℕ). Contains (meta_facts 0 ns ++ parts_of (with_metas d.condition)) h) same.0
+          (subst (λ (c : Pattern). Contains (meta_facts 0 s.numbers ++ parts_of (with_metas c)) h) same.1 (s.assumes h there));
+    }
+
+-- what the condition's theorem proves
+direct_proved : (cx : Context) (f : ℕ) (e : Equation) (p : Pattern) (theta : List (Option Tree)) (o : Option Theorem) (qs : List Pattern) (d : IsDirect cx.program.sig cx.names f e p) → (c : Option RulePattern) → e.condition ≡ c → IsCondition cx.program.sig e.variables c
+    → AreImages cx.program.sig cx.names theta qs → AllThere theta (length e.variables) → length e.variables ≡ length qs → SaysCondition cx e.variables theta c o
+    → (h : Pattern) → Contains (parts_of (with_metas d.condition)) h → IsProved qs d.numbers (listed o) h
+direct_proved cx f e p theta o qs d None is has images there many said h part =
+    let holds : d.holds ≡ says.top = some_same d.holds says.top (sym d.is_holds ∙ ap (condition_of cx.program.sig e.variables) is) in
+    let nothing : d.condition ≡ top = some_same d.condition top (sym d.is_condition ∙ ap (sentence_image cx.program.sig cx.names) holds) in
+    absurd (omega (arith, (subst (λ (q : Pattern). Contains (parts_of (with_metas q)) h) nothing part).1))
+direct_proved cx f e p theta None qs d (Some c) is has images there many said h part = absurd said
+direct_proved cx f e p theta (Some t) qs d (Some c) is has images there many (sort, sorted, value, stays) h part =
+    let holds : d.holds ≡ is_true c sort =
+    condition_is cx.program.sig e.variables c sort d.holds (sort_of_sorted cx.program.sig e.variables c sort sorted) (ap (condition_of cx.program.sig e.variables) (sym is) ∙ d.is_holds) in
+    condition_proved cx e.variables theta qs d.numbers (t ∷ []) 0 sort c t d.condition h images there many has sorted (ap (sentence_image cx.program.sig cx.names) (sym holds) ∙ d.is_condition) value refl refl part
+
+-- all that is known where the lemma is cited
+pub record IsCited (cx : Context) (f : ℕ) (e : Equation) (lemma : Theorem) (theta : List (Option Tree)) (o : Option Theorem) (ts : List Theorem) : Type 0 where
+  pub can : CanFill cx f e lemma theta o
+  pub elements : AreElementsFor cx theta ts
+
+-- the lemma as an equality of patterns, and the facts on the terms
+record IsReady (cx : Context) (f : ℕ) (e : Equation) (lemma : Theorem) (theta : List (Option Tree)) (o : Option Theorem) (ts : List Theorem) : Type 0 where
+  parts : List Pattern
+  schema : IsEqualitySchema cx e.variables (call f [] e.arguments) e.right parts lemma
+  images : HasImages cx theta schema.numbers ts
+  proved : (h : Pattern) → Contains parts h → IsProved images.patterns schema.numbers (listed o) h
+
+ready : (cx : Context) (f : ℕ) (e : Equation) (lemma : Theorem) (theta : List (Option Tree)) (o : Option Theorem) (ts : List Theorem) → IsCited cx f e lemma theta o ts → IsReady cx f e lemma theta o ts
+unfolding direct_schema shape_of
+ready cx f e lemma theta o ts w =
+    let d : IsDirect cx.program.sig cx.names f e w.can.is_lemma.says.sentence = shape_of cx f e lemma w.can.direct w.can.is_lemma.says in
+    let i : HasImages cx theta d.numbers ts = elements_have cx theta e.variables d.numbers ts w.elements d.are w.can.respects w.can.room in
+    let many : (length i.patterns ≡ length ts) × (length d.numbers ≡ length ts) = as_many_facts i.patterns d.numbers ts i.facts in
+    let total : length e.variables ≡ length i.patterns = sym (numbers_length cx.program.sig cx.names e.variables d.numbers d.are) ∙ many.1 ∙ sym many.0 in
+    record {
+      parts = parts_of (with_metas d.condition);
+      schema = direct_schema cx f e lemma w.can.image w.can.is_lemma.says d;
+      images = i;
+      proved = direct_proved cx f e w.can.is_lemma.says.sentence theta o i.patterns d e.condition refl w.can.image.condition i.images (all_there e.variables theta w.can.bound) total w.can.condition;
+    }
+
+pub cited_usable : (cx : Context) (f : ℕ) (e : Equation) (lemma : Theorem) (theta : List (Option Tree)) (o : Option Theorem) (ts : List Theorem) → IsCited cx f e lemma theta o ts → (qs : List Pattern) × (ns : List ℕ) × IsUsable qs ns lemma ts (listed o)
+cited_usable cx f e lemma theta o ts w =
+    let r : IsReady cx f e lemma theta o ts = ready cx f e lemma theta o ts w in
+    (r.images.patterns, r.schema.numbers, schema_usable cx e.variables (call f [] e.arguments) e.right r.parts lemma theta ts (listed o) r.schema r.images r.proved)
+
+pub cited_says : (cx : Context) (f : ℕ) (e : Equation) (lemma : Theorem) (theta : List (Option Tree)) (o : Option Theorem) (ts : List Theorem) (t : Theorem) → IsCited cx f e lemma theta o ts → IsUsed lemma ts (listed o) t → SaysFilled cx f e theta t.conclusion
+cited_says cx f e lemma theta o ts t w used =
+    let r : IsReady cx f e lemma theta o ts = ready cx f e lemma theta o ts w in
+    let usable : IsUsable r.images.patterns r.schema.numbers lemma ts (listed o) = schema_usable cx e.variables (call f [] e.arguments) e.right r.parts lemma theta ts (listed o) r.schema r.images r.proved in
+    let says : SaysOfTerms cx theta (call f [] e.arguments) e.right t.conclusion =
+    schema_says cx e.variables (call f [] e.arguments) e.right r.parts lemma theta ts t r.schema r.images (all_there e.variables theta w.can.bound) (used r.images.patterns r.schema.numbers usable) in
+    record { left = says.left; left_image = says.left_image; right = says.right; right_image = says.right_image; says = says.says; no_variable = says.no_variable }
+
+pub cited_stays : (cx : Context) (f : ℕ) (e : Equation) (lemma : Theorem) (theta : List (Option Tree)) (o : Option Theorem) (ts : List Theorem) (t : Theorem) → IsCited cx f e lemma theta o ts → StaysUsed lemma ts (listed o) t → StaysIn cx t
+cited_stays cx f e lemma theta o ts t w used =
+    let r : IsReady cx f e lemma theta o ts = ready cx f e lemma theta o ts w in
+    schema_stays cx e.variables (call f [] e.arguments) e.right r.parts lemma theta ts (listed o) t r.schema w.can.is_lemma.listed w.elements (condition_within cx e.variables theta e.condition o w.can.condition) used

@@ -1,0 +1,26 @@
+-- What the lemma of an equation says.
+use Rattle.std.specs.Prelude.{◌≡◌, ℕ, List, ◌++◌, Contains}
+use Rattle.ml_pat.specs.Patterns.{Pattern, imp}
+use Rattle.ml_kernel.specs.Theorems.{Theorem}
+use Rattle.rule_core.specs.Rules.{Equation}
+use Rattle.prove_term.specs.Contexts.{Context}
+use Rattle.prove_term.specs.EquationAxioms.{SaysEquationOf}
+use Rattle.prove_schema.specs.Schemas.{with_metas, meta_facts, parts_of, IsSentence}
+
+-- The image of the equation says something under a condition of all elements of some sorts. The theorem says the same
+-- of pattern variables, and assumes that they are elements of these sorts, and the parts of the condition.
+pub record SaysEquationSchema (cx : Context) (f : ℕ) (e : Equation) (t : Theorem) : Type 0 where
+  pub sentence : Pattern
+  pub is_sentence : SaysEquationOf cx f e sentence
+  pub numbers : List ℕ
+  pub condition : Pattern
+  pub equality : Pattern
+  pub closes : IsSentence numbers (imp condition equality) sentence
+  pub says : t.conclusion ≡ with_metas equality
+  pub assumes : (h : Pattern) → Contains t.hypotheses h →
+      Contains (meta_facts 0 numbers ++ parts_of (with_metas condition)) h
+
+-- the theorem is a lemma of the context, that of the equation
+pub record IsEquationLemma (cx : Context) (f : ℕ) (e : Equation) (t : Theorem) : Type 0 where
+  pub listed : Contains cx.lemmas t
+  pub says : SaysEquationSchema cx f e t

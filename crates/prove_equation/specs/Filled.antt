@@ -1,0 +1,60 @@
+-- What an equation gives its function at terms, with its arguments as they are written, and how that becomes what it
+-- gives at the terms.
+use Rattle.std.specs.Prelude.{◌≡◌, ℕ, List, [], ◌∷◌, Option, Some, None, length}
+use Rattle.term_core.specs.Terms.{Tree}
+use Rattle.term_core.specs.Patterns.{call}
+use Rattle.ml_pat.specs.Patterns.{Pattern, equal, var}
+use Rattle.ml_kernel.specs.Lemmas.{HasNoVariable}
+use Rattle.ml_kernel.specs.Theorems.{Theorem}
+use Rattle.ml_scope.specs.Scopes.{StaysWithin}
+use Rattle.rule_core.specs.Rules.{Equation}
+use Rattle.rule_core.specs.Matching.{RespectsSorts}
+use Rattle.ml_image.specs.Images.{image_of}
+use Rattle.ml_image.specs.HasImages.{HasEquationImage}
+use Rattle.prove_term.specs.Contexts.{Context}
+use Rattle.prove_term.specs.Filling.{filled}
+use Rattle.prove_equation.specs.Conditions.{BindsEach, SaysCondition}
+use Rattle.prove_equation.specs.EquationLemmas.{IsEquationLemma}
+
+-- the lemma of an equation that is written directly may be used with this substitution
+pub record CanFill (cx : Context) (f : ℕ) (e : Equation) (lemma : Theorem) (theta : List (Option Tree)) (o : Option Theorem)
+    : Type 0 where
+  pub image : HasEquationImage cx.program.sig f e
+  pub direct : e.parameters ≡ 0
+  pub is_lemma : IsEquationLemma cx f e lemma
+  pub room : length theta ≡ length e.variables
+  pub respects : RespectsSorts cx.program.sig e.variables theta
+  pub bound : BindsEach e.variables theta
+  pub condition : SaysCondition cx e.variables theta e.condition o
+
+-- the pattern says that the image of the function f of the equation's arguments equals that of its right side, both
+-- with the terms of a substitution in the places of their variables
+pub record SaysFilled (cx : Context) (f : ℕ) (e : Equation) (theta : List (Option Tree)) (p : Pattern) : Type 0 where
+  pub left : Pattern
+  pub left_image : image_of cx.program.sig cx.names (filled theta (call f [] e.arguments)) ≡ Some left
+  pub right : Pattern
+  pub right_image : image_of cx.program.sig cx.names (filled theta e.right) ≡ Some right
+  pub says : p ≡ equal left right
+  pub no_variable : HasNoVariable left × HasNoVariable right
+
+-- the theorem, where there is one
+abbrev pub listed : Option Theorem → List Theorem
+listed None = []
+listed (Some t) = t ∷ []
+
+-- `p = r`, and maybe `p = q`
+abbrev pub CanTurn : Pattern → Option Theorem → Type 0
+CanTurn made None = Unit {0}
+CanTurn made (Some t) =
+    (p : Pattern) × (q : Pattern) × (r : Pattern) × (t.conclusion ≡ equal p q) × (made ≡ equal p r) × HasNoVariable p
+    × HasNoVariable q
+
+-- `q = r`, or the first as it is
+abbrev pub IsTurned : Theorem → Option Theorem → Theorem → Type 0
+IsTurned made None turned = turned ≡ made
+IsTurned made (Some t) turned =
+    (p q r : Pattern) → t.conclusion ≡ equal p q → made.conclusion ≡ equal p r → turned.conclusion ≡ equal q r
+
+abbrev pub StaysTurned : Theorem → Option Theorem → Theorem → Type 0
+StaysTurned made None turned = turned ≡ made
+StaysTurned made (Some t) turned = StaysWithin (var 0 ∷ []) (t ∷ made ∷ []) turned

@@ -1,0 +1,6 @@
+-- Believed: what public clauses say, and believed definitions of other crates.
+pub mod EquationLemmas
+pub mod Conditions
+-- Private: what clauses of private functions cite.
+pub mod Filled
+pub mod Parameters

@@ -1,0 +1,152 @@
+-- What stands in schemas, and in images of patterns.
+use Rattle.std.proofs.Common.{◌≡◌, ℕ, List, [], ◌∷◌, Option, Some, None, option_map, slice_get, refl, sym, ◌∙◌, ap, subst, arith}
+use Rattle.std.specs.Prelude.{IsTrue}
+use Rattle.std.proofs.lemmas.Option.{get_or_from_slice_get}
+use Rattle.ml_pat.specs.Patterns.{Pattern, bot, top, imp, not, and, or, equal, member, fun, ex, all, app, at_sort, next, ev, var, meta, constant}
+use Rattle.ml_pat.specs.Leaves.{LeafFacts, EachLeaf}
+use Rattle.ml_kernel.specs.Lemmas.{instance, IsMetaBelow, HasNoVariable}
+use Rattle.ml_scope.specs.Scopes.{Scope, IsOver}
+use Rattle.term_core.specs.Terms.{Tree, leaf, node, inj, Forest, no_tree, more_trees}
+use Rattle.term_core.specs.Patterns.{Pattern as RulePattern, Patterns as RulePatterns, variable, domain_value, application, injection, call, no_pattern, more_patterns, substituted, all_substituted, ground_pattern, ground_patterns}
+use Rattle.rule_core.specs.declared.signature.Signature.{Signature}
+use Rattle.rule_core.proofs.SortedInstances.{mapped, both_there}
+use Rattle.ml_image.specs.Tokens.{token_of_symbol, token_of_value, numbered}
+use Rattle.ml_image.specs.Images.{both, symbol_image, sort_image, at_sorts, image_of, applied, some_symbol_image, injection_symbol, injection_image}
+use Rattle.ml_image.specs.HasImages.{HasImage, HaveImages}
+use Rattle.ml_image.proofs.ImageLaws.{none_some, some_same}
+use Rattle.prove_schema.specs.Schemas.{with_metas, IsOpenFrom}
+
+-- ---- what stands in a schema
+
+pub open_no_variable : (k n : ℕ) (p : Pattern) → IsOpenFrom k n p → HasNoVariable (with_metas p)
+open_no_variable k n bot h = tt
+open_no_variable k n top h = tt
+open_no_variable k n (imp p q) h = (open_no_variable k n p h.0, open_no_variable k n q h.1)
+open_no_variable k n (not p) h = open_no_variable k n p h
+open_no_variable k n (and p q) h = (open_no_variable k n p h.0, open_no_variable k n q h.1)
+open_no_variable k n (or p q) h = (open_no_variable k n p h.0, open_no_variable k n q h.1)
+open_no_variable k n (equal p q) h = (open_no_variable k n p h.0, open_no_variable k n q h.1)
+open_no_variable k n (member p q) h = (open_no_variable k n p h.0, open_no_variable k n q h.1)
+open_no_variable k n (fun p s) h = open_no_variable k n p h
+open_no_variable k n (ex x s p) h = absurd h
+open_no_variable k n (all x s p) h = absurd h
+open_no_variable k n (app p q) h = (open_no_variable k n p h.0, open_no_variable k n q h.1)
+open_no_variable k n (at_sort p s) h = open_no_variable k n p h
+open_no_variable k n (next p) h = open_no_variable k n p h
+open_no_variable k n (ev p) h = open_no_variable k n p h
+open_no_variable k n (var x) h = tt
+open_no_variable k n (meta i) h = tt
+open_no_variable k n (constant c) h = tt
+
+pub open_metas : (k n : ℕ) (p : Pattern) → IsOpenFrom k n p → IsMetaBelow n (with_metas p)
+open_metas k n bot h = tt
+open_metas k n top h = tt
+open_metas k n (imp p q) h = (open_metas k n p h.0, open_metas k n q h.1)
+open_metas k n (not p) h = open_metas k n p h
+open_metas k n (and p q) h = (open_metas k n p h.0, open_metas k n q h.1)
+open_metas k n (or p q) h = (open_metas k n p h.0, open_metas k n q h.1)
+open_metas k n (equal p q) h = (open_metas k n p h.0, open_metas k n q h.1)
+open_metas k n (member p q) h = (open_metas k n p h.0, open_metas k n q h.1)
+open_metas k n (fun p s) h = open_metas k n p h
+open_metas k n (ex x s p) h = absurd h
+open_metas k n (all x s p) h = absurd h
+open_metas k n (app p q) h = (open_metas k n p h.0, open_metas k n q h.1)
+open_metas k n (at_sort p s) h = open_metas k n p h
+open_metas k n (next p) h = open_metas k n p h
+open_metas k n (ev p) h = open_metas k n p h
+open_metas k n (var x) h = h.1
+open_metas k n (meta i) h = h
+open_metas k n (constant c) h = tt
+
+-- a pattern without object variables is its own schema
+pub open_closed : (n : ℕ) (p : Pattern) → IsOpenFrom n n p → with_metas p ≡ p
+open_closed n bot h = refl
+open_closed n top h = refl
+open_closed n (imp p q) h = rw (open_closed n p h.0, open_closed n q h.1) refl
+open_closed n (not p) h = ap not (open_closed n p h)
+open_closed n (and p q) h = rw (open_closed n p h.0, open_closed n q h.1) refl
+open_closed n (or p q) h = rw (open_closed n p h.0, open_closed n q h.1) refl
+open_closed n (equal p q) h = rw (open_closed n p h.0, open_closed n q h.1) refl
+open_closed n (member p q) h = rw (open_closed n p h.0, open_closed n q h.1) refl
+open_closed n (fun p s) h = ap (λ (r : Pattern). fun r s) (open_closed n p h)
+open_closed n (ex x s p) h = absurd h
+open_closed n (all x s p) h = absurd h
+open_closed n (app p q) h = rw (open_closed n p h.0, open_closed n q h.1) refl
+open_closed n (at_sort p s) h = ap (λ (r : Pattern). at_sort r s) (open_closed n p h)
+open_closed n (next p) h = ap next (open_closed n p h)
+open_closed n (ev p) h = ap ev (open_closed n p h)
+open_closed n (var x) h = absurd (omega (arith, h.0, h.1))
+open_closed n (meta i) h = refl
+open_closed n (constant c) h = refl
+
+-- a schema has only what the pattern has, and pattern variables
+pub schema_leaves : (f : LeafFacts) (p : Pattern) → ((i : ℕ) → f.meta i) → EachLeaf f p → EachLeaf f (with_metas p)
+schema_leaves f bot m h = tt
+schema_leaves f top m h = tt
+schema_leaves f (imp p q) m h = (schema_leaves f p m h.0, schema_leaves f q m h.1)
+schema_leaves f (not p) m h = schema_leaves f p m h
+schema_leaves f (and p q) m h = (schema_leaves f p m h.0, schema_leaves f q m h.1)
+schema_leaves f (or p q) m h = (schema_leaves f p m h.0, schema_leaves f q m h.1)
+schema_leaves f (equal p q) m h = (schema_leaves f p m h.0, schema_leaves f q m h.1)
+schema_leaves f (member p q) m h = (schema_leaves f p m h.0, schema_leaves f q m h.1)
+schema_leaves f (fun p s) m h = (schema_leaves f p m h.0, h.1)
+schema_leaves f (ex x s p) m h = (schema_leaves f p m h.0, h.1)
+schema_leaves f (all x s p) m h = (schema_leaves f p m h.0, h.1)
+schema_leaves f (app p q) m h = (schema_leaves f p m h.0, schema_leaves f q m h.1)
+schema_leaves f (at_sort p s) m h = (schema_leaves f p m h.0, h.1)
+schema_leaves f (next p) m h = schema_leaves f p m h
+schema_leaves f (ev p) m h = schema_leaves f p m h
+schema_leaves f (var x) m h = m x
+schema_leaves f (meta i) m h = h
+schema_leaves f (constant c) m h = h
+
+pub schema_over : (s : Scope) (p : Pattern) → ((i : ℕ) → IsTrue (s.meta i)) → IsOver s p → IsOver s (with_metas p)
+schema_over s p metas over = schema_leaves _ p metas over
+
+-- ---- images are open
+
+abbrev IsOpenHead : ℕ → Option Pattern → Type 0
+IsOpenHead n head = (h : Pattern) → head ≡ Some h → IsOpenFrom 0 n h
+
+open_constant : (n : ℕ) (o : Option ℕ) → IsOpenHead n (option_map constant o)
+open_constant n None h e = absurd (none_some h e)
+open_constant n (Some c) h e = subst (IsOpenFrom 0 n) (some_same (constant c) h e) tt
+
+open_app : (n : ℕ) (a b : Option Pattern) → IsOpenHead n a → IsOpenHead n b → IsOpenHead n (both app a b)
+open_app n None b ka kb h e = absurd (none_some h e)
+open_app n (Some p) None ka kb h e = absurd (none_some h e)
+open_app n (Some p) (Some q) ka kb h e = subst (IsOpenFrom 0 n) (some_same (app p q) h e) (ka p refl, kb q refl)
+
+open_at : (n : ℕ) (a : Option Pattern) (s : Option ℕ) → IsOpenHead n a → IsOpenHead n (both at_sort a s)
+open_at n None s ka h e = absurd (none_some h e)
+open_at n (Some p) None ka h e = absurd (none_some h e)
+open_at n (Some p) (Some s) ka h e = subst (IsOpenFrom 0 n) (some_same (at_sort p s) h e) (ka p refl)
+
+open_at_sorts : (sig : Signature) (names : List (List ℕ)) (n : ℕ) (ss : List ℕ) (head : Option Pattern) → IsOpenHead n head → IsOpenHead n (at_sorts sig names head ss)
+open_at_sorts sig names n [] head k = k
+open_at_sorts sig names n (s ∷ ss) head k =
+    open_at_sorts sig names n ss (both at_sort head (sort_image sig names s)) (open_at n head (sort_image sig names s) k)
+
+open_some : (sig : Signature) (names : List (List ℕ)) (n : ℕ) (o : Option ℕ) → IsOpenHead n (some_symbol_image sig names o)
+open_some sig names n None h e = absurd (none_some h e)
+open_some sig names n (Some f) h e = open_constant n (numbered names (token_of_symbol sig f)) h e
+
+mutual
+  pub image_is_open : (sig : Signature) (names : List (List ℕ)) (n : ℕ) (p : RulePattern) → HasImage sig n p → (q : Pattern) → image_of sig names p ≡ Some q → IsOpenFrom 0 n q
+  image_is_open sig names n (variable x) has q e = subst (IsOpenFrom 0 n) (some_same (var x) q e) (omega arith, has)
+  image_is_open sig names n (domain_value s v) has q e = open_constant n (numbered names (token_of_value sig s v)) q e
+  image_is_open sig names n (application f ps) has q e =
+      applied_is_open sig names n ps (symbol_image sig names f) has.1 (open_constant n (numbered names (token_of_symbol sig f))) q e
+  image_is_open sig names n (injection a b p) has q e =
+      open_app n (injection_image sig names a b) (image_of sig names p)
+      (open_at_sorts sig names n (a ∷ b ∷ []) (some_symbol_image sig names (injection_symbol sig)) (open_some sig names n (injection_symbol sig)))
+      (image_is_open sig names n p has.2) q e
+  image_is_open sig names n (call f ss ps) has q e =
+      applied_is_open sig names n ps (at_sorts sig names (symbol_image sig names f) ss) has.2
+      (open_at_sorts sig names n ss (symbol_image sig names f) (open_constant n (numbered names (token_of_symbol sig f)))) q e
+
+  applied_is_open : (sig : Signature) (names : List (List ℕ)) (n : ℕ) (ps : RulePatterns) (head : Option Pattern) → HaveImages sig n ps → IsOpenHead n head → (q : Pattern) → applied sig names head ps ≡ Some q → IsOpenFrom 0 n q
+  applied_is_open sig names n no_pattern head has k q e = k q e
+  applied_is_open sig names n (more_patterns p ps) head has k q e =
+      applied_is_open sig names n ps (both app head (image_of sig names p)) has.1
+      (open_app n head (image_of sig names p) k (image_is_open sig names n p has.0)) q e

@@ -1,0 +1,15 @@
+use Rattle.std.proofs.Common.{rules, ◌≡◌, ◌<◌, ◌+◌, ℕ, length, sym, ◌∙◌, ap, subst, arith}
+use Rattle.ml_pat.specs.Patterns.{Pattern, fun, member, equal, meta}
+use Rattle.ml_pat.specs.PatternView.{pattern_of}
+use Rattle.prove_schema.proofs.UsingLaws.{proved_fun, proved_member, fact_place, member_place, some_others, given_fact, given_member, given_condition, no_other_form}
+use Rattle.prove_schema.proofs.using.proof.Goals as goal
+
+pub nth-requires : goal.nth-requires
+nth-requires c =
+    fact_place c.requires.0 c.requires.1 c.args.facts.now c.args.others.now c.args.hypothesis.now c.in-Fun.element c.in-Fun.field-1.0 c.number.result c.requires.2 c.requires.3
+    (sym c.form.ensures ∙ ap pattern_of c.in-Fun.is) c.number.ensures
+
+pub returns-in-Fun : goal.returns-in-Fun
+returns-in-Fun c =
+    given_fact c.args.facts.now c.args.others.now c.args.hypothesis.now c.in-Fun.element c.in-Fun.field-1.0 c.number.result c.nth.result.now
+    (sym c.form.ensures ∙ ap pattern_of c.in-Fun.is) c.number.ensures c.nth.ensures

@@ -1,0 +1,37 @@
+-- Theorems that only assume.
+use Rattle.std.specs.Prelude.{◌≡◌, List, [], ◌∷◌}
+use Rattle.ml_pat.specs.Patterns.{Pattern, bot, top, imp, not, and, or, equal, member, fun, ex, all}
+use Rattle.ml_pat.specs.Patterns.{app, at_sort, next, ev, var, meta, constant}
+use Rattle.ml_kernel.specs.Theorems.{Theorem}
+use Rattle.ml_scope.specs.Scopes.{Scope, AssumesWithin, AreAssumed, IsWithin}
+use Rattle.prove_schema.specs.Schemas.{parts_of}
+
+-- each theorem says no more than what it assumes
+abbrev pub AreAssumptions : List Theorem → Type 0
+AreAssumptions [] = Unit {0}
+AreAssumptions (t ∷ ts) = AssumesWithin t.conclusion t × AreAssumptions ts
+
+-- of the quantifiers in front of a pattern: that the pattern variable of each number is one element of its sort
+abbrev pub facts_of : Pattern → List Pattern
+facts_of bot = []
+facts_of top = []
+facts_of (imp p q) = []
+facts_of (not p) = []
+facts_of (and p q) = []
+facts_of (or p q) = []
+facts_of (equal p q) = []
+facts_of (member p q) = []
+facts_of (fun p s) = []
+facts_of (ex x s p) = []
+facts_of (all x s p) = fun (meta x) s ∷ facts_of p
+facts_of (app p q) = []
+facts_of (at_sort p s) = []
+facts_of (next p) = []
+facts_of (ev p) = []
+facts_of (var x) = []
+facts_of (meta i) = []
+facts_of (constant c) = []
+
+-- a scope where each part of the pattern may be assumed has the theorem
+abbrev pub HoldsByParts : Pattern → Theorem → Type 0
+HoldsByParts p t = (s : Scope) → AreAssumed s (parts_of p) → IsWithin s t

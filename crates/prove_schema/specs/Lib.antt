@@ -1,0 +1,8 @@
+-- Believed: what public clauses say, and believed definitions of other crates.
+pub mod Schemas
+pub mod Opening
+pub mod Using
+pub mod Elements
+-- Private: what clauses of private functions cite.
+pub mod Assumptions
+pub mod Giving

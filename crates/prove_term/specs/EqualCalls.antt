@@ -1,0 +1,28 @@
+-- That the image of a function of patterns' terms as they are written equals that of their normal forms, as a theorem
+-- says it.
+use Rattle.std.specs.Prelude.{◌≡◌, ℕ, List, [], Option, Some, None}
+use Rattle.term_core.specs.Terms.{Tree, Forest}
+use Rattle.term_core.specs.Patterns.{Patterns, call, all_substituted, ground_patterns}
+use Rattle.ml_pat.specs.Patterns.{Pattern, equal}
+use Rattle.ml_kernel.specs.Lemmas.{HasNoVariable}
+use Rattle.ml_kernel.specs.Theorems.{Theorem}
+use Rattle.ml_image.specs.Images.{image_of}
+use Rattle.prove_term.specs.Contexts.{Context, StaysIn}
+
+-- the pattern says that the image of the function f of some terms equals that of f of others; no object variable stands
+-- in them
+pub record SaysEqualCall (cx : Context) (f : ℕ) (ts us : Forest) (p : Pattern) : Type 0 where
+  pub left : Pattern
+  pub left_image : image_of cx.program.sig cx.names (call f [] (ground_patterns ts)) ≡ Some left
+  pub right : Pattern
+  pub right_image : image_of cx.program.sig cx.names (call f [] (ground_patterns us)) ≡ Some right
+  pub says : p ≡ equal left right
+  pub no_variable : HasNoVariable left × HasNoVariable right
+
+-- What the patterns become under the substitution, as they are written, are these terms, and there is no theorem; or
+-- the theorem says that f of them equals f of these terms, and stays in the context.
+abbrev pub SaysEqualCalls : Context → ℕ → List (Option Tree) → Patterns → Forest → Option Theorem → Type 0
+SaysEqualCalls cx f theta ps us None = all_substituted theta ps ≡ Some us
+SaysEqualCalls cx f theta ps us (Some t) =
+    (written : Forest) × (all_substituted theta ps ≡ Some written) × SaysEqualCall cx f written us t.conclusion
+    × StaysIn cx t

@@ -1,0 +1,43 @@
+// Equations of functions as axioms.
+ghost use Rattle.std.specs.Prelude.{◌≡◌, [], IfOk};
+ghost use Rattle.rule_core.specs.ProgramView.{function_equation, theory_of};
+ghost use Rattle.ml_image.specs.HasImages.{HasEquationImage};
+ghost use Rattle.ml_image.specs.OwnAxioms.{IsEquationFor};
+ghost use Rattle.prove_term.specs.Contexts.{HasGrown, StaysIn};
+ghost use Rattle.prove_term.specs.EquationAxioms.{SaysEquationOf};
+
+use crate::context::Cx;
+use ml_image::equation_image;
+use ml_kernel::Thm;
+use ml_pat::MPat;
+use rule_core::Equation;
+use std::alloc::{AllocError, Global};
+
+impl<'p> Cx<'p> {
+    /// The image of an equation of a function as a theorem. Each call states it as an axiom: who uses an equation often
+    /// keeps the theorem, or what is made of it. `AllocError` says that memory was wanting; the context may have grown
+    /// then too.
+    pub fn equation_axiom(&mut self, alloc: Global, equation: &Equation) -> Result<Thm, AllocError>
+        requires image { HasEquationImage self.old.program.sig equation.now.fun.0 (function_equation equation.now) }
+        requires own { IsEquationFor (theory_of self.old.program) equation.now.fun.0 (function_equation equation.now) }
+        ensures says { IfOk result
+            (λ t. SaysEquationOf self.new equation.now.fun.0 (function_equation equation.now) t.conclusion) }
+        ensures no_hypotheses { IfOk result (λ t. t.hypotheses ≡ []) }
+        ensures stays { IfOk result (StaysIn self.new) }
+        ensures grown { HasGrown self.old self.new }
+    {
+        let image = self.equation_image(alloc, equation)?;
+        let no = self.state(image)?;
+        self.axiom(alloc, no)
+    }
+
+    // The image of an equation.
+    fn equation_image(&mut self, alloc: Global, equation: &Equation) -> Result<MPat, AllocError>
+        requires { HasEquationImage self.old.program.sig equation.now.fun.0 (function_equation equation.now) }
+        ensures says { IfOk result
+            (SaysEquationOf self.new equation.now.fun.0 (function_equation equation.now)) }
+        ensures grown { HasGrown self.old self.new }
+    {
+        equation_image(alloc, &self.program.sig, &mut self.names, equation)
+    }
+}
