@@ -2,7 +2,7 @@
 use Rattle.std.proofs.Common.{◌≡◌, ◌≢◌, ◌<◌, ◌≤◌, ◌+◌, ◌⊎◌, ℕ, zero, suc, true, List, [], ◌∷◌, ◌++◌, Option, Some, None, option_map, length, slice_get, inl, inr, refl, sym, ◌∙◌, ap, subst, arith}
 use Rattle.std.specs.Prelude.{All, Contains, IsSome, slice_index_or}
 use Rattle.std.specs.List.{AllZip}
-use Rattle.std.proofs.lemmas.List.Elements.{Contains-get_or, Contains-append_cases}
+use Rattle.std.proofs.lemmas.List.Elements.{Contains-get_or, Contains-append_cases, Contains-append_left}
 use Rattle.ml_pat.specs.Patterns.{Pattern, top, imp, and, equal, fun, meta}
 use Rattle.ml_kernel.specs.Lemmas.{instance, HasNoVariable, HaveNoVariables, IsMetaBelow}
 use Rattle.ml_kernel.specs.Theorems.{Theorem}
@@ -16,7 +16,7 @@ use Rattle.rule_core.specs.declared.signature.Signature.{Signature}
 use Rattle.rule_core.specs.declared.signature.SymInfo.{SymInfo}
 use Rattle.rule_core.specs.declared.rules.Program.{Program}
 use Rattle.ml_image.specs.Images.{both, image_of, sort_image}
-use Rattle.ml_image.specs.HasImages.{HasImage, IsTruth, HasEquationImage}
+use Rattle.ml_image.specs.HasImages.{HasImage, IsTruth, IsCondition, HasEquationImage}
 use Rattle.ml_image.specs.OwnAxioms.{condition_of, sort_of, made_sort, is_true}
 use Rattle.ml_image.specs.Sentences.{Sentence, sentence_image, term, equals}
 use Rattle.ml_image.specs.Sentences as says
@@ -259,3 +259,111 @@ condition_within cx vars theta None None h s has = tt
 condition_within cx vars theta None (Some t) h s has = absurd h
 condition_within cx vars theta (Some p) None h s has = absurd h
 condition_within cx vars theta (Some p) (Some t) (sort, sorted, says, stays) s has = (stays s has, tt)
+
+-- ---- an equation that is written directly
+
+pub equation_lemma_grown : (old new : Context) (f : ℕ) (e : Equation) (t : Theorem) → HasGrown old new → IsEquationLemma old f e t → IsEquationLemma new f e t
+equation_lemma_grown old new f e t g is = record {
+  listed = subst (λ (ts : List Theorem). Contains ts t) (sym g.more_lemmas) (Contains-append_left old.lemmas g.lemmas t is.listed);
+  says = record {
+    sentence = is.says.sentence;
+    is_sentence = says_equation_grown old new f e is.says.sentence g is.says.is_sentence;
+    numbers = is.says.numbers;
+    condition = is.says.condition;
+    equality = is.says.equality;
+    closes = is.says.closes;
+    says = is.says.says;
+    assumes = is.says.assumes;
+  };
+}
+
+pub can_fill_grown : (old new : Context) (f : ℕ) (e : Equation) (lemma : Theorem) (theta : List (Option Tree)) (o : Option Theorem) → HasGrown old new → CanFill old f e lemma theta o → CanFill new f e lemma theta o
+can_fill_grown old new f e lemma theta o g can = record {
+  image = subst (λ (p : Program). HasEquationImage p.sig f e) (sym g.program) can.image;
+  direct = can.direct;
+  is_lemma = equation_lemma_grown old new f e lemma g can.is_lemma;
+  room = can.room;
+  respects = subst (λ (p : Program). RespectsSorts p.sig e.variables theta) (sym g.program) can.respects;
+  bound = can.bound;
+  condition = condition_grown old new e.variables theta e.condition o g can.condition;
+}
+
+shape_of : (cx : Context) (f : ℕ) (e : Equation) (lemma : Theorem) → e.parameters ≡ 0 → (s : SaysEquationSchema cx f e lemma) → IsDirect cx.program.sig cx.names f e s.sentence
+shape_of cx f e lemma none s = direct_shape cx.program.sig cx.names f e s.sentence none s.is_sentence
+
+direct_schema : (cx : Context) (f : ℕ) (e : Equation) (lemma : Theorem) → HasEquationImage cx.program.sig f e → (s : SaysEquationSchema cx f e lemma) → (d : IsDirect cx.program.sig cx.names f e s.sentence)
+    → IsEqualitySchema cx e.variables (call f [] e.arguments) e.right (parts_of (with_metas d.condition)) lemma
+direct_schema cx f e lemma has s d =
+    let same : (s.numbers ≡ d.numbers) × (s.condition ≡ d.condition) × (s.equality ≡ equal d.left d.right) =
+    closed_same 0 s.numbers d.numbers s.condition s.equality d.condition (equal d.left d.right) (sym s.closes.says ∙ d.says) in
+    record {
+      numbers = d.numbers;
+      are = d.are;
+      left = d.left;
+      left_image = d.left_image;
+      left_has = (has.function, tt, has.arguments);
+      right = d.right;
+      right_image = d.right_image;
+      right_has = has.right;
+      says = s.says ∙ ap with_metas same.2;
+      assumes = λ h there. subst (λ (ns : List ℕ). Contains (meta_facts 0 ns ++ parts_of (with_metas d.condition)) h) same.0
+          (subst (λ (c : Pattern). Contains (meta_facts 0 s.numbers ++ parts_of (with_metas c)) h) same.1 (s.assumes h there));
+    }
+
+-- what the condition's theorem proves
+direct_proved : (cx : Context) (f : ℕ) (e : Equation) (p : Pattern) (theta : List (Option Tree)) (o : Option Theorem) (qs : List Pattern) (d : IsDirect cx.program.sig cx.names f e p) → (c : Option RulePattern) → e.condition ≡ c → IsCondition cx.program.sig e.variables c
+    → AreImages cx.program.sig cx.names theta qs → AllThere theta (length e.variables) → length e.variables ≡ length qs → SaysCondition cx e.variables theta c o
+    → (h : Pattern) → Contains (parts_of (with_metas d.condition)) h → IsProved qs d.numbers (listed o) h
+direct_proved cx f e p theta o qs d None is has images there many said h part =
+    let holds : d.holds ≡ says.top = some_same d.holds says.top (sym d.is_holds ∙ ap (condition_of cx.program.sig e.variables) is) in
+    let nothing : d.condition ≡ top = some_same d.condition top (sym d.is_condition ∙ ap (sentence_image cx.program.sig cx.names) holds) in
+    absurd (omega (arith, (subst (λ (q : Pattern). Contains (parts_of (with_metas q)) h) nothing part).1))
+direct_proved cx f e p theta None qs d (Some c) is has images there many said h part = absurd said
+direct_proved cx f e p theta (Some t) qs d (Some c) is has images there many (sort, sorted, value, stays) h part =
+    let holds : d.holds ≡ is_true c sort =
+    condition_is cx.program.sig e.variables c sort d.holds (sort_of_sorted cx.program.sig e.variables c sort sorted) (ap (condition_of cx.program.sig e.variables) (sym is) ∙ d.is_holds) in
+    condition_proved cx e.variables theta qs d.numbers (t ∷ []) 0 sort c t d.condition h images there many has sorted (ap (sentence_image cx.program.sig cx.names) (sym holds) ∙ d.is_condition) value refl refl part
+
+-- all that is known where the lemma is cited
+pub record IsCited (cx : Context) (f : ℕ) (e : Equation) (lemma : Theorem) (theta : List (Option Tree)) (o : Option Theorem) (ts : List Theorem) : Type 0 where
+  pub can : CanFill cx f e lemma theta o
+  pub elements : AreElementsFor cx theta ts
+
+-- the lemma as an equality of patterns, and the facts on the terms
+record IsReady (cx : Context) (f : ℕ) (e : Equation) (lemma : Theorem) (theta : List (Option Tree)) (o : Option Theorem) (ts : List Theorem) : Type 0 where
+  parts : List Pattern
+  schema : IsEqualitySchema cx e.variables (call f [] e.arguments) e.right parts lemma
+  images : HasImages cx theta schema.numbers ts
+  proved : (h : Pattern) → Contains parts h → IsProved images.patterns schema.numbers (listed o) h
+
+ready : (cx : Context) (f : ℕ) (e : Equation) (lemma : Theorem) (theta : List (Option Tree)) (o : Option Theorem) (ts : List Theorem) → IsCited cx f e lemma theta o ts → IsReady cx f e lemma theta o ts
+unfolding direct_schema shape_of
+ready cx f e lemma theta o ts w =
+    let d : IsDirect cx.program.sig cx.names f e w.can.is_lemma.says.sentence = shape_of cx f e lemma w.can.direct w.can.is_lemma.says in
+    let i : HasImages cx theta d.numbers ts = elements_have cx theta e.variables d.numbers ts w.elements d.are w.can.respects w.can.room in
+    let many : (length i.patterns ≡ length ts) × (length d.numbers ≡ length ts) = as_many_facts i.patterns d.numbers ts i.facts in
+    let total : length e.variables ≡ length i.patterns = sym (numbers_length cx.program.sig cx.names e.variables d.numbers d.are) ∙ many.1 ∙ sym many.0 in
+    record {
+      parts = parts_of (with_metas d.condition);
+      schema = direct_schema cx f e lemma w.can.image w.can.is_lemma.says d;
+      images = i;
+      proved = direct_proved cx f e w.can.is_lemma.says.sentence theta o i.patterns d e.condition refl w.can.image.condition i.images (all_there e.variables theta w.can.bound) total w.can.condition;
+    }
+
+pub cited_usable : (cx : Context) (f : ℕ) (e : Equation) (lemma : Theorem) (theta : List (Option Tree)) (o : Option Theorem) (ts : List Theorem) → IsCited cx f e lemma theta o ts → (qs : List Pattern) × (ns : List ℕ) × IsUsable qs ns lemma ts (listed o)
+cited_usable cx f e lemma theta o ts w =
+    let r : IsReady cx f e lemma theta o ts = ready cx f e lemma theta o ts w in
+    (r.images.patterns, r.schema.numbers, schema_usable cx e.variables (call f [] e.arguments) e.right r.parts lemma theta ts (listed o) r.schema r.images r.proved)
+
+pub cited_says : (cx : Context) (f : ℕ) (e : Equation) (lemma : Theorem) (theta : List (Option Tree)) (o : Option Theorem) (ts : List Theorem) (t : Theorem) → IsCited cx f e lemma theta o ts → IsUsed lemma ts (listed o) t → SaysFilled cx f e theta t.conclusion
+cited_says cx f e lemma theta o ts t w used =
+    let r : IsReady cx f e lemma theta o ts = ready cx f e lemma theta o ts w in
+    let usable : IsUsable r.images.patterns r.schema.numbers lemma ts (listed o) = schema_usable cx e.variables (call f [] e.arguments) e.right r.parts lemma theta ts (listed o) r.schema r.images r.proved in
+    let says : SaysOfTerms cx theta (call f [] e.arguments) e.right t.conclusion =
+    schema_says cx e.variables (call f [] e.arguments) e.right r.parts lemma theta ts t r.schema r.images (all_there e.variables theta w.can.bound) (used r.images.patterns r.schema.numbers usable) in
+    record { left = says.left; left_image = says.left_image; right = says.right; right_image = says.right_image; says = says.says; no_variable = says.no_variable }
+
+pub cited_stays : (cx : Context) (f : ℕ) (e : Equation) (lemma : Theorem) (theta : List (Option Tree)) (o : Option Theorem) (ts : List Theorem) (t : Theorem) → IsCited cx f e lemma theta o ts → StaysUsed lemma ts (listed o) t → StaysIn cx t
+cited_stays cx f e lemma theta o ts t w used =
+    let r : IsReady cx f e lemma theta o ts = ready cx f e lemma theta o ts w in
+    schema_stays cx e.variables (call f [] e.arguments) e.right r.parts lemma theta ts (listed o) t r.schema w.can.is_lemma.listed w.elements (condition_within cx e.variables theta e.condition o w.can.condition) used

@@ -25,16 +25,16 @@ only_one x y (suc k, low, is) = absurd (omega (arith, low))
 alone_over : (s : Scope) (p q : Pattern) → IsOver s p → Contains (p ∷ []) q → IsOver s q
 alone_over s p q over there = subst (IsOver s) (only_one p q there) over
 
+either : {A B C : Type 0} → (A → C) → (B → C) → A ⊎ B → C
+either f g (inl a) = f a
+either f g (inr b) = g b
+
 pub parts_over : (s : Scope) (p q : Pattern) → IsOver s p → Contains (parts_of p) q → IsOver s q
 parts_over s bot q over there = alone_over s bot q over there
 parts_over s top q over there = absurd (omega (arith, there.1))
 parts_over s (imp a b) q over there = alone_over s (imp a b) q over there
 parts_over s (not a) q over there = alone_over s (not a) q over there
-parts_over s (and a b) q over there = go (Contains-append_cases (parts_of a) (parts_of b) q there)
-  where
-    go : Contains (parts_of a) q ⊎ Contains (parts_of b) q → IsOver s q
-    go (inl left) = parts_over s a q over.0 left
-    go (inr right) = parts_over s b q over.1 right
+parts_over s (and a b) q over there = either (parts_over s a q over.0) (parts_over s b q over.1) (Contains-append_cases (parts_of a) (parts_of b) q there)
 parts_over s (or a b) q over there = alone_over s (or a b) q over there
 parts_over s (equal a b) q over there = alone_over s (equal a b) q over there
 parts_over s (member a b) q over there = alone_over s (member a b) q over there
@@ -57,12 +57,12 @@ facts_over s k (n ∷ ns) p q metas over (suc i, low, is) = facts_over s (k + 1)
 -- ---- the lemma
 
 -- what is known of an equation, its axiom, the axiom at pattern variables, and that without its condition
-pub record IsOpened (cx : Context) (f : ℕ) (e : Equation) (axiom whole : Theorem) : Type 0 where
+pub record IsOpened (cx : Context) (f : ℕ) (e : Equation) (stated whole : Theorem) : Type 0 where
   pub image : HasEquationImage cx.program.sig f e
-  pub axiom_says : SaysEquationOf cx f e axiom.conclusion
-  pub axiom_stays : StaysIn cx axiom
-  pub says : IsSchemaOf axiom.conclusion whole.conclusion
-  pub stays : StaysOpen axiom whole
+  pub axiom_says : SaysEquationOf cx f e stated.conclusion
+  pub axiom_stays : StaysIn cx stated
+  pub says : IsSchemaOf stated.conclusion whole.conclusion
+  pub stays : StaysOpen stated whole
 
 pub image_grown : (old cx : Context) (f : ℕ) (e : Equation) → HasGrown old cx → HasEquationImage old.program.sig f e → HasEquationImage cx.program.sig f e
 image_grown old cx f e g h = subst (λ (p : Program). HasEquationImage p.sig f e) (sym g.program) h
@@ -75,17 +75,17 @@ axiom_for_all old cx f e p g has says =
     let i : IsImplied p = implied cx f e p (image_grown old cx f e g has) says in
     (i.numbers, imp i.condition i.equality, i.closes)
 
-pub opened_conditional : (cx : Context) (f : ℕ) (e : Equation) (axiom whole : Theorem) → IsOpened cx f e axiom whole → IsConditional whole.conclusion
-opened_conditional cx f e axiom whole o =
-    let i : IsImplied axiom.conclusion = implied cx f e axiom.conclusion o.image o.axiom_says in
+pub opened_conditional : (cx : Context) (f : ℕ) (e : Equation) (stated whole : Theorem) → IsOpened cx f e stated whole → IsConditional whole.conclusion
+opened_conditional cx f e stated whole o =
+    let i : IsImplied stated.conclusion = implied cx f e stated.conclusion o.image o.axiom_says in
     (with_metas i.condition, with_metas i.equality, o.says i.numbers (imp i.condition i.equality) i.closes)
 
-opened_assuming : (cx : Context) (f : ℕ) (e : Equation) (axiom whole freed : Theorem) → IsOpened cx f e axiom whole → StaysFollowing whole freed → (i : IsImplied axiom.conclusion)
+opened_assuming : (cx : Context) (f : ℕ) (e : Equation) (stated whole freed : Theorem) → IsOpened cx f e stated whole → StaysFollowing whole freed → (i : IsImplied stated.conclusion)
     → StaysAssuming cx (meta_facts 0 i.numbers ++ parts_of (with_metas i.condition)) freed
-opened_assuming cx f e axiom whole freed o follows i s has may =
+opened_assuming cx f e stated whole freed o follows i s has may =
     let facts : List Pattern = meta_facts 0 i.numbers in
     let conditions : List Pattern = parts_of (with_metas i.condition) in
-    let axiom_within : IsWithin s axiom = o.axiom_stays s has in
+    let axiom_within : IsWithin s stated = o.axiom_stays s has in
     let axiom_over : IsOver s (closed 0 i.numbers (imp i.condition i.equality)) = subst (IsOver s) i.closes.says axiom_within.conclusion in
     let facts_assumed : AreAssumed s (meta_facts 0 i.numbers) =
     λ p there. (may p (Contains-append_left (meta_facts 0 i.numbers) (parts_of (with_metas i.condition)) p there), facts_over s 0 i.numbers (imp i.condition i.equality) p has.metas axiom_over there) in
@@ -95,21 +95,21 @@ opened_assuming cx f e axiom whole freed o follows i s has may =
     follows (with_metas i.condition) (with_metas i.equality) says s whole_within
     (λ p there. (may p (Contains-append_right (meta_facts 0 i.numbers) (parts_of (with_metas i.condition)) p there), parts_over s (with_metas i.condition) p whole_over.0 there))
 
-pub opened_lemma : (cx : Context) (f : ℕ) (e : Equation) (axiom whole freed : Theorem) → IsOpened cx f e axiom whole → StaysFollowing whole freed → IsLemmaIn cx freed
-opened_lemma cx f e axiom whole freed o follows =
-    let i : IsImplied axiom.conclusion = implied cx f e axiom.conclusion o.image o.axiom_says in
-    lemma_of cx (meta_facts 0 i.numbers ++ parts_of (with_metas i.condition)) freed (opened_assuming cx f e axiom whole freed o follows i)
+pub opened_lemma : (cx : Context) (f : ℕ) (e : Equation) (stated whole freed : Theorem) → IsOpened cx f e stated whole → StaysFollowing whole freed → IsLemmaIn cx freed
+opened_lemma cx f e stated whole freed o follows =
+    let i : IsImplied stated.conclusion = implied cx f e stated.conclusion o.image o.axiom_says in
+    lemma_of cx (meta_facts 0 i.numbers ++ parts_of (with_metas i.condition)) freed (opened_assuming cx f e stated whole freed o follows i)
 
-pub opened_says : (cx : Context) (f : ℕ) (e : Equation) (axiom whole freed : Theorem) → IsOpened cx f e axiom whole → IsFollowing whole.conclusion freed.conclusion → StaysFollowing whole freed → SaysEquationSchema cx f e freed
-opened_says cx f e axiom whole freed o follows stays =
-    let i : IsImplied axiom.conclusion = implied cx f e axiom.conclusion o.image o.axiom_says in
+pub opened_says : (cx : Context) (f : ℕ) (e : Equation) (stated whole freed : Theorem) → IsOpened cx f e stated whole → IsFollowing whole.conclusion freed.conclusion → StaysFollowing whole freed → SaysEquationSchema cx f e freed
+opened_says cx f e stated whole freed o follows stays =
+    let i : IsImplied stated.conclusion = implied cx f e stated.conclusion o.image o.axiom_says in
     record {
-      sentence = axiom.conclusion;
+      sentence = stated.conclusion;
       is_sentence = o.axiom_says;
       numbers = i.numbers;
       condition = i.condition;
       equality = i.equality;
       closes = i.closes;
       says = follows (with_metas i.condition) (with_metas i.equality) (o.says i.numbers (imp i.condition i.equality) i.closes);
-      assumes = assumes_only cx (meta_facts 0 i.numbers ++ parts_of (with_metas i.condition)) freed (opened_assuming cx f e axiom whole freed o stays i);
+      assumes = assumes_only cx (meta_facts 0 i.numbers ++ parts_of (with_metas i.condition)) freed (opened_assuming cx f e stated whole freed o stays i);
     }

@@ -96,7 +96,7 @@ sides c l r p h =
 
 pub direct_shape : (sig : Signature) (names : List (List ℕ)) (f : ℕ) (e : Equation) (p : Pattern) → e.parameters ≡ 0 → IsImageOf sig names (SaysEquation sig f e) p → IsDirect sig names f e p
 direct_shape sig names f e p none (s, kompile c info sorts sort some many declared holds is, image) = absurd (some none)
-direct_shape sig names f e p none (s, direct c no holds is, image) =
+direct_shape sig names f e p none (s, direct c zero_parameters holds is, image) =
     let body : Sentence = implies c (equals (term (call f [] e.arguments)) (term e.right)) in
     let inside : IsClosed sig names 0 e.variables body p = closed_image sig names 0 e.variables body p (ap (sentence_image sig names) (sym is) ∙ image) in
     let parts : Sides (sentence_image sig names c) (image_of sig names (call f [] e.arguments)) (image_of sig names e.right) inside.body =
@@ -124,7 +124,7 @@ direct_is_sentence sig names f e p has d =
     let right : IsOpenFrom 0 (length e.variables) d.right = image_is_open sig names (length e.variables) e.right has.right d.right d.right_image in
     record {
       says = d.says;
-      is_open = subst (λ (n : ℕ). IsOpenFrom 0 n (imp d.condition (equal d.left d.right))) many (condition, left, right);
+      is_open = subst (λ (n : ℕ). IsOpenFrom 0 n (imp d.condition (equal d.left d.right))) many (condition, (left, right));
     }
 
 -- ---- an equation in the form of kompile
@@ -150,7 +150,7 @@ pub record IsKompile (sig : Signature) (names : List (List ℕ)) (f : ℕ) (e : 
   pub says : p ≡ closed 0 numbers (imp (and condition met) (equal left right))
 
 pub kompile_shape : (sig : Signature) (names : List (List ℕ)) (f : ℕ) (e : Equation) (p : Pattern) → e.parameters ≢ 0 → IsImageOf sig names (SaysEquation sig f e) p → IsKompile sig names f e p
-kompile_shape sig names f e p some (s, direct c no holds is, image) = absurd (some no)
+kompile_shape sig names f e p some (s, direct c zero_parameters holds is, image) = absurd (some zero_parameters)
 kompile_shape sig names f e p some (s, kompile c info sorts sort other many declared holds is, image) =
     let k : ℕ = length sorts in
     let ms : Sentence = meets 0 (all_shifted (length sorts) e.arguments) in
@@ -208,7 +208,7 @@ sort_of-behind sig sorts vars (application f ps) = refl
 sort_of-behind sig sorts vars (injection a b p) = refl
 sort_of-behind sig sorts vars (call f ss ps) = refl
 
-condition_behind : (sig : Signature) (sorts vars : List ℕ) (o : Option RulePattern) → own.IsCondition sig vars o → own.IsCondition sig (sorts ++ vars) (option_map (shifted (length sorts)) o)
+pub condition_behind : (sig : Signature) (sorts vars : List ℕ) (o : Option RulePattern) → own.IsCondition sig vars o → own.IsCondition sig (sorts ++ vars) (option_map (shifted (length sorts)) o)
 condition_behind sig sorts vars None h = tt
 condition_behind sig sorts vars (Some p) h = record {
   image = subst (λ (n : ℕ). HasImage sig n (shifted (length sorts) p)) (sym (length-append sorts vars)) (shifted_has sig (length sorts) (length vars) p h.image);

@@ -3,3 +3,4 @@ pub mod EquationLemmas
 pub mod Conditions
 -- Private: what clauses of private functions cite.
 pub mod Filled
+pub mod Parameters

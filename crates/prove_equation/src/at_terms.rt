@@ -1,30 +1,29 @@
 // Equations at terms.
 ghost use Rattle.std.specs.Prelude.{◌≡◌, [], IfOk};
 ghost use Rattle.term_core.specs.Terms.{forest};
+ghost use Rattle.term_core.specs.PatternLists.{plain_patterns};
 ghost use Rattle.rule_core.specs.Matching.{MatchAll};
 ghost use Rattle.rule_core.specs.ProgramView.{function_equation, sorts_of, theory_of};
 ghost use Rattle.rule_core.specs.WellSorted.{IsWellSorted};
-ghost use Rattle.term_core.specs.PatternLists.{plain_patterns};
 ghost use Rattle.ml_image.specs.HasImages.{HasEquationImage};
 ghost use Rattle.ml_image.specs.OwnAxioms.{IsEquationFor};
 ghost use Rattle.prove_term.specs.Contexts.{HasGrown, StaysIn};
 ghost use Rattle.prove_term.specs.Values.{SaysEquationAt};
 ghost use Rattle.prove_equation.specs.Conditions.{BindsEach, SaysCondition};
 ghost use Rattle.prove_equation.specs.EquationLemmas.{IsEquationLemma};
-ghost use Rattle.prove_equation.specs.Filled.{CanFill, CanTurn, IsTurned, SaysFilled, StaysTurned, listed};
 
-use ml_derived::{flip, join};
+use crate::direct::direct_at;
+use crate::parameters::kompile_at;
 use ml_kernel::{Lemma, Thm};
-use prove_schema::{elements, schema_at};
-use prove_term::{Cx, call_eq};
+use prove_term::Cx;
 use rule_core::Equation;
 use std::alloc::{AllocError, Global};
 use term_core::{Subst, Term};
 
-/// What the lemma of an equation that is written directly gives its function at terms that its arguments match: the
-/// function of them equals the right side, with what the match gives its variables in their places. `condition` says
-/// that the equation's condition is true there, where it has one. `AllocError` says that memory was wanting, or what it
-/// says of `fun_of`; the context may have grown then too.
+/// What the lemma of an equation gives its function at terms that its arguments match: the function of them equals the
+/// right side, with what the match gives its variables in their places. `condition` says that the equation's condition
+/// is true there, where it has one. `AllocError` says that memory was wanting, or what it says of `fun_of`; the context
+/// may have grown then too. The cost grows with the terms that the match gives the variables.
 pub fn equation_at(
     alloc: Global,
     cx: &mut Cx<'_>,
@@ -37,7 +36,6 @@ pub fn equation_at(
     requires well_sorted { IsWellSorted (theory_of cx.old.program) }
     requires image { HasEquationImage cx.old.program.sig equation.now.fun.0 (function_equation equation.now) }
     requires own { IsEquationFor (theory_of cx.old.program) equation.now.fun.0 (function_equation equation.now) }
-    requires direct { equation.now.params ≡ 0 }
     requires lemma { IsEquationLemma cx.old equation.now.fun.0 (function_equation equation.now) lemma.now }
     requires matches { MatchAll cx.old.program.sig (sorts_of equation.now.vars.items)
         (plain_patterns equation.now.args.items) (forest args.now) subst.now }
@@ -50,54 +48,9 @@ pub fn equation_at(
     ensures stays { IfOk result (StaysIn cx.new) }
     ensures grown { HasGrown cx.old cx.new }
 {
-    let made = filled(alloc, cx, lemma, equation, subst, condition)?;
-    let normal = call_eq(alloc, cx, equation.fun, &equation.args, subst, args)?;
-    from_normal(alloc, made, &normal)
-}
-
-// What the lemma says of what the match gives the equation's variables, with the arguments as they are written.
-fn filled(
-    alloc: Global,
-    cx: &mut Cx<'_>,
-    lemma: &Lemma,
-    equation: &Equation,
-    subst: &Subst,
-    condition: &Option<Thm>,
-) -> Result<Thm, AllocError>
-    requires well_sorted { IsWellSorted (theory_of cx.old.program) }
-    requires used { CanFill cx.old equation.now.fun.0 (function_equation equation.now) lemma.now subst.now condition.now }
-    ensures says { IfOk result
-        (λ t. SaysFilled cx.new equation.now.fun.0 (function_equation equation.now) subst.now t.conclusion) }
-    ensures stays { IfOk result (StaysIn cx.new) }
-    ensures grown { HasGrown cx.old cx.new }
-{
-    let facts = elements(alloc, cx, subst)?;
-    let others = given(alloc, condition)?;
-    schema_at(alloc, lemma, &facts, &others)
-}
-
-// The theorem, where there is one.
-fn given(alloc: Global, condition: &Option<Thm>) -> Result<Vec<Thm>, AllocError>
-    ensures { IfOk result (λ v. v.items ≡ listed condition.now) }
-{
-    let mut theorems = Vec::new(alloc);
-    if let Some(thm) = condition {
-        theorems.push(thm.share(alloc)?)?;
-    }
-    Ok(theorems)
-}
-
-// `q = r`, from `p = r` and `p = q`; or `p = r` as it is, where q is p.
-fn from_normal(alloc: Global, made: Thm, normal: &Option<Thm>) -> Result<Thm, AllocError>
-    requires { CanTurn made.conclusion normal.now }
-    ensures says { IfOk result (IsTurned made normal.now) }
-    ensures stays { IfOk result (StaysTurned made normal.now) }
-{
-    match normal {
-        Some(equality) => {
-            let turned = flip(alloc, equality)?;
-            join(alloc, &turned, &made)
-        }
-        None => Ok(made),
+    if equation.params == 0 {
+        direct_at(alloc, cx, lemma, equation, subst, args, condition)
+    } else {
+        kompile_at(alloc, cx, lemma, equation, subst, args, condition)
     }
 }

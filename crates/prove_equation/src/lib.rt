@@ -6,7 +6,9 @@
 #![tactic(auto)]
 
 mod at_terms;
+mod direct;
 mod lemmas;
+mod parameters;
 
 pub use at_terms::equation_at;
 pub use lemmas::equation_lemma;

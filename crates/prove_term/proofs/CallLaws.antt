@@ -19,7 +19,8 @@ use Rattle.ml_image.specs.Images.{image_of, applied, symbol_image}
 use Rattle.ml_image.specs.HasImages.{HasImage, HaveImages}
 use Rattle.ml_image.proofs.WellSortedLaws.{sorted_has_image}
 use Rattle.prove_term.specs.Contexts.{Context, HasGrown}
-use Rattle.prove_term.specs.Schemas.{AreImages, applied_to}
+use Rattle.prove_term.specs.Schemas.{AreImages}
+use Rattle.prove_term.specs.Applications.{applied_to}
 use Rattle.prove_term.specs.Comparing.{AreInstances, AreMade, AreCompared, AllCompare, IsOverContext}
 use Rattle.prove_term.specs.EqualCalls.{SaysEqualCall, SaysEqualCalls}
 use Rattle.prove_term.proofs.KeptLaws.{symbol_grown}

@@ -20,9 +20,10 @@ use Rattle.ml_image.specs.Images.{image_of, applied, symbol_image}
 use Rattle.ml_image.specs.Sentences.{symbol, term}
 use Rattle.ml_image.proofs.ImageLaws.{none_some}
 use Rattle.prove_term.specs.Contexts.{Context, HasGrown, StaysIn}
-use Rattle.prove_term.specs.Schemas.{AreImages, applied_to}
+use Rattle.prove_term.specs.Schemas.{AreImages}
+use Rattle.prove_term.specs.Applications.{applied_to, IsApplication}
 use Rattle.prove_term.specs.EqualImages.{SaysEqualImages}
-use Rattle.prove_term.specs.Comparing.{IsInstance, AreInstances, IsMade, AreMade, IsJoined, IsCompared, Compares, AreCompared, AllCompare, IsOverContext, IsApplication}
+use Rattle.prove_term.specs.Comparing.{IsInstance, AreInstances, IsMade, AreMade, IsJoined, IsCompared, Compares, AreCompared, AllCompare, IsOverContext}
 use Rattle.prove_term.proofs.ContextLaws.{image_grown, has_before}
 use Rattle.prove_term.proofs.KeptLaws.{symbol_grown}
 use Rattle.prove_term.proofs.ImageShapes.{applied_images}

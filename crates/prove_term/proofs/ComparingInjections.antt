@@ -22,7 +22,8 @@ use Rattle.prove_term.specs.Injections.{inject, HasEnds, IsCollapseAt}
 use Rattle.prove_term.specs.InjectionTables.{InjectsBelow}
 use Rattle.prove_term.specs.Carrying.{Collapses, CollapsesTo, CollapsesBy}
 use Rattle.prove_term.specs.Elements.{IsElement, IsElementAt}
-use Rattle.prove_term.specs.Comparing.{IsInstance, IsMade, IsJoined, IsCompared, IsFactOn, IsApplication}
+use Rattle.prove_term.specs.Comparing.{IsInstance, IsMade, IsJoined, IsCompared, IsFactOn}
+use Rattle.prove_term.specs.Applications.{IsApplication}
 use Rattle.prove_term.proofs.ContextLaws.{image_grown, stays_grown, contains_there}
 use Rattle.prove_term.proofs.KeptLaws.{sort_grown}
 use Rattle.prove_term.proofs.ImageShapes.{both_some}

@@ -19,7 +19,8 @@ use Rattle.ml_image.specs.Tokens.{token_of_symbol, token_of_value, numbered}
 use Rattle.ml_image.specs.Images.{both, image_of, applied, symbol_image, sort_image, at_sorts, injection_image, some_symbol_image, injection_symbol}
 use Rattle.ml_image.specs.HasImages.{HasImage, HaveImages}
 use Rattle.ml_image.proofs.ImageLaws.{none_some}
-use Rattle.prove_term.specs.Schemas.{AreImages, applied_to}
+use Rattle.prove_term.specs.Schemas.{AreImages}
+use Rattle.prove_term.specs.Applications.{applied_to}
 use Rattle.prove_term.specs.Comparing.{IsInstance, AreInstances}
 use Rattle.prove_term.proofs.ImageShapes.{both_some, map_some}
 

@@ -19,8 +19,9 @@ use Rattle.rule_core.proofs.SortedInstances.{both_there}
 use Rattle.ml_image.specs.Images.{image_of}
 use Rattle.ml_image.specs.Sentences.{term}
 use Rattle.prove_term.specs.Contexts.{Context, HasGrown, StaysIn}
-use Rattle.prove_term.specs.Schemas.{AreImages, applied_to}
-use Rattle.prove_term.specs.Comparing.{IsInstance, AreInstances, IsMade, AreMade, IsJoined, IsCompared, Compares, AreCompared, AllCompare, IsOverContext, SaysEqualTo, IsApplication}
+use Rattle.prove_term.specs.Schemas.{AreImages}
+use Rattle.prove_term.specs.Applications.{applied_to, SaysEqualTo, IsApplication}
+use Rattle.prove_term.specs.Comparing.{IsInstance, AreInstances, IsMade, AreMade, IsJoined, IsCompared, Compares, AreCompared, AllCompare, IsOverContext}
 use Rattle.prove_term.proofs.ContextLaws.{grown_none, grown_twice, image_grown, stays_grown}
 
 -- ---- one of some arguments

@@ -17,7 +17,8 @@ use Rattle.ml_image.specs.Sentences.{term, functional}
 use Rattle.ml_image.specs.OwnAxioms.{named}
 use Rattle.ml_image.proofs.ImageLaws.{some_same}
 use Rattle.prove_term.specs.Contexts.{Context, HasContext, HasGrown, StaysIn}
-use Rattle.prove_term.specs.Schemas.{AreImages, AreSortImages, applied_to, at_metas, meta_facts, facts, backwards}
+use Rattle.prove_term.specs.Schemas.{AreImages, AreSortImages, at_metas, meta_facts, facts, backwards}
+use Rattle.prove_term.specs.Applications.{applied_to}
 use Rattle.prove_term.specs.Constructing.{IsConstructorAt}
 use Rattle.prove_term.specs.Elements.{IsElementAt, IsElement, AreElements, AreGathered, IsSorted}
 use Rattle.prove_term.proofs.ContextLaws.{image_grown, has_before, contains_there}

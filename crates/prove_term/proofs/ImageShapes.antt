@@ -15,7 +15,8 @@ use Rattle.ml_image.proofs.ImageLaws.{none_some, some_same}
 use Rattle.ml_image.proofs.ClosingLaws.{variables_image}
 use Rattle.prove_term.specs.ValueAxioms.{IsValueFact}
 use Rattle.prove_term.specs.Constructing.{HasNumbers, totality}
-use Rattle.prove_term.specs.Schemas.{applied_to, all_from, AreSortImages, AreImages}
+use Rattle.prove_term.specs.Schemas.{all_from, AreSortImages, AreImages}
+use Rattle.prove_term.specs.Applications.{applied_to}
 
 -- ---- options
 

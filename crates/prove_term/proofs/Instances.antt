@@ -5,7 +5,8 @@ use Rattle.std.proofs.lemmas.List.{reverse-append}
 use Rattle.ml_pat.specs.Patterns.{Pattern, app, fun, meta}
 use Rattle.ml_kernel.specs.Lemmas.{instance, instances, IsMetaBelow, AreMetasBelow}
 use Rattle.ml_kernel.specs.Theorems.{Theorem, conclusions}
-use Rattle.prove_term.specs.Schemas.{at_metas, applied_to, meta_facts, facts, backwards}
+use Rattle.prove_term.specs.Schemas.{at_metas, meta_facts, facts, backwards}
+use Rattle.prove_term.specs.Applications.{applied_to}
 
 -- ---- lists from their ends
 

@@ -1,11 +1,10 @@
 -- Patterns beside the normal terms that they become, part by part: what they become as they are written, and equalities
 -- of the images of both.
-use Rattle.std.specs.Prelude.{◌≡◌, ◌≢◌, ℕ, List, [], ◌∷◌, Option, Some, None}
-use Rattle.ml_pat.specs.Patterns.{Pattern, equal, fun, var}
+use Rattle.std.specs.Prelude.{◌≡◌, ◌≢◌, ℕ, List, [], Option, Some, None}
+use Rattle.ml_pat.specs.Patterns.{Pattern, equal, fun}
 use Rattle.ml_kernel.specs.Lemmas.{HasNoVariable}
 use Rattle.ml_kernel.specs.Theorems.{Theorem}
-use Rattle.ml_scope.specs.Scopes.{Scope, IsOver, StaysWithin}
-use Rattle.ml_derived.specs.Equalities.{IsApplied, IsAppliedTo, IsArgument}
+use Rattle.ml_scope.specs.Scopes.{Scope, IsOver}
 use Rattle.term_core.specs.Terms.{Tree, Forest}
 use Rattle.term_core.specs.Patterns.{Pattern as RulePattern, Patterns as RulePatterns}
 use Rattle.term_core.specs.Patterns.{substituted, all_substituted, instance_of, instances_of}
@@ -16,7 +15,8 @@ use Rattle.rule_core.specs.declared.signature.Signature.{Signature}
 use Rattle.rule_core.specs.declared.signature.SortRef.{SortRef}
 use Rattle.ml_image.specs.Images.{image_of, sort_image}
 use Rattle.prove_term.specs.Contexts.{Context, HasContext, StaysIn}
-use Rattle.prove_term.specs.Schemas.{AreImages, applied_to}
+use Rattle.prove_term.specs.Schemas.{AreImages}
+use Rattle.prove_term.specs.Applications.{applied_to}
 
 -- the pattern, of this sort, becomes the term under a substitution that gives its variables normal terms of their sorts
 pub record IsInstance (sig : Signature) (variables : List ℕ) (theta : List (Option Tree)) (p : RulePattern) (sort : ℕ)
@@ -103,22 +103,3 @@ pub record IsFactOn (cx : Context) (w : RulePattern) (sort : ℕ) (fact : Theore
   pub closed : HasNoVariable image
   pub no_hypotheses : fact.hypotheses ≡ []
   pub stays : StaysIn cx fact
-
--- the theorem, where there is one, says that a closed pattern equals this one
-abbrev pub SaysEqualTo : Pattern → Option Theorem → Type 0
-SaysEqualTo p None = Unit {0}
-SaysEqualTo p (Some t) = (left : Pattern) × (t.conclusion ≡ equal left p) × HasNoVariable left
-
--- the theorem says what this is said of, and stays within this
-pub record IsTheorem (P : Pattern → Type 0) (ps : List Pattern) (ts : List Theorem) (o : Option Theorem) : Type 0 where
-  pub made : Theorem
-  pub is : o ≡ Some made
-  pub says : P made.conclusion
-  pub stays : StaysWithin ps ts made
-
--- what is made of equalities of a function and of its argument, where there are such
-abbrev pub IsApplication : Pattern → Pattern → Option Theorem → Option Theorem → Option Theorem → Type 0
-IsApplication f a None None o = o ≡ None
-IsApplication f a (Some d) None o = IsTheorem (IsAppliedTo d.conclusion a) (a ∷ var 0 ∷ []) (d ∷ []) o
-IsApplication f a None (Some e) o = IsTheorem (IsArgument f e.conclusion) (f ∷ var 0 ∷ []) (e ∷ []) o
-IsApplication f a (Some d) (Some e) o = IsTheorem (IsApplied d.conclusion e.conclusion) (var 0 ∷ []) (d ∷ e ∷ []) o

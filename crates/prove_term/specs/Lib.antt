@@ -1,6 +1,7 @@
 -- Believed: what public clauses say, and believed definitions of other crates.
 pub mod Contexts
 pub mod PlainTerms
+pub mod Applications
 pub mod Functional
 pub mod RuleAxioms
 pub mod Filling

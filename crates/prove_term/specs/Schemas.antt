@@ -11,11 +11,6 @@ abbrev pub at_metas : Pattern → ℕ → ℕ → Pattern
 at_metas head k zero = head
 at_metas head k (suc n) = at_metas (app head (meta k)) (k + 1) n
 
--- applied to patterns, one after another
-abbrev pub applied_to : Pattern → List Pattern → Pattern
-applied_to head [] = head
-applied_to head (q ∷ qs) = applied_to (app head q) qs
-
 -- `for each x:k of the first sort, each x:(k+1) of the second, ..`
 abbrev pub all_from : ℕ → List ℕ → Pattern → Pattern
 all_from k [] p = p

@@ -2,23 +2,22 @@
 ghost use Rattle.std.specs.Prelude.{◌≡◌, ℕ, List, IfOk, length};
 ghost use Rattle.ml_pat.specs.Patterns.{Pattern, app};
 ghost use Rattle.ml_kernel.specs.Lemmas.{HasNoVariable};
-ghost use Rattle.prove_term.specs.Schemas.{applied_to};
-ghost use Rattle.prove_term.specs.Comparing.{IsApplication, SaysEqualTo};
+ghost use Rattle.prove_term.specs.Applications.{applied_to, IsApplication, SaysEqualTo};
 
 use ml_derived::{cong_app, cong_arg, cong_fun};
 use ml_kernel::Thm;
 use ml_pat::{MForm, MPat};
 use std::alloc::{AllocError, Global};
 
-// A head, and the patterns that it is applied to.
+/// A head, and the patterns that it is applied to.
 #[derive(Drop)]
-pub(crate) struct Parts {
-    pub(crate) head: MPat,
-    pub(crate) arguments: Vec<MPat>,
+pub struct Parts {
+    pub head: MPat,
+    pub arguments: Vec<MPat>,
 }
 
-// The head of a pattern that is applied to so many.
-pub(crate) fn taken_apart(alloc: Global, image: &MPat, count: usize) -> Result<Parts, AllocError>
+/// The head of a pattern that is applied to so many, and these. `AllocError` says that memory was wanting.
+pub fn taken_apart(alloc: Global, image: &MPat, count: usize) -> Result<Parts, AllocError>
     requires { (head : Pattern) × (qs : List Pattern) × (image.now ≡ applied_to head qs) × (count ≡ length qs) }
     ensures { IfOk result (λ a. (head : Pattern) (qs : List Pattern) → image.now ≡ applied_to head qs →
         count ≡ length qs → (a.head ≡ head) × (a.arguments.items ≡ qs)) }
@@ -35,8 +34,8 @@ pub(crate) fn taken_apart(alloc: Global, image: &MPat, count: usize) -> Result<P
     Ok(Parts { head, arguments })
 }
 
-// What is applied, and what it is applied to.
-pub(crate) fn halves(p: &MPat) -> (&MPat, &MPat)
+/// What is applied, and what it is applied to.
+pub fn halves(p: &MPat) -> (&MPat, &MPat)
     requires { (f a : Pattern) × (p.now ≡ app f a) }
     ensures { p.now ≡ app result.0.now result.1.now }
 {
@@ -46,9 +45,9 @@ pub(crate) fn halves(p: &MPat) -> (&MPat, &MPat)
     }
 }
 
-// An application, with what equals the function and the argument in their places, where something does: that it equals
-// the application as it is.
-pub(crate) fn applied(
+/// An application, with what equals the function and the argument in their places, where something does: that it equals
+/// the application as it is. `AllocError` says that memory was wanting.
+pub fn applied(
     alloc: Global,
     function: &Option<Thm>,
     f: &MPat,

@@ -33,6 +33,8 @@ pub struct Cx<'p> {
     rules: BTreeMap<u32, AxiomNo>,
     // The axiom of each value that was used, by the value's constant.
     pub(crate) values: BTreeMap<u64, ValueAxiom>,
+    // The axiom of each call of a hook that was used, by the function and its arguments.
+    pub(crate) hooks: BTreeMap<(u32, i128, i128), AxiomNo>,
     // The place of the lemma of each constructor that was used.
     pub(crate) constructors: BTreeMap<u32, usize>,
     // That of each injection that was used, by the sorts that it comes from and goes to.
@@ -79,6 +81,7 @@ impl<'p> Cx<'p> {
             theorems: Vec::new(alloc),
             rules: BTreeMap::new(alloc),
             values: BTreeMap::new(alloc),
+            hooks: BTreeMap::new(alloc),
             constructors: BTreeMap::new(alloc),
             injections: BTreeMap::new(alloc),
             collapses: BTreeMap::new(alloc),

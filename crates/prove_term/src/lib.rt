@@ -12,6 +12,7 @@ mod constructors;
 mod context;
 mod elements;
 mod equations;
+mod hooks;
 mod injections;
 mod joining;
 mod schemas;
@@ -19,5 +20,6 @@ mod values;
 
 pub use calls::call_eq;
 pub use comparing::inj_eq;
+pub use congruence::{Parts, applied, halves, taken_apart};
 pub use context::Cx;
 pub use elements::fun_of;

@@ -17,11 +17,12 @@ use Rattle.rule_core.specs.WellSorted.{IsSignature}
 use Rattle.rule_core.specs.declared.rules.Program.{Program}
 use Rattle.ml_image.specs.Images.{image_of}
 use Rattle.ml_image.specs.Sentences.{term}
-use Rattle.prove_term.specs.Schemas.{AreImages, applied_to}
+use Rattle.prove_term.specs.Schemas.{AreImages}
+use Rattle.prove_term.specs.Applications.{applied_to, IsApplication}
 use Rattle.prove_term.specs.Injections.{IsCollapseAt}
 use Rattle.prove_term.specs.Carrying.{Collapses, CollapsesTo, CollapsesBy}
 use Rattle.prove_term.specs.Elements.{IsSorted, IsElement}
-use Rattle.prove_term.specs.Comparing.{IsMade, AreMade, Compares, IsOverContext, IsFactOn, IsApplication}
+use Rattle.prove_term.specs.Comparing.{IsMade, AreMade, Compares, IsOverContext, IsFactOn}
 use Rattle.prove_term.proofs.ElementLaws.{lemma_found}
 use Rattle.prove_term.proofs.ComparingInjections.{HasHalves, halves_of, halves_there, IsOnce, once_of, once_grown, fact_grown, fact_collapses, moved_made, stayed_made, moved_reaches, base_sorted, fact_of, same_end}
 use Rattle.prove_term.proofs.ResultLaws.{if_ok, if_ok_two}

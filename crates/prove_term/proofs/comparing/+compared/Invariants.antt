@@ -4,7 +4,7 @@ use Rattle.term_core.specs.RulePatterns.{plain_pattern}
 use Rattle.term_core.specs.PatternLists.{plain_patterns}
 use Rattle.term_core.proofs.PatternLaws.{depth, depths}
 use Rattle.prove_term.specs.Contexts.{HasGrown}
-use Rattle.prove_term.specs.Schemas.{applied_to}
+use Rattle.prove_term.specs.Applications.{applied_to}
 use Rattle.prove_term.specs.Comparing.{IsOverContext}
 use Rattle.prove_term.proofs.ComparingLoop.{AreDoneBefore}
 use Rattle.prove_term.proofs.comparing.+compared.Given as goal

@@ -1,0 +1,100 @@
+// Equations that are written directly, at terms.
+ghost use Rattle.std.specs.Prelude.{◌≡◌, [], IfOk};
+ghost use Rattle.term_core.specs.Terms.{forest};
+ghost use Rattle.rule_core.specs.Matching.{MatchAll};
+ghost use Rattle.rule_core.specs.ProgramView.{function_equation, sorts_of, theory_of};
+ghost use Rattle.rule_core.specs.WellSorted.{IsWellSorted};
+ghost use Rattle.term_core.specs.PatternLists.{plain_patterns};
+ghost use Rattle.ml_image.specs.HasImages.{HasEquationImage};
+ghost use Rattle.ml_image.specs.OwnAxioms.{IsEquationFor};
+ghost use Rattle.prove_term.specs.Contexts.{HasGrown, StaysIn};
+ghost use Rattle.prove_term.specs.Values.{SaysEquationAt};
+ghost use Rattle.prove_equation.specs.Conditions.{BindsEach, SaysCondition};
+ghost use Rattle.prove_equation.specs.EquationLemmas.{IsEquationLemma};
+ghost use Rattle.prove_equation.specs.Filled.{CanFill, CanTurn, IsTurned, SaysFilled, StaysTurned, listed};
+
+use ml_derived::{flip, join};
+use ml_kernel::{Lemma, Thm};
+use prove_schema::{elements, schema_at};
+use prove_term::{Cx, call_eq};
+use rule_core::Equation;
+use std::alloc::{AllocError, Global};
+use term_core::{Subst, Term};
+
+// What the lemma of an equation that is written directly gives its function at terms that its arguments match.
+pub(crate) fn direct_at(
+    alloc: Global,
+    cx: &mut Cx<'_>,
+    lemma: &Lemma,
+    equation: &Equation,
+    subst: &Subst,
+    args: &[Term],
+    condition: &Option<Thm>,
+) -> Result<Thm, AllocError>
+    requires well_sorted { IsWellSorted (theory_of cx.old.program) }
+    requires image { HasEquationImage cx.old.program.sig equation.now.fun.0 (function_equation equation.now) }
+    requires own { IsEquationFor (theory_of cx.old.program) equation.now.fun.0 (function_equation equation.now) }
+    requires direct { equation.now.params ≡ 0 }
+    requires lemma { IsEquationLemma cx.old equation.now.fun.0 (function_equation equation.now) lemma.now }
+    requires matches { MatchAll cx.old.program.sig (sorts_of equation.now.vars.items)
+        (plain_patterns equation.now.args.items) (forest args.now) subst.now }
+    requires bound { BindsEach (sorts_of equation.now.vars.items) subst.now }
+    requires condition { SaysCondition cx.old (sorts_of equation.now.vars.items) subst.now
+        (function_equation equation.now).condition condition.now }
+    ensures says { IfOk result (λ t. SaysEquationAt cx.new equation.now.fun.0 (function_equation equation.now)
+        subst.now (forest args.now) t.conclusion) }
+    ensures no_hypotheses { IfOk result (λ t. t.hypotheses ≡ []) }
+    ensures stays { IfOk result (StaysIn cx.new) }
+    ensures grown { HasGrown cx.old cx.new }
+{
+    let made = filled(alloc, cx, lemma, equation, subst, condition)?;
+    let normal = call_eq(alloc, cx, equation.fun, &equation.args, subst, args)?;
+    from_normal(alloc, made, &normal)
+}
+
+// What the lemma says of what the match gives the equation's variables, with the arguments as they are written.
+fn filled(
+    alloc: Global,
+    cx: &mut Cx<'_>,
+    lemma: &Lemma,
+    equation: &Equation,
+    subst: &Subst,
+    condition: &Option<Thm>,
+) -> Result<Thm, AllocError>
+    requires well_sorted { IsWellSorted (theory_of cx.old.program) }
+    requires used { CanFill cx.old equation.now.fun.0 (function_equation equation.now) lemma.now subst.now condition.now }
+    ensures says { IfOk result
+        (λ t. SaysFilled cx.new equation.now.fun.0 (function_equation equation.now) subst.now t.conclusion) }
+    ensures stays { IfOk result (StaysIn cx.new) }
+    ensures grown { HasGrown cx.old cx.new }
+{
+    let facts = elements(alloc, cx, subst)?;
+    let others = given(alloc, condition)?;
+    schema_at(alloc, lemma, &facts, &others)
+}
+
+// The theorem, where there is one.
+pub(crate) fn given(alloc: Global, condition: &Option<Thm>) -> Result<Vec<Thm>, AllocError>
+    ensures { IfOk result (λ v. v.items ≡ listed condition.now) }
+{
+    let mut theorems = Vec::new(alloc);
+    if let Some(thm) = condition {
+        theorems.push(thm.share(alloc)?)?;
+    }
+    Ok(theorems)
+}
+
+// `q = r`, from `p = r` and `p = q`; or `p = r` as it is, where q is p.
+fn from_normal(alloc: Global, made: Thm, normal: &Option<Thm>) -> Result<Thm, AllocError>
+    requires { CanTurn made.conclusion normal.now }
+    ensures says { IfOk result (IsTurned made normal.now) }
+    ensures stays { IfOk result (StaysTurned made normal.now) }
+{
+    match normal {
+        Some(equality) => {
+            let turned = flip(alloc, equality)?;
+            join(alloc, &turned, &made)
+        }
+        None => Ok(made),
+    }
+}

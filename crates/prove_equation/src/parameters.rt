@@ -1,0 +1,192 @@
+// Equations in the form of kompile at terms: each term is in the argument of its parameter.
+ghost use Rattle.std.specs.Prelude.{◌≡◌, ◌≢◌, ◌++◌, [], ◌∷◌, ℕ, List, IfOk, Some};
+ghost use Rattle.std.specs.List.{AllZip};
+ghost use Rattle.ml_pat.specs.Patterns.{fun, imp, member};
+ghost use Rattle.ml_scope.specs.Scopes.{StaysWithin};
+ghost use Rattle.term_core.specs.Terms.{forest};
+ghost use Rattle.term_core.specs.Patterns.{instance_of, instances_of};
+ghost use Rattle.term_core.specs.PatternLists.{plain_patterns};
+ghost use Rattle.term_core.specs.RulePatterns.{plain_pattern};
+ghost use Rattle.rule_core.specs.Matching.{MatchAll, RespectsSorts};
+ghost use Rattle.rule_core.specs.ProgramView.{function_equation, sorts_of, theory_of};
+ghost use Rattle.rule_core.specs.Sorting.{HasSort, HaveSorts};
+ghost use Rattle.rule_core.specs.WellSorted.{IsSignature, IsWellSorted};
+ghost use Rattle.ml_image.specs.HasImages.{HasEquationImage};
+ghost use Rattle.ml_image.specs.OwnAxioms.{IsEquationFor};
+ghost use Rattle.rule_core.specs.declared.signature.SortRef.{SortRef};
+ghost use Rattle.prove_term.specs.Contexts.{HasGrown, StaysIn};
+ghost use Rattle.prove_term.specs.Values.{SaysEquationAt};
+ghost use Rattle.prove_schema.specs.Elements.{IsElementOf};
+ghost use Rattle.prove_equation.specs.Conditions.{BindsEach, SaysCondition};
+ghost use Rattle.prove_equation.specs.EquationLemmas.{IsEquationLemma};
+ghost use Rattle.prove_equation.specs.Parameters.{AreMemberships, CanEnter, IsEntered, IsInItself, IsMembership};
+ghost use Rattle.prove_equation.specs.Parameters.{IsEquality, IsInHole, SaysElement, StaysEntered};
+
+use crate::direct::given;
+use ml_derived::{carry, flip};
+use ml_kernel::{Lemma, Thm};
+use ml_pat::{MForm, MPat, MSort, VarNo};
+use ml_scope::mp;
+use prove_schema::{elements, schema_at, term_elements};
+use prove_term::{Cx, inj_eq};
+use rule_core::Equation;
+use std::alloc::{AllocError, Global};
+use term_core::{RulePat, Subst, Term};
+
+// What the lemma of an equation in the form of kompile gives its function at terms that its arguments match.
+pub(crate) fn kompile_at(
+    alloc: Global,
+    cx: &mut Cx<'_>,
+    lemma: &Lemma,
+    equation: &Equation,
+    subst: &Subst,
+    args: &[Term],
+    condition: &Option<Thm>,
+) -> Result<Thm, AllocError>
+    requires well_sorted { IsWellSorted (theory_of cx.old.program) }
+    requires image { HasEquationImage cx.old.program.sig equation.now.fun.0 (function_equation equation.now) }
+    requires own { IsEquationFor (theory_of cx.old.program) equation.now.fun.0 (function_equation equation.now) }
+    requires kompile { equation.now.params ≢ 0 }
+    requires lemma { IsEquationLemma cx.old equation.now.fun.0 (function_equation equation.now) lemma.now }
+    requires matches { MatchAll cx.old.program.sig (sorts_of equation.now.vars.items)
+        (plain_patterns equation.now.args.items) (forest args.now) subst.now }
+    requires bound { BindsEach (sorts_of equation.now.vars.items) subst.now }
+    requires condition { SaysCondition cx.old (sorts_of equation.now.vars.items) subst.now
+        (function_equation equation.now).condition condition.now }
+    ensures says { IfOk result (λ t. SaysEquationAt cx.new equation.now.fun.0 (function_equation equation.now)
+        subst.now (forest args.now) t.conclusion) }
+    ensures no_hypotheses { IfOk result (λ t. t.hypotheses ≡ []) }
+    ensures stays { IfOk result (StaysIn cx.new) }
+    ensures grown { HasGrown cx.old cx.new }
+{
+    let first = term_elements(alloc, cx, args)?;
+    let members = memberships(alloc, cx, &equation.args, subst, args, &first)?;
+    let rest = elements(alloc, cx, subst)?;
+    let facts = joined(alloc, &first, &rest)?;
+    let held = given(alloc, condition)?;
+    let others = joined(alloc, &members, &held)?;
+    schema_at(alloc, lemma, &facts, &others)
+}
+
+// Theorems, and then others.
+fn joined(alloc: Global, first: &[Thm], second: &[Thm]) -> Result<Vec<Thm>, AllocError>
+    ensures { IfOk result (λ v. v.items ≡ first.now ++ second.now) }
+{
+    let mut theorems = Vec::new(alloc);
+    for thm in first {
+        theorems.push(thm.share(alloc)?)?;
+    }
+    for other in second {
+        theorems.push(other.share(alloc)?)?;
+    }
+    Ok(theorems)
+}
+
+// That terms are each in the pattern of its place, with a substitution's terms in the places of the variables.
+fn memberships(
+    alloc: Global,
+    cx: &mut Cx<'_>,
+    pats: &[RulePat],
+    subst: &Subst,
+    terms: &[Term],
+    facts: &[Thm],
+) -> Result<Vec<Thm>, AllocError>
+    requires signature { IsSignature cx.old.program.sig }
+    requires sorted { (variables : List ℕ) × (refs : List SortRef)
+        × HaveSorts cx.old.program.sig variables [] (plain_patterns pats.now) refs
+        × RespectsSorts cx.old.program.sig variables subst.now }
+    requires makes { instances_of subst.now (plain_patterns pats.now) ≡ Some (forest terms.now) }
+    requires facts { AllZip (IsElementOf cx.old) terms.now facts.now }
+    ensures members { IfOk result
+        (λ v. AreMemberships cx.new subst.now (plain_patterns pats.now) terms.now v.items) }
+    ensures grown { HasGrown cx.old cx.new }
+{
+    let mut members = Vec::with_capacity(alloc, pats.len())?;
+    for i in 0..pats.len() {
+        members.push(membership(alloc, cx, &pats[i], subst, &terms[i], &facts[i])?)?;
+    }
+    Ok(members)
+}
+
+// That a term is in a pattern that becomes it, as that is written.
+fn membership(
+    alloc: Global,
+    cx: &mut Cx<'_>,
+    pat: &RulePat,
+    subst: &Subst,
+    term: &Term,
+    fact: &Thm,
+) -> Result<Thm, AllocError>
+    requires signature { IsSignature cx.old.program.sig }
+    requires sorted { (variables : List ℕ) × (sort : ℕ)
+        × HasSort cx.old.program.sig variables (plain_pattern pat.now) sort
+        × RespectsSorts cx.old.program.sig variables subst.now }
+    requires makes { instance_of subst.now (plain_pattern pat.now) ≡ Some term.now }
+    requires fact { IsElementOf cx.old term.now fact.now }
+    ensures member { IfOk result (IsMembership cx.new subst.now (plain_pattern pat.now) term.now) }
+    ensures grown { HasGrown cx.old cx.new }
+{
+    // A term is not too high.
+    let _height = term.height();
+    let itself = in_itself(alloc, fact)?;
+    let equality = inj_eq(alloc, cx, pat, subst)?;
+    in_written(alloc, itself, &equality)
+}
+
+// `p in p`, from that p is one element of a sort.
+fn in_itself(alloc: Global, fact: &Thm) -> Result<Thm, AllocError>
+    requires { SaysElement fact.now.conclusion }
+    ensures says { IfOk result (IsInItself fact.now) }
+    ensures stays { IfOk result (StaysWithin [] (fact.now ∷ [])) }
+{
+    let (element, sort) = subject(fact.conclusion());
+    let rule = mem_in(alloc, element, sort)?;
+    let itself = MPat::member(alloc, element, element)?;
+    mp(alloc, fact, &rule, fact.conclusion(), &itself)
+}
+
+// `fun p s -> p in p`.
+fn mem_in(alloc: Global, p: &MPat, s: MSort) -> Result<Thm, AllocError>
+    ensures conclusion { IfOk result (λ t. t.conclusion ≡ imp (fun p.now s.0) (member p.now p.now)) }
+    ensures stays { IfOk result (StaysWithin (fun p.now s.0 ∷ []) []) }
+{
+    Thm::mem_in(alloc, p, s)
+}
+
+// What a pattern says to be one element of a sort, and that.
+fn subject(fact: &MPat) -> (&MPat, MSort)
+    requires { SaysElement fact.now }
+    ensures { fact.now ≡ fun result.0.now result.1.0 }
+{
+    match fact.form() {
+        MForm::Fun(element, sort) => (element, *sort),
+        _ => unreachable!(),
+    }
+}
+
+// `q in p`, from `q in q` and `p = q`; or `q in q` as it is, where q is p.
+fn in_written(alloc: Global, itself: Thm, equality: &Option<Thm>) -> Result<Thm, AllocError>
+    requires { CanEnter itself.conclusion equality.now }
+    ensures says { IfOk result (IsEntered itself equality.now) }
+    ensures stays { IfOk result (StaysEntered itself equality.now) }
+{
+    match equality {
+        Some(thm) => {
+            let turned = flip(alloc, thm)?;
+            let context = in_hole(alloc, turned.conclusion())?;
+            carry(alloc, &turned, &context, VarNo(0), &itself)
+        }
+        None => Ok(itself),
+    }
+}
+
+// `q in x`, from `q = p`, where x marks a place.
+fn in_hole(alloc: Global, equality: &MPat) -> Result<MPat, AllocError>
+    requires { IsEquality equality.now }
+    ensures { IfOk result (λ c. IsInHole equality.now c) }
+{
+    match equality.form() {
+        MForm::Equal(left, _) => MPat::member(alloc, left, &MPat::var(alloc, VarNo(0))?),
+        _ => unreachable!(),
+    }
+}

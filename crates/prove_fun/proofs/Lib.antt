@@ -1,0 +1,9 @@
+pub mod Equalities
+pub mod Gathering
+pub mod Hooking
+pub mod Injecting
+pub mod Nodes
+pub mod PlainRecords
+pub mod Recording
+pub mod Results
+pub mod Sizes

@@ -1,0 +1,40 @@
+-- How large a record is: larger than those of its parts.
+use Rattle.std.proofs.Common.{◌≡◌, ◌<◌, ◌≤◌, ◌+◌, ℕ, zero, suc, List, [], ◌∷◌, Some, None, slice_get, sym, subst, arith}
+use Rattle.rule_core.specs.Records.{Record, RecordList, OptionalRecord, bound, itself, made, by_hook, by_equation, no_record, more_records, unconditional, conditional}
+use Rattle.prove_fun.specs.RecordParts.{children, children_of, listed}
+
+abbrev mutual
+  pub size : Record → ℕ
+  size (bound x t) = 1
+  size (itself t) = 1
+  size (made rs t) = sizes rs + 1
+  size (by_hook rs t) = sizes rs + 1
+  size (by_equation rs i theta condition body) = sizes rs + (size_if condition + (size body + 1))
+
+  pub sizes : RecordList → ℕ
+  sizes no_record = 0
+  sizes (more_records r rs) = size r + sizes rs
+
+  pub size_if : OptionalRecord → ℕ
+  size_if unconditional = 0
+  size_if (conditional r) = size r
+
+item_size : (rs : RecordList) (i : ℕ) (q : Record) → slice_get (listed rs) i ≡ Some q → size q ≤ sizes rs
+item_size no_record i q there = absurd (let no : ⊥ = cc in no)
+item_size (more_records r rs) zero q there =
+    let same : r ≡ q = first r q there in
+    subst (λ (x : Record). size x ≤ sizes (more_records r rs)) same (omega arith)
+  where
+    first : (r q : Record) → Some r ≡ Some q → r ≡ q
+    first r q e = cc
+item_size (more_records r rs) (suc i) q there = omega (arith, item_size rs i q there)
+
+children_size : (r : Record) → sizes (children_of r) < size r
+children_size (bound x t) = omega arith
+children_size (itself t) = omega arith
+children_size (made rs t) = omega arith
+children_size (by_hook rs t) = omega arith
+children_size (by_equation rs i theta condition body) = omega arith
+
+pub child_size : (r : Record) (i : ℕ) (q : Record) → slice_get (children r) i ≡ Some q → size q < size r
+child_size r i q there = omega (arith, item_size (children_of r) i q there, children_size r)

@@ -1,0 +1,36 @@
+use Rattle.std.proofs.Common.{◌≡◌, ◌+◌, ◌*◌, drop}
+use Rattle.ml_kernel.specs.Lemmas.{HasNoVariable}
+use Rattle.rule_core.specs.RecordView.{plain_record}
+use Rattle.prove_term.specs.Contexts.{HasGrown}
+use Rattle.prove_term.specs.Applications.{applied_to}
+use Rattle.prove_term.specs.Comparing.{IsOverContext}
+use Rattle.prove_fun.proofs.Gathering.{IsGathered}
+use Rattle.prove_fun.proofs.Sizes.{size}
+use Rattle.prove_fun.proofs.evaluating.+evaluated.Given as goal
+
+abbrev pub decreases-evaluated : goal.decreases-evaluated
+decreases-evaluated l = 5 * size (plain_record l.evaluation.now) + 4
+
+abbrev pub decreases-constructed : goal.decreases-constructed
+decreases-constructed l = 5 * size (plain_record l.evaluation.now) + 3
+
+abbrev pub decreases-injected : goal.decreases-injected
+decreases-injected l = 5 * size (plain_record l.evaluation.now) + 3
+
+abbrev pub decreases-called : goal.decreases-called
+decreases-called l = 5 * size (plain_record l.evaluation.now) + 3
+
+abbrev pub decreases-at_values : goal.decreases-at_values
+decreases-at_values l = 5 * size (plain_record l.evaluation.now) + 1
+
+abbrev pub decreases-all_evaluated : goal.decreases-all_evaluated
+decreases-all_evaluated l = 5 * size (plain_record l.evaluation.now)
+
+abbrev pub invariant-all_evaluated-loop-i : goal.invariant-all_evaluated-loop-i
+invariant-all_evaluated-loop-i l = record {
+  done : IsGathered l.cx l.subst l.args l.i l.head l.function l.made;
+  closed : HasNoVariable l.function;
+  over : IsOverContext l.cx l.function;
+  left : applied_to l.function (drop l.i l.images) ≡ applied_to l.head l.images;
+  grown : HasGrown l.initial.cx l.cx;
+}

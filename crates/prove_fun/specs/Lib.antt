@@ -1,0 +1,5 @@
+-- Believed: what public clauses say, and believed definitions of other crates.
+pub mod Valuing
+-- Private: what clauses of private functions cite, and how private fields are seen.
+pub mod RecordParts
+pub mod Evaluating

@@ -1,0 +1,280 @@
+// Patterns beside the records of their evaluations: the image of a pattern, with the terms of a substitution in the
+// places of its variables, equals that of its value.
+ghost use Rattle.std.specs.Prelude.{◌≡◌, ◌≤◌, ℕ, List, IfOk, IfSome, Some, []};
+ghost use Rattle.ml_pat.specs.Patterns.{Pattern};
+ghost use Rattle.ml_kernel.specs.Lemmas.{HasNoVariable};
+ghost use Rattle.term_core.specs.Terms.{height, injected};
+ghost use Rattle.term_core.specs.Patterns.{application, call, ground_pattern, ground_patterns, injection};
+ghost use Rattle.term_core.specs.RulePatterns.{plain_pattern};
+ghost use Rattle.term_core.specs.PatternLists.{plain_patterns};
+ghost use Rattle.rule_core.specs.Sorting.{HasInjection, HasSort, IsTermOf};
+ghost use Rattle.rule_core.specs.Subsorts.{IsBelow};
+ghost use Rattle.rule_core.specs.ProgramView.{theory_of};
+ghost use Rattle.rule_core.specs.Records.{Records, result_of, results_of};
+ghost use Rattle.rule_core.specs.RecordView.{plain_record};
+ghost use Rattle.rule_core.specs.WellSorted.{IsSignature, IsWellSorted, Serves};
+ghost use Rattle.prove_term.specs.Contexts.{Context, HasGrown, StaysIn};
+ghost use Rattle.prove_term.specs.Schemas.{AreImages};
+ghost use Rattle.prove_term.specs.Applications.{applied_to};
+ghost use Rattle.prove_term.specs.Comparing.{IsOverContext};
+ghost use Rattle.prove_fun.specs.Valuing.{EqualsValue, HasNoEquation};
+ghost use Rattle.prove_fun.specs.RecordParts.{children_of};
+ghost use Rattle.prove_fun.specs.Evaluating.{AreEvaluated, AreRecorded, Equates, IsEvaluated, IsImage};
+ghost use Rattle.prove_fun.specs.Evaluating.{IsInjectedOnce, IsRecorded, SaysCall};
+
+use crate::equating::joined;
+use crate::hooks::hook_fact;
+use crate::parts::{child, sides};
+use ml_derived::join;
+use ml_kernel::Thm;
+use ml_pat::MPat;
+use prove_term::{Cx, applied, halves, inj_eq, taken_apart};
+use rule_core::EvalRecord;
+use std::alloc::{AllocError, Global};
+use term_core::{MAX_HEIGHT, RulePat, SortId, Subst, SymId, Term, pattern_of};
+
+/// That the image of a pattern, with the images of a substitution's terms in the places of its variables, equals that
+/// of its value, by the record of its evaluation. Where both are literally the same there is no theorem. What is stated
+/// and proved once is kept in the context. `AllocError` says that memory was wanting; the context may have grown then
+/// too. It recurses as deep as the record.
+pub fn eval_eq(
+    alloc: Global,
+    cx: &mut Cx<'_>,
+    pat: &RulePat,
+    subst: &Subst,
+    evaluation: &EvalRecord,
+) -> Result<Option<Thm>, AllocError>
+    requires well_sorted { IsWellSorted (theory_of cx.old.program) }
+    requires equations { HasNoEquation (theory_of cx.old.program) }
+    requires sorted { (variables : List ℕ) × (sort : ℕ)
+        × HasSort cx.old.program.sig variables (plain_pattern pat.now) sort
+        × Serves cx.old.program.sig variables subst.now (plain_pattern pat.now) }
+    requires recorded { Records (theory_of cx.old.program) subst.now (plain_pattern pat.now)
+        (plain_record evaluation.now) }
+    ensures says { IfOk result
+        (EqualsValue cx.new subst.now (plain_pattern pat.now) (result_of (plain_record evaluation.now))) }
+    ensures stays { IfOk result (λ o. IfSome o (StaysIn cx.new)) }
+    ensures grown { HasGrown cx.old cx.new }
+{
+    let whole = pattern_of(alloc, evaluation.result())?;
+    let image = cx.image(alloc, &whole)?;
+    evaluated(alloc, cx, pat, subst, evaluation, &image)
+}
+
+// The same, with the image of the value.
+#[cycle(evaluated)]
+fn evaluated(
+    alloc: Global,
+    cx: &mut Cx<'_>,
+    pat: &RulePat,
+    subst: &Subst,
+    evaluation: &EvalRecord,
+    image: &MPat,
+) -> Result<Option<Thm>, AllocError>
+    requires recorded { IsRecorded cx.old.program subst.now (plain_pattern pat.now)
+        (plain_record evaluation.now) }
+    requires image { IsImage cx.old (ground_pattern (result_of (plain_record evaluation.now))) image.now }
+    ensures says { IfOk result (IsEvaluated cx.new subst.now (plain_pattern pat.now) image.now) }
+    ensures grown { HasGrown cx.old cx.new }
+{
+    match pat {
+        RulePat::Var(_) => Ok(None),
+        RulePat::Value(..) => Ok(None),
+        RulePat::Ctor(_, args) => constructed(alloc, cx, args, subst, evaluation, image),
+        RulePat::Inj(from, to, below) => {
+            injected(alloc, cx, *from, *to, below, subst, evaluation, image)
+        }
+        RulePat::Call(symbol, _, args) => {
+            Ok(Some(called(alloc, cx, *symbol, args, subst, evaluation, image)?))
+        }
+    }
+}
+
+// The same of a constructor of some arguments.
+#[cycle(evaluated)]
+fn constructed(
+    alloc: Global,
+    cx: &mut Cx<'_>,
+    args: &[RulePat],
+    subst: &Subst,
+    evaluation: &EvalRecord,
+    image: &MPat,
+) -> Result<Option<Thm>, AllocError>
+    requires recorded { (f : ℕ) × IsRecorded cx.old.program subst.now
+        (application f (plain_patterns args.now)) (plain_record evaluation.now) }
+    requires image { IsImage cx.old (ground_pattern (result_of (plain_record evaluation.now))) image.now }
+    ensures says { IfOk result (λ o. (f : ℕ) →
+        IsRecorded cx.old.program subst.now (application f (plain_patterns args.now))
+        (plain_record evaluation.now) →
+        IsEvaluated cx.new subst.now (application f (plain_patterns args.now)) image.now o) }
+    ensures grown { HasGrown cx.old cx.new }
+{
+    let parts = taken_apart(alloc, image, args.len())?;
+    all_evaluated(
+        alloc,
+        cx,
+        args,
+        subst,
+        evaluation,
+        &parts.head,
+        &parts.arguments,
+    )
+}
+
+// The same of arguments, to whose images a head is applied.
+#[cycle(evaluated)]
+fn all_evaluated(
+    alloc: Global,
+    cx: &mut Cx<'_>,
+    args: &[RulePat],
+    subst: &Subst,
+    evaluation: &EvalRecord,
+    head: &MPat,
+    images: &[MPat],
+) -> Result<Option<Thm>, AllocError>
+    requires recorded { AreRecorded cx.old.program subst.now (plain_patterns args.now)
+        (children_of (plain_record evaluation.now)) }
+    requires head { HasNoVariable head.now × IsOverContext cx.old head.now }
+    requires images { AreImages cx.old.program.sig cx.old.names
+        (ground_patterns (results_of (children_of (plain_record evaluation.now)))) images.now }
+    ensures says { IfOk result
+        (AreEvaluated cx.new subst.now (plain_patterns args.now) head.now (applied_to head.now images.now)) }
+    ensures grown { HasGrown cx.old cx.new }
+{
+    let mut made: Option<Thm> = None;
+    let mut function = head.share()?;
+    for i in 0..args.len() {
+        let argument = &images[i];
+        let one = evaluated(alloc, cx, &args[i], subst, child(evaluation, i), argument)?;
+        made = applied(alloc, &made, &function, &one, argument)?;
+        function = MPat::app(alloc, &function, argument)?;
+    }
+    Ok(made)
+}
+
+// The same of an injection.
+#[cycle(evaluated)]
+fn injected(
+    alloc: Global,
+    cx: &mut Cx<'_>,
+    from: SortId,
+    to: SortId,
+    below: &RulePat,
+    subst: &Subst,
+    evaluation: &EvalRecord,
+    image: &MPat,
+) -> Result<Option<Thm>, AllocError>
+    requires recorded { IsRecorded cx.old.program subst.now
+        (injection from.0 to.0 (plain_pattern below.now)) (plain_record evaluation.now) }
+    requires image { IsImage cx.old (ground_pattern (result_of (plain_record evaluation.now))) image.now }
+    ensures says { IfOk result
+        (IsEvaluated cx.new subst.now (injection from.0 to.0 (plain_pattern below.now)) image.now) }
+    ensures grown { HasGrown cx.old cx.new }
+{
+    let inner = child(evaluation, 0);
+    let once = injected_once(alloc, cx, from, to, inner.result())?;
+    let whole = as_written(&once, image)?;
+    let (head, argument) = halves(&whole);
+    let one = evaluated(alloc, cx, below, subst, inner, argument)?;
+    let beneath = applied(alloc, &None, head, &one, argument)?;
+    joined(alloc, beneath, once)
+}
+
+// The same of a call of a function.
+#[cycle(evaluated)]
+fn called(
+    alloc: Global,
+    cx: &mut Cx<'_>,
+    symbol: SymId,
+    args: &[RulePat],
+    subst: &Subst,
+    evaluation: &EvalRecord,
+    image: &MPat,
+) -> Result<Thm, AllocError>
+    requires recorded { IsRecorded cx.old.program subst.now (call symbol.0 [] (plain_patterns args.now))
+        (plain_record evaluation.now) }
+    requires image { IsImage cx.old (ground_pattern (result_of (plain_record evaluation.now))) image.now }
+    ensures says { IfOk result (λ t.
+        IsEvaluated cx.new subst.now (call symbol.0 [] (plain_patterns args.now)) image.now (Some t)) }
+    ensures grown { HasGrown cx.old cx.new }
+{
+    match evaluation {
+        EvalRecord::ByHook(..) => {
+            let fact = hook_fact(alloc, cx, symbol, evaluation, args.len())?;
+            at_values(alloc, cx, args, subst, evaluation, &fact)
+        }
+        EvalRecord::ByEquation(_) => unreachable!(),
+        EvalRecord::Bound(..) => unreachable!(),
+        EvalRecord::Value(..) => unreachable!(),
+        EvalRecord::Ctor(..) => unreachable!(),
+        EvalRecord::Inj(..) => unreachable!(),
+    }
+}
+
+// From a theorem on a function of the arguments' values, the same on the function of their images.
+#[cycle(evaluated)]
+fn at_values(
+    alloc: Global,
+    cx: &mut Cx<'_>,
+    args: &[RulePat],
+    subst: &Subst,
+    evaluation: &EvalRecord,
+    fact: &Thm,
+) -> Result<Thm, AllocError>
+    requires recorded { AreRecorded cx.old.program subst.now (plain_patterns args.now)
+        (children_of (plain_record evaluation.now)) }
+    requires fact { (f : ℕ) × (right : Pattern)
+        × SaysCall cx.old f (results_of (children_of (plain_record evaluation.now))) right fact.now }
+    ensures says { IfOk result (λ t. (f : ℕ) (right : Pattern) →
+        SaysCall cx.old f (results_of (children_of (plain_record evaluation.now))) right fact.now →
+        IsEvaluated cx.new subst.now (call f [] (plain_patterns args.now)) right (Some t)) }
+    ensures grown { HasGrown cx.old cx.new }
+{
+    let (left, _) = sides(fact.conclusion());
+    let parts = taken_apart(alloc, left, args.len())?;
+    let values = all_evaluated(
+        alloc,
+        cx,
+        args,
+        subst,
+        evaluation,
+        &parts.head,
+        &parts.arguments,
+    )?;
+    match values {
+        Some(same) => join(alloc, &same, fact),
+        None => fact.share(alloc),
+    }
+}
+
+// The image of an injection of a term, beside that of the term that is injected then in normal form.
+fn as_written(once: &Option<Thm>, image: &MPat) -> Result<MPat, AllocError>
+    requires { (cx : Context) × (a : Pattern) × Equates cx a image.now once.now }
+    ensures { IfOk result (λ p. (cx : Context) (a : Pattern) → Equates cx a image.now once.now → p ≡ a) }
+{
+    match once {
+        Some(equality) => sides(equality.conclusion()).0.share(),
+        None => image.share(),
+    }
+}
+
+// That an injection of a term is, in normal form, injected at once, where the term is an injection itself.
+fn injected_once(
+    alloc: Global,
+    cx: &mut Cx<'_>,
+    from: SortId,
+    to: SortId,
+    term: &Term,
+) -> Result<Option<Thm>, AllocError>
+    requires signature { IsSignature cx.old.program.sig }
+    requires sorted { IsTermOf cx.old.program.sig term.now from.0 }
+    requires injects { HasInjection cx.old.program.sig × IsBelow cx.old.program.sig.subsorts from.0 to.0 }
+    requires low { height (injected from.0 to.0 term.now) ≤ MAX_HEIGHT }
+    ensures says { IfOk result (IsInjectedOnce cx.new from.0 to.0 term.now) }
+    ensures grown { HasGrown cx.old cx.new }
+{
+    let mut subst = Subst::new(alloc, 1)?;
+    subst.bind(0, term.share()?);
+    let pattern = RulePat::Inj(from, to, Box::new(alloc, RulePat::Var(0))?);
+    inj_eq(alloc, cx, &pattern, &subst)
+}
