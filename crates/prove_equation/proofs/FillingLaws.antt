@@ -1,12 +1,11 @@
 -- An equation's lemma where terms stand for its variables.
-use Rattle.std.proofs.Common.{◌≡◌, ◌≢◌, ◌<◌, ◌≤◌, ◌+◌, ◌⊎◌, ℕ, zero, suc, true, List, [], ◌∷◌, ◌++◌, Option, Some, None, option_map, length, slice_get, inl, inr, refl, sym, ◌∙◌, ap, subst, arith}
-use Rattle.std.specs.Prelude.{All, Contains, IsSome, slice_index_or}
-use Rattle.std.specs.List.{AllZip}
+use Rattle.std.proofs.Common.{◌≡◌, ◌+◌, ◌⊎◌, ℕ, zero, suc, true, List, [], ◌∷◌, ◌++◌, Option, Some, None, length, slice_get, inl, inr, refl, sym, ◌∙◌, ap, subst, arith}
+use Rattle.std.specs.Prelude.{Contains, IsSome, slice_index_or}
 use Rattle.std.proofs.lemmas.List.Elements.{Contains-get_or, Contains-append_cases, Contains-append_left}
-use Rattle.ml_pat.specs.Patterns.{Pattern, top, imp, and, equal, fun, meta}
+use Rattle.ml_pat.specs.Patterns.{Pattern, top, equal, fun, meta}
 use Rattle.ml_kernel.specs.Lemmas.{instance, HasNoVariable, HaveNoVariables, IsMetaBelow}
 use Rattle.ml_kernel.specs.Theorems.{Theorem}
-use Rattle.ml_scope.specs.Scopes.{Scope, AreWithin, IsWithin, IsOverPlaces}
+use Rattle.ml_scope.specs.Scopes.{Scope, AreWithin, IsOverPlaces}
 use Rattle.term_core.specs.Terms.{Tree, leaf, truth, IsNormal}
 use Rattle.term_core.specs.Patterns.{Pattern as RulePattern, variable, domain_value, application, injection, call, binding, ground_pattern}
 use Rattle.rule_core.specs.Rules.{Equation}
@@ -28,12 +27,12 @@ use Rattle.prove_term.specs.Functional.{SaysFunctional}
 use Rattle.prove_term.proofs.ContextLaws.{stays_grown}
 use Rattle.prove_term.proofs.EquationLaws.{says_equation_grown}
 use Rattle.prove_term.proofs.ImageShapes.{both_some}
-use Rattle.prove_schema.specs.Schemas.{with_metas, IsOpenFrom, meta_facts, parts_of}
+use Rattle.prove_schema.specs.Schemas.{with_metas, meta_facts, parts_of}
 use Rattle.prove_schema.specs.Using.{AreFacts, IsProved, by_fact, by_condition, IsUsable, IsUsed, StaysUsed}
-use Rattle.prove_schema.specs.Elements.{AllBound, IsBound, IsElementOf, IsElementFor, AreElementsFor}
+use Rattle.prove_schema.specs.Elements.{AllBound, AreElementsFor}
 use Rattle.prove_schema.proofs.OpenLaws.{image_is_open, open_metas, open_no_variable}
 use Rattle.prove_schema.proofs.ClosingLaws.{AreNumbers, numbers_length}
-use Rattle.prove_schema.proofs.InstanceLaws.{AreImages, AllThere, Becomes, filled_image, instance_closed}
+use Rattle.prove_schema.proofs.InstanceLaws.{AreImages, AllThere, filled_image, instance_closed}
 use Rattle.prove_schema.proofs.UsingLaws.{as_many_facts, facts_closed}
 use Rattle.prove_schema.proofs.ElementLaws.{pattern_grown}
 use Rattle.prove_schema.proofs.SentenceLaws.{schema_over_places}

@@ -1,35 +1,33 @@
 -- The lemma of an equation in the form of kompile where terms stand for its parameters and variables.
-use Rattle.std.proofs.Common.{◌≡◌, ◌≢◌, ◌<◌, ◌≤◌, ◌+◌, ◌⊎◌, ℕ, zero, suc, true, List, [], ◌∷◌, ◌++◌, Option, Some, None, option_map, length, length-append, map, slice_get, inl, inr, refl, sym, ◌∙◌, ap, subst, arith}
-use Rattle.std.specs.Prelude.{Contains, All, slice_index_or}
+use Rattle.std.proofs.Common.{◌≡◌, ◌<◌, ◌+◌, ◌⊎◌, ℕ, zero, suc, true, List, [], ◌∷◌, ◌++◌, Option, Some, None, option_map, length, length-append, map, slice_get, inl, inr, refl, sym, ◌∙◌, ap, subst, arith}
+use Rattle.std.specs.Prelude.{Contains, slice_index_or}
 use Rattle.std.specs.List.{AllZip}
 use Rattle.std.proofs.lemmas.List.Elements.{Contains-append_cases, All-contains}
 use Rattle.std.proofs.lemmas.Option.{slice_get_within, get_or_from_slice_get}
-use Rattle.ml_pat.specs.Patterns.{Pattern, top, imp, and, equal, member, var, meta}
+use Rattle.ml_pat.specs.Patterns.{Pattern, top, and, equal, member, var, meta}
 use Rattle.ml_kernel.specs.Lemmas.{instance, IsMetaBelow}
 use Rattle.ml_kernel.specs.Theorems.{Theorem}
 use Rattle.ml_scope.specs.Scopes.{Scope, AreWithin}
-use Rattle.term_core.specs.Terms.{Tree, Forest, leaf, truth, forest, no_tree, more_trees, IsNormal, AreNormal}
-use Rattle.term_core.specs.Patterns.{Pattern as RulePattern, Patterns as RulePatterns, variable, domain_value, application, injection, call, no_pattern, more_patterns, binding, instances_of, ground_pattern, ground_patterns}
+use Rattle.term_core.specs.Terms.{Tree, leaf, truth, forest, no_tree, AreNormal}
+use Rattle.term_core.specs.Patterns.{Pattern as RulePattern, Patterns as RulePatterns, variable, domain_value, application, injection, call, no_pattern, more_patterns, binding, ground_pattern, ground_patterns}
 use Rattle.rule_core.specs.Rules.{Equation}
 use Rattle.rule_core.specs.Theories.{equations_of}
 use Rattle.rule_core.specs.ProgramView.{theory_of}
-use Rattle.rule_core.specs.Sorting.{HasSort, HaveSorts, IsTermOf, sort_at}
-use Rattle.rule_core.specs.Matching.{RespectsSorts}
+use Rattle.rule_core.specs.Sorting.{HasSort, HaveSorts, IsTermOf}
 use Rattle.rule_core.specs.MatchLaws.{AreTermsOf}
-use Rattle.rule_core.specs.WellSorted.{IsWellSorted, IsEquationOf}
-use Rattle.rule_core.specs.declared.rules.Program.{Program}
+use Rattle.rule_core.specs.WellSorted.{IsEquationOf}
 use Rattle.rule_core.specs.declared.signature.Signature.{Signature}
 use Rattle.rule_core.specs.declared.signature.SortRef.{SortRef}
 use Rattle.rule_core.specs.declared.signature.SymInfo.{SymInfo}
 use Rattle.rule_core.proofs.SortedInstances.{instances_are_sorted}
 use Rattle.ml_image.specs.Images.{both, image_of, shifted, all_shifted}
 use Rattle.ml_image.specs.HasImages.{HasImage, HaveImages, IsTruth, IsCondition, HasEquationImage}
-use Rattle.ml_image.specs.OwnAxioms.{IsEquationFor, condition_of, is_true, meets, named}
+use Rattle.ml_image.specs.OwnAxioms.{condition_of, is_true, meets, named}
 use Rattle.ml_image.specs.Sentences.{sentence_image, term, symbol, apply_all, variables, is_in}
 use Rattle.ml_image.specs.Sentences as sentence
 use Rattle.ml_image.proofs.ImageLaws.{none_some, some_same}
 use Rattle.ml_image.proofs.SentenceLaws.{one_symbol}
-use Rattle.prove_term.specs.Contexts.{Context, HasContext, HasGrown, StaysIn}
+use Rattle.prove_term.specs.Contexts.{Context, HasContext, StaysIn}
 use Rattle.prove_term.specs.Filling.{filled, all_filled}
 use Rattle.prove_term.specs.Values.{SaysValue, SaysEquationAt}
 use Rattle.prove_term.proofs.ImageShapes.{both_some}
@@ -40,13 +38,13 @@ use Rattle.prove_schema.proofs.OpenLaws.{image_is_open, open_metas}
 use Rattle.prove_schema.proofs.ClosingLaws.{numbers_length}
 use Rattle.prove_schema.proofs.InstanceLaws.{AreImages, AllThere, filled_image}
 use Rattle.prove_schema.proofs.UsingLaws.{as_many_facts}
-use Rattle.prove_equation.specs.EquationLemmas.{SaysEquationSchema, IsEquationLemma}
-use Rattle.prove_equation.specs.Conditions.{SaysCondition, BindsEach}
+use Rattle.prove_equation.specs.EquationLemmas.{SaysEquationSchema}
+use Rattle.prove_equation.specs.Conditions.{SaysCondition}
 use Rattle.prove_equation.specs.Filled.{listed}
-use Rattle.prove_equation.specs.Parameters.{behind_terms, SaysMember, IsMembership, AreMemberships, CanMeet}
-use Rattle.prove_equation.proofs.ShapeLaws.{IsKompile, kompile_shape, closed_same, condition_is, shifted_has, all_shifted_have, condition_behind, behind}
+use Rattle.prove_equation.specs.Parameters.{behind_terms, IsMembership, AreMemberships, CanMeet}
+use Rattle.prove_equation.proofs.ShapeLaws.{IsKompile, kompile_shape, closed_same, condition_is, shifted_has, condition_behind, behind}
 use Rattle.prove_equation.proofs.FillingLaws.{HasImages, elements_have, IsEqualitySchema, SaysOfTerms, schema_usable, schema_says, schema_stays, condition_proved, condition_within, all_there, sort_of_sorted}
-use Rattle.prove_equation.proofs.ParameterLaws.{length-behind, binding-front, there-behind, elements-behind, AreOfSorts, as_many_sorts, respects-behind, filled-behind, variable_patterns, variables-image, variables-have, variables-filled}
+use Rattle.prove_equation.proofs.ParameterLaws.{length-behind, there-behind, elements-behind, AreOfSorts, as_many_sorts, respects-behind, filled-behind, variable_patterns, variables-image, variables-have, variables-filled}
 
 -- ---- the sorts of the terms
 

@@ -1,5 +1,5 @@
 -- How the lemma of an equation is made from its axiom.
-use Rattle.std.proofs.Common.{◌≡◌, ◌+◌, ℕ, zero, suc, List, [], ◌∷◌, ◌++◌, inl, inr, refl, sym, ◌∙◌, ap, subst, arith}
+use Rattle.std.proofs.Common.{◌≡◌, ◌+◌, ℕ, zero, suc, List, [], ◌∷◌, ◌++◌, inl, inr, sym, subst, arith}
 use Rattle.std.specs.Prelude.{IsTrue, Contains, ◌⊎◌}
 use Rattle.std.proofs.lemmas.List.Elements.{Contains-append_left, Contains-append_right, Contains-append_cases}
 use Rattle.ml_pat.specs.Patterns.{Pattern, bot, top, imp, not, and, or, equal, member, fun, ex, all, app, at_sort, next, ev, var, meta, constant}
@@ -8,9 +8,9 @@ use Rattle.ml_scope.specs.Scopes.{Scope, IsOver, AreAssumed, IsWithin}
 use Rattle.rule_core.specs.Rules.{Equation}
 use Rattle.rule_core.specs.declared.rules.Program.{Program}
 use Rattle.ml_image.specs.HasImages.{HasEquationImage}
-use Rattle.prove_term.specs.Contexts.{Context, HasContext, HasGrown, StaysIn, IsLemmaIn}
+use Rattle.prove_term.specs.Contexts.{Context, HasGrown, StaysIn, IsLemmaIn}
 use Rattle.prove_term.specs.EquationAxioms.{SaysEquationOf}
-use Rattle.prove_schema.specs.Schemas.{with_metas, closed, meta_facts, parts_of, IsSentence}
+use Rattle.prove_schema.specs.Schemas.{with_metas, closed, meta_facts, parts_of}
 use Rattle.prove_schema.specs.Opening.{IsForAll, IsSchemaOf, StaysOpen, IsConditional, IsFollowing, StaysFollowing}
 use Rattle.prove_schema.proofs.ScopeLaws.{StaysAssuming, lemma_of, assumes_only}
 use Rattle.prove_equation.specs.EquationLemmas.{SaysEquationSchema}

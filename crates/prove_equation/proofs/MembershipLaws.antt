@@ -1,24 +1,24 @@
 -- That terms are in the patterns that become them, as these are written.
 use Rattle.std.proofs.Common.{◌≡◌, ◌<◌, ◌≤◌, ◌+◌, ℕ, zero, suc, List, [], ◌∷◌, ◌++◌, Option, Some, None, option_map, length, get_or, take, refl, sym, ◌∙◌, ap, subst, arith}
-use Rattle.std.specs.Prelude.{All, IfSome, IsSomeAnd, ◌≢◌}
+use Rattle.std.specs.Prelude.{IfSome, IsSomeAnd, ◌≢◌}
 use Rattle.std.specs.List.{AllZip}
 use Rattle.std.proofs.lemmas.List.{take_more}
-use Rattle.ml_pat.specs.Patterns.{Pattern, equal, fun, member, var}
+use Rattle.ml_pat.specs.Patterns.{Pattern, equal, member, var}
 use Rattle.ml_pat.specs.Judgements.{substituted as put_in}
 use Rattle.ml_kernel.specs.Lemmas.{HasNoVariable}
 use Rattle.ml_kernel.specs.Theorems.{Theorem}
 use Rattle.ml_kernel.proofs.InstanceLaws.{substituted-without}
-use Rattle.ml_scope.specs.Scopes.{Scope, IsOver, StaysWithin}
+use Rattle.ml_scope.specs.Scopes.{IsOver, StaysWithin}
 use Rattle.ml_derived.specs.Equalities.{CanCarry, IsCarried, IsFromClosed, IsFlip}
 use Rattle.term_core.specs.Terms.{Tree, Forest, node, inj, forest, no_tree, more_trees, height}
 use Rattle.term_core.specs.Patterns.{Pattern as RulePattern, Patterns as RulePatterns, variable, domain_value, application, injection, call, no_pattern, more_patterns}
-use Rattle.term_core.specs.Patterns.{substituted, all_substituted, instance_of, instances_of, with_first, ground_pattern, ground_patterns, FitsWithin}
+use Rattle.term_core.specs.Patterns.{substituted, all_substituted, instance_of, instances_of, with_first, ground_pattern, FitsWithin}
 use Rattle.term_core.specs.Terms.{leaf, injected}
 use Rattle.term_core.specs.RulePatterns.{plain_pattern}
 use Rattle.term_core.specs.PatternLists.{plain_patterns}
 use Rattle.term_core.specs.declared.rule_patterns.RulePat.{RulePat}
 use Rattle.rule_core.specs.Rules.{Equation}
-use Rattle.rule_core.specs.Sorting.{HasSort, HaveSorts, IsTermOf}
+use Rattle.rule_core.specs.Sorting.{HasSort, HaveSorts}
 use Rattle.rule_core.specs.Matching.{RespectsSorts, MatchAll}
 use Rattle.rule_core.specs.MatchLaws.{AreTermsOf}
 use Rattle.rule_core.specs.ProgramView.{theory_of}
@@ -31,14 +31,13 @@ use Rattle.ml_image.specs.Images.{image_of}
 use Rattle.ml_image.specs.HasImages.{HasEquationImage}
 use Rattle.ml_image.specs.OwnAxioms.{IsEquationFor}
 use Rattle.ml_image.proofs.ImageLaws.{none_some, some_same}
-use Rattle.prove_term.specs.Contexts.{Context, HasContext, HasGrown, StaysIn}
+use Rattle.prove_term.specs.Contexts.{Context, HasGrown, StaysIn}
 use Rattle.prove_term.specs.Filling.{filled}
-use Rattle.prove_term.specs.Functional.{SaysFunctional}
 use Rattle.prove_term.specs.EqualImages.{SaysEqual, SaysEqualImages}
 use Rattle.prove_term.proofs.ContextLaws.{stays_grown}
 use Rattle.prove_schema.specs.Elements.{AreTerms, IsElementOf}
 use Rattle.prove_schema.proofs.InstanceLaws.{filled_written}
-use Rattle.prove_schema.proofs.ElementLaws.{pattern_grown, functional_grown}
+use Rattle.prove_schema.proofs.ElementLaws.{pattern_grown}
 use Rattle.prove_equation.specs.Conditions.{BindsEach, SaysCondition}
 use Rattle.prove_equation.specs.EquationLemmas.{IsEquationLemma}
 use Rattle.prove_equation.specs.Parameters.{SaysMember, IsMembership, AreMemberships, CanMeet, IsInItself, CanEnter, IsEntered, StaysEntered, IsInHole}

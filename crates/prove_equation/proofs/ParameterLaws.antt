@@ -1,16 +1,15 @@
 -- Terms that stand for an equation's parameters, in front of those that stand for its variables.
-use Rattle.std.proofs.Common.{◌≡◌, ◌<◌, ◌≤◌, ◌+◌, ℕ, zero, suc, List, [], ◌∷◌, ◌++◌, Option, Some, None, option_map, length, length-append, append_assoc, slice_get, refl, sym, ◌∙◌, ap, subst, arith}
+use Rattle.std.proofs.Common.{◌≡◌, ◌≤◌, ◌+◌, ℕ, zero, suc, List, [], ◌∷◌, ◌++◌, Option, Some, length, length-append, append_assoc, refl, sym, ◌∙◌, ap, subst, arith}
 use Rattle.std.specs.List.{AllZip}
-use Rattle.ml_pat.specs.Patterns.{Pattern, app}
 use Rattle.ml_kernel.specs.Theorems.{Theorem}
-use Rattle.term_core.specs.Terms.{Tree, Forest, forest, more_trees, no_tree, IsNormal}
+use Rattle.term_core.specs.Terms.{Tree, forest, IsNormal}
 use Rattle.term_core.specs.Patterns.{Pattern as RulePattern, Patterns as RulePatterns, variable, domain_value, application, injection, call, no_pattern, more_patterns, binding, ground_pattern, ground_patterns}
 use Rattle.rule_core.specs.Sorting.{IsTermOf}
 use Rattle.rule_core.specs.Matching.{RespectsSorts}
 use Rattle.rule_core.specs.declared.signature.Signature.{Signature}
-use Rattle.ml_image.specs.Images.{both, image_of, applied, symbol_image, shifted, all_shifted}
+use Rattle.ml_image.specs.Images.{applied, shifted, all_shifted}
 use Rattle.ml_image.specs.HasImages.{HasImage, HaveImages}
-use Rattle.ml_image.specs.Sentences.{Sentence, sentence_image, term, symbol, apply, apply_all, variables}
+use Rattle.ml_image.specs.Sentences.{Sentence, sentence_image, term, apply, apply_all, variables}
 use Rattle.ml_image.proofs.ImageLaws.{some_same}
 use Rattle.prove_term.specs.Contexts.{Context}
 use Rattle.prove_term.specs.Filling.{filled, all_filled, in_place}

@@ -1,8 +1,6 @@
 -- The image of an equation, taken apart.
-use Rattle.std.proofs.Common.{◌≡◌, ◌≢◌, ◌<◌, ◌≤◌, ◌+◌, ◌^◌, ◌⊎◌, ℕ, zero, suc, List, [], ◌∷◌, ◌++◌, Option, Some, None, option_map, length, length-append, slice_get, inl, inr, refl, sym, ◌∙◌, ap, subst, arith}
+use Rattle.std.proofs.Common.{◌≡◌, ◌≢◌, ◌≤◌, ◌+◌, ◌⊎◌, ℕ, zero, suc, List, [], ◌∷◌, ◌++◌, Option, Some, None, option_map, length, length-append, slice_get, inl, inr, refl, sym, ◌∙◌, ap, subst, arith}
 use Rattle.ml_pat.specs.Patterns.{Pattern, imp, and, equal, all}
-use Rattle.term_core.specs.Terms.{truth}
-use Rattle.std.specs.Prelude.{true}
 use Rattle.term_core.specs.Patterns.{Pattern as RulePattern, Patterns as RulePatterns, variable, domain_value, application, injection, call, no_pattern, more_patterns}
 use Rattle.rule_core.specs.Rules.{Equation}
 use Rattle.rule_core.specs.declared.signature.Signature.{Signature}
@@ -10,12 +8,11 @@ use Rattle.rule_core.specs.declared.signature.SymInfo.{SymInfo}
 use Rattle.ml_image.specs.Images.{both, image_of, shifted, all_shifted}
 use Rattle.ml_image.specs.HasImages as own
 use Rattle.ml_image.specs.HasImages.{HasImage, HaveImages, HasEquationImage, HasParameters, count_of}
-use Rattle.ml_image.specs.OwnAxioms.{SaysEquation, direct, kompile, condition_of, sort_of, made_sort, is_true, direct_sentence, kompile_sentence, behind_parameters, meets, Declares, named}
+use Rattle.ml_image.specs.OwnAxioms.{SaysEquation, direct, kompile, condition_of, sort_of, is_true, meets, Declares}
 use Rattle.ml_image.specs.Sentences.{Sentence, sentence_image, IsImageOf, term, symbol, apply, top, implies, equals, is_in, for_all, variables, apply_all}
 use Rattle.ml_image.specs.Sentences as says
-use Rattle.ml_image.proofs.ImageLaws.{none_some, some_same}
-use Rattle.ml_image.proofs.SentenceLaws.{named_same, one_symbol}
-use Rattle.prove_term.proofs.ImageShapes.{both_some, map_some}
+use Rattle.ml_image.proofs.ImageLaws.{some_same}
+use Rattle.prove_term.proofs.ImageShapes.{both_some}
 use Rattle.prove_schema.specs.Schemas.{IsOpenFrom, closed, IsSentence}
 use Rattle.prove_schema.proofs.OpenLaws.{image_is_open}
 use Rattle.prove_schema.proofs.ClosingLaws.{AreNumbers, IsClosed, closed_image, numbers_length}

@@ -1,26 +1,23 @@
 -- From the arguments as they are written to the terms that they become.
 use Rattle.std.proofs.Common.{◌≡◌, ℕ, List, [], ◌∷◌, Option, Some, None, sym, ◌∙◌, ap, subst}
-use Rattle.std.specs.Prelude.{All, Contains}
 use Rattle.std.proofs.lemmas.List.Elements.{All-contains}
 use Rattle.ml_pat.specs.Patterns.{Pattern, equal, var}
-use Rattle.ml_kernel.specs.Lemmas.{HasNoVariable}
 use Rattle.ml_kernel.specs.Theorems.{Theorem}
-use Rattle.ml_scope.specs.Scopes.{Scope, StaysWithin}
+use Rattle.ml_scope.specs.Scopes.{StaysWithin}
 use Rattle.ml_derived.specs.Equalities.{IsFromClosed, IsFlip, AreJoinable, IsJoin}
 use Rattle.term_core.specs.Terms.{Tree, Forest}
-use Rattle.term_core.specs.Patterns.{Pattern as RulePattern, Patterns as RulePatterns, call, all_substituted, ground_patterns}
+use Rattle.term_core.specs.Patterns.{Patterns as RulePatterns, call, all_substituted, ground_patterns}
 use Rattle.rule_core.specs.Rules.{Equation}
 use Rattle.rule_core.specs.Theories.{equations_of}
 use Rattle.rule_core.specs.ProgramView.{theory_of}
 use Rattle.rule_core.specs.Sorting.{HaveSorts}
 use Rattle.rule_core.specs.WellSorted.{IsWellSorted, IsEquationOf}
-use Rattle.rule_core.specs.declared.rules.Program.{Program}
 use Rattle.rule_core.specs.declared.signature.SortRef.{SortRef}
 use Rattle.ml_image.specs.Images.{image_of}
 use Rattle.ml_image.specs.OwnAxioms.{IsEquationFor}
 use Rattle.ml_image.proofs.ImageLaws.{none_some, some_same}
-use Rattle.prove_term.specs.Contexts.{Context, HasContext, HasGrown, StaysIn}
-use Rattle.prove_term.specs.Filling.{filled, all_filled}
+use Rattle.prove_term.specs.Contexts.{Context, HasGrown, StaysIn}
+use Rattle.prove_term.specs.Filling.{filled}
 use Rattle.prove_term.specs.EqualCalls.{SaysEqualCall, SaysEqualCalls}
 use Rattle.prove_term.specs.Values.{SaysEquationAt}
 use Rattle.prove_term.proofs.ContextLaws.{stays_grown}

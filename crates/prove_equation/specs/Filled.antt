@@ -17,8 +17,8 @@ use Rattle.prove_equation.specs.Conditions.{BindsEach, SaysCondition}
 use Rattle.prove_equation.specs.EquationLemmas.{IsEquationLemma}
 
 -- the lemma of an equation that is written directly may be used with this substitution
-pub record CanFill (cx : Context) (f : ℕ) (e : Equation) (lemma : Theorem) (theta : List (Option Tree)) (o : Option Theorem)
-    : Type 0 where
+pub record CanFill (cx : Context) (f : ℕ) (e : Equation) (lemma : Theorem) (theta : List (Option Tree))
+    (o : Option Theorem) : Type 0 where
   pub image : HasEquationImage cx.program.sig f e
   pub direct : e.parameters ≡ 0
   pub is_lemma : IsEquationLemma cx f e lemma

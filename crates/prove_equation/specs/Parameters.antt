@@ -26,7 +26,8 @@ behind_terms (t ∷ ts) theta = Some t ∷ behind_terms ts theta
 
 -- the pattern says that the image of the term is in that of p, with the terms of a substitution in the places of its
 -- variables
-pub record SaysMember (cx : Context) (theta : List (Option Tree)) (p : RulePattern) (u : Tree) (q : Pattern) : Type 0 where
+pub record SaysMember (cx : Context) (theta : List (Option Tree)) (p : RulePattern) (u : Tree) (q : Pattern)
+    : Type 0 where
   pub element : Pattern
   pub element_image : image_of cx.program.sig cx.names (ground_pattern u) ≡ Some element
   pub whole : Pattern

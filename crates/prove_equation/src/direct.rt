@@ -62,7 +62,8 @@ fn filled(
     condition: &Option<Thm>,
 ) -> Result<Thm, AllocError>
     requires well_sorted { IsWellSorted (theory_of cx.old.program) }
-    requires used { CanFill cx.old equation.now.fun.0 (function_equation equation.now) lemma.now subst.now condition.now }
+    requires used { CanFill cx.old equation.now.fun.0 (function_equation equation.now) lemma.now subst.now
+        condition.now }
     ensures says { IfOk result
         (λ t. SaysFilled cx.new equation.now.fun.0 (function_equation equation.now) subst.now t.conclusion) }
     ensures stays { IfOk result (StaysIn cx.new) }

@@ -70,7 +70,8 @@ fn proofs(
 
 // The proof of a hypothesis.
 fn proof<'a>(hypothesis: &MPat, facts: &'a [Thm], others: &'a [Thm]) -> &'a Thm
-    requires { (qs : List Pattern) × (ns : List ℕ) × AreFacts qs ns facts.now × IsProved qs ns others.now hypothesis.now }
+    requires { (qs : List Pattern) × (ns : List ℕ) × AreFacts qs ns facts.now
+        × IsProved qs ns others.now hypothesis.now }
     ensures { IsGiven facts.now others.now hypothesis.now result.now }
 {
     match hypothesis.form() {

@@ -1,5 +1,4 @@
-use Rattle.std.proofs.Common.{◌≡◌, ℕ, List, [], Option, sym, ◌∙◌, ap, subst}
-use Rattle.ml_kernel.specs.Theorems.{Theorem}
+use Rattle.std.proofs.Common.{List, [], sym, subst}
 use Rattle.term_core.specs.Terms.{forest}
 use Rattle.term_core.specs.PatternLists.{plain_patterns}
 use Rattle.term_core.specs.declared.rule_patterns.RulePat.{RulePat}
@@ -10,12 +9,10 @@ use Rattle.rule_core.specs.WellSorted.{IsWellSorted}
 use Rattle.rule_core.specs.declared.rules.Program.{Program}
 use Rattle.rule_core.specs.declared.signature.SortRef.{SortRef}
 use Rattle.ml_image.specs.HasImages.{HasEquationImage}
-use Rattle.prove_term.specs.Contexts.{StaysIn}
 use Rattle.prove_term.specs.EqualCalls.{SaysEqualCalls}
 use Rattle.prove_term.proofs.ContextLaws.{grown_twice}
 use Rattle.prove_schema.proofs.ResultLaws.{if_ok}
 use Rattle.prove_schema.proofs.ScopeLaws.{stays_no_hypotheses}
-use Rattle.prove_equation.specs.Filled.{CanFill}
 use Rattle.prove_equation.proofs.TurningLaws.{IsWritten, written_at, written_turns, written_says, written_stays, arguments_sorted}
 use Rattle.prove_equation.proofs.direct.direct_at.Goals as goal
 

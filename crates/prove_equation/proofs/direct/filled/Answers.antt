@@ -1,11 +1,10 @@
-use Rattle.std.proofs.Common.{◌≡◌, ◌≤◌, ◌+◌, ◌^◌, ℕ, List, length, sym, ◌∙◌, ap, subst, arith}
+use Rattle.std.proofs.Common.{ℕ, List, sym, ◌∙◌, subst, arith}
 use Rattle.ml_pat.specs.Patterns.{Pattern}
 use Rattle.ml_kernel.specs.Theorems.{Theorem}
 use Rattle.rule_core.specs.ProgramView.{function_equation}
 use Rattle.prove_schema.specs.Elements.{AreElementsFor}
 use Rattle.prove_schema.specs.Using.{IsUsable, IsUsed, StaysUsed}
 use Rattle.prove_schema.proofs.ResultLaws.{if_ok}
-use Rattle.prove_equation.specs.Filled.{listed}
 use Rattle.prove_equation.proofs.FillingLaws.{IsCited, all_bound, can_fill_grown, cited_usable, cited_says, cited_stays}
 use Rattle.prove_equation.proofs.direct.filled.Goals as goal
 

@@ -1,4 +1,3 @@
-use Rattle.std.proofs.Common.{◌≡◌, ℕ}
 use Rattle.rule_core.specs.ProgramView.{function_equation}
 use Rattle.prove_schema.proofs.ResultLaws.{if_ok, if_ok_two}
 use Rattle.prove_equation.proofs.LemmaLaws.{IsOpened, image_grown, axiom_for_all, opened_conditional, opened_lemma, opened_says}

@@ -1,4 +1,4 @@
-use Rattle.std.proofs.Common.{◌≡◌, sym, ◌∙◌, ap, subst}
+use Rattle.std.proofs.Common.{subst}
 use Rattle.ml_pat.specs.Patterns.{Pattern}
 use Rattle.prove_schema.proofs.ResultLaws.{if_ok}
 use Rattle.prove_equation.specs.Parameters.{IsInHole}

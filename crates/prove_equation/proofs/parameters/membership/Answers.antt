@@ -1,8 +1,7 @@
-use Rattle.std.proofs.Common.{◌≡◌, sym, ◌∙◌, ap, subst}
 use Rattle.term_core.specs.RulePatterns.{plain_pattern}
 use Rattle.prove_term.proofs.ContextLaws.{grown_none}
 use Rattle.prove_schema.proofs.ResultLaws.{if_ok_two}
-use Rattle.prove_equation.proofs.MembershipLaws.{IsShown, shown, shown_enters, shown_member, fits_term}
+use Rattle.prove_equation.proofs.MembershipLaws.{IsShown, shown, shown_enters, shown_member}
 use Rattle.prove_equation.proofs.parameters.membership.Goals as goal
 
 pub in_itself-requires : goal.in_itself-requires

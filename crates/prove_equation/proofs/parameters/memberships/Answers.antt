@@ -1,8 +1,7 @@
-use Rattle.std.proofs.Common.{rules, ◌≡◌, ◌<◌, ◌≤◌, ◌+◌, ℕ, List, [], ◌∷◌, ◌++◌, Some, length, take, sym, ◌∙◌, subst, arith}
-use Rattle.std.specs.List.{AllZip}
+use Rattle.std.proofs.Common.{rules, ◌≡◌, ◌<◌, ◌≤◌, ◌+◌, ℕ, List, [], ◌∷◌, ◌++◌, length, take, sym, subst, arith}
 use Rattle.std.proofs.lemmas.List.{take_all}
 use Rattle.ml_kernel.specs.Theorems.{Theorem}
-use Rattle.term_core.specs.Terms.{Tree, forest}
+use Rattle.term_core.specs.Terms.{Tree}
 use Rattle.term_core.specs.PatternLists.{plain_patterns}
 use Rattle.term_core.specs.RulePatterns.{plain_pattern}
 use Rattle.term_core.specs.declared.rule_patterns.RulePat.{RulePat}
@@ -12,7 +11,6 @@ use Rattle.rule_core.specs.Sorting.{HasSort}
 use Rattle.rule_core.specs.WellSorted.{IsSignature}
 use Rattle.rule_core.specs.declared.rules.Program.{Program}
 use Rattle.prove_term.proofs.ContextLaws.{grown_twice, grown_none}
-use Rattle.prove_schema.specs.Elements.{IsElementOf}
 use Rattle.prove_schema.proofs.ElementLaws.{elements_grown}
 use Rattle.prove_equation.specs.Parameters.{AreMemberships}
 use Rattle.prove_equation.proofs.MembershipLaws.{one_more_membership, argument_makes, argument_sorted, fact_item, as_many_facts}
