@@ -1,15 +1,12 @@
 -- What stands in schemas, and in images of patterns.
-use Rattle.std.proofs.Common.{◌≡◌, ℕ, List, [], ◌∷◌, Option, Some, None, option_map, slice_get, refl, sym, ◌∙◌, ap, subst, arith}
+use Rattle.std.proofs.Common.{◌≡◌, ℕ, List, [], ◌∷◌, Option, Some, None, option_map, refl, ap, subst, arith}
 use Rattle.std.specs.Prelude.{IsTrue}
-use Rattle.std.proofs.lemmas.Option.{get_or_from_slice_get}
 use Rattle.ml_pat.specs.Patterns.{Pattern, bot, top, imp, not, and, or, equal, member, fun, ex, all, app, at_sort, next, ev, var, meta, constant}
 use Rattle.ml_pat.specs.Leaves.{LeafFacts, EachLeaf}
-use Rattle.ml_kernel.specs.Lemmas.{instance, IsMetaBelow, HasNoVariable}
+use Rattle.ml_kernel.specs.Lemmas.{IsMetaBelow, HasNoVariable}
 use Rattle.ml_scope.specs.Scopes.{Scope, IsOver}
-use Rattle.term_core.specs.Terms.{Tree, leaf, node, inj, Forest, no_tree, more_trees}
-use Rattle.term_core.specs.Patterns.{Pattern as RulePattern, Patterns as RulePatterns, variable, domain_value, application, injection, call, no_pattern, more_patterns, substituted, all_substituted, ground_pattern, ground_patterns}
+use Rattle.term_core.specs.Patterns.{Pattern as RulePattern, Patterns as RulePatterns, variable, domain_value, application, injection, call, no_pattern, more_patterns}
 use Rattle.rule_core.specs.declared.signature.Signature.{Signature}
-use Rattle.rule_core.proofs.SortedInstances.{mapped, both_there}
 use Rattle.ml_image.specs.Tokens.{token_of_symbol, token_of_value, numbered}
 use Rattle.ml_image.specs.Images.{both, symbol_image, sort_image, at_sorts, image_of, applied, some_symbol_image, injection_symbol, injection_image}
 use Rattle.ml_image.specs.HasImages.{HasImage, HaveImages}

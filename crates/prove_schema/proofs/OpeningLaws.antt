@@ -1,17 +1,17 @@
 -- A sentence as a schema: from the sentence and assumed facts.
-use Rattle.std.proofs.Common.{◌≡◌, ◌+◌, ℕ, zero, suc, List, [], ◌∷◌, ◌++◌, length, inl, inr, refl, sym, ◌∙◌, ap, subst, arith, append_assoc}
-use Rattle.std.specs.Prelude.{Contains, ◌⊎◌}
+use Rattle.std.proofs.Common.{◌≡◌, ◌+◌, ℕ, zero, suc, List, [], ◌∷◌, ◌++◌, length, refl, sym, ◌∙◌, ap, subst, arith, append_assoc}
+use Rattle.std.specs.Prelude.{Contains}
 use Rattle.std.proofs.lemmas.List.Elements.{Contains-append_left, Contains-append_right}
 use Rattle.ml_pat.specs.Patterns.{Pattern, bot, top, imp, not, and, or, equal, member, fun, ex, all, app, at_sort, next, ev, var, meta, constant}
 use Rattle.ml_pat.specs.PatternView.{pattern_of}
 use Rattle.ml_pat.specs.declared.patterns.MForm.{MForm}
 use Rattle.ml_pat.specs.declared.patterns.MForm.TheVariants as form
 use Rattle.ml_kernel.specs.Theorems.{Theorem, conclusions}
-use Rattle.ml_scope.specs.Scopes.{Scope, AreAssumed, AreWithin, IsWithin, IsOver, AssumesWithin, StaysWithin}
+use Rattle.ml_scope.specs.Scopes.{Scope, AreAssumed, AreWithin, IsOver, AssumesWithin, StaysWithin}
 use Rattle.ml_derived.specs.Instances.{IsInstance, HasInstance}
 use Rattle.ml_derived.proofs.InstanceSteps.{IsInstance-unique}
 use Rattle.prove_schema.specs.Schemas.{with_metas, IsOpenFrom, closed, meta_facts, parts_of, IsSentence}
-use Rattle.prove_schema.specs.Opening.{IsForAll, IsSchemaOf, StaysOpen, IsConditional, IsFollowing, StaysFollowing}
+use Rattle.prove_schema.specs.Opening.{IsForAll, IsSchemaOf, StaysOpen, IsFollowing, StaysFollowing}
 use Rattle.prove_schema.specs.Assumptions.{AreAssumptions, facts_of, HoldsByParts}
 use Rattle.prove_schema.proofs.ClosingLaws.{schema_instance}
 

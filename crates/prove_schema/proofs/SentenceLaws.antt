@@ -1,16 +1,15 @@
 -- Sentences without quantifiers: what stands in their images.
-use Rattle.std.proofs.Common.{◌≡◌, ◌<◌, ◌≤◌, ◌+◌, ℕ, zero, suc, List, [], ◌∷◌, Option, Some, None, option_map, refl, sym, ◌∙◌, ap, subst, arith}
-use Rattle.std.specs.Prelude.{IsTrue}
+use Rattle.std.proofs.Common.{◌≡◌, ℕ, List, Option, Some, option_map, sym, subst}
 use Rattle.ml_pat.specs.Patterns.{Pattern}
 use Rattle.ml_pat.specs.Patterns as logic
 use Rattle.ml_pat.proofs.LeafLaws.{EachLeaf-implied}
-use Rattle.ml_scope.specs.Scopes.{Scope, IsOver, IsOverPlaces, leaves_of, place_leaves_of}
+use Rattle.ml_scope.specs.Scopes.{Scope, IsOverPlaces, leaves_of, place_leaves_of}
 use Rattle.rule_core.specs.declared.signature.Signature.{Signature}
 use Rattle.ml_image.specs.Tokens.{token_of_symbol, numbered}
-use Rattle.ml_image.specs.Images.{both, image_of, symbol_image, sort_image}
+use Rattle.ml_image.specs.Images.{both, sort_image}
 use Rattle.ml_image.specs.HasImages.{HasImage}
 use Rattle.ml_image.specs.Sentences.{Sentence, sentence_image, term, symbol, apply, top, not, and, implies, equals, is_in, functional, exists, forall, next}
-use Rattle.ml_image.proofs.ImageLaws.{none_some, some_same}
+use Rattle.ml_image.proofs.ImageLaws.{some_same}
 use Rattle.prove_term.specs.Contexts.{Context, HasContext}
 use Rattle.prove_term.proofs.ImageShapes.{both_some, map_some}
 use Rattle.prove_schema.specs.Schemas.{with_metas, IsOpenFrom}

@@ -1,6 +1,6 @@
 -- What comes in the places of a schema's pattern variables, and what is proved of it.
-use Rattle.std.proofs.Common.{◌≡◌, ◌<◌, ◌≤◌, ◌+◌, ℕ, zero, suc, slice_get, List, [], ◌∷◌, ◌++◌, Option, Some, None, length, take, get_or, inl, inr, refl, sym, ◌∙◌, ap, subst, arith}
-use Rattle.std.specs.Prelude.{All, Contains, ◌⊎◌, slice_index_or}
+use Rattle.std.proofs.Common.{◌≡◌, ◌<◌, ◌≤◌, ◌+◌, ℕ, zero, suc, slice_get, List, [], ◌∷◌, ◌++◌, Some, length, take, get_or, inl, inr, refl, sym, ◌∙◌, ap, subst, arith}
+use Rattle.std.specs.Prelude.{All, Contains, ◌⊎◌}
 use Rattle.std.specs.List.{AllZip}
 use Rattle.std.proofs.lemmas.List.{take_more, take_all}
 use Rattle.std.proofs.lemmas.Option.{slice_get_within, get_or_from_slice_get}
@@ -12,8 +12,8 @@ use Rattle.ml_pat.specs.declared.patterns.MForm.TheVariants as form
 use Rattle.ml_pat.specs.declared.numbers.MSort.{MSort}
 use Rattle.ml_kernel.specs.Lemmas.{instance, instances, IsMetaBelow, AreMetasBelow, HasNoVariable, HaveNoVariables}
 use Rattle.ml_kernel.specs.Theorems.{Theorem, conclusions}
-use Rattle.ml_scope.specs.Scopes.{Scope, AreOver, AreWithin, IsOver, IsWithin, IsStatedIn, IsOverPlaces, CitesWithin}
-use Rattle.ml_image.proofs.ImageLaws.{none_some, some_same}
+use Rattle.ml_scope.specs.Scopes.{Scope, AreOver, AreWithin, IsOver, IsWithin, CitesWithin}
+use Rattle.ml_image.proofs.ImageLaws.{some_same}
 use Rattle.prove_schema.specs.Using.{AreFacts, IsProved, by_fact, by_member, by_condition, IsUsable, IsUsed, StaysUsed}
 use Rattle.prove_schema.specs.Giving.{CanProve, IsGiven, AreGiven}
 

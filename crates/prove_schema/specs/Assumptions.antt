@@ -1,5 +1,5 @@
 -- Theorems that only assume.
-use Rattle.std.specs.Prelude.{◌≡◌, List, [], ◌∷◌}
+use Rattle.std.specs.Prelude.{List, [], ◌∷◌}
 use Rattle.ml_pat.specs.Patterns.{Pattern, bot, top, imp, not, and, or, equal, member, fun, ex, all}
 use Rattle.ml_pat.specs.Patterns.{app, at_sort, next, ev, var, meta, constant}
 use Rattle.ml_kernel.specs.Theorems.{Theorem}

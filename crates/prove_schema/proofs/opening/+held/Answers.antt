@@ -1,13 +1,11 @@
 use Rattle.std.proofs.Common.{◌≡◌, ◌∷◌, [], sym, ◌∙◌, ap, subst}
-use Rattle.ml_pat.specs.Patterns.{Pattern, and, top}
-use Rattle.ml_kernel.specs.Theorems.{Theorem}
+use Rattle.ml_pat.specs.Patterns.{Pattern, and}
 use Rattle.ml_scope.specs.Scopes.{AssumesWithin}
 use Rattle.prove_schema.specs.Schemas.{parts_of}
 use Rattle.prove_schema.specs.Assumptions.{HoldsByParts}
 use Rattle.prove_schema.proofs.ResultLaws.{if_ok}
 use Rattle.prove_schema.proofs.OpeningLaws.{alone, whole_held, both_held}
 use Rattle.ml_pat.specs.PatternView.{pattern_of}
-use Rattle.ml_pat.specs.declared.patterns.MForm.{MForm}
 use Rattle.prove_schema.proofs.opening.+held.Goals as goal
 
 pub returns-in-Top-clause-stays : goal.returns-in-Top-clause-stays

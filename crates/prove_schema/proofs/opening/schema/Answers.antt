@@ -1,5 +1,4 @@
-use Rattle.std.proofs.Common.{◌≡◌, sym, ◌∙◌, ap, subst}
-use Rattle.ml_pat.specs.Patterns.{Pattern}
+use Rattle.std.proofs.Common.{sym, ◌∙◌, ap, subst}
 use Rattle.ml_kernel.specs.Theorems.{conclusions}
 use Rattle.prove_schema.specs.Assumptions.{AreAssumptions, facts_of}
 use Rattle.prove_schema.proofs.ResultLaws.{if_ok}

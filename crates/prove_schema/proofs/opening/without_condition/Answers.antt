@@ -1,5 +1,4 @@
-use Rattle.std.proofs.Common.{◌≡◌, sym, ◌∙◌, ap, subst}
-use Rattle.ml_pat.specs.Patterns.{Pattern, imp}
+use Rattle.std.proofs.Common.{sym, ◌∙◌}
 use Rattle.prove_schema.proofs.ResultLaws.{if_ok}
 use Rattle.prove_schema.proofs.OpeningLaws.{following_says, following_stays}
 use Rattle.prove_schema.proofs.opening.without_condition.Goals as goal

@@ -1,7 +1,6 @@
-use Rattle.std.proofs.Common.{rules, ◌≡◌, ◌<◌, ◌+◌, ℕ, length, sym, ◌∙◌, ap, subst, arith}
-use Rattle.ml_pat.specs.Patterns.{Pattern, fun, member, equal, meta}
+use Rattle.std.proofs.Common.{sym, ◌∙◌, ap}
 use Rattle.ml_pat.specs.PatternView.{pattern_of}
-use Rattle.prove_schema.proofs.UsingLaws.{proved_fun, proved_member, fact_place, member_place, some_others, given_fact, given_member, given_condition, no_other_form}
+use Rattle.prove_schema.proofs.UsingLaws.{fact_place, given_fact}
 use Rattle.prove_schema.proofs.using.proof.Goals as goal
 
 pub nth-requires : goal.nth-requires

@@ -1,6 +1,5 @@
-use Rattle.std.proofs.Common.{rules, ◌≡◌, ◌<◌, ◌+◌, ℕ, List, [], ◌∷◌, ◌++◌, length, take, sym, subst, arith}
+use Rattle.std.proofs.Common.{rules, ◌≡◌, ◌<◌, ◌+◌, List, [], ◌∷◌, ◌++◌, length, take, sym, subst, arith}
 use Rattle.ml_kernel.specs.Theorems.{Theorem}
-use Rattle.prove_schema.specs.Using.{IsProved}
 use Rattle.prove_schema.specs.Giving.{AreGiven}
 use Rattle.prove_schema.proofs.UsingLaws.{one_more_given, hypothesis_proved}
 use Rattle.prove_schema.proofs.using.proofs.Goals as goal

@@ -1,11 +1,9 @@
-use Rattle.std.proofs.Common.{◌≡◌, List, sym, ◌∙◌, ap, subst}
+use Rattle.std.proofs.Common.{List, sym, ◌∙◌, subst}
 use Rattle.ml_pat.specs.Patterns.{Pattern}
-use Rattle.ml_kernel.specs.Lemmas.{IsMetaBelow, AreMetasBelow, HaveNoVariables, instances, instance}
-use Rattle.ml_kernel.specs.Theorems.{Theorem, conclusions}
-use Rattle.ml_scope.specs.Scopes.{CitesWithin}
+use Rattle.ml_kernel.specs.Theorems.{Theorem}
 use Rattle.prove_schema.specs.Giving.{AreGiven}
 use Rattle.prove_schema.proofs.ResultLaws.{if_ok}
-use Rattle.prove_schema.proofs.UsingLaws.{IsReady, can_prove, ready_hypotheses, ready_conclusion, ready_closed, ready_proofs, ready_says, ready_stays}
+use Rattle.prove_schema.proofs.UsingLaws.{IsReady, can_prove, ready_hypotheses, ready_closed, ready_proofs, ready_stays}
 use Rattle.prove_schema.proofs.using.schema_at.Goals as goal
 
 pub proofs-requires : goal.proofs-requires

@@ -1,4 +1,4 @@
-use Rattle.std.proofs.Common.{rules, ◌≡◌, ◌<◌, ◌≤◌, ◌+◌, ℕ, List, [], ◌∷◌, ◌++◌, length, take, sym, ◌∙◌, ap, subst, arith}
+use Rattle.std.proofs.Common.{rules, ◌≡◌, ◌<◌, ◌≤◌, ℕ, [], ◌∷◌, ◌++◌, length, sym, ◌∙◌, ap, arith}
 use Rattle.ml_pat.specs.Patterns.{Pattern, fun}
 use Rattle.prove_schema.proofs.UsingLaws.{says_subject, one_more_subject, all_subjects}
 use Rattle.prove_schema.proofs.using.subjects.Goals as goal
