@@ -220,13 +220,11 @@ fn are_parts_apart<P: Place>(
     ensures apart { IfOk result (λ r. r
         ≡ parts_apart (P.place place.now) (drop base stack.now) one.now other.now) }
 {
-    match (one, other) {
-        (Part::Replaced(symbol, i), Part::Replaced(another, j)) => {
-            if *symbol == *another {
-                return Ok(true);
-            }
-            are_texts_apart(place, *i, *j, stack, base, spreads)
-        }
+    if one.symbol == other.symbol {
+        return Ok(true);
+    }
+    match (one.place(), other.place()) {
+        (Some(i), Some(j)) => are_texts_apart(place, i, j, stack, base, spreads),
         _ => Ok(true),
     }
 }
