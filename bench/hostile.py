@@ -55,6 +55,30 @@ def premises_between(n):
     return HEAD + "${\n" + "".join(f"e{i} $e t u $. a{i} $a t u $.\n" for i in range(n)) + "$}\n"
 
 
+def premises_between_with_variables(n):
+    """n active `$e`, each of a variable of its own, with an axiom behind each."""
+    names, declared = variables(n)
+    return HEAD + declared + "${\n" + "".join(f"e{i} $e t {v} $. a{i} $a t u $.\n" for i, v in enumerate(names)) + "$}\n"
+
+
+def pair_in_many_groups(n):
+    """Two texts of √n variables, kept apart by n groups of one axiom."""
+    many = max(int(n**0.5), 2)
+    (xs, declared), (ys, others), (zs, rest) = variables(many, "a"), variables(many, "b"), variables(n, "z")
+    groups = "".join(f"$d x y {z} $.\n" for z in zs)
+    rules = f"jo $a t x y $. no $a t $. ${{ {groups} ax $a u x y {' '.join(zs)} $. $}}\n"
+    one, two = (f"f{names[0]} " + "".join(f"f{name} jo " for name in names[1:]) for names in (xs, ys))
+    text = " ".join(xs + ys)
+    return HEAD + declared + others + rest + rules + f"$d {text} $. th $p u {text} $= {one} {two} {'no ' * n} ax $.\n"
+
+
+def empty_texts(n):
+    """An `$e` of n symbols that are replaced by nothing, and n / 8 citations that compare it."""
+    long = " ".join(["x"] * n)
+    rules = f"no $a t $. ${{ e $e t {long} $. go $a t {long} $. $}}\n"
+    return HEAD + rules + f"th $p t $= ( no go ) A{'AB' * (n // 8)} $.\n"
+
+
 def proofs_under_premises(n):
     """n active `$e`, and n theorems under them, whose proofs list a label."""
     premises = "".join(f"e{i} $e t u $.\n" for i in range(n))
@@ -143,6 +167,9 @@ CASES = {
     "long_texts": (long_texts, 2**17),
     "many_premises": (many_premises, 12500),
     "premises_between": (premises_between, 6000),
+    "premises_between_with_variables": (premises_between_with_variables, 3000),
+    "pair_in_many_groups": (pair_in_many_groups, 10000),
+    "empty_texts": (empty_texts, 10000),
     "proofs_under_premises": (proofs_under_premises, 5000),
     "repeated_groups": (repeated_groups, 12500),
     "repeated_groups_between": (repeated_groups_between, 6000),
@@ -179,12 +206,12 @@ def main():
     words = words.parse_args()
     folder = words.keep or tempfile.mkdtemp(prefix="hostile-")
     os.makedirs(folder, exist_ok=True)
-    print(f"{'database':24} {'bytes':>9} " + " ".join(f"{'seconds':>8} {'MB':>6}" for _ in range(3)) + "  growth      answer")
+    print(f"{'database':32} {'bytes':>9} " + " ".join(f"{'seconds':>8} {'MB':>6}" for _ in range(3)) + "  growth      answer")
     for name, (make, n) in CASES.items():
         if words.only and words.only != name:
             continue
         n = max(int(n * words.scale), 2)
-        seconds, line = [], f"{name:24} "
+        seconds, line = [], f"{name:32} "
         for size in (n, 2 * n, 4 * n):
             file = f"{folder}/{name}-{size}.mm"
             with open(file, "w") as it:

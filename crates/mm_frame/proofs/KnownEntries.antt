@@ -3,7 +3,7 @@ use Rattle.std.proofs.Common.{rules, ◌≡◌, ℕ, zero, suc, Bool, true, List
 use Rattle.std.specs.Prelude.{Option, None, Some, bytes_eq, if◌then◌else◌}
 use Rattle.std.proofs.lemmas.Slice.Eq.{bytes_eq-Decides}
 use Rattle.mm_text.specs.Bytes.{Token}
-use Rattle.mm_frame.specs.declared.names.Entry.{Entry}
+use Rattle.mm_frame.specs.declared.entries.Entry.{Entry}
 use Rattle.mm_frame.specs.declared.scopes.Name.{Name}
 use Rattle.mm_frame.proofs.StandAdds.{other-name}
 use Rattle.mm_frame.specs.EntriesView.{entry_word, entry_name}

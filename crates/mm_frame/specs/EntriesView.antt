@@ -4,7 +4,7 @@ use Rattle.std.specs.Borrow.{Bor}
 use Rattle.std.specs.BTreeMap.{BTreeMap}
 use Rattle.mm_text.specs.Bytes.{Token}
 use Rattle.mm_frame.specs.KnownNames.{name_in}
-use Rattle.mm_frame.specs.declared.names.Entry.{Entry}
+use Rattle.mm_frame.specs.declared.entries.Entry.{Entry}
 use Rattle.mm_frame.specs.declared.scopes.Name.{Name}
 
 abbrev pub entry_word : Entry → Token

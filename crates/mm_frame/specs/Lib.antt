@@ -24,6 +24,7 @@ pub mod Places
 pub mod Listed
 pub mod Grouping
 pub mod EntriesView
+pub mod ShortWords
 pub mod HeldTests
 pub mod HeldFaults
 pub mod HeldSteps

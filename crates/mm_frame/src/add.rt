@@ -32,6 +32,7 @@ impl<'a> Scopes<'a> {
         ensures { IfOk result (λ _. AppendsSymbol (held self.old) word.now is_variable (held self.new)) }
     {
         self.shared = None;
+        self.is_stated = false;
         self.places.push(0)?;
         self.types.push(0)?;
         self.symbols.push(Symbol {
@@ -68,6 +69,7 @@ impl<'a> Scopes<'a> {
         let place = self.hyps.len();
         self.rename(hyp.label(), Name::Hypothesis(place))?;
         self.shared = None;
+        self.is_stated = false;
         if let Hyp::Floating(_, _, variable) = &hyp {
             let n = *variable as usize;
             if n < self.types.len() {
@@ -89,6 +91,7 @@ impl<'a> Scopes<'a> {
         ensures { IfOk result (λ _. AddsDisjoint (held self.old) variables.items (held self.new)) }
     {
         self.shared = None;
+        self.is_stated = false;
         self.disjoint.push(alloc, variables)?;
         Ok(())
     }
@@ -137,6 +140,7 @@ impl<'a> Scopes<'a> {
     {
         let block = self.blocks.pop()?;
         self.shared.take();
+        self.is_stated = false;
         self.variables.truncate(block.variables);
         self.hyps.truncate(block.hyps);
         self.disjoint.truncate(block.disjoint);

@@ -9,6 +9,7 @@
 mod add;
 mod declare;
 mod disjoint;
+mod entries;
 mod forms;
 mod frames;
 mod hypotheses;

@@ -2,6 +2,7 @@
 
 ghost use Rattle.mm_frame.specs.EntriesView.{AreKnown};
 
+use crate::entries::Entry;
 use crate::scopes::Name;
 use std::alloc::{AllocError, Global};
 use std::collections::BTreeMap;
@@ -14,13 +15,6 @@ const FIRST_SLOTS: usize = 64;
 
 /// What an empty slot holds: the number of no entry.
 const EMPTY: u32 = u32::MAX;
-
-/// A token with what it names.
-#[derive(Clone, Copy)]
-pub(crate) struct Entry<'a> {
-    word: &'a [u8],
-    name: Name,
-}
 
 /// Tokens with what they name: an ordered map, and before it a table of slots, which have the numbers of
 /// entries.
@@ -72,7 +66,7 @@ impl<'a> Names<'a> {
         for step in 0..NEAR {
             let number = self.slots.get(slot(mixed, step, self.slots.len()))?;
             let entry = self.entry(*number as usize)?;
-            if entry.word == word {
+            if entry.is_of(word) {
                 return Some(entry.name);
             }
         }
@@ -98,7 +92,7 @@ impl<'a> Names<'a> {
                 Ok(())
             }
             Ok(None) => {
-                self.entries.push(Entry { word, name }).unwrap();
+                self.entries.push(Entry::new(word, name)).unwrap();
                 self.put_last()
             }
         }
@@ -159,13 +153,28 @@ impl<'a> Names<'a> {
     }
 }
 
-/// The bytes of a token, mixed into one number.
+/// The bytes of a token, mixed into one number, eight bytes at a time.
 fn mixed(word: &[u8]) -> u64 {
-    let mut sum: u64 = 0;
-    for byte in word {
-        sum = (sum ^ *byte as u64).wrapping_mul(0x9e37_79b9_7f4a_7c15);
+    let mut sum = word.len() as u64;
+    let mut rest = word;
+    while rest.len() >= 8 {
+        let eight = [
+            rest[0], rest[1], rest[2], rest[3], rest[4], rest[5], rest[6], rest[7],
+        ];
+        sum = stirred(sum ^ u64::from_le_bytes(eight));
+        rest = &rest[8..];
     }
-    sum >> 32
+    let mut last: u64 = 0;
+    for byte in rest {
+        last = last << 8 | *byte as u64;
+    }
+    stirred(sum ^ last)
+}
+
+/// A number in which each bit of another one has been mixed with those above it.
+fn stirred(sum: u64) -> u64 {
+    let product = sum.wrapping_mul(0x9e37_79b9_7f4a_7c15);
+    product ^ product >> 32
 }
 
 /// The place of a slot among a number of slots, a power of two.

@@ -36,6 +36,7 @@ impl<'a> Scopes<'a> {
             blocks: Vec::new(alloc),
             frames: Vec::new(alloc),
             shared: None,
+            is_stated: false,
         }
     }
 

@@ -45,8 +45,9 @@ pub(crate) struct OpenBlock {
 /// hypotheses, are kept beside it, also when they are no longer active: what stands at the place
 /// tells.
 ///
-/// Where the active `$e` are long, assertions share what they ask for. What they share is made anew after
-/// each change of what it was made from.
+/// Where the active `$e` are long, assertions share what they ask for. What they share is let go at each
+/// change of what it was made from, and is made where two assertions are stated behind the change, so that
+/// nothing is made for one alone.
 #[derive(Drop)]
 pub struct Scopes<'a> {
     pub(crate) names: Names<'a>,
@@ -59,6 +60,7 @@ pub struct Scopes<'a> {
     pub(crate) blocks: Vec<OpenBlock>,
     pub(crate) frames: Vec<Frame<'a>>,
     pub(crate) shared: Option<Shared<'a>>,
+    pub(crate) is_stated: bool,
     ghost shared_is: { IfSome shared (IsShared types.items (hypotheses_in hyps) (groups_in disjoint)) } by { Prim.hlevel props },
 }
 

@@ -56,11 +56,16 @@ impl<'a> Scopes<'a> {
         is_among(symbols, n) || !self.has_type(n) && self.disjoint.is_free(n)
     }
 
-    /// Makes what assertions may share, where the active `$e` are long and it is not made yet.
+    /// Makes what assertions may share, where the active `$e` are long, it is not made yet, and an
+    /// assertion was stated already since the last change.
     pub(crate) fn share(&mut self, alloc: Global) -> Result<(), AllocError>
         ensures { held self.new ≡ held self.old }
     {
         if self.shared.is_some() || !self.hyps.is_heavy() {
+            return Ok(());
+        }
+        if !self.is_stated {
+            self.is_stated = true;
             return Ok(());
         }
         let symbols = self.needed(alloc, &[])?;

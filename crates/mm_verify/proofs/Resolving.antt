@@ -7,12 +7,11 @@ use Rattle.std.proofs.lemmas.List.{get_or-drop, drop-drop}
 use Rattle.mm_frame.specs.Numbered.{NumberedHypothesis}
 use Rattle.mm_frame.specs.FramesHeld.{types_number}
 use Rattle.mm_verify.specs.declared.parts.Part.{Part}
-use Rattle.mm_verify.specs.declared.parts.Part.TheVariants as part
 use Rattle.mm_verify.specs.declared.parts.Wanted.{Wanted}
 use Rattle.mm_verify.specs.declared.parts.Wanted.TheVariants as wanted
 use Rattle.mm_verify.specs.Places.{place_of, place_in, symbol_of, ArePlaced}
 use Rattle.mm_verify.specs.Resolved.{wanted_hypothesis, hypotheses_of, parts_in}
-use Rattle.mm_verify.specs.Filling.{IsWithin, AreWithin, text_at, part_text, filled, is_wanted, are_wanted}
+use Rattle.mm_verify.specs.Filling.{IsWithin, AreWithin, text_at, part_text, placed_text, filled, is_wanted, are_wanted}
 use Rattle.mm_database.specs.Frames.{floating, essential}
 use Rattle.mm_database.specs.Stack.{behind_first, bindings_of, text_in}
 use Rattle.mm_database.specs.Proofs.{substituted}
@@ -54,8 +53,11 @@ pub sigma-place : (hypotheses : List NumberedHypothesis) (entries : List (List �
 sigma-place hypotheses entries symbol long = text-place entries hypotheses 0 entries symbol refl long
 
 part-place : (entries : List (List ℕ)) (p : Part) → part_text entries p ≡ at_place entries (symbol_of p) (place_in p)
-part-place entries (part.Kept symbol) = refl
-part-place entries (part.Replaced symbol place) = refl
+part-place entries p = go (place_in p)
+  where
+    go : (o : Option ℕ) → placed_text entries (symbol_of p) o ≡ at_place entries (symbol_of p) o
+    go None = refl
+    go (Some place) = refl
 
 -- the first of some parts that have their places, and the others
 pub first-placed : (hypotheses : List NumberedHypothesis) (p : Part) (ps : List Part) → ArePlaced hypotheses (p ∷ ps) → place_in p ≡ place_of hypotheses (symbol_of p)

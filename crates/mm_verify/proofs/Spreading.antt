@@ -3,6 +3,8 @@ use Rattle.std.proofs.Common.{◌≡◌, ℕ, zero, suc, ◌+◌, ◌<◌, ◌�
 use Rattle.std.specs.Prelude.{not, ◌&&◌, ◌||◌}
 use Rattle.std.specs.Prelude.{filter, slice_get, slice_set, slice_index_or}
 use Rattle.std.specs.List.{list_all, dedup}
+use Rattle.std.specs.Ordering.{nat_cmp}
+use Rattle.std.specs.BTreeMap.{get}
 use Rattle.std.specs.List.Sorted.{IsPermutation}
 use Rattle.std.proofs.lemmas.List.{length-append, length-set, length-replicate, get_or_append_left, get_or_push}
 use Rattle.mm_frame.proofs.FramePlaces.{sorted-has}
@@ -190,7 +192,7 @@ none-there xs i v lt is low = get-is xs i v lt is ∙ ap (λ (n : ℕ). Some n) 
     get-is (x ∷ xs) (suc i) v lt is = get-is xs i v (omega (arith, lt)) is
 
 -- the list of one more text
-module _ (p : NumberedPlace) (entries : List (List ℕ)) (s t : Spreads) (i k : ℕ) (vs : List ℕ) (known : AreKnown p entries s) (within : i < length s.numbers.items) (none : slice_get s.numbers.items i ≡ Some 0) (has : HasVariables p (text_at entries i) vs) (numbers : t.numbers.items ≡ slice_set s.numbers.items i (suc k)) (lists : t.lists ≡ s.lists ++ vs ∷ []) (last : k ≡ length s.lists) where
+module _ (p : NumberedPlace) (entries : List (List ℕ)) (s t : Spreads) (i k : ℕ) (vs : List ℕ) (known : AreKnown p entries s) (within : i < length s.numbers.items) (none : slice_get s.numbers.items i ≡ Some 0) (has : HasVariables p (text_at entries i) vs) (numbers : t.numbers.items ≡ slice_set s.numbers.items i (suc k)) (lists : t.lists ≡ s.lists ++ vs ∷ []) (last : k ≡ length s.lists) (tested : t.tested ≡ s.tested) where
   pub keeps-more : Keeps s t
   keeps-more j m at = ap (λ (ns : List ℕ). slice_get ns j) numbers ∙ get-kept s.numbers.items i j (suc k) m none at
 
@@ -209,6 +211,7 @@ module _ (p : NumberedPlace) (entries : List (List ℕ)) (s t : Spreads) (i k : 
     variables = λ j m at. get-set s.numbers.items i j (suc k) (suc m) (HasVariables p (text_at entries j) (slice_index_or t.lists m [])) (ap (λ (ns : List ℕ). slice_get ns j) (sym numbers) ∙ at)
         (λ old. subst (λ (ws : List ℕ). HasVariables p (text_at entries j) ws) (sym (ap (λ (ls : List (List ℕ)). slice_index_or ls m []) lists ∙ get_or_append_left s.lists (vs ∷ []) [] m (known.lists j m old))) (known.variables j m old))
         (λ same is. subst (λ (ws : List ℕ). HasVariables p (text_at entries j) ws) (sym (ap (λ (ls : List (List ℕ)). slice_index_or ls m []) lists ∙ get_or_push s.lists vs [] m (omega (arith, is, last)))) (subst (λ (n : ℕ). HasVariables p (text_at entries n) vs) same has));
+    tested = λ m pair at. known.tested m pair (ap (λ ts. get nat_cmp ts m) (sym tested) ∙ at);
   }
 
 -- the texts of two entries, by their lists
@@ -217,11 +220,12 @@ lists-apart p entries s i j x y known at there =
     sym (apart-variables p (text_at entries i) (text_at entries j) (slice_index_or s.lists x []) (slice_index_or s.lists y []) (known.variables i x at) (known.variables j y there))
 
 -- nothing is known
-pub nothing-known : (p : NumberedPlace) (entries : List (List ℕ)) (s : Spreads) (n : ℕ) → s.numbers.items ≡ replicate n 0 → length entries ≡ n → AreKnown p entries s
-nothing-known p entries s n zeros size = record {
+pub nothing-known : (p : NumberedPlace) (entries : List (List ℕ)) (s : Spreads) (n : ℕ) → s.numbers.items ≡ replicate n 0 → length entries ≡ n → ((k : ℕ) → get nat_cmp s.tested k ≡ None) → AreKnown p entries s
+nothing-known p entries s n zeros size untested = record {
   room = ap length zeros ∙ length-replicate n 0 ∙ sym size;
   lists = λ i k at. absurd (none n i k (ap (λ (ns : List ℕ). slice_get ns i) (sym zeros) ∙ at));
   variables = λ i k at. absurd (none n i k (ap (λ (ns : List ℕ). slice_get ns i) (sym zeros) ∙ at));
+  tested = λ k pair at. absurd (let wrong = sym (untested k) ∙ at in cc);
 }
   where
     none : (n i k : ℕ) → slice_get (replicate n 0) i ≡ Some (suc k) → ⊥

@@ -3,7 +3,6 @@ use Rattle.std.specs.Prelude.{ℕ, ◌<◌, Bool, true, false, ◌&&◌, ◌||�
 use Rattle.std.specs.List.{list_all}
 use Rattle.std.specs.Global.{Vec}
 use Rattle.mm_verify.specs.declared.parts.Part.{Part}
-use Rattle.mm_verify.specs.declared.parts.Part.TheVariants as part
 use Rattle.mm_verify.specs.declared.parts.Wanted.{Wanted}
 use Rattle.mm_verify.specs.declared.parts.Wanted.TheVariants as wanted
 use Rattle.mm_verify.specs.Resolved.{parts_in}
@@ -21,9 +20,13 @@ abbrev pub text_for : List (List ℕ) → Option ℕ → List ℕ
 text_for entries None = []
 text_for entries (Some i) = text_at entries i
 
+-- the text of the entry at a place, or the symbol where there is none
+abbrev pub placed_text : List (List ℕ) → ℕ → Option ℕ → List ℕ
+placed_text entries symbol None = symbol ∷ []
+placed_text entries symbol (Some place) = text_at entries place
+
 abbrev pub part_text : List (List ℕ) → Part → List ℕ
-part_text entries (part.Kept symbol) = symbol ∷ []
-part_text entries (part.Replaced symbol place) = text_at entries place
+part_text entries p = placed_text entries (symbol_of p) (place_in p)
 
 abbrev pub filled : List (List ℕ) → List Part → List ℕ
 filled entries parts = flat_map (part_text entries) parts

@@ -2,8 +2,11 @@
 use Rattle.std.specs.Prelude.{◌≡◌, ℕ, suc, ◌<◌, Bool, true, not, ◌&&◌}
 use Rattle.std.specs.Prelude.{nat_eq, List, [], ◌∷◌, length, slice_get, slice_index_or, Some}
 use Rattle.std.specs.List.{list_all}
+use Rattle.std.specs.Ordering.{nat_cmp}
+use Rattle.std.specs.BTreeMap.{get}
+use Rattle.mm_database.specs.Proofs.{texts_apart}
 use Rattle.mm_frame.specs.FramesHeld.{has_number}
-use Rattle.mm_frame.specs.NumberedSteps.{NumberedPlace}
+use Rattle.mm_frame.specs.NumberedSteps.{NumberedPlace, numbers_apart}
 use Rattle.mm_verify.specs.declared.spreads.Spreads.{Spreads}
 use Rattle.mm_verify.specs.Filling.{text_at}
 
@@ -22,6 +25,13 @@ pub record AreKnown (p : NumberedPlace) (entries : List (List ℕ)) (s : Spreads
   pub lists : (i k : ℕ) → slice_get s.numbers.items i ≡ Some (suc k) → k < length s.lists
   pub variables : (i k : ℕ) → slice_get s.numbers.items i ≡ Some (suc k)
       → HasVariables p (text_at entries i) (slice_index_or s.lists k [])
+  pub tested : (k : ℕ) (pair : ℕ × ℕ) → get nat_cmp s.tested k ≡ Some pair
+      → texts_apart (numbers_apart p) (text_at entries pair.0) (text_at entries pair.1) ≡ true
+
+-- it was found whether the texts of two places are kept apart, and what is known is known of these entries
+pub record IsTested (p : NumberedPlace) (entries : List (List ℕ)) (i j : ℕ) (found : Bool) (s : Spreads) : Type 0 where
+  pub known : AreKnown p entries s
+  pub is : found ≡ texts_apart (numbers_apart p) (text_at entries i) (text_at entries j)
 
 -- what is known stays known
 abbrev pub Keeps : Spreads → Spreads → Type 0

@@ -1,5 +1,5 @@
 -- The places of variables among the mandatory hypotheses of an assertion.
-use Rattle.std.specs.Prelude.{◌≡◌, ℕ, Bool, true, false, nat_eq, List, Option, Some, None, map}
+use Rattle.std.specs.Prelude.{◌≡◌, ℕ, Bool, true, false, nat_eq, List, Option, Some, None, if◌then◌else◌, map}
 use Rattle.std.specs.List.{position_from}
 use Rattle.std.specs.Ordering.{nat_cmp}
 use Rattle.std.specs.BTreeMap.{get, BTreeMap}
@@ -7,7 +7,6 @@ use Rattle.std.specs.Global.{Vec}
 use Rattle.mm_frame.specs.Numbered.{NumberedHypothesis}
 use Rattle.mm_frame.specs.FramesHeld.{types_number}
 use Rattle.mm_verify.specs.declared.parts.Part.{Part}
-use Rattle.mm_verify.specs.declared.parts.Part.TheVariants as part
 
 -- the place of the first `$f` of a variable: none where it has none
 abbrev pub place_of : List NumberedHypothesis → ℕ → Option ℕ
@@ -25,12 +24,10 @@ is_this symbol None = false
 is_this symbol (Some variable) = nat_eq variable symbol
 
 abbrev pub symbol_of : Part → ℕ
-symbol_of (part.Kept symbol) = symbol
-symbol_of (part.Replaced symbol place) = symbol
+symbol_of p = p.symbol
 
 abbrev pub place_in : Part → Option ℕ
-place_in (part.Kept symbol) = None
-place_in (part.Replaced symbol place) = Some place
+place_in p = if nat_eq p.place 4294967295 then None else Some p.place
 
 -- each part has the place of its symbol
 abbrev pub ArePlaced : List NumberedHypothesis → List Part → Type 0

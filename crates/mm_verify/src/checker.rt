@@ -4,6 +4,7 @@ use crate::answers::{first_byte, stated, verify_end};
 use crate::ends::{Stated, VerifyEnd};
 use crate::kept::Kept;
 use crate::proof_fault::{add_assertions, proof_fault};
+use crate::room::Room;
 use mm_frame::{Added, Scopes, Theorem};
 use mm_text::{MmFault, MmToken};
 use std::alloc::Global;
@@ -45,6 +46,7 @@ impl<'a> Checker<'a> {
         alloc: Global,
         bytes: &'a [u8],
         tokens: &[MmToken],
+        room: &mut Room,
     ) -> Result<Stated, VerifyEnd>
         requires frames { HasFrames self.old }
         ensures { (c : Context) → IsBehind self.old c → Checks c (statement_of bytes.now tokens.now) self.new result }
@@ -55,7 +57,7 @@ impl<'a> Checker<'a> {
             Ok(theorem) => theorem,
         };
         match theorem {
-            Some(theorem) => self.prove(alloc, bytes, tokens, theorem),
+            Some(theorem) => self.prove(alloc, bytes, tokens, theorem, room),
             None => match self.declare(alloc, bytes, tokens) {
                 Err(end) => Err(end),
                 Ok(added) => Ok(stated(added)),
@@ -70,6 +72,7 @@ impl<'a> Checker<'a> {
         bytes: &'a [u8],
         tokens: &[MmToken],
         theorem: Theorem<'a, '_>,
+        room: &mut Room,
     ) -> Result<Stated, VerifyEnd>
         requires frames { HasFrames self.old }
         ensures { (c : Context) → IsBehind self.old c → IsProposed bytes.now (held self.old.scopes) c (statement_of bytes.now tokens.now) theorem.entry → Checks c (statement_of bytes.now tokens.now) self.new result }
@@ -77,7 +80,7 @@ impl<'a> Checker<'a> {
         mm_database::proof_laws();
         mm_frame::number_laws();
         mm_frame::scope_laws();
-        match proof_fault(alloc, &self.scopes, &self.assertions, bytes, &theorem) {
+        match proof_fault(alloc, &self.scopes, &self.assertions, bytes, &theorem, room) {
             Err(_) => Err(VerifyEnd::Memory),
             Ok(Some(kind)) => Err(VerifyEnd::Invalid(MmFault {
                 kind,

@@ -15,9 +15,9 @@ pub(crate) fn text_of<'a>(part: &'a Part, stack: &'a Stack, base: usize) -> &'a 
     requires { IsWithin (length (drop base stack.now)) part.now }
     ensures { result.now ≡ part_text (drop base stack.now) part.now }
 {
-    match part {
-        Part::Kept(symbol) => from_ref(symbol),
-        Part::Replaced(_symbol, place) => text_at(stack, base, *place),
+    match part.place() {
+        None => from_ref(&part.symbol),
+        Some(place) => text_at(stack, base, place),
     }
 }
 
@@ -72,11 +72,9 @@ fn append_part(part: &Part, stack: &Stack, base: usize, to: &mut Vec<u32>) -> Re
     requires within { IsWithin (length (drop base stack.now)) part.now }
     ensures { OnOk result (to.new.items ≡ to.old.items ++ part_text (drop base stack.now) part.now) }
 {
-    match part {
-        Part::Kept(symbol) => to.push(*symbol)?,
-        Part::Replaced(_symbol, place) => {
-            to.extend_from_slice(text_at(stack, base, *place))?;
-        }
+    match part.place() {
+        None => to.push(part.symbol)?,
+        Some(place) => to.extend_from_slice(text_at(stack, base, place))?,
     }
     Ok(())
 }
@@ -101,9 +99,9 @@ fn behind_part<'r>(part: &Part, stack: &Stack, base: usize, symbols: &'r [u32]) 
     requires within { IsWithin (length (drop base stack.now)) part.now }
     ensures { (others : List ℕ) → MatchOption result (same_numbers symbols.now (part_text (drop base stack.now) part.now ++ others) ≡ false) (λ r. same_numbers symbols.now (part_text (drop base stack.now) part.now ++ others) ≡ same_numbers r.now others) }
 {
-    match part {
-        Part::Kept(symbol) => behind_symbol(*symbol, symbols),
-        Part::Replaced(_symbol, place) => { behind_text(text_at(stack, base, *place), symbols) }
+    match part.place() {
+        None => behind_symbol(part.symbol, symbols),
+        Some(place) => behind_text(text_at(stack, base, place), symbols),
     }
 }
 

@@ -56,7 +56,7 @@ pub(crate) enum ProofFault {
 
 impl Machine {
     /// Nothing on the stack, and nothing saved.
-    fn new(alloc: Global) -> Result<Machine, AllocError>
+    pub(crate) fn new(alloc: Global) -> Result<Machine, AllocError>
         ensures { IfOk result (λ m. saving_of m ≡ saving [] []) }
     {
         Ok(Machine {
@@ -65,6 +65,14 @@ impl Machine {
             buffer: Vec::new(alloc),
             spreads: Spreads::new(alloc)?,
         })
+    }
+
+    /// Leaves nothing on the stack, and nothing saved.
+    fn clear(&mut self)
+        ensures { saving_of self.new ≡ saving [] [] }
+    {
+        self.stack.truncate(0);
+        self.saved.truncate(0);
     }
 
     /// Does a step. Answers whether it fits; where not, nothing changes.
@@ -138,16 +146,17 @@ impl Machine {
     }
 }
 
-/// Why steps do not prove a statement at a place, if they do not.
+/// Why steps do not prove a statement at a place, if they do not. The machine keeps its memory.
 pub(crate) fn check_steps<P: Place>(
     alloc: Global,
     place: &P,
     steps: &[Step<'_, '_>],
     conclusion: &[u32],
+    machine: &mut Machine,
 ) -> Result<Option<ProofFault>, AllocError>
     ensures { IfOk result (λ f. f ≡ steps_fault (P.place place.now) (map step_of steps.now) conclusion.now) }
 {
-    let mut machine = Machine::new(alloc)?;
+    machine.clear();
     for step in steps {
         if !machine.take(alloc, place, *step)? {
             return Ok(Some(ProofFault::Step));

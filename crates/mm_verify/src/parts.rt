@@ -1,5 +1,5 @@
 // The symbols of assertions, with the places of their variables.
-ghost use Rattle.std.specs.Prelude.{◌≡◌, IfOk, map, flat_map};
+ghost use Rattle.std.specs.Prelude.{◌≡◌, Some, IfOk, map, flat_map};
 ghost use Rattle.mm_frame.specs.FramesHeld.{hypothesis_held, hypotheses_held, groups_of};
 ghost use Rattle.mm_verify.specs.Places.{symbol_of, place_in, symbols_in, parts_of};
 ghost use Rattle.mm_verify.specs.Locating.{place_by, AreLocated};
@@ -9,14 +9,28 @@ use crate::finding::Places;
 use mm_frame::Hyp;
 use std::alloc::{AllocError, Global};
 
-/// A symbol of an assertion.
+/// The place of a symbol that has none.
+const NOWHERE: u32 = u32::MAX;
+
+/// A symbol of an assertion. A variable has the place of its `$f` among the mandatory hypotheses: the
+/// entry at that place gives its text. A step leaves another symbol as it is, which has no place.
 #[derive(Clone, Copy, PartialEq, Eq)]
-pub(crate) enum Part {
-    /// A symbol that a step leaves as it is.
-    Kept(u32),
-    /// A variable, and the place of its `$f` among the mandatory hypotheses: the entry at that place
-    /// gives its text.
-    Replaced(u32, usize),
+pub(crate) struct Part {
+    pub(crate) symbol: u32,
+    place: u32,
+}
+
+impl Part {
+    /// The place that it has.
+    pub(crate) fn place(&self) -> Option<usize>
+        ensures { result ≡ place_in self.now }
+    {
+        if self.place == NOWHERE {
+            None
+        } else {
+            Some(self.place as usize)
+        }
+    }
 }
 
 /// What an assertion asks of an entry.
@@ -29,14 +43,31 @@ pub(crate) enum Wanted<'a> {
 }
 
 /// The symbol with the place that its variable has.
-fn part_of(places: &Places<'_, '_>, symbol: u32) -> Part
-    ensures symbol { symbol_of result ≡ symbol }
-    ensures place { place_in result ≡ place_by places.now symbol }
+fn part_of(places: &Places<'_, '_>, symbol: u32) -> Result<Part, AllocError>
+    ensures symbol { IfOk result (λ p. symbol_of p ≡ symbol) }
+    ensures place { IfOk result (λ p. place_in p ≡ place_by places.now symbol) }
 {
     match places.get(symbol) {
-        Some(place) => Part::Replaced(symbol, place),
-        None => Part::Kept(symbol),
+        None => Ok(Part {
+            symbol,
+            place: NOWHERE,
+        }),
+        Some(place) => placed(symbol, place),
     }
+}
+
+/// A symbol with a place. Memory has no room for as many hypotheses as there are places.
+fn placed(symbol: u32, place: usize) -> Result<Part, AllocError>
+    ensures symbol { IfOk result (λ p. symbol_of p ≡ symbol) }
+    ensures place { IfOk result (λ p. place_in p ≡ Some place) }
+{
+    if place >= NOWHERE as usize {
+        return Err(AllocError);
+    }
+    Ok(Part {
+        symbol,
+        place: place as u32,
+    })
 }
 
 /// The symbols, each with its place.
@@ -50,7 +81,7 @@ pub(crate) fn located(
 {
     let mut parts = Vec::with_capacity(alloc, symbols.len())?;
     for symbol in symbols {
-        parts.push(part_of(places, *symbol))?;
+        parts.push(part_of(places, *symbol)?)?;
     }
     Ok(parts)
 }

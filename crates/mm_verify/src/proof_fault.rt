@@ -13,6 +13,7 @@ use crate::kept::Kept;
 use crate::known::Known;
 use crate::machine::{ProofFault, check_steps};
 use crate::proof_text::read_proof;
+use crate::room::Room;
 use mm_frame::{Scopes, Theorem};
 use std::alloc::{AllocError, Global};
 
@@ -31,6 +32,7 @@ pub(crate) fn proof_fault<'a>(
     assertions: &[Kept<'a>],
     bytes: &'a [u8],
     theorem: &Theorem<'a, '_>,
+    room: &mut Room,
 ) -> Result<Option<u8>, AllocError>
     requires same { map kept_frame assertions.now ≡ (held scopes.now).frames }
     ensures { IfOk result (λ k. k ≡ proof_kind (place_of (held scopes.now)) (frame_held theorem.now.frame).statement (steps_named (held scopes.now) (frame_held theorem.now.frame).hypotheses (words_of bytes.now theorem.now.proof.now))) }
@@ -42,9 +44,16 @@ pub(crate) fn proof_fault<'a>(
         bytes,
         &theorem.frame.mandatory,
         theorem.proof,
+        &mut room.marks,
     )? {
         None => Ok(Some(BAD_PROOF_TEXT)),
-        Some(steps) => Ok(kind(check_steps(alloc, &known, &steps, &theorem.frame.statement)?)),
+        Some(steps) => Ok(kind(check_steps(
+            alloc,
+            &known,
+            &steps,
+            &theorem.frame.statement,
+            &mut room.machine,
+        )?)),
     }
 }
 

@@ -17,7 +17,7 @@ ghost use Rattle.mm_database.specs.ProofText.{before_close, behind_close};
 use crate::known::Known;
 use crate::letters::ReadSteps;
 use crate::machine::{Citation, Step};
-use crate::scattered::are_scattered;
+use crate::scattered::{Marks, are_scattered};
 use mm_frame::{Hyp, Mandatory, own_labels};
 use mm_text::MmToken;
 use std::alloc::{AllocError, Global};
@@ -32,6 +32,7 @@ pub(crate) fn read_proof<'s, 'a>(
     bytes: &'a [u8],
     mandatory: &'s Mandatory<'a>,
     proof: &[MmToken],
+    marks: &mut Marks,
 ) -> Result<Option<Vec<Step<'s, 'a>>>, AllocError>
     ensures { IfOk result (λ r. option_map steps_in r
         ≡ steps_named (held known.now.scopes.now) (hypotheses_held mandatory.now.hyps.items)
@@ -41,7 +42,7 @@ pub(crate) fn read_proof<'s, 'a>(
         [] => Ok(None),
         [first, rest @ ..] => {
             if first.word(bytes) == b"(".as_slice() {
-                read_compressed(alloc, known, bytes, mandatory, rest)
+                read_compressed(alloc, known, bytes, mandatory, rest, marks)
             } else {
                 read_normal(alloc, known, bytes, proof)
             }
@@ -123,6 +124,7 @@ fn read_compressed<'s, 'a>(
     bytes: &'a [u8],
     mandatory: &'s Mandatory<'a>,
     tokens: &[MmToken],
+    marks: &mut Marks,
 ) -> Result<Option<Vec<Step<'s, 'a>>>, AllocError>
     ensures { IfOk result (λ r. option_map steps_in r
         ≡ compressed_proof (held known.now.scopes.now) (hypotheses_held mandatory.now.hyps.items)
@@ -130,7 +132,9 @@ fn read_compressed<'s, 'a>(
 {
     match split_at_close(bytes, tokens) {
         None => Ok(None),
-        Some((labels, letters)) => match read_listed(alloc, known, bytes, mandatory, labels)? {
+        Some((labels, letters)) => match read_listed(
+            alloc, known, bytes, mandatory, labels, marks,
+        )? {
             None => Ok(None),
             Some(listed) => read_letters(alloc, &mandatory.hyps, listed, bytes, letters),
         },
@@ -160,12 +164,13 @@ fn read_listed<'s, 'a>(
     bytes: &'a [u8],
     mandatory: &Mandatory<'a>,
     labels: &[MmToken],
+    marks: &mut Marks,
 ) -> Result<Option<Vec<Citation<'s, 'a>>>, AllocError>
     ensures { IfOk result (λ r. option_map citations_in r
         ≡ listed_citations (held known.now.scopes.now) (hypotheses_held mandatory.now.hyps.items)
         (words_of bytes.now labels.now)) }
 {
-    if clash(alloc, bytes, mandatory, labels)? {
+    if clash(alloc, bytes, mandatory, labels, marks)? {
         return Ok(None);
     }
     all_cited(alloc, known, bytes, labels)
@@ -178,17 +183,18 @@ fn clash<'a>(
     bytes: &'a [u8],
     mandatory: &Mandatory<'a>,
     labels: &[MmToken],
+    marks: &mut Marks,
 ) -> Result<bool, AllocError>
     ensures { IfOk result (λ r. r
         ≡ clashes (labels_in (hypotheses_held mandatory.now.hyps.items)) (words_of bytes.now labels.now)) }
 {
     match mandatory.labels() {
-        None => has_clash(alloc, bytes, &mandatory.hyps, labels),
+        None => has_clash(alloc, bytes, &mandatory.hyps, labels, marks),
         Some(own) => {
             if lists_own(bytes, own, &mandatory.hyps, labels) {
                 return Ok(true);
             }
-            has_clash(alloc, bytes, &[], labels)
+            has_clash(alloc, bytes, &[], labels, marks)
         }
     }
 }
@@ -217,10 +223,11 @@ fn has_clash<'a>(
     bytes: &'a [u8],
     hyps: &[Hyp<'a>],
     labels: &[MmToken],
+    marks: &mut Marks,
 ) -> Result<bool, AllocError>
     ensures { IfOk result (λ r. r ≡ clashes (labels_in (hypotheses_held hyps.now)) (words_of bytes.now labels.now)) }
 {
-    if are_scattered(bytes, hyps, labels) {
+    if are_scattered(bytes, hyps, labels, marks) {
         return Ok(false);
     }
     let mut seen = own_labels(alloc, hyps)?;

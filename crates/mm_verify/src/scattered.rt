@@ -1,5 +1,5 @@
 // Labels that differ, told by marks.
-ghost use Rattle.std.specs.Prelude.{◌≡◌, ◌<◌, true, false};
+ghost use Rattle.std.specs.Prelude.{◌≡◌, ◌<◌, ◌≤◌, true, false, length};
 ghost use Rattle.mm_text.specs.Reader.{words_of};
 ghost use Rattle.mm_frame.specs.FramesHeld.{hypotheses_held};
 ghost use Rattle.mm_verify.specs.ProofSteps.{clashes, labels_in};
@@ -7,45 +7,90 @@ ghost use Rattle.mm_verify.specs.Marks.{mark_of, AreMarked};
 
 use mm_frame::Hyp;
 use mm_text::MmToken;
+use std::alloc::{AllocError, Global};
+
+/// How many marks there are.
+const MARKS: usize = 131072;
+
+/// Marks for labels, which keep their memory from one proof to the next. A mark is set where it has the
+/// stamp of the proof. So no mark is to be taken away, and one that has the stamp from long ago costs a
+/// little time.
+#[derive(Drop)]
+pub(crate) struct Marks {
+    marks: Vec<u16>,
+    stamp: u16,
+}
+
+impl Marks {
+    /// Marks, none of them set for the first proof.
+    pub(crate) fn new(alloc: Global) -> Result<Marks, AllocError> {
+        let mut marks = Vec::new(alloc);
+        marks.resize(MARKS, 0)?;
+        Ok(Marks { marks, stamp: 0 })
+    }
+}
 
 /// Whether each label has a mark that neither a label of a hypothesis nor one behind it has. Then none
 /// stands twice or is that of a hypothesis. Few labels mostly have marks of their own. It takes no
 /// memory, and time in the number of their bytes.
-pub(crate) fn are_scattered(bytes: &[u8], hyps: &[Hyp<'_>], labels: &[MmToken]) -> bool
+pub(crate) fn are_scattered(
+    bytes: &[u8],
+    hyps: &[Hyp<'_>],
+    labels: &[MmToken],
+    marks: &mut Marks,
+) -> bool
     ensures { result ≡ true → clashes (labels_in (hypotheses_held hyps.now)) (words_of bytes.now labels.now) ≡ false }
 {
-    let mut marks = [false; 16384];
-    mark_hypotheses(hyps, &mut marks);
+    marks.stamp = marks.stamp.wrapping_add(1);
+    have_marks(bytes, hyps, labels, &mut marks.marks, marks.stamp)
+}
+
+/// The same with marks that are set where they have the stamp.
+fn have_marks(
+    bytes: &[u8],
+    hyps: &[Hyp<'_>],
+    labels: &[MmToken],
+    marks: &mut [u16],
+    stamp: u16,
+) -> bool
+    ensures { result ≡ true → clashes (labels_in (hypotheses_held hyps.now)) (words_of bytes.now labels.now) ≡ false }
+{
+    if marks.len() < MARKS {
+        return false;
+    }
+    mark_hypotheses(hyps, marks, stamp);
     let mut at = labels.len();
     while at > 0 {
         at -= 1;
         let place = mark(labels[at].word(bytes));
-        if marks[place] {
+        if marks[place] == stamp {
             return false;
         }
-        marks[place] = true;
+        marks[place] = stamp;
     }
     true
 }
 
 /// Sets the marks of the labels of hypotheses.
-fn mark_hypotheses(hyps: &[Hyp<'_>], marks: &mut [bool; 16384])
-    ensures { AreMarked (labels_in (hypotheses_held hyps.now)) marks.new }
+fn mark_hypotheses(hyps: &[Hyp<'_>], marks: &mut [u16], stamp: u16)
+    requires { 131072 ≤ length marks.old }
+    ensures marked { AreMarked (labels_in (hypotheses_held hyps.now)) stamp marks.new }
+    ensures room { length marks.new ≡ length marks.old }
 {
     for hyp in hyps {
         let place = mark(hyp.label());
-        marks[place] = true;
+        marks[place] = stamp;
     }
 }
 
 /// The mark of a label, by its bytes.
 fn mark(label: &[u8]) -> usize
     ensures is { result ≡ mark_of label.now }
-    ensures within { result < 16384 }
+    ensures within { result < 131072 }
 {
     let mut sum: usize = 0;
     for byte in label {
-        sum = (sum * 1597 + *byte as usize) % 16384;
+        sum = (sum * 1597 + *byte as usize) % MARKS;
     }
     sum
 }

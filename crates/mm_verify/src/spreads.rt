@@ -1,5 +1,5 @@
 // Whether texts keep apart what `$d` asks for.
-ghost use Rattle.std.specs.Prelude.{◌≡◌, ℕ, List, suc, Some, length, drop, All};
+ghost use Rattle.std.specs.Prelude.{◌≡◌, ℕ, List, suc, Some, length, drop, All, true};
 ghost use Rattle.std.specs.Prelude.{IfOk, slice_get, slice_index_or, if◌then◌else◌, slice_set, ◌++◌, ◌∷◌, [], ◌<◌};
 ghost use Rattle.std.specs.List.{list_all};
 ghost use Rattle.mm_database.specs.Proofs.{texts_apart};
@@ -7,7 +7,7 @@ ghost use Rattle.mm_frame.specs.NumberedSteps.{NumberedPlace, numbers_apart};
 ghost use Rattle.mm_verify.specs.Filling.{GroupWithin, AreWithin, IsWithin, text_at};
 ghost use Rattle.mm_verify.specs.Filling.{are_groups_apart as groups_apart, is_group_apart as group_apart};
 ghost use Rattle.mm_verify.specs.Filling.{are_parts_apart as parts_apart};
-ghost use Rattle.mm_verify.specs.Pairs.{HasVariables, AreKnown, Keeps};
+ghost use Rattle.mm_verify.specs.Pairs.{HasVariables, AreKnown, Keeps, IsTested};
 ghost use Rattle.mm_verify.specs.Pairs.{are_variables_apart as variables_apart, is_variable_apart as variable_apart};
 
 use crate::filling::text_at;
@@ -15,14 +15,20 @@ use crate::parts::Part;
 use crate::place::Place;
 use crate::stack::Stack;
 use std::alloc::{AllocError, Global};
+use std::collections::BTreeMap;
+
+/// Of so many pairs of variables two texts have, where it is noted that they are kept apart.
+const MANY: usize = 64;
 
 /// The variables in the texts of entries, each text looked at once. At the place of an entry stands 0
-/// where its text is not looked at yet, else one more than the number of its list.
+/// where its text is not looked at yet, else one more than the number of its list. Of texts with many
+/// variables the pairs of places are noted that were found to be kept apart.
 #[derive(Drop)]
 pub(crate) struct Spreads {
     numbers: Vec<usize>,
     lists: Stack,
     gathered: Vec<u32>,
+    tested: BTreeMap<usize, (usize, usize)>,
 }
 
 impl Spreads {
@@ -32,6 +38,7 @@ impl Spreads {
             numbers: Vec::with_capacity(alloc, 64)?,
             lists: Stack::new(alloc)?,
             gathered: Vec::with_capacity(alloc, 64)?,
+            tested: BTreeMap::new(alloc),
         })
     }
 
@@ -41,6 +48,7 @@ impl Spreads {
             → AreKnown p entries self.new) }
     {
         self.lists.truncate(0);
+        self.tested.clear();
         self.numbers.clear();
         self.numbers.resize(count, 0)?;
         Ok(())
@@ -75,6 +83,7 @@ impl Spreads {
         ensures numbers { IfOk result (λ k. self.new.numbers.items ≡ slice_set self.old.numbers.items i (suc k)) }
         ensures lists { IfOk result (λ k. self.new.lists ≡ self.old.lists ++ self.old.gathered.items ∷ []) }
         ensures last { IfOk result (λ k. k ≡ length self.old.lists) }
+        ensures tested { self.new.tested ≡ self.old.tested }
     {
         let number = self.lists.len();
         self.lists.push(&self.gathered)?;
@@ -89,6 +98,40 @@ impl Spreads {
     {
         self.lists.entry(number)
     }
+
+    /// Whether two lists have many pairs.
+    fn are_long(&self, x: usize, y: usize) -> bool
+        requires one { x < length self.now.lists }
+        requires other { y < length self.now.lists }
+    {
+        self.list(x).len().saturating_mul(self.list(y).len()) >= MANY
+    }
+
+    /// Whether it is noted that the texts of two places are kept apart.
+    fn is_tested(&self, i: usize, j: usize) -> bool
+        ensures { (p : NumberedPlace) (entries : List (List ℕ)) → AreKnown p entries self.now → result ≡ true
+            → texts_apart (numbers_apart p) (text_at entries i) (text_at entries j) ≡ true }
+    {
+        match self.tested.get(&pair_key(i, j)) {
+            None => false,
+            Some(pair) => pair.0 == i && pair.1 == j,
+        }
+    }
+
+    /// Notes that the texts of two places are kept apart.
+    fn note(&mut self, i: usize, j: usize) -> Result<(), AllocError>
+        ensures { IfOk result (λ _. (p : NumberedPlace) (entries : List (List ℕ)) → AreKnown p entries self.old
+            → texts_apart (numbers_apart p) (text_at entries i) (text_at entries j) ≡ true
+            → AreKnown p entries self.new) }
+    {
+        self.tested.insert(pair_key(i, j), (i, j))?;
+        Ok(())
+    }
+}
+
+/// The key of a pair of places, of which fewer than 2^32 differ.
+fn pair_key(i: usize, j: usize) -> usize {
+    i.wrapping_mul(1 << 32).wrapping_add(j)
 }
 
 /// Whether in each group the texts of variables that are not the same have no variable in common, and
@@ -177,13 +220,11 @@ fn are_parts_apart<P: Place>(
     ensures apart { IfOk result (λ r. r
         ≡ parts_apart (P.place place.now) (drop base stack.now) one.now other.now) }
 {
-    match (one, other) {
-        (Part::Replaced(symbol, i), Part::Replaced(another, j)) => {
-            if *symbol == *another {
-                return Ok(true);
-            }
-            are_texts_apart(place, *i, *j, stack, base, spreads)
-        }
+    if one.symbol == other.symbol {
+        return Ok(true);
+    }
+    match (one.place(), other.place()) {
+        (Some(i), Some(j)) => are_texts_apart(place, i, j, stack, base, spreads),
         _ => Ok(true),
     }
 }
@@ -206,7 +247,37 @@ fn are_texts_apart<P: Place>(
 {
     let x = spreads.find(place, stack, base, i)?;
     let y = spreads.find(place, stack, base, j)?;
-    Ok(are_variables_apart(place, spreads.list(x), spreads.list(y)))
+    if spreads.are_long(x, y) {
+        are_long_apart(place, i, j, x, y, spreads)
+    } else {
+        Ok(are_variables_apart(place, spreads.list(x), spreads.list(y)))
+    }
+}
+
+/// The same of texts with many variables, whose lists have these numbers: what is noted is not tested
+/// again.
+fn are_long_apart<P: Place>(
+    place: &P,
+    i: usize,
+    j: usize,
+    x: usize,
+    y: usize,
+    spreads: &mut Spreads,
+) -> Result<bool, AllocError>
+    requires one { x < length spreads.old.lists }
+    requires other { y < length spreads.old.lists }
+    ensures { IfOk result (λ r. (entries : List (List ℕ)) → AreKnown (P.place place.now) entries spreads.old
+        → slice_get spreads.old.numbers.items i ≡ Some (suc x) → slice_get spreads.old.numbers.items j ≡ Some (suc y)
+        → IsTested (P.place place.now) entries i j r spreads.new) }
+{
+    if spreads.is_tested(i, j) {
+        return Ok(true);
+    }
+    let are_apart = are_variables_apart(place, spreads.list(x), spreads.list(y));
+    if are_apart {
+        spreads.note(i, j)?;
+    }
+    Ok(are_apart)
 }
 
 /// Gathers the variables of a text, each once.

@@ -9,6 +9,7 @@ ghost use Rattle.mm_verify.specs.Verifying.{Finds};
 use crate::checker::Checker;
 use crate::counting::{counted, ended, unended};
 use crate::ends::{Report, VerifyEnd};
+use crate::room::Room;
 use mm_text::{MmFound, MmReadEnd, MmTokens};
 use std::alloc::Global;
 
@@ -30,6 +31,10 @@ fn verdict(alloc: Global, bytes: &[u8]) -> Result<Report, VerifyEnd>
     let mut reader = MmTokens::new(bytes);
     let mut checker = Checker::new(alloc);
     let mut tokens = Vec::new(alloc);
+    let mut room = match Room::new(alloc) {
+        Err(_) => return Err(VerifyEnd::Memory),
+        Ok(room) => room,
+    };
     let mut report = Report {
         axioms: 0,
         theorems: 0,
@@ -40,7 +45,7 @@ fn verdict(alloc: Global, bytes: &[u8]) -> Result<Report, VerifyEnd>
             Err(MmReadEnd::Fault(fault)) => return Err(VerifyEnd::Invalid(fault)),
             Ok(MmFound::Unended(at)) => return Err(unended(at)),
             Ok(MmFound::End) => return ended(&checker, report),
-            Ok(MmFound::Statement) => match checker.check(alloc, bytes, &tokens) {
+            Ok(MmFound::Statement) => match checker.check(alloc, bytes, &tokens, &mut room) {
                 Err(end) => return Err(end),
                 Ok(stated) => report = counted(report, stated),
             },

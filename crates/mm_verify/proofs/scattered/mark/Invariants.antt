@@ -5,5 +5,5 @@ use Rattle.mm_verify.proofs.scattered.mark.Given as goal
 abbrev pub invariant-loop-byte : goal.invariant-loop-byte
 invariant-loop-byte l = record {
   left : mark_behind l.sum (drop l.byte-index l.label) ≡ mark_of l.label;
-  within : l.sum < 16384;
+  within : l.sum < 131072;
 }

@@ -11,8 +11,8 @@ loop-hyp-preserved c = record {
   room = search rules;
   marked = λ t h.
       ap (λ (us : List Token). has_token us t) (map-map hypothesis_held label_of (take (c.loop-hyp.hyp-index + 1) c.args.hyps.now))
-      ∙ label-marked (λ x. label_of (hypothesis_held x)) c.args.hyps.now c.loop-hyp.hyp-index _ c.label.result.now c.mark-place.result c.loop-hyp.marks
-      c.loop-hyp-test.true c.hyp-item.is c.label.ensures c.mark-place.ensures.is (omega (arith, c.mark-place.ensures.within, c.loop-hyp.invariant.room))
+      ∙ label-marked (λ x. label_of (hypothesis_held x)) c.args.hyps.now c.loop-hyp.hyp-index _ c.label.result.now c.mark-place.result c.args.stamp c.loop-hyp.marks
+      c.loop-hyp-test.true c.hyp-item.is c.label.ensures c.mark-place.ensures.is (omega (arith, c.mark-place.ensures.within, c.loop-hyp.invariant.room, c.requires))
       (λ u k. sym (ap (λ (us : List Token). has_token us u) (map-map hypothesis_held label_of (take c.loop-hyp.hyp-index c.args.hyps.now))) ∙ c.loop-hyp.invariant.marked u k)
       t h;
 }

@@ -6,6 +6,6 @@ use Rattle.mm_verify.proofs.scattered.mark_hypotheses.Given as goal
 
 abbrev pub invariant-loop-hyp : goal.invariant-loop-hyp
 invariant-loop-hyp l = record {
-  room : length l.marks ≡ 16384;
-  marked : AreMarked (labels_in (hypotheses_held (take l.hyp-index l.hyps))) l.marks;
+  room : length l.marks ≡ length l.fn.marks;
+  marked : AreMarked (labels_in (hypotheses_held (take l.hyp-index l.hyps))) l.stamp l.marks;
 }

@@ -1,13 +1,12 @@
 use Rattle.std.proofs.Common.{rules, ◌≡◌, slice_get, Some, ap, sym, ◌∙◌}
-use Rattle.std.proofs.lemmas.Slice.Eq.{bytes_eq-Decides}
 use Rattle.mm_frame.specs.KnownNames.{name_in}
 use Rattle.mm_frame.proofs.KnownEntries.{entry-known}
 use Rattle.mm_frame.proofs.names.Names.near.Goals as goal
 
-pub returns-then-eq : goal.returns-then-eq
-returns-then-eq c =
+pub returns-then-is_of : goal.returns-then-is_of
+returns-then-is_of c =
     let names = name_in c.args.self.now.ordered in
     let entry = c.in_ok-entry.entry.now in
     let found : slice_get c.args.self.now.entries.items c.in_ok-number.number.now ≡ Some entry = search rules in
-    ap names (sym ((bytes_eq-Decides entry.word.now c.args.word.now).0 (sym c.eq.ensures ∙ c.if-eq.true)))
+    ap names (sym (c.is_of.ensures c.if-is_of.true))
     ∙ entry-known names c.args.self.now.entries.items c.in_ok-number.number.now entry c.args.self.now.known found

@@ -11,7 +11,7 @@ returns-clause-known g c =
     let within : c.args.i < length s.numbers.items = omega (arith, c.requires.within, c.requires.known.room) in
     let none : slice_get s.numbers.items c.args.i ≡ Some 0 = none-there s.numbers.items c.args.i c.index-number.result.now within c.index-number.ensures c.if-number-gt0.false in
     known-more p entries s c.add.new.self c.args.i c.in_ok-number.number c.gather.new.to.items c.requires.known within none (search rules)
-    c.in_ok-number.ensures.numbers c.in_ok-number.ensures.lists c.in_ok-number.ensures.last
+    c.in_ok-number.ensures.numbers c.in_ok-number.ensures.lists c.in_ok-number.ensures.last c.in_ok-number.ensures.tested
 
 pub returns-clause-keeps : goal.returns-clause-keeps
 returns-clause-keeps g c =
@@ -21,7 +21,7 @@ returns-clause-keeps g c =
     let within : c.args.i < length s.numbers.items = omega (arith, c.requires.within, c.requires.known.room) in
     let none : slice_get s.numbers.items c.args.i ≡ Some 0 = none-there s.numbers.items c.args.i c.index-number.result.now within c.index-number.ensures c.if-number-gt0.false in
     keeps-more p entries s c.add.new.self c.args.i c.in_ok-number.number c.gather.new.to.items c.requires.known within none (search rules)
-    c.in_ok-number.ensures.numbers c.in_ok-number.ensures.lists c.in_ok-number.ensures.last
+    c.in_ok-number.ensures.numbers c.in_ok-number.ensures.lists c.in_ok-number.ensures.last c.in_ok-number.ensures.tested
 
 pub returns-clause-found : goal.returns-clause-found
 returns-clause-found g c =
@@ -31,4 +31,4 @@ returns-clause-found g c =
     let within : c.args.i < length s.numbers.items = omega (arith, c.requires.within, c.requires.known.room) in
     let none : slice_get s.numbers.items c.args.i ≡ Some 0 = none-there s.numbers.items c.args.i c.index-number.result.now within c.index-number.ensures c.if-number-gt0.false in
     found-more p entries s c.add.new.self c.args.i c.in_ok-number.number c.gather.new.to.items c.requires.known within none (search rules)
-    c.in_ok-number.ensures.numbers c.in_ok-number.ensures.lists c.in_ok-number.ensures.last
+    c.in_ok-number.ensures.numbers c.in_ok-number.ensures.lists c.in_ok-number.ensures.last c.in_ok-number.ensures.tested

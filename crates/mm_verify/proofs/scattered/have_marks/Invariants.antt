@@ -1,17 +1,17 @@
-use Rattle.std.specs.Prelude.{◌≡◌, ◌≤◌, ◌||◌, length, drop, false, slice_index_or}
+use Rattle.std.specs.Prelude.{◌≡◌, ◌≤◌, ◌||◌, length, drop, false}
 use Rattle.mm_text.specs.Bytes.{Token, has_token}
 use Rattle.mm_text.specs.Reader.{words_of}
 use Rattle.mm_frame.specs.FramesHeld.{hypotheses_held}
-use Rattle.mm_verify.specs.Marks.{mark_of}
+use Rattle.mm_verify.specs.Marks.{mark_of, is_set}
 use Rattle.mm_verify.specs.ProofSteps.{clashes, labels_in}
-use Rattle.mm_verify.proofs.scattered.are_scattered.Given as goal
+use Rattle.mm_verify.proofs.scattered.have_marks.Given as goal
 
 abbrev pub invariant-loop-at : goal.invariant-loop-at
 invariant-loop-at l = record {
-  room : length l.marks ≡ 16384;
+  room : 131072 ≤ length l.marks;
   within : l.at ≤ length l.labels;
   tail : clashes (labels_in (hypotheses_held l.hyps)) (words_of l.bytes (drop l.at l.labels)) ≡ false;
-  marked : (t : Token) → slice_index_or l.marks (mark_of t) false ≡ false → (has_token (labels_in (hypotheses_held l.hyps)) t || has_token (words_of l.bytes (drop l.at l.labels)) t) ≡ false;
+  marked : (t : Token) → is_set l.stamp l.marks (mark_of t) ≡ false → (has_token (labels_in (hypotheses_held l.hyps)) t || has_token (words_of l.bytes (drop l.at l.labels)) t) ≡ false;
 }
 
 abbrev pub decreases-loop-at : goal.decreases-loop-at
