@@ -1,6 +1,8 @@
 // Ends of the top call: faults of the desk and of the streams, verdicts, and proofs of runs.
 use crate::test_calls::{BASE, Case, call, first_failing};
-use crate::test_definitions::{INTEGER_FUNCTIONS, SAME_PAIR, TWO_LISTS};
+use crate::test_definitions::{
+    INTEGER_FUNCTIONS, MEETING_INJECTIONS, NESTED_INJECTIONS, SAME_PAIR, TWO_LISTS,
+};
 use mm_verify::verify;
 use std::test::Fail;
 
@@ -135,7 +137,7 @@ fn each_end_has_its_code_and_lines(rt: HostRuntime) -> Result<(), Fail> {
 }
 
 /// Runs that are proved, and what the last theorem of each states.
-const PROVED: [(Case<'static>, &str); 6] = [
+const PROVED: [(Case<'static>, &str); 8] = [
     (PROVES, "p |- ( \\imp f:a ( \\ev f:c ) ) "),
     (
         Case {
@@ -182,6 +184,27 @@ const PROVED: [(Case<'static>, &str); 6] = [
             ..PROVES
         },
         "p |- ( \\imp ( \\app f:n d:SortInt:37 ) ( \\ev ( \\app f:n d:SortInt:37 ) ) ) ",
+    ),
+    (
+        Case {
+            definition: NESTED_INJECTIONS,
+            term: r#"k{}(inj{SortInt{},SortKItem{}}(\dv{SortInt{}}("5")))"#,
+            out: "stuck 1\ndone{}(inj{SortInt{},SortStmt{}}(\\dv{SortInt{}}(\"5\")))\n",
+            ..PROVES
+        },
+        "p |- ( \\imp ( \\app f:k ( \\app ( \\at ( \\at f:inj s:SortInt ) s:SortKItem ) d:SortInt:35 ) ) ( \\ev ( \\app \
+         f:done ( \\app ( \\at ( \\at f:inj s:SortInt ) s:SortStmt ) d:SortInt:35 ) ) ) ) ",
+    ),
+    (
+        Case {
+            definition: MEETING_INJECTIONS,
+            term: "pair{}(inj{B{},C{}}(inj{A{},B{}}(a{}())),inj{A{},B{}}(a{}()))",
+            out: "stuck 2\nout{}(inj{A{},D{}}(a{}()),inj{A{},D{}}(a{}()))\n",
+            ..PROVES
+        },
+        "p |- ( \\imp ( \\app ( \\app f:pair ( \\app ( \\at ( \\at f:inj s:B ) s:C ) ( \\app ( \\at ( \\at f:inj s:A ) s:B ) \
+         f:a ) ) ) ( \\app ( \\at ( \\at f:inj s:A ) s:B ) f:a ) ) ( \\ev ( \\app ( \\app f:out ( \\app ( \\at ( \\at f:inj \
+         s:A ) s:D ) f:a ) ) ( \\app ( \\at ( \\at f:inj s:A ) s:D ) f:a ) ) ) ) ",
     ),
 ];
 

@@ -83,6 +83,28 @@ axiom{} \rewrites{T{}}(\and{T{}}(k{}(inj{SortAExp{},SortKItem{}}(X:SortAExp{})),
 endmodule []
 "#;
 
+pub(crate) const MEETING_INJECTIONS: &str = r#"[]
+module M
+sort A{} []
+sort B{} []
+sort C{} []
+sort D{} []
+sort T{} []
+symbol inj{From,To}(From) : To [sortInjection{}()]
+axiom{R} \exists{R}(V:B{},\equals{B{},R}(V:B{},inj{A{},B{}}(W:A{}))) [subsort{A{},B{}}()]
+axiom{R} \exists{R}(V:C{},\equals{C{},R}(V:C{},inj{B{},C{}}(W:B{}))) [subsort{B{},C{}}()]
+axiom{R} \exists{R}(V:D{},\equals{D{},R}(V:D{},inj{C{},D{}}(W:C{}))) [subsort{C{},D{}}()]
+symbol a{}() : A{} [constructor{}()]
+symbol pair{}(C{},B{}) : T{} [constructor{}()]
+symbol in{}(D{}) : T{} [constructor{}()]
+symbol out{}(D{},D{}) : T{} [constructor{}()]
+axiom{} \rewrites{T{}}(\and{T{}}(pair{}(inj{B{},C{}}(X:B{}),X:B{}),\top{T{}}()),
+  \and{T{}}(in{}(inj{C{},D{}}(inj{B{},C{}}(X:B{}))),\top{T{}}())) []
+axiom{} \rewrites{T{}}(\and{T{}}(in{}(inj{C{},D{}}(Y:C{})),\top{T{}}()),
+  \and{T{}}(out{}(inj{C{},D{}}(Y:C{}),inj{A{},D{}}(a{}())),\top{T{}}())) []
+endmodule []
+"#;
+
 pub(crate) const INTEGER_FUNCTIONS: &str = r#"[]
 module D
 hooked-sort SortInt{} [hook{}("INT.Int")]

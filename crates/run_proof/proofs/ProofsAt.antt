@@ -1,16 +1,19 @@
 -- A proof that has come as far as a run, with its text.
-use Rattle.std.proofs.Common.{◌≡◌, ℕ, zero, suc, true, List, [], ◌∷◌, ◌++◌, Option, Some, None, slice_get, refl, sym, ◌∙◌, ap, subst}
+use Rattle.std.proofs.Common.{◌≡◌, ◌≤◌, ℕ, zero, suc, true, List, [], ◌∷◌, ◌++◌, Option, Some, None, slice_get, refl, sym, ◌∙◌, ap, subst}
 use Rattle.std.specs.Prelude.{option_map, Result, Ok, Err, IfOk, OnOk, OnErr}
 use Rattle.std.specs.List.{list_all}
 use Rattle.std.proofs.lemmas.List.{append_assoc}
 use Rattle.std.proofs.lemmas.Option.{slice_get-map}
-use Rattle.term_core.specs.Terms.{Tree}
+use Rattle.term_core.specs.Terms.{Tree, height}
 use Rattle.term_core.specs.Patterns.{Pattern, ground_pattern, instance_of}
 use Rattle.term_core.specs.RulePatterns.{plain_pattern}
 use Rattle.term_core.specs.declared.rule_patterns.RulePat.{RulePat}
 use Rattle.rule_core.specs.Rules.{RewriteRule}
 use Rattle.rule_core.specs.Theories.{RewriteTheory}
-use Rattle.rule_core.specs.FirstRule.{Matches}
+use Rattle.rule_core.specs.Evaluation.{most_height, Evaluates, blocked}
+use Rattle.rule_core.specs.FirstRule.{Matches, most_nesting}
+use Rattle.rule_core.specs.RunView.{cause_of}
+use Rattle.rule_core.specs.declared.rules.Blocked.{Blocked}
 use Rattle.rule_core.specs.ProgramView.{rewrite_rule, rewrite_rules, theory_of}
 use Rattle.rule_core.specs.Records.{StepRecord, RecordsStep, result_of}
 use Rattle.rule_core.specs.WellSorted.{IsStart}
@@ -23,17 +26,19 @@ use Rattle.prove_step.proofs.PlainLaws.{plain_rule}
 use Rattle.prove_run.specs.Covered.{is_covered}
 use Rattle.prove_run.specs.RunProof.{RunProof, configuration, reached}
 use Rattle.prove_run.specs.Proving.{Begins, CanStep, FitsProof, StepsTo}
-use Rattle.rule_core.specs.Runs.{Steps, next}
+use Rattle.rule_core.specs.Runs.{Steps, next, Reaches}
 use Rattle.rewriter.specs.Configurations.{IsStartOf, RunState, IsConfiguration}
 use Rattle.run_proof.specs.declared.steps.ProvedSteps.{ProvedSteps}
+use Rattle.run_proof.specs.declared.steps.Beginning.{Beginning}
+use Rattle.run_proof.specs.declared.steps.Beginning.TheVariants as beginning
 use Rattle.run_proof.specs.declared.steps.Going.{Going}
 use Rattle.run_proof.specs.declared.steps.Going.TheVariants as going
-use Rattle.run_proof.specs.ProvedSteps.{IsProofAt, IsProvedRun, GoesOn, IsFurther}
+use Rattle.run_proof.specs.ProvedSteps.{IsProofAt, IsProvedRun, BeginsAt, BeginsRun, IsUnstarted, GoesOn, IsFurther}
 use Rattle.desk_io.specs.Told.{Told, TellsCreated, Writes, WritesFront}
 use Rattle.desk_io.proofs.Told.{Writes-nil, Writes-then}
 use Rattle.rule_core.specs.Runs.{Run, kept_by}
 use Rattle.run_proof.specs.WrittenProofs.{WritesProof, WritesSome}
-use Rattle.run_proof.proofs.PlainPatterns.{both, recorded_is, instance_is}
+use Rattle.run_proof.proofs.PlainPatterns.{both, recorded_is}
 
 pub covered_start : (theory : RewriteTheory) (start : Pattern) → is_covered theory start ≡ true → is_plain start ≡ true
 covered_start theory start h = (both (is_plain start) (list_all is_plain_rule theory.rules) h).0
@@ -41,29 +46,39 @@ covered_start theory start h = (both (is_plain start) (list_all is_plain_rule th
 pub covered_rules : (theory : RewriteTheory) (start : Pattern) → is_covered theory start ≡ true → list_all is_plain_rule theory.rules ≡ true
 covered_rules theory start h = (both (is_plain start) (list_all is_plain_rule theory.rules) h).1
 
--- where the run does not start, the proof is of no step
-pub unstarted_at : (program : Program) (start : RulePat) (proof : RunProof) (before text : List ℕ) → before ≡ [] → Begins program start proof before text →
-    IsProofAt program (plain_pattern start) (plain_pattern start) proof text
-unstarted_at program start proof before text none h = record {
+-- a proof of no step has come as far as the value of the start, or where it has none as the start
+pub begun_at : (program : Program) (start : RulePat) (value : Option Tree) (proof : RunProof) (before text : List ℕ) → before ≡ [] → Begins program start value proof before text →
+    IsProofAt program (plain_pattern start) (configuration (plain_pattern start) value) proof text
+begun_at program start value proof before text none h = record {
   same_program = h.same_program;
   same_start = ap plain_pattern h.starts;
-  is_reached = ap (configuration (plain_pattern proof.start)) h.none ∙ ap plain_pattern h.starts;
+  is_reached = ap (configuration (plain_pattern proof.start)) h.made ∙ ap (λ (r : RulePat). configuration (plain_pattern r) value) h.starts;
   fits = subst (FitsProof proof) (sym (h.text.1 ∙ ap (λ (l : List ℕ). l ++ h.text.0) none)) h.text.2;
 }
 
-pub begins_at : (program : Program) (start : RulePat) (proof : RunProof) (before text : List ℕ) (t : Tree) → before ≡ [] → Begins program start proof before text →
-    is_plain (plain_pattern start) ≡ true → IsRecorded (λ r. Unit {0}) (theory_of program) [] (plain_pattern start) t →
-    IsProofAt program (plain_pattern start) (ground_pattern t) proof text
-begins_at program start proof before text t none h good recorded =
-    let at = unstarted_at program start proof before text none h in
-    let is : instance_of [] (plain_pattern start) ≡ Some t =
-    recorded_is (theory_of program) [] (plain_pattern start) recorded.0 good recorded.2 ∙ ap (λ (u : Tree). Some u) recorded.3 in
-    record {
-      same_program = at.same_program;
-      same_start = at.same_start;
-      is_reached = at.is_reached ∙ sym (instance_is (plain_pattern start) t good is);
-      fits = at.fits;
-    }
+-- the value of a plain initial term is its instance
+pub value_is : (theory : RewriteTheory) (start : Pattern) (t : Tree) → is_plain start ≡ true → IsRecorded (λ r. Unit {0}) theory [] start t → instance_of [] start ≡ Some t
+value_is theory start t good recorded = recorded_is theory [] start recorded.0 good recorded.2 ∙ ap (λ (u : Tree). Some u) recorded.3
+
+-- so where the run begins
+pub begins_run : (program : Program) (start : Pattern) (calls : ℕ) (run : RunState) (b : Beginning) → Reaches (theory_of program) start calls 0 run.config run.calls → IsConfiguration (theory_of program) run.config →
+    BeginsAt program start run b → BeginsRun program start calls b
+begins_run program start calls run (beginning.Begun s) reached sorted h =
+    let same : run ≡ s.run = sym h.0 in (
+      subst (λ (r : RunState). Reaches (theory_of program) start calls 0 r.config r.calls) same reached,
+      (
+        subst (λ (r : RunState). IsConfiguration (theory_of program) r.config) same sorted,
+        subst (λ (r : RunState). IsProofAt program start (ground_pattern r.config) s.proof s.text.items) same h.1,
+      ),
+    )
+begins_run program start calls run (beginning.Unstarted why text) reached sorted h = absurd h
+
+-- .. and where the term has no value
+pub unstarted_run : (program : Program) (start : Pattern) (calls : ℕ) (why : Blocked) (b : Beginning) → Evaluates (theory_of program) most_nesting [] start calls (blocked (cause_of why)) → IsUnstarted program start why b →
+    BeginsRun program start calls b
+unstarted_run program start calls why (beginning.Begun s) ends h = absurd h
+unstarted_run program start calls why (beginning.Unstarted because text) ends h =
+    (subst (λ (x : Blocked). Evaluates (theory_of program) most_nesting [] start calls (blocked (cause_of x))) (sym h.0) ends, h.1)
 
 -- ---- a step
 
@@ -84,9 +99,9 @@ plain_right : (r : RewriteRule) → is_plain_rule r ≡ true → is_plain r.righ
 plain_right r h = (plain_rule r h).right
 
 pub can_step : (program : Program) (start : Pattern) (proof : RunProof) (text : List ℕ) (t u : Tree) (i : ℕ) (theta : List (Option Tree)) (step : StepRecord) →
-    IsProofAt program start (ground_pattern t) proof text → list_all is_plain_rule (rewrite_rules program.rules.items) ≡ true → step.rule ≡ i → step.theta ≡ theta →
+    IsProofAt program start (ground_pattern t) proof text → list_all is_plain_rule (rewrite_rules program.rules.items) ≡ true → height t ≤ most_height → step.rule ≡ i → step.theta ≡ theta →
     RecordsStep (theory_of program) t step → result_of step.right ≡ u → CanStep proof i theta u
-can_step program start proof text t u i theta step at covered number same follows result =
+can_step program start proof text t u i theta step at covered low number same follows result =
     let items = program.rules.items in
     let found = mapped (slice_get items step.rule) follows.rule (sym (slice_get-map rewrite_rule items step.rule) ∙ follows.there) in
     let plain : is_plain_rule (rewrite_rule found.0) ≡ true = covered_item items step.rule found.0 found.1 covered in
@@ -98,6 +113,7 @@ can_step program start proof text t u i theta step at covered number same follow
       there = subst (λ (p : Program). slice_get p.rules.items i ≡ Some found.0) (sym at.same_program) (subst (λ (n : ℕ). slice_get items n ≡ Some found.0) number found.1);
       term = t;
       at = at.is_reached;
+      low = low;
       matches = subst (λ (p : Program). Matches (theory_of p) (rewrite_rule found.0) t theta) (sym at.same_program)
           (subst (λ (s : List (Option Tree)). Matches (theory_of program) (rewrite_rule found.0) t s) same
           (subst (λ (r : RewriteRule). Matches (theory_of program) r t step.theta) (sym found.2) follows.matches));

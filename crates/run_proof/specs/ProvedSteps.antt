@@ -45,6 +45,18 @@ BeginsRun program start calls (beginning.Unstarted why text) =
     Evaluates (theory_of program) most_nesting [] start calls (blocked (cause_of why))
     × JustifiesRun text.items (theory_of program) start start
 
+-- the proof has come as far as a run that has made no step
+abbrev pub BeginsAt : Program → Pattern → RunState → Beginning → Type 0
+BeginsAt program start run (beginning.Begun s) =
+    (s.run ≡ run) × IsProofAt program start (ground_pattern run.config) s.proof s.text.items
+BeginsAt program start run (beginning.Unstarted why text) = ⊥
+
+-- it has come as far as a term without a value
+abbrev pub IsUnstarted : Program → Pattern → Blocked → Beginning → Type 0
+IsUnstarted program start why (beginning.Begun s) = ⊥
+IsUnstarted program start why (beginning.Unstarted because text) =
+    (because ≡ why) × JustifiesRun text.items (theory_of program) start start
+
 -- the run and its proof have made a step, which is that of the definition; or there is none to be made
 abbrev pub GoesOn : Program → ProvedSteps → Going → Type 0
 GoesOn program old (going.Further new) =

@@ -1,6 +1,7 @@
 // Steps of a run, each with its proof.
-ghost use Rattle.std.specs.Prelude.{◌≡◌, true, IfOk};
+ghost use Rattle.std.specs.Prelude.{◌≡◌, true, [], IfOk, Some};
 ghost use Rattle.std.specs.List.{list_all};
+ghost use Rattle.term_core.specs.Patterns.{instance_of};
 ghost use Rattle.term_core.specs.RulePatterns.{plain_pattern};
 ghost use Rattle.rule_core.specs.ProgramView.{theory_of};
 ghost use Rattle.rule_core.specs.WellSorted.{IsStart};
@@ -8,7 +9,8 @@ ghost use Rattle.proof_writer.specs.PlainNames.{HasPlainNames};
 ghost use Rattle.prove_step.specs.PlainRules.{is_plain_rule};
 ghost use Rattle.prove_run.specs.Covered.{is_covered};
 ghost use Rattle.prove_run.specs.Proving.{CanStep};
-ghost use Rattle.run_proof.specs.ProvedSteps.{BeginsRun, GoesOn, IsAtStep, IsBlockedAt, IsFurther, IsStuckAt};
+ghost use Rattle.run_proof.specs.ProvedSteps.{BeginsAt, BeginsRun, IsUnstarted};
+ghost use Rattle.run_proof.specs.ProvedSteps.{GoesOn, IsAtStep, IsBlockedAt, IsFurther, IsStuckAt};
 
 use fun_eval::{Engine, EvalEnd, Unrecorded};
 use prove_run::Proof;
@@ -57,15 +59,49 @@ pub(crate) fn proved_beginning<'p>(
     requires names { HasPlainNames engine.now.sig }
     ensures { IfOk result (BeginsRun engine.now (plain_pattern start.now) calls) }
 {
-    let mut text = Vec::new(alloc);
-    let proof = Proof::begin(alloc, engine.program(), start, &mut text)?;
     match Run::new_as::<Unrecorded>(alloc, engine, start, calls) {
-        Ok((run, _)) => Ok(Beginning::Begun(ProvedSteps { run, proof, text })),
+        Ok((run, _)) => begun(alloc, engine, start, run),
         Err(end) => match end {
-            EvalEnd::Blocked(why) => Ok(Beginning::Unstarted(why, text)),
+            EvalEnd::Blocked(why) => unstarted(alloc, engine, start, why),
             EvalEnd::Memory => Err(AllocError),
         },
     }
+}
+
+// A run that has come to the value of its initial term.
+fn begun<'p>(
+    alloc: Global,
+    engine: &Engine<'p>,
+    start: &'p RulePat,
+    run: Run,
+) -> Result<Beginning<'p>, AllocError>
+    requires start { IsStart (theory_of engine.now) (plain_pattern start.now) }
+    requires covered { is_covered (theory_of engine.now) (plain_pattern start.now) ≡ true }
+    requires names { HasPlainNames engine.now.sig }
+    requires value { instance_of [] (plain_pattern start.now) ≡ Some run.config }
+    ensures { IfOk result (BeginsAt engine.now (plain_pattern start.now) run) }
+{
+    let mut text = Vec::new(alloc);
+    let value = Some(run.config().share()?);
+    let proof = Proof::begin(alloc, engine.program(), start, value, &mut text)?;
+    Ok(Beginning::Begun(ProvedSteps { run, proof, text }))
+}
+
+// A run of a term that has no value.
+fn unstarted<'p>(
+    alloc: Global,
+    engine: &Engine<'p>,
+    start: &'p RulePat,
+    why: Blocked,
+) -> Result<Beginning<'p>, AllocError>
+    requires start { IsStart (theory_of engine.now) (plain_pattern start.now) }
+    requires covered { is_covered (theory_of engine.now) (plain_pattern start.now) ≡ true }
+    requires names { HasPlainNames engine.now.sig }
+    ensures { IfOk result (IsUnstarted engine.now (plain_pattern start.now) why) }
+{
+    let mut text = Vec::new(alloc);
+    let _proof = Proof::begin(alloc, engine.program(), start, None, &mut text)?;
+    Ok(Beginning::Unstarted(why, text))
 }
 
 /// The next step of a run, and its proof. The error is want of memory.
@@ -83,6 +119,7 @@ pub(crate) fn proved_step<'p>(
         proof,
         text,
     } = steps;
+    let _high = run.config().height();
     match run.step_as::<Unrecorded>(alloc, engine)? {
         Next::Made(step) => further(alloc, run, proof, &step, text),
         Next::Stuck => stuck(&run, proof, text),

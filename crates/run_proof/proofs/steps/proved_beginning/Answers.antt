@@ -1,25 +1,23 @@
-use Rattle.std.proofs.Common.{subst}
+use Rattle.std.proofs.Common.{Result, Ok, Err, IfOk}
 use Rattle.term_core.specs.RulePatterns.{plain_pattern}
 use Rattle.rule_core.specs.ProgramView.{theory_of}
-use Rattle.rule_core.specs.declared.rules.Program.{Program}
-use Rattle.prove_run.specs.Proving.{Begins}
-use Rattle.run_proof.proofs.ProofsAt.{covered_start, begins_at, start_of}
+use Rattle.run_proof.specs.declared.steps.Beginning.{Beginning}
+use Rattle.run_proof.specs.ProvedSteps.{BeginsAt, BeginsRun}
+use Rattle.run_proof.proofs.ProofsAt.{covered_start, value_is, begins_run, start_of}
 use Rattle.run_proof.proofs.steps.proved_beginning.Goals as goal
+
+if_ok : {T E : Type 0} (r : Result T E) (P Q : T → Type 0) → ((t : T) → P t → Q t) → IfOk r P → IfOk r Q
+if_ok (Ok t) P Q f h = f t h
+if_ok (Err e) P Q f h = tt
 
 pub new_as-requires : goal.new_as-requires
 new_as-requires c = start_of (theory_of c.args.engine.now) (plain_pattern c.args.start.now) c.requires.start
 
+pub begun-requires-clause-value : goal.begun-requires-clause-value
+begun-requires-clause-value c =
+    value_is (theory_of c.args.engine.now) (plain_pattern c.args.start.now) c.in-Ok.run'.config (covered_start (theory_of c.args.engine.now) (plain_pattern c.args.start.now) c.requires.covered) c.in-Ok.ensures.recorded
+
 pub returns-in-Ok : goal.returns-in-Ok
 returns-in-Ok c =
-    let program = c.args.engine.now in
-    let start = c.args.start.now in
-    let proof = c.in_ok-proof.proof in
-    let before = c.new-text.result.items in
-    let text = c.begin.new.to.items in
-    let begins : Begins program start proof before text = subst (λ (p : Program). Begins p start proof before text) c.program.ensures.program c.in_ok-proof.ensures in (
-      c.in-Ok.ensures.starts,
-      (
-        c.in-Ok.ensures.sorted,
-        begins_at program start proof before text c.in-Ok.run'.config c.new-text.ensures.items begins (covered_start (theory_of program) (plain_pattern start) c.requires.covered) c.in-Ok.ensures.recorded,
-      ),
-    )
+    if_ok c.begun.result (BeginsAt c.args.engine.now (plain_pattern c.args.start.now) c.in-Ok.run') (BeginsRun c.args.engine.now (plain_pattern c.args.start.now) c.args.calls)
+    (λ (b : Beginning). begins_run c.args.engine.now (plain_pattern c.args.start.now) c.args.calls c.in-Ok.run' b c.in-Ok.ensures.starts c.in-Ok.ensures.sorted) c.begun.ensures

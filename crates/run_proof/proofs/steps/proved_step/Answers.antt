@@ -1,4 +1,6 @@
-use Rattle.std.proofs.Common.{Result, Ok, Err, IfOk, ◌++◌}
+use Rattle.std.proofs.Common.{Result, Ok, Err, IfOk, ◌++◌, ◌≤◌, subst, arith}
+use Rattle.term_core.specs.Terms.{Tree, height}
+use Rattle.rule_core.specs.Evaluation.{most_height}
 use Rattle.term_core.specs.RulePatterns.{plain_pattern}
 use Rattle.run_proof.specs.declared.steps.Going.{Going}
 use Rattle.run_proof.specs.ProvedSteps.{GoesOn, IsFurther}
@@ -15,8 +17,11 @@ step_as-requires c = c.requires.at.1.0
 pub further-requires : goal.further-requires
 further-requires c =
     let s = c.args.steps in
-    let told = rw c.in-Made.is at c.in_ok-step.ensures.recorded in record {
-      applies = can_step c.args.engine.now (plain_pattern s.proof.start) s.proof (c.requires.at.0 ++ s.text.items) s.run.config c.step_as.new.self.config c.in-Made.step.rule c.in-Made.step.subst told.step c.requires.at.1.1 c.requires.rules told.rule told.theta told.follows told.result;
+    let told = rw c.in-Made.is at c.in_ok-step.ensures.recorded in
+    let low : height c.config.result.now ≤ most_height = omega (arith, c.height-high.ensures.value, c.height-high.ensures.bound) in
+    let low' : height s.run.config ≤ most_height = subst (λ (t : Tree). height t ≤ most_height) c.config.ensures low in
+    record {
+      applies = can_step c.args.engine.now (plain_pattern s.proof.start) s.proof (c.requires.at.0 ++ s.text.items) s.run.config c.step_as.new.self.config c.in-Made.step.rule c.in-Made.step.subst told.step c.requires.at.1.1 c.requires.rules low' told.rule told.theta told.follows told.result;
     }
 
 pub returns-in-Made : goal.returns-in-Made
