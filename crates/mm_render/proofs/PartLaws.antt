@@ -21,8 +21,8 @@ use Rattle.mm_proof.specs.declared.works.Work.TheVariants as work
 use Rattle.mm_render.specs.declared.derivations.Part.{Part}
 use Rattle.mm_render.specs.declared.derivations.Part.TheVariants as part
 use Rattle.mm_claims.specs.Variables.{Variable}
-use Rattle.mm_claims.specs.Blocks.{Claim}
-use Rattle.mm_claims.specs.CitedAt.{variable_tree, claim_at, claims_citing}
+use Rattle.mm_claims.specs.Blocks.{Stated}
+use Rattle.mm_claims.specs.CitedAt.{variable_tree, claims_citing}
 use Rattle.mm_render.specs.Parts.{part_tokens, parts_tokens, part_weight, parts_weight, proof_of, proofs_of, PutsParts, PartIsTaken, rest_of_citation, rest_of_rule, value_labels}
 use Rattle.mm_text.specs.Written.{written}
 
@@ -121,22 +121,22 @@ citation_taken names k s p d e i xs ms vs ds old new text text' taken whole cite
     }
 
 -- an axiom
-pub fact_taken : (names : List Token) (k : ℕ) (claims : List Claim) (place : List Pattern → Pattern → ℕ) (premise_place : Pattern → ℕ) (p : Part) (d : Bor Derivation) (n : ℕ) (q : Pattern) (xs xs' : List ℕ) (old new : List Part) (text text' : List ℕ)
-    → p ≡ part.Derived d → d.now ≡ own_axiom n q xs → xs' ≡ xs → text' ≡ text ++ written (value_labels k xs' [] (claim_at claims (place [] q)).variables) → PutsParts (λ names k s. rest_of_citation k s (place [] q) no_derivation) 1 old new
-    → PartIsTaken names k (claims_citing k claims place premise_place) p old new text text'
-fact_taken names k claims place premise_place p d n q xs xs' old new text text' taken whole same values puts =
-    citation_taken names k (claims_citing k claims place premise_place) p d (own_axiom n q xs') (place [] q) xs' [] (claim_at claims (place [] q)).variables no_derivation old new text text' taken (whole ∙ ap (own_axiom n q) (sym same)) refl (omega arith) values puts
+pub fact_taken : (names : List Token) (k : ℕ) (find : List Pattern → Pattern → Stated) (premise_place : Pattern → ℕ) (p : Part) (d : Bor Derivation) (n : ℕ) (q : Pattern) (xs xs' : List ℕ) (old new : List Part) (text text' : List ℕ)
+    → p ≡ part.Derived d → d.now ≡ own_axiom n q xs → xs' ≡ xs → text' ≡ text ++ written (value_labels k xs' [] (find [] q).claim.variables) → PutsParts (λ names k s. rest_of_citation k s (find [] q).number no_derivation) 1 old new
+    → PartIsTaken names k (claims_citing k find premise_place) p old new text text'
+fact_taken names k find premise_place p d n q xs xs' old new text text' taken whole same values puts =
+    citation_taken names k (claims_citing k find premise_place) p d (own_axiom n q xs') (find [] q).number xs' [] (find [] q).claim.variables no_derivation old new text text' taken (whole ∙ ap (own_axiom n q) (sym same)) refl (omega arith) values puts
 
 -- a lemma
-pub lemma_taken : (names : List Token) (k : ℕ) (claims : List Claim) (place : List Pattern → Pattern → ℕ) (premise_place : Pattern → ℕ) (p : Part) (d : Bor Derivation) (e : Derivation) (own own' : List Pattern) (q q' : Pattern) (ms ms' : List Pattern) (ds ds' : List Derivation)
+pub lemma_taken : (names : List Token) (k : ℕ) (find : List Pattern → Pattern → Stated) (premise_place : Pattern → ℕ) (p : Part) (d : Bor Derivation) (e : Derivation) (own own' : List Pattern) (q q' : Pattern) (ms ms' : List Pattern) (ds ds' : List Derivation)
     (old new : List Part) (text text' : List ℕ) → p ≡ part.Derived d → d.now ≡ cited own q e ms (derivations ds) → own' ≡ own → q' ≡ q → ms' ≡ ms → ds' ≡ ds
-    → text' ≡ text ++ written (value_labels k [] ms' (claim_at claims (place own' q')).variables) → PutsParts (λ names k s. rest_of_citation k s (place own' q') (derivations ds')) (3 * all_steps (derivations ds') + 1) old new
-    → PartIsTaken names k (claims_citing k claims place premise_place) p old new text text'
-lemma_taken names k claims place premise_place p d e own own' q q' ms ms' ds ds' old new text text' taken whole hypotheses conclusion patterns parts values puts =
+    → text' ≡ text ++ written (value_labels k [] ms' (find own' q').claim.variables) → PutsParts (λ names k s. rest_of_citation k s (find own' q').number (derivations ds')) (3 * all_steps (derivations ds') + 1) old new
+    → PartIsTaken names k (claims_citing k find premise_place) p old new text text'
+lemma_taken names k find premise_place p d e own own' q q' ms ms' ds ds' old new text text' taken whole hypotheses conclusion patterns parts values puts =
     let same : d.now ≡ cited own' q' e ms' (derivations ds') =
     whole ∙ ap (λ (ps : List Pattern). cited ps q e ms (derivations ds)) (sym hypotheses) ∙ ap (λ (r : Pattern). cited own' r e ms (derivations ds)) (sym conclusion)
     ∙ ap (λ (ps : List Pattern). cited own' q' e ps (derivations ds)) (sym patterns) ∙ ap (λ (es : List Derivation). cited own' q' e ms' (derivations es)) (sym parts) in
-    citation_taken names k (claims_citing k claims place premise_place) p d (cited own' q' e ms' (derivations ds')) (place own' q') [] ms' (claim_at claims (place own' q')).variables (derivations ds') old new text text' taken same refl (omega arith) values puts
+    citation_taken names k (claims_citing k find premise_place) p d (cited own' q' e ms' (derivations ds')) (find own' q').number [] ms' (find own' q').claim.variables (derivations ds') old new text text' taken same refl (omega arith) values puts
 
 -- what stands for one variable more
 pub value_labels-push : (k : ℕ) (xs : List ℕ) (ms : List Pattern) (vs : List Variable) (v : Variable) → value_labels k xs ms (vs ++ v ∷ []) ≡ value_labels k xs ms vs ++ value_labels k xs ms (v ∷ [])

@@ -17,7 +17,7 @@ use Rattle.mm_render.specs.declared.derivations.Part.{Part}
 use Rattle.mm_render.specs.declared.derivations.Part.TheVariants as part
 use Rattle.mm_claims.specs.Variables.{Variable}
 use Rattle.mm_claims.specs.CitedAt.{variable_tree, claims_citing}
-use Rattle.mm_render.specs.PlaceTable.{claims_at, places_at, premises_at}
+use Rattle.mm_render.specs.PlaceTable.{found_at, premises_at}
 use Rattle.mm_text.specs.Written.{written}
 
 -- the proof by a derivation in the block of a statement, and those by some
@@ -70,4 +70,4 @@ value_labels k new ms vs = all_labels (map (variable_tree (own_labels k) new ms)
 
 -- the citing of the statement that stands there
 abbrev pub citing_at : Standing → Citing
-citing_at at = claims_citing at.serial (claims_at at) (places_at at) (premises_at at)
+citing_at at = claims_citing at.serial (found_at at) (premises_at at)

@@ -8,13 +8,12 @@ ghost use Rattle.ml_kernel.specs.Theorems.{derivations};
 ghost use Rattle.mm_proof.specs.Labels.{own_labels, premise_label};
 ghost use Rattle.mm_proof.specs.RuleLabels.{all_labels};
 ghost use Rattle.mm_proof.specs.Trees.{trees_behind};
-ghost use Rattle.mm_claims.specs.CitedAt.{claim_at};
 ghost use Rattle.mm_render.specs.Parts.{PartIsTaken, PutsParts, citing_at, proof_of, proofs_of, rest_of_citation, rest_of_rule, value_labels};
-ghost use Rattle.mm_render.specs.PlaceTable.{claims_at, places_at, premises_at};
+ghost use Rattle.mm_render.specs.PlaceTable.{found_at, premises_at};
 ghost use Rattle.mm_render.specs.VariablesView.{variable_of};
 ghost use Rattle.mm_text.specs.Written.{written};
 
-use crate::places::{Standing, place_of, premise_of};
+use crate::places::{Standing, found, premise_of};
 use crate::variables::{Variable, renamed};
 use ml_kernel::{Deriv, DerivStep, Inst, Rule};
 use ml_pat::{MPat, VarNo};
@@ -105,14 +104,14 @@ fn write_citation<'a>(
     patterns: &[MPat],
     parts: &'a [Deriv],
 ) -> Result<(), AllocError>
-    ensures text { OnOk result (to.new.items ≡ to.old.items ++ written (value_labels at.now.serial (numbers_of new.now) patterns.now (claim_at (claims_at at.now) (places_at at.now hypotheses.now conclusion.now)).variables)) }
-    ensures stack { OnOk result (PutsParts (λ names k s. rest_of_citation k s (places_at at.now hypotheses.now conclusion.now) (derivations parts.now)) (3 * all_steps (derivations parts.now) + 1) stack.old.items stack.new.items) }
+    ensures text { OnOk result (to.new.items ≡ to.old.items ++ written (value_labels at.now.serial (numbers_of new.now) patterns.now (found_at at.now hypotheses.now conclusion.now).claim.variables)) }
+    ensures stack { OnOk result (PutsParts (λ names k s. rest_of_citation k s (found_at at.now hypotheses.now conclusion.now).number (derivations parts.now)) (3 * all_steps (derivations parts.now) + 1) stack.old.items stack.new.items) }
 {
-    let place = place_of(*to.allocator(), at, hypotheses, conclusion)?;
-    for variable in at.variables_of(place) {
+    let cited = found(*to.allocator(), at, hypotheses, conclusion)?;
+    for variable in cited.variables {
         write_value(to, at, *variable, new, patterns)?;
     }
-    stack.push(Part::Plain(Work::One(Word::Stated(place))))?;
+    stack.push(Part::Plain(Work::One(Word::Stated(cited.number))))?;
     put_derived(stack, parts)
 }
 

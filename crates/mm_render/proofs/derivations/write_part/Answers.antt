@@ -7,7 +7,7 @@ use Rattle.mm_proof.specs.Labels.{own_labels}
 use Rattle.mm_proof.specs.RuleLabels.{all_labels, instance_labels}
 use Rattle.mm_proof.specs.Trees.{trees_before}
 use Rattle.mm_render.specs.Parts.{PutsParts, citing_at, rest_of_rule}
-use Rattle.mm_render.specs.PlaceTable.{claims_at, places_at, premises_at}
+use Rattle.mm_render.specs.PlaceTable.{found_at, premises_at}
 use Rattle.mm_proof.proofs.Stacking.{on_ok, both_ok}
 use Rattle.mm_render.proofs.PartLaws.{rule_taken, fact_taken, lemma_taken}
 use Rattle.mm_text.specs.Written.{written}
@@ -26,14 +26,14 @@ returns-in_ok-write_before-in-ByRule c =
 pub returns-in-Axiom : goal.returns-in-Axiom
 returns-in-Axiom c =
     let whole : c.in-Derived.derivation.now ≡ own_axiom c.in-Axiom.field-0.0 c.in-Axiom.p (numbers_of c.in-Axiom.new.items) = sym c.step.ensures ∙ ap derivation_of c.in-Axiom.is in
-    both_ok c.write_citation.result (fact_taken c.args.at.now.names.now c.args.at.now.serial (claims_at c.args.at.now) (places_at c.args.at.now) (premises_at c.args.at.now) c.args.part c.in-Derived.derivation c.in-Axiom.field-0.0 c.in-Axiom.p (numbers_of c.in-Axiom.new.items) (numbers_of c.deref.result.now)
+    both_ok c.write_citation.result (fact_taken c.args.at.now.names.now c.args.at.now.serial (found_at c.args.at.now) (premises_at c.args.at.now) c.args.part c.in-Derived.derivation c.in-Axiom.field-0.0 c.in-Axiom.p (numbers_of c.in-Axiom.new.items) (numbers_of c.deref.result.now)
     c.args.stack.now.items c.write_citation.new.stack.items c.args.to.now.items c.write_citation.new.to.items c.in-Derived.is whole (ap numbers_of c.deref.ensures.value)) c.write_citation.ensures.text c.write_citation.ensures.stack
 
 pub returns-in-Cited : goal.returns-in-Cited
 returns-in-Cited c =
     let lemma : Theorem = c.in-Cited.lemma in
     let whole : c.in-Derived.derivation.now ≡ cited lemma.hypotheses lemma.conclusion lemma.derivation c.in-Cited.patterns.items (derivations c.in-Cited.parts.items) = sym c.step.ensures ∙ ap derivation_of c.in-Cited.is in
-    both_ok c.write_citation-in-Cited.result (lemma_taken c.args.at.now.names.now c.args.at.now.serial (claims_at c.args.at.now) (places_at c.args.at.now) (premises_at c.args.at.now) c.args.part c.in-Derived.derivation lemma.derivation
+    both_ok c.write_citation-in-Cited.result (lemma_taken c.args.at.now.names.now c.args.at.now.serial (found_at c.args.at.now) (premises_at c.args.at.now) c.args.part c.in-Derived.derivation lemma.derivation
     lemma.hypotheses c.hypotheses.result.now lemma.conclusion c.conclusion.result.now c.in-Cited.patterns.items c.deref-in-Cited.result.now c.in-Cited.parts.items c.deref-in-Cited-2.result.now
     c.args.stack.now.items c.write_citation-in-Cited.new.stack.items c.args.to.now.items c.write_citation-in-Cited.new.to.items c.in-Derived.is whole
     c.hypotheses.ensures.value c.conclusion.ensures c.deref-in-Cited.ensures.value c.deref-in-Cited-2.ensures.value) c.write_citation-in-Cited.ensures.text c.write_citation-in-Cited.ensures.stack
