@@ -53,7 +53,12 @@ fn a_term_may_open_as_many_brackets_as_are_read(rt: HostRuntime) -> Result<(), F
 }
 
 /// `s{}(` so many times round `a{}()`, between two texts.
-fn nested(alloc: Global, before: &str, count: usize, behind: &str) -> Result<String, AllocError> {
+pub(crate) fn nested(
+    alloc: Global,
+    before: &str,
+    count: usize,
+    behind: &str,
+) -> Result<String, AllocError> {
     let mut text = String::from_str(alloc, before)?;
     for _ in 0..count {
         text.push_str("s{}(")?;

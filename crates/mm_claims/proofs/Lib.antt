@@ -18,6 +18,7 @@ pub mod CitedLaws
 pub mod NamedClaims
 pub mod OpenCitingTexts
 pub mod OpenCiting
+pub mod FoundCiting
 pub mod PlainStatements
 pub mod OpenVariableLaws
 pub mod AddedVariables

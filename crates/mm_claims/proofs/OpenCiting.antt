@@ -30,7 +30,7 @@ use Rattle.mm_proof.proofs.ApartLaws.{text_apart, apart_text}
 use Rattle.mm_claims.specs.Fitting.{AreNames}
 use Rattle.mm_claims.specs.Variables.{Variable, object_variable, pattern_variable, has_variable, stands_in, variable_token, variable_tokens, object_tokens}
 use Rattle.mm_claims.specs.Blocks.{Claim, IsClaim, variable_float, premise_hypotheses, are_apart, open_frame}
-use Rattle.mm_claims.specs.CitedAt.{variable_tree, claim_at, claim_tree, claims_citing, HasInstance, HaveInstances, IsCitable, ArePremises}
+use Rattle.mm_claims.specs.CitedAt.{at_places, variable_tree, claim_at, claim_tree, claims_citing, HasInstance, HaveInstances, IsCitable, ArePremises}
 use Rattle.mm_claims.specs.Citable.{citable}
 use Rattle.mm_claims.specs.OpenCiting.{ServesClaims}
 use Rattle.mm_claims.proofs.OpenCitingTexts.{case_variable, first_there, later_there, value, entry, given_by, given_variable, given_other, GivesInstances, holds-instance, floats-instance, premises-instance, no_variables_at, other_than, instance-none}
@@ -186,7 +186,7 @@ claim_is (r ∷ rs) (suc k) s h = claim_is rs k s h
 -- what may be cited is cited soundly
 lemma_proves : (c : Context) (declared : List Token) (known : LeafFacts) (claims : List Claim) (k : ℕ) (hypotheses : List Pattern) (place : List Pattern → Pattern → ℕ) (own : List Pattern) (q : Pattern) (ms : List Pattern) (trees : List ProofTree) → AreNames declared → Serves c (own_labels k) (own_naming declared) known → ServesClaims c declared claims k hypotheses
     → IsCitable known claims place own q [] ms → HaveNoVariables ms → AllProve c (trees_of trees) (map (holds_text (own_naming declared)) (instances ms own))
-    → Proves c (claim_tree (own_labels k) claims (place own q) [] ms trees) (holds_text (own_naming declared) (instance ms q))
+    → Proves c (claim_tree (own_labels k) (at_places claims place own q) [] ms trees) (holds_text (own_naming declared) (instance ms q))
 lemma_proves c declared known claims k hypotheses place own q ms trees names w serves cited none proved =
     subst (λ (s : Claim). Proves c (cite (statement_label (place own q)) (map (variable_tree (own_labels k) [] ms) s.variables ++ trees)) (holds_text (own_naming declared) (instance ms q))) (sym (claim_is claims (place own q) cited.claim cited.there))
     (subst (λ (p : Pattern). Proves c (cite (statement_label (place own q)) (map (variable_tree (own_labels k) [] ms) cited.claim.variables ++ trees)) (holds_text (own_naming declared) (instance ms p))) cited.conclusion
@@ -241,7 +241,7 @@ stands_there declared s x is none has =
 
 -- an axiom, under new numbers of its bound variables
 fact_proves : (c : Context) (declared : List Token) (known : LeafFacts) (claims : List Claim) (k : ℕ) (hypotheses : List Pattern) (place : List Pattern → Pattern → ℕ) (p q : Pattern) (new : List ℕ) → AreNames declared → Serves c (own_labels k) (own_naming declared) known → ServesClaims c declared claims k hypotheses
-    → IsCitable known claims place [] p new [] → Renames (by_place new) p q → Proves c (claim_tree (own_labels k) claims (place [] p) new [] []) (holds_text (own_naming declared) q)
+    → IsCitable known claims place [] p new [] → Renames (by_place new) p q → Proves c (claim_tree (own_labels k) (at_places claims place [] p) new [] []) (holds_text (own_naming declared) q)
 fact_proves c declared known claims k hypotheses place p q new names w serves cited renames =
     let s : Claim = cited.claim in
     let is : IsClaim declared s = serves.claimed (place [] p) s cited.there in
@@ -256,7 +256,7 @@ fact_proves c declared known claims k hypotheses place p q new names w serves ci
     (subst (λ (ps : List Pattern). AllProve c (trees_of []) (map (holds_text (own_naming declared)) (instances [] (map (renamed (by_place new)) ps)))) (sym cited.hypotheses) refl)))
 
 pub citing_is_sound : (c : Context) (declared : List Token) (known : LeafFacts) (claims : List Claim) (k : ℕ) (hypotheses : List Pattern) (place : List Pattern → Pattern → ℕ) (premise_place : Pattern → ℕ) → AreNames declared → Serves c (own_labels k) (own_naming declared) known → ServesClaims c declared claims k hypotheses → ArePremises hypotheses premise_place
-    → CitesSoundly c (own_naming declared) hypotheses (citable known claims place) (claims_citing k claims place premise_place)
+    → CitesSoundly c (own_naming declared) hypotheses (citable known claims place) (claims_citing k (at_places claims place) premise_place)
 citing_is_sound c declared known claims k hypotheses place premise_place names w serves are = record {
   premise = λ p there. ([], by_hypothesis (essential (premise_label k (premise_place p)) (holds_text (own_naming declared) p)) (serves.premises (premise_place p) p (are p there)), refl);
   fact = λ p q new cited renames. fact_proves c declared known claims k hypotheses place p q new names w serves cited renames;

@@ -26,7 +26,7 @@ use Rattle.mm_proof.specs.Derivations.{holds_text, derivation_tree}
 use Rattle.ml_pat.proofs.LeafLaws.{split_true, both_true}
 use Rattle.mm_proof.proofs.CitingDerivations.{cited_proves}
 use Rattle.mm_claims.specs.Fitting.{Holds}
-use Rattle.mm_claims.specs.CitedAt.{claims_citing}
+use Rattle.mm_claims.specs.CitedAt.{at_places, claims_citing}
 use Rattle.mm_claims.specs.Citable.{citable}
 use Rattle.mm_claims.specs.Variables.{Variable, object_variable, pattern_variable, are_once, AreNumbered, variable_token, variable_label}
 use Rattle.mm_claims.specs.Blocks.{Claim, IsClaim, head_statements, block, axiom_block, theorem_block, axiom_statements, variable_float, premise_hypotheses, open_frame, open_assertion}
@@ -213,12 +213,12 @@ active_spelt declared k c at vs ps w small numbered few l h is =
 
 -- the proof of a claim, by a derivation
 abbrev claim_proof : ℕ → List Claim → (List Pattern → Pattern → ℕ) → (Pattern → ℕ) → Derivation → ProofTree
-claim_proof k claims place premise_place d = derivation_tree (own_labels k) (claims_citing k claims place premise_place) d
+claim_proof k claims place premise_place d = derivation_tree (own_labels k) (claims_citing k (at_places claims place) premise_place) d
 
 theorem_proves : (declared : List Token) (claims : List Claim) (c : Context) (at : ℕ) (s : Claim) (more : List Variable) (d : Derivation) (place : List Pattern → Pattern → ℕ) (premise_place : Pattern → ℕ) → HoldsClaims declared claims c → length claims < 2 ^ 64 → IsClaim declared s → IsProvable declared claims s more d place premise_place
     → Proves (inside_block declared (length claims) c at (s.variables ++ more) s.hypotheses) (claim_proof (length claims) claims place premise_place d) (holds_text (own_naming declared) s.conclusion)
 theorem_proves declared claims c at s more d place premise_place w few claim provable =
-    cited_proves (inside_block declared (length claims) c at (s.variables ++ more) s.hypotheses) (own_labels (length claims)) (own_naming declared) (open_over declared (s.variables ++ more)) s.hypotheses (citable (open_over declared (s.variables ++ more)) claims place) (claims_citing (length claims) claims place premise_place)
+    cited_proves (inside_block declared (length claims) c at (s.variables ++ more) s.hypotheses) (own_labels (length claims)) (own_naming declared) (open_over declared (s.variables ++ more)) s.hypotheses (citable (open_over declared (s.variables ++ more)) claims place) (claims_citing (length claims) (at_places claims place) premise_place)
     (serves_inside declared claims c at (s.variables ++ more) s.hypotheses w few provable.numbered claim.few)
     (claims_sound declared claims c at (s.variables ++ more) s.hypotheses place premise_place w few provable.numbered claim.few provable.premises) d s.conclusion provable.concludes provable.used provable.cites
 
@@ -236,7 +236,7 @@ theorem_block_adds declared claims c at s more d place premise_place w few claim
 -- in its block where it needs one
 theorem_adds : (declared : List Token) (claims : List Claim) (c : Context) (at : ℕ) (vs : List Variable) (ps : List Pattern) (q : Pattern) (more : List Variable) (d : Derivation) (place : List Pattern → Pattern → ℕ) (premise_place : Pattern → ℕ) → HoldsClaims declared claims c → length claims < 2 ^ 64 → IsClaim declared (claim_of vs ps q)
     → IsProvable declared claims (claim_of vs ps q) more d place premise_place
-    → AddsJust c at (proved_statements declared (length claims) claims place premise_place (claim_of vs ps q) more d) (behind_block declared (length claims) c (claim_of vs ps q) (vs ++ more)) (open_assertion true declared (length claims) (claim_of vs ps q)) (map (variable_float (length claims)) (vs ++ more))
+    → AddsJust c at (proved_statements declared (length claims) (at_places claims place) premise_place (claim_of vs ps q) more d) (behind_block declared (length claims) c (claim_of vs ps q) (vs ++ more)) (open_assertion true declared (length claims) (claim_of vs ps q)) (map (variable_float (length claims)) (vs ++ more))
 theorem_adds declared claims c at [] [] q [] d place premise_place w few claim provable = plain_theorem_adds declared claims c at q d place premise_place w few claim provable
 theorem_adds declared claims c at [] (p ∷ ps) q [] d place premise_place w few claim provable = theorem_block_adds declared claims c at (claim_of [] (p ∷ ps) q) [] d place premise_place w few claim provable
 theorem_adds declared claims c at [] ps q (v ∷ more) d place premise_place w few claim provable = theorem_block_adds declared claims c at (claim_of [] ps q) (v ∷ more) d place premise_place w few claim provable
@@ -244,10 +244,10 @@ theorem_adds declared claims c at (v ∷ vs) ps q more d place premise_place w f
 
 pub theorem_fits : TheoremFits
 theorem_fits declared claims bytes s more d place premise_place (c, leaves, w) few claim provable =
-    fits_by declared claims bytes c s (s.variables ++ more) (proved_statements declared (length claims) claims place premise_place s more d) (open_assertion true declared (length claims) s) (map (variable_float (length claims)) (s.variables ++ more)) leaves w few claim
+    fits_by declared claims bytes c s (s.variables ++ more) (proved_statements declared (length claims) (at_places claims place) premise_place s more d) (open_assertion true declared (length claims) s) (map (variable_float (length claims)) (s.variables ++ more)) leaves w few claim
     (theorem_adds declared claims c (length bytes) s.variables s.hypotheses s.conclusion more d place premise_place w few claim provable)
 
 pub theorem_is_gained : TheoremIsGained
 theorem_is_gained declared claims bytes s more d place premise_place (c, leaves, w) few claim provable =
-    gained_by c (behind_block declared (length claims) c s (s.variables ++ more)) bytes (proved_statements declared (length claims) claims place premise_place s more d) (open_assertion true declared (length claims) s) (length claims) (s.variables ++ more) leaves
+    gained_by c (behind_block declared (length claims) c s (s.variables ++ more)) bytes (proved_statements declared (length claims) (at_places claims place) premise_place s more d) (open_assertion true declared (length claims) s) (length claims) (s.variables ++ more) leaves
     (theorem_adds declared claims c (length bytes) s.variables s.hypotheses s.conclusion more d place premise_place w few claim provable)

@@ -1,5 +1,5 @@
 -- A block that declares the variables that a derivation needs has all that is used and cited there.
-use Rattle.std.proofs.Common.{◌≡◌, ℕ, Bool, true, false, List, [], ◌∷◌, ◌++◌, refl, ap, ◌∙◌, sym, subst, append_assoc, append-nil}
+use Rattle.std.proofs.Common.{◌≡◌, ℕ, Bool, true, false, List, [], ◌∷◌, ◌++◌, refl, ◌∙◌, sym, subst, append_assoc, append-nil}
 use Rattle.std.specs.Prelude.{if◌then◌else◌, flat_map}
 use Rattle.std.proofs.lemmas.Bool.{false≢true}
 use Rattle.mm_text.specs.Bytes.{Token}
@@ -14,7 +14,7 @@ use Rattle.ml_kernel.specs.MayCite.{EachCited, AllCited}
 use Rattle.mm_claims.specs.Variables.{Variable, object_variable, pattern_variable, has_variable, are_once, AreNumbered}
 use Rattle.mm_claims.specs.Blocks.{Claim}
 use Rattle.mm_claims.specs.OverNames.{open_over, over_names}
-use Rattle.mm_claims.specs.CitedAt.{claim_at, HaveInstances, IsCitable}
+use Rattle.mm_claims.specs.CitedAt.{at_places, claim_at, HaveInstances, IsCitable}
 use Rattle.mm_claims.specs.Citable.{citable}
 use Rattle.mm_claims.specs.OpenVariables.{variables_in, variables_for, variables_at, variables_of, all_variables_of, other_variables}
 use Rattle.mm_claims.specs.ClaimLaws.{NeededAreEnough}
@@ -82,29 +82,29 @@ citable_among declared vs claims place own q new ms w h = record {
 }
 
 mutual
-  used_among : (declared : List Token) (vs : List Variable) (claims : List Claim) (place : List Pattern → Pattern → ℕ) (d : Derivation) → Among (variables_of claims place d) vs → EachUsed (over_names declared) d → EachUsed (open_over declared vs) d
+  used_among : (declared : List Token) (vs : List Variable) (claims : List Claim) (place : List Pattern → Pattern → ℕ) (d : Derivation) → Among (variables_of (at_places claims place) d) vs → EachUsed (over_names declared) d → EachUsed (open_over declared vs) d
   used_among declared vs claims place (hypothesis p) w h = tt
   used_among declared vs claims place (own_axiom n p new) w h = tt
-  used_among declared vs claims place (by_rule r is ds) w h = (instances_among declared vs is (among_front (flat_map variables_for is) (all_variables_of claims place ds) vs w) h.0, all_used_among declared vs claims place ds (among_behind (flat_map variables_for is) (all_variables_of claims place ds) vs w) h.1)
-  used_among declared vs claims place (cited own q d ms ds) w h = all_used_among declared vs claims place ds (among_behind (flat_map (variables_at [] ms) (claim_at claims (place own q)).variables) (all_variables_of claims place ds) vs w) h
+  used_among declared vs claims place (by_rule r is ds) w h = (instances_among declared vs is (among_front (flat_map variables_for is) (all_variables_of (at_places claims place) ds) vs w) h.0, all_used_among declared vs claims place ds (among_behind (flat_map variables_for is) (all_variables_of (at_places claims place) ds) vs w) h.1)
+  used_among declared vs claims place (cited own q d ms ds) w h = all_used_among declared vs claims place ds (among_behind (flat_map (variables_at [] ms) (claim_at claims (place own q)).variables) (all_variables_of (at_places claims place) ds) vs w) h
 
-  all_used_among : (declared : List Token) (vs : List Variable) (claims : List Claim) (place : List Pattern → Pattern → ℕ) (ds : Derivations) → Among (all_variables_of claims place ds) vs → AllUsed (over_names declared) ds → AllUsed (open_over declared vs) ds
+  all_used_among : (declared : List Token) (vs : List Variable) (claims : List Claim) (place : List Pattern → Pattern → ℕ) (ds : Derivations) → Among (all_variables_of (at_places claims place) ds) vs → AllUsed (over_names declared) ds → AllUsed (open_over declared vs) ds
   all_used_among declared vs claims place no_derivation w h = tt
-  all_used_among declared vs claims place (more_derivations d ds) w h = (used_among declared vs claims place d (among_front (variables_of claims place d) (all_variables_of claims place ds) vs w) h.0, all_used_among declared vs claims place ds (among_behind (variables_of claims place d) (all_variables_of claims place ds) vs w) h.1)
+  all_used_among declared vs claims place (more_derivations d ds) w h = (used_among declared vs claims place d (among_front (variables_of (at_places claims place) d) (all_variables_of (at_places claims place) ds) vs w) h.0, all_used_among declared vs claims place ds (among_behind (variables_of (at_places claims place) d) (all_variables_of (at_places claims place) ds) vs w) h.1)
 
 mutual
-  cited_among : (declared : List Token) (vs : List Variable) (claims : List Claim) (place : List Pattern → Pattern → ℕ) (d : Derivation) → Among (variables_of claims place d) vs → EachCited (citable (over_names declared) claims place) d → EachCited (citable (open_over declared vs) claims place) d
+  cited_among : (declared : List Token) (vs : List Variable) (claims : List Claim) (place : List Pattern → Pattern → ℕ) (d : Derivation) → Among (variables_of (at_places claims place) d) vs → EachCited (citable (over_names declared) claims place) d → EachCited (citable (open_over declared vs) claims place) d
   cited_among declared vs claims place (hypothesis p) w h = tt
   cited_among declared vs claims place (own_axiom n p new) w h = citable_among declared vs claims place [] p new [] w h
-  cited_among declared vs claims place (by_rule r is ds) w h = all_cited_among declared vs claims place ds (among_behind (flat_map variables_for is) (all_variables_of claims place ds) vs w) h
+  cited_among declared vs claims place (by_rule r is ds) w h = all_cited_among declared vs claims place ds (among_behind (flat_map variables_for is) (all_variables_of (at_places claims place) ds) vs w) h
   cited_among declared vs claims place (cited own q d ms ds) w h = (
-    citable_among declared vs claims place own q [] ms (among_front (flat_map (variables_at [] ms) (claim_at claims (place own q)).variables) (all_variables_of claims place ds) vs w) h.0,
-    all_cited_among declared vs claims place ds (among_behind (flat_map (variables_at [] ms) (claim_at claims (place own q)).variables) (all_variables_of claims place ds) vs w) h.1,
+    citable_among declared vs claims place own q [] ms (among_front (flat_map (variables_at [] ms) (claim_at claims (place own q)).variables) (all_variables_of (at_places claims place) ds) vs w) h.0,
+    all_cited_among declared vs claims place ds (among_behind (flat_map (variables_at [] ms) (claim_at claims (place own q)).variables) (all_variables_of (at_places claims place) ds) vs w) h.1,
   )
 
-  all_cited_among : (declared : List Token) (vs : List Variable) (claims : List Claim) (place : List Pattern → Pattern → ℕ) (ds : Derivations) → Among (all_variables_of claims place ds) vs → AllCited (citable (over_names declared) claims place) ds → AllCited (citable (open_over declared vs) claims place) ds
+  all_cited_among : (declared : List Token) (vs : List Variable) (claims : List Claim) (place : List Pattern → Pattern → ℕ) (ds : Derivations) → Among (all_variables_of (at_places claims place) ds) vs → AllCited (citable (over_names declared) claims place) ds → AllCited (citable (open_over declared vs) claims place) ds
   all_cited_among declared vs claims place no_derivation w h = tt
-  all_cited_among declared vs claims place (more_derivations d ds) w h = (cited_among declared vs claims place d (among_front (variables_of claims place d) (all_variables_of claims place ds) vs w) h.0, all_cited_among declared vs claims place ds (among_behind (variables_of claims place d) (all_variables_of claims place ds) vs w) h.1)
+  all_cited_among declared vs claims place (more_derivations d ds) w h = (cited_among declared vs claims place d (among_front (variables_of (at_places claims place) d) (all_variables_of (at_places claims place) ds) vs w) h.0, all_cited_among declared vs claims place ds (among_behind (variables_of (at_places claims place) d) (all_variables_of (at_places claims place) ds) vs w) h.1)
 
 -- Others behind some variables, each once.
 
@@ -139,8 +139,8 @@ all_there vs (u ∷ us) once numbered others =
 
 pub needed_are_enough : NeededAreEnough
 needed_are_enough declared claims s d place premise_place is numbered concludes used cites premises =
-    let vs : List Variable = s.variables ++ other_variables s.variables (variables_of claims place d) in
-    let w : HasThem (variables_of claims place d) vs = all_there s.variables (variables_of claims place d) is.once is.numbered numbered in
+    let vs : List Variable = s.variables ++ other_variables s.variables (variables_of (at_places claims place) d) in
+    let w : HasThem (variables_of (at_places claims place) d) vs = all_there s.variables (variables_of (at_places claims place) d) is.once is.numbered numbered in
     record {
       once = w.once;
       numbered = w.numbered;

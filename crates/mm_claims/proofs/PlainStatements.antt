@@ -26,7 +26,7 @@ use Rattle.mm_claims.specs.Statements.{typecode_of, axiom_statement, theorem_sta
 use Rattle.mm_claims.specs.Fitting.{AreNames, Holds}
 use Rattle.mm_claims.specs.Blocks.{Claim, IsClaim, open_frame, open_assertion}
 use Rattle.mm_claims.specs.OverNames.{open_over}
-use Rattle.mm_claims.specs.CitedAt.{claims_citing}
+use Rattle.mm_claims.specs.CitedAt.{at_places, claims_citing}
 use Rattle.mm_claims.specs.Citable.{citable}
 use Rattle.mm_claims.specs.Claiming.{HoldsClaims}
 use Rattle.mm_claims.specs.Provable.{IsProvable}
@@ -149,9 +149,9 @@ no_premise : (k : ℕ) (p : Pattern) → slice_get [] k ≡ Some p → ⊥
 no_premise k p h = cc
 
 plain_proves : (declared : List Token) (claims : List Claim) (c : Context) (p : Pattern) (d : Derivation) (place : List Pattern → Pattern → ℕ) (premise_place : Pattern → ℕ) → HoldsClaims declared claims c → IsProvable declared claims (plain_claim p) [] d place premise_place
-    → Proves c (derivation_tree (own_labels (length claims)) (claims_citing (length claims) claims place premise_place) d) (holds_text (own_naming declared) p)
+    → Proves c (derivation_tree (own_labels (length claims)) (claims_citing (length claims) (at_places claims place) premise_place) d) (holds_text (own_naming declared) p)
 plain_proves declared claims c p d place premise_place w provable =
-    cited_proves c (own_labels (length claims)) (own_naming declared) (open_over declared []) [] (citable (open_over declared []) claims place) (claims_citing (length claims) claims place premise_place)
+    cited_proves c (own_labels (length claims)) (own_naming declared) (open_over declared []) [] (citable (open_over declared []) claims place) (claims_citing (length claims) (at_places claims place) premise_place)
     (serves_plain declared claims c (length claims) w)
     (citing_is_sound c declared (open_over declared []) claims (length claims) [] place premise_place w.names (serves_plain declared claims c (length claims) w)
     (record {
@@ -162,10 +162,10 @@ plain_proves declared claims c p d place premise_place w provable =
     provable.premises) d p provable.concludes provable.used provable.cites
 
 pub plain_theorem_adds : (declared : List Token) (claims : List Claim) (c : Context) (at : ℕ) (p : Pattern) (d : Derivation) (place : List Pattern → Pattern → ℕ) (premise_place : Pattern → ℕ) → HoldsClaims declared claims c → length claims < 2 ^ 64 → IsClaim declared (plain_claim p) → IsProvable declared claims (plain_claim p) [] d place premise_place
-    → AddsJust c at (theorem_statement declared (length claims) p (derivation_tree (own_labels (length claims)) (claims_citing (length claims) claims place premise_place) d) ∷ []) (behind_block declared (length claims) c (plain_claim p) []) (open_assertion true declared (length claims) (plain_claim p)) []
+    → AddsJust c at (theorem_statement declared (length claims) p (derivation_tree (own_labels (length claims)) (claims_citing (length claims) (at_places claims place) premise_place) d) ∷ []) (behind_block declared (length claims) c (plain_claim p) []) (open_assertion true declared (length claims) (plain_claim p)) []
 plain_theorem_adds declared claims c at p d place premise_place w few claim provable =
-    let tree : ProofTree = derivation_tree (own_labels (length claims)) (claims_citing (length claims) claims place premise_place) d in
-    let proof : Proves c (derivation_tree (own_labels (length claims)) (claims_citing (length claims) claims place premise_place) d) (holds_text (own_naming declared) p) = plain_proves declared claims c p d place premise_place w provable in
-    plain_adds declared (length claims) c at p true (theorem_statement declared (length claims) p (derivation_tree (own_labels (length claims)) (claims_citing (length claims) claims place premise_place) d)) w.base w.names claim
+    let tree : ProofTree = derivation_tree (own_labels (length claims)) (claims_citing (length claims) (at_places claims place) premise_place) d in
+    let proof : Proves c (derivation_tree (own_labels (length claims)) (claims_citing (length claims) (at_places claims place) premise_place) d) (holds_text (own_naming declared) p) = plain_proves declared claims c p d place premise_place w provable in
+    plain_adds declared (length claims) c at p true (theorem_statement declared (length claims) p (derivation_tree (own_labels (length claims)) (claims_citing (length claims) (at_places claims place) premise_place) d)) w.base w.names claim
     (theorem_asserts declared (length claims) c p tree few (open_symbols declared [] p w.names tt claim.over.0) (plain_may_be_stated declared claims c p w few claim)
     (postorder_spelt c tree (holds_text (own_naming declared) p) (header_active_spelt c w.base.scope) w.spelt proof) proof)

@@ -23,6 +23,11 @@ pub record Claim : Type 0 where
   pub hypotheses : List Pattern
   pub conclusion : Pattern
 
+-- a claim that was stated, with the number of its label
+pub record Stated : Type 0 where
+  pub number : ℕ
+  pub claim : Claim
+
 -- A claim over declared names: its variables are just those that stand in it, each once.
 pub record IsClaim (declared : List Token) (s : Claim) : Type 0 where
   pub once : are_once s.variables ≡ true

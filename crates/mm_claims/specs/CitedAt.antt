@@ -10,27 +10,32 @@ use Rattle.ml_pat.specs.Leaves.{LeafFacts, EachLeaf}
 use Rattle.mm_proof.specs.Trees.{cite, syntax_tree}
 use Rattle.mm_proof.specs.Derivations.{Citing}
 use Rattle.mm_claims.specs.Variables.{Variable, object_variable, pattern_variable}
-use Rattle.mm_claims.specs.Blocks.{Claim}
+use Rattle.mm_claims.specs.Blocks.{Claim, Stated}
 
--- Claims are cited by the labels of their places: over the proofs of what stands for their variables, in the order of these,
--- and of their hypotheses. An object variable becomes its new one, and a pattern variable its instance.
+-- Claims are cited by their labels: over the proofs of what stands for their variables, in the order of these, and of
+-- their hypotheses. An object variable becomes its new one, and a pattern variable its instance.
 abbrev pub variable_tree : Naming → List ℕ → List Pattern → Variable → ProofTree
 variable_tree l new ms (object_variable i) = cite (l.object (by_place new i)) []
 variable_tree l new ms (pattern_variable i) = syntax_tree l (instance ms (meta i))
 
+abbrev pub claim_tree : Naming → Stated → List ℕ → List Pattern → List ProofTree → ProofTree
+claim_tree l s new ms trees = cite (statement_label s.number) (map (variable_tree l new ms) s.claim.variables ++ trees)
+
+-- in the block with a number, where claims are found by hypotheses and conclusion, and the block's hypotheses have
+-- their places
+abbrev pub claims_citing : ℕ → (List Pattern → Pattern → Stated) → (Pattern → ℕ) → Citing
+claims_citing k find premise_place = record {
+  premise = λ p. cite (premise_label k (premise_place p)) [];
+  fact = λ p new. claim_tree (own_labels k) (find [] p) new [] [];
+  lemma = λ own q ms trees. claim_tree (own_labels k) (find own q) [] ms trees;
+}
+
+-- where the claims of a text, of which each has the number of its place, are found at some places
 abbrev pub claim_at : List Claim → ℕ → Claim
 claim_at claims k = slice_index_or claims k (record { variables = []; hypotheses = []; conclusion = bot })
 
-abbrev pub claim_tree : Naming → List Claim → ℕ → List ℕ → List Pattern → List ProofTree → ProofTree
-claim_tree l claims k new ms trees = cite (statement_label k) (map (variable_tree l new ms) (claim_at claims k).variables ++ trees)
-
--- in the block with a number, where claims have their places by hypotheses and conclusion, and the block's hypotheses have theirs
-abbrev pub claims_citing : ℕ → List Claim → (List Pattern → Pattern → ℕ) → (Pattern → ℕ) → Citing
-claims_citing k claims place premise_place = record {
-  premise = λ p. cite (premise_label k (premise_place p)) [];
-  fact = λ p new. claim_tree (own_labels k) claims (place [] p) new [] [];
-  lemma = λ own q ms trees. claim_tree (own_labels k) claims (place own q) [] ms trees;
-}
+abbrev pub at_places : List Claim → (List Pattern → Pattern → ℕ) → List Pattern → Pattern → Stated
+at_places claims place own q = record { number = place own q; claim = claim_at claims (place own q) }
 
 -- each leaf of what stands for the variable has its fact
 abbrev pub HasInstance : LeafFacts → List ℕ → List Pattern → Variable → Type 0

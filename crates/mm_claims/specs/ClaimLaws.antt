@@ -11,7 +11,7 @@ use Rattle.mm_claims.specs.OverNames.{AreOverNames, over_names}
 use Rattle.mm_claims.specs.Blocks.{Claim, IsClaim}
 use Rattle.mm_claims.specs.OpenVariables.{other_variables, variables_of}
 use Rattle.mm_claims.specs.ClaimVariables.{claim_variables, claim_of}
-use Rattle.mm_claims.specs.CitedAt.{ArePremises}
+use Rattle.mm_claims.specs.CitedAt.{ArePremises, at_places}
 use Rattle.mm_claims.specs.Citable.{citable}
 use Rattle.mm_claims.specs.Provable.{IsProvable}
 
@@ -26,6 +26,6 @@ OverNamesIsClaim =
 abbrev pub NeededAreEnough : Type 0
 NeededAreEnough =
     (declared : List Token) (claims : List Claim) (s : Claim) (d : Derivation) (place : List Pattern → Pattern → ℕ) (premise_place : Pattern → ℕ) →
-    IsClaim declared s → AreNumbered (variables_of claims place d) → Concludes s.hypotheses d s.conclusion →
+    IsClaim declared s → AreNumbered (variables_of (at_places claims place) d) → Concludes s.hypotheses d s.conclusion →
     EachUsed (over_names declared) d → EachCited (citable (over_names declared) claims place) d → ArePremises s.hypotheses premise_place →
-    IsProvable declared claims s (other_variables s.variables (variables_of claims place d)) d place premise_place
+    IsProvable declared claims s (other_variables s.variables (variables_of (at_places claims place) d)) d place premise_place

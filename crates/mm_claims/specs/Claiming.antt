@@ -12,7 +12,7 @@ use Rattle.mm_proof.specs.Labels.{statement_label, premise_label, own_labels}
 use Rattle.mm_proof.specs.Derivations.{derivation_tree}
 use Rattle.mm_claims.specs.Fitting.{AreNames, Holds}
 use Rattle.mm_claims.specs.Variables.{Variable, number_of, variable_token, variable_label}
-use Rattle.mm_claims.specs.Blocks.{Claim, IsClaim, variable_float, open_frame, theorem_statements}
+use Rattle.mm_claims.specs.Blocks.{Claim, Stated, IsClaim, variable_float, open_frame, theorem_statements}
 use Rattle.mm_claims.specs.CitedAt.{claims_citing}
 use Rattle.mm_database.specs.Leaving.{Leaves}
 
@@ -44,10 +44,10 @@ pub record HoldsClaims (declared : List Token) (claims : List Claim) (c : Contex
 abbrev pub FitsClaims : List Token → List Claim → List ℕ → Type 0
 FitsClaims declared claims bytes = (c : Context) × Leaves bytes c × HoldsClaims declared claims c
 
--- what is written of a theorem by a derivation, where what it cites stands at these places
-abbrev pub proved_statements : List Token → ℕ → List Claim → (List Pattern → Pattern → ℕ) → (Pattern → ℕ) → Claim → List Variable → Derivation → List (List Token)
-proved_statements declared k claims place premise_place s more d =
-    theorem_statements declared k s more (derivation_tree (own_labels k) (claims_citing k claims place premise_place) d)
+-- what is written of a theorem by a derivation, where what it cites is found so
+abbrev pub proved_statements : List Token → ℕ → (List Pattern → Pattern → Stated) → (Pattern → ℕ) → Claim → List Variable → Derivation → List (List Token)
+proved_statements declared k find premise_place s more d =
+    theorem_statements declared k s more (derivation_tree (own_labels k) (claims_citing k find premise_place) d)
 
 -- What a text has gained with a statement behind it: just this assertion, and the typings of these variables in its
 -- block.

@@ -1,22 +1,34 @@
 -- Which texts fit what a renderer keeps.
-use Rattle.std.specs.Prelude.{◌≡◌, ℕ, Bool, true, false, IsTrue, List, [], ◌∷◌, ◌++◌, length, take, slice_index_or}
+use Rattle.std.specs.Prelude.{◌≡◌, ℕ, ◌+◌, Bool, true, false, IsTrue, List, [], ◌∷◌, ◌++◌, length, take, Contains, slice_get, slice_index_or, Some}
 use Rattle.mm_text.specs.Bytes.{Token}
 use Rattle.mm_database.specs.Assertions.{Assertion}
 use Rattle.ml_pat.specs.Patterns.{Pattern, bot}
-use Rattle.mm_claims.specs.Kept.{Kept}
+use Rattle.mm_claims.specs.Kept.{Kept, all_stated}
 use Rattle.mm_claims.specs.OverNames.{AreOverNames}
 use Rattle.mm_claims.specs.Variables.{Variable}
-use Rattle.mm_claims.specs.Blocks.{Claim}
+use Rattle.mm_claims.specs.Blocks.{Claim, Stated}
 use Rattle.mm_claims.specs.Claiming.{FitsClaims, HasJust}
 
--- A text fits: it is valid, ends with white space and has no open block; it is empty where nothing is kept, and else it has
--- declared the header, the names that are kept, which are the first of these, and the claims that are kept.
-abbrev pub FitsWhen : Bool → List Token → List Claim → List ℕ → Type 0
-FitsWhen false declared stated bytes = bytes ≡ []
-FitsWhen true declared stated bytes = FitsClaims declared stated bytes
+-- claims with their numbers are among those of a text, each at the place of its number
+abbrev pub AreAmong : List Claim → List Stated → Type 0
+AreAmong claims kept = (s : Stated) → Contains kept s → slice_get claims s.number ≡ Some s.claim
+
+-- a text has declared names and so many claims, among them these
+pub record FitsStated (declared : List Token) (count : ℕ) (kept : List Stated) (bytes : List ℕ) : Type 0 where
+  pub claims : List Claim
+  pub fits : FitsClaims declared claims bytes
+  pub counted : length claims ≡ count
+  pub among : AreAmong claims kept
+
+-- A text fits: it is valid, ends with white space and has no open block; it is empty where nothing is kept, and else it
+-- has declared the header, the names that are kept, which are the first of these, and as many claims as were counted,
+-- among them those that are kept.
+abbrev pub FitsWhen : Bool → List Token → ℕ → List Stated → List ℕ → Type 0
+FitsWhen false declared count kept bytes = bytes ≡ []
+FitsWhen true declared count kept bytes = FitsStated declared count kept bytes
 
 abbrev pub Fits : List Token → Kept → List ℕ → Type 0
-Fits names k bytes = FitsWhen k.begun (take k.named names) k.stated bytes
+Fits names k bytes = FitsWhen k.begun (take k.named names) k.count (all_stated k) bytes
 
 -- each text that fits what was kept fits, with what was appended, what is kept now
 abbrev pub AppendsFittingNames : List Token → Kept → Kept → List ℕ → Type 0
@@ -28,16 +40,20 @@ AppendsFitting old new appended = (names : List Token) → AppendsFittingNames n
 -- and it has gained just this assertion, and the typings of these variables
 pub record Gains (names : List Token) (old new : Kept) (appended : List ℕ) (vs : List Variable) (a : Assertion) : Type 0 where
   pub fits : AppendsFittingNames names old new appended
-  pub just : (bytes : List ℕ) → Fits names old bytes → HasJust bytes appended (length old.stated) vs a
+  pub just : (bytes : List ℕ) → Fits names old bytes → HasJust bytes appended old.count vs a
 
 -- what may be stated: the header was written, and the pattern is over the names that were declared
 pub record MayState (names : List Token) (k : Kept) (p : Pattern) : Type 0 where
   pub begun : IsTrue k.begun
   pub over : AreOverNames (take k.named names) (p ∷ [])
 
--- what is kept with one claim more
+-- what is kept with one claim more, under the next number
 abbrev pub with_stated : Kept → Claim → Kept
-with_stated k s = record k { stated = k.stated ++ s ∷ [] }
+with_stated k s = record k { count = k.count + 1; stated = k.stated ++ record { number = k.count; claim = s } ∷ [] }
+
+-- .. in the place of the last of a run
+abbrev pub with_last : Kept → Claim → Kept
+with_last k s = record k { count = k.count + 1; last = record { number = k.count; claim = s } ∷ [] }
 
 -- the axiom of a theory with a number
 abbrev pub axiom_at : List Pattern → ℕ → Pattern

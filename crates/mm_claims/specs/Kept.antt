@@ -1,17 +1,23 @@
 -- What a renderer keeps of what it wrote.
-use Rattle.std.specs.Prelude.{ℕ, Bool, true, false, List, []}
-use Rattle.mm_claims.specs.Blocks.{Claim}
+use Rattle.std.specs.Prelude.{ℕ, Bool, true, false, List, [], ◌++◌}
+use Rattle.mm_claims.specs.Blocks.{Stated}
 
--- whether the header was written, how many names were declared: those with the first numbers, and which claims were
--- stated
+-- Whether the header was written, how many names were declared: those with the first numbers, how many claims were
+-- stated, those of them that may always be cited, and the last of a run, which may be cited until the next.
 pub record Kept : Type 0 where
   pub begun : Bool
   pub named : ℕ
-  pub stated : List Claim
+  pub count : ℕ
+  pub stated : List Stated
+  pub last : List Stated
+
+-- what may be cited
+abbrev pub all_stated : Kept → List Stated
+all_stated k = k.stated ++ k.last
 
 abbrev pub nothing_kept : Kept
-nothing_kept = record { begun = false; named = 0; stated = [] }
+nothing_kept = record { begun = false; named = 0; count = 0; stated = []; last = [] }
 
 -- the header alone is there
 abbrev pub header_kept : Kept
-header_kept = record { begun = true; named = 0; stated = [] }
+header_kept = record { begun = true; named = 0; count = 0; stated = []; last = [] }

@@ -1,11 +1,11 @@
 -- What stays true when names and statements are added.
-use Rattle.std.specs.Prelude.{◌≡◌, ℕ, ◌≤◌, List, [], ◌∷◌, ◌++◌, length, take}
+use Rattle.std.specs.Prelude.{◌≡◌, ℕ, ◌≤◌, List, [], ◌∷◌, ◌++◌, length, take, Contains}
 use Rattle.mm_text.specs.Bytes.{Token}
 use Rattle.ml_pat.specs.Patterns.{Pattern}
 use Rattle.ml_pat.specs.Leaves.{EachLeaf}
 use Rattle.mm_claims.specs.Kept.{Kept}
 use Rattle.mm_claims.specs.OverNames.{closed_over}
-use Rattle.mm_claims.specs.Blocks.{Claim}
+use Rattle.mm_claims.specs.Blocks.{Stated}
 use Rattle.mm_claims.specs.Keeping.{Fits}
 use Rattle.mm_claims.specs.Places.{IsStated}
 
@@ -21,10 +21,12 @@ AllDeclared = (names : List Token) (k : Kept) → k.named ≡ length names → t
 abbrev pub ClosedStays : Type 0
 ClosedStays = (names more : List Token) (p : Pattern) → EachLeaf (closed_over names) p → EachLeaf (closed_over (names ++ more)) p
 
--- what was stated last was stated, and what was stated before still is
+-- what was stated last was stated, and what was stated before still is where its claims are among others
 abbrev pub LastIsStated : Type 0
-LastIsStated = (stated : List Claim) (s : Claim) → IsStated (stated ++ s ∷ []) s.hypotheses s.conclusion
+LastIsStated = (stated : List Stated) (s : Stated) → IsStated (stated ++ s ∷ []) s.claim.hypotheses s.claim.conclusion
 
 abbrev pub StatedStays : Type 0
 StatedStays =
-    (stated more : List Claim) (hypotheses : List Pattern) (conclusion : Pattern) → IsStated stated hypotheses conclusion → IsStated (stated ++ more) hypotheses conclusion
+    (stated others : List Stated) (hypotheses : List Pattern) (conclusion : Pattern) →
+    ((s : Stated) → Contains stated s → Contains others s) → IsStated stated hypotheses conclusion →
+    IsStated others hypotheses conclusion

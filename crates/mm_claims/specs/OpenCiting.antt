@@ -21,7 +21,7 @@ use Rattle.mm_proof.specs.RenderLaws.{IsWritten}
 use Rattle.ml_kernel.specs.MayCite.{EachCited}
 use Rattle.mm_claims.specs.Fitting.{AreNames}
 use Rattle.mm_claims.specs.Blocks.{Claim, IsClaim, open_frame}
-use Rattle.mm_claims.specs.CitedAt.{variable_tree, claims_citing, HaveInstances, ArePremises}
+use Rattle.mm_claims.specs.CitedAt.{variable_tree, at_places, claims_citing, HaveInstances, ArePremises}
 use Rattle.mm_claims.specs.Citable.{citable}
 
 -- Where a proof stands in the block with a number, the claims can be cited, each under the label of its place, and the hypotheses
@@ -46,7 +46,7 @@ abbrev pub CitingIsSound : Type 0
 CitingIsSound =
     (c : Context) (declared : List Token) (known : Known) (claims : List Claim) (k : ℕ) (hypotheses : List Pattern) (place : List Pattern → Pattern → ℕ) (premise_place : Pattern → ℕ) →
     AreNames declared → Serves c (own_labels k) (own_naming declared) (are_known known) → ServesClaims c declared claims k hypotheses → ArePremises hypotheses premise_place →
-    CitesSoundly c (own_naming declared) hypotheses (citable (are_known known) claims place) (claims_citing k claims place premise_place)
+    CitesSoundly c (own_naming declared) hypotheses (citable (are_known known) claims place) (claims_citing k (at_places claims place) premise_place)
 
 -- and a derivation that cites them is written as a proof of what it concludes
 abbrev pub CitingDerivationsAreProved : Type 0
@@ -54,4 +54,4 @@ CitingDerivationsAreProved =
     (c : Context) (declared : List Token) (known : Known) (claims : List Claim) (k : ℕ) (hypotheses : List Pattern) (place : List Pattern → Pattern → ℕ) (premise_place : Pattern → ℕ) (d : Derivation) (q : Pattern) →
     AreNames declared → Serves c (own_labels k) (own_naming declared) (are_known known) → ServesClaims c declared claims k hypotheses → ArePremises hypotheses premise_place →
     Concludes hypotheses d q → EachUsed (are_known known) d → EachCited (citable (are_known known) claims place) d →
-    IsWritten c (own_naming declared) (derivation_tree (own_labels k) (claims_citing k claims place premise_place) d) (holds q)
+    IsWritten c (own_naming declared) (derivation_tree (own_labels k) (claims_citing k (at_places claims place) premise_place) d) (holds q)

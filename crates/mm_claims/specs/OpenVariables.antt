@@ -7,8 +7,7 @@ use Rattle.ml_kernel.specs.Renamings.{by_place}
 use Rattle.ml_kernel.specs.Rules.{Instance, pattern, variable, sort}
 use Rattle.ml_kernel.specs.Theorems.{Derivation, Derivations, hypothesis, own_axiom, by_rule, cited, no_derivation, more_derivations}
 use Rattle.mm_claims.specs.Variables.{Variable, object_variable, pattern_variable, has_variable}
-use Rattle.mm_claims.specs.Blocks.{Claim}
-use Rattle.mm_claims.specs.CitedAt.{claim_at}
+use Rattle.mm_claims.specs.Blocks.{Stated}
 
 -- the variables that stand in a pattern, bound or free, one behind the other
 abbrev pub variables_in : Pattern → List Variable
@@ -41,17 +40,18 @@ abbrev pub variables_at : List ℕ → List Pattern → Variable → List Variab
 variables_at new ms (object_variable i) = object_variable (by_place new i) ∷ []
 variables_at new ms (pattern_variable i) = variables_in (instance ms (meta i))
 
--- in what is written of a derivation, where the claims that it cites have their places: one behind the other
+-- in what is written of a derivation, where the claims that it cites are found so: one behind the other
 abbrev mutual
-  pub variables_of : List Claim → (List Pattern → Pattern → ℕ) → Derivation → List Variable
-  variables_of claims place (hypothesis p) = []
-  variables_of claims place (own_axiom n p new) = flat_map (variables_at new []) (claim_at claims (place [] p)).variables
-  variables_of claims place (by_rule r is ds) = flat_map variables_for is ++ all_variables_of claims place ds
-  variables_of claims place (cited own q d ms ds) = flat_map (variables_at [] ms) (claim_at claims (place own q)).variables ++ all_variables_of claims place ds
+  pub variables_of : (List Pattern → Pattern → Stated) → Derivation → List Variable
+  variables_of find (hypothesis p) = []
+  variables_of find (own_axiom n p new) = flat_map (variables_at new []) (find [] p).claim.variables
+  variables_of find (by_rule r is ds) = flat_map variables_for is ++ all_variables_of find ds
+  variables_of find (cited own q d ms ds) =
+      flat_map (variables_at [] ms) (find own q).claim.variables ++ all_variables_of find ds
 
-  pub all_variables_of : List Claim → (List Pattern → Pattern → ℕ) → Derivations → List Variable
-  all_variables_of claims place no_derivation = []
-  all_variables_of claims place (more_derivations d ds) = variables_of claims place d ++ all_variables_of claims place ds
+  pub all_variables_of : (List Pattern → Pattern → Stated) → Derivations → List Variable
+  all_variables_of find no_derivation = []
+  all_variables_of find (more_derivations d ds) = variables_of find d ++ all_variables_of find ds
 
 -- those of some variables that are none of others, each once, in the order in which they first stand
 abbrev pub other_variables : List Variable → List Variable → List Variable

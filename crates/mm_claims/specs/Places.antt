@@ -1,14 +1,14 @@
--- Where a statement stands among those that were stated, and what may be proved by these.
-use Rattle.std.specs.Prelude.{◌≡◌, ℕ, true, IsTrue, List, [], ◌∷◌, ◌++◌, length, take, slice_get, Some}
+-- How a claim is found among those that were stated, and what may be proved by these.
+use Rattle.std.specs.Prelude.{◌≡◌, ℕ, true, IsTrue, List, [], ◌∷◌, ◌++◌, take, Contains}
 use Rattle.mm_text.specs.Bytes.{Token}
 use Rattle.ml_pat.specs.Patterns.{Pattern}
 use Rattle.ml_kernel.specs.Theorems.{Theorem}
 use Rattle.ml_kernel.specs.UsedLeaves.{EachUsed}
 use Rattle.ml_kernel.specs.MayCite.{MayCite, EachCited}
-use Rattle.mm_claims.specs.Kept.{Kept}
+use Rattle.mm_claims.specs.Kept.{Kept, all_stated}
 use Rattle.mm_claims.specs.OverNames.{over_names, AreOverNames}
 use Rattle.mm_claims.specs.Variables.{Variable}
-use Rattle.mm_claims.specs.Blocks.{Claim, open_assertion}
+use Rattle.mm_claims.specs.Blocks.{Stated, open_assertion}
 use Rattle.mm_claims.specs.CitedAt.{ArePremises}
 use Rattle.mm_claims.specs.Claiming.{proved_statements}
 use Rattle.mm_claims.specs.OpenVariables.{variables_of, other_variables}
@@ -16,18 +16,17 @@ use Rattle.mm_claims.specs.ClaimVariables.{claim_of, claim_variables}
 use Rattle.mm_claims.specs.Keeping.{Gains}
 use Rattle.mm_database.specs.StatementTexts.{written_statements}
 
--- a claim of this conclusion under these hypotheses stands at a place
-pub record StandsAt (claims : List Claim) (hypotheses : List Pattern) (conclusion : Pattern) (k : ℕ) : Type 0 where
-  pub claim : Claim
-  pub there : slice_get claims k ≡ Some claim
-  pub hypotheses_are : claim.hypotheses ≡ hypotheses
-  pub conclusion_is : claim.conclusion ≡ conclusion
+-- among some claims is this one, of this conclusion under these hypotheses
+pub record IsFoundAs (claims : List Stated) (hypotheses : List Pattern) (conclusion : Pattern) (s : Stated) : Type 0 where
+  pub there : Contains claims s
+  pub hypotheses_are : s.claim.hypotheses ≡ hypotheses
+  pub conclusion_is : s.claim.conclusion ≡ conclusion
 
-abbrev pub IsStated : List Claim → List Pattern → Pattern → Type 0
-IsStated claims hypotheses conclusion = (k : ℕ) × StandsAt claims hypotheses conclusion k
+abbrev pub IsStated : List Stated → List Pattern → Pattern → Type 0
+IsStated claims hypotheses conclusion = (s : Stated) × IsFoundAs claims hypotheses conclusion s
 
 -- What was stated may be cited, lemmas at patterns over declared names.
-abbrev pub stated_cites : List Token → List Claim → MayCite
+abbrev pub stated_cites : List Token → List Stated → MayCite
 stated_cites declared claims = record {
   fact = λ p new. IsStated claims [] p;
   lemma = λ own q ms. IsStated claims own q × AreOverNames declared ms;
@@ -39,30 +38,32 @@ pub record MayProve (names : List Token) (k : Kept) (t : Theorem) : Type 0 where
   pub begun : IsTrue k.begun
   pub over : AreOverNames (take k.named names) (t.conclusion ∷ t.hypotheses)
   pub used : EachUsed (over_names (take k.named names)) t.derivation
-  pub cites : EachCited (stated_cites (take k.named names) k.stated) t.derivation
+  pub cites : EachCited (stated_cites (take k.named names) (all_stated k)) t.derivation
 
--- each claim that was stated stands at its place
-abbrev pub Places : List Claim → (List Pattern → Pattern → ℕ) → Type 0
-Places claims place =
-    (hypotheses : List Pattern) (conclusion : Pattern) → IsStated claims hypotheses conclusion → StandsAt claims hypotheses conclusion (place hypotheses conclusion)
+-- each claim that was stated is found
+abbrev pub Finds : List Stated → (List Pattern → Pattern → Stated) → Type 0
+Finds claims find =
+    (hypotheses : List Pattern) (conclusion : Pattern) → IsStated claims hypotheses conclusion →
+    IsFoundAs claims hypotheses conclusion (find hypotheses conclusion)
 
 -- The variables that the proof of a lemma has in its block besides those of the lemma.
-abbrev pub more_variables : List Claim → (List Pattern → Pattern → ℕ) → Theorem → List Variable
-more_variables claims place t = other_variables (claim_variables t.hypotheses t.conclusion) (variables_of claims place t.derivation)
+abbrev pub more_variables : (List Pattern → Pattern → Stated) → Theorem → List Variable
+more_variables find t = other_variables (claim_variables t.hypotheses t.conclusion) (variables_of find t.derivation)
 
--- a lemma as the theorem with a number, where what it cites stands at these places
-abbrev pub lemma_statements : List Token → ℕ → List Claim → (List Pattern → Pattern → ℕ) → (Pattern → ℕ) → Theorem → List (List Token)
-lemma_statements names k claims place premise_place t =
-    proved_statements names k claims place premise_place (claim_of t.hypotheses t.conclusion) (more_variables claims place t) t.derivation
+-- a lemma as the theorem with a number, where what it cites is found so
+abbrev pub lemma_statements : List Token → ℕ → (List Pattern → Pattern → Stated) → (Pattern → ℕ) → Theorem → List (List Token)
+lemma_statements names k find premise_place t =
+    proved_statements names k find premise_place (claim_of t.hypotheses t.conclusion) (more_variables find t) t.derivation
 
--- A lemma was stated: its statements were appended, where each citation has the label of a place at which the claim, or the
--- hypothesis, stands; and where it may be proved, just this theorem is gained.
+-- A lemma was stated: its statements were appended, where each citation has the label of the claim, or of the place of
+-- the hypothesis; and where it may be proved, just this theorem is gained.
 pub record StatesLemma (names : List Token) (old new : Kept) (t : Theorem) (text text' : List ℕ) : Type 0 where
-  pub place : List Pattern → Pattern → ℕ
+  pub find : List Pattern → Pattern → Stated
   pub premise_place : Pattern → ℕ
-  pub places : Places old.stated place
+  pub finds : Finds (all_stated old) find
   pub premises : ArePremises t.hypotheses premise_place
-  pub appended : text' ≡ text ++ written_statements (lemma_statements names (length old.stated) old.stated place premise_place t)
+  pub appended : text' ≡ text ++ written_statements (lemma_statements names old.count find premise_place t)
   pub gains : MayProve names old t →
-      Gains names old new (written_statements (lemma_statements names (length old.stated) old.stated place premise_place t)) (claim_variables t.hypotheses t.conclusion ++ more_variables old.stated place t)
-      (open_assertion true (take old.named names) (length old.stated) (claim_of t.hypotheses t.conclusion))
+      Gains names old new (written_statements (lemma_statements names old.count find premise_place t))
+      (claim_variables t.hypotheses t.conclusion ++ more_variables find t)
+      (open_assertion true (take old.named names) old.count (claim_of t.hypotheses t.conclusion))

@@ -10,6 +10,7 @@ use Rattle.mm_claims.specs.Statements.{all_name_statements}
 use Rattle.mm_claims.specs.Fitting.{AreNames}
 use Rattle.mm_claims.specs.Variables.{Variable}
 use Rattle.mm_claims.specs.Blocks.{Claim, IsClaim, open_assertion, axiom_statements}
+use Rattle.mm_claims.specs.CitedAt.{at_places}
 use Rattle.mm_claims.specs.Claiming.{FitsClaims, proved_statements, HasJust}
 use Rattle.mm_claims.specs.Provable.{IsProvable}
 use Rattle.mm_database.specs.StatementTexts.{written_statements}
@@ -41,7 +42,7 @@ abbrev pub TheoremFits : Type 0
 TheoremFits =
     (declared : List Token) (claims : List Claim) (bytes : List ℕ) (s : Claim) (more : List Variable) (d : Derivation) (place : List Pattern → Pattern → ℕ) (premise_place : Pattern → ℕ) →
     FitsClaims declared claims bytes → length claims < 2 ^ 64 → IsClaim declared s → IsProvable declared claims s more d place premise_place →
-    FitsClaims declared (claims ++ s ∷ []) (bytes ++ written_statements (proved_statements declared (length claims) claims place premise_place s more d))
+    FitsClaims declared (claims ++ s ∷ []) (bytes ++ written_statements (proved_statements declared (length claims) (at_places claims place) premise_place s more d))
 
 abbrev pub AxiomIsGained : Type 0
 AxiomIsGained =
@@ -53,4 +54,4 @@ abbrev pub TheoremIsGained : Type 0
 TheoremIsGained =
     (declared : List Token) (claims : List Claim) (bytes : List ℕ) (s : Claim) (more : List Variable) (d : Derivation) (place : List Pattern → Pattern → ℕ) (premise_place : Pattern → ℕ) →
     FitsClaims declared claims bytes → length claims < 2 ^ 64 → IsClaim declared s → IsProvable declared claims s more d place premise_place →
-    HasJust bytes (written_statements (proved_statements declared (length claims) claims place premise_place s more d)) (length claims) (s.variables ++ more) (open_assertion true declared (length claims) s)
+    HasJust bytes (written_statements (proved_statements declared (length claims) (at_places claims place) premise_place s more d)) (length claims) (s.variables ++ more) (open_assertion true declared (length claims) s)

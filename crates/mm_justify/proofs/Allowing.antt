@@ -15,7 +15,7 @@ use Rattle.rule_core.specs.Theories.{RewriteTheory}
 use Rattle.ml_pat.specs.Leaves.{EachLeaf}
 use Rattle.mm_proof.specs.Tokens.{own_naming}
 use Rattle.mm_proof.specs.Derivations.{holds_text}
-use Rattle.mm_claims.specs.Kept.{Kept}
+use Rattle.mm_claims.specs.Kept.{Kept, all_stated}
 use Rattle.mm_claims.specs.OverNames.{closed_over}
 use Rattle.mm_claims.specs.Variables.{Variable, object_variable, pattern_variable, variable_token, variable_type}
 use Rattle.mm_claims.specs.Blocks.{Claim, variable_float, open_frame, open_assertion}
@@ -81,13 +81,13 @@ claim_says_no_more names k p =
 pub axiom_has_only : AxiomHasOnly
 axiom_has_only theory names old new s p bytes appended assumed image gains fits only =
     let declared : List Token = take old.named names in
-    has_only_just theory bytes appended (length old.stated) (claim_variables [] p) (open_assertion false declared (length old.stated) (claim_of [] p)) only
-    (λ is. assumption_of declared s p assumed image (claim_says_no_more declared (length old.stated) p), tt) (gains.just bytes fits)
+    has_only_just theory bytes appended old.count (claim_variables [] p) (open_assertion false declared old.count (claim_of [] p)) only
+    (λ is. assumption_of declared s p assumed image (claim_says_no_more declared old.count p), tt) (gains.just bytes fits)
 
-theorem_behind : (theory : RewriteTheory) (names : List Token) (old new : Kept) (s : Claim) (vs : List Variable) (text appended : List ℕ) → Gains names old new appended vs (open_assertion true (take old.named names) (length old.stated) s)
+theorem_behind : (theory : RewriteTheory) (names : List Token) (old new : Kept) (s : Claim) (vs : List Variable) (text appended : List ℕ) → Gains names old new appended vs (open_assertion true (take old.named names) old.count s)
     → Fits names old text → HasOnlyAxiomsOf theory text → HasOnlyAxiomsOf theory (text ++ appended)
 theorem_behind theory names old new s vs text appended gains fits only =
-    has_only_just theory text appended (length old.stated) vs (open_assertion true (take old.named names) (length old.stated) s) only (λ never. absurd (false≢true (sym never)), tt) (gains.just text fits)
+    has_only_just theory text appended old.count vs (open_assertion true (take old.named names) old.count s) only (λ never. absurd (false≢true (sym never)), tt) (gains.just text fits)
 
 -- what was appended to a buffer
 same_appended : (buffer xs ys : List ℕ) → buffer ++ xs ≡ buffer ++ ys → xs ≡ ys
@@ -95,24 +95,24 @@ same_appended buffer xs ys same = sym (drop-append_seam buffer xs) ∙ ap (drop 
 
 pub theorem_has_only : TheoremHasOnly
 theorem_has_only theory names old new t buffer buffer' text appended states is may fits only =
-    let written : List ℕ = written_statements (lemma_statements names (length old.stated) old.stated states.place states.premise_place t) in
-    let same : written_statements (lemma_statements names (length old.stated) old.stated states.place states.premise_place t) ≡ appended = same_appended buffer written appended (sym states.appended ∙ is) in
+    let written : List ℕ = written_statements (lemma_statements names old.count states.find states.premise_place t) in
+    let same : written_statements (lemma_statements names old.count states.find states.premise_place t) ≡ appended = same_appended buffer written appended (sym states.appended ∙ is) in
     subst (λ (bytes : List ℕ). HasOnlyAxiomsOf theory (text ++ bytes)) same
-    (theorem_behind theory names old new (claim_of t.hypotheses t.conclusion) (claim_variables t.hypotheses t.conclusion ++ more_variables old.stated states.place t) text written (states.gains may) fits only)
+    (theorem_behind theory names old new (claim_of t.hypotheses t.conclusion) (claim_variables t.hypotheses t.conclusion ++ more_variables states.find t) text written (states.gains may) fits only)
 
 pub theorem_fits_anywhere : TheoremFitsAnywhere
 theorem_fits_anywhere names old new t buffer buffer' text appended states is may fits =
-    let written : List ℕ = written_statements (lemma_statements names (length old.stated) old.stated states.place states.premise_place t) in
-    let same : written_statements (lemma_statements names (length old.stated) old.stated states.place states.premise_place t) ≡ appended = same_appended buffer written appended (sym states.appended ∙ is) in
+    let written : List ℕ = written_statements (lemma_statements names old.count states.find states.premise_place t) in
+    let same : written_statements (lemma_statements names old.count states.find states.premise_place t) ≡ appended = same_appended buffer written appended (sym states.appended ∙ is) in
     subst (λ (bytes : List ℕ). Fits names new (text ++ bytes)) same ((states.gains may).fits text fits)
 
 -- what fits is valid
 fits_valid : (names : List Token) (k : Kept) (bytes : List ℕ) → Fits names k bytes → IsValid bytes
 fits_valid names k bytes fits = go k.begun fits
   where
-    go : (b : Bool) → FitsWhen b (take k.named names) k.stated bytes → IsValid bytes
+    go : (b : Bool) → FitsWhen b (take k.named names) k.count (all_stated k) bytes → IsValid bytes
     go false empty = subst IsValid (sym empty) (faultless_valid [] refl)
-    go true fit = claims_are_valid (take k.named names) k.stated bytes fit
+    go true fit = claims_are_valid (take k.named names) fit.claims bytes fit.fits
 
 IsNoneOf-take : (n : ℕ) (t : Token) (ts : List Token) → IsNoneOf t ts → IsNoneOf t (take n ts)
 IsNoneOf-take zero t ts h = tt
@@ -129,15 +129,15 @@ AreNames-take zero ts h = tt
 AreNames-take (suc n) [] h = tt
 AreNames-take (suc n) (t ∷ ts) h = (h.0, AreNames-take n ts h.1)
 
-justifies_behind : (theory : RewriteTheory) (names : List Token) (old new : Kept) (c : Pattern) (vs : List Variable) (text appended : List ℕ) (a b : Pattern) → Gains names old new appended vs (open_assertion true (take old.named names) (length old.stated) (claim_of [] c))
+justifies_behind : (theory : RewriteTheory) (names : List Token) (old new : Kept) (c : Pattern) (vs : List Variable) (text appended : List ℕ) (a b : Pattern) → Gains names old new appended vs (open_assertion true (take old.named names) old.count (claim_of [] c))
     → EachLeaf (closed_over (take old.named names)) (imp a (ev b)) → Fits names old text → HasOnlyAxiomsOf theory text → AreNames names → AreDistinct names → c ≡ imp a (ev b) → Justifies (text ++ appended) theory (take old.named names) a b
 justifies_behind theory names old new c vs text appended a b gains closed fits only tokens distinct concludes = record {
   valid = fits_valid names new (text ++ appended) (gains.fits text fits);
   only = theorem_behind theory names old new (claim_of [] c) vs text appended gains fits only;
   before = assertions_of text;
-  last = open_frame (take old.named names) (length old.stated) (claim_of [] c);
+  last = open_frame (take old.named names) old.count (claim_of [] c);
   assertions = (gains.just text fits).assertions;
-  no_hypotheses = closed_frame_has_none (take old.named names) (length old.stated) c (subst (EachLeaf (closed_over (take old.named names))) (sym concludes) closed);
+  no_hypotheses = closed_frame_has_none (take old.named names) old.count c (subst (EachLeaf (closed_over (take old.named names))) (sym concludes) closed);
   are_names = AreNames-take old.named names tokens;
   distinct = AreDistinct-take old.named names distinct;
   closed = closed;
@@ -146,12 +146,12 @@ justifies_behind theory names old new c vs text appended a b gains closed fits o
 
 pub theorem_justifies : TheoremJustifies
 theorem_justifies theory names old new t buffer buffer' text appended a b states is may fits only tokens distinct none concludes closed =
-    let written : List ℕ = written_statements (lemma_statements names (length old.stated) old.stated states.place states.premise_place t) in
-    let same : written_statements (lemma_statements names (length old.stated) old.stated states.place states.premise_place t) ≡ appended = same_appended buffer written appended (sym states.appended ∙ is) in
-    let vs : List Variable = claim_variables t.hypotheses t.conclusion ++ more_variables old.stated states.place t in
+    let written : List ℕ = written_statements (lemma_statements names old.count states.find states.premise_place t) in
+    let same : written_statements (lemma_statements names old.count states.find states.premise_place t) ≡ appended = same_appended buffer written appended (sym states.appended ∙ is) in
+    let vs : List Variable = claim_variables t.hypotheses t.conclusion ++ more_variables states.find t in
     subst (λ (bytes : List ℕ). Justifies (text ++ bytes) theory (take old.named names) a b) same
     (justifies_behind theory names old new t.conclusion vs text written a b
-    (subst (λ (hs : List Pattern). Gains names old new written vs (open_assertion true (take old.named names) (length old.stated) (claim_of hs t.conclusion))) none (states.gains may)) closed fits only tokens distinct concludes)
+    (subst (λ (hs : List Pattern). Gains names old new written vs (open_assertion true (take old.named names) old.count (claim_of hs t.conclusion))) none (states.gains may)) closed fits only tokens distinct concludes)
 
 pub run_is_justified : RunIsJustified
 run_is_justified theory names bytes start end a b from to justifies = record { names = names; from = a; to = b; from_image = from; to_image = to; justifies = justifies }

@@ -19,6 +19,7 @@ use Rattle.mm_claims.specs.Statements.{typecode_of, all_name_statements}
 use Rattle.mm_claims.specs.Fitting.{AreNames, name_frame, Holds}
 use Rattle.mm_claims.specs.Blocks.{Claim}
 use Rattle.mm_claims.specs.Claiming.{FitsClaims}
+use Rattle.mm_claims.specs.Kept.{all_stated}
 use Rattle.mm_claims.specs.Keeping.{FitsWhen}
 use Rattle.mm_justify.specs.Justifying.{declaration, AreAllowed, HasOnlyAxiomsOf}
 use Rattle.mm_justify.specs.JustifyingLaws.{DeclaredHasOnly}
@@ -110,9 +111,9 @@ declared_behind theory done more claims bytes (c, leaves, w) names distinct few 
 pub declared_has_only : DeclaredHasOnly
 declared_has_only theory names k bytes each distinct few begun within own fits only = go k.begun begun fits
   where
-    go : (b : Bool) → b ≡ true → FitsWhen b (take k.named names) k.stated bytes → HasOnlyAxiomsOf theory (bytes ++ written_statements (all_name_statements k.named (drop k.named names)))
+    go : (b : Bool) → b ≡ true → FitsWhen b (take k.named names) k.count (all_stated k) bytes → HasOnlyAxiomsOf theory (bytes ++ written_statements (all_name_statements k.named (drop k.named names)))
     go false never fit = absurd (false≢true never)
     go true is fit =
         let whole : take k.named names ++ drop k.named names ≡ names = take-drop k.named names in
         subst (λ (n : ℕ). HasOnlyAxiomsOf theory (bytes ++ written_statements (all_name_statements n (drop k.named names)))) (length-front k.named names within)
-        (declared_behind theory (take k.named names) (drop k.named names) k.stated bytes fit (subst AreNames (sym whole) each) (subst AreDistinct (sym whole) distinct) (subst (λ (ts : List Token). length ts < 2 ^ 64) (sym whole) few) own only)
+        (declared_behind theory (take k.named names) (drop k.named names) fit.claims bytes fit.fits (subst AreNames (sym whole) each) (subst AreDistinct (sym whole) distinct) (subst (λ (ts : List Token). length ts < 2 ^ 64) (sym whole) few) own only)

@@ -1,6 +1,6 @@
 -- The images of what small definitions say, computed.
-use Rattle.std.proofs.Common.{◌≡◌, ◌+◌, ◌≤◌, ℕ, List, [], ◌∷◌, refl, ap, ◌∙◌, arith}
-use Rattle.std.specs.Prelude.{codes, decimal}
+use Rattle.std.proofs.Common.{◌≡◌, ◌+◌, ◌≤◌, ℕ, [], ◌∷◌, refl, ap, arith}
+use Rattle.std.specs.Prelude.{decimal}
 use Rattle.std.proofs.lemmas.Fmt.{decimal_by_steps, decimal-digits_of}
 use Rattle.rule_core.specs.declared.signature.Signature.{Signature}
 use Rattle.mm_justify.specs.ImageCases.{DeclaresMoves, MovingSpelt, DeclaresNumbers, NumbersSpelt, DeclaresLists, ListsSpelt, DeclaresAddition, AdditionSpelt, TriedImages}

@@ -34,7 +34,7 @@ use Rattle.mm_claims.specs.Statements.{symbol_name, typecode_of, all_name_statem
 use Rattle.mm_claims.specs.Fitting.{AreNames}
 use Rattle.mm_claims.specs.OverNames.{closed_over}
 use Rattle.mm_claims.specs.Blocks.{Claim, IsClaim, open_frame, open_assertion}
-use Rattle.mm_claims.specs.CitedAt.{ArePremises}
+use Rattle.mm_claims.specs.CitedAt.{at_places, ArePremises}
 use Rattle.mm_claims.specs.Claiming.{FitsClaims, proved_statements, HasJust}
 use Rattle.mm_claims.specs.Provable.{IsProvable}
 use Rattle.mm_justify.specs.Justifying.{IsAssumed, header_row, declaration, assumption_of, HasOnlyAxiomsOf, Justifies}
@@ -71,7 +71,7 @@ abbrev declarations : List ℕ
 declarations = written_statements (all_name_statements 0 names)
 
 abbrev theorem : List ℕ
-theorem = written_statements (proved_statements names 0 [] nowhere no_premise claim [] one_rule)
+theorem = written_statements (proved_statements names 0 (at_places [] nowhere) no_premise claim [] one_rule)
 
 are_names : AreNames names
 are_names = (record { kind = symbol_name; rest = codes "a"; is = refl; bytes = refl }, tt)

@@ -1,8 +1,8 @@
 -- The images of what small definitions say, token by token.
-use Rattle.std.specs.Prelude.{◌≡◌, ℕ, pos, List, [], ◌∷◌, Option, Some, None, option_map, codes, ◌++◌}
+use Rattle.std.specs.Prelude.{◌≡◌, ℕ, pos, List, [], ◌∷◌, Some, None, option_map, codes, ◌++◌}
 use Rattle.mm_text.specs.Bytes.{Token}
 use Rattle.mm_header.specs.HeaderContext.{words_of}
-use Rattle.term_core.specs.Terms.{integer, truth, DomainValue}
+use Rattle.term_core.specs.Terms.{integer}
 use Rattle.term_core.specs.Patterns.{Pattern, Patterns, variable, domain_value, application, injection, call}
 use Rattle.term_core.specs.Patterns.{no_pattern, more_patterns}
 use Rattle.rule_core.specs.Rules.{RewriteRule, Equation}

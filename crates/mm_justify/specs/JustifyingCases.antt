@@ -1,5 +1,5 @@
 -- What justifies a run, tried on small texts and frames.
-use Rattle.std.specs.Prelude.{◌≡◌, ℕ, Bool, false, true, IsTrue, List, [], ◌∷◌, ◌++◌, Some, codes}
+use Rattle.std.specs.Prelude.{◌≡◌, ℕ, Bool, false, true, List, [], ◌∷◌, ◌++◌, Some, codes}
 use Rattle.mm_text.specs.Bytes.{Token}
 use Rattle.mm_database.specs.Frames.{Hypothesis, floating, essential, Frame}
 use Rattle.mm_header.specs.HeaderText.{header_bytes}

@@ -42,7 +42,7 @@ AxiomHasOnly =
     (theory : RewriteTheory) (names : List Token) (old new : Kept) (s : Sentence) (p : Pattern)
     (bytes appended : List ℕ) → IsAssumed theory s → sentence_image theory.sig (take old.named names) s ≡ Some p →
     Gains names old new appended (claim_variables [] p)
-    (open_assertion false (take old.named names) (length old.stated) (claim_of [] p)) →
+    (open_assertion false (take old.named names) old.count (claim_of [] p)) →
     Fits names old bytes → HasOnlyAxiomsOf theory bytes → HasOnlyAxiomsOf theory (bytes ++ appended)
 
 -- And with a theorem behind it. What was appended to the buffer at hand, in which the lemma was stated, does so behind

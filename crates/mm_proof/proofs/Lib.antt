@@ -15,4 +15,4 @@ pub mod WrittenTogether
 pub mod Decimals
 pub mod AgreeLaws
 pub mod CitingDerivations
-pub mod RuleLabelLaws
+pub mod EntryLaws

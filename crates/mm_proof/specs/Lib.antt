@@ -2,7 +2,7 @@
 pub mod Tokens
 pub mod Labels
 pub mod Trees
-pub mod RuleLabels
+pub mod Entries
 pub mod Derivations
 pub mod ClosedFrames
 pub mod Writing

@@ -1,8 +1,9 @@
 // How the proofs of freshness and of predicates come apart.
 ghost use Rattle.std.specs.Prelude.{OnOk};
-ghost use Rattle.mm_proof.specs.WorkStacks.{PutsOn, quantified_steps, fresh_two_steps, fresh_one_steps, fresh_sorted_steps, predicate_two_steps, predicate_under_steps};
+ghost use Rattle.mm_proof.specs.WorkStacks.{PutsOn, quantified_steps, fresh_two_steps, fresh_one_steps};
+ghost use Rattle.mm_proof.specs.WorkStacks.{fresh_sorted_steps, predicate_two_steps, predicate_under_steps};
 ghost use Rattle.mm_proof.specs.Labels.{own_labels};
-ghost use Rattle.mm_database.specs.Proofs.{postorder};
+ghost use Rattle.mm_proof.specs.Entries.{entries_of};
 ghost use Rattle.mm_proof.specs.Trees.{absent_tree, fresh_by_form, fresh_tree, predicate_tree, unchanged_tree};
 
 use crate::patterns::expand_syntax;
@@ -23,7 +24,8 @@ fn put_quantified<'a>(
     bound: &'static str,
     other: &'static str,
 ) -> Result<(), AllocError>
-    ensures { OnOk result (PutsOn (λ names k. quantified_steps k x.0 y.0 s.0 body.now bound.now other.now) stack.old.items stack.new.items) }
+    ensures { OnOk result (PutsOn (λ names k. quantified_steps k x.0 y.0 s.0 body.now bound.now other.now)
+        stack.old.items stack.new.items) }
 {
     if x == y {
         return put_steps(
@@ -57,7 +59,8 @@ fn put_fresh_two<'a>(
     q: &'a MPat,
     label: &'static str,
 ) -> Result<(), AllocError>
-    ensures { OnOk result (PutsOn (λ names k. fresh_two_steps k x.0 p.now q.now label.now) stack.old.items stack.new.items) }
+    ensures { OnOk result (PutsOn (λ names k. fresh_two_steps k x.0 p.now q.now label.now)
+        stack.old.items stack.new.items) }
 {
     put_steps(
         stack,
@@ -100,7 +103,8 @@ fn put_fresh_sorted<'a>(
     s: MSort,
     label: &'static str,
 ) -> Result<(), AllocError>
-    ensures { OnOk result (PutsOn (λ names k. fresh_sorted_steps k x.0 p.now s.0 label.now) stack.old.items stack.new.items) }
+    ensures { OnOk result (PutsOn (λ names k. fresh_sorted_steps k x.0 p.now s.0 label.now)
+        stack.old.items stack.new.items) }
 {
     put_steps(
         stack,
@@ -121,7 +125,8 @@ pub(crate) fn expand_fresh<'a>(
     x: VarNo,
     pat: &'a MPat,
 ) -> Result<(), AllocError>
-    ensures { OnOk result (PutsOn (λ names k. postorder (fresh_tree (own_labels k) x.0 pat.now)) stack.old.items stack.new.items) }
+    ensures { OnOk result (PutsOn (λ names k. entries_of (fresh_tree (own_labels k) x.0 pat.now))
+        stack.old.items stack.new.items) }
 {
     if is_absent(*stack.allocator(), x, pat)? {
         return put_absent(stack, x, pat);
@@ -131,7 +136,7 @@ pub(crate) fn expand_fresh<'a>(
 
 /// The proof that x is not free in a pattern in which it stands nowhere.
 fn put_absent<'a>(stack: &mut Vec<Work<'a>>, x: VarNo, pat: &'a MPat) -> Result<(), AllocError>
-    ensures { OnOk result (PutsOn (λ names k. postorder (absent_tree (own_labels k) x.0 pat.now))
+    ensures { OnOk result (PutsOn (λ names k. entries_of (absent_tree (own_labels k) x.0 pat.now))
         stack.old.items stack.new.items) }
 {
     put_steps(
@@ -147,7 +152,7 @@ fn expand_fresh_by_form<'a>(
     x: VarNo,
     pat: &'a MPat,
 ) -> Result<(), AllocError>
-    ensures { OnOk result (PutsOn (λ names k. postorder (fresh_by_form (own_labels k) x.0 pat.now))
+    ensures { OnOk result (PutsOn (λ names k. entries_of (fresh_by_form (own_labels k) x.0 pat.now))
         stack.old.items stack.new.items) }
 {
     match pat.form() {
@@ -177,7 +182,8 @@ pub(crate) fn expand_unchanged<'a>(
     u: &'a MPat,
     pat: &'a MPat,
 ) -> Result<(), AllocError>
-    ensures { OnOk result (PutsOn (λ names k. postorder (unchanged_tree (own_labels k) x.0 u.now pat.now)) stack.old.items stack.new.items) }
+    ensures { OnOk result (PutsOn (λ names k. entries_of (unchanged_tree (own_labels k) x.0 u.now pat.now))
+        stack.old.items stack.new.items) }
 {
     put_steps(
         stack,
@@ -198,7 +204,8 @@ fn put_predicate_two<'a>(
     q: &'a MPat,
     label: &'static str,
 ) -> Result<(), AllocError>
-    ensures { OnOk result (PutsOn (λ names k. predicate_two_steps k p.now q.now label.now) stack.old.items stack.new.items) }
+    ensures { OnOk result (PutsOn (λ names k. predicate_two_steps k p.now q.now label.now)
+        stack.old.items stack.new.items) }
 {
     put_steps(
         stack,
@@ -220,7 +227,8 @@ fn put_predicate_under<'a>(
     p: &'a MPat,
     label: &'static str,
 ) -> Result<(), AllocError>
-    ensures { OnOk result (PutsOn (λ names k. predicate_under_steps k x.0 s.0 p.now label.now) stack.old.items stack.new.items) }
+    ensures { OnOk result (PutsOn (λ names k. predicate_under_steps k x.0 s.0 p.now label.now)
+        stack.old.items stack.new.items) }
 {
     put_steps(
         stack,
@@ -239,7 +247,8 @@ pub(crate) fn expand_predicate<'a>(
     stack: &mut Vec<Work<'a>>,
     pat: &'a MPat,
 ) -> Result<(), AllocError>
-    ensures { OnOk result (PutsOn (λ names k. postorder (predicate_tree (own_labels k) pat.now)) stack.old.items stack.new.items) }
+    ensures { OnOk result (PutsOn (λ names k. entries_of (predicate_tree (own_labels k) pat.now))
+        stack.old.items stack.new.items) }
 {
     match pat.form() {
         MForm::Bot => put_steps(stack, &[], "pr.bot"),

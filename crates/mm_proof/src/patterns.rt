@@ -1,9 +1,9 @@
 // How the tokens of a pattern and the proof of its syntax come apart.
 ghost use Rattle.std.specs.Prelude.{OnOk};
-ghost use Rattle.mm_proof.specs.WorkStacks.{PutsOn, quantifier_steps, quantifier_tokens};
+ghost use Rattle.mm_proof.specs.WorkStacks.{PutsOn, quantifier_entries, quantifier_steps};
 ghost use Rattle.mm_proof.specs.Labels.{own_labels};
-ghost use Rattle.mm_database.specs.Proofs.{postorder};
-ghost use Rattle.mm_proof.specs.Tokens.{tokens_of};
+ghost use Rattle.mm_proof.specs.Entries.{entries_of};
+ghost use Rattle.mm_proof.specs.Writing.{text_entries};
 ghost use Rattle.mm_proof.specs.Trees.{syntax_tree};
 
 use crate::stacks::{put_bracket, put_steps, put_word};
@@ -14,7 +14,7 @@ use std::alloc::AllocError;
 
 /// The tokens of a pattern.
 pub(crate) fn expand_text<'a>(stack: &mut Vec<Work<'a>>, pat: &'a MPat) -> Result<(), AllocError>
-    ensures { OnOk result (PutsOn (λ names k. tokens_of names pat.now) stack.old.items stack.new.items) }
+    ensures { OnOk result (PutsOn (λ names k. text_entries names pat.now) stack.old.items stack.new.items) }
 {
     match pat.form() {
         MForm::Bot => put_word(stack, Word::Fixed("\\bot")),
@@ -44,7 +44,8 @@ pub(crate) fn expand_text<'a>(stack: &mut Vec<Work<'a>>, pat: &'a MPat) -> Resul
 
 /// The proof that it is a pattern.
 pub(crate) fn expand_syntax<'a>(stack: &mut Vec<Work<'a>>, pat: &'a MPat) -> Result<(), AllocError>
-    ensures { OnOk result (PutsOn (λ names k. postorder (syntax_tree (own_labels k) pat.now)) stack.old.items stack.new.items) }
+    ensures { OnOk result
+        (PutsOn (λ names k. entries_of (syntax_tree (own_labels k) pat.now)) stack.old.items stack.new.items) }
 {
     match pat.form() {
         MForm::Bot => put_steps(stack, &[], "w.bot"),
@@ -84,7 +85,8 @@ fn put_quantifier<'a>(
     s: MSort,
     body: &'a MPat,
 ) -> Result<(), AllocError>
-    ensures { OnOk result (PutsOn (λ names k. quantifier_tokens names connective.now x.0 s.0 body.now) stack.old.items stack.new.items) }
+    ensures { OnOk result (PutsOn (λ names k. quantifier_entries names connective.now x.0 s.0 body.now)
+        stack.old.items stack.new.items) }
 {
     put_bracket(
         stack,
@@ -105,7 +107,8 @@ fn put_quantifier_syntax<'a>(
     body: &'a MPat,
     label: &'static str,
 ) -> Result<(), AllocError>
-    ensures { OnOk result (PutsOn (λ names k. quantifier_steps k x.0 s.0 body.now label.now) stack.old.items stack.new.items) }
+    ensures { OnOk result (PutsOn (λ names k. quantifier_steps k x.0 s.0 body.now label.now)
+        stack.old.items stack.new.items) }
 {
     put_steps(
         stack,

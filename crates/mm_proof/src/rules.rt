@@ -1,61 +1,55 @@
 // Rules: what stands for their variables, and their judgements.
-ghost use Rattle.std.specs.Prelude.{◌≡◌, [], ◌∷◌, ◌++◌, OnOk};
+ghost use Rattle.std.specs.Prelude.{◌≡◌, ◌≤◌, ◌+◌, List, [], ◌∷◌, OnOk, length};
 ghost use Rattle.ml_pat.specs.Patterns.{bot};
+ghost use Rattle.ml_kernel.specs.Rules.{Instance};
 ghost use Rattle.ml_kernel.specs.StepView.{instances_of};
+ghost use Rattle.mm_proof.specs.Tokens.{Naming};
 ghost use Rattle.mm_proof.specs.Labels.{own_labels};
-ghost use Rattle.mm_proof.specs.RuleLabels.{all_labels, instance_labels};
-ghost use Rattle.mm_proof.specs.Trees.{pattern_at, trees_before, variable_at};
-ghost use Rattle.mm_text.specs.Written.{written};
+ghost use Rattle.mm_proof.specs.Entries.{all_entries, instance_entries};
+ghost use Rattle.mm_proof.specs.Writing.{Lists};
+ghost use Rattle.mm_proof.specs.Trees.{pattern_at, trees_before, trees_behind, variable_at};
 
-use crate::words::{Word, push_word};
-use crate::works::{Work, write_works};
+use crate::words::{Label, Word, list_label};
+use crate::works::{Work, list_works};
 use ml_kernel::{Inst, Rule};
-use ml_pat::{MPat, Names, VarNo};
+use ml_pat::{MPat, VarNo};
 use std::alloc::AllocError;
 
-/// Writes what stands for the variables of a rule.
-pub fn write_instances(
-    to: &mut Vec<u8>,
-    names: &Names,
-    serial: u64,
-    instances: &[Inst],
-) -> Result<(), AllocError>
-    ensures { OnOk result (to.new.items ≡ to.old.items ++ written (instance_labels serial (instances_of instances.now))) }
+/// Lists the labels of what stands for the variables of a rule.
+pub fn list_instances(labels: &mut Vec<Label>, instances: &[Inst]) -> Result<(), AllocError>
+    ensures { OnOk result
+        (Lists (λ names k. instance_entries k (instances_of instances.now)) labels.old.items labels.new.items) }
 {
     for instance in instances {
-        write_instance(to, names, serial, instance)?;
+        list_instance(labels, instance)?;
     }
     Ok(())
 }
 
-/// Writes the proof of what stands for a variable of a rule.
-fn write_instance(
-    to: &mut Vec<u8>,
-    names: &Names,
-    serial: u64,
-    instance: &Inst,
-) -> Result<(), AllocError>
-    ensures { OnOk result (to.new.items ≡ to.old.items ++ written (instance_labels serial (instances_of (instance.now ∷ [])))) }
+/// Lists the proof of what stands for a variable of a rule.
+fn list_instance(labels: &mut Vec<Label>, instance: &Inst) -> Result<(), AllocError>
+    ensures { OnOk result
+        (Lists (λ names k. instance_entries k (instances_of (instance.now ∷ []))) labels.old.items labels.new.items) }
 {
     match instance {
-        Inst::Pat(p) => write_works(to, names, serial, &[Work::Syntax(p)]),
-        Inst::Var(x) => push_word(to, names, serial, Word::ObjectLabel(x.0)),
-        Inst::Sort(s) => push_word(to, names, serial, Word::Declared(s.0)),
+        Inst::Pat(p) => list_works(labels, &[Work::Syntax(p)]),
+        Inst::Var(x) => list_label(labels, Word::ObjectLabel(x.0), 0),
+        Inst::Sort(s) => list_label(labels, Word::Declared(s.0), 0),
     }
 }
 
-/// Writes the judgements of a rule that stand before the proofs of what it concludes from. A pattern that is wanting is
+/// Lists the judgements of a rule that stand before the proofs of what it concludes from. A pattern that is wanting is
 /// taken for nothing.
-pub fn write_before(
-    to: &mut Vec<u8>,
-    names: &Names,
-    serial: u64,
+pub fn list_before(
+    labels: &mut Vec<Label>,
     rule: Rule,
     instances: &[Inst],
     nothing: &MPat,
 ) -> Result<(), AllocError>
     requires { nothing.now ≡ bot }
-    ensures { OnOk result (to.new.items ≡ to.old.items ++ written (all_labels (trees_before (own_labels serial) rule (instances_of instances.now)))) }
+    ensures { OnOk result
+        (Lists (λ names k. all_entries (trees_before (own_labels k) rule (instances_of instances.now)))
+        labels.old.items labels.new.items) }
 {
     match rule {
         Rule::Inst => {
@@ -63,7 +57,7 @@ pub fn write_before(
             let q = pattern_at(instances, 1, nothing);
             let r = pattern_at(instances, 2, nothing);
             let judged = Work::Substituted(variable_at(instances, 3), q, p, r);
-            write_works(to, names, serial, &[judged])
+            list_works(labels, &[judged])
         }
         Rule::EqEl => {
             let p = pattern_at(instances, 0, nothing);
@@ -73,13 +67,26 @@ pub fn write_before(
             let u = pattern_at(instances, 4, nothing);
             let x = variable_at(instances, 5);
             let judged = [Work::Substituted(x, p, r, t), Work::Substituted(x, q, r, u)];
-            write_works(to, names, serial, &judged)
+            list_works(labels, &judged)
         }
         Rule::MemNo | Rule::AppL | Rule::AppR => {
             let judged = Work::Predicate(pattern_at(instances, 2, nothing));
-            write_works(to, names, serial, &[judged])
+            list_works(labels, &[judged])
         }
         _ => Ok(()),
+    }
+}
+
+/// How many judgements a rule has, before the proofs of what it concludes from and behind them.
+pub fn judgements(rule: Rule) -> usize
+    ensures judged { (l : Naming) (is : List Instance) →
+        result ≡ length (trees_before l rule is) + length (trees_behind l rule is) }
+    ensures few { result ≤ 2 }
+{
+    match rule {
+        Rule::EqEl => 2,
+        Rule::Inst | Rule::MemNo | Rule::AppL | Rule::AppR | Rule::ExEl => 1,
+        _ => 0,
     }
 }
 

@@ -1,27 +1,30 @@
 // Works put on a stack.
-ghost use Rattle.std.specs.Prelude.{[], ◌∷◌, ◌++◌, OnOk, codes};
+ghost use Rattle.std.specs.Prelude.{[], ◌∷◌, ◌++◌, OnOk, length};
 ghost use Rattle.mm_proof.specs.WorkStacks.{PutsOn, PutsMore};
-ghost use Rattle.mm_proof.specs.Writing.{all_tokens, word_token};
+ghost use Rattle.mm_proof.specs.Writing.{plain, plain_bracket, plain_bracketed, word_token, works_entries};
 
 use crate::words::Word;
 use crate::works::Work;
 use std::alloc::AllocError;
 
-/// Puts works on a stack, the first on top, and a label below them.
+/// Puts works on a stack, the first on top, and a label below them that takes the proofs of each.
 pub(crate) fn put_steps<'a>(
     stack: &mut Vec<Work<'a>>,
     parts: &[Work<'a>],
     label: &'static str,
 ) -> Result<(), AllocError>
-    ensures { OnOk result (PutsOn (λ names k. all_tokens names k parts.now ++ label.now ∷ []) stack.old.items stack.new.items) }
+    ensures { OnOk result
+        (PutsOn (λ names k. works_entries names k parts.now ++ record { label = label.now; takes = length parts.now } ∷ [])
+        stack.old.items stack.new.items) }
 {
-    stack.push(Work::One(Word::Fixed(label)))?;
+    stack.push(Work::Taking(Word::Fixed(label), parts.len()))?;
     put_all(stack, parts)
 }
 
 /// Puts works on a stack, the first on top.
 pub(crate) fn put_all<'a>(stack: &mut Vec<Work<'a>>, parts: &[Work<'a>]) -> Result<(), AllocError>
-    ensures { OnOk result (PutsMore (λ names k. all_tokens names k parts.now) stack.old.items stack.new.items) }
+    ensures { OnOk result
+        (PutsMore (λ names k. works_entries names k parts.now) stack.old.items stack.new.items) }
 {
     let mut left = parts.len();
     while left > 0 {
@@ -37,9 +40,12 @@ pub(crate) fn put_bracket<'a>(
     connective: &'static str,
     parts: &[Work<'a>],
 ) -> Result<(), AllocError>
-    ensures { OnOk result (PutsOn (λ names k. codes "(" ∷ (connective.now ∷ (all_tokens names k parts.now ++ codes ")" ∷ []))) stack.old.items stack.new.items) }
+    ensures { OnOk result
+        (PutsOn (λ names k. plain_bracketed connective.now (works_entries names k parts.now ++ plain_bracket))
+        stack.old.items stack.new.items) }
 {
-    put_steps(stack, parts, ")")?;
+    stack.push(Work::One(Word::Fixed(")")))?;
+    put_all(stack, parts)?;
     put_all(
         stack,
         &[
@@ -51,7 +57,8 @@ pub(crate) fn put_bracket<'a>(
 
 /// Puts one token on a stack.
 pub(crate) fn put_word<'a>(stack: &mut Vec<Work<'a>>, word: Word) -> Result<(), AllocError>
-    ensures { OnOk result (PutsOn (λ names k. word_token names k word ∷ []) stack.old.items stack.new.items) }
+    ensures { OnOk result
+        (PutsOn (λ names k. plain (word_token names k word) ∷ []) stack.old.items stack.new.items) }
 {
     stack.push(Work::One(word))?;
     Ok(())

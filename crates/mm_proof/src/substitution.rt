@@ -2,7 +2,7 @@
 ghost use Rattle.std.specs.Prelude.{◌≡◌, OnOk};
 ghost use Rattle.mm_proof.specs.WorkStacks.{PutsOn, one_steps, sorted_steps, two_steps, under_steps};
 ghost use Rattle.mm_proof.specs.Labels.{own_labels};
-ghost use Rattle.mm_database.specs.Proofs.{postorder};
+ghost use Rattle.mm_proof.specs.Entries.{entries_of};
 ghost use Rattle.mm_proof.specs.Trees.{first_part, second_part, substitution_by_form, substitution_tree};
 
 use crate::freshness::expand_unchanged;
@@ -173,7 +173,7 @@ pub(crate) fn expand_substituted<'a>(
     pat: &'a MPat,
     made: &'a MPat,
 ) -> Result<(), AllocError>
-    ensures { OnOk result (PutsOn (λ names k. postorder (substitution_tree (own_labels k) x.0 u.now pat.now made.now))
+    ensures { OnOk result (PutsOn (λ names k. entries_of (substitution_tree (own_labels k) x.0 u.now pat.now made.now))
         stack.old.items stack.new.items) }
 {
     if fresh(x, pat) {
@@ -190,7 +190,7 @@ fn expand_by_form<'a>(
     pat: &'a MPat,
     made: &'a MPat,
 ) -> Result<(), AllocError>
-    ensures { OnOk result (PutsOn (λ names k. postorder (substitution_by_form (own_labels k) x.0 u.now pat.now made.now))
+    ensures { OnOk result (PutsOn (λ names k. entries_of (substitution_by_form (own_labels k) x.0 u.now pat.now made.now))
         stack.old.items stack.new.items) }
 {
     match pat.form() {

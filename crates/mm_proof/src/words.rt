@@ -2,7 +2,8 @@
 ghost use Rattle.std.specs.Prelude.{◌≡◌, ◌∷◌, [], ◌++◌, OnOk, decimal, map};
 ghost use Rattle.mm_proof.specs.Labels.{two_numbers};
 ghost use Rattle.mm_proof.specs.Tokens.{name_of};
-ghost use Rattle.mm_proof.specs.Writing.{word_token};
+ghost use Rattle.mm_proof.specs.Entries.{labels_in};
+ghost use Rattle.mm_proof.specs.Writing.{Lists, label_entry, listed, word_token};
 ghost use Rattle.mm_text.specs.Written.{white_behind, written};
 
 use itoa::Buffer;
@@ -30,6 +31,13 @@ pub enum Word {
     Premise(u64),
     /// The label of the statement with this number.
     Stated(u64),
+}
+
+/// A label of a proof, with the number of proofs that it takes of those in front of it.
+#[derive(Clone, Copy)]
+pub struct Label {
+    pub word: Word,
+    pub takes: usize,
 }
 
 /// Adds a token, in the block of the statement with the number `serial`, and white space.
@@ -63,6 +71,32 @@ pub fn push_words(
     for word in words {
         push_word(to, names, serial, *word)?;
     }
+    Ok(())
+}
+
+/// Adds the text of a list of labels, each with white space behind it.
+pub fn push_labels(
+    to: &mut Vec<u8>,
+    names: &Names,
+    serial: u64,
+    labels: &[Label],
+) -> Result<(), AllocError>
+    ensures { OnOk result
+        (to.new.items ≡ to.old.items ++ written (labels_in (listed names.now serial labels.now))) }
+{
+    for label in labels {
+        push_word(to, names, serial, label.word)?;
+    }
+    Ok(())
+}
+
+/// Puts a label that takes so many proofs behind others.
+pub fn list_label(labels: &mut Vec<Label>, word: Word, takes: usize) -> Result<(), AllocError>
+    ensures { OnOk result
+        (Lists (λ names k. label_entry names k (record { word = word; takes = takes }) ∷ [])
+        labels.old.items labels.new.items) }
+{
+    labels.push(Label { word, takes })?;
     Ok(())
 }
 

@@ -1,23 +1,25 @@
-// What is still to be written, as works that come apart into smaller ones: a stack of them takes the place of recursion, so
-// that a deep pattern costs no stack of calls.
+// What is still to be listed, as works that come apart into smaller ones: a stack of them takes the place of recursion,
+// so that a deep pattern costs no stack of calls.
 ghost use Rattle.std.specs.Prelude.{◌≡◌, ◌++◌, OnOk};
-ghost use Rattle.mm_proof.specs.WorkStacks.{IsTaken};
-ghost use Rattle.mm_proof.specs.Writing.{all_tokens};
+ghost use Rattle.mm_proof.specs.WorkStacks.{TakesWork};
+ghost use Rattle.mm_proof.specs.Writing.{Lists, all_tokens, works_entries};
 ghost use Rattle.mm_text.specs.Written.{written};
 
 use crate::freshness::{expand_fresh, expand_predicate, expand_unchanged};
 use crate::patterns::{expand_syntax, expand_text};
 use crate::stacks::put_all;
 use crate::substitution::expand_substituted;
-use crate::words::{Word, push_word};
+use crate::words::{Label, Word, list_label, push_labels};
 use ml_pat::{MPat, Names, VarNo};
 use std::alloc::AllocError;
 
-/// Something to be written.
+/// Something to be listed.
 #[derive(Clone, Copy)]
 pub enum Work<'a> {
-    /// A token.
+    /// A token, or a label that takes no proof.
     One(Word),
+    /// A label that takes so many proofs.
+    Taking(Word, usize),
     /// The tokens of a pattern.
     Text(&'a MPat),
     /// The proof that it is a pattern.
@@ -42,26 +44,34 @@ pub fn write_works(
 ) -> Result<(), AllocError>
     ensures { OnOk result (to.new.items ≡ to.old.items ++ written (all_tokens names.now serial works.now)) }
 {
-    let mut stack = Vec::new(*to.allocator());
+    let mut labels = Vec::new(*to.allocator());
+    list_works(&mut labels, works)?;
+    push_labels(to, names, serial, &labels)
+}
+
+/// Puts the labels of works behind others, in time linear in how many they are.
+pub fn list_works(labels: &mut Vec<Label>, works: &[Work<'_>]) -> Result<(), AllocError>
+    ensures { OnOk result (Lists (λ names k. works_entries names k works.now) labels.old.items labels.new.items) }
+{
+    let mut stack = Vec::new(*labels.allocator());
     put_all(&mut stack, works)?;
     while let Some(next) = stack.pop() {
-        write_step(to, names, serial, &mut stack, next)?;
+        list_step(labels, &mut stack, next)?;
     }
     Ok(())
 }
 
-/// Writes a token, or takes a larger work apart.
-fn write_step<'a>(
-    to: &mut Vec<u8>,
-    names: &Names,
-    serial: u64,
+/// Lists a label, or takes a larger work apart.
+fn list_step<'a>(
+    labels: &mut Vec<Label>,
     stack: &mut Vec<Work<'a>>,
     work: Work<'a>,
 ) -> Result<(), AllocError>
-    ensures { OnOk result (IsTaken names.now serial work.entry stack.old.items stack.new.items to.old.items to.new.items) }
+    ensures { OnOk result (TakesWork work.entry stack.old.items stack.new.items labels.old.items labels.new.items) }
 {
     match work {
-        Work::One(word) => push_word(to, names, serial, word),
+        Work::One(word) => list_label(labels, word, 0),
+        Work::Taking(word, takes) => list_label(labels, word, takes),
         Work::Text(p) => expand_text(stack, p),
         Work::Syntax(p) => expand_syntax(stack, p),
         Work::Fresh(x, p) => expand_fresh(stack, x, p),

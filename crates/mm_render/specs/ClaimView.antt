@@ -1,11 +1,21 @@
 -- The claim that a claim of the code stands for: cited by the clauses of private functions, and by what a renderer keeps.
-use Rattle.std.specs.Prelude.{List, map}
+use Rattle.std.specs.Prelude.{List, [], ◌∷◌, map, Option, Some, None}
 use Rattle.mm_render.specs.declared.claims.Claim as code
-use Rattle.mm_claims.specs.Blocks.{Claim}
+use Rattle.mm_render.specs.declared.claims.Stated as numbered
+use Rattle.mm_claims.specs.Blocks.{Claim, Stated}
 use Rattle.mm_render.specs.VariablesView.{plain_variables}
 
 abbrev pub plain_claim : code.Claim → Claim
 plain_claim s = record { variables = plain_variables s.variables.items; hypotheses = s.hypotheses.items; conclusion = s.conclusion }
 
-abbrev pub plain_claims : List code.Claim → List Claim
-plain_claims ss = map plain_claim ss
+-- with the number of its label
+abbrev pub plain_stated : numbered.Stated → Stated
+plain_stated s = record { number = s.number; claim = plain_claim s.claim }
+
+abbrev pub plain_stated_all : List numbered.Stated → List Stated
+plain_stated_all ss = map plain_stated ss
+
+-- the last of a run, where there is one
+abbrev pub last_of : Option numbered.Stated → List Stated
+last_of None = []
+last_of (Some s) = plain_stated s ∷ []

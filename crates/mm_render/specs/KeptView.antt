@@ -1,14 +1,13 @@
 -- What a `Renderer` of the code keeps.
 use Rattle.mm_render.specs.declared.renderer.Renderer.TheInside.{Inside}
 use Rattle.mm_claims.specs.Kept.{Kept}
-use Rattle.mm_render.specs.ClaimView.{plain_claims}
-use Rattle.mm_claims.specs.Places.{Places}
-use Rattle.mm_render.specs.KeyPlaces.{place_by}
+use Rattle.mm_render.specs.ClaimView.{last_of, plain_stated_all}
+use Rattle.mm_render.specs.KeyPlaces.{ArePlaced}
 use Rattle.mm_render.specs.PlaceTable.{found_in}
 
 abbrev pub kept_of : Inside → Kept
-kept_of r = record { begun = r.begun; named = r.named; stated = plain_claims r.stated.items }
+kept_of r = record { begun = r.begun; named = r.named; count = r.written; stated = plain_stated_all r.stated.items; last = last_of r.run }
 
--- its table finds what was stated
+-- its table has what may always be cited
 abbrev pub FindsKept : Inside → Type 0
-FindsKept r = Places (plain_claims r.stated.items) (place_by (found_in r.places))
+FindsKept r = ArePlaced (plain_stated_all r.stated.items) (found_in r.places)

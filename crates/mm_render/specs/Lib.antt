@@ -11,3 +11,4 @@ pub mod HeadText
 pub mod TheoremText
 pub mod KeptCode
 pub mod KeyPlaces
+pub mod ProvedText

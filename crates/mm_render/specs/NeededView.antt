@@ -5,14 +5,14 @@ use Rattle.ml_pat.specs.Patterns.{Pattern}
 use Rattle.ml_kernel.specs.StepsIn.{steps_in, all_steps}
 use Rattle.ml_kernel.specs.Theorems.{Derivation, Derivations}
 use Rattle.mm_claims.specs.Variables.{Variable}
-use Rattle.mm_claims.specs.Blocks.{Claim}
+use Rattle.mm_claims.specs.Blocks.{Stated}
 use Rattle.mm_claims.specs.OpenVariables.{variables_of, all_variables_of}
 use Rattle.mm_claims.specs.AddedVariables.{added}
 
 -- the variables of the derivations on a stack, the top last, and their steps
-abbrev pub stack_needs : List Claim → (List Pattern → Pattern → ℕ) → List (Bor Derivation) → List Variable
-stack_needs claims place [] = []
-stack_needs claims place (d ∷ ds) = stack_needs claims place ds ++ variables_of claims place d.now
+abbrev pub stack_needs : (List Pattern → Pattern → Stated) → List (Bor Derivation) → List Variable
+stack_needs find [] = []
+stack_needs find (d ∷ ds) = stack_needs find ds ++ variables_of find d.now
 
 abbrev pub stack_steps : List (Bor Derivation) → ℕ
 stack_steps [] = 0
@@ -20,10 +20,10 @@ stack_steps (d ∷ ds) = stack_steps ds + steps_in d.now
 
 -- derivations were put on a stack
 pub record PutsDerivations (ds : Derivations) (old new : List (Bor Derivation)) : Type 0 where
-  pub needs : (claims : List Claim) (place : List Pattern → Pattern → ℕ) → stack_needs claims place new ≡ all_variables_of claims place ds ++ stack_needs claims place old
+  pub needs : (find : List Pattern → Pattern → Stated) → stack_needs find new ≡ all_variables_of find ds ++ stack_needs find old
   pub steps : stack_steps new ≤ stack_steps old + all_steps ds
 
 -- A derivation was taken from a stack: the variables of its last step were added, and those below it are on the stack.
-pub record StepIsTaken (claims : List Claim) (place : List Pattern → Pattern → ℕ) (d : Derivation) (old new : List (Bor Derivation)) (vs vs' : List Variable) : Type 0 where
-  pub needs : added vs' (stack_needs claims place new) ≡ added vs (variables_of claims place d ++ stack_needs claims place old)
+pub record StepIsTaken (find : List Pattern → Pattern → Stated) (d : Derivation) (old new : List (Bor Derivation)) (vs vs' : List Variable) : Type 0 where
+  pub needs : added vs' (stack_needs find new) ≡ added vs (variables_of find d ++ stack_needs find old)
   pub steps : stack_steps new < stack_steps old + steps_in d

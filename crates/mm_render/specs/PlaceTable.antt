@@ -1,4 +1,4 @@
--- The places of what was stated, by the bytes of its numbers: cited by the clauses of private functions alone.
+-- What was stated is found by the bytes of its numbers: cited by the clauses of private functions alone.
 use Rattle.std.specs.Prelude.{◌≡◌, ◌<◌, ℕ, ◌+◌, List, [], ◌∷◌, ◌++◌, Option}
 use Rattle.std.specs.Borrow.{Bor}
 use Rattle.std.specs.BTreeMap.{BTreeMap, get_by}
@@ -8,21 +8,18 @@ use Rattle.std.specs.Ordering.{nat_cmp}
 use Rattle.ml_pat.specs.Patterns.{Pattern}
 use Rattle.mm_proof.specs.Searching.{all_forms, patterns_of}
 use Rattle.mm_render.specs.declared.places.Standing.{Standing}
-use Rattle.mm_claims.specs.Blocks.{Claim}
+use Rattle.mm_claims.specs.Blocks.{Stated}
 use Rattle.mm_render.specs.Keys.{numbers, all_bytes}
-use Rattle.mm_render.specs.KeyPlaces.{place_by, premise_place_by}
-use Rattle.mm_render.specs.ClaimView.{plain_claims}
+use Rattle.mm_render.specs.KeyPlaces.{find_by, premise_place_by}
+use Rattle.mm_render.specs.ClaimView.{last_of, plain_stated_all}
 
 -- what a table has under some bytes
 abbrev pub found_in : BTreeMap (Vec ℕ) ℕ → List ℕ → Option ℕ
 found_in table key = get_by (λ (k : Vec ℕ). slice_cmp nat_cmp key k.items) table
 
--- the claims before a statement that stands there, their places, and the places of its hypotheses
-abbrev pub claims_at : Standing → List Claim
-claims_at at = plain_claims at.claims.now
-
-abbrev pub places_at : Standing → List Pattern → Pattern → ℕ
-places_at at = place_by (found_in at.places.now)
+-- how claims are found from a statement that stands there, and the places of its hypotheses
+abbrev pub found_at : Standing → List Pattern → Pattern → Stated
+found_at at = find_by (plain_stated_all at.stated.now) (last_of at.last.now) (found_in at.places.now)
 
 abbrev pub premises_at : Standing → Pattern → ℕ
 premises_at at = premise_place_by (found_in at.premises.now)

@@ -18,6 +18,13 @@ pub(crate) struct Claim {
     pub(crate) conclusion: MPat,
 }
 
+/// A claim that was stated, with the number of its label.
+#[derive(Drop)]
+pub(crate) struct Stated {
+    pub(crate) number: u64,
+    pub(crate) claim: Claim,
+}
+
 /// The claim of a conclusion under hypotheses, whose patterns are shared. The numbers of its variables fit in 64 bits.
 pub(crate) fn claim_of(
     alloc: Global,

@@ -1,29 +1,31 @@
-// The proof by a derivation. What of it is still to be written lies on a stack, so that a deep derivation costs no
-// stack of calls.
+// The proof by a derivation, as a list of labels. What of it is still to be listed lies on a stack, so that a deep
+// derivation costs no stack of calls.
 ghost use Rattle.std.specs.Prelude.{◌≡◌, ◌+◌, ◌*◌, [], ◌∷◌, ◌++◌, OnOk};
 ghost use Rattle.ml_pat.specs.Patterns.{bot};
 ghost use Rattle.ml_kernel.specs.StepView.{instances_of, numbers_of};
 ghost use Rattle.ml_kernel.specs.StepsIn.{all_steps};
 ghost use Rattle.ml_kernel.specs.Theorems.{derivations};
+ghost use Rattle.mm_proof.specs.Entries.{all_entries};
 ghost use Rattle.mm_proof.specs.Labels.{own_labels, premise_label};
-ghost use Rattle.mm_proof.specs.RuleLabels.{all_labels};
 ghost use Rattle.mm_proof.specs.Trees.{trees_behind};
-ghost use Rattle.mm_claims.specs.CitedAt.{claim_at};
-ghost use Rattle.mm_render.specs.Parts.{PartIsTaken, PutsParts, citing_at, proof_of, proofs_of, rest_of_citation, rest_of_rule, value_labels};
-ghost use Rattle.mm_render.specs.PlaceTable.{claims_at, places_at, premises_at};
-ghost use Rattle.mm_render.specs.VariablesView.{variable_of};
+ghost use Rattle.mm_proof.specs.Writing.{Lists, listed, plain};
+ghost use Rattle.mm_render.specs.Parts.{PartIsTaken, PutsParts, citing_at, entries_by, all_entries_by, proof_of};
+ghost use Rattle.mm_render.specs.Parts.{rest_of_citation, rest_of_rule, value_entries};
+ghost use Rattle.mm_render.specs.PlaceTable.{found_at, premises_at};
+ghost use Rattle.mm_render.specs.VariablesView.{plain_variables, variable_of};
 ghost use Rattle.mm_text.specs.Written.{written};
 
-use crate::places::{Standing, place_of, premise_of};
+use crate::places::{Standing, found, premise_of};
 use crate::variables::{Variable, renamed};
 use ml_kernel::{Deriv, DerivStep, Inst, Rule};
 use ml_pat::{MPat, VarNo};
 use mm_proof::{
-    Word, Work, pattern_at, push_word, variable_at, write_before, write_instances, write_works,
+    Label, Word, Work, judgements, list_before, list_instances, list_label, list_works, pattern_at,
+    push_labels, variable_at,
 };
 use std::alloc::AllocError;
 
-/// What of a derivation is still to be written.
+/// What of a derivation is still to be listed.
 #[derive(Clone, Copy)]
 pub(crate) enum Part<'a> {
     /// What no derivation stands in.
@@ -38,37 +40,55 @@ pub(crate) fn write_derivation(
     at: &Standing<'_>,
     derivation: &Deriv,
 ) -> Result<(), AllocError>
-    ensures { OnOk result (to.new.items ≡ to.old.items ++ written (proof_of at.now.serial (citing_at at.now) derivation.now)) }
+    ensures { OnOk result
+        (to.new.items ≡ to.old.items ++ written (proof_of at.now.serial (citing_at at.now) derivation.now)) }
 {
-    let nothing = MPat::bot(*to.allocator())?;
-    let mut stack = Vec::new(*to.allocator());
+    let mut labels = Vec::new(*to.allocator());
+    list_derivation(&mut labels, at, derivation)?;
+    push_labels(to, at.names, at.serial, &labels)
+}
+
+/// Lists the labels of the proof by a derivation of the statement that stands there.
+fn list_derivation(
+    labels: &mut Vec<Label>,
+    at: &Standing<'_>,
+    derivation: &Deriv,
+) -> Result<(), AllocError>
+    ensures { OnOk result (listed at.now.names.now at.now.serial labels.new.items ≡
+        listed at.now.names.now at.now.serial labels.old.items ++
+        entries_by at.now.serial (citing_at at.now) derivation.now) }
+{
+    let nothing = MPat::bot(*labels.allocator())?;
+    let mut stack = Vec::new(*labels.allocator());
     stack.push(Part::Derived(derivation))?;
     while let Some(next) = stack.pop() {
-        write_part(to, at, &nothing, &mut stack, next)?;
+        list_part(labels, at, &nothing, &mut stack, next)?;
     }
     Ok(())
 }
 
-/// Writes a part, or takes a step of a derivation apart.
-fn write_part<'a>(
-    to: &mut Vec<u8>,
+/// Lists a part, or takes a step of a derivation apart.
+fn list_part<'a>(
+    labels: &mut Vec<Label>,
     at: &Standing<'_>,
     nothing: &'a MPat,
     stack: &mut Vec<Part<'a>>,
     part: Part<'a>,
 ) -> Result<(), AllocError>
     requires { nothing.now ≡ bot }
-    ensures { OnOk result (PartIsTaken at.now.names.now at.now.serial (citing_at at.now) part.entry stack.old.items stack.new.items to.old.items to.new.items) }
+    ensures { OnOk result (PartIsTaken at.now.names.now at.now.serial (citing_at at.now) part.entry
+        stack.old.items stack.new.items (listed at.now.names.now at.now.serial labels.old.items)
+        (listed at.now.names.now at.now.serial labels.new.items)) }
 {
     let derivation = match part {
-        Part::Plain(work) => return write_works(to, at.names, at.serial, &[work]),
+        Part::Plain(work) => return list_works(labels, &[work]),
         Part::Derived(derivation) => derivation,
     };
     match derivation.step() {
-        DerivStep::Hyp(p) => write_premise(to, at, p),
-        DerivStep::Axiom(_, p, new) => write_citation(to, at, stack, &[], p, new, &[], &[]),
-        DerivStep::Cited(lemma, patterns, parts) => write_citation(
-            to,
+        DerivStep::Hyp(p) => list_premise(labels, at, p),
+        DerivStep::Axiom(_, p, new) => list_citation(labels, at, stack, &[], p, new, &[], &[]),
+        DerivStep::Cited(lemma, patterns, parts) => list_citation(
+            labels,
             at,
             stack,
             lemma.hypotheses(),
@@ -78,25 +98,31 @@ fn write_part<'a>(
             parts,
         ),
         DerivStep::ByRule(rule, instances, parts) => {
-            write_instances(to, at.names, at.serial, instances)?;
-            write_before(to, at.names, at.serial, *rule, instances, nothing)?;
+            list_instances(labels, instances)?;
+            list_before(labels, *rule, instances, nothing)?;
             put_rule(stack, *rule, instances, nothing, parts)
         }
     }
 }
 
-/// Writes the label of a hypothesis.
-fn write_premise(to: &mut Vec<u8>, at: &Standing<'_>, pattern: &MPat) -> Result<(), AllocError>
-    ensures { OnOk result (to.new.items ≡ to.old.items ++ written (premise_label at.now.serial (premises_at at.now pattern.now) ∷ [])) }
+/// Lists the label of a hypothesis.
+fn list_premise(
+    labels: &mut Vec<Label>,
+    at: &Standing<'_>,
+    pattern: &MPat,
+) -> Result<(), AllocError>
+    ensures { OnOk result (listed at.now.names.now at.now.serial labels.new.items ≡
+        listed at.now.names.now at.now.serial labels.old.items ++
+        plain (premise_label at.now.serial (premises_at at.now pattern.now)) ∷ []) }
 {
-    let place = premise_of(*to.allocator(), at, pattern)?;
-    push_word(to, at.names, at.serial, Word::Premise(place))
+    let place = premise_of(*labels.allocator(), at, pattern)?;
+    list_label(labels, Word::Premise(place), 0)
 }
 
-/// Writes what stands for the variables of a claim that is cited, object variables under new numbers, and puts on a stack what is left of its citation: the
-/// proofs of its hypotheses and its label.
-fn write_citation<'a>(
-    to: &mut Vec<u8>,
+/// Lists what stands for the variables of a claim that is cited, object variables under new numbers, and puts on a
+/// stack what is left of its citation: the proofs of its hypotheses and its label.
+fn list_citation<'a>(
+    labels: &mut Vec<Label>,
     at: &Standing<'_>,
     stack: &mut Vec<Part<'a>>,
     hypotheses: &[MPat],
@@ -105,46 +131,47 @@ fn write_citation<'a>(
     patterns: &[MPat],
     parts: &'a [Deriv],
 ) -> Result<(), AllocError>
-    ensures text { OnOk result (to.new.items ≡ to.old.items ++ written (value_labels at.now.serial (numbers_of new.now) patterns.now (claim_at (claims_at at.now) (places_at at.now hypotheses.now conclusion.now)).variables)) }
-    ensures stack { OnOk result (PutsParts (λ names k s. rest_of_citation k s (places_at at.now hypotheses.now conclusion.now) (derivations parts.now)) (3 * all_steps (derivations parts.now) + 1) stack.old.items stack.new.items) }
+    ensures values { OnOk result
+        (Lists (λ names k. value_entries k (numbers_of new.now) patterns.now
+        (found_at at.now hypotheses.now conclusion.now).claim.variables) labels.old.items labels.new.items) }
+    ensures stack { OnOk result
+        (PutsParts (λ names k s. rest_of_citation k s (found_at at.now hypotheses.now conclusion.now)
+        (derivations parts.now)) (3 * all_steps (derivations parts.now) + 1) stack.old.items stack.new.items) }
 {
-    let place = place_of(*to.allocator(), at, hypotheses, conclusion)?;
-    for variable in at.variables_of(place) {
-        write_value(to, at, *variable, new, patterns)?;
+    let cited = found(*labels.allocator(), at, hypotheses, conclusion)?;
+    for variable in cited.variables {
+        list_value(labels, *variable, new, patterns)?;
     }
-    stack.push(Part::Plain(Work::One(Word::Stated(place))))?;
+    let takes = cited.variables.len() + parts.len();
+    stack.push(Part::Plain(Work::Taking(Word::Stated(cited.number), takes)))?;
     put_derived(stack, parts)
 }
 
-/// Writes the proof of what stands for a variable of a claim that is cited at some object variables and patterns.
-fn write_value(
-    to: &mut Vec<u8>,
-    at: &Standing<'_>,
+/// Lists the proof of what stands for a variable of a claim that is cited at some object variables and patterns.
+fn list_value(
+    labels: &mut Vec<Label>,
     variable: Variable,
     new: &[VarNo],
     patterns: &[MPat],
 ) -> Result<(), AllocError>
-    ensures { OnOk result (to.new.items ≡ to.old.items ++ written (value_labels at.now.serial (numbers_of new.now) patterns.now (variable_of variable ∷ []))) }
+    ensures { OnOk result
+        (Lists (λ names k. value_entries k (numbers_of new.now) patterns.now (variable_of variable ∷ []))
+        labels.old.items labels.new.items) }
 {
     match variable {
-        Variable::Object(x) => {
-            push_word(
-                to,
-                at.names,
-                at.serial,
-                Word::ObjectLabel(renamed(new, x).0),
-            )
-        }
+        Variable::Object(x) => list_label(labels, Word::ObjectLabel(renamed(new, x).0), 0),
         Variable::Pattern(i) => match patterns.get(i as usize) {
-            Some(pattern) => write_works(to, at.names, at.serial, &[Work::Syntax(pattern)]),
-            None => push_word(to, at.names, at.serial, Word::MetaLabel(i)),
+            Some(pattern) => list_works(labels, &[Work::Syntax(pattern)]),
+            None => list_label(labels, Word::MetaLabel(i), 0),
         },
     }
 }
 
 /// Puts derivations on a stack, the first on top.
 fn put_derived<'a>(stack: &mut Vec<Part<'a>>, parts: &'a [Deriv]) -> Result<(), AllocError>
-    ensures { OnOk result (PutsParts (λ names k s. proofs_of k s (derivations parts.now)) (3 * all_steps (derivations parts.now)) stack.old.items stack.new.items) }
+    ensures { OnOk result
+        (PutsParts (λ names k s. all_entries_by k s (derivations parts.now)) (3 * all_steps (derivations parts.now))
+        stack.old.items stack.new.items) }
 {
     let mut left = parts.len();
     while left > 0 {
@@ -164,9 +191,12 @@ fn put_rule<'a>(
     parts: &'a [Deriv],
 ) -> Result<(), AllocError>
     requires { nothing.now ≡ bot }
-    ensures { OnOk result (PutsParts (λ names k s. rest_of_rule k s rule (instances_of instances.now) (derivations parts.now)) (3 * all_steps (derivations parts.now) + 2) stack.old.items stack.new.items) }
+    ensures { OnOk result
+        (PutsParts (λ names k s. rest_of_rule k s rule (instances_of instances.now) (derivations parts.now))
+        (3 * all_steps (derivations parts.now) + 2) stack.old.items stack.new.items) }
 {
-    stack.push(Part::Plain(Work::One(Word::Fixed(rule.label()))))?;
+    let takes = instances.len() + judgements(rule) + parts.len();
+    stack.push(Part::Plain(Work::Taking(Word::Fixed(rule.label()), takes)))?;
     put_behind(stack, rule, instances, nothing)?;
     put_derived(stack, parts)
 }
@@ -179,7 +209,9 @@ fn put_behind<'a>(
     nothing: &'a MPat,
 ) -> Result<(), AllocError>
     requires { nothing.now ≡ bot }
-    ensures { OnOk result (PutsParts (λ names k s. all_labels (trees_behind (own_labels k) rule (instances_of instances.now))) 1 stack.old.items stack.new.items) }
+    ensures { OnOk result
+        (PutsParts (λ names k s. all_entries (trees_behind (own_labels k) rule (instances_of instances.now))) 1
+        stack.old.items stack.new.items) }
 {
     match rule {
         Rule::ExEl => {

@@ -4,15 +4,14 @@ ghost use Rattle.std.specs.Prelude.{◌≡◌, IfOk, OnOk, flat_map};
 ghost use Rattle.ml_kernel.specs.StepView.{instance_of, instances_of, numbers_of};
 ghost use Rattle.ml_kernel.specs.Theorems.{derivations};
 ghost use Rattle.mm_claims.specs.AddedVariables.{added};
-ghost use Rattle.mm_claims.specs.CitedAt.{claim_at};
 ghost use Rattle.mm_render.specs.ListedVariables.{listed};
 ghost use Rattle.mm_render.specs.NeededView.{PutsDerivations, StepIsTaken};
 ghost use Rattle.mm_claims.specs.OpenVariables.{variables_at, variables_for, variables_of};
-ghost use Rattle.mm_render.specs.PlaceTable.{claims_at, places_at};
+ghost use Rattle.mm_render.specs.PlaceTable.{found_at};
 ghost use Rattle.mm_claims.specs.Variables.{AreNumbered};
 ghost use Rattle.mm_render.specs.VariablesView.{plain_variables, variable_of};
 
-use crate::places::{Standing, place_of};
+use crate::places::{Standing, found};
 use crate::variables::{Variable, VariableList, renamed};
 use ml_kernel::{Deriv, DerivStep, Inst};
 use ml_pat::{MPat, VarNo};
@@ -25,8 +24,8 @@ pub(crate) fn needed_variables(
     variables: &[Variable],
     derivation: &Deriv,
 ) -> Result<Vec<Variable>, AllocError>
-    ensures needed { IfOk result (λ all. plain_variables all.items ≡ added (plain_variables variables.now) (variables_of (claims_at at.now) (places_at at.now) derivation.now)) }
-    ensures numbered { OnOk result (AreNumbered (variables_of (claims_at at.now) (places_at at.now) derivation.now)) }
+    ensures needed { IfOk result (λ all. plain_variables all.items ≡ added (plain_variables variables.now) (variables_of (found_at at.now) derivation.now)) }
+    ensures numbered { OnOk result (AreNumbered (variables_of (found_at at.now) derivation.now)) }
 {
     let mut list = VariableList::from_variables(alloc, variables)?;
     let mut stack = Vec::new(alloc);
@@ -45,38 +44,37 @@ fn take_step<'a>(
     stack: &mut Vec<&'a Deriv>,
     derivation: &'a Deriv,
 ) -> Result<(), AllocError>
-    ensures { OnOk result (StepIsTaken (claims_at at.now) (places_at at.now) derivation.now stack.old.items stack.new.items (listed list.old) (listed list.new)) }
+    ensures { OnOk result (StepIsTaken (found_at at.now) derivation.now stack.old.items stack.new.items (listed list.old) (listed list.new)) }
 {
     match derivation.step() {
         DerivStep::Hyp(_) => Ok(()),
         DerivStep::Axiom(_, p, new) => {
-            let place = place_of(alloc, at, &[], p)?;
-            add_values(alloc, at, list, place, new, &[])
+            let cited = found(alloc, at, &[], p)?;
+            add_values(alloc, list, cited.variables, new, &[])
         }
         DerivStep::ByRule(_, instances, parts) => {
             add_instances(alloc, list, instances)?;
             put_derivations(stack, parts)
         }
         DerivStep::Cited(lemma, patterns, parts) => {
-            let place = place_of(alloc, at, lemma.hypotheses(), lemma.conclusion())?;
-            add_values(alloc, at, list, place, &[], patterns)?;
+            let cited = found(alloc, at, lemma.hypotheses(), lemma.conclusion())?;
+            add_values(alloc, list, cited.variables, &[], patterns)?;
             put_derivations(stack, parts)
         }
     }
 }
 
-/// Adds the variables of what stands for the variables of the claim at a place.
+/// Adds the variables of what stands for the variables of a claim.
 fn add_values(
     alloc: Global,
-    at: &Standing<'_>,
     list: &mut VariableList,
-    place: u64,
+    variables: &[Variable],
     new: &[VarNo],
     patterns: &[MPat],
 ) -> Result<(), AllocError>
-    ensures { OnOk result (listed list.new ≡ added (listed list.old) (flat_map (variables_at (numbers_of new.now) patterns.now) (claim_at (claims_at at.now) place).variables)) }
+    ensures { OnOk result (listed list.new ≡ added (listed list.old) (flat_map (variables_at (numbers_of new.now) patterns.now) (plain_variables variables.now))) }
 {
-    for variable in at.variables_of(place) {
+    for variable in variables {
         add_value(alloc, list, *variable, new, patterns)?;
     }
     Ok(())

@@ -1,14 +1,16 @@
-// Where a claim was stated. A table has the place of each claim under the bytes of its numbers, in which no two claims are alike:
-// what a citation costs is linear in the size of what is cited, times the logarithm of how many were stated.
+// How a claim is found that was stated. A table has the place of each that may always be cited, under the bytes of its
+// numbers, in which no two claims are alike: what a citation costs is linear in the size of what is cited, times the
+// logarithm of how many are kept. What stands under no bytes is the last of a run.
 ghost use Rattle.std.specs.Prelude.{◌≡◌, ◌+◌, [], ◌∷◌, ◌++◌, IfOk, OnOk};
 ghost use Rattle.ml_pat.specs.FormsIn.{forms_in};
-ghost use Rattle.mm_claims.specs.CitedAt.{ArePremises, claim_at};
+ghost use Rattle.mm_claims.specs.CitedAt.{ArePremises};
 ghost use Rattle.mm_render.specs.Keys.{all_bytes, number_bytes, numbers, pattern_key, statement_key};
-ghost use Rattle.mm_render.specs.KeyPlaces.{premise_place_by};
-ghost use Rattle.mm_render.specs.PlaceTable.{FormIsAdded, claims_at, found_in, places_at, premises_at};
+ghost use Rattle.mm_render.specs.KeyPlaces.{premise_place_by, stated_at, stated_or_none};
+ghost use Rattle.mm_render.specs.PlaceTable.{FormIsAdded, found_at, found_in, premises_at};
+ghost use Rattle.mm_render.specs.ClaimView.{last_of, plain_stated_all};
 ghost use Rattle.mm_render.specs.VariablesView.{plain_variables};
 
-use crate::claims::Claim;
+use crate::claims::Stated;
 use crate::variables::Variable;
 use ml_pat::{MForm, MPat, Names};
 use std::alloc::{AllocError, Global};
@@ -21,39 +23,79 @@ pub(crate) struct Standing<'a> {
     pub(crate) names: &'a Names,
     /// Its number.
     pub(crate) serial: u64,
-    /// The claims that were stated before.
-    pub(crate) claims: &'a [Claim],
+    /// The claims that may always be cited.
+    pub(crate) stated: &'a [Stated],
     /// Their places, by their bytes.
     pub(crate) places: &'a BTreeMap<Vec<u8>, u64>,
+    /// The last of a run.
+    pub(crate) last: &'a Option<Stated>,
     /// The places of its hypotheses, by their bytes.
     pub(crate) premises: &'a BTreeMap<Vec<u8>, u64>,
 }
 
-impl<'a> Standing<'a> {
-    /// The variables of the claim at a place; none where there is no such claim.
-    pub(crate) fn variables_of(&self, place: u64) -> &'a [Variable]
-        ensures { plain_variables result.now ≡ (claim_at (claims_at self.now) place).variables }
-    {
-        match self.claims.get(place as usize) {
-            Some(claim) => &claim.variables,
-            None => &[],
-        }
-    }
+/// What a citation has of a claim: the number of its label, and its variables.
+#[derive(Clone, Copy)]
+pub(crate) struct Citation<'a> {
+    pub(crate) number: u64,
+    pub(crate) variables: &'a [Variable],
 }
 
-/// The place of a claim that was stated before; 0 where it was not.
-pub(crate) fn place_of(
+/// The claim that was stated before with these hypotheses and this conclusion; any where none was.
+pub(crate) fn found<'a>(
     alloc: Global,
-    at: &Standing<'_>,
+    at: &Standing<'a>,
     hypotheses: &[MPat],
     conclusion: &MPat,
-) -> Result<u64, AllocError>
-    ensures { IfOk result (λ place. place ≡ places_at at.now hypotheses.now conclusion.now) }
+) -> Result<Citation<'a>, AllocError>
+    ensures number { IfOk result
+        (λ cited. cited.number ≡ (found_at at.now hypotheses.now conclusion.now).number) }
+    ensures variables { IfOk result (λ cited. plain_variables cited.variables.now ≡
+        (found_at at.now hypotheses.now conclusion.now).claim.variables) }
 {
     let key = statement_key(alloc, hypotheses, conclusion)?;
     match at.places.get(key.as_slice()) {
-        Some(place) => Ok(*place),
-        None => Ok(0),
+        Some(place) => Ok(cited_at(at.stated, *place)),
+        None => Ok(cited_last(at.last)),
+    }
+}
+
+/// The claim at a place.
+fn cited_at(claims: &[Stated], place: u64) -> Citation<'_>
+    ensures number { result.number ≡ (stated_at (plain_stated_all claims.now) place).number }
+    ensures variables { plain_variables result.variables.now ≡
+        (stated_at (plain_stated_all claims.now) place).claim.variables }
+{
+    match claims.get(place as usize) {
+        Some(stated) => cited(stated),
+        None => Citation {
+            number: 0,
+            variables: &[],
+        },
+    }
+}
+
+/// The last of a run.
+fn cited_last(last: &Option<Stated>) -> Citation<'_>
+    ensures number { result.number ≡ (stated_or_none (last_of last.now)).number }
+    ensures variables { plain_variables result.variables.now ≡
+        (stated_or_none (last_of last.now)).claim.variables }
+{
+    match last {
+        Some(stated) => cited(stated),
+        None => Citation {
+            number: 0,
+            variables: &[],
+        },
+    }
+}
+
+fn cited(stated: &Stated) -> Citation<'_>
+    ensures number { result.number ≡ stated.now.number }
+    ensures variables { result.variables.now ≡ stated.now.claim.variables.items }
+{
+    Citation {
+        number: stated.number,
+        variables: &stated.claim.variables,
     }
 }
 

@@ -1,18 +1,19 @@
 // What is written: whole statements, behind a text that fits.
-ghost use Rattle.std.specs.Prelude.{◌≡◌, ◌<◌, ◌≤◌, [], ◌∷◌, ◌++◌, false, IsTrue, OnErr, OnOk, drop, length, option_copied, take, unwrap_or};
+ghost use Rattle.std.specs.Prelude.{◌≡◌, ◌+◌, ◌<◌, ◌≤◌, [], ◌∷◌, ◌++◌, false, IsTrue, IfOk, OnErr, OnOk, drop, length, option_copied, take, unwrap_or};
 ghost use Rattle.mm_header.specs.HeaderText.{header_bytes};
 ghost use Rattle.mm_claims.specs.Blocks.{axiom_statements, open_assertion};
 ghost use Rattle.mm_claims.specs.ClaimVariables.{claim_of, claim_variables};
 ghost use Rattle.mm_render.specs.ClaimView.{plain_claim};
 ghost use Rattle.mm_claims.specs.Fitting.{AreNames};
-ghost use Rattle.mm_claims.specs.Keeping.{AppendsFitting, AppendsFittingNames, Gains, MayState, axiom_at, with_stated};
+ghost use Rattle.mm_claims.specs.Keeping.{AppendsFitting, AppendsFittingNames, Gains, MayState, axiom_at, with_last, with_stated};
 ghost use Rattle.mm_claims.specs.Kept.{header_kept, nothing_kept};
 ghost use Rattle.mm_claims.specs.Places.{StatesLemma};
+ghost use Rattle.mm_render.specs.ProvedText.{WritesProof};
 ghost use Rattle.mm_proof.specs.Tokens.{name_of};
 ghost use Rattle.mm_claims.specs.Statements.{all_name_statements, name_statements, typecode_of};
 ghost use Rattle.mm_database.specs.StatementTexts.{written_statements};
 
-use crate::claims::{Claim, claim_of};
+use crate::claims::{Claim, Stated, claim_of};
 use crate::places::{Standing, premise_places, statement_key};
 use crate::statements::{push_axiom, push_theorem};
 use ml_kernel::{AxiomNo, Theory, Thm};
@@ -28,9 +29,13 @@ use std::marker::Model;
 pub struct Renderer {
     begun: bool,
     named: u64,
-    stated: Vec<Claim>,
-    // The place of each claim that was stated, under its bytes.
+    // How many claims were stated.
+    written: u64,
+    // Those that may always be cited, and the place of each under its bytes.
+    stated: Vec<Stated>,
     places: BTreeMap<Vec<u8>, u64>,
+    // The last of a run.
+    run: Option<Stated>,
 }
 
 impl Model for Renderer {
@@ -56,8 +61,10 @@ impl Renderer {
         Renderer {
             begun: false,
             named: 0,
+            written: 0,
             stated: Vec::new(alloc),
             places: BTreeMap::new(alloc),
+            run: None,
         }
     }
 
@@ -105,63 +112,132 @@ impl Renderer {
         to: &mut Vec<u8>,
     ) -> Result<(), AllocError>
         requires { no.0 < length theory.now }
-        ensures text { OnOk result (to.new.items ≡ to.old.items ++ written_statements (axiom_statements names.now (length self.old.stated) (claim_of [] (axiom_at theory.now no.0)))) }
+        ensures text { OnOk result (to.new.items ≡ to.old.items ++ written_statements (axiom_statements names.now self.old.count (claim_of [] (axiom_at theory.now no.0)))) }
         ensures kept { OnOk result (self.new ≡ with_stated self.old (claim_of [] (axiom_at theory.now no.0))) }
         ensures gains { OnOk result (MayState names.now self.old (axiom_at theory.now no.0) →
-            Gains names.now self.old self.new (written_statements (axiom_statements names.now (length self.old.stated) (claim_of [] (axiom_at theory.now no.0)))) (claim_variables [] (axiom_at theory.now no.0))
-            (open_assertion false (take self.old.named names.now) (length self.old.stated) (claim_of [] (axiom_at theory.now no.0)))) }
+            Gains names.now self.old self.new (written_statements (axiom_statements names.now self.old.count (claim_of [] (axiom_at theory.now no.0)))) (claim_variables [] (axiom_at theory.now no.0))
+            (open_assertion false (take self.old.named names.now) self.old.count (claim_of [] (axiom_at theory.now no.0)))) }
         ensures unchanged { OnErr result (to.new.items ≡ to.old.items) }
         ensures as_before { OnErr result (self.new ≡ self.old) }
     {
         let alloc = *to.allocator();
         let claim = claim_of(alloc, &[], theory.at(no))?;
         let mut text = Vec::new(alloc);
-        push_axiom(&mut text, names, self.stated.len() as u64, &claim)?;
+        push_axiom(&mut text, names, self.written, &claim)?;
         self.keep(claim, &text, to)
     }
 
     /// States a theorem under the next label, with its proof, in a block with its hypotheses and with the variables
     /// that stand in it or in its proof where there are any. Where it is over the names that were declared, and its
-    /// proof uses only these and cites only what was stated before, each text that fits fits with it behind, and has
-    /// gained just this theorem. Where memory is wanting, nothing changes.
+    /// proof uses only these and cites only what is kept, each text that fits fits with it behind, and has gained just
+    /// this theorem. It is kept. The error is want of memory, or of labels behind 2^64 of them; then nothing changes.
     pub fn lemma(&mut self, names: &Names, lemma: &Thm, to: &mut Vec<u8>) -> Result<(), AllocError>
         ensures states { OnOk result (StatesLemma names.now self.old self.new lemma.now to.old.items to.new.items) }
         ensures kept { OnOk result (self.new ≡ with_stated self.old (claim_of lemma.now.hypotheses lemma.now.conclusion)) }
         ensures unchanged { OnErr result (to.new.items ≡ to.old.items) }
         ensures as_before { OnErr result (self.new ≡ self.old) }
     {
-        let alloc = *to.allocator();
-        // Its contract tells that the lemma's derivation concludes what the lemma does.
-        let hypotheses = lemma.hypotheses();
-        let claim = claim_of(alloc, hypotheses, lemma.conclusion())?;
-        let premises = premise_places(alloc, hypotheses)?;
-        let mut text = Vec::new(alloc);
-        let at = Standing {
-            names,
-            serial: self.stated.len() as u64,
-            claims: &self.stated,
-            places: &self.places,
-            premises: &premises,
-        };
-        push_theorem(&mut text, &at, &claim, lemma.derivation())?;
+        let mut text = Vec::new(*to.allocator());
+        let claim = self.write_proof(names, lemma, &mut text)?;
         self.keep(claim, &text, to)
     }
 
-    // Adds the text of a statement, and keeps what was stated. Where memory is wanting, nothing changes.
+    /// States a theorem of a run in the same way. It is kept in the place of the one that was stated so before, which
+    /// can no longer be cited.
+    pub fn theorem(
+        &mut self,
+        names: &Names,
+        theorem: &Thm,
+        to: &mut Vec<u8>,
+    ) -> Result<(), AllocError>
+        ensures states { OnOk result (StatesLemma names.now self.old self.new theorem.now to.old.items to.new.items) }
+        ensures kept { OnOk result (self.new ≡ with_last self.old (claim_of theorem.now.hypotheses theorem.now.conclusion)) }
+        ensures unchanged { OnErr result (to.new.items ≡ to.old.items) }
+        ensures as_before { OnErr result (self.new ≡ self.old) }
+    {
+        let mut text = Vec::new(*to.allocator());
+        let claim = self.write_proof(names, theorem, &mut text)?;
+        self.keep_last(claim, &text, to)
+    }
+
+    // The number of the next statement.
+    fn serial(&self) -> u64
+        ensures { result ≡ self.now.count }
+    {
+        self.written
+    }
+
+    // Adds a theorem with its proof to a text; its claim is the answer.
+    fn write_proof(
+        &self,
+        names: &Names,
+        theorem: &Thm,
+        to: &mut Vec<u8>,
+    ) -> Result<Claim, AllocError>
+        ensures claim { IfOk result (λ claim. plain_claim claim ≡ claim_of theorem.now.hypotheses theorem.now.conclusion) }
+        ensures text { OnOk result (WritesProof names.now self.now theorem.now to.old.items to.new.items) }
+    {
+        let alloc = *to.allocator();
+        // Its contract tells that the theorem's derivation concludes what the theorem does.
+        let hypotheses = theorem.hypotheses();
+        let claim = claim_of(alloc, hypotheses, theorem.conclusion())?;
+        let premises = premise_places(alloc, hypotheses)?;
+        let serial = self.serial();
+        let at = Standing {
+            names,
+            serial,
+            stated: &self.stated,
+            places: &self.places,
+            last: &self.run,
+            premises: &premises,
+        };
+        push_theorem(to, &at, &claim, theorem.derivation())?;
+        Ok(claim)
+    }
+
+    // Adds the text of a statement, and keeps what was stated. At an error nothing changes.
     fn keep(&mut self, claim: Claim, text: &[u8], to: &mut Vec<u8>) -> Result<(), AllocError>
         ensures text { OnOk result (to.new.items ≡ to.old.items ++ text.now) }
         ensures kept { OnOk result (self.new ≡ with_stated self.old (plain_claim claim)) }
         ensures unchanged { OnErr result (to.new.items ≡ to.old.items) }
         ensures as_before { OnErr result (self.new ≡ self.old) }
     {
+        let number = self.written;
+        let written = next_number(number)?;
         let key = statement_key(*to.allocator(), &claim.hypotheses, &claim.conclusion)?;
         self.stated.reserve(1)?;
         to.reserve(text.len())?;
         let place = self.stated.len() as u64;
         self.places.insert(key, place)?;
         to.extend_from_slice(text).unwrap();
-        self.stated.push(claim).unwrap();
+        self.stated.push(Stated { number, claim }).unwrap();
+        self.written = written;
         Ok(())
+    }
+
+    // Adds the text of a statement, and keeps what was stated as the last of a run. At an error nothing changes.
+    fn keep_last(&mut self, claim: Claim, text: &[u8], to: &mut Vec<u8>) -> Result<(), AllocError>
+        ensures text { OnOk result (to.new.items ≡ to.old.items ++ text.now) }
+        ensures kept { OnOk result (self.new ≡ with_last self.old (plain_claim claim)) }
+        ensures unchanged { OnErr result (to.new.items ≡ to.old.items) }
+        ensures as_before { OnErr result (self.new ≡ self.old) }
+    {
+        let number = self.written;
+        let written = next_number(number)?;
+        to.extend_from_slice(text)?;
+        self.run = Some(Stated { number, claim });
+        self.written = written;
+        Ok(())
+    }
+}
+
+// The number behind this one; the error is that there is none of 64 bits.
+fn next_number(number: u64) -> Result<u64, AllocError>
+    ensures { IfOk result (λ next. next ≡ number + 1) }
+{
+    match number.checked_add(1) {
+        Some(next) => Ok(next),
+        None => Err(AllocError),
     }
 }
 

@@ -4,7 +4,7 @@ ghost use Rattle.mm_claims.specs.Blocks.{axiom_statements};
 ghost use Rattle.mm_claims.specs.Claiming.{proved_statements};
 ghost use Rattle.mm_render.specs.ClaimView.{plain_claim};
 ghost use Rattle.mm_claims.specs.OpenVariables.{other_variables, variables_of};
-ghost use Rattle.mm_render.specs.PlaceTable.{claims_at, places_at, premises_at};
+ghost use Rattle.mm_render.specs.PlaceTable.{found_at, premises_at};
 ghost use Rattle.mm_claims.specs.Statements.{axiom_statement};
 ghost use Rattle.mm_render.specs.TheoremText.{statement_front, theorem_front};
 ghost use Rattle.mm_claims.specs.Variables.{AreNumbered};
@@ -71,9 +71,9 @@ pub(crate) fn push_theorem(
     claim: &Claim,
     derivation: &Deriv,
 ) -> Result<(), AllocError>
-    ensures text { OnOk result (to.new.items ≡ to.old.items ++ written_statements (proved_statements at.now.names.now at.now.serial (claims_at at.now) (places_at at.now) (premises_at at.now) (plain_claim claim.now)
-        (other_variables (plain_variables claim.now.variables.items) (variables_of (claims_at at.now) (places_at at.now) derivation.now)) derivation.now)) }
-    ensures numbered { OnOk result (AreNumbered (variables_of (claims_at at.now) (places_at at.now) derivation.now)) }
+    ensures text { OnOk result (to.new.items ≡ to.old.items ++ written_statements (proved_statements at.now.names.now at.now.serial (found_at at.now) (premises_at at.now) (plain_claim claim.now)
+        (other_variables (plain_variables claim.now.variables.items) (variables_of (found_at at.now) derivation.now)) derivation.now)) }
+    ensures numbered { OnOk result (AreNumbered (variables_of (found_at at.now) derivation.now)) }
 {
     let variables = needed_variables(*to.allocator(), at, &claim.variables, derivation)?;
     if !needs_block(&variables, &claim.hypotheses) {

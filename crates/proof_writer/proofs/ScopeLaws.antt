@@ -1,8 +1,9 @@
 -- The scope of a text: the names that it has declared, and what it has stated. A theorem within it may be proved.
-use Rattle.std.proofs.Common.{◌≡◌, ◌<◌, ℕ, Bool, true, false, map, List, [], ◌∷◌, ◌++◌, Some, length, take, zero, suc, slice_get, refl, sym, ap, ◌∙◌, subst, arith}
-use Rattle.std.specs.Prelude.{Contains, nat_lt, ◌&&◌, ◌==◌, if◌then◌else◌, codes, IsTrue, get_or}
+use Rattle.std.proofs.Common.{◌≡◌, ◌<◌, ℕ, Bool, true, false, map, List, [], ◌∷◌, Some, length, take, zero, suc, slice_get, refl, sym, ap, ◌∙◌, subst, arith}
+use Rattle.std.specs.Prelude.{Contains, nat_lt, ◌&&◌, ◌==◌, if◌then◌else◌, codes, get_or}
 use Rattle.std.proofs.lemmas.Option.{get_or_from_slice_get, slice_get_within}
 use Rattle.std.proofs.Math.Seq.{take-length}
+use Rattle.std.proofs.lemmas.List.Elements.{Contains-append_left}
 use Rattle.mm_text.specs.Bytes.{Token}
 use Rattle.ml_pat.specs.Patterns.{Pattern}
 use Rattle.ml_pat.specs.Leaves.{LeafFacts, EachLeaf}
@@ -18,10 +19,10 @@ use Rattle.proof_writer.specs.declared.writer.Writer.{Writer}
 use Rattle.proof_writer.specs.Writing.{HasStated}
 use Rattle.mm_proof.specs.Tokens.{name_of}
 use Rattle.mm_claims.specs.Statements.{typecode_of}
-use Rattle.mm_claims.specs.Blocks.{Claim}
-use Rattle.mm_claims.specs.Kept.{Kept}
+use Rattle.mm_claims.specs.Blocks.{Stated}
+use Rattle.mm_claims.specs.Kept.{Kept, all_stated}
 use Rattle.mm_claims.specs.OverNames.{over_names, AreOverNames}
-use Rattle.mm_claims.specs.Places.{IsStated, StandsAt, MayProve, stated_cites}
+use Rattle.mm_claims.specs.Places.{IsStated, MayProve, stated_cites}
 
 -- the token is that of a sort
 abbrev pub names_sort : Token → Bool
@@ -32,10 +33,10 @@ abbrev pub names_other : Token → Bool
 names_other [] = true
 names_other (b ∷ bytes) = if b == 115 then false else true
 
-abbrev pub pair_of : Claim → List Pattern × Pattern
-pair_of c = (c.hypotheses, c.conclusion)
+abbrev pub pair_of : Stated → List Pattern × Pattern
+pair_of s = (s.claim.hypotheses, s.claim.conclusion)
 
-abbrev pub scope_of : List Token → List Claim → List Pattern → Scope
+abbrev pub scope_of : List Token → List Stated → List Pattern → Scope
 scope_of names claims assumed = record {
   sort = λ i. nat_lt i (length names) && names_sort (name_of names i);
   constant = λ i. nat_lt i (length names) && names_other (name_of names i);
@@ -85,7 +86,7 @@ other_from (b ∷ bytes) h = go (b == 115) h
     go true k = absurd (cc)
     go false k = refl
 
-leaves_to : (names : List Token) (claims : List Claim) (assumed : List Pattern) → Implies (leaves_of (scope_of names claims assumed)) (over_names names)
+leaves_to : (names : List Token) (claims : List Stated) (assumed : List Pattern) → Implies (leaves_of (scope_of names claims assumed)) (over_names names)
 leaves_to names claims assumed = record {
   sort = λ i h.
       let parts : (nat_lt i (length names) ≡ true) × (names_sort (name_of names i) ≡ true) =
@@ -99,7 +100,7 @@ leaves_to names claims assumed = record {
   meta = λ i h. tt;
 }
 
-leaves_from : (names : List Token) (claims : List Claim) (assumed : List Pattern) → Implies (over_names names) (leaves_of (scope_of names claims assumed))
+leaves_from : (names : List Token) (claims : List Stated) (assumed : List Pattern) → Implies (over_names names) (leaves_of (scope_of names claims assumed))
 leaves_from names claims assumed = record {
   sort = λ i h. both_true (nat_lt i (length names)) (names_sort (name_of names i)) (lt_from i (length names) h.0) (sort_from (name_of names i) h.1);
   constant = λ i h. both_true (nat_lt i (length names)) (names_other (name_of names i)) (lt_from i (length names) h.0) (other_from (name_of names i) h.1);
@@ -108,13 +109,13 @@ leaves_from names claims assumed = record {
 }
 
 -- a pattern over the names is over the scope, and the other way round
-pub over_from : (names : List Token) (claims : List Claim) (assumed : List Pattern) (p : Pattern) → EachLeaf (over_names names) p → IsOver (scope_of names claims assumed) p
+pub over_from : (names : List Token) (claims : List Stated) (assumed : List Pattern) (p : Pattern) → EachLeaf (over_names names) p → IsOver (scope_of names claims assumed) p
 over_from names claims assumed p h = EachLeaf-implied (over_names names) (leaves_of (scope_of names claims assumed)) p (leaves_from names claims assumed) h
 
-pub over_to : (names : List Token) (claims : List Claim) (assumed : List Pattern) (p : Pattern) → IsOver (scope_of names claims assumed) p → EachLeaf (over_names names) p
+pub over_to : (names : List Token) (claims : List Stated) (assumed : List Pattern) (p : Pattern) → IsOver (scope_of names claims assumed) p → EachLeaf (over_names names) p
 over_to names claims assumed p h = EachLeaf-implied (leaves_of (scope_of names claims assumed)) (over_names names) p (leaves_to names claims assumed) h
 
-over_all_to : (names : List Token) (claims : List Claim) (assumed : List Pattern) (ps : List Pattern) → AreOver (scope_of names claims assumed) ps → AreOverNames names ps
+over_all_to : (names : List Token) (claims : List Stated) (assumed : List Pattern) (ps : List Pattern) → AreOver (scope_of names claims assumed) ps → AreOverNames names ps
 over_all_to names claims assumed [] h = tt
 over_all_to names claims assumed (p ∷ ps) h = (over_to names claims assumed p h.0, over_all_to names claims assumed ps h.1)
 
@@ -139,8 +140,8 @@ mutual
 
 -- ---- what it cites
 
-mapped : (claims : List Claim) (i : ℕ) (x : List Pattern × Pattern) → slice_get (map pair_of claims) i ≡ Some x →
-    (c : Claim) × (slice_get claims i ≡ Some c) × (pair_of c ≡ x)
+mapped : (claims : List Stated) (i : ℕ) (x : List Pattern × Pattern) → slice_get (map pair_of claims) i ≡ Some x →
+    (c : Stated) × (slice_get claims i ≡ Some c) × (pair_of c ≡ x)
 mapped [] i x h = absurd (cc)
 mapped (c ∷ claims) zero x h = (c, refl, some_same (pair_of c) x h)
   where
@@ -153,44 +154,48 @@ there_from [] i x h k = absurd (omega (arith, h))
 there_from (y ∷ xs) zero x h k = ap (λ z. Some z) k
 there_from (y ∷ xs) (suc i) x h k = there_from xs i x (omega (arith, h)) k
 
-stated_to : (names : List Token) (claims : List Claim) (assumed : List Pattern) (own : List Pattern) (q : Pattern) → IsStatedIn (scope_of names claims assumed) own q → IsStated claims own q
+-- what stands at a place
+pub contained : {A : Type 0} (xs : List A) (i : ℕ) (x : A) → slice_get xs i ≡ Some x → Contains xs x
+contained {A} xs i x h = (i, slice_get_within xs i x h, get_or_from_slice_get xs i x x h)
+
+stated_to : (names : List Token) (claims : List Stated) (assumed : List Pattern) (own : List Pattern) (q : Pattern) → IsStatedIn (scope_of names claims assumed) own q → IsStated claims own q
 stated_to names claims assumed own q (i, within, is) =
-    let there : (c : Claim) × (slice_get claims i ≡ Some c) × (pair_of c ≡ (own, q)) =
+    let there : (c : Stated) × (slice_get claims i ≡ Some c) × (pair_of c ≡ (own, q)) =
     mapped claims i (own, q) (there_from (map pair_of claims) i (own, q) within is) in (
-      i,
+      there.0,
       record {
-        claim = there.0;
-        there = there.1;
+        there = contained claims i there.0 there.1;
         hypotheses_are = ap (λ (x : List Pattern × Pattern). x.0) there.2;
         conclusion_is = ap (λ (x : List Pattern × Pattern). x.1) there.2;
       },
     )
 
-mapped_there : (claims : List Claim) (i : ℕ) (c : Claim) → slice_get claims i ≡ Some c → slice_get (map pair_of claims) i ≡ Some (pair_of c)
+mapped_there : (claims : List Stated) (i : ℕ) (c : Stated) → slice_get claims i ≡ Some c → slice_get (map pair_of claims) i ≡ Some (pair_of c)
 mapped_there [] i c h = absurd (cc)
-mapped_there (d ∷ claims) zero c h = ap (λ (x : Claim). Some (pair_of x)) (same d c h)
+mapped_there (d ∷ claims) zero c h = ap (λ (x : Stated). Some (pair_of x)) (same d c h)
   where
-    same : (a b : Claim) → Some a ≡ Some b → a ≡ b
+    same : (a b : Stated) → Some a ≡ Some b → a ≡ b
     same a b k = cc
 mapped_there (d ∷ claims) (suc i) c h = mapped_there claims i c h
 
-pub stated_from : (names : List Token) (claims : List Claim) (assumed : List Pattern) (own : List Pattern) (q : Pattern) → IsStated claims own q → IsStatedIn (scope_of names claims assumed) own q
-stated_from names claims assumed own q (i, at) =
-    let is : pair_of at.claim ≡ (own, q) =
-    ap (λ (hs : List Pattern). (hs, at.claim.conclusion)) at.hypotheses_are ∙ ap (λ (p : Pattern). (own, p)) at.conclusion_is in
+pub stated_from : (names : List Token) (claims : List Stated) (assumed : List Pattern) (own : List Pattern) (q : Pattern) → IsStated claims own q → IsStatedIn (scope_of names claims assumed) own q
+stated_from names claims assumed own q (c, at) =
+    let i : ℕ = at.there.0 in
+    let is : pair_of c ≡ (own, q) =
+    ap (λ (hs : List Pattern). (hs, c.claim.conclusion)) at.hypotheses_are ∙ ap (λ (p : Pattern). (own, p)) at.conclusion_is in
     let there : slice_get (map pair_of claims) i ≡ Some (own, q) =
-    mapped_there claims i at.claim at.there ∙ ap (λ (x : List Pattern × Pattern). Some x) is in
+    mapped_there claims i c (there_from claims i c at.there.1 at.there.2) ∙ ap (λ (x : List Pattern × Pattern). Some x) is in
     (i, slice_get_within (map pair_of claims) i (own, q) there, get_or_from_slice_get (map pair_of claims) i (own, q) (own, q) there)
 
 mutual
-  cited_to : (names : List Token) (claims : List Claim) (assumed : List Pattern) (d : Derivation) → EachCited (cites_of (scope_of names claims assumed)) d → EachCited (stated_cites names claims) d
+  cited_to : (names : List Token) (claims : List Stated) (assumed : List Pattern) (d : Derivation) → EachCited (cites_of (scope_of names claims assumed)) d → EachCited (stated_cites names claims) d
   cited_to names claims assumed (hypothesis p) h = tt
   cited_to names claims assumed (own_axiom n p new) h = stated_to names claims assumed [] p h
   cited_to names claims assumed (by_rule r is ds) h = all_cited_to names claims assumed ds h
   cited_to names claims assumed (cited own q d ms ds) h =
       ((stated_to names claims assumed own q h.0.0, over_all_to names claims assumed ms h.0.1), all_cited_to names claims assumed ds h.1)
 
-  all_cited_to : (names : List Token) (claims : List Claim) (assumed : List Pattern) (ds : Derivations) → AllCited (cites_of (scope_of names claims assumed)) ds → AllCited (stated_cites names claims) ds
+  all_cited_to : (names : List Token) (claims : List Stated) (assumed : List Pattern) (ds : Derivations) → AllCited (cites_of (scope_of names claims assumed)) ds → AllCited (stated_cites names claims) ds
   all_cited_to names claims assumed no_derivation h = tt
   all_cited_to names claims assumed (more_derivations d ds) h = (cited_to names claims assumed d h.0, all_cited_to names claims assumed ds h.1)
 
@@ -199,7 +204,7 @@ mutual
 take_all : {X : Type 0} (n : ℕ) (xs : List X) → n ≡ length xs → take n xs ≡ xs
 take_all {X} n xs h = subst (λ (m : ℕ). take m xs ≡ xs) (sym h) (take-length xs)
 
-hypotheses_over : (names : List Token) (claims : List Claim) (assumed ps : List Pattern) →
+hypotheses_over : (names : List Token) (claims : List Stated) (assumed ps : List Pattern) →
     ((p : Pattern) → Contains ps p → IsOver (scope_of names claims assumed) p) → AreOverNames names ps
 hypotheses_over names claims assumed [] h = tt
 hypotheses_over names claims assumed (p ∷ ps) h = (
@@ -209,40 +214,43 @@ hypotheses_over names claims assumed (p ∷ ps) h = (
 
 -- what is within the scope may be proved
 pub may_prove : (names : List Token) (k : Kept) (t : Theorem) (assumed : List Pattern) → k.begun ≡ true → k.named ≡ length names →
-    IsWithin (scope_of names k.stated assumed) t → MayProve names k t
+    IsWithin (scope_of names (all_stated k) assumed) t → MayProve names k t
 may_prove names k t assumed begun named within =
-    let s : Scope = scope_of names k.stated assumed in
+    let s : Scope = scope_of names (all_stated k) assumed in
     let over : AreOverNames names (t.conclusion ∷ t.hypotheses) =
-    (over_to names k.stated assumed t.conclusion within.conclusion, hypotheses_over names k.stated assumed t.hypotheses (λ p h. (within.hypotheses p h).1)) in
+    (over_to names (all_stated k) assumed t.conclusion within.conclusion, hypotheses_over names (all_stated k) assumed t.hypotheses (λ p h. (within.hypotheses p h).1)) in
     let back : names ≡ take k.named names = sym (take_all k.named names named) in
     record {
       begun = begun;
       over = subst (λ (ns : List Token). AreOverNames ns (t.conclusion ∷ t.hypotheses)) back over;
       used = subst (λ (ns : List Token). EachUsed (over_names ns) t.derivation) back
-          (used_implied (leaves_of s) (over_names names) t.derivation (leaves_to names k.stated assumed) within.used);
-      cites = subst (λ (ns : List Token). EachCited (stated_cites ns k.stated) t.derivation) back (cited_to names k.stated assumed t.derivation within.cited);
+          (used_implied (leaves_of s) (over_names names) t.derivation (leaves_to names (all_stated k) assumed) within.used);
+      cites = subst (λ (ns : List Token). EachCited (stated_cites ns (all_stated k)) t.derivation) back (cited_to names (all_stated k) assumed t.derivation within.cited);
     }
 
-nothing_there : (names : List Token) (claims : List Claim) (ps : List Pattern) → AreAssumed (scope_of names claims []) ps → ps ≡ []
+nothing_there : (names : List Token) (claims : List Stated) (ps : List Pattern) → AreAssumed (scope_of names claims []) ps → ps ≡ []
 nothing_there names claims [] h = refl
 nothing_there names claims (p ∷ ps) h = absurd (omega (arith, (h p (0, omega arith, refl)).0.1))
 
 -- what is within a scope in which nothing may be assumed assumes nothing
-pub assumes_nothing : (names : List Token) (claims : List Claim) (t : Theorem) → IsWithin (scope_of names claims []) t → t.hypotheses ≡ []
+pub assumes_nothing : (names : List Token) (claims : List Stated) (t : Theorem) → IsWithin (scope_of names claims []) t → t.hypotheses ≡ []
 assumes_nothing names claims t h = nothing_there names claims t.hypotheses h.hypotheses
 
 -- ---- contexts
 
+pub may_be_cited : (k : Kept) (hypotheses : List Pattern) (conclusion : Pattern) → IsStated k.stated hypotheses conclusion → IsStated (all_stated k) hypotheses conclusion
+may_be_cited k hypotheses conclusion (s, at) = (s, record { there = Contains-append_left k.stated k.last s at.there; hypotheses_are = at.hypotheses_are; conclusion_is = at.conclusion_is })
+
 -- where all of a context is stated, the scope has the context
-pub has_context : (cx : Context) (w : Writer) (assumed : List Pattern) → ((p : Pattern) → Contains cx.axioms p → IsStated w.renderer.stated [] p) →
-    ((t : Theorem) → Contains cx.lemmas t → IsStated w.renderer.stated t.hypotheses t.conclusion) → SentenceIsOver → HasContext (scope_of cx.names w.renderer.stated assumed) cx
+pub has_context : (cx : Context) (w : Writer) (assumed : List Pattern) → ((p : Pattern) → Contains cx.axioms p → IsStated (all_stated w.renderer) [] p) →
+    ((t : Theorem) → Contains cx.lemmas t → IsStated (all_stated w.renderer) t.hypotheses t.conclusion) → SentenceIsOver → HasContext (scope_of cx.names (all_stated w.renderer) assumed) cx
 has_context cx w assumed axioms lemmas over = record {
-  images = λ q p h. over_from cx.names w.renderer.stated assumed p (over cx.program.sig cx.names q p h);
+  images = λ q p h. over_from cx.names (all_stated w.renderer) assumed p (over cx.program.sig cx.names q p h);
   objects = λ x. refl;
   metas = λ i. refl;
-  axioms = λ p h. stated_from cx.names w.renderer.stated assumed [] p (axioms p h);
-  lemmas = λ t h. stated_from cx.names w.renderer.stated assumed t.hypotheses t.conclusion (lemmas t h);
+  axioms = λ p h. stated_from cx.names (all_stated w.renderer) assumed [] p (axioms p h);
+  lemmas = λ t h. stated_from cx.names (all_stated w.renderer) assumed t.hypotheses t.conclusion (lemmas t h);
 }
 
-pub has_stated : (names : List Token) (k : Kept) (assumed : List Pattern) → HasStated (scope_of names k.stated assumed) k
-has_stated names k assumed hypotheses conclusion h = stated_from names k.stated assumed hypotheses conclusion h
+pub has_stated : (names : List Token) (k : Kept) (assumed : List Pattern) → HasStated (scope_of names (all_stated k) assumed) k
+has_stated names k assumed hypotheses conclusion h = stated_from names (all_stated k) assumed hypotheses conclusion h

@@ -1,23 +1,24 @@
 -- What stays true while a context is written.
-use Rattle.std.proofs.Common.{◌≡◌, ℕ, ◌<◌, ◌≤◌, true, List, [], ◌∷◌, ◌++◌, Some, None, length, take, zero, suc, ◌+◌, ◌⊎◌, inl, inr, refl, ap, ◌∙◌, sym, subst, arith}
+use Rattle.std.proofs.Common.{◌≡◌, ℕ, ◌<◌, ◌≤◌, List, [], ◌∷◌, ◌++◌, Some, length, take, zero, suc, ◌+◌, ◌⊎◌, inl, inr, ap, ◌∙◌, sym, subst, arith}
 use Rattle.std.specs.Prelude.{get_or, slice_get, Contains, Result, Ok, Err, OnOk}
 use Rattle.std.proofs.lemmas.Bool.{cases_lt}
-use Rattle.std.proofs.lemmas.Option.{get_or_from_slice_get, slice_get_within, slice_get-get_or}
+use Rattle.std.proofs.lemmas.Option.{slice_get_within, slice_get-get_or}
 use Rattle.std.proofs.lemmas.List.{append-nil, append_assoc}
+use Rattle.std.proofs.lemmas.List.Elements.{Contains-append_cases, Contains-append_left, Contains-append_right}
 use Rattle.ml_pat.specs.Patterns.{Pattern, bot}
 use Rattle.ml_kernel.specs.Theorems.{Theorem}
 use Rattle.ml_scope.specs.Scopes.{IsWithin}
-use Rattle.mm_claims.specs.Kept.{Kept, header_kept}
+use Rattle.mm_claims.specs.Kept.{Kept, all_stated, header_kept}
 use Rattle.mm_claims.specs.Places.{IsStated, MayProve}
-use Rattle.mm_claims.specs.Blocks.{Claim}
-use Rattle.mm_claims.specs.Keeping.{axiom_at, with_stated}
-use Rattle.mm_claims.specs.LaterLaws.{StatedStays}
+use Rattle.mm_claims.specs.Blocks.{Claim, Stated}
+use Rattle.mm_claims.specs.Keeping.{axiom_at, with_last, with_stated}
+use Rattle.mm_claims.specs.LaterLaws.{LastIsStated, StatedStays}
 use Rattle.mm_justify.specs.ImageLaws.{SentenceIsOver}
 use Rattle.rule_core.specs.declared.rules.Program.{Program}
 use Rattle.prove_term.specs.Contexts.{Context, IsContext, new_context}
 use Rattle.proof_writer.specs.declared.writer.Writer.{Writer}
 use Rattle.proof_writer.specs.Writing.{HasWritten, HasWrittenAll, IsTextOf, Adds, Keeps, MayFollow}
-use Rattle.proof_writer.proofs.ScopeLaws.{scope_of, may_prove, assumes_nothing, has_context, has_stated}
+use Rattle.proof_writer.proofs.ScopeLaws.{scope_of, may_be_cited, may_prove, assumes_nothing, has_context, has_stated}
 
 pub on_one : {T E : Type 0} {P Q : Type 0} (r : Result T E) → (P → Q) → OnOk r P → OnOk r Q
 on_one (Ok x) f p = f p
@@ -125,16 +126,40 @@ declared cx w new h is axioms lemmas =
     (λ hs q k. subst (λ (m : Kept). IsStated m.stated hs q) (sym is) k)
 
 pub keeps_names : (k new : Kept) (n : ℕ) → new ≡ record k { named = n } → Keeps k new
-keeps_names k new n is hs q h = subst (λ (m : Kept). IsStated m.stated hs q) (sym is) h
+keeps_names k new n is hs q h = subst (λ (m : Kept). IsStated (all_stated m) hs q) (sym is) h
 
 -- ---- statements
 
+-- what may be cited always, and what may be cited at all, where one claim more is kept
+pub stated_still : StatedStays → (k new : Kept) (claim : Claim) → new ≡ with_stated k claim → (hs : List Pattern) (q : Pattern) → IsStated k.stated hs q → IsStated new.stated hs q
+stated_still stays k new claim is hs q h =
+    let more : List Stated = record { number = k.count; claim = claim } ∷ [] in
+    subst (λ (m : Kept). IsStated m.stated hs q) (sym is) (stays k.stated (k.stated ++ more) hs q (λ s there. Contains-append_left k.stated more s there) h)
+
 pub keeps_stated : StatedStays → (k new : Kept) (claim : Claim) → new ≡ with_stated k claim → Keeps k new
-keeps_stated stays k new claim is hs q h =
-    subst (λ (m : Kept). IsStated m.stated hs q) (sym is) (stays k.stated (claim ∷ []) hs q h)
+keeps_stated stays k new claim is hs q h = subst (λ (m : Kept). IsStated (all_stated m) hs q) (sym is) (stays (all_stated k) (all_stated (with_stated k claim)) hs q among h)
+  where
+    more : List Stated
+    more = record { number = k.count; claim = claim } ∷ []
+
+    among : (s : Stated) → Contains (all_stated k) s → Contains (all_stated (with_stated k claim)) s
+    among s there = either (Contains-append_cases k.stated k.last s there)
+      where
+        either : Contains k.stated s ⊎ Contains k.last s → Contains (all_stated (with_stated k claim)) s
+        either (inl front) = Contains-append_left (k.stated ++ more) k.last s (Contains-append_left k.stated more s front)
+        either (inr behind) = Contains-append_right (k.stated ++ more) k.last s behind
 
 pub few_named : (k new : Kept) (claim : Claim) (n : ℕ) → new ≡ with_stated k claim → k.named ≤ n → new.named ≤ n
 few_named k new claim n is few = subst (λ (m : Kept). m.named ≤ n) (sym is) few
+
+-- the claim that is kept last was stated
+pub last_stated : LastIsStated → (k new : Kept) (claim : Claim) → new ≡ with_stated k claim → IsStated new.stated claim.hypotheses claim.conclusion
+last_stated last k new claim is =
+    subst (λ (m : Kept). IsStated m.stated claim.hypotheses claim.conclusion) (sym is) (last k.stated (record { number = k.count; claim = claim }))
+
+pub run_stated : LastIsStated → (k new : Kept) (claim : Claim) → new ≡ with_last k claim → IsStated (all_stated new) claim.hypotheses claim.conclusion
+run_stated last k new claim is =
+    subst (λ (m : Kept). IsStated (all_stated m) claim.hypotheses claim.conclusion) (sym is) (last k.stated (record { number = k.count; claim = claim }))
 
 pub nothing_written : (program : Program) (w : Writer) → w.renderer ≡ header_kept → w.axioms ≡ 0 → w.lemmas ≡ 0 → HasWrittenAll w (new_context program)
 nothing_written program w kept axioms lemmas = record {
@@ -159,9 +184,6 @@ axiom_there ps i few = slice_get-get_or ps i bot few
 pub found_there : {A : Type 0} (xs : List A) (i : ℕ) (x : A) → i < length xs → x ≡ get_or xs i x → slice_get xs i ≡ Some x
 found_there {A} xs i x few is = slice_get-get_or xs i x few ∙ ap (λ (y : A). Some y) (sym is)
 
-pub contained : {A : Type 0} (xs : List A) (i : ℕ) (x : A) → slice_get xs i ≡ Some x → Contains xs x
-contained {A} xs i x h = (i, slice_get_within xs i x h, get_or_from_slice_get xs i x x h)
-
 -- ---- what may be proved
 
 pub lemma_may : (cx : Context) (w : Writer) (place : ℕ) (t : Theorem) → SentenceIsOver → IsContext cx → HasWritten w cx → w.renderer.named ≡ length cx.names
@@ -169,22 +191,22 @@ pub lemma_may : (cx : Context) (w : Writer) (place : ℕ) (t : Theorem) → Sent
 lemma_may cx w place t over context h names axioms next at =
     let before : Context = record cx { lemmas = take place cx.lemmas } in
     may_prove cx.names w.renderer t t.hypotheses h.begun names
-    (context.lemmas place t at (scope_of cx.names w.renderer.stated t.hypotheses)
+    (context.lemmas place t at (scope_of cx.names (all_stated w.renderer) t.hypotheses)
     (has_context before w t.hypotheses
-    (λ p k. let there = place_of cx.axioms p k in h.axioms there.0 p (omega (arith, axioms, there.1)) there.2)
-    (λ u k. let there = place_in_first place cx.lemmas u k in h.lemmas there.0 u (omega (arith, next, there.1)) there.2) over)
+    (λ p k. let there = place_of cx.axioms p k in may_be_cited w.renderer [] p (h.axioms there.0 p (omega (arith, axioms, there.1)) there.2))
+    (λ u k. let there = place_in_first place cx.lemmas u k in may_be_cited w.renderer u.hypotheses u.conclusion (h.lemmas there.0 u (omega (arith, next, there.1)) there.2)) over)
     (λ p k. k))
 
-theorem_within : (cx : Context) (w : Writer) (t : Theorem) → SentenceIsOver → HasWrittenAll w cx → MayFollow cx w.renderer t → IsWithin (scope_of cx.names w.renderer.stated []) t
+theorem_within : (cx : Context) (w : Writer) (t : Theorem) → SentenceIsOver → HasWrittenAll w cx → MayFollow cx w.renderer t → IsWithin (scope_of cx.names (all_stated w.renderer) []) t
 theorem_within cx w t over h follows =
-    follows (scope_of cx.names w.renderer.stated [])
+    follows (scope_of cx.names (all_stated w.renderer) [])
     (has_context cx w []
-    (λ p k. let there = place_of cx.axioms p k in h.written.axioms there.0 p (omega (arith, h.axioms, there.1)) there.2)
-    (λ u k. let there = place_of cx.lemmas u k in h.written.lemmas there.0 u (omega (arith, h.lemmas, there.1)) there.2) over)
+    (λ p k. let there = place_of cx.axioms p k in may_be_cited w.renderer [] p (h.written.axioms there.0 p (omega (arith, h.axioms, there.1)) there.2))
+    (λ u k. let there = place_of cx.lemmas u k in may_be_cited w.renderer u.hypotheses u.conclusion (h.written.lemmas there.0 u (omega (arith, h.lemmas, there.1)) there.2)) over)
     (has_stated cx.names w.renderer [])
 
 pub theorem_may : (cx : Context) (w : Writer) (t : Theorem) → SentenceIsOver → HasWrittenAll w cx → MayFollow cx w.renderer t → MayProve cx.names w.renderer t
 theorem_may cx w t over h follows = may_prove cx.names w.renderer t [] h.written.begun h.names (theorem_within cx w t over h follows)
 
 pub theorem_assumes_nothing : (cx : Context) (w : Writer) (t : Theorem) → SentenceIsOver → HasWrittenAll w cx → MayFollow cx w.renderer t → t.hypotheses ≡ []
-theorem_assumes_nothing cx w t over h follows = assumes_nothing cx.names w.renderer.stated t (theorem_within cx w t over h follows)
+theorem_assumes_nothing cx w t over h follows = assumes_nothing cx.names (all_stated w.renderer) t (theorem_within cx w t over h follows)

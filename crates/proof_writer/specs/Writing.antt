@@ -1,5 +1,5 @@
 -- What was written of a context, and which texts it stands in.
-use Rattle.std.specs.Prelude.{◌≡◌, ℕ, ◌<◌, ◌≤◌, true, List, [], ◌∷◌, ◌++◌, length, slice_get, Some}
+use Rattle.std.specs.Prelude.{◌≡◌, ℕ, ◌<◌, ◌≤◌, true, List, [], ◌++◌, length, slice_get, Some}
 use Rattle.ml_pat.specs.Patterns.{Pattern, imp, ev}
 use Rattle.ml_kernel.specs.Theorems.{Theorem}
 use Rattle.ml_scope.specs.Scopes.{Scope, IsStatedIn, IsWithin}
@@ -7,7 +7,7 @@ use Rattle.term_core.specs.Patterns.{Pattern as RulePattern}
 use Rattle.rule_core.specs.Matching.{StandsIn}
 use Rattle.rule_core.specs.ProgramView.{theory_of}
 use Rattle.ml_image.specs.Images.{image_of}
-use Rattle.mm_claims.specs.Kept.{Kept}
+use Rattle.mm_claims.specs.Kept.{Kept, all_stated}
 use Rattle.mm_claims.specs.Keeping.{Fits}
 use Rattle.mm_claims.specs.Places.{IsStated}
 use Rattle.mm_justify.specs.Justifying.{HasOnlyAxiomsOf, JustifiesRun}
@@ -57,14 +57,14 @@ Adds cx old new before after =
     (added : List ℕ) × (after ≡ before ++ added) ×
     ((text : List ℕ) → IsTextOf cx old text → IsTextOf cx new (text ++ added))
 
--- what was stated stays stated
+-- what may be cited may be cited still
 abbrev pub Keeps : Kept → Kept → Type 0
-Keeps old new = (hypotheses : List Pattern) (conclusion : Pattern) → IsStated old.stated hypotheses conclusion →
-    IsStated new.stated hypotheses conclusion
+Keeps old new = (hypotheses : List Pattern) (conclusion : Pattern) → IsStated (all_stated old) hypotheses conclusion →
+    IsStated (all_stated new) hypotheses conclusion
 
--- the scope has all that was stated
+-- the scope has all that may be cited
 abbrev pub HasStated : Scope → Kept → Type 0
-HasStated s k = (hypotheses : List Pattern) (conclusion : Pattern) → IsStated k.stated hypotheses conclusion →
+HasStated s k = (hypotheses : List Pattern) (conclusion : Pattern) → IsStated (all_stated k) hypotheses conclusion →
     IsStatedIn s hypotheses conclusion
 
 -- the theorem assumes nothing, and uses and cites no more than what the context has and what was stated

@@ -1,7 +1,8 @@
 // The writer.
 ghost use Rattle.std.specs.Prelude.{◌≡◌, ◌<◌, ◌+◌, IfOk, OnOk, length};
 ghost use Rattle.mm_claims.specs.ClaimVariables.{claim_of};
-ghost use Rattle.mm_claims.specs.Keeping.{with_stated};
+ghost use Rattle.mm_claims.specs.Keeping.{with_last, with_stated};
+ghost use Rattle.mm_claims.specs.Kept.{all_stated};
 ghost use Rattle.prove_term.specs.Contexts.{IsContext, new_context};
 ghost use Rattle.proof_writer.specs.PlainNames.{HasPlainNames};
 ghost use Rattle.mm_claims.specs.Places.{IsStated, MayProve, StatesLemma};
@@ -173,8 +174,8 @@ impl Writer {
         Ok(())
     }
 
-    /// Appends a theorem that follows from what is written. The error is want of memory; then a part of it was
-    /// appended.
+    /// Appends a theorem that follows from what is written. It may be cited until the next is appended. The error is want
+    /// of memory; then a part of it was appended.
     pub fn theorem(
         &mut self,
         made: &Made<'_>,
@@ -186,8 +187,8 @@ impl Writer {
         requires all { HasWrittenAll self.old (context_of made.now) }
         requires follows { MayFollow (context_of made.now) self.old.renderer thm.now }
         ensures all { OnOk result (HasWrittenAll self.new (context_of made.now)) }
-        ensures stated { OnOk result (IsStated self.new.renderer.stated thm.now.hypotheses thm.now.conclusion) }
-        ensures keeps { OnOk result (Keeps self.old.renderer self.new.renderer) }
+        ensures stated { OnOk result
+            (IsStated (all_stated self.new.renderer) thm.now.hypotheses thm.now.conclusion) }
         ensures text { OnOk result
             (Adds (context_of made.now) self.old.renderer self.new.renderer to.old.items to.new.items) }
         ensures concludes { OnOk result
@@ -197,15 +198,13 @@ impl Writer {
         image_laws();
         later_laws();
         made.names.tokens_differ();
-        self.state(made, thm, to)
+        self.state_last(made, thm, to)
     }
 
     // States a theorem that may be proved.
     fn state(&mut self, made: &Made<'_>, thm: &Thm, to: &mut Vec<u8>) -> Result<(), AllocError>
         requires named { self.old.renderer.named ≡ length made.now.names.now }
         requires proved { MayProve made.now.names.now self.old.renderer thm.now }
-        ensures states { OnOk result (StatesLemma made.now.names.now self.old.renderer self.new.renderer thm.now
-            to.old.items to.new.items) }
         ensures kept { OnOk result (self.new ≡ record self.old {
           renderer = with_stated self.old.renderer (claim_of thm.now.hypotheses thm.now.conclusion);
         }) }
@@ -216,5 +215,21 @@ impl Writer {
         justifying_laws();
         later_laws();
         self.renderer.lemma(made.names, thm, to)
+    }
+
+    // .. in the place of the last theorem of the run.
+    fn state_last(&mut self, made: &Made<'_>, thm: &Thm, to: &mut Vec<u8>) -> Result<(), AllocError>
+        requires named { self.old.renderer.named ≡ length made.now.names.now }
+        requires proved { MayProve made.now.names.now self.old.renderer thm.now }
+        ensures states { OnOk result (StatesLemma made.now.names.now self.old.renderer self.new.renderer thm.now
+            to.old.items to.new.items) }
+        ensures kept { OnOk result (self.new ≡ record self.old {
+          renderer = with_last self.old.renderer (claim_of thm.now.hypotheses thm.now.conclusion);
+        }) }
+        ensures text { OnOk result
+            (Adds (context_of made.now) self.old.renderer self.new.renderer to.old.items to.new.items) }
+    {
+        justifying_laws();
+        self.renderer.theorem(made.names, thm, to)
     }
 }

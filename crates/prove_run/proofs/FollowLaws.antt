@@ -38,7 +38,7 @@ use Rattle.prove_run.specs.ReachLemma.{GoesFurther}
 use Rattle.prove_run.proofs.ContextLaws.{image_grown, text_grown, lemma_grown}
 use Rattle.ml_image.specs.Images.{image_of}
 use Rattle.ml_image.specs.Sentences.{term}
-use Rattle.mm_claims.specs.Kept.{Kept}
+use Rattle.mm_claims.specs.Kept.{Kept, all_stated}
 use Rattle.mm_claims.specs.Places.{IsStated}
 use Rattle.prove_term.specs.Contexts.{Context, HasGrown, StaysIn}
 use Rattle.proof_writer.specs.Writing.{HasNoVariables, MayFollow, Begins, Adds, IsTextOf}
@@ -50,7 +50,7 @@ cited_says p q no_meta is = is ∙ instance-empty [] p refl no_meta
 -- What follows from the theorem that was stated last, which is about images, and from one that stays in the context.
 pub follows_from : (cx : Context) (k : Kept) (last sofar step further reach : Theorem) (a b : RulePattern) (from to : Pattern)
     → image_of cx.program.sig cx.names a ≡ Some from → image_of cx.program.sig cx.names b ≡ Some to → sofar.conclusion ≡ imp from (ev to)
-    → IsStated k.stated last.hypotheses last.conclusion → IsByLemma last [] [] sofar → StaysIn cx step → Contains cx.lemmas reach → GoesFurther reach sofar step further → MayFollow cx k further
+    → IsStated (all_stated k) last.hypotheses last.conclusion → IsByLemma last [] [] sofar → StaysIn cx step → Contains cx.lemmas reach → GoesFurther reach sofar step further → MayFollow cx k further
 follows_from cx k last sofar step further reach a b from to image image' says stated by stays listed goes s has told =
     let over : IsOver s (imp from (ev to)) = (has.images (term a) from image, has.images (term b) to image') in
     let sofar_within : IsWithin s sofar = lemma_within s last [] [] sofar by (told last.hypotheses last.conclusion stated) tt (subst (IsOver s) (sym says) over) tt in
@@ -198,7 +198,7 @@ further_follows prover new w last sofar step further reach start t u m by stays 
 
 -- and says how far the run has come then
 pub further_reached : (prover new : Context) (w w' : Writer) (last sofar step further : Theorem) (start : RulePattern) (t u : Tree) (m : Making prover new w last sofar step start t u)
-    → ReachesOneFurther sofar.conclusion step.conclusion further.conclusion → further.hypotheses ≡ [] → IsStated w'.renderer.stated further.hypotheses further.conclusion
+    → ReachesOneFurther sofar.conclusion step.conclusion further.conclusion → further.hypotheses ≡ [] → IsStated (all_stated w'.renderer) further.hypotheses further.conclusion
     → HasReached new w' further start (ground_pattern u)
 further_reached prover new w w' last sofar step further start t u m reaches none stated = record {
   from = m.reached.from;

@@ -5,6 +5,7 @@ use Rattle.ml_pat.specs.Patterns.{Pattern, imp, ev}
 use Rattle.ml_kernel.specs.Lemmas.{HasNoVariable}
 use Rattle.ml_kernel.specs.Theorems.{Theorem}
 use Rattle.ml_image.specs.Images.{image_of}
+use Rattle.mm_claims.specs.Kept.{all_stated}
 use Rattle.mm_claims.specs.Places.{IsStated}
 use Rattle.prove_term.specs.Contexts.{Context}
 use Rattle.proof_writer.specs.Writing.{HasNoVariables}
@@ -31,4 +32,4 @@ pub record HasReached (cx : Context) (w : Writer) (last : Theorem) (start reache
   pub closed : HasNoVariable from × HasNoVariable to
   pub says : last.conclusion ≡ imp from (ev to)
   pub no_hypotheses : last.hypotheses ≡ []
-  pub stated : IsStated w.renderer.stated last.hypotheses last.conclusion
+  pub stated : IsStated (all_stated w.renderer) last.hypotheses last.conclusion

@@ -4,6 +4,7 @@ ghost use Rattle.term_core.specs.Patterns.{instance_of};
 ghost use Rattle.term_core.specs.RulePatterns.{plain_pattern};
 ghost use Rattle.rule_core.specs.ProgramView.{theory_of};
 ghost use Rattle.rule_core.specs.WellSorted.{IsStart, IsWellSorted};
+ghost use Rattle.mm_claims.specs.Kept.{all_stated};
 ghost use Rattle.mm_claims.specs.Places.{IsStated};
 ghost use Rattle.prove_term.specs.Contexts.{HasGrown, IsContext};
 ghost use Rattle.proof_writer.specs.PlainNames.{HasPlainNames};
@@ -157,7 +158,7 @@ fn state(
     ensures no_hypotheses { OnOk result (thm.hypotheses ≡ []) }
     ensures context { OnOk result (IsContext prover.now) }
     ensures all { OnOk result (HasWrittenAll writer.new prover.now) }
-    ensures stated { OnOk result (IsStated writer.new.renderer.stated thm.hypotheses thm.conclusion) }
+    ensures stated { OnOk result (IsStated (all_stated writer.new.renderer) thm.hypotheses thm.conclusion) }
     ensures concludes { OnOk result (Concludes prover.now writer.old.renderer thm to.old.items to.new.items) }
     ensures text { OnOk result (Adds prover.now writer.old.renderer writer.new.renderer to.old.items to.new.items) }
 {

@@ -1,7 +1,7 @@
 use Rattle.std.proofs.Common.{List, ◌≡◌, ◌∷◌, ◌<◌, ◌-◌, ◌*◌, ap, drop, arith}
 use Rattle.ml_kernel.specs.StepsIn.{all_steps}
 use Rattle.ml_kernel.specs.Theorems.{Derivation, derivations}
-use Rattle.mm_render.specs.Parts.{proofs_of}
+use Rattle.mm_render.specs.Parts.{all_entries_by}
 use Rattle.mm_proof.proofs.Stacking.{drop_at}
 use Rattle.mm_render.proofs.PartLaws.{part_more}
 use Rattle.mm_render.proofs.derivations.put_derived.Goals as goal
@@ -13,7 +13,7 @@ loop-left-preserved c =
     let steps : all_steps (derivations (drop (c.loop-left.left - 1) c.args.parts.now)) ≡ all_steps (derivations (c.index-parts-left.result ∷ drop c.loop-left.left c.args.parts.now)) = ap (λ (ds : List Derivation). all_steps (derivations ds)) next in
     record {
       within = omega (arith, c.loop-left.invariant.within);
-      put = part_more (λ names k s. proofs_of k s (derivations (drop c.loop-left.left c.args.parts.now))) (λ names k s. proofs_of k s (derivations (drop (c.loop-left.left - 1) c.args.parts.now)))
+      put = part_more (λ names k s. all_entries_by k s (derivations (drop c.loop-left.left c.args.parts.now))) (λ names k s. all_entries_by k s (derivations (drop (c.loop-left.left - 1) c.args.parts.now)))
           (3 * all_steps (derivations (drop c.loop-left.left c.args.parts.now))) (3 * all_steps (derivations (drop (c.loop-left.left - 1) c.args.parts.now))) _
-          c.args.stack.now.items c.loop-left.stack.items c.push.new.self.items c.loop-left.invariant.put c.in_ok-push.ensures.items (λ names k s. ap (λ (ds : List Derivation). proofs_of k s (derivations ds)) next) (omega (arith, steps));
+          c.args.stack.now.items c.loop-left.stack.items c.push.new.self.items c.loop-left.invariant.put c.in_ok-push.ensures.items (λ names k s. ap (λ (ds : List Derivation). all_entries_by k s (derivations ds)) next) (omega (arith, steps));
     }

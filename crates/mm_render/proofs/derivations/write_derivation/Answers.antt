@@ -1,9 +1,19 @@
-use Rattle.mm_render.specs.Parts.{citing_at}
-use Rattle.mm_render.proofs.PartLaws.{part_written, part_smaller}
+use Rattle.std.proofs.Common.{◌++◌, List, ap, ◌∙◌}
+use Rattle.mm_proof.specs.Derivations.{derivation_tree}
+use Rattle.mm_proof.specs.Entries.{labels_in}
+use Rattle.mm_proof.specs.Labels.{own_labels}
+use Rattle.mm_proof.specs.Writing.{listed}
+use Rattle.mm_proof.specs.declared.words.Label.{Label}
+use Rattle.mm_render.specs.Parts.{citing_at, entries_by}
+use Rattle.mm_proof.proofs.EntryLaws.{labels_of_tree}
+use Rattle.mm_proof.proofs.Stacking.{on_ok}
+use Rattle.mm_text.specs.Written.{written}
 use Rattle.mm_render.proofs.derivations.write_derivation.Goals as goal
 
-pub loop-next-smaller : goal.loop-next-smaller
-loop-next-smaller c = part_smaller c.args.at.now.names.now c.args.at.now.serial (citing_at c.args.at.now) c.in-Some.next c.loop-next.stack.items c.pop.new.self.items c.write_part.new.stack.items c.loop-next.to.items c.write_part.new.to.items c.in-Some.ensures.items c.in_ok-write_part.ensures
-
-pub loop-next-preserved : goal.loop-next-preserved
-loop-next-preserved c = part_written c.args.at.now.names.now c.args.at.now.serial (citing_at c.args.at.now) c.in-Some.next c.loop-next.stack.items c.pop.new.self.items c.write_part.new.stack.items c.args.to.now.items c.loop-next.to.items c.write_part.new.to.items _ c.in-Some.ensures.items c.in_ok-write_part.ensures c.loop-next.invariant
+pub returns : goal.returns
+returns c =
+    let at = c.args.at.now in
+    on_ok c.push_labels.result (λ text. text
+    ∙ ap (λ (ls : List Label). c.args.to.now.items ++ written (labels_in (listed at.names.now at.serial ls))) c.deref.ensures.value
+    ∙ ap (λ es. c.args.to.now.items ++ written (labels_in es)) (c.in_ok-list_derivation.ensures ∙ ap (λ (ls : List Label). listed at.names.now at.serial ls ++ entries_by at.serial (citing_at at) c.args.derivation.now) c.new-labels.ensures.items)
+    ∙ ap (λ ts. c.args.to.now.items ++ written ts) (labels_of_tree (derivation_tree (own_labels at.serial) (citing_at at) c.args.derivation.now))) c.push_labels.ensures

@@ -1,18 +1,17 @@
-use Rattle.std.proofs.Common.{◌≡◌, ℕ, ◌+◌, ◌<◌, List, [], ◌∷◌, Some, length, take, refl, ap, ◌∙◌, sym, subst, arith}
-use Rattle.std.specs.Prelude.{slice_get, Contains}
+use Rattle.std.proofs.Common.{◌≡◌, ℕ, ◌+◌, List, [], Some, length, take, refl, ap, ◌∙◌, sym, subst}
+use Rattle.std.specs.Prelude.{slice_get}
 use Rattle.mm_text.specs.Bytes.{Token}
-use Rattle.ml_pat.specs.Patterns.{Pattern}
 use Rattle.ml_pat.specs.Leaves.{EachLeaf}
-use Rattle.ml_image.specs.Sentences.{Sentence, sentence_image, IsImageOf}
+use Rattle.ml_image.specs.Sentences.{Sentence, sentence_image}
 use Rattle.mm_claims.specs.Kept.{Kept}
 use Rattle.mm_claims.specs.ClaimVariables.{claim_of}
 use Rattle.mm_claims.specs.Keeping.{MayState, axiom_at, with_stated}
 use Rattle.mm_claims.specs.OverNames.{over_names}
-use Rattle.mm_claims.specs.Places.{IsStated}
 use Rattle.rule_core.specs.ProgramView.{theory_of}
 use Rattle.prove_term.specs.Contexts.{IsAssumed}
 use Rattle.proof_writer.specs.Writing.{context_of}
-use Rattle.proof_writer.proofs.WritingLaws.{axiom_there, contained, written_axiom, keeps_stated, few_named}
+use Rattle.proof_writer.proofs.ScopeLaws.{contained}
+use Rattle.proof_writer.proofs.WritingLaws.{axiom_there, written_axiom, keeps_stated, stated_still, last_stated, few_named}
 use Rattle.proof_writer.proofs.writer.Writer.axiom.Goals as goal
 
 pub returns-clause-written : goal.returns-clause-written
@@ -23,8 +22,8 @@ returns-clause-written c =
     let kept : c.axiom.new.self ≡ with_stated w.renderer (claim_of [] p) = c.in_ok-axiom.ensures.kept in
     written_axiom cx w _ p c.requires.written (subst (λ (n : ℕ). slice_get cx.axioms n ≡ Some p) (sym c.requires.next) (axiom_there cx.axioms c.args.no c.requires.there))
     (ap (λ (k : Kept). k.begun) kept) (few_named w.renderer c.axiom.new.self (claim_of [] p) (length cx.names) kept c.requires.written.named)
-    (ap (λ (n : ℕ). n + 1) (sym c.requires.next)) refl (keeps_stated c.later_laws.ensures.stated w.renderer c.axiom.new.self (claim_of [] p) kept)
-    (subst (λ (k : Kept). IsStated k.stated [] p) (sym kept) (c.later_laws.ensures.last w.renderer.stated (claim_of [] p)))
+    (ap (λ (n : ℕ). n + 1) (sym c.requires.next)) refl (stated_still c.later_laws.ensures.stated w.renderer c.axiom.new.self (claim_of [] p) kept)
+    (last_stated c.later_laws.ensures.last w.renderer c.axiom.new.self (claim_of [] p) kept)
 
 pub returns-clause-named : goal.returns-clause-named
 returns-clause-named c = ap (λ (k : Kept). k.named) c.in_ok-axiom.ensures.kept ∙ c.requires.named

@@ -1,4 +1,4 @@
-use Rattle.std.proofs.Common.{◌≡◌, ℕ, List, [], ◌++◌, length, refl, ap, sym, subst, arith}
+use Rattle.std.proofs.Common.{[], refl, sym, subst}
 use Rattle.mm_header.specs.HeaderText.{header_bytes}
 use Rattle.mm_claims.specs.Kept.{Kept}
 use Rattle.mm_claims.specs.Keeping.{Fits}

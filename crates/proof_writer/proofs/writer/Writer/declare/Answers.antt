@@ -1,8 +1,5 @@
-use Rattle.std.proofs.Common.{◌≡◌, ℕ, ◌<◌, ◌^◌, List, length, refl, ap, sym, subst, rules, arith}
-use Rattle.std.specs.Prelude.{Result, Ok, Err, OnOk}
+use Rattle.std.proofs.Common.{◌<◌, ◌^◌, length, refl, ap, rules}
 use Rattle.mm_claims.specs.Kept.{Kept}
-use Rattle.mm_claims.specs.Keeping.{Fits}
-use Rattle.mm_justify.specs.Justifying.{HasOnlyAxiomsOf}
 use Rattle.rule_core.specs.ProgramView.{theory_of}
 use Rattle.proof_writer.specs.Writing.{context_of}
 use Rattle.proof_writer.proofs.PlainNameLaws.{own_names, own_behind}

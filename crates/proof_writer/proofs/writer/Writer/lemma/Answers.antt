@@ -1,14 +1,11 @@
-use Rattle.std.proofs.Common.{◌≡◌, ℕ, ◌+◌, ◌<◌, List, [], ◌∷◌, Some, length, refl, ap, ◌∙◌, sym, subst, arith}
+use Rattle.std.proofs.Common.{◌≡◌, ℕ, ◌+◌, Some, length, ap, ◌∙◌, sym, subst}
 use Rattle.std.specs.Prelude.{get_or, slice_get}
 use Rattle.std.proofs.lemmas.Option.{slice_get-get_or}
-use Rattle.ml_kernel.specs.Theorems.{Theorem}
 use Rattle.mm_claims.specs.Kept.{Kept}
 use Rattle.mm_claims.specs.ClaimVariables.{claim_of}
-use Rattle.mm_claims.specs.Keeping.{with_stated}
-use Rattle.mm_claims.specs.Places.{IsStated}
 use Rattle.proof_writer.specs.Writing.{context_of}
 use Rattle.proof_writer.specs.declared.writer.Writer.{Writer}
-use Rattle.proof_writer.proofs.WritingLaws.{written_lemma, keeps_stated, few_named, lemma_may}
+use Rattle.proof_writer.proofs.WritingLaws.{written_lemma, keeps_stated, stated_still, last_stated, few_named, lemma_may}
 use Rattle.proof_writer.proofs.writer.Writer.lemma.Goals as goal
 
 pub state-requires-clause-proved : goal.state-requires-clause-proved
@@ -29,8 +26,8 @@ returns-clause-written c =
     written_lemma cx w _ t c.requires.written (subst (λ (n : ℕ). slice_get cx.lemmas n ≡ Some t) (sym c.requires.next) at)
     (ap (λ (k : Kept). k.begun) kept) (few_named w.renderer c.state.new.self.renderer claim (length cx.names) kept c.requires.written.named)
     (ap (λ (v : Writer). v.axioms) c.in_ok-state.ensures.kept) (ap (λ (n : ℕ). n + 1) (sym c.requires.next))
-    (keeps_stated c.later_laws.ensures.stated w.renderer c.state.new.self.renderer claim kept)
-    (subst (λ (k : Kept). IsStated k.stated t.hypotheses t.conclusion) (sym kept) (c.later_laws.ensures.last w.renderer.stated claim))
+    (stated_still c.later_laws.ensures.stated w.renderer c.state.new.self.renderer claim kept)
+    (last_stated c.later_laws.ensures.last w.renderer c.state.new.self.renderer claim kept)
 
 pub returns-clause-named : goal.returns-clause-named
 returns-clause-named c = ap (λ (v : Writer). v.renderer.named) c.in_ok-state.ensures.kept ∙ c.requires.named

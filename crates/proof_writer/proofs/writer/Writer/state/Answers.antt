@@ -1,9 +1,6 @@
-use Rattle.std.proofs.Common.{◌≡◌, List, refl, ap, sym, subst}
-use Rattle.std.specs.Prelude.{Result, Ok, Err, OnOk}
 use Rattle.mm_claims.specs.ClaimVariables.{claim_of}
 use Rattle.rule_core.specs.ProgramView.{theory_of}
 use Rattle.proof_writer.proofs.WritingLaws.{on_one, keeps_stated}
-use Rattle.proof_writer.specs.declared.writer.Writer.{Writer}
 use Rattle.proof_writer.proofs.writer.Writer.state.Goals as goal
 
 pub returns-clause-text : goal.returns-clause-text

@@ -1,5 +1,4 @@
-use Rattle.std.proofs.Common.{◌≡◌, ℕ, List, [], ◌∷◌, ◌++◌, Some, length, take, refl, ap, ◌∙◌, sym, subst, arith}
-use Rattle.std.specs.Prelude.{Result, Ok, Err, OnOk}
+use Rattle.std.proofs.Common.{◌≡◌, ◌≤◌, List, ◌++◌, Some, length, take, ap, ◌∙◌, sym, subst}
 use Rattle.mm_text.specs.Bytes.{Token}
 use Rattle.ml_pat.specs.Patterns.{imp, ev}
 use Rattle.ml_pat.specs.Leaves.{EachLeaf}
@@ -12,43 +11,35 @@ use Rattle.rule_core.specs.ProgramView.{theory_of}
 use Rattle.proof_writer.specs.Writing.{context_of}
 use Rattle.proof_writer.specs.declared.writer.Writer.{Writer}
 use Rattle.proof_writer.proofs.PlainNameLaws.{own_names}
-use Rattle.proof_writer.proofs.WritingLaws.{on_one, written_more, keeps_stated, few_named, theorem_may, theorem_assumes_nothing}
+use Rattle.proof_writer.proofs.WritingLaws.{on_one, written_more, run_stated, theorem_may, theorem_assumes_nothing}
 use Rattle.proof_writer.proofs.writer.Writer.theorem.Goals as goal
 
-pub state-requires-clause-proved : goal.state-requires-clause-proved
-state-requires-clause-proved c = theorem_may (context_of c.args.made.now) c.args.self.now c.args.thm.now c.image_laws.ensures.over c.requires.all c.requires.follows
+pub state_last-requires-clause-proved : goal.state_last-requires-clause-proved
+state_last-requires-clause-proved c = theorem_may (context_of c.args.made.now) c.args.self.now c.args.thm.now c.image_laws.ensures.over c.requires.all c.requires.follows
 
 pub returns-clause-all : goal.returns-clause-all
 returns-clause-all c =
     let w = c.args.self.now in
     let cx = context_of c.args.made.now in
-    let t = c.args.thm.now in
-    let claim = claim_of t.hypotheses t.conclusion in
-    on_one c.state.result
+    let new = c.state_last.new.self in
+    on_one c.state_last.result
     (λ is.
     let kept = ap (λ (v : Writer). v.renderer) is in
     record {
-      written = written_more cx w c.state.new.self c.requires.all.written (ap (λ (k : Kept). k.begun) kept) (few_named w.renderer c.state.new.self.renderer claim (length cx.names) kept c.requires.all.written.named)
-          (ap (λ (v : Writer). v.axioms) is) (ap (λ (v : Writer). v.lemmas) is) (keeps_stated c.later_laws.ensures.stated w.renderer c.state.new.self.renderer claim kept);
+      written = written_more cx w new c.requires.all.written (ap (λ (k : Kept). k.begun) kept) (subst (λ (k : Kept). k.named ≤ length cx.names) (sym kept) c.requires.all.written.named)
+          (ap (λ (v : Writer). v.axioms) is) (ap (λ (v : Writer). v.lemmas) is) (λ hs q h. subst (λ (k : Kept). IsStated k.stated hs q) (sym kept) h);
       names = ap (λ (k : Kept). k.named) kept ∙ c.requires.all.names;
       axioms = ap (λ (v : Writer). v.axioms) is ∙ c.requires.all.axioms;
       lemmas = ap (λ (v : Writer). v.lemmas) is ∙ c.requires.all.lemmas;
     })
-    c.state.ensures.kept
+    c.state_last.ensures.kept
 
 pub returns-clause-stated : goal.returns-clause-stated
 returns-clause-stated c =
     let t = c.args.thm.now in
-    on_one c.state.result
-    (λ is. subst (λ (v : Writer). IsStated v.renderer.stated t.hypotheses t.conclusion) (sym is) (c.later_laws.ensures.last c.args.self.now.renderer.stated (claim_of t.hypotheses t.conclusion)))
-    c.state.ensures.kept
-
-pub returns-clause-keeps : goal.returns-clause-keeps
-returns-clause-keeps c =
-    let t = c.args.thm.now in
-    on_one c.state.result
-    (λ is. keeps_stated c.later_laws.ensures.stated c.args.self.now.renderer c.state.new.self.renderer (claim_of t.hypotheses t.conclusion) (ap (λ (v : Writer). v.renderer) is))
-    c.state.ensures.kept
+    on_one c.state_last.result
+    (λ is. run_stated c.later_laws.ensures.last c.args.self.now.renderer c.state_last.new.self.renderer (claim_of t.hypotheses t.conclusion) (ap (λ (v : Writer). v.renderer) is))
+    c.state_last.ensures.kept
 
 pub returns-clause-concludes : goal.returns-clause-concludes
 returns-clause-concludes c =
@@ -56,7 +47,7 @@ returns-clause-concludes c =
     let cx = context_of c.args.made.now in
     let t = c.args.thm.now in
     let back : take w.renderer.named cx.names ≡ cx.names = c.later_laws.ensures.all cx.names w.renderer c.requires.all.names in
-    on_one c.state.result
+    on_one c.state_last.result
     (λ states a b from to added text none none' image image' says is h.
     let here : image_of cx.program.sig (take w.renderer.named cx.names) a ≡ Some from = subst (λ (ns : List Token). image_of cx.program.sig ns a ≡ Some from) (sym back) image in
     let there : image_of cx.program.sig (take w.renderer.named cx.names) b ≡ Some to = subst (λ (ns : List Token). image_of cx.program.sig ns b ≡ Some to) (sym back) image' in
@@ -65,8 +56,8 @@ returns-clause-concludes c =
       c.image_laws.ensures.closed cx.program.sig (take w.renderer.named cx.names) b to none' there,
     ) in
     c.justifying_laws.ensures.run (theory_of cx.program) (take w.renderer.named cx.names) (text ++ added) a b from to here there
-    (c.justifying_laws.ensures.justifies (theory_of cx.program) cx.names w.renderer c.state.new.self.renderer t c.args.to.now.items c.state.new.to.items text added from to states is
+    (c.justifying_laws.ensures.justifies (theory_of cx.program) cx.names w.renderer c.state_last.new.self.renderer t c.args.to.now.items c.state_last.new.to.items text added from to states is
     (theorem_may cx w t c.image_laws.ensures.over c.requires.all c.requires.follows) h.fits h.only
     (own_names cx.program.sig c.requires.names cx.names c.requires.context.own) c.tokens_differ.ensures
     (theorem_assumes_nothing cx w t c.image_laws.ensures.over c.requires.all c.requires.follows) says closed))
-    c.state.ensures.states
+    c.state_last.ensures.states

@@ -1,4 +1,3 @@
-use Rattle.std.specs.Prelude.{Result, Ok, Err, OnOk}
 use Rattle.proof_writer.specs.Writing.{context_of}
 use Rattle.proof_writer.proofs.WritingLaws.{on_one, adds_then}
 use Rattle.proof_writer.proofs.writer.Writer.write.Goals as goal
