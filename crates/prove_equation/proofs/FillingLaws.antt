@@ -2,7 +2,7 @@
 use Rattle.std.proofs.Common.{◌≡◌, ◌+◌, ◌⊎◌, ℕ, zero, suc, true, List, [], ◌∷◌, ◌++◌, Option, Some, None, length, slice_get, inl, inr, refl, sym, ◌∙◌, ap, subst, arith}
 use Rattle.std.specs.Prelude.{Contains, IsSome, slice_index_or}
 use Rattle.std.proofs.lemmas.List.Elements.{Contains-get_or, Contains-append_cases, Contains-append_left}
-use Rattle.ml_pat.specs.Patterns.{Pattern, top, equal, fun, meta}
+use Rattle.ml_pat.specs.Patterns.{Pattern, top, equal}
 use Rattle.ml_kernel.specs.Lemmas.{instance, HasNoVariable, HaveNoVariables, IsMetaBelow}
 use Rattle.ml_kernel.specs.Theorems.{Theorem}
 use Rattle.ml_scope.specs.Scopes.{Scope, AreWithin, IsOverPlaces}
@@ -14,27 +14,27 @@ use Rattle.rule_core.specs.Matching.{RespectsSorts}
 use Rattle.rule_core.specs.declared.signature.Signature.{Signature}
 use Rattle.rule_core.specs.declared.signature.SymInfo.{SymInfo}
 use Rattle.rule_core.specs.declared.rules.Program.{Program}
-use Rattle.ml_image.specs.Images.{both, image_of, sort_image}
+use Rattle.ml_image.specs.Images.{both, image_of}
 use Rattle.ml_image.specs.HasImages.{HasImage, IsTruth, IsCondition, HasEquationImage}
 use Rattle.ml_image.specs.OwnAxioms.{condition_of, sort_of, made_sort, is_true}
 use Rattle.ml_image.specs.Sentences.{Sentence, sentence_image, term, equals}
 use Rattle.ml_image.specs.Sentences as says
-use Rattle.ml_image.proofs.ImageLaws.{none_some, some_same}
+use Rattle.ml_image.proofs.ImageLaws.{some_same}
 use Rattle.prove_term.specs.Contexts.{Context, HasContext, HasGrown, StaysIn}
 use Rattle.prove_term.specs.Filling.{filled}
 use Rattle.prove_term.specs.Values.{SaysValue}
-use Rattle.prove_term.specs.Functional.{SaysFunctional}
 use Rattle.prove_term.proofs.ContextLaws.{stays_grown}
 use Rattle.prove_term.proofs.EquationLaws.{says_equation_grown}
 use Rattle.prove_term.proofs.ImageShapes.{both_some}
 use Rattle.prove_schema.specs.Schemas.{with_metas, meta_facts, parts_of}
-use Rattle.prove_schema.specs.Using.{AreFacts, IsProved, by_fact, by_condition, IsUsable, IsUsed, StaysUsed}
+use Rattle.prove_schema.specs.Using.{IsProved, by_condition, IsUsable, IsUsed, StaysUsed}
 use Rattle.prove_schema.specs.Elements.{AllBound, AreElementsFor}
 use Rattle.prove_schema.proofs.OpenLaws.{image_is_open, open_metas, open_no_variable}
 use Rattle.prove_schema.proofs.ClosingLaws.{AreNumbers, numbers_length}
 use Rattle.prove_schema.proofs.InstanceLaws.{AreImages, AllThere, filled_image, instance_closed}
 use Rattle.prove_schema.proofs.UsingLaws.{as_many_facts, facts_closed}
 use Rattle.prove_schema.proofs.ElementLaws.{pattern_grown}
+use Rattle.prove_schema.proofs.BindingLaws.{HasImages, elements_have, elements_within, proved_fact}
 use Rattle.prove_schema.proofs.SentenceLaws.{schema_over_places}
 use Rattle.prove_equation.specs.EquationLemmas.{SaysEquationSchema, IsEquationLemma}
 use Rattle.prove_equation.specs.Conditions.{SaysCondition, BindsEach}
@@ -42,20 +42,6 @@ use Rattle.prove_equation.specs.Filled.{CanFill, SaysFilled, listed}
 use Rattle.prove_equation.proofs.ShapeLaws.{IsDirect, direct_shape, closed_same, condition_is}
 
 -- ---- sorts
-
-symbol_unique : (sig : Signature) (f : ℕ) (info other : SymInfo) → IsSymbol sig f info → IsSymbol sig f other → info ≡ other
-symbol_unique sig f info other h k =
-    ap (λ (e : List ℕ × SymInfo). e.1) (some_same (h.0, info) (k.0, other) (sym h.1 ∙ k.1))
-
--- a pattern has one sort
-pub sort_unique : (sig : Signature) (vars : List ℕ) (p : RulePattern) (s r : ℕ) → HasSort sig vars p s → HasSort sig vars p r → s ≡ r
-sort_unique sig vars (variable x) s r h k = some_same s r (sym h ∙ k)
-sort_unique sig vars (domain_value t v) s r h k = sym h.0 ∙ k.0
-sort_unique sig vars (application f ps) s r h k =
-    some_same s r (sym h.3 ∙ ap (λ (i : SymInfo). sort_at [] i.result) (symbol_unique sig f h.0 k.0 h.1 k.1) ∙ k.3)
-sort_unique sig vars (injection a b p) s r h k = sym h.1 ∙ k.1
-sort_unique sig vars (call f ss ps) s r h k =
-    some_same s r (sym h.5 ∙ ap (λ (i : SymInfo). sort_at ss i.result) (symbol_unique sig f h.0 k.0 h.1 k.1) ∙ k.5)
 
 made_there : (sig : Signature) (f : ℕ) (info : SymInfo) (sorts : List ℕ) → IsSymbol sig f info → made_sort sig f sorts ≡ sort_at sorts info.result
 made_there sig f info sorts there = rw there.1 refl
@@ -82,38 +68,6 @@ all_bound sig vars theta respects room binds x low =
 pub all_there : (vars : List ℕ) (theta : List (Option Tree)) → BindsEach vars theta → AllThere theta (length vars)
 all_there vars theta binds x low = some_there (binding theta x) (binds x low)
 
--- the facts on the terms, with their images
-pub record HasImages (cx : Context) (theta : List (Option Tree)) (numbers : List ℕ) (ts : List Theorem) : Type 0 where
-  pub patterns : List Pattern
-  pub facts : AreFacts patterns numbers ts
-  pub images : AreImages cx.program.sig cx.names theta patterns
-
-pub elements_have : (cx : Context) (theta : List (Option Tree)) (vars numbers : List ℕ) (ts : List Theorem) → AreElementsFor cx theta ts → AreNumbers cx.program.sig cx.names vars numbers → RespectsSorts cx.program.sig vars theta → length theta ≡ length vars
-    → HasImages cx theta numbers ts
-elements_have cx [] [] [] [] are nums respects room = record { patterns = []; facts = tt; images = λ x t bound. absurd (none_some t bound) }
-elements_have cx [] [] [] (t ∷ ts) are nums respects room = absurd are
-elements_have cx [] [] (n ∷ ns) ts are nums respects room = absurd nums
-elements_have cx [] (s ∷ ss) ns ts are nums respects room = absurd (omega (arith, room))
-elements_have cx (o ∷ theta) [] ns ts are nums respects room = absurd (omega (arith, room))
-elements_have cx (o ∷ theta) (s ∷ ss) [] ts are nums respects room = absurd nums
-elements_have cx (o ∷ theta) (s ∷ ss) (n ∷ ns) [] are nums respects room = absurd are
-elements_have cx (None ∷ theta) (s ∷ ss) (n ∷ ns) (t ∷ ts) are nums respects room = absurd are.0
-elements_have cx (Some u ∷ theta) (s ∷ ss) (n ∷ ns) (t ∷ ts) are nums respects room =
-    let below : HasImages cx theta ns ts = elements_have cx theta ss ns ts are.1 nums.1 (λ x v bound. respects (suc x) v bound) (omega (arith, room)) in
-    let f : SaysFunctional cx u t.conclusion = are.0.0 in
-    let known : IsNormal u × ((sort : ℕ) × (Some s ≡ Some sort) × IsTermOf cx.program.sig u sort) = respects zero u refl in
-    let sort_is : f.sort ≡ s = sort_unique cx.program.sig [] (ground_pattern u) f.sort known.1.0 f.sorted known.1.2 ∙ sym (some_same s known.1.0 known.1.1) in
-    let number_is : f.number ≡ n = some_same f.number n (sym f.is_number ∙ ap (sort_image cx.program.sig cx.names) sort_is ∙ nums.0) in
-    record {
-      patterns = f.image ∷ below.patterns;
-      facts = (f.says ∙ ap (fun f.image) number_is, f.no_variable, below.facts);
-      images = here below.patterns f.image f.is_image below.images;
-    }
-  where
-    here : (qs : List Pattern) (q : Pattern) → image_of cx.program.sig cx.names (ground_pattern u) ≡ Some q → AreImages cx.program.sig cx.names theta qs → AreImages cx.program.sig cx.names (Some u ∷ theta) (q ∷ qs)
-    here qs q is below zero v bound = (q, (refl, ap (λ (w : Tree). image_of cx.program.sig cx.names (ground_pattern w)) (sym (some_same u v bound)) ∙ is))
-    here qs q is below (suc x) v bound = below x v bound
-
 -- ---- a lemma of an equality of patterns
 
 pub record IsEqualitySchema (cx : Context) (vars : List ℕ) (l r : RulePattern) (parts : List Pattern) (lemma : Theorem) : Type 0 where
@@ -127,22 +81,6 @@ pub record IsEqualitySchema (cx : Context) (vars : List ℕ) (l r : RulePattern)
   pub right_has : HasImage cx.program.sig (length vars) r
   pub says : lemma.conclusion ≡ equal (with_metas left) (with_metas right)
   pub assumes : (h : Pattern) → Contains lemma.hypotheses h → Contains (meta_facts 0 numbers ++ parts) h
-
-meta_fact : (k : ℕ) (ns : List ℕ) (p : Pattern) → Contains (meta_facts k ns) p → (x : ℕ) × (n : ℕ) × (slice_get ns x ≡ Some n) × (p ≡ fun (meta (k + x)) n)
-meta_fact k [] p there = absurd (omega (arith, there.1))
-meta_fact k (n ∷ ns) p (zero, low, is) =
-    let same : k ≡ k + zero = omega arith in
-    (zero, n, refl, sym is ∙ ap (λ (y : ℕ). fun (meta y) n) same)
-meta_fact k (n ∷ ns) p (suc i, low, is) =
-    let w : (x : ℕ) × (m : ℕ) × (slice_get ns x ≡ Some m) × (p ≡ fun (meta (k + 1 + x)) m) = meta_fact (k + 1) ns p (i, omega (arith, low), is) in
-    let same : k + 1 + w.0 ≡ k + suc w.0 = omega arith in
-    (suc w.0, w.1, w.2, w.3 ∙ ap (λ (y : ℕ). fun (meta y) w.1) same)
-
-proved_fact : (qs : List Pattern) (ns : List ℕ) (others : List Theorem) (h : Pattern) → Contains (meta_facts 0 ns) h → IsProved qs ns others h
-proved_fact qs ns others h there =
-    let w : (x : ℕ) × (n : ℕ) × (slice_get ns x ≡ Some n) × (h ≡ fun (meta (0 + x)) n) = meta_fact 0 ns h there in
-    let same : 0 + w.0 ≡ w.0 = omega arith in
-    by_fact w.0 w.1 w.2 (w.3 ∙ ap (λ (y : ℕ). fun (meta y) w.1) same)
 
 -- it can be used where the parts of its condition are proved
 pub schema_usable : (cx : Context) (vars : List ℕ) (l r : RulePattern) (parts : List Pattern) (lemma : Theorem) (theta : List (Option Tree)) (ts others : List Theorem) (s : IsEqualitySchema cx vars l r parts lemma) → (i : HasImages cx theta s.numbers ts)
@@ -188,13 +126,6 @@ schema_says cx vars l r parts lemma theta ts t s i there is =
     }
 
 -- it stays in the context
-pub elements_within : (s : Scope) (cx : Context) (theta : List (Option Tree)) (ts : List Theorem) → HasContext s cx → AreElementsFor cx theta ts → AreWithin s ts
-elements_within s cx [] [] has are = tt
-elements_within s cx [] (t ∷ ts) has are = absurd are
-elements_within s cx (o ∷ theta) [] has are = absurd are
-elements_within s cx (None ∷ theta) (t ∷ ts) has are = absurd are.0
-elements_within s cx (Some u ∷ theta) (t ∷ ts) has are = (are.0.1 s has, elements_within s cx theta ts has are.1)
-
 pub schema_stays : (cx : Context) (vars : List ℕ) (l r : RulePattern) (parts : List Pattern) (lemma : Theorem) (theta : List (Option Tree)) (ts others : List Theorem) (t : Theorem) → IsEqualitySchema cx vars l r parts lemma → Contains cx.lemmas lemma
     → AreElementsFor cx theta ts → ((s : Scope) → HasContext s cx → AreWithin s others) → StaysUsed lemma ts others t → StaysIn cx t
 schema_stays cx vars l r parts lemma theta ts others t s there are stay used scope has =

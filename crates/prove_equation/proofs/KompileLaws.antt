@@ -43,7 +43,8 @@ use Rattle.prove_equation.specs.Conditions.{SaysCondition}
 use Rattle.prove_equation.specs.Filled.{listed}
 use Rattle.prove_equation.specs.Parameters.{behind_terms, IsMembership, AreMemberships, CanMeet}
 use Rattle.prove_equation.proofs.ShapeLaws.{IsKompile, kompile_shape, closed_same, condition_is, shifted_has, condition_behind, behind}
-use Rattle.prove_equation.proofs.FillingLaws.{HasImages, elements_have, IsEqualitySchema, SaysOfTerms, schema_usable, schema_says, schema_stays, condition_proved, condition_within, all_there, sort_of_sorted}
+use Rattle.prove_schema.proofs.BindingLaws.{HasImages, elements_have}
+use Rattle.prove_equation.proofs.FillingLaws.{IsEqualitySchema, SaysOfTerms, schema_usable, schema_says, schema_stays, condition_proved, condition_within, all_there, sort_of_sorted}
 use Rattle.prove_equation.proofs.ParameterLaws.{length-behind, there-behind, elements-behind, AreOfSorts, as_many_sorts, respects-behind, filled-behind, variable_patterns, variables-image, variables-have, variables-filled}
 
 -- ---- the sorts of the terms

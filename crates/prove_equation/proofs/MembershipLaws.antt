@@ -36,7 +36,7 @@ use Rattle.prove_term.specs.Filling.{filled}
 use Rattle.prove_term.specs.EqualImages.{SaysEqual, SaysEqualImages}
 use Rattle.prove_term.proofs.ContextLaws.{stays_grown}
 use Rattle.prove_schema.specs.Elements.{AreTerms, IsElementOf}
-use Rattle.prove_schema.proofs.InstanceLaws.{filled_written}
+use Rattle.prove_term.proofs.FillingLaws.{filled_written}
 use Rattle.prove_schema.proofs.ElementLaws.{pattern_grown}
 use Rattle.prove_equation.specs.Conditions.{BindsEach, SaysCondition}
 use Rattle.prove_equation.specs.EquationLemmas.{IsEquationLemma}

@@ -21,7 +21,7 @@ use Rattle.prove_term.specs.Filling.{filled}
 use Rattle.prove_term.specs.EqualCalls.{SaysEqualCall, SaysEqualCalls}
 use Rattle.prove_term.specs.Values.{SaysEquationAt}
 use Rattle.prove_term.proofs.ContextLaws.{stays_grown}
-use Rattle.prove_schema.proofs.InstanceLaws.{all_filled_written}
+use Rattle.prove_term.proofs.FillingLaws.{all_filled_written}
 use Rattle.prove_schema.proofs.ElementLaws.{pattern_grown}
 use Rattle.prove_equation.specs.Filled.{SaysFilled, CanTurn, IsTurned, StaysTurned}
 

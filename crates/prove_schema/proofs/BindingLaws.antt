@@ -1,11 +1,11 @@
 -- What a substitution gives the variables of a schema, with the images of that.
-use Rattle.std.proofs.Common.{◌≡◌, ◌<◌, ◌+◌, ℕ, zero, suc, List, [], ◌∷◌, Option, Some, None, length, slice_get, refl, sym, ◌∙◌, ap, arith}
+use Rattle.std.proofs.Common.{◌≡◌, ◌+◌, ℕ, zero, suc, List, [], ◌∷◌, Option, Some, None, length, slice_get, refl, sym, ◌∙◌, ap, arith}
 use Rattle.std.specs.Prelude.{Contains}
 use Rattle.ml_pat.specs.Patterns.{Pattern, fun, meta}
 use Rattle.ml_kernel.specs.Theorems.{Theorem}
 use Rattle.ml_scope.specs.Scopes.{Scope, AreWithin}
 use Rattle.term_core.specs.Terms.{Tree, IsNormal}
-use Rattle.term_core.specs.Patterns.{Pattern as RulePattern, variable, domain_value, application, injection, call, binding, ground_pattern}
+use Rattle.term_core.specs.Patterns.{Pattern as RulePattern, variable, domain_value, application, injection, call, ground_pattern}
 use Rattle.rule_core.specs.Sorting.{HasSort, IsTermOf, IsSymbol, sort_at}
 use Rattle.rule_core.specs.Matching.{RespectsSorts}
 use Rattle.rule_core.specs.declared.signature.Signature.{Signature}

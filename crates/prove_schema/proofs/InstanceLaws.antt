@@ -3,11 +3,10 @@ use Rattle.std.proofs.Common.{◌≡◌, ◌<◌, ℕ, List, [], ◌∷◌, Opti
 use Rattle.std.proofs.lemmas.Option.{get_or_from_slice_get}
 use Rattle.ml_pat.specs.Patterns.{Pattern, bot, top, imp, not, and, or, equal, member, fun, ex, all, app, at_sort, next, ev, var, meta, constant}
 use Rattle.ml_kernel.specs.Lemmas.{instance, HasNoVariable, HaveNoVariables}
-use Rattle.term_core.specs.Terms.{Tree, leaf, node, inj, Forest, no_tree, more_trees}
+use Rattle.term_core.specs.Terms.{Tree}
 use Rattle.term_core.specs.Patterns.{Pattern as RulePattern, Patterns as RulePatterns, variable, domain_value, application, injection, call, no_pattern, more_patterns}
-use Rattle.term_core.specs.Patterns.{binding, substituted, all_substituted, ground_pattern, ground_patterns}
+use Rattle.term_core.specs.Patterns.{binding, ground_pattern}
 use Rattle.rule_core.specs.declared.signature.Signature.{Signature}
-use Rattle.rule_core.proofs.SortedInstances.{mapped, both_there}
 use Rattle.ml_image.specs.Tokens.{token_of_symbol, token_of_value, numbered}
 use Rattle.ml_image.specs.Images.{both, symbol_image, sort_image, at_sorts, image_of, applied, some_symbol_image, injection_symbol, injection_image}
 use Rattle.ml_image.specs.HasImages.{HasImage, HaveImages}
@@ -85,29 +84,6 @@ mutual
   filled_applied sig names theta qs n (more_patterns p ps) head new are there has k =
       filled_applied sig names theta qs n ps (both app head (image_of sig names p)) (both app new (image_of sig names (filled theta p))) are there has.1
       (becomes_app qs head new (image_of sig names p) (image_of sig names (filled theta p)) k (filled_image sig names theta qs n p are there has.0))
-
--- ---- filled patterns as they are written
-
--- where a pattern becomes a term as it is written, it is that of the term when it is filled
-mutual
-  pub filled_written : (theta : List (Option Tree)) (p : RulePattern) (t : Tree) → substituted theta p ≡ Some t → filled theta p ≡ ground_pattern t
-  filled_written theta (variable x) t e = ap (in_place x) e
-  filled_written theta (domain_value s v) t e = ap ground_pattern (some_same (leaf s v) t e)
-  filled_written theta (application f ps) t e =
-      let from : (ts : Forest) × ((all_substituted theta ps ≡ Some ts) × (node f ts ≡ t)) = mapped (node f) (all_substituted theta ps) t e in
-      ap (application f) (all_filled_written theta ps from.0 from.1.0) ∙ ap ground_pattern from.1.1
-  filled_written theta (injection a b p) t e =
-      let from : (u : Tree) × ((substituted theta p ≡ Some u) × (inj a b u ≡ t)) = mapped (inj a b) (substituted theta p) t e in
-      ap (injection a b) (filled_written theta p from.0 from.1.0) ∙ ap ground_pattern from.1.1
-  filled_written theta (call f ss ps) t e = absurd (none_some t e)
-
-  pub all_filled_written : (theta : List (Option Tree)) (ps : RulePatterns) (ts : Forest) → all_substituted theta ps ≡ Some ts → all_filled theta ps ≡ ground_patterns ts
-  all_filled_written theta no_pattern ts e = ap ground_patterns (some_same no_tree ts e)
-  all_filled_written theta (more_patterns p ps) ts e =
-      let there : (t : Tree) × ((us : Forest) × ((ts ≡ more_trees t us) × ((substituted theta p ≡ Some t) × (all_substituted theta ps ≡ Some us)))) =
-      both_there (substituted theta p) (all_substituted theta ps) ts e in
-      ap (λ (q : RulePattern). more_patterns q (all_filled theta ps)) (filled_written theta p there.0 there.1.1.1.0)
-      ∙ ap (more_patterns (ground_pattern there.0)) (all_filled_written theta ps there.1.0 there.1.1.1.1) ∙ ap ground_patterns (sym there.1.1.0)
 
 -- ---- no object variable
 

@@ -30,7 +30,7 @@ mutual
       ap (injection a b) (filled_written theta p from.0 from.1.0) ∙ ap ground_pattern from.1.1
   filled_written theta (call f ss ps) t e = nothing t e
 
-  all_filled_written : (theta : List (Option Tree)) (ps : Patterns) (ts : Forest) → all_substituted theta ps ≡ Some ts → all_filled theta ps ≡ ground_patterns ts
+  pub all_filled_written : (theta : List (Option Tree)) (ps : Patterns) (ts : Forest) → all_substituted theta ps ≡ Some ts → all_filled theta ps ≡ ground_patterns ts
   all_filled_written theta no_pattern ts e = ap ground_patterns (one_forest no_tree ts e)
   all_filled_written theta (more_patterns p ps) ts e =
       let there : (t : Tree) × ((us : Forest) × ((ts ≡ more_trees t us) × ((substituted theta p ≡ Some t) × (all_substituted theta ps ≡ Some us)))) =
