@@ -5,5 +5,6 @@ pub mod Steps
 pub mod Schemas
 pub mod RuleLemmas
 pub mod Applying
+pub mod Meeting
 pub mod Normalizing
 pub mod ProverView
