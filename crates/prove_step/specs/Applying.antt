@@ -58,7 +58,8 @@ IsImageFor cx (Some t) q = (image_of cx.program.sig cx.names (ground_pattern t) 
 
 -- the pattern says that the image of the left side, with terms in the places of its variables, makes a step to that of
 -- the right side; no object variable stands in them
-pub record SaysFilled (cx : Context) (theta : List (Option Tree)) (left right : RulePattern) (p : Pattern) : Type 0 where
+pub record SaysFilled (cx : Context) (theta : List (Option Tree)) (left right : RulePattern) (p : Pattern) :
+    Type 0 where
   pub from : Pattern
   pub from_image : image_of cx.program.sig cx.names (filled theta left) ≡ Some from
   pub to : Pattern
