@@ -1,5 +1,5 @@
--- The programs and initial terms whose runs are proved as yet: no function is called in the term and in the sides of the
--- rules, no rule has a condition, and the left side of each has all of its variables.
+-- The programs and initial terms whose runs are proved as yet: no function is called in the term and in the sides of
+-- the rules, no rule has a condition, and the left side of each has all of its variables.
 use Rattle.std.specs.Prelude.{Bool, ◌&&◌}
 use Rattle.std.specs.List.{list_all}
 use Rattle.term_core.specs.Patterns.{Pattern}

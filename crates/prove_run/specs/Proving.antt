@@ -22,8 +22,8 @@ pub record FitsProof (proof : RunProof) (text : List ℕ) : Type 0 where
 
 -- a proof that a start reaches its value, or where it has none itself, by no step; what was appended to a buffer is a
 -- text that fits it
-pub record Begins (program : Program) (start : RulePat) (value : Option Tree) (proof : RunProof) (before after : List ℕ) :
-    Type 0 where
+pub record Begins (program : Program) (start : RulePat) (value : Option Tree) (proof : RunProof)
+    (before after : List ℕ) : Type 0 where
   pub same_program : proof.program ≡ program
   pub starts : proof.start ≡ start
   pub made : proof.made ≡ value

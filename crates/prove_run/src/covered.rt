@@ -10,8 +10,8 @@ use prove_step::{is_plain, is_plain_rule};
 use rule_core::{Program, Rule};
 use term_core::RulePat;
 
-/// Whether the runs of an initial term by the rules of a program are proved as yet: no function is called in the term and
-/// in the sides of the rules, no rule has a condition, and the left side of each has all of its variables.
+/// Whether the runs of an initial term by the rules of a program are proved as yet: no function is called in the term
+/// and in the sides of the rules, no rule has a condition, and the left side of each has all of its variables.
 pub fn is_covered(program: &Program, start: &RulePat) -> bool
     ensures { result ≡ is_covered (theory_of program.now) (plain_pattern start.now) }
 {

@@ -3,9 +3,10 @@
 //!
 //! A `Proof` begins with `a -> ev b`, a being the image of the initial term and b that of its value, which differ where
 //! injections meet in the term as it is written. A step concludes `a -> ev c` from `a -> ev b` and the theorem of the
-//! step, `b -> next c`; each such theorem stands in the database, and the next one cites it. The contract speaks of texts that fit a proof: such a text justifies the run from the start to the present
-//! configuration, and what a step appends makes of each text that fitted before one that fits after it. So the text
-//! can be written to a file as the run goes.
+//! step, `b -> next c`; each such theorem stands in the database, and the next one cites it. The contract speaks of
+//! texts that fit a proof: such a text justifies the run from the start to the present configuration, and what a step
+//! appends makes of each text that fitted before one that fits after it. So the text can be written to a file as the
+//! run goes.
 //!
 //! The text of a step is linear in the sizes of the configurations that it speaks of.
 #![tactic(auto)]

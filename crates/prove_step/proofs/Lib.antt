@@ -5,4 +5,5 @@ pub mod LemmaLaws
 pub mod StepLaws
 pub mod ApplyingLaws
 pub mod ProverLaws
+pub mod MeetingLaws
 pub mod NormalizingLaws

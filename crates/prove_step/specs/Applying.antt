@@ -33,7 +33,8 @@ pub record CanApply (cx : Context) (r : RewriteRule) (lemma : Theorem) (theta : 
 
 -- the pattern says that the image of the left side, with terms in the places of its variables, makes a step to that of
 -- the right side; no object variable stands in them
-pub record SaysFilled (cx : Context) (theta : List (Option Tree)) (left right : RulePattern) (p : Pattern) : Type 0 where
+pub record SaysFilled (cx : Context) (theta : List (Option Tree)) (left right : RulePattern) (p : Pattern) :
+    Type 0 where
   pub from : Pattern
   pub from_image : image_of cx.program.sig cx.names (filled theta left) ≡ Some from
   pub to : Pattern

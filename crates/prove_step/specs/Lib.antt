@@ -4,5 +4,6 @@ pub mod Steps
 -- Private: what clauses of private functions cite, and how private fields are seen.
 pub mod RuleLemmas
 pub mod Applying
+pub mod Meeting
 pub mod Normalizing
 pub mod ProverView

@@ -3,6 +3,7 @@
 #![tactic(auto)]
 
 mod applying;
+mod meeting;
 mod normalizing;
 mod plain;
 mod prover;

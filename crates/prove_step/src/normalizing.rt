@@ -1,20 +1,27 @@
 // The step of a rule as it is written, carried to terms in which no two injections meet.
-ghost use Rattle.std.specs.Prelude.{◌∷◌, [], IfOk, Some};
+ghost use Rattle.std.specs.Prelude.{◌∷◌, ℕ, List, [], IfOk, IfSome, Some};
 ghost use Rattle.ml_pat.specs.Patterns.{var};
 ghost use Rattle.ml_scope.specs.Scopes.{StaysWithin};
+ghost use Rattle.term_core.specs.Patterns.{FitsWithin};
+ghost use Rattle.term_core.specs.RulePatterns.{plain_pattern};
+ghost use Rattle.rule_core.specs.Evaluation.{most_height};
+ghost use Rattle.rule_core.specs.Matching.{RespectsSorts};
 ghost use Rattle.rule_core.specs.ProgramView.{theory_of};
-ghost use Rattle.rule_core.specs.WellSorted.{IsWellSorted};
+ghost use Rattle.rule_core.specs.Sorting.{HasSort};
+ghost use Rattle.rule_core.specs.WellSorted.{IsSignature, IsWellSorted};
 ghost use Rattle.prove_term.specs.Contexts.{HasGrown, StaysIn};
+ghost use Rattle.prove_term.specs.EqualImages.{SaysEqualImages};
 ghost use Rattle.prove_step.specs.Applying.{SaysFilledAt};
 ghost use Rattle.prove_step.specs.Normalizing.{CanTurnLeft, CanTurnRight, StaysTurned, TurnsLeft, TurnsRight};
 ghost use Rattle.prove_step.specs.Steps.{MakesAt, MatchesAt, SaysStepAt};
 
+use crate::meeting::meet_in;
 use ml_derived::carry;
 use ml_kernel::Thm;
 use ml_pat::{MForm, MPat, VarNo};
 use prove_term::{Cx, inj_eq};
 use std::alloc::{AllocError, Global};
-use term_core::Subst;
+use term_core::{RulePat, Subst};
 
 // The variable that marks the place in the contexts made here.
 const HOLE: VarNo = VarNo(0);
@@ -37,10 +44,33 @@ pub(crate) fn normalized(
     ensures grown { HasGrown cx.old cx.new }
 {
     let sides = &cx.program().rules[rule as usize];
-    let left = inj_eq(alloc, cx, &sides.left, subst)?;
-    let right = inj_eq(alloc, cx, &sides.right, subst)?;
+    let left = compared(alloc, cx, &sides.left, subst)?;
+    let right = compared(alloc, cx, &sides.right, subst)?;
     let from = left_turned(alloc, &left, written)?;
     right_turned(alloc, &right, from)
+}
+
+// That the image of what a side becomes as it is written equals that of its normal form; nothing is made where no two
+// injections meet.
+fn compared(
+    alloc: Global,
+    cx: &mut Cx<'_>,
+    side: &RulePat,
+    subst: &Subst,
+) -> Result<Option<Thm>, AllocError>
+    requires signature { IsSignature cx.old.program.sig }
+    requires sorted { (variables : List ℕ) × (sort : ℕ)
+        × HasSort cx.old.program.sig variables (plain_pattern side.now) sort
+        × RespectsSorts cx.old.program.sig variables subst.now }
+    requires fits { FitsWithin most_height subst.now (plain_pattern side.now) }
+    ensures says { IfOk result (SaysEqualImages cx.new subst.now (plain_pattern side.now)) }
+    ensures stays { IfOk result (λ o. IfSome o (StaysIn cx.new)) }
+    ensures grown { HasGrown cx.old cx.new }
+{
+    if !meet_in(side, subst) {
+        return Ok(None);
+    }
+    inj_eq(alloc, cx, side, subst)
 }
 
 // The step from what its left side is turned into.
