@@ -1,4 +1,4 @@
-use Rattle.std.proofs.Common.{◌≡◌, ◌<◌, ◌≤◌, ◌+◌, ◌∷◌, [], ℕ, List, Option, Some, None, length, slice_get, drop, refl, sym, ◌∙◌, ap, subst, arith}
+use Rattle.std.proofs.Common.{◌≡◌, ◌<◌, ◌≤◌, ◌+◌, [], ℕ, List, Option, Some, None, length, slice_get, drop, refl, sym, ◌∙◌, ap, subst, arith}
 use Rattle.ml_pat.specs.Patterns.{Pattern, app, constant}
 use Rattle.ml_kernel.specs.Lemmas.{HasNoVariable}
 use Rattle.ml_kernel.specs.Theorems.{Theorem}
@@ -7,12 +7,11 @@ use Rattle.term_core.specs.Patterns.{Pattern as RulePattern, application, inject
 use Rattle.term_core.specs.RulePatterns.{plain_pattern, sort_numbers}
 use Rattle.term_core.specs.PatternLists.{plain_patterns}
 use Rattle.term_core.specs.declared.rule_patterns.RulePat.{RulePat}
-use Rattle.term_core.proofs.PlainPatterns.{plain-Var, plain-Value, plain-Ctor, plain-Inj, plain-Call}
+use Rattle.term_core.proofs.PlainPatterns.{plain-Var, plain-Value, plain-Ctor, plain-Call}
 use Rattle.rule_core.specs.declared.rules.Program.{Program}
 use Rattle.rule_core.specs.Records.{Record, result_of, results_of}
 use Rattle.rule_core.specs.RecordView.{plain_record}
 use Rattle.rule_core.specs.Sorting.{IsTermOf}
-use Rattle.ml_image.specs.Images.{image_of}
 use Rattle.ml_image.specs.Sentences.{term}
 use Rattle.prove_term.specs.Contexts.{Context, HasGrown}
 use Rattle.prove_term.specs.Schemas.{AreImages}
@@ -30,9 +29,9 @@ use Rattle.prove_fun.specs.Evaluating.{IsRecorded, AreRecorded, IsImage, Equates
 use Rattle.prove_fun.proofs.Equalities.{equals_itself, equates_grown, says_equal_to}
 use Rattle.prove_fun.proofs.PlainRecords.{plain-Bound, plain-Value as record-Value, plain-Ctor as record-Ctor, plain-Inj as record-Inj, plain-ByHook, plain-ByEquation}
 use Rattle.prove_fun.proofs.Recording.{variable_filled, value_filled, IsInjection, injection_recorded, as_many_records, argument_recorded, call_recorded, hook_recorded, bound_no_call, itself_no_call, made_no_call, equation_no_call}
-use Rattle.prove_fun.proofs.Sizes.{size, child_size}
+use Rattle.prove_fun.proofs.Sizes.{child_size}
 use Rattle.prove_fun.proofs.Gathering.{IsGathered, as_many_images, image_at, gathered_none, gathered_next, gathered_all}
-use Rattle.prove_fun.proofs.Nodes.{IsNode, IsConstructor, constructor_parts, constructor_evaluated, call_parts, values_evaluated, call_joinable, call_joined, call_alone}
+use Rattle.prove_fun.proofs.Nodes.{IsConstructor, constructor_parts, constructor_evaluated, call_parts, values_evaluated, call_joinable, call_joined, call_alone}
 use Rattle.prove_fun.proofs.Injecting.{only_child, beneath_evaluated, joined_equal}
 use Rattle.prove_fun.proofs.evaluating.+evaluated.Goals as goal
 

@@ -1,4 +1,4 @@
-use Rattle.std.proofs.Common.{◌≡◌, List, map, sym, ap, subst}
+use Rattle.std.proofs.Common.{List, map, sym, subst}
 use Rattle.ml_image.specs.Sentences.{Sentence}
 use Rattle.ml_image.specs.TrueFacts.{SaysHook}
 use Rattle.term_core.specs.Values.{scalar_value}

@@ -1,5 +1,5 @@
 use Rattle.std.proofs.Common.{◌≡◌, ◌+◌, ℕ, List, [], ◌∷◌, ◌++◌, length, length-append, slice_get, Some, sym, ◌∙◌, ap, subst, arith}
-use Rattle.term_core.specs.Terms.{Tree, leaf}
+use Rattle.term_core.specs.Terms.{leaf}
 use Rattle.term_core.specs.Values.{scalar_value}
 use Rattle.term_core.specs.declared.values.Scalar.{Scalar}
 use Rattle.rule_core.specs.Records.{result_of}

@@ -1,4 +1,4 @@
-use Rattle.std.proofs.Common.{◌≡◌, ◌<◌, ℕ, length, slice_get, ap, ◌∙◌, arith}
+use Rattle.std.proofs.Common.{◌<◌, length, slice_get, ap, ◌∙◌, arith}
 use Rattle.rule_core.specs.Records.{Record}
 use Rattle.rule_core.specs.RecordView.{plain_record}
 use Rattle.prove_fun.specs.RecordParts.{children}
