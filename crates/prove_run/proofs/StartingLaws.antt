@@ -26,7 +26,7 @@ use Rattle.prove_term.proofs.ContextLaws.{grown_none, has_before}
 use Rattle.prove_term.proofs.ComparingLaws.{image_closed}
 use Rattle.prove_term.proofs.FillingLaws.{filled_nothing}
 use Rattle.prove_step.specs.Normalizing.{Turns}
-use Rattle.prove_step.proofs.GrowthLaws.{pattern_grown}
+use Rattle.prove_schema.proofs.ElementLaws.{pattern_grown}
 use Rattle.prove_step.proofs.NormalizingLaws.{turned_side}
 use Rattle.proof_writer.specs.Writing.{HasNoVariables}
 use Rattle.prove_run.specs.RunProof.{configuration}
