@@ -64,12 +64,17 @@ lists 'e{}(inj{Exp{},Item{}}(X:Exp{}),L:List{})' > "$work/meeting.kore"
 lists "$(below 'e{}(inj{Exp{},Item{}}(X:Exp{}),L:List{})')" > "$work/below.kore"
 lists 'e{}(K:Item{},L:List{})' > "$work/plain.kore"
 seconds() { local TIMEFORMAT=%U; { time "$@" > /dev/null || true; } 2>&1; }
+# The time of so many steps by a definition from the term of the same name, with their proof; its size is in `bytes`.
+proved() {
+    run=$(seconds "$top/kore_prove" run "$work/$1.kore" "$work/$1.term" --limit "$2" --proof "$work/proof.mm")
+    bytes=$(wc -c < "$work/proof.mm")
+}
+checked() { check=$(seconds "$top/kore_prove" verify "$work/proof.mm"); }
 "$top/kore_prove" verify "$top/crates/print_header/stdout" > /dev/null
 for name in cycle turn; do
     for steps in 1000 10000 100000; do
-        run=$(seconds "$top/kore_prove" run "$work/$name.kore" "$work/$name.term" --limit "$steps" --proof "$work/proof.mm")
-        check=$(seconds "$top/kore_prove" verify "$work/proof.mm")
-        bytes=$(wc -c < "$work/proof.mm")
+        proved "$name" "$steps"
+        checked
         echo "$name, $steps steps: $run s with the proof, $bytes bytes ($((bytes / steps)) a step), verified in $check s"
     done
 done
@@ -78,11 +83,10 @@ for length in 10 100 400; do
     echo "t{}(ping{}(),$part)" | tee "$work/plain.term" > "$work/meeting.term"
     echo "t{}(ping{}(),$(below "$part"))" > "$work/below.term"
     for name in plain meeting below; do
-        for steps in 1 101; do
-            run=$(seconds "$top/kore_prove" run "$work/$name.kore" "$work/$name.term" --limit "$steps" --proof "$work/proof.mm")
-            bytes[steps]=$(wc -c < "$work/proof.mm")
-        done
-        check=$(seconds "$top/kore_prove" verify "$work/proof.mm")
-        echo "$name, $length numbers: $(((bytes[101] - bytes[1]) / 100)) bytes a step, 101 steps in $run s, verified in $check s"
+        proved "$name" 2
+        first=$bytes
+        proved "$name" 12
+        checked
+        echo "$name, $length numbers: $(((bytes - first) / 10)) bytes a step, 12 steps in $run s, verified in $check s"
     done
 done
