@@ -222,11 +222,16 @@ fn a_run_leaves_its_proof(rt: HostRuntime) -> Result<(), Fail> {
     Ok(())
 }
 
-/// The piece between the third `$` from the end and the second. Where a database ends with a `$p` statement, that is a
-/// `p` and the symbols of what it states.
+/// What the last `$p` statement of a database states: a `p` and its symbols. Each piece between two `$` begins with the
+/// letter of its keyword.
 fn last_stated(database: &[u8]) -> Option<&str> {
-    match str::from_utf8(database) {
-        Ok(text) => text.rsplit('$').nth(2),
-        Err(_) => None,
+    let Ok(text) = str::from_utf8(database) else {
+        return None;
+    };
+    for piece in text.rsplit('$') {
+        if piece.as_bytes().first() == Some(&b'p') {
+            return Some(piece);
+        }
     }
+    None
 }
