@@ -1,5 +1,5 @@
 -- A proof that has come as far as a run, with its text.
-use Rattle.std.proofs.Common.{◌≡◌, ◌≤◌, ℕ, zero, suc, true, List, [], ◌∷◌, ◌++◌, Option, Some, None, slice_get, refl, sym, ◌∙◌, ap, subst}
+use Rattle.std.proofs.Common.{◌≡◌, ◌≤◌, ℕ, zero, suc, true, List, [], ◌∷◌, ◌++◌, Option, Some, None, slice_get, inl, inr, refl, sym, ◌∙◌, ap, subst}
 use Rattle.std.specs.Prelude.{option_map, Result, Ok, Err, IfOk, OnOk, OnErr}
 use Rattle.std.specs.List.{list_all}
 use Rattle.std.proofs.lemmas.List.{append_assoc}
@@ -37,7 +37,7 @@ use Rattle.run_proof.specs.ProvedSteps.{IsProofAt, IsProvedRun, BeginsAt, Begins
 use Rattle.desk_io.specs.Told.{Told, TellsCreated, Writes, WritesFront}
 use Rattle.desk_io.proofs.Told.{Writes-nil, Writes-then}
 use Rattle.rule_core.specs.Runs.{Run, kept_by}
-use Rattle.run_proof.specs.WrittenProofs.{WritesProof, WritesSome}
+use Rattle.run_proof.specs.WrittenProofs.{WritesFrontOfProof, WritesProof, WritesSome}
 use Rattle.run_proof.proofs.PlainPatterns.{both, recorded_is}
 
 pub covered_start : (theory : RewriteTheory) (start : Pattern) → is_covered theory start ≡ true → is_plain start ≡ true
@@ -172,6 +172,34 @@ none_written told h = ([], Writes-nil told h)
 pub front_written : (old new : Option Told) (bytes : List ℕ) → WritesFront old new bytes → WritesSome old new
 front_written None new bytes h = ([], tt)
 front_written (Some old) new bytes h = (h.0, h.3)
+
+-- nothing was written of some bytes
+pub none_front : (told : Option Told) (bytes : List ℕ) → TellsCreated true told → WritesFront told told bytes
+none_front None bytes h = tt
+none_front (Some told) bytes h = ([], bytes, refl, Writes-nil (Some told) h)
+
+-- .. and so nothing of a proof
+pub no_proof_written : (told : Option Told) (theory : RewriteTheory) (start : Pattern) → TellsCreated true told → WritesFrontOfProof told told theory start
+no_proof_written told theory start h = ([], Writes-nil told h, inl refl)
+
+-- the front of a text was written, of which some was before; the whole justifies the run
+pub front_of_proof : (old mid new : Option Told) (theory : RewriteTheory) (start end : Pattern) (written text : List ℕ) → Writes old mid written → WritesFront mid new text → JustifiesRun (written ++ text) theory start end →
+    WritesFrontOfProof old new theory start
+front_of_proof None mid new theory start end written text first front whole = ([], tt, inl refl)
+front_of_proof (Some old) None new theory start end written text (name, content, files, created, file, puts, is) front whole = absurd (let z : ⊥ = cc in z)
+front_of_proof (Some old) (Some mid) new theory start end written text first (front, rest, is, writes) whole = (
+  written ++ front,
+  Writes-then (Some old) (Some mid) new written front first writes,
+  inr (end, (rest, subst (λ (l : List ℕ). JustifiesRun l theory start end) (ap (λ (l : List ℕ). written ++ l) is ∙ sym (append_assoc written front rest)) whole)),
+)
+
+-- at an error behind what was written before
+pub on_err_front : {T E : Type 0} (r : Result T E) (old mid new : Option Told) (program : Program) (start : Pattern) (written bytes : List ℕ) (s : ProvedSteps) → Writes old mid written → IsProvedRun program start written s →
+    bytes ≡ s.text.items → OnErr r (WritesFront mid new bytes) → OnErr r (WritesFrontOfProof old new (theory_of program) start)
+on_err_front (Ok t) old mid new program start written bytes s first proved text front = tt
+on_err_front (Err e) old mid new program start written bytes s first proved text front =
+    front_of_proof old mid new (theory_of program) start (ground_pattern s.run.config) written s.text.items first (subst (WritesFront mid new) text front)
+    (justified program start (ground_pattern s.run.config) (ground_pattern s.run.config) s.proof (written ++ s.text.items) proved.1 refl)
 
 -- more bytes were written
 pub more_written : (old mid new : Option Told) → WritesSome old mid → WritesSome mid new → WritesSome old new

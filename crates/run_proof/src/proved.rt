@@ -8,7 +8,7 @@ ghost use Rattle.desk_io.specs.Counts.{Rose};
 ghost use Rattle.proof_writer.specs.PlainNames.{HasPlainNames};
 ghost use Rattle.prove_run.specs.Covered.{is_covered};
 ghost use Rattle.run_loop.specs.RunEnds.{plain_run, IsSortedEnd};
-ghost use Rattle.run_proof.specs.WrittenProofs.{WritesProof, WritesSome};
+ghost use Rattle.run_proof.specs.WrittenProofs.{WritesFrontOfProof, WritesProof, WritesSome};
 
 use crate::steps::{Beginning, Going, proved_beginning, proved_step};
 use crate::writing::{at_limit, ended, hand_on};
@@ -20,7 +20,8 @@ use term_core::RulePat;
 
 /// The run of an initial term, with at most `limit` steps and `calls` calls of functions. A Metamath database that
 /// justifies it, from the initial term to what the run keeps, is appended to the desk's created file as the run goes.
-/// The error is want of memory or a fault that the desk counted; then some bytes were appended.
+/// The error is want of memory or a fault that the desk counted; then the front of such a database was appended, of a
+/// run that is maybe shorter, or nothing.
 ///
 /// The text of a step is linear in the sizes of the configurations that it speaks of. The text of one step and less
 /// than 64 KiB before it are held in memory.
@@ -41,6 +42,8 @@ pub fn proved_run<'p, D: Desk>(
     ensures sorted { IfOk result (λ end. IsSortedEnd (theory_of engine.now) (plain_run end)) }
     ensures justified { IfOk result (λ end. WritesProof (D.told desk.old) (D.told desk.new)
         (theory_of engine.now) (plain_pattern start.now) (plain_run end)) }
+    ensures front { OnErr result (WritesFrontOfProof (D.told desk.old) (D.told desk.new)
+        (theory_of engine.now) (plain_pattern start.now)) }
     ensures some { OnErr result (WritesSome (D.told desk.old) (D.told desk.new)) }
     ensures created { IsTrue (D.created desk.new) }
     ensures failed { IsErrOf result DeskFault.Failed → Rose (D.write_faults desk.old) (D.write_faults desk.new) }

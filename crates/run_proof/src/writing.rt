@@ -1,10 +1,9 @@
 // The text of a proof, appended to the created file.
 ghost use Rattle.std.specs.Prelude.{◌≡◌, ◌≤◌, IsTrue, IfOk, OnOk, OnErr, IsErrOf};
-ghost use Rattle.desk_io.specs.Told.{Writes};
+ghost use Rattle.desk_io.specs.Told.{Writes, WritesFront};
 ghost use Rattle.desk_io.specs.Counts.{Rose};
 ghost use Rattle.rule_core.specs.Runs as the_run;
 ghost use Rattle.run_loop.specs.RunEnds.{plain_run};
-ghost use Rattle.run_proof.specs.WrittenProofs.{WritesSome};
 ghost use Rattle.run_proof.specs.HandedOn.{WritesPiece};
 
 use crate::steps::ProvedSteps;
@@ -18,7 +17,7 @@ const PIECE: usize = 65_536;
 pub(crate) fn hand_on<D: Desk>(desk: &mut D, text: &mut Vec<u8>) -> Result<(), DeskFault>
     requires file { IsTrue (D.created desk.old) }
     ensures piece { OnOk result (WritesPiece (D.told desk.old) (D.told desk.new) text.old.items text.new.items) }
-    ensures some { OnErr result (WritesSome (D.told desk.old) (D.told desk.new)) }
+    ensures front { OnErr result (WritesFront (D.told desk.old) (D.told desk.new) text.old.items) }
     ensures created { IsTrue (D.created desk.new) }
     ensures failed { IsErrOf result DeskFault.Failed → Rose (D.write_faults desk.old) (D.write_faults desk.new) }
     ensures counts { D.write_faults desk.old ≤ D.write_faults desk.new }
@@ -36,7 +35,7 @@ pub(crate) fn ended<D: Desk>(desk: &mut D, text: &[u8], end: RunEnd) -> Result<R
     requires file { IsTrue (D.created desk.old) }
     ensures end { IfOk result (λ e. e ≡ end) }
     ensures text { OnOk result (Writes (D.told desk.old) (D.told desk.new) text.now) }
-    ensures some { OnErr result (WritesSome (D.told desk.old) (D.told desk.new)) }
+    ensures front { OnErr result (WritesFront (D.told desk.old) (D.told desk.new) text.now) }
     ensures created { IsTrue (D.created desk.new) }
     ensures failed { IsErrOf result DeskFault.Failed → Rose (D.write_faults desk.old) (D.write_faults desk.new) }
     ensures counts { D.write_faults desk.old ≤ D.write_faults desk.new }
@@ -55,7 +54,7 @@ pub(crate) fn at_limit<D: Desk>(
     requires file { IsTrue (D.created desk.old) }
     ensures end { IfOk result (λ e. plain_run e ≡ the_run.limited limit steps.entry.run.config) }
     ensures text { OnOk result (Writes (D.told desk.old) (D.told desk.new) steps.entry.text.items) }
-    ensures some { OnErr result (WritesSome (D.told desk.old) (D.told desk.new)) }
+    ensures front { OnErr result (WritesFront (D.told desk.old) (D.told desk.new) steps.entry.text.items) }
     ensures created { IsTrue (D.created desk.new) }
     ensures failed { IsErrOf result DeskFault.Failed → Rose (D.write_faults desk.old) (D.write_faults desk.new) }
     ensures counts { D.write_faults desk.old ≤ D.write_faults desk.new }
