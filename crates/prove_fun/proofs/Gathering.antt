@@ -1,5 +1,5 @@
 -- The arguments of a node one by one: what those that are done make of the whole.
-use Rattle.std.proofs.Common.{◌≡◌, ◌<◌, ◌+◌, ℕ, zero, suc, List, [], ◌∷◌, Option, Some, None, length, get_or, drop, slice_get, refl, sym, ◌∙◌, ap, subst, arith}
+use Rattle.std.proofs.Common.{◌≡◌, ◌+◌, ℕ, zero, suc, List, [], ◌∷◌, Option, Some, None, length, get_or, drop, slice_get, refl, sym, ◌∙◌, ap, subst}
 use Rattle.ml_pat.specs.Patterns.{Pattern, app}
 use Rattle.ml_kernel.specs.Lemmas.{HasNoVariable}
 use Rattle.ml_kernel.specs.Theorems.{Theorem}
@@ -14,7 +14,7 @@ use Rattle.ml_image.specs.Images.{both, image_of, applied}
 use Rattle.ml_image.specs.Sentences.{term}
 use Rattle.prove_term.specs.Contexts.{Context, HasGrown}
 use Rattle.prove_term.specs.Schemas.{AreImages}
-use Rattle.prove_term.specs.Applications.{applied_to, IsApplication}
+use Rattle.prove_term.specs.Applications.{IsApplication}
 use Rattle.prove_term.specs.Comparing.{IsOverContext}
 use Rattle.prove_term.specs.Filling.{filled, all_filled}
 use Rattle.prove_term.proofs.ContextLaws.{grown_twice, image_grown}

@@ -1,20 +1,20 @@
 -- Calls of hooks: what is recorded of them, and what the facts on them say.
 use Rattle.std.proofs.Common.{◌≡◌, ℕ, zero, suc, List, [], ◌∷◌, ◌++◌, length, map, Option, Some, None, refl, sym, ◌∙◌, ap, subst, arith}
 use Rattle.std.specs.Prelude.{Result, Ok, slice_get}
-use Rattle.ml_pat.specs.Patterns.{Pattern, equal, constant}
+use Rattle.ml_pat.specs.Patterns.{Pattern, equal}
 use Rattle.ml_kernel.specs.Theorems.{Theorem}
 use Rattle.term_core.specs.Terms.{Tree, Forest, leaf, node, inj, no_tree, more_trees, DomainValue, integer, truth}
-use Rattle.term_core.specs.Patterns.{Pattern as RulePattern, Patterns as RulePatterns, variable, domain_value, application, injection, call, more_patterns, ground_pattern, ground_patterns}
+use Rattle.term_core.specs.Patterns.{Patterns as RulePatterns, domain_value, call, more_patterns, ground_pattern, ground_patterns}
 use Rattle.term_core.specs.HookValues.{Operation, on_integer, on_integers, compares, on_truth, on_truths, operation_value, value_by, hook_value, hooks, Hook, Kind, argument_kinds}
 use Rattle.term_core.specs.Values.{scalar_value}
 use Rattle.term_core.specs.declared.ids.HookNo.{HookNo}
 use Rattle.term_core.specs.declared.values.NoValue.{NoValue}
 use Rattle.term_core.specs.declared.values.Scalar.{Scalar}
 use Rattle.term_core.specs.declared.values.Scalar.TheVariants as scalar
-use Rattle.rule_core.specs.HookCalls.{AreValues, HookAnswers}
-use Rattle.rule_core.specs.Sorting.{HaveSorts, IsSymbol, sort_at, HasValue}
+use Rattle.rule_core.specs.HookCalls.{AreValues}
+use Rattle.rule_core.specs.Sorting.{sort_at, HasValue}
 use Rattle.rule_core.specs.MatchLaws.{AreTermsOf}
-use Rattle.rule_core.specs.WellSorted.{FitsHook, RefersTo, ReferTo}
+use Rattle.rule_core.specs.WellSorted.{ReferTo}
 use Rattle.rule_core.specs.Records.{Record, RecordList, no_record, more_records, result_of, results_of}
 use Rattle.rule_core.specs.declared.signature.Signature.{Signature}
 use Rattle.rule_core.specs.declared.signature.SortRef.{SortRef}
@@ -24,13 +24,13 @@ use Rattle.rule_core.specs.declared.signature.SymKind.TheVariants.{Hooked}
 use Rattle.rule_core.proofs.EvaluationUnique.{same_symbol}
 use Rattle.ml_image.specs.Images.{image_of}
 use Rattle.ml_image.specs.Sentences.{Sentence, term, equals, sentence_image, IsImageOf}
-use Rattle.ml_image.specs.OwnAxioms.{named, Declares}
+use Rattle.ml_image.specs.OwnAxioms.{named}
 use Rattle.ml_image.specs.TrueFacts.{HaveValues, value_patterns, SaysHook}
 use Rattle.prove_term.specs.Contexts.{Context, StaysIn}
 use Rattle.prove_term.proofs.ImageShapes.{both_some}
 use Rattle.prove_term.proofs.ComparingLaws.{image_closed}
 use Rattle.prove_fun.specs.RecordParts.{listed}
-use Rattle.prove_fun.specs.Evaluating.{IsHookCall, IsImage, SaysEqual, SaysCall}
+use Rattle.prove_fun.specs.Evaluating.{IsHookCall, IsImage, SaysCall}
 
 -- ---- arguments
 

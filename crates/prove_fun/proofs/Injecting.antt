@@ -1,18 +1,18 @@
 -- Injections of results.
-use Rattle.std.proofs.Common.{◌≡◌, ◌≤◌, ◌<◌, ℕ, zero, suc, List, [], ◌∷◌, Option, Some, None, length, slice_get, refl, sym, ◌∙◌, ap, subst, arith}
+use Rattle.std.proofs.Common.{◌≡◌, ℕ, zero, suc, List, [], ◌∷◌, Option, Some, None, slice_get, refl, sym, ◌∙◌, ap, subst}
 use Rattle.std.specs.Prelude.{IfSome}
 use Rattle.ml_pat.specs.Patterns.{Pattern, app, equal}
 use Rattle.ml_kernel.specs.Lemmas.{HasNoVariable}
 use Rattle.ml_kernel.specs.Theorems.{Theorem}
 use Rattle.ml_scope.specs.Scopes.{IsOver}
 use Rattle.term_core.specs.Terms.{Tree, inj, injected, IsNormal}
-use Rattle.term_core.specs.Patterns.{Pattern as RulePattern, variable, injection, binding, ground_pattern}
+use Rattle.term_core.specs.Patterns.{Pattern as RulePattern, variable, injection, ground_pattern}
 use Rattle.rule_core.specs.Subsorts.{IsBelow}
 use Rattle.rule_core.specs.Sorting.{HasSort, HasInjection, IsTermOf}
 use Rattle.rule_core.specs.Matching.{RespectsSorts}
 use Rattle.rule_core.specs.Records.{Record}
 use Rattle.rule_core.specs.declared.signature.Signature.{Signature}
-use Rattle.ml_image.specs.Images.{image_of, injection_image}
+use Rattle.ml_image.specs.Images.{image_of}
 use Rattle.ml_image.specs.Sentences.{term}
 use Rattle.prove_term.specs.Contexts.{Context, HasGrown, StaysIn}
 use Rattle.prove_term.specs.Applications.{IsApplication}

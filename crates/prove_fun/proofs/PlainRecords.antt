@@ -4,7 +4,7 @@ use Rattle.std.specs.Global.{Vec, Box}
 use Rattle.term_core.specs.Terms.{Tree}
 use Rattle.term_core.specs.declared.ids.SortId.{SortId}
 use Rattle.term_core.specs.declared.ids.SymId.{SymId}
-use Rattle.rule_core.specs.Records.{Record, RecordList, bound, itself, made, by_hook, by_equation, no_record, more_records}
+use Rattle.rule_core.specs.Records.{Record, bound, itself, made, by_hook, by_equation, no_record, more_records}
 use Rattle.rule_core.specs.RecordView.{optional, plain_record, plain_layer, plain_use, records}
 use Rattle.rule_core.specs.declared.records.EvalRecord.{EvalRecord}
 use Rattle.rule_core.specs.declared.records.EvalRecord.TheVariants as form
@@ -13,7 +13,7 @@ use Rattle.rule_core.specs.declared.records.EvalRecord.TheOpen as layer
 use Rattle.rule_core.specs.declared.records.EvalRecord.TheOpen.{EqRecord-F}
 use Rattle.rule_core.specs.declared.records.EqRecord.{EqRecord}
 use Rattle.rule_core.specs.declared.records.EvalRecord.TheFolds.{fold-EqRecord, fold-roll-EvalRecord, fold_out-EqRecord}
-use Rattle.prove_fun.specs.RecordParts.{children, listed}
+use Rattle.prove_fun.specs.RecordParts.{listed}
 
 pub plain-Bound : (x : ℕ) (t : Tree) → plain_record (form.Bound x t) ≡ bound x t
 plain-Bound x t =

@@ -1,9 +1,9 @@
 -- Records of evaluations, part by part, and the sorts of their results.
-use Rattle.std.proofs.Common.{◌≡◌, ◌<◌, ◌≤◌, ℕ, zero, suc, List, [], ◌∷◌, length, Option, Some, None, get_or, map, refl, sym, ◌∙◌, ap, subst, arith, inl, inr, slice_get}
+use Rattle.std.proofs.Common.{◌≡◌, ◌<◌, ◌≤◌, ℕ, zero, suc, List, [], ◌∷◌, length, Option, Some, None, get_or, refl, sym, ◌∙◌, ap, subst, arith, inl, inr, slice_get}
 use Rattle.std.specs.Prelude.{IsSome, IfSome, All}
 use Rattle.std.proofs.lemmas.Option.{slice_get_within, get_or_from_slice_get}
-use Rattle.term_core.specs.Terms.{Tree, Forest, leaf, node, inj, no_tree, more_trees, height, heights, injected, DomainValue, IsNormal, AreNormal}
-use Rattle.term_core.specs.Patterns.{Pattern as RulePattern, Patterns as RulePatterns, variable, domain_value, application, injection, call, no_pattern, more_patterns, binding, ground_pattern, ground_patterns}
+use Rattle.term_core.specs.Terms.{Tree, Forest, leaf, node, height, heights, injected, DomainValue, IsNormal, AreNormal}
+use Rattle.term_core.specs.Patterns.{Pattern as RulePattern, Patterns as RulePatterns, variable, domain_value, application, injection, call, no_pattern, more_patterns, binding, ground_pattern}
 use Rattle.term_core.specs.RulePatterns.{plain_pattern}
 use Rattle.term_core.specs.PatternLists.{plain_patterns}
 use Rattle.term_core.specs.declared.rule_patterns.RulePat.{RulePat}
@@ -11,12 +11,12 @@ use Rattle.rule_core.specs.Theories.{equations_of}
 use Rattle.rule_core.specs.ProgramView.{theory_of}
 use Rattle.rule_core.specs.declared.rules.Program.{Program}
 use Rattle.rule_core.specs.Subsorts.{IsBelow}
-use Rattle.rule_core.specs.Sorting.{HasSort, HaveSorts, IsTermOf, HasInjection, IsSymbol}
+use Rattle.rule_core.specs.Sorting.{HaveSorts, IsTermOf, HasInjection, IsSymbol}
 use Rattle.rule_core.specs.MatchLaws.{AreTermsOf}
 use Rattle.rule_core.specs.Matching.{StandsInSome, RespectsSorts, MatchAll}
-use Rattle.rule_core.specs.Evaluation.{HasHead, of_constructor, of_injection, of_call, built, most_height, IsTrueValue}
+use Rattle.rule_core.specs.Evaluation.{HasHead, of_constructor, of_injection, built, most_height, IsTrueValue}
 use Rattle.rule_core.specs.Records.{Record, RecordList, OptionalRecord, conditional, Records, RecordAll, RecordsCondition, bound, itself, made, by_hook, by_equation, no_record, more_records, result_of, results_of}
-use Rattle.rule_core.specs.WellSorted.{IsWellSorted, Serves, IsEquationOf, IsCondition}
+use Rattle.rule_core.specs.WellSorted.{IsWellSorted, IsEquationOf, IsCondition}
 use Rattle.rule_core.specs.declared.signature.SortRef.{SortRef}
 use Rattle.rule_core.specs.declared.signature.SymInfo.{SymInfo}
 use Rattle.rule_core.proofs.EvaluationUnique.{same_head, no_head_of-variable, no_head_of-value, same_symbol}

@@ -1,5 +1,5 @@
 -- The value of a pattern, from what equals its image.
-use Rattle.std.proofs.Common.{◌≡◌, List, Option, Some, None, sym, ◌∙◌, ap}
+use Rattle.std.proofs.Common.{List, Option, Some, None, ◌∙◌, ap}
 use Rattle.std.specs.Prelude.{IfSome}
 use Rattle.ml_pat.specs.Patterns.{Pattern}
 use Rattle.ml_kernel.specs.Theorems.{Theorem}

@@ -1,5 +1,5 @@
 -- How large a record is: larger than those of its parts.
-use Rattle.std.proofs.Common.{◌≡◌, ◌<◌, ◌≤◌, ◌+◌, ℕ, zero, suc, List, [], ◌∷◌, Option, Some, None, slice_get, sym, subst, arith}
+use Rattle.std.proofs.Common.{◌≡◌, ◌<◌, ◌≤◌, ◌+◌, ℕ, zero, suc, List, Option, Some, slice_get, sym, subst, arith}
 use Rattle.term_core.specs.Terms.{Tree}
 use Rattle.rule_core.specs.Records.{Record, RecordList, OptionalRecord, bound, itself, made, by_hook, by_equation, no_record, more_records, unconditional, conditional}
 use Rattle.prove_fun.specs.RecordParts.{children, children_of, listed}

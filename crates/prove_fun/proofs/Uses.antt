@@ -2,10 +2,10 @@
 use Rattle.std.proofs.Common.{◌≡◌, ◌<◌, ℕ, zero, suc, List, [], ◌∷◌, ◌++◌, Option, Some, None, length, map, option_map, get_or, slice_get, take, refl, sym, ◌∙◌, ap, subst, arith}
 use Rattle.std.specs.Prelude.{true, Vec, slice_index_or}
 use Rattle.std.specs.Global.{Global}
-use Rattle.ml_pat.specs.Patterns.{Pattern, equal}
+use Rattle.ml_pat.specs.Patterns.{Pattern}
 use Rattle.ml_kernel.specs.Theorems.{Theorem}
 use Rattle.term_core.specs.Terms.{Tree, Forest, forest, more_trees, leaf, truth}
-use Rattle.term_core.specs.Patterns.{Pattern as RulePattern, call, binding, ground_pattern, ground_patterns}
+use Rattle.term_core.specs.Patterns.{Pattern as RulePattern}
 use Rattle.term_core.specs.PatternLists.{plain_patterns}
 use Rattle.term_core.specs.RulePatterns.{plain_pattern}
 use Rattle.rule_core.specs.Rules.{Equation as PlainEquation}

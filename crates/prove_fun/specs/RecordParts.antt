@@ -1,5 +1,5 @@
 -- The records of a node's arguments.
-use Rattle.std.specs.Prelude.{ℕ, List, [], ◌∷◌}
+use Rattle.std.specs.Prelude.{List, [], ◌∷◌}
 use Rattle.rule_core.specs.Records.{Record, RecordList, bound, itself, made, by_hook, by_equation, no_record}
 use Rattle.rule_core.specs.Records.{more_records}
 

@@ -41,8 +41,9 @@ use term_core::{MAX_HEIGHT, RulePat, SortId, Subst, SymId, Term, pattern_of};
 
 /// That the image of a pattern, with the images of a substitution's terms in the places of its variables, equals that
 /// of its value, by the record of its evaluation. Where both are literally the same there is no theorem. What is stated
-/// and proved once is kept in the context. `AllocError` says that memory was wanting; the context may have grown then
-/// too. It recurses as deep as the record.
+/// and proved once is kept in the context, and `kept` has the places of the equations' lemmas there. `AllocError` says
+/// that memory was wanting, or what it says of `fun_of`; the context may have grown then too. It recurses as deep as
+/// the record. The time is linear in the sizes of the values that the record has.
 pub fn eval_eq(
     alloc: Global,
     cx: &mut Cx<'_>,

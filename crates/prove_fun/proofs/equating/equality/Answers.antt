@@ -1,7 +1,7 @@
 use Rattle.std.proofs.Common.{sym, ◌∙◌, ap, subst}
 use Rattle.ml_pat.specs.Patterns.{Pattern, equal}
 use Rattle.prove_term.proofs.ResultLaws.{if_ok_two}
-use Rattle.prove_fun.specs.Evaluating.{Equates, SaysEqual}
+use Rattle.prove_fun.specs.Evaluating.{Equates}
 use Rattle.prove_fun.proofs.equating.equality.Goals as goal
 
 pub returns-in-Some : goal.returns-in-Some

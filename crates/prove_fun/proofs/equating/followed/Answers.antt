@@ -1,7 +1,7 @@
 use Rattle.std.proofs.Common.{subst}
 use Rattle.prove_term.proofs.ResultLaws.{if_ok_two}
 use Rattle.prove_fun.specs.Evaluating.{Equates}
-use Rattle.prove_fun.proofs.Equalities.{joinable, joined_says, joined_first}
+use Rattle.prove_fun.proofs.Equalities.{joinable, joined_says}
 use Rattle.prove_fun.proofs.equating.followed.Goals as goal
 
 pub join-requires : goal.join-requires

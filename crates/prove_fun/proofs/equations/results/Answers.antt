@@ -1,6 +1,6 @@
 use Rattle.std.proofs.Common.{◌≡◌, ◌+◌, ℕ, suc, List, [], ◌∷◌, ◌++◌, map, take, sym, ◌∙◌, ap, arith}
 use Rattle.term_core.specs.Terms.{Tree, forest}
-use Rattle.rule_core.specs.Records.{Record, result_of}
+use Rattle.rule_core.specs.Records.{result_of}
 use Rattle.rule_core.specs.RecordView.{plain_record}
 use Rattle.prove_fun.specs.RecordParts.{children, children_of}
 use Rattle.prove_fun.proofs.Uses.{results_listed, take_next, take_whole}

@@ -1,4 +1,4 @@
-use Rattle.std.proofs.Common.{◌≡◌, ◌<◌, ◌≤◌, ◌+◌, ◌^◌, ◌∷◌, [], ℕ, List, Option, Some, None, length, map, option_map, slice_get, drop, refl, sym, ◌∙◌, ap, subst, arith}
+use Rattle.std.proofs.Common.{◌≡◌, ◌<◌, ◌≤◌, ◌+◌, ◌^◌, [], ℕ, List, Option, Some, None, length, map, option_map, slice_get, drop, refl, sym, ◌∙◌, ap, subst, arith}
 use Rattle.std.specs.Global.{Box}
 use Rattle.ml_pat.specs.Patterns.{Pattern, app, constant}
 use Rattle.ml_kernel.specs.Lemmas.{HasNoVariable}
@@ -8,7 +8,7 @@ use Rattle.term_core.specs.Patterns.{Pattern as RulePattern, application, inject
 use Rattle.term_core.specs.RulePatterns.{plain_pattern, sort_numbers}
 use Rattle.term_core.specs.PatternLists.{plain_patterns}
 use Rattle.term_core.specs.declared.rule_patterns.RulePat.{RulePat}
-use Rattle.term_core.proofs.PlainPatterns.{plain-Var, plain-Value, plain-Ctor, plain-Inj, plain-Call}
+use Rattle.term_core.proofs.PlainPatterns.{plain-Var, plain-Value, plain-Ctor, plain-Call}
 use Rattle.rule_core.specs.declared.rules.Program.{Program}
 use Rattle.rule_core.specs.Records.{Record, unconditional, result_of, results_of}
 use Rattle.rule_core.specs.RecordView.{plain_record, records, optional}
@@ -48,7 +48,7 @@ use Rattle.prove_fun.proofs.Sizes.{size, size_if, child_size, some_size, equatio
 use Rattle.prove_fun.proofs.Gathering.{IsGathered, as_many_images, image_at, gathered_none, gathered_next, gathered_all}
 use Rattle.prove_fun.proofs.KeptLaws.{kept_grown}
 use Rattle.prove_fun.proofs.Uses.{equation_call, condition_says, condition_at, condition_none, condition_missing, then_parts, recorded_later, use_later, ready_later, used_right, used_condition}
-use Rattle.prove_fun.proofs.Nodes.{IsNode, IsConstructor, constructor_parts, constructor_evaluated, call_parts, values_evaluated, call_joinable, call_joined, call_alone}
+use Rattle.prove_fun.proofs.Nodes.{IsConstructor, constructor_parts, constructor_evaluated, call_parts, values_evaluated, call_joinable, call_joined, call_alone}
 use Rattle.prove_fun.proofs.Injecting.{only_child, beneath_evaluated, joined_equal}
 use Rattle.prove_fun.proofs.evaluating.+evaluated.Goals as goal
 
