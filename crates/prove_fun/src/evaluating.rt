@@ -43,7 +43,7 @@ use term_core::{MAX_HEIGHT, RulePat, SortId, Subst, SymId, Term, pattern_of};
 /// of its value, by the record of its evaluation. Where both are literally the same there is no theorem. What is stated
 /// and proved once is kept in the context, and `kept` has the places of the equations' lemmas there. `AllocError` says
 /// that memory was wanting, or what it says of `fun_of`; the context may have grown then too. It recurses as deep as
-/// the record. The time is linear in the sizes of the values that the record has.
+/// the record. An injection costs the size of its value, and a call those of its arguments' values.
 pub fn eval_eq(
     alloc: Global,
     cx: &mut Cx<'_>,
@@ -273,17 +273,8 @@ fn by_equation(
     ensures kept { IsKeptIn cx.new kept.new }
 {
     let equation = equation_of(cx.program(), symbol, used.equation);
-    let condition = condition_held(alloc, cx, kept, symbol, equation, used)?;
-    let fact = equation_fact(
-        alloc,
-        cx,
-        kept,
-        symbol,
-        evaluation,
-        used,
-        args.len(),
-        &condition,
-    )?;
+    let held = condition_held(alloc, cx, kept, symbol, equation, used)?;
+    let fact = equation_fact(alloc, cx, kept, symbol, evaluation, used, args.len(), &held)?;
     let first = at_values(alloc, cx, kept, args, subst, evaluation, &fact)?;
     let right = evaluated(
         alloc,

@@ -532,12 +532,12 @@ by_equation-condition_held-requires t c =
     )
 
 pub by_equation-equation_fact-requires-clause-ready : goal.by_equation-equation_fact-requires-clause-ready
-by_equation-equation_fact-requires-clause-ready t c = ready_later c.args.cx.now c.condition_held.new.cx c.in_ok-condition.ensures.grown c.requires.recorded.ready
+by_equation-equation_fact-requires-clause-ready t c = ready_later c.args.cx.now c.condition_held.new.cx c.in_ok-held.ensures.grown c.requires.recorded.ready
 
 pub by_equation-equation_fact-requires-clause-used : goal.by_equation-equation_fact-requires-clause-used
 by_equation-equation_fact-requires-clause-used t c =
     let u : Use c.args.cx.now.program c.args.symbol.0 (plain_record c.args.evaluation.now) c.args.used.now = use_of c.args.cx.now.program c.args.subst.now c.args.symbol.0 c.args.args.now (plain_record c.args.evaluation.now) c.args.used.now c.requires.used c.requires.recorded in
-    (condition_record c.args.used.now, plain_record c.args.used.now.body.value, use_later c.args.cx.now c.condition_held.new.cx c.args.symbol.0 _ _ _ _ _ c.in_ok-condition.ensures.grown u)
+    (condition_record c.args.used.now, plain_record c.args.used.now.body.value, use_later c.args.cx.now c.condition_held.new.cx c.args.symbol.0 _ _ _ _ _ c.in_ok-held.ensures.grown u)
 
 pub by_equation-equation_fact-requires-clause-count : goal.by_equation-equation_fact-requires-clause-count
 by_equation-equation_fact-requires-clause-count t c =
@@ -564,9 +564,9 @@ pub by_equation-at_values-requires : goal.by_equation-at_values-requires
 by_equation-at_values-requires t c =
     let u : Use c.args.cx.now.program c.args.symbol.0 (plain_record c.args.evaluation.now) c.args.used.now = use_of c.args.cx.now.program c.args.subst.now c.args.symbol.0 c.args.args.now (plain_record c.args.evaluation.now) c.args.used.now c.requires.used c.requires.recorded in
     let fact : IsFact c.args.cx.now c.equation_fact.new.cx c.args.symbol.0 (plain_record c.args.evaluation.now) c.args.used.now c.in_ok-fact.fact =
-    fact_of c.args.cx.now c.condition_held.new.cx c.equation_fact.new.cx c.args.symbol.0 (plain_record c.args.evaluation.now) c.args.used.now c.in_ok-fact.fact c.in_ok-condition.ensures.grown u c.in_ok-fact.ensures.says c.in_ok-fact.ensures.stays in
+    fact_of c.args.cx.now c.condition_held.new.cx c.equation_fact.new.cx c.args.symbol.0 (plain_record c.args.evaluation.now) c.args.used.now c.in_ok-fact.fact c.in_ok-held.ensures.grown u c.in_ok-fact.ensures.says c.in_ok-fact.ensures.stays in
     let all = (call_recorded c.args.cx.now.program c.args.subst.now c.args.symbol.0 [] (plain_patterns c.args.args.now) (plain_record c.args.evaluation.now) c.requires.recorded).1 in
-    let g : HasGrown c.args.cx.now c.equation_fact.new.cx = grown_twice c.args.cx.now c.condition_held.new.cx c.equation_fact.new.cx c.in_ok-condition.ensures.grown c.in_ok-fact.ensures.grown in (
+    let g : HasGrown c.args.cx.now c.equation_fact.new.cx = grown_twice c.args.cx.now c.condition_held.new.cx c.equation_fact.new.cx c.in_ok-held.ensures.grown c.in_ok-fact.ensures.grown in (
       omega (arith, c.decreases),
       (
         subst (λ (p : Program). AreRecorded p c.args.subst.now (plain_patterns c.args.args.now) (children_of (plain_record c.args.evaluation.now))) (sym g.program) all,
@@ -580,7 +580,7 @@ by_equation-evaluated-requires t c =
     let at = subst (λ (p : Program). IsEquationAt p c.args.symbol.0 c.args.used.now.equation c.equation_of-equation.result.now) c.program.ensures c.equation_of-equation.ensures in
     let right = used_right c.args.cx.now.program c.args.symbol.0 _ c.args.used.now.equation _ _ _ c.equation_of-equation.result.now u at in
     let low = equation_size (plain_record c.args.evaluation.now) _ _ _ (condition_record c.args.used.now) (plain_record c.args.used.now.body.value) c.requires.used in
-    let g : HasGrown c.args.cx.now c.at_values.new.cx = grown_twice c.args.cx.now c.condition_held.new.cx c.at_values.new.cx c.in_ok-condition.ensures.grown (grown_twice c.condition_held.new.cx c.equation_fact.new.cx c.at_values.new.cx c.in_ok-fact.ensures.grown c.in_ok-first.ensures.grown) in
+    let g : HasGrown c.args.cx.now c.at_values.new.cx = grown_twice c.args.cx.now c.condition_held.new.cx c.at_values.new.cx c.in_ok-held.ensures.grown (grown_twice c.condition_held.new.cx c.equation_fact.new.cx c.at_values.new.cx c.in_ok-fact.ensures.grown c.in_ok-first.ensures.grown) in
     let h : IsRecorded c.args.cx.now.program c.args.used.now.subst (plain_pattern c.equation_of-equation.result.now.right) (plain_record c.args.used.now.body.value) =
     subst (λ (p : RulePattern). IsRecorded c.args.cx.now.program c.args.used.now.subst p (plain_record c.args.used.now.body.value)) right u.right in
     let body : c.deref.result.now ≡ c.args.used.now.body.value = c.deref.ensures in
@@ -608,7 +608,7 @@ by_equation-followed-requires t c =
     let u : Use c.args.cx.now.program c.args.symbol.0 (plain_record c.args.evaluation.now) c.args.used.now = use_of c.args.cx.now.program c.args.subst.now c.args.symbol.0 c.args.args.now (plain_record c.args.evaluation.now) c.args.used.now c.requires.used c.requires.recorded in
     let at = subst (λ (p : Program). IsEquationAt p c.args.symbol.0 c.args.used.now.equation c.equation_of-equation.result.now) c.program.ensures c.equation_of-equation.ensures in
     let fact : IsFact c.args.cx.now c.equation_fact.new.cx c.args.symbol.0 (plain_record c.args.evaluation.now) c.args.used.now c.in_ok-fact.fact =
-    fact_of c.args.cx.now c.condition_held.new.cx c.equation_fact.new.cx c.args.symbol.0 (plain_record c.args.evaluation.now) c.args.used.now c.in_ok-fact.fact c.in_ok-condition.ensures.grown u c.in_ok-fact.ensures.says c.in_ok-fact.ensures.stays in
+    fact_of c.args.cx.now c.condition_held.new.cx c.equation_fact.new.cx c.args.symbol.0 (plain_record c.args.evaluation.now) c.args.used.now c.in_ok-fact.fact c.in_ok-held.ensures.grown u c.in_ok-fact.ensures.says c.in_ok-fact.ensures.stays in
     let right = used_right c.args.cx.now.program c.args.symbol.0 _ c.args.used.now.equation _ _ _ c.equation_of-equation.result.now fact.applied at in
     let both = both_of c.args.cx.now c.condition_held.new.cx c.equation_fact.new.cx c.at_values.new.cx c.evaluated.new.cx c.args.subst.now c.args.symbol.0 c.args.args.now (plain_record c.args.evaluation.now) c.args.used.now (plain_pattern c.equation_of-equation.result.now.right) c.args.image.now c.in_ok-fact.fact c.in_ok-first.first c.in_ok-right.right fact right
     c.in_ok-first.ensures.grown c.in_ok-right.ensures.grown c.in_ok-first.ensures.says c.in_ok-right.ensures.says in
@@ -619,7 +619,7 @@ by_equation-returns-clause-says t c =
     let u : Use c.args.cx.now.program c.args.symbol.0 (plain_record c.args.evaluation.now) c.args.used.now = use_of c.args.cx.now.program c.args.subst.now c.args.symbol.0 c.args.args.now (plain_record c.args.evaluation.now) c.args.used.now c.requires.used c.requires.recorded in
     let at = subst (λ (p : Program). IsEquationAt p c.args.symbol.0 c.args.used.now.equation c.equation_of-equation.result.now) c.program.ensures c.equation_of-equation.ensures in
     let fact : IsFact c.args.cx.now c.equation_fact.new.cx c.args.symbol.0 (plain_record c.args.evaluation.now) c.args.used.now c.in_ok-fact.fact =
-    fact_of c.args.cx.now c.condition_held.new.cx c.equation_fact.new.cx c.args.symbol.0 (plain_record c.args.evaluation.now) c.args.used.now c.in_ok-fact.fact c.in_ok-condition.ensures.grown u c.in_ok-fact.ensures.says c.in_ok-fact.ensures.stays in
+    fact_of c.args.cx.now c.condition_held.new.cx c.equation_fact.new.cx c.args.symbol.0 (plain_record c.args.evaluation.now) c.args.used.now c.in_ok-fact.fact c.in_ok-held.ensures.grown u c.in_ok-fact.ensures.says c.in_ok-fact.ensures.stays in
     let right = used_right c.args.cx.now.program c.args.symbol.0 _ c.args.used.now.equation _ _ _ c.equation_of-equation.result.now fact.applied at in
     let both = both_of c.args.cx.now c.condition_held.new.cx c.equation_fact.new.cx c.at_values.new.cx c.evaluated.new.cx c.args.subst.now c.args.symbol.0 c.args.args.now (plain_record c.args.evaluation.now) c.args.used.now (plain_pattern c.equation_of-equation.result.now.right) c.args.image.now c.in_ok-fact.fact c.in_ok-first.first c.in_ok-right.right fact right
     c.in_ok-first.ensures.grown c.in_ok-right.ensures.grown c.in_ok-first.ensures.says c.in_ok-right.ensures.says in
@@ -739,20 +739,20 @@ pub called-returns-in_ok-fact-in-ByHook-clause-grown : goal.called-returns-in_ok
 called-returns-in_ok-fact-in-ByHook-clause-grown t c = grown_twice c.args.cx.now c.hook_fact.new.cx c.at_values.new.cx c.in_ok-fact-in-ByHook.ensures.grown c.at_values.ensures.grown
 
 pub by_equation-returns-in_err-fact-clause-grown : goal.by_equation-returns-in_err-fact-clause-grown
-by_equation-returns-in_err-fact-clause-grown t c = grown_twice c.args.cx.now c.condition_held.new.cx c.equation_fact.new.cx c.in_ok-condition.ensures.grown c.equation_fact.ensures.grown
+by_equation-returns-in_err-fact-clause-grown t c = grown_twice c.args.cx.now c.condition_held.new.cx c.equation_fact.new.cx c.in_ok-held.ensures.grown c.equation_fact.ensures.grown
 
 pub by_equation-returns-in_err-first-clause-grown : goal.by_equation-returns-in_err-first-clause-grown
 by_equation-returns-in_err-first-clause-grown t c =
-    grown_twice c.args.cx.now c.condition_held.new.cx c.at_values.new.cx c.in_ok-condition.ensures.grown (grown_twice c.condition_held.new.cx c.equation_fact.new.cx c.at_values.new.cx c.in_ok-fact.ensures.grown c.at_values.ensures.grown)
+    grown_twice c.args.cx.now c.condition_held.new.cx c.at_values.new.cx c.in_ok-held.ensures.grown (grown_twice c.condition_held.new.cx c.equation_fact.new.cx c.at_values.new.cx c.in_ok-fact.ensures.grown c.at_values.ensures.grown)
 
 pub by_equation-returns-in_err-right-clause-grown : goal.by_equation-returns-in_err-right-clause-grown
 by_equation-returns-in_err-right-clause-grown t c =
-    grown_twice c.args.cx.now c.condition_held.new.cx c.evaluated.new.cx c.in_ok-condition.ensures.grown
+    grown_twice c.args.cx.now c.condition_held.new.cx c.evaluated.new.cx c.in_ok-held.ensures.grown
     (grown_twice c.condition_held.new.cx c.equation_fact.new.cx c.evaluated.new.cx c.in_ok-fact.ensures.grown (grown_twice c.equation_fact.new.cx c.at_values.new.cx c.evaluated.new.cx c.in_ok-first.ensures.grown c.evaluated.ensures.grown))
 
 pub by_equation-returns-clause-grown : goal.by_equation-returns-clause-grown
 by_equation-returns-clause-grown t c =
-    grown_twice c.args.cx.now c.condition_held.new.cx c.evaluated.new.cx c.in_ok-condition.ensures.grown
+    grown_twice c.args.cx.now c.condition_held.new.cx c.evaluated.new.cx c.in_ok-held.ensures.grown
     (grown_twice c.condition_held.new.cx c.equation_fact.new.cx c.evaluated.new.cx c.in_ok-fact.ensures.grown (grown_twice c.equation_fact.new.cx c.at_values.new.cx c.evaluated.new.cx c.in_ok-first.ensures.grown c.in_ok-right.ensures.grown))
 
 pub value_held-returns-in_err-found-clause-grown : goal.value_held-returns-in_err-found-clause-grown
