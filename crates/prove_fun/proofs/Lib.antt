@@ -2,8 +2,10 @@ pub mod Equalities
 pub mod Gathering
 pub mod Hooking
 pub mod Injecting
+pub mod KeptLaws
 pub mod Nodes
 pub mod PlainRecords
 pub mod Recording
 pub mod Results
 pub mod Sizes
+pub mod Uses

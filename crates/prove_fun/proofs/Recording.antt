@@ -1,28 +1,31 @@
 -- Records of evaluations, part by part, and the sorts of their results.
 use Rattle.std.proofs.Common.{◌≡◌, ◌<◌, ◌≤◌, ℕ, zero, suc, List, [], ◌∷◌, length, Option, Some, None, get_or, refl, sym, ◌∙◌, ap, subst, arith, inl, inr, slice_get}
-use Rattle.std.specs.Prelude.{IsSome}
+use Rattle.std.specs.Prelude.{IsSome, IfSome, All}
+use Rattle.std.proofs.lemmas.Option.{slice_get_within, get_or_from_slice_get}
 use Rattle.term_core.specs.Terms.{Tree, Forest, leaf, node, height, heights, injected, DomainValue, IsNormal, AreNormal}
 use Rattle.term_core.specs.Patterns.{Pattern as RulePattern, Patterns as RulePatterns, variable, domain_value, application, injection, call, no_pattern, more_patterns, binding, ground_pattern}
 use Rattle.term_core.specs.RulePatterns.{plain_pattern}
 use Rattle.term_core.specs.PatternLists.{plain_patterns}
 use Rattle.term_core.specs.declared.rule_patterns.RulePat.{RulePat}
+use Rattle.rule_core.specs.Theories.{equations_of}
 use Rattle.rule_core.specs.ProgramView.{theory_of}
 use Rattle.rule_core.specs.declared.rules.Program.{Program}
 use Rattle.rule_core.specs.Subsorts.{IsBelow}
 use Rattle.rule_core.specs.Sorting.{HaveSorts, IsTermOf, HasInjection, IsSymbol}
 use Rattle.rule_core.specs.MatchLaws.{AreTermsOf}
-use Rattle.rule_core.specs.Matching.{StandsInSome, RespectsSorts}
-use Rattle.rule_core.specs.Evaluation.{HasHead, of_constructor, of_injection, built, most_height}
-use Rattle.rule_core.specs.Rules.{Equation}
-use Rattle.rule_core.specs.Records.{Record, RecordList, OptionalRecord, Records, RecordAll, bound, itself, made, by_hook, by_equation, no_record, more_records, result_of, results_of}
-use Rattle.rule_core.specs.WellSorted.{IsWellSorted}
+use Rattle.rule_core.specs.Matching.{StandsInSome, RespectsSorts, MatchAll}
+use Rattle.rule_core.specs.Evaluation.{HasHead, of_constructor, of_injection, built, most_height, IsTrueValue}
+use Rattle.rule_core.specs.Records.{Record, RecordList, OptionalRecord, conditional, Records, RecordAll, RecordsCondition, bound, itself, made, by_hook, by_equation, no_record, more_records, result_of, results_of}
+use Rattle.rule_core.specs.WellSorted.{IsWellSorted, IsEquationOf, IsCondition}
 use Rattle.rule_core.specs.declared.signature.SortRef.{SortRef}
 use Rattle.rule_core.specs.declared.signature.SymInfo.{SymInfo}
 use Rattle.rule_core.proofs.EvaluationUnique.{same_head, no_head_of-variable, no_head_of-value, same_symbol}
+use Rattle.rule_core.proofs.EvaluationAnswers.{serves_match}
 use Rattle.rule_core.proofs.Determined.{values_are_sorted, record_tells_value}
 use Rattle.prove_term.specs.Filling.{filled, in_place}
 use Rattle.prove_fun.specs.RecordParts.{children_of, listed, children}
 use Rattle.prove_fun.specs.Evaluating.{IsReady, IsRecorded, AreRecorded, IsHookCall}
+use Rattle.prove_fun.specs.Using.{IsUse}
 
 -- ---- results
 
@@ -325,8 +328,62 @@ made_no_call program theta f ps r rs t is h = go (subst (Records (theory_of prog
     go : Records (theory_of program) theta (call f [] ps) (made rs t) → ⊥
     go w = let e : None ≡ Some t = w.3 in let no : ⊥ = cc in no
 
-pub equation_no_call : (program : Program) (theta : List (Option Tree)) (f : ℕ) (ps : RulePatterns) (r : Record) (rs : RecordList) (i : ℕ) (sigma : List (Option Tree)) (condition : OptionalRecord) (body : Record) → r ≡ by_equation rs i sigma condition body → IsRecorded program theta (call f [] ps) r → ⊥
-equation_no_call program theta f ps r rs i sigma condition body is h = go (subst (Records (theory_of program) theta (call f [] ps)) is h.records)
+-- ---- the use of an equation
+
+all_at : {X : Type 0} (P : X → Type 0) (xs : List X) (i : ℕ) (x : X) → All P xs → slice_get xs i ≡ Some x → P x
+all_at P xs i x each there = subst P (get_or_from_slice_get xs i x x there) (each i x (slice_get_within xs i x there))
+
+held_record : (program : Program) (sigma : List (Option Tree)) (variables : List ℕ) (ps : RulePatterns) (ts : Forest) (p : RulePattern) (q : Record) (c : Option RulePattern) (o : OptionalRecord) → IsReady program → IsCondition program.sig variables ps p
+    → MatchAll program.sig variables ps ts sigma → heights ts ≤ most_height → c ≡ Some p → o ≡ conditional q → RecordsCondition (theory_of program) sigma c o → (h : IsRecorded program sigma p q) × (h.variables ≡ variables) × IsTrueValue (result_of q)
+held_record program sigma variables ps ts p q c o ready has matches low is_c is_o held =
+    let w : RecordsCondition (theory_of program) sigma (Some p) (conditional q) = subst (λ (x : Option RulePattern). RecordsCondition (theory_of program) sigma x (conditional q)) is_c (subst (RecordsCondition (theory_of program) sigma c) is_o held) in
+    let same : p ≡ w.0 = some_pattern p w.0 w.1 in (
+      record {
+        ready = ready;
+        variables = variables;
+        sort = has.0;
+        sorted = has.5;
+        serves = serves_match program.sig variables ps ts sigma p matches low has.6;
+        records = subst (λ (x : RulePattern). Records (theory_of program) sigma x q) (sym same) w.2;
+      },
+      refl,
+      w.3,
+    )
   where
-    go : Records (theory_of program) theta (call f [] ps) (by_equation rs i sigma condition body) → ⊥
-    go w = let e : None ≡ Some w.4 = ap (λ (es : List Equation). slice_get es i) (sym (h.ready.no_equation w.0)) ∙ w.8 in let no : ⊥ = cc in no
+    some_pattern : (p q : RulePattern) → Some p ≡ Some q → p ≡ q
+    some_pattern p q e = cc
+
+pub equation_recorded : (program : Program) (theta : List (Option Tree)) (f : ℕ) (ps : RulePatterns) (r : Record) (rs : RecordList) (i : ℕ) (sigma : List (Option Tree)) (condition : OptionalRecord) (body : Record) → r ≡ by_equation rs i sigma condition body → IsRecorded program theta (call f [] ps) r
+    → IsUse program f (children_of r) i sigma condition body
+unfolding call_recorded
+equation_recorded program theta f ps r rs i sigma condition body is h = subst (λ (q : Record). IsUse program f (children_of q) i sigma condition body) (sym is) (go (subst (IsRecorded program theta (call f [] ps)) is h))
+  where
+    go : IsRecorded program theta (call f [] ps) (by_equation rs i sigma condition body) → IsUse program f rs i sigma condition body
+    go h =
+        let w = h.records in
+        let same : w.0 ≡ f = first_same w.0 f w.1 [] w.2 ps w.5 in
+        let function : IsSymbol program.sig f w.3 = subst (λ (n : ℕ). IsSymbol program.sig n w.3) same w.6 in
+        let there : slice_get (equations_of (theory_of program) f) i ≡ Some w.4 = subst (λ (n : ℕ). slice_get (equations_of (theory_of program) n) i ≡ Some w.4) same w.8 in
+        let fits : IsEquationOf program.sig w.3 w.4 = all_at (IsEquationOf program.sig w.3) (equations_of (theory_of program) f) i w.4 (h.ready.well_sorted.equations f w.3 function) there in
+        let all : AreRecorded program theta ps rs = (call_recorded program theta f [] ps (by_equation rs i sigma condition body) h).1 in
+        let low : heights (results_of rs) ≤ most_height = (arguments_good program theta ps rs all).2 in
+        record {
+          info = w.3;
+          function = function;
+          by_equations = w.7;
+          equation = w.4;
+          there = there;
+          matches = w.9;
+          condition_held = w.12;
+          conditional = λ p q o e.
+              let has : IsCondition program.sig w.4.variables w.4.arguments p = subst (λ (x : Option RulePattern). IfSome x (IsCondition program.sig w.4.variables w.4.arguments)) o fits.condition in
+              held_record program sigma w.4.variables w.4.arguments (results_of rs) p q w.4.condition condition h.ready has w.9 low o e w.12;
+          right = record {
+            ready = h.ready;
+            variables = w.4.variables;
+            sort = fits.sort;
+            sorted = fits.right;
+            serves = serves_match program.sig w.4.variables w.4.arguments (results_of rs) sigma w.4.right w.9 low fits.bound;
+            records = w.13;
+          };
+        }

@@ -1,5 +1,6 @@
 -- How large a record is: larger than those of its parts.
-use Rattle.std.proofs.Common.{◌≡◌, ◌<◌, ◌≤◌, ◌+◌, ℕ, zero, suc, Some, slice_get, subst, arith}
+use Rattle.std.proofs.Common.{◌≡◌, ◌<◌, ◌≤◌, ◌+◌, ℕ, zero, suc, List, Option, Some, slice_get, sym, subst, arith}
+use Rattle.term_core.specs.Terms.{Tree}
 use Rattle.rule_core.specs.Records.{Record, RecordList, OptionalRecord, bound, itself, made, by_hook, by_equation, no_record, more_records, unconditional, conditional}
 use Rattle.prove_fun.specs.RecordParts.{children, children_of, listed}
 
@@ -38,3 +39,14 @@ children_size (by_equation rs i theta condition body) = omega arith
 
 pub child_size : (r : Record) (i : ℕ) (q : Record) → slice_get (children r) i ≡ Some q → size q < size r
 child_size r i q there = omega (arith, item_size (children_of r) i q there, children_size r)
+
+-- no record is empty
+pub some_size : (r : Record) → 1 ≤ size r
+some_size (bound x t) = omega arith
+some_size (itself t) = omega arith
+some_size (made rs t) = omega arith
+some_size (by_hook rs t) = omega arith
+some_size (by_equation rs i theta condition body) = omega arith
+
+pub equation_size : (r : Record) (rs : RecordList) (i : ℕ) (theta : List (Option Tree)) (condition : OptionalRecord) (body : Record) → r ≡ by_equation rs i theta condition body → size_if condition + (size body + 1) ≤ size r
+equation_size r rs i theta condition body is = subst (λ (q : Record). size_if condition + (size body + 1) ≤ size q) (sym is) (omega arith)

@@ -21,12 +21,12 @@ use Rattle.rule_core.specs.declared.signature.SymInfo.{SymInfo}
 use Rattle.ml_image.specs.Images.{image_of, applied}
 use Rattle.prove_term.specs.Contexts.{Context, StaysIn}
 use Rattle.prove_term.specs.Filling.{filled, all_filled}
-use Rattle.prove_fun.specs.Valuing.{HasNoEquation}
+use Rattle.prove_fun.specs.Covered.{AreCovered}
 
--- The program is well sorted, and no function of it has an equation.
+-- The program is well sorted, and proofs can use its equations.
 pub record IsReady (program : Program) : Type 0 where
   pub well_sorted : IsWellSorted (theory_of program)
-  pub no_equation : HasNoEquation (theory_of program)
+  pub covered : AreCovered program
 
 -- The record follows the evaluation of a pattern that has a sort, under a substitution that serves it.
 pub record IsRecorded (program : Program) (theta : List (Option Tree)) (p : RulePattern) (r : Record) : Type 0 where

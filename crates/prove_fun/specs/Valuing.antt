@@ -1,11 +1,10 @@
 -- The value of a pattern under a substitution, as a theorem says it, where there is need of one.
-use Rattle.std.specs.Prelude.{◌≡◌, ℕ, List, [], Option, Some, None}
+use Rattle.std.specs.Prelude.{◌≡◌, List, Option, Some, None}
 use Rattle.term_core.specs.Terms.{Tree}
 use Rattle.term_core.specs.Patterns.{Pattern as RulePattern, ground_pattern}
 use Rattle.ml_pat.specs.Patterns.{Pattern}
 use Rattle.ml_kernel.specs.Lemmas.{HasNoVariable}
 use Rattle.ml_kernel.specs.Theorems.{Theorem}
-use Rattle.rule_core.specs.Theories.{RewriteTheory, equations_of}
 use Rattle.ml_image.specs.Images.{image_of}
 use Rattle.prove_term.specs.Contexts.{Context}
 use Rattle.prove_term.specs.Filling.{filled}
@@ -23,7 +22,3 @@ pub record HasImageOf (cx : Context) (theta : List (Option Tree)) (p : RulePatte
 abbrev pub EqualsValue : Context → List (Option Tree) → RulePattern → Tree → Option Theorem → Type 0
 EqualsValue cx theta p t None = HasImageOf cx theta p t
 EqualsValue cx theta p t (Some thm) = SaysValue cx theta p t thm.conclusion
-
--- no function of the definition has an equation
-abbrev pub HasNoEquation : RewriteTheory → Type 0
-HasNoEquation theory = (f : ℕ) → equations_of theory f ≡ []

@@ -1,12 +1,15 @@
 // Equalities one after another, where there are such.
-ghost use Rattle.std.specs.Prelude.{◌≡◌, IfOk};
+ghost use Rattle.std.specs.Prelude.{◌≡◌, IfOk, Some};
 ghost use Rattle.ml_pat.specs.Patterns.{Pattern};
 ghost use Rattle.ml_kernel.specs.Lemmas.{HasNoVariable};
 ghost use Rattle.prove_term.specs.Contexts.{Context};
+ghost use Rattle.prove_term.specs.Comparing.{IsOverContext};
 ghost use Rattle.prove_fun.specs.Evaluating.{Equates};
 
 use ml_derived::join;
 use ml_kernel::Thm;
+use ml_pat::MPat;
+use ml_scope::eq_refl;
 use std::alloc::{AllocError, Global};
 
 // From an equality to what the next is from, and that one: both together.
@@ -22,5 +25,29 @@ pub(crate) fn joined(
     match (first, second) {
         (Some(d), Some(e)) => Ok(Some(join(alloc, &d, &e)?)),
         (None, o) | (o, None) => Ok(o),
+    }
+}
+
+// From an equality and maybe one of what it is to: both together.
+pub(crate) fn followed(alloc: Global, first: Thm, second: &Option<Thm>) -> Result<Thm, AllocError>
+    requires { (cx : Context) × (a b c : Pattern) × HasNoVariable a × Equates cx a b (Some first)
+        × Equates cx b c second.now }
+    ensures { IfOk result (λ t. (cx : Context) (a b c : Pattern) → HasNoVariable a → Equates cx a b (Some first) →
+        Equates cx b c second.now → Equates cx a c (Some t)) }
+{
+    match second {
+        Some(equality) => join(alloc, &first, equality),
+        None => Ok(first),
+    }
+}
+
+// That something equals a pattern, also where it is that.
+pub(crate) fn equality(alloc: Global, found: Option<Thm>, image: &MPat) -> Result<Thm, AllocError>
+    ensures { IfOk result (λ t. (cx : Context) (a : Pattern) → IsOverContext cx image.now →
+        Equates cx a image.now found → Equates cx a image.now (Some t)) }
+{
+    match found {
+        Some(thm) => Ok(thm),
+        None => eq_refl(alloc, image),
     }
 }

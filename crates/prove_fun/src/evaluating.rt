@@ -10,55 +10,65 @@ ghost use Rattle.term_core.specs.PatternLists.{plain_patterns};
 ghost use Rattle.rule_core.specs.Sorting.{HasInjection, HasSort, IsTermOf};
 ghost use Rattle.rule_core.specs.Subsorts.{IsBelow};
 ghost use Rattle.rule_core.specs.ProgramView.{theory_of};
-ghost use Rattle.rule_core.specs.Records.{Records, result_of, results_of};
+ghost use Rattle.rule_core.specs.Records.{Record, RecordList, Records, result_of, results_of};
 ghost use Rattle.rule_core.specs.RecordView.{plain_record};
 ghost use Rattle.rule_core.specs.WellSorted.{IsSignature, IsWellSorted, Serves};
 ghost use Rattle.prove_term.specs.Contexts.{Context, HasGrown, StaysIn};
 ghost use Rattle.prove_term.specs.Schemas.{AreImages};
 ghost use Rattle.prove_term.specs.Applications.{applied_to};
 ghost use Rattle.prove_term.specs.Comparing.{IsOverContext};
-ghost use Rattle.prove_fun.specs.Valuing.{EqualsValue, HasNoEquation};
+ghost use Rattle.prove_term.specs.Values.{SaysValue};
+ghost use Rattle.prove_fun.specs.Valuing.{EqualsValue};
+ghost use Rattle.prove_fun.specs.Covered.{AreCovered, IsEquationAt};
+ghost use Rattle.prove_fun.specs.KeptLemmas.{IsKeptIn};
 ghost use Rattle.prove_fun.specs.RecordParts.{children_of};
 ghost use Rattle.prove_fun.specs.Evaluating.{AreEvaluated, AreRecorded, Equates, IsEvaluated, IsImage};
-ghost use Rattle.prove_fun.specs.Evaluating.{IsInjectedOnce, IsRecorded, SaysCall};
+ghost use Rattle.prove_fun.specs.Evaluating.{IsInjectedOnce, IsReady, IsRecorded, SaysCall};
+ghost use Rattle.prove_fun.specs.Using.{IsUse, SaysConditionAt, condition_record, used_record};
 
-use crate::equating::joined;
+use crate::equating::{equality, followed, joined};
+use crate::equations::{equation_fact, equation_of};
 use crate::hooks::hook_fact;
+use crate::kept::Kept;
 use crate::parts::{child, sides};
 use ml_derived::join;
 use ml_kernel::Thm;
 use ml_pat::MPat;
 use prove_term::{Cx, applied, halves, inj_eq, taken_apart};
-use rule_core::EvalRecord;
+use rule_core::{EqRecord, Equation, EvalRecord};
 use std::alloc::{AllocError, Global};
 use term_core::{MAX_HEIGHT, RulePat, SortId, Subst, SymId, Term, pattern_of};
 
 /// That the image of a pattern, with the images of a substitution's terms in the places of its variables, equals that
 /// of its value, by the record of its evaluation. Where both are literally the same there is no theorem. What is stated
-/// and proved once is kept in the context. `AllocError` says that memory was wanting; the context may have grown then
-/// too. It recurses as deep as the record.
+/// and proved once is kept in the context, and `kept` has the places of the equations' lemmas there. `AllocError` says
+/// that memory was wanting, or what it says of `fun_of`; the context may have grown then too. It recurses as deep as
+/// the record. An injection costs the size of its value, and a call those of its arguments' values.
 pub fn eval_eq(
     alloc: Global,
     cx: &mut Cx<'_>,
+    kept: &mut Kept,
     pat: &RulePat,
     subst: &Subst,
     evaluation: &EvalRecord,
 ) -> Result<Option<Thm>, AllocError>
     requires well_sorted { IsWellSorted (theory_of cx.old.program) }
-    requires equations { HasNoEquation (theory_of cx.old.program) }
+    requires equations { AreCovered cx.old.program }
     requires sorted { (variables : List ℕ) × (sort : ℕ)
         × HasSort cx.old.program.sig variables (plain_pattern pat.now) sort
         × Serves cx.old.program.sig variables subst.now (plain_pattern pat.now) }
     requires recorded { Records (theory_of cx.old.program) subst.now (plain_pattern pat.now)
         (plain_record evaluation.now) }
+    requires kept { IsKeptIn cx.old kept.old }
     ensures says { IfOk result
         (EqualsValue cx.new subst.now (plain_pattern pat.now) (result_of (plain_record evaluation.now))) }
     ensures stays { IfOk result (λ o. IfSome o (StaysIn cx.new)) }
     ensures grown { HasGrown cx.old cx.new }
+    ensures kept { IsKeptIn cx.new kept.new }
 {
     let whole = pattern_of(alloc, evaluation.result())?;
     let image = cx.image(alloc, &whole)?;
-    evaluated(alloc, cx, pat, subst, evaluation, &image)
+    evaluated(alloc, cx, kept, pat, subst, evaluation, &image)
 }
 
 // The same, with the image of the value.
@@ -66,6 +76,7 @@ pub fn eval_eq(
 fn evaluated(
     alloc: Global,
     cx: &mut Cx<'_>,
+    kept: &mut Kept,
     pat: &RulePat,
     subst: &Subst,
     evaluation: &EvalRecord,
@@ -74,18 +85,20 @@ fn evaluated(
     requires recorded { IsRecorded cx.old.program subst.now (plain_pattern pat.now)
         (plain_record evaluation.now) }
     requires image { IsImage cx.old (ground_pattern (result_of (plain_record evaluation.now))) image.now }
+    requires kept { IsKeptIn cx.old kept.old }
     ensures says { IfOk result (IsEvaluated cx.new subst.now (plain_pattern pat.now) image.now) }
     ensures grown { HasGrown cx.old cx.new }
+    ensures kept { IsKeptIn cx.new kept.new }
 {
     match pat {
         RulePat::Var(_) => Ok(None),
         RulePat::Value(..) => Ok(None),
-        RulePat::Ctor(_, args) => constructed(alloc, cx, args, subst, evaluation, image),
+        RulePat::Ctor(_, args) => constructed(alloc, cx, kept, args, subst, evaluation, image),
         RulePat::Inj(from, to, below) => {
-            injected(alloc, cx, *from, *to, below, subst, evaluation, image)
+            injected(alloc, cx, kept, *from, *to, below, subst, evaluation, image)
         }
         RulePat::Call(symbol, _, args) => {
-            Ok(Some(called(alloc, cx, *symbol, args, subst, evaluation, image)?))
+            Ok(Some(called(alloc, cx, kept, *symbol, args, subst, evaluation, image)?))
         }
     }
 }
@@ -95,6 +108,7 @@ fn evaluated(
 fn constructed(
     alloc: Global,
     cx: &mut Cx<'_>,
+    kept: &mut Kept,
     args: &[RulePat],
     subst: &Subst,
     evaluation: &EvalRecord,
@@ -103,16 +117,19 @@ fn constructed(
     requires recorded { (f : ℕ) × IsRecorded cx.old.program subst.now
         (application f (plain_patterns args.now)) (plain_record evaluation.now) }
     requires image { IsImage cx.old (ground_pattern (result_of (plain_record evaluation.now))) image.now }
+    requires kept { IsKeptIn cx.old kept.old }
     ensures says { IfOk result (λ o. (f : ℕ) →
         IsRecorded cx.old.program subst.now (application f (plain_patterns args.now))
         (plain_record evaluation.now) →
         IsEvaluated cx.new subst.now (application f (plain_patterns args.now)) image.now o) }
     ensures grown { HasGrown cx.old cx.new }
+    ensures kept { IsKeptIn cx.new kept.new }
 {
     let parts = taken_apart(alloc, image, args.len())?;
     all_evaluated(
         alloc,
         cx,
+        kept,
         args,
         subst,
         evaluation,
@@ -126,6 +143,7 @@ fn constructed(
 fn all_evaluated(
     alloc: Global,
     cx: &mut Cx<'_>,
+    kept: &mut Kept,
     args: &[RulePat],
     subst: &Subst,
     evaluation: &EvalRecord,
@@ -137,15 +155,25 @@ fn all_evaluated(
     requires head { HasNoVariable head.now × IsOverContext cx.old head.now }
     requires images { AreImages cx.old.program.sig cx.old.names
         (ground_patterns (results_of (children_of (plain_record evaluation.now)))) images.now }
+    requires kept { IsKeptIn cx.old kept.old }
     ensures says { IfOk result
         (AreEvaluated cx.new subst.now (plain_patterns args.now) head.now (applied_to head.now images.now)) }
     ensures grown { HasGrown cx.old cx.new }
+    ensures kept { IsKeptIn cx.new kept.new }
 {
     let mut made: Option<Thm> = None;
     let mut function = head.share()?;
     for i in 0..args.len() {
         let argument = &images[i];
-        let one = evaluated(alloc, cx, &args[i], subst, child(evaluation, i), argument)?;
+        let one = evaluated(
+            alloc,
+            cx,
+            kept,
+            &args[i],
+            subst,
+            child(evaluation, i),
+            argument,
+        )?;
         made = applied(alloc, &made, &function, &one, argument)?;
         function = MPat::app(alloc, &function, argument)?;
     }
@@ -157,6 +185,7 @@ fn all_evaluated(
 fn injected(
     alloc: Global,
     cx: &mut Cx<'_>,
+    kept: &mut Kept,
     from: SortId,
     to: SortId,
     below: &RulePat,
@@ -167,15 +196,17 @@ fn injected(
     requires recorded { IsRecorded cx.old.program subst.now
         (injection from.0 to.0 (plain_pattern below.now)) (plain_record evaluation.now) }
     requires image { IsImage cx.old (ground_pattern (result_of (plain_record evaluation.now))) image.now }
+    requires kept { IsKeptIn cx.old kept.old }
     ensures says { IfOk result
         (IsEvaluated cx.new subst.now (injection from.0 to.0 (plain_pattern below.now)) image.now) }
     ensures grown { HasGrown cx.old cx.new }
+    ensures kept { IsKeptIn cx.new kept.new }
 {
     let inner = child(evaluation, 0);
     let once = injected_once(alloc, cx, from, to, inner.result())?;
     let whole = as_written(&once, image)?;
     let (head, argument) = halves(&whole);
-    let one = evaluated(alloc, cx, below, subst, inner, argument)?;
+    let one = evaluated(alloc, cx, kept, below, subst, inner, argument)?;
     let beneath = applied(alloc, &None, head, &one, argument)?;
     joined(alloc, beneath, once)
 }
@@ -185,6 +216,7 @@ fn injected(
 fn called(
     alloc: Global,
     cx: &mut Cx<'_>,
+    kept: &mut Kept,
     symbol: SymId,
     args: &[RulePat],
     subst: &Subst,
@@ -194,16 +226,22 @@ fn called(
     requires recorded { IsRecorded cx.old.program subst.now (call symbol.0 [] (plain_patterns args.now))
         (plain_record evaluation.now) }
     requires image { IsImage cx.old (ground_pattern (result_of (plain_record evaluation.now))) image.now }
+    requires kept { IsKeptIn cx.old kept.old }
     ensures says { IfOk result (λ t.
         IsEvaluated cx.new subst.now (call symbol.0 [] (plain_patterns args.now)) image.now (Some t)) }
     ensures grown { HasGrown cx.old cx.new }
+    ensures kept { IsKeptIn cx.new kept.new }
 {
     match evaluation {
         EvalRecord::ByHook(..) => {
             let fact = hook_fact(alloc, cx, symbol, evaluation, args.len())?;
-            at_values(alloc, cx, args, subst, evaluation, &fact)
+            at_values(alloc, cx, kept, args, subst, evaluation, &fact)
         }
-        EvalRecord::ByEquation(_) => unreachable!(),
+        EvalRecord::ByEquation(used) => {
+            by_equation(
+                alloc, cx, kept, symbol, args, subst, evaluation, used, image,
+            )
+        }
         EvalRecord::Bound(..) => unreachable!(),
         EvalRecord::Value(..) => unreachable!(),
         EvalRecord::Ctor(..) => unreachable!(),
@@ -211,11 +249,103 @@ fn called(
     }
 }
 
+// The same of a call whose value an equation gave.
+#[cycle(evaluated)]
+fn by_equation(
+    alloc: Global,
+    cx: &mut Cx<'_>,
+    kept: &mut Kept,
+    symbol: SymId,
+    args: &[RulePat],
+    subst: &Subst,
+    evaluation: &EvalRecord,
+    used: &EqRecord,
+    image: &MPat,
+) -> Result<Thm, AllocError>
+    requires recorded { IsRecorded cx.old.program subst.now (call symbol.0 [] (plain_patterns args.now))
+        (plain_record evaluation.now) }
+    requires used { plain_record evaluation.now ≡ used_record used.now }
+    requires image { IsImage cx.old (ground_pattern (result_of (plain_record evaluation.now))) image.now }
+    requires kept { IsKeptIn cx.old kept.old }
+    ensures says { IfOk result (λ t.
+        IsEvaluated cx.new subst.now (call symbol.0 [] (plain_patterns args.now)) image.now (Some t)) }
+    ensures grown { HasGrown cx.old cx.new }
+    ensures kept { IsKeptIn cx.new kept.new }
+{
+    let equation = equation_of(cx.program(), symbol, used.equation);
+    let held = condition_held(alloc, cx, kept, symbol, equation, used)?;
+    let fact = equation_fact(alloc, cx, kept, symbol, evaluation, used, args.len(), &held)?;
+    let first = at_values(alloc, cx, kept, args, subst, evaluation, &fact)?;
+    let right = evaluated(
+        alloc,
+        cx,
+        kept,
+        &equation.right,
+        &used.subst,
+        &used.body,
+        image,
+    )?;
+    followed(alloc, first, &right)
+}
+
+// That the condition of the equation that was used holds, where it has one.
+#[cycle(evaluated)]
+fn condition_held(
+    alloc: Global,
+    cx: &mut Cx<'_>,
+    kept: &mut Kept,
+    symbol: SymId,
+    equation: &Equation,
+    used: &EqRecord,
+) -> Result<Option<Thm>, AllocError>
+    requires ready { IsReady cx.old.program }
+    requires equation { IsEquationAt cx.old.program symbol.0 used.now.equation equation.now }
+    requires used { (rs : RecordList) × (body : Record)
+        × IsUse cx.old.program symbol.0 rs used.now.equation used.now.subst (condition_record used.now) body }
+    requires kept { IsKeptIn cx.old kept.old }
+    ensures says { IfOk result (SaysConditionAt cx.new symbol.0 used.now.equation used.now.subst) }
+    ensures grown { HasGrown cx.old cx.new }
+    ensures kept { IsKeptIn cx.new kept.new }
+{
+    match (&equation.cond, &used.cond) {
+        (Some(pat), Some(evaluation)) => {
+            Ok(Some(value_held(alloc, cx, kept, pat, &used.subst, evaluation)?))
+        }
+        (None, _) => Ok(None),
+        (Some(_), None) => unreachable!(),
+    }
+}
+
+// That a pattern equals its value.
+#[cycle(evaluated)]
+fn value_held(
+    alloc: Global,
+    cx: &mut Cx<'_>,
+    kept: &mut Kept,
+    pat: &RulePat,
+    subst: &Subst,
+    evaluation: &EvalRecord,
+) -> Result<Thm, AllocError>
+    requires recorded { IsRecorded cx.old.program subst.now (plain_pattern pat.now) (plain_record evaluation.now) }
+    requires kept { IsKeptIn cx.old kept.old }
+    ensures says { IfOk result (λ t.
+        SaysValue cx.new subst.now (plain_pattern pat.now) (result_of (plain_record evaluation.now)) t.conclusion) }
+    ensures stays { IfOk result (StaysIn cx.new) }
+    ensures grown { HasGrown cx.old cx.new }
+    ensures kept { IsKeptIn cx.new kept.new }
+{
+    let whole = pattern_of(alloc, evaluation.result())?;
+    let image = cx.image(alloc, &whole)?;
+    let found = evaluated(alloc, cx, kept, pat, subst, evaluation, &image)?;
+    equality(alloc, found, &image)
+}
+
 // From a theorem on a function of the arguments' values, the same on the function of their images.
 #[cycle(evaluated)]
 fn at_values(
     alloc: Global,
     cx: &mut Cx<'_>,
+    kept: &mut Kept,
     args: &[RulePat],
     subst: &Subst,
     evaluation: &EvalRecord,
@@ -225,16 +355,19 @@ fn at_values(
         (children_of (plain_record evaluation.now)) }
     requires fact { (f : ℕ) × (right : Pattern)
         × SaysCall cx.old f (results_of (children_of (plain_record evaluation.now))) right fact.now }
+    requires kept { IsKeptIn cx.old kept.old }
     ensures says { IfOk result (λ t. (f : ℕ) (right : Pattern) →
         SaysCall cx.old f (results_of (children_of (plain_record evaluation.now))) right fact.now →
         IsEvaluated cx.new subst.now (call f [] (plain_patterns args.now)) right (Some t)) }
     ensures grown { HasGrown cx.old cx.new }
+    ensures kept { IsKeptIn cx.new kept.new }
 {
     let (left, _) = sides(fact.conclusion());
     let parts = taken_apart(alloc, left, args.len())?;
     let values = all_evaluated(
         alloc,
         cx,
+        kept,
         args,
         subst,
         evaluation,

@@ -4,8 +4,10 @@ use Rattle.rule_core.specs.RecordView.{plain_record}
 use Rattle.prove_term.specs.Contexts.{HasGrown}
 use Rattle.prove_term.specs.Applications.{applied_to}
 use Rattle.prove_term.specs.Comparing.{IsOverContext}
+use Rattle.prove_fun.specs.KeptLemmas.{IsKeptIn}
+use Rattle.prove_fun.specs.Using.{condition_record}
 use Rattle.prove_fun.proofs.Gathering.{IsGathered}
-use Rattle.prove_fun.proofs.Sizes.{size}
+use Rattle.prove_fun.proofs.Sizes.{size, size_if}
 use Rattle.prove_fun.proofs.evaluating.+evaluated.Given as goal
 
 abbrev pub decreases-evaluated : goal.decreases-evaluated
@@ -20,6 +22,15 @@ decreases-injected l = 5 * size (plain_record l.evaluation.now) + 3
 abbrev pub decreases-called : goal.decreases-called
 decreases-called l = 5 * size (plain_record l.evaluation.now) + 3
 
+abbrev pub decreases-by_equation : goal.decreases-by_equation
+decreases-by_equation l = 5 * size (plain_record l.evaluation.now) + 2
+
+abbrev pub decreases-condition_held : goal.decreases-condition_held
+decreases-condition_held l = 5 * size_if (condition_record l.used.now) + 6
+
+abbrev pub decreases-value_held : goal.decreases-value_held
+decreases-value_held l = 5 * size (plain_record l.evaluation.now) + 5
+
 abbrev pub decreases-at_values : goal.decreases-at_values
 decreases-at_values l = 5 * size (plain_record l.evaluation.now) + 1
 
@@ -33,4 +44,5 @@ invariant-all_evaluated-loop-i l = record {
   over : IsOverContext l.cx l.function;
   left : applied_to l.function (drop l.i l.images) ≡ applied_to l.head l.images;
   grown : HasGrown l.initial.cx l.cx;
+  kept : IsKeptIn l.cx l.kept;
 }

@@ -10,10 +10,11 @@ use Rattle.ml_image.specs.Images.{image_of}
 use Rattle.ml_image.specs.Sentences.{term}
 use Rattle.ml_image.proofs.WellSortedLaws.{sorted_has_image}
 use Rattle.prove_term.proofs.ResultLaws.{if_ok}
-use Rattle.prove_term.proofs.ContextLaws.{image_grown}
+use Rattle.prove_term.proofs.ContextLaws.{grown_twice, image_grown}
 use Rattle.prove_term.proofs.ComparingLaws.{image_among}
 use Rattle.prove_fun.specs.Evaluating.{IsRecorded, IsImage}
 use Rattle.prove_fun.proofs.Recording.{result_good}
+use Rattle.prove_fun.proofs.Uses.{recorded_later}
 use Rattle.prove_fun.proofs.Results.{equals_value, stays_if}
 use Rattle.prove_fun.proofs.evaluating.eval_eq.Goals as goal
 
@@ -21,7 +22,7 @@ pub image-requires : goal.image-requires
 image-requires c =
     let t : Tree = result_of (plain_record c.args.evaluation.now) in
     let recorded : IsRecorded c.args.cx.now.program c.args.subst.now (plain_pattern c.args.pat.now) (plain_record c.args.evaluation.now) =
-    record { ready = record { well_sorted = c.requires.well_sorted; no_equation = c.requires.equations }; variables = c.requires.sorted.0; sort = c.requires.sorted.1; sorted = c.requires.sorted.2; serves = c.requires.sorted.3; records = c.requires.recorded } in
+    record { ready = record { well_sorted = c.requires.well_sorted; covered = c.requires.equations }; variables = c.requires.sorted.0; sort = c.requires.sorted.1; sorted = c.requires.sorted.2; serves = c.requires.sorted.3; records = c.requires.recorded } in
     let sorted : IsTermOf c.args.cx.now.program.sig t c.requires.sorted.1 = (result_good c.args.cx.now.program c.args.subst.now (plain_pattern c.args.pat.now) (plain_record c.args.evaluation.now) recorded).0 in
     let tree : plain_pattern c.in_ok-whole.whole ≡ ground_pattern t = c.in_ok-whole.ensures.tree ∙ ap ground_pattern c.result.ensures in
     subst (λ (p : Pattern). HasImage c.args.cx.now.program.sig (2 ^ 32) p) (sym tree)
@@ -43,3 +44,18 @@ returns-clause-stays c =
     if_ok c.evaluated.result
     (λ o says. stays_if c.evaluated.new.cx c.args.subst.now (plain_pattern c.args.pat.now) c.in_ok-image.image o says)
     c.evaluated.ensures.says
+
+pub evaluated-requires-clause-recorded : goal.evaluated-requires-clause-recorded
+evaluated-requires-clause-recorded c =
+    recorded_later c.args.cx.now c.image.new.self c.args.subst.now (plain_pattern c.args.pat.now) (plain_record c.args.evaluation.now) c.in_ok-image.ensures.grown
+    (record {
+      ready = record { well_sorted = c.requires.well_sorted; covered = c.requires.equations };
+      variables = c.requires.sorted.0;
+      sort = c.requires.sorted.1;
+      sorted = c.requires.sorted.2;
+      serves = c.requires.sorted.3;
+      records = c.requires.recorded;
+    })
+
+pub returns-clause-grown : goal.returns-clause-grown
+returns-clause-grown c = grown_twice c.args.cx.now c.image.new.self c.evaluated.new.cx c.in_ok-image.ensures.grown c.evaluated.ensures.grown

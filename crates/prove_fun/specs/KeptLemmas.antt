@@ -1,0 +1,26 @@
+-- Lemmas of equations whose places are kept.
+use Rattle.std.specs.Prelude.{◌≡◌, ℕ, Some, IfSome, slice_get}
+use Rattle.std.specs.BTreeMap as tree
+use Rattle.std.specs.Ordering.{nat_cmp, ordering_then}
+use Rattle.std.specs.declared.cmp.Ordering.{Ordering}
+use Rattle.ml_kernel.specs.Theorems.{Theorem}
+use Rattle.rule_core.specs.Rules.{Equation}
+use Rattle.rule_core.specs.Theories.{equations_of}
+use Rattle.rule_core.specs.ProgramView.{theory_of}
+use Rattle.prove_term.specs.Contexts.{Context}
+use Rattle.prove_equation.specs.EquationLemmas.{SaysEquationSchema}
+use Rattle.prove_fun.specs.declared.kept.Kept.{Kept}
+
+-- the lemma at a place of the context is that of the function's equation with this number
+abbrev pub IsLemmaAt : Context → ℕ → ℕ → ℕ → Type 0
+IsLemmaAt cx f i k =
+    (e : Equation) → slice_get (equations_of (theory_of cx.program) f) i ≡ Some e →
+    (t : Theorem) × (slice_get cx.lemmas k ≡ Some t) × SaysEquationSchema cx f e t
+
+-- the order in which places are kept, by the numbers of functions and of their equations
+abbrev pub pair_cmp : ℕ × ℕ → ℕ × ℕ → Ordering
+pair_cmp a b = ordering_then (nat_cmp a.0 b.0) (nat_cmp a.1 b.1)
+
+-- Each place that is kept, by a function and the number of one of its equations, is that of the equation's lemma.
+pub record IsKeptIn (cx : Context) (kept : Kept) : Type 0 where
+  pub each : (f i : ℕ) → IfSome (tree.get pair_cmp kept.places (f, i)) (IsLemmaAt cx f i)

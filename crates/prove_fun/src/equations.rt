@@ -1,0 +1,77 @@
+// Equations of functions at the values of calls' arguments.
+ghost use Rattle.std.specs.Prelude.{◌≡◌, ℕ, IfOk, Some, length, slice_get};
+ghost use Rattle.term_core.specs.Terms.{forest};
+ghost use Rattle.rule_core.specs.Rules.{Equation as PlainEquation};
+ghost use Rattle.rule_core.specs.Theories.{equations_of};
+ghost use Rattle.rule_core.specs.ProgramView.{theory_of};
+ghost use Rattle.rule_core.specs.Records.{Record, OptionalRecord, results_of};
+ghost use Rattle.rule_core.specs.RecordView.{plain_record};
+ghost use Rattle.prove_term.specs.Contexts.{HasGrown, StaysIn};
+ghost use Rattle.prove_term.specs.Values.{SaysEquationAt};
+ghost use Rattle.prove_fun.specs.Covered.{IsEquationAt};
+ghost use Rattle.prove_fun.specs.KeptLemmas.{IsKeptIn};
+ghost use Rattle.prove_fun.specs.RecordParts.{children, children_of};
+ghost use Rattle.prove_fun.specs.Evaluating.{IsReady};
+ghost use Rattle.prove_fun.specs.Using.{IsUse, SaysConditionAt};
+
+use crate::kept::{Kept, lemma_of};
+use crate::parts::child;
+use ml_kernel::Thm;
+use prove_equation::equation_at;
+use prove_term::Cx;
+use rule_core::{EqRecord, Equation, EvalRecord, Program};
+use std::alloc::{AllocError, Global};
+use term_core::{SymId, Term};
+
+// The equation of a function with a number.
+pub(crate) fn equation_of(program: &Program, symbol: SymId, number: u32) -> &Equation
+    requires { (e : PlainEquation) × (slice_get (equations_of (theory_of program.now) symbol.0) number ≡ Some e) }
+    ensures { IsEquationAt program.now symbol.0 number result.now }
+{
+    &program.equations[symbol.0 as usize][number as usize]
+}
+
+// That the function of its arguments' values, so many, is the right side of the equation that was used, with what it
+// was matched by in the places of its variables. The condition is known to hold.
+pub(crate) fn equation_fact(
+    alloc: Global,
+    cx: &mut Cx<'_>,
+    kept: &mut Kept,
+    symbol: SymId,
+    evaluation: &EvalRecord,
+    used: &EqRecord,
+    count: usize,
+    condition: &Option<Thm>,
+) -> Result<Thm, AllocError>
+    requires ready { IsReady cx.old.program }
+    requires used { (condition : OptionalRecord) × (body : Record)
+        × IsUse cx.old.program symbol.0 (children_of (plain_record evaluation.now)) used.now.equation used.now.subst
+        condition body }
+    requires count { count ≡ length (children (plain_record evaluation.now)) }
+    requires condition { SaysConditionAt cx.old symbol.0 used.now.equation used.now.subst condition.now }
+    requires kept { IsKeptIn cx.old kept.old }
+    ensures says { IfOk result (λ t. (e : PlainEquation) →
+        slice_get (equations_of (theory_of cx.old.program) symbol.0) used.now.equation ≡ Some e →
+        SaysEquationAt cx.new symbol.0 e used.now.subst (results_of (children_of (plain_record evaluation.now)))
+        t.conclusion) }
+    ensures stays { IfOk result (StaysIn cx.new) }
+    ensures grown { HasGrown cx.old cx.new }
+    ensures kept { IsKeptIn cx.new kept.new }
+{
+    let equation = equation_of(cx.program(), symbol, used.equation);
+    let lemma = lemma_of(alloc, cx, kept, used.equation, equation)?;
+    let terms = results(alloc, evaluation, count)?;
+    equation_at(alloc, cx, &lemma, equation, &used.subst, &terms, condition)
+}
+
+// The values of the arguments, so many.
+fn results(alloc: Global, evaluation: &EvalRecord, count: usize) -> Result<Vec<Term>, AllocError>
+    requires { count ≡ length (children (plain_record evaluation.now)) }
+    ensures { IfOk result (λ v. forest v.items ≡ results_of (children_of (plain_record evaluation.now))) }
+{
+    let mut terms = Vec::with_capacity(alloc, count)?;
+    for i in 0..count {
+        terms.push(child(evaluation, i).result().share()?)?;
+    }
+    Ok(terms)
+}
