@@ -8,7 +8,8 @@
 //! appends makes of each text that fitted before one that fits after it. So the text can be written to a file as the
 //! run goes.
 //!
-//! The text of a step is linear in the sizes of the configurations that it speaks of.
+//! The text of a step names the configurations that it speaks of, and each part of the terms that stand for the rule's
+//! variables: it is linear in the sizes of the configurations where these are not deep, and at most quadratic.
 #![tactic(auto)]
 
 mod covered;

@@ -23,8 +23,8 @@ use term_core::RulePat;
 /// The error is want of memory or a fault that the desk counted; then the front of such a database was appended, of a
 /// run that is maybe shorter, or nothing.
 ///
-/// The text of a step is linear in the sizes of the configurations that it speaks of. The text of one step and less
-/// than 64 KiB before it are held in memory.
+/// The text of a step grows with the configurations that it speaks of, at most with the square of their sizes. The text
+/// of one step and less than 64 KiB before it are held in memory.
 pub fn proved_run<'p, D: Desk>(
     alloc: Global,
     desk: &mut D,
