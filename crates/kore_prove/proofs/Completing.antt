@@ -1,4 +1,4 @@
--- A call that can run, or verify, and that nothing hinders ends by want of memory, if it prints no run and no verdict.
+-- A call that can run, or verify, and that nothing hinders ends as out of memory, if it prints no run and no verdict.
 use Rattle.std.proofs.Common.{◌≡◌, ℕ, ◌⊎◌, inl, inr, List, Option, None, Some, refl, sym, subst}
 use Rattle.desk_io.specs.Told.{Told, Holds, Lacks, HoldsMore}
 use Rattle.desk_io.specs.Counts.{Rose}
@@ -62,7 +62,7 @@ no_read_cause told asked s reads reads' (term_refused number byte) free h =
 no_read_cause told asked s reads reads' (too_large name) free (inl h) = absurd (not_more told asked.definition name s.definition definition_limit h.0 s.definition_held.0 s.definition_held.1 h.1)
 no_read_cause told asked s reads reads' (too_large name) free (inr h) = absurd (not_more told asked.term name s.term term_limit h.0 s.term_held.0 s.term_held.1 h.2)
 
--- such a call has no end but want of memory
+-- such a call has no end but running out of memory
 no_cause : (words : List (List ℕ)) (told : Told) (r : CanRun words told) (asked : RunRequest) (c : Course) (e : Ending) → c.told ≡ Some told → IsRun words asked → IsUnhindered c → RunCause asked c e → end_code e ≡ 1
 no_cause words told r asked c e is command free (inl h) =
     no_read_cause told asked (stands words told r asked command) c.reads c.reads' e free.reads (subst (λ (o : Option Told). ReadCause asked o c.reads c.reads' e) is h)

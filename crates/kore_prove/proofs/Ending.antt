@@ -49,7 +49,7 @@ code_of_run words code (inl ten) = inr (inl ten)
 code_of_run words code (inr (inl eleven)) = inr (inr (inl eleven))
 code_of_run words code (inr (inr zero)) = inl zero.0
 
--- a call that reports an end has its code, or that of want of memory
+-- a call that reports an end has its code, or that of running out of memory
 pub code_of_one : (e : Ending) (before after : Option (List ℕ)) (old new code : ℕ) → Reports e before after old new code → end_code e ≡ 1 → code ≡ 1
 code_of_one e before after old new code (inl said) one = said.0 ∙ one
 code_of_one e before after old new code (inr cut) one = cut.0

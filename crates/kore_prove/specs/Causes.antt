@@ -115,7 +115,7 @@ abbrev pub Grows : Option (List ℕ) → Option (List ℕ) → Type 0
 Grows None after = Unit {0}
 Grows (Some before) after = (more : List ℕ) × (after ≡ Some (before ++ more))
 
--- The output is as before, but where it could not be written or memory was wanting: then it may have got a part.
+-- The output is as before, but where it could not be written or memory ran out: then it may have got a part.
 abbrev pub KeepsOutput : Ending → Option (List ℕ) → Option (List ℕ) → Type 0
 KeepsOutput out_of_memory before after = Grows before after
 KeepsOutput bad_words before after = SameBytes before after

@@ -30,7 +30,7 @@ FileCause IsWhy told name limit reads reads' (file.Refused (refusal.Refused numb
     HoldsWhat IsWhy told name limit (record { number = number; byte = byte })
 FileCause IsWhy told name limit reads reads' (file.Refused refusal.Memory) = Unit {0}
 
--- The desk's files are as before, but where they could not be written or memory was wanting: then the file of a proof
+-- The desk's files are as before, but where they could not be written or memory ran out: then the file of a proof
 -- may have been created.
 abbrev pub KeepsFilesAt : Ending → Option Told → Option Told → Type 0
 KeepsFilesAt out_of_memory old new = Unit {0}

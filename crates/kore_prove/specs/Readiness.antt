@@ -62,7 +62,7 @@ pub record IsUnhindered (c : Course) : Type 0 where
   pub files : Rose c.files c.files' → ⊥
   pub writes : Rose c.writes c.writes' → ⊥
 
--- where the words can run and nothing hinders, the call comes to a printed run, or memory was wanting
+-- where the words can run and nothing hinders, the call comes to a printed run, or memory ran out
 abbrev pub Completes : List (List ℕ) → Course → ℕ → Type 0
 Completes words c code =
     IsReady words c.told → IsUnhindered c → (code ≡ 0) ⊎ (code ≡ 10) ⊎ (code ≡ 11) ⊎ (code ≡ 1)

@@ -48,7 +48,7 @@ report_line e = codes "kore_prove: " ++ (reason e ++ 10 ∷ [])
 abbrev pub SaysLine : Ending → Option (List ℕ) → Option (List ℕ) → ℕ → ℕ → Type 0
 SaysLine e before after old new = Appends before after (report_line e) ⊎ (AppendsFront before after (report_line e) × Rose old new)
 
--- The code is that of the end and the stream got its line; or memory was wanting for that, the code is that of want of
+-- The code is that of the end and the stream got its line; or memory ran out for that, the code is that of want of
 -- memory, and the stream got a part of the line from its front.
 abbrev pub Reports : Ending → Option (List ℕ) → Option (List ℕ) → ℕ → ℕ → ℕ → Type 0
 Reports e before after old new code =

@@ -173,7 +173,7 @@ fn exit_code(end: &RunEnd) -> u8
 }
 
 // Says on `err` why the call came to no run and no verdict. Where memory is wanting for that too, the status is that of
-// want of memory.
+// running out of memory.
 fn report<E: Sink>(err: &mut E, end: &End) -> Status
     ensures { Reports (plain_end end.now)
         (E.bytes err.old) (E.bytes err.new) (E.faults err.old) (E.faults err.new) result.code }

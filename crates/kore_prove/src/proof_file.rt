@@ -19,7 +19,7 @@ use run_loop::RunEnd;
 use std::alloc::Global;
 
 /// How the run that is asked for ends, and its two lines. Where a file for the proof is named, it is created before the
-/// run, written as the run goes, and closed after it. The error is want of memory or a fault that the desk counted.
+/// run, written as the run goes, and closed after it. The error: out of memory or a fault that the desk counted.
 pub fn made_lines<D: Desk>(
     alloc: Global,
     desk: &mut D,

@@ -20,7 +20,7 @@ use run_loop::{RunEnd, run};
 use run_proof::proved_run;
 use std::alloc::{AllocError, Global};
 
-/// How the run that is asked for ends, and its two lines. `AllocError` says that memory was wanting.
+/// How the run that is asked for ends, and its two lines. `AllocError` says that memory ran out.
 pub fn lines_of_run(
     alloc: Global,
     accepted: &Accepted,
@@ -37,7 +37,7 @@ pub fn lines_of_run(
     Ok((end, lines))
 }
 
-/// The same; a database that justifies the run is appended to the created file as it goes. The error is want of memory
+/// The same; a database that justifies the run is appended to the created file as it goes. The error: out of memory
 /// or a fault that the desk counted; then some bytes were appended.
 pub fn proved_lines_of_run<D: Desk>(
     alloc: Global,

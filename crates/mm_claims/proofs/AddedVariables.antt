@@ -1,4 +1,4 @@
--- Variables behind others, each once, as a list gets them one by one.
+-- Variables after others, each once, as a list gets them one by one.
 use Rattle.std.proofs.Common.{◌≡◌, Bool, true, false, List, [], ◌∷◌, ◌++◌, refl, ap, ◌∙◌, sym, subst, append_assoc, append-nil}
 use Rattle.std.specs.Prelude.{◌||◌}
 use Rattle.std.proofs.lemmas.Bool.{false≢true}

@@ -1,4 +1,4 @@
--- A block behind a text that fits, and what holds behind it.
+-- A block after a text that fits, and what holds after it.
 use Rattle.std.proofs.Common.{◌≡◌, ℕ, ◌+◌, ◌<◌, ◌^◌, Bool, true, false, List, [], ◌∷◌, ◌++◌, length, zero, suc, map, refl, ap, ◌∙◌, sym, subst, arith, append_assoc, length-append, ◌⊎◌, inl, inr, Some, None, slice_get}
 use Rattle.std.specs.Prelude.{◌||◌, if◌then◌else◌, codes, bytes_eq}
 use Rattle.std.proofs.lemmas.Slice.Eq.{bytes_eq-Decides}
@@ -31,7 +31,7 @@ use Rattle.mm_claims.proofs.OpenTexts.{own_hypotheses, own_ready, open_typed, op
 use Rattle.mm_claims.proofs.OpenFrames.{frame_is}
 use Rattle.mm_claims.proofs.BoolLaws.{both_false, either_true, if_false, if_true}
 
--- the context behind the block of a claim, in which these variables were declared
+-- the context after the block of a claim, in which these variables were declared
 abbrev pub behind_block : List Token → ℕ → Context → Claim → List Variable → Context
 behind_block declared k c s vs = record {
   constants = c.constants;
@@ -123,7 +123,7 @@ token_no_statement : (v : Variable) (l : ℕ) → bytes_eq (variable_token v) (s
 token_no_statement (object_variable i) l = refl
 token_no_statement (pattern_variable i) l = refl
 
--- what holds behind a block
+-- what holds after a block
 
 three_false : (a b d : Bool) → a ≡ false → b ≡ false → d ≡ false → ((a || b) || d) ≡ false
 three_false a b d h g f = rw (h, g, f) refl

@@ -1,4 +1,4 @@
--- In a block behind a text that fits, hypotheses, axioms and lemmas are cited soundly.
+-- In a block after a text that fits, hypotheses, axioms and lemmas are cited soundly.
 use Rattle.std.proofs.Common.{ℕ, ◌<◌, ◌^◌, List, length}
 use Rattle.mm_text.specs.Bytes.{Token}
 use Rattle.mm_database.specs.Database.{Context}

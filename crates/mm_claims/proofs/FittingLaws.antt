@@ -1,4 +1,4 @@
--- What holds behind the declarations of names.
+-- What holds after the declarations of names.
 use Rattle.std.proofs.Common.{◌≡◌, ℕ, ◌+◌, ◌<◌, ◌≤◌, ◌^◌, Bool, true, false, List, [], ◌∷◌, ◌++◌, length, take, drop, zero, suc, refl, ap, ◌∙◌, sym, subst, arith, append_assoc, append-nil, length-append, ◌⊎◌, inl, inr, Option, Some, None}
 use Rattle.std.specs.Prelude.{◌||◌, not, bytes_eq, IfSome}
 use Rattle.std.specs.List.{list_all}
@@ -57,7 +57,7 @@ header_holds = record {
 
 -- one declaration
 
--- the context behind a constant and its `$a`
+-- the context after a constant and its `$a`
 abbrev pub with_constant : Context → Token → Context
 with_constant c t = with_declared c [] declares_constants (t ∷ [])
 
@@ -170,7 +170,7 @@ adds_name done c at t sts left w closed new behind =
       ),
     )
 
--- what holds behind a declaration
+-- what holds after a declaration
 
 header_no_row : (i : ℕ) → header_context.frames (name_label i) ≡ None
 unfolding header_context header_rows
@@ -249,7 +249,7 @@ pub AreNames-next : (xs : List Token) (t : Token) (ys : List Token) → AreNames
 AreNames-next [] t ys h = h.0
 AreNames-next (x ∷ xs) t ys h = AreNames-next xs t ys h.1
 
--- the context behind the declarations of some names
+-- the context after the declarations of some names
 abbrev pub behind_names : Context → ℕ → List Token → Context
 behind_names c i [] = c
 behind_names c i (t ∷ ts) = behind_names (with_name c i t) (i + 1) ts

@@ -1,4 +1,4 @@
--- The variables and hypotheses of a block: each statement is without fault, and what is active behind them.
+-- The variables and hypotheses of a block: each statement is without fault, and what is active after them.
 use Rattle.std.proofs.Common.{◌≡◌, ℕ, ◌<◌, ◌^◌, Bool, true, false, List, [], ◌∷◌, ◌++◌, map, refl, ap, ◌∙◌, sym, subst, append_assoc, append-nil, Some, None}
 use Rattle.std.specs.Prelude.{◌||◌, not, bytes_eq}
 use Rattle.std.specs.List.{list_any, list_all}
@@ -26,7 +26,7 @@ use Rattle.mm_claims.proofs.BoolLaws.{both_false, either_true, second_true, not_
 use Rattle.mm_text.specs.PlainTokens.{is_plain_token}
 use Rattle.mm_database.specs.StatementTexts.{plain_tokens}
 
--- what stands behind the text before a block
+-- what stands after the text before a block
 pub record IsGround (declared : List Token) (k : ℕ) (c : Context) : Type 0 where
   pub base : Holds declared c
   pub names : AreNames declared

@@ -88,7 +88,7 @@ kept_premises names n vs k j (p ∷ ps) h =
     ap (λ (e : List Token). plain_tokens (premise_label k j ∷ []) assumes e ∷ premise_statements (take n names) k (j + 1) ps) (kept_text names n vs p h.0)
     ∙ ap (λ (others : List (List Token)). plain_tokens (premise_label k j ∷ []) assumes (holds_text (own_naming names) p) ∷ others) (kept_premises names n vs k (j + 1) ps h.1)
 
--- a statement alone, or behind its variables and hypotheses in its block
+-- a statement alone, or after its variables and hypotheses in its block
 abbrev statement_of : Bool → ℕ → List Variable → List (List Token) → List Token → List (List Token)
 statement_of b k vs premises statement = if b then block ((variable_statements k vs ++ (separation_statements (separations vs) ++ premises)) ++ statement ∷ []) else (statement ∷ [])
 
@@ -141,7 +141,7 @@ among_more claims k k' s counted among more x there = go (more.kept x there)
     go (inl h) = there_still claims (s ∷ []) x.number x.claim (among x h)
     go (inr is) = subst (λ (y : Stated). slice_get (claims ++ s ∷ []) y.number ≡ Some y.claim) is (subst (λ (n : ℕ). slice_get (claims ++ s ∷ []) n ≡ Some s) counted (at_end claims s))
 
--- What is appended behind claims of a text makes a text with one claim more, and just that is gained.
+-- What is appended after claims of a text makes a text with one claim more, and just that is gained.
 abbrev AppendsClaim : List Token → List Stated → ℕ → Claim → List ℕ → List Variable → Assertion → Type 0
 AppendsClaim declared kept count s appended vs a =
     (claims : List Claim) (bytes : List ℕ) → length claims ≡ count → AreAmong claims kept → FitsClaims declared claims bytes →

@@ -1,4 +1,4 @@
--- Declarations behind a text that has some claims.
+-- Declarations after a text that has some claims.
 use Rattle.std.proofs.Common.{◌≡◌, ℕ, ◌+◌, ◌<◌, ◌≤◌, ◌^◌, Bool, true, false, List, [], ◌∷◌, ◌++◌, length, take, drop, zero, suc, map, refl, ap, ◌∙◌, sym, subst, arith, append_assoc, append-nil, length-append, Some, None, slice_get}
 use Rattle.std.specs.Prelude.{◌||◌, if◌then◌else◌, codes, bytes_eq}
 use Rattle.std.proofs.lemmas.Slice.Eq.{bytes_eq-Decides}

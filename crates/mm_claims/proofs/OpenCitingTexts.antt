@@ -77,7 +77,7 @@ value n new ms (pattern_variable i) = text_by (letters_of n) (instance ms (meta 
 abbrev pub entry : Naming → List ℕ → List Pattern → Variable → Expression
 entry n new ms v = variable_type v ∷ value n new ms v
 
--- the substitution that entries say behind those of variables
+-- the substitution that entries say after those of variables
 abbrev pub given_by : Naming → List ℕ → List Pattern → ℕ → List Variable → List Hypothesis → List Expression → Token → Expression
 given_by n new ms k vs hs es = text_of (bindings_of (map (variable_float k) vs ++ hs) (map (entry n new ms) vs ++ es))
 
@@ -114,7 +114,7 @@ leaves_others sigma h = go punctuation refl
         ap (λ e. e ∷ map sigma ts) (h t here) ∙ ap (λ es. (t ∷ []) ∷ es) (go ts there)
 
 -- The text of a pattern under a substitution that gives each object variable its new one, each pattern variable its instance, and
--- leaves other leaves, is the text of its instance behind the renaming.
+-- leaves other leaves, is the text of its instance after the renaming.
 abbrev pub gives_instances : (Token → Expression) → Naming → List ℕ → List Pattern → LeafFacts
 gives_instances sigma n new ms = record {
   sort = λ i. sigma (n.sort i) ≡ n.sort i ∷ [];

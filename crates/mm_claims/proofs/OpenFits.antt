@@ -1,4 +1,4 @@
--- Statements behind a text that fits: the header fits, and an axiom and a theorem may follow, each in its block where it needs
+-- Statements after a text that fits: the header fits, and an axiom and a theorem may follow, each in its block where it needs
 -- one.
 use Rattle.std.proofs.Common.{◌≡◌, ℕ, ◌+◌, ◌<◌, ◌^◌, Bool, true, false, List, [], ◌∷◌, ◌++◌, length, map, refl, ap, ◌∙◌, sym, subst, arith, append-nil, Some, None, slice_get}
 use Rattle.std.specs.Prelude.{◌||◌, codes, bytes_eq}

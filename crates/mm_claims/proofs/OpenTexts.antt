@@ -117,7 +117,7 @@ premises_add declared k c at vs hs ds j (p ∷ ps) sts left w numbered ready lea
     (premises_add declared k c at vs (hs ++ essential (premise_label k j) (holds_text (own_naming declared) p) ∷ []) ds (j + 1) ps sts left w numbered (more_ready k vs hs j (holds_text (own_naming declared) p) w.small small ready) leaves.1 (omega (arith, few))
     (subst (λ (gs : List Hypothesis). AddsAnywhere (inside c at (variable_tokens vs) gs ds) sts left) (sym (append_assoc hs (essential (premise_label k j) (holds_text (own_naming declared) p) ∷ []) (premise_hypotheses declared k (j + 1) ps))) behind)))
 
--- the hypotheses that are active behind the head of a block, of its own
+-- the hypotheses that are active after the head of a block, of its own
 abbrev pub own_hypotheses : List Token → ℕ → List Variable → List Pattern → List Hypothesis
 own_hypotheses declared k vs ps = map (variable_float k) vs ++ premise_hypotheses declared k 0 ps
 
@@ -132,7 +132,7 @@ floats_ready k vs = record {
   new = λ i le lt. no_premise_among k vs i;
 }
 
--- so they are behind all hypotheses
+-- so they are after all hypotheses
 all_ready : (declared : List Token) (k : ℕ) (vs : List Variable) (hs : List Hypothesis) (j : ℕ) (ps : List Pattern) → k < 2 ^ 64 → j + length ps < 2 ^ 64 → AreReady k vs hs j → AreReady k vs (hs ++ premise_hypotheses declared k j ps) (j + length ps)
 all_ready declared k vs hs j [] small few w = subst (λ (gs : List Hypothesis). AreReady k vs gs (j + 0)) (sym (append-nil hs)) (subst (λ (n : ℕ). AreReady k vs hs n) (omega arith) w)
 all_ready declared k vs hs j (p ∷ ps) small few w =

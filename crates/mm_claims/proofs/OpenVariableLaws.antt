@@ -106,7 +106,7 @@ mutual
   all_cited_among declared vs claims place no_derivation w h = tt
   all_cited_among declared vs claims place (more_derivations d ds) w h = (cited_among declared vs claims place d (among_front (variables_of (at_places claims place) d) (all_variables_of (at_places claims place) ds) vs w) h.0, all_cited_among declared vs claims place ds (among_behind (variables_of (at_places claims place) d) (all_variables_of (at_places claims place) ds) vs w) h.1)
 
--- Others behind some variables, each once.
+-- Others after some variables, each once.
 
 -- variables of a block, with others among them
 record HasThem (others vs : List Variable) : Type 0 where

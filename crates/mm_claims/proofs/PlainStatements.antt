@@ -1,4 +1,4 @@
--- An axiom and a theorem, and how they stand without a block behind a text that fits.
+-- An axiom and a theorem, and how they stand without a block after a text that fits.
 use Rattle.std.proofs.Common.{◌≡◌, ℕ, ◌<◌, ◌^◌, Bool, true, false, List, [], ◌∷◌, length, refl, ap, ◌∙◌, sym, subst, Some, slice_get}
 use Rattle.std.specs.Prelude.{codes}
 use Rattle.std.specs.List.{list_all}
@@ -99,7 +99,7 @@ plain_left declared k c p w names claim =
     ∙ ap (λ (ls : Token → Bool). parts c k (behind_block declared k c (plain_claim p) []).variables ls (frame_of c.scope (statement_label k) (holds_text (own_naming declared) p))) (none_more c.labels)
     ∙ ap (parts c k (behind_block declared k c (plain_claim p) []).variables (with_tokens c.labels [])) (plain_frame declared k c p w names claim)
 
--- what is left behind the statement
+-- what is left after the statement
 plain_adds : (declared : List Token) (k : ℕ) (c : Context) (at : ℕ) (p : Pattern) (proved : Bool) (tokens : List Token) → Holds declared c → AreNames declared → IsClaim declared (plain_claim p) → Asserts c (statement_label k) (holds_text (own_naming declared) p) proved tokens
     → AddsJust c at (tokens ∷ []) (behind_block declared k c (plain_claim p) []) (open_assertion proved declared k (plain_claim p)) []
 plain_adds declared k c at p proved tokens w names claim says =

@@ -34,7 +34,7 @@ once_front (u ∷ us) vs h =
     let none : (has_variable us u || has_variable vs u) ≡ false = sym (has_append us vs u) ∙ not_true (has_variable (us ++ vs) u) both.0 in
     both_true (not (has_variable us u)) (are_once us) (not_false (has_variable us u) (split_false (has_variable us u) (has_variable vs u) none).0) (once_front us vs both.1)
 
--- a variable behind others is none of them
+-- a variable after others is none of them
 pub new_variable : (us : List Variable) (v : Variable) (vs : List Variable) → are_once (us ++ v ∷ vs) ≡ true → has_variable us v ≡ false
 new_variable [] v vs h = refl
 new_variable (u ∷ us) v vs h =

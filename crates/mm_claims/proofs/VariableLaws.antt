@@ -139,7 +139,7 @@ token_differs (pattern_variable i) (pattern_variable j) h k other = differs (var
 no_dot : (d : ℕ) → d < 10 → not ((48 + d) == 46) ≡ true
 no_dot d h = grind (arith, h)
 
--- the bytes before the first dot, and those behind it
+-- the bytes before the first dot, and those after it
 before_dot : List ℕ → List ℕ
 before_dot [] = []
 before_dot (b ∷ bs) = if b == 46 then [] else b ∷ before_dot bs

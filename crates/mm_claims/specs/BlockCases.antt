@@ -18,7 +18,7 @@ small_claim = record {
   conclusion = imp (var 2) (ex 0 0 (equal (var 0) (meta 0)));
 }
 
--- all tokens of a small block, one behind the other
+-- all tokens of a small block, one after the other
 abbrev small_tokens : List Token
 small_tokens = flat_map (λ tokens. tokens) (axiom_block (codes "s:S" ∷ []) 7 small_claim)
 

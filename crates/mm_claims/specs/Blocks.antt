@@ -1,5 +1,5 @@
 -- Statements, which may have variables and hypotheses. Such a statement stands in a block of its own, which declares
--- its variables: behind the block nothing more is active than before it, and the next block may declare them again.
+-- its variables: after the block nothing more is active than before it, and the next block may declare them again.
 use Rattle.std.specs.Prelude.{◌≡◌, ℕ, ◌+◌, ◌<◌, ◌^◌, Bool, true, false, not, ◌&&◌, ◌||◌, if◌then◌else◌, List, [], ◌∷◌, ◌++◌, map, filter, length, codes, bytes_eq}
 use Rattle.std.specs.List.{list_any, list_all}
 use Rattle.mm_text.specs.Bytes.{Token, has_token}

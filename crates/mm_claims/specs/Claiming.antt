@@ -1,4 +1,4 @@
--- Statements behind a text that fits: what it has declared, and what may follow.
+-- Statements after a text that fits: what it has declared, and what may follow.
 use Rattle.std.specs.Prelude.{◌≡◌, ℕ, ◌<◌, ◌≤◌, ◌^◌, true, false, List, [], ◌∷◌, ◌++◌, map, length, slice_get, Some, None}
 use Rattle.mm_text.specs.Bytes.{Token}
 use Rattle.mm_text.specs.Labels.{is_label}
@@ -49,7 +49,7 @@ abbrev pub proved_statements : List Token → ℕ → (List Pattern → Pattern 
 proved_statements declared k find premise_place s more d =
     theorem_statements declared k s more (derivation_tree (own_labels k) (claims_citing k find premise_place) d)
 
--- What a text has gained with a statement behind it: just this assertion, and the typings of these variables in its
+-- What a text has gained with a statement after it: just this assertion, and the typings of these variables in its
 -- block.
 pub record HasJust (bytes appended : List ℕ) (k : ℕ) (vs : List Variable) (a : Assertion) : Type 0 where
   pub assertions : assertions_of (bytes ++ appended) ≡ assertions_of bytes ++ a ∷ []

@@ -1,4 +1,4 @@
--- What fits with the header and with names behind it.
+-- What fits with the header and with names after it.
 use Rattle.std.specs.Prelude.{◌≡◌, ℕ, ◌<◌, ◌≤◌, ◌^◌, true, List, [], ◌++◌, length, drop}
 use Rattle.mm_text.specs.Bytes.{Token}
 use Rattle.mm_header.specs.HeaderText.{header_bytes}
@@ -13,11 +13,11 @@ use Rattle.mm_database.specs.StatementTexts.{written_statements}
 abbrev pub EmptyFits : Type 0
 EmptyFits = (names : List Token) → Fits names nothing_kept []
 
--- the header behind a text that fits one, fits
+-- the header after a text that fits one, fits
 abbrev pub BegunFits : Type 0
 BegunFits = (names : List Token) (bytes : List ℕ) → Fits names nothing_kept bytes → Fits names header_kept (bytes ++ header_bytes)
 
--- A text that fits still does so with the declarations of more names behind it. The names differ, and are fewer than 2
+-- A text that fits still does so with the declarations of more names after it. The names differ, and are fewer than 2
 -- ^ 64.
 abbrev pub DeclaredFits : Type 0
 DeclaredFits =

@@ -1,5 +1,5 @@
 -- The variables that a derivation needs in its block: those that stand in what is written of it. With these it can be
--- written behind a text that fits, where it has declared names alone besides.
+-- written after a text that fits, where it has declared names alone besides.
 use Rattle.std.specs.Prelude.{ℕ, if◌then◌else◌, List, [], ◌∷◌, ◌++◌, flat_map}
 use Rattle.ml_pat.specs.Patterns.{Pattern, bot, top, imp, not, and, or, equal, member, fun, ex, all, app, at_sort, next, ev, var, meta, constant}
 use Rattle.ml_kernel.specs.Lemmas.{instance}
@@ -9,7 +9,7 @@ use Rattle.ml_kernel.specs.Theorems.{Derivation, Derivations, hypothesis, own_ax
 use Rattle.mm_claims.specs.Variables.{Variable, object_variable, pattern_variable, has_variable}
 use Rattle.mm_claims.specs.Blocks.{Stated}
 
--- the variables that stand in a pattern, bound or free, one behind the other
+-- the variables that stand in a pattern, bound or free, one after the other
 abbrev pub variables_in : Pattern → List Variable
 variables_in bot = []
 variables_in top = []
@@ -40,7 +40,7 @@ abbrev pub variables_at : List ℕ → List Pattern → Variable → List Variab
 variables_at new ms (object_variable i) = object_variable (by_place new i) ∷ []
 variables_at new ms (pattern_variable i) = variables_in (instance ms (meta i))
 
--- in what is written of a derivation, where the claims that it cites are found so: one behind the other
+-- in what is written of a derivation, where the claims that it cites are found so: one after the other
 abbrev mutual
   pub variables_of : (List Pattern → Pattern → Stated) → Derivation → List Variable
   variables_of find (hypothesis p) = []

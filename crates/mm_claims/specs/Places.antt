@@ -32,7 +32,7 @@ stated_cites declared claims = record {
   lemma = λ own q ms. IsStated claims own q × AreOverNames declared ms;
 }
 
--- What may be proved behind what is kept: a pattern under hypotheses, over the names that were declared, by a derivation that uses
+-- What may be proved after what is kept: a pattern under hypotheses, over the names that were declared, by a derivation that uses
 -- only patterns over these and cites only what was stated.
 pub record MayProve (names : List Token) (k : Kept) (t : Theorem) : Type 0 where
   pub begun : IsTrue k.begun

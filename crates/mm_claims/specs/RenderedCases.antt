@@ -30,7 +30,7 @@ variable_block = codes "${\n$v m:3 $.\nm.2.3 $f #Pattern m:3 $.\nt.2 $p |- \\top
 abbrev pub instance_block : List ℕ
 instance_block = codes "${\n$v x:0 $.\nx.3.0 $f #Var x:0 $.\n$v x:1 $.\nx.3.1 $f #Var x:1 $.\n$v m:0 $.\nm.3.0 $f #Pattern m:0 $.\n$d x:0 x:1 $.\n$d x:0 x:1 m:0 $.\nt.3 $p |- ( \\imp ( \\all x:0 s:S ( \\imp ( \\ex x:1 s:S ( \\app x:1 m:0 ) ) ( \\app x:0 ( \\all x:0 s:S ( \\fun x:0 s:S ) ) ) ) ) ( \\imp ( \\fun f:a s:S ) ( \\imp ( \\ex x:1 s:S ( \\app x:1 m:0 ) ) ( \\app f:a ( \\all x:0 s:S ( \\fun x:0 s:S ) ) ) ) ) ) $= x.3.1 w.var m.3.0 w.app x.3.1 n.0 w.ex x.3.0 w.var x.3.0 w.var n.0 w.fun x.3.0 n.0 w.all w.app w.imp n.1 x.3.1 w.var m.3.0 w.app x.3.1 n.0 w.ex n.1 x.3.0 w.var n.0 w.fun x.3.0 n.0 w.all w.app w.imp x.3.0 n.0 x.3.1 w.var m.3.0 w.app x.3.1 n.0 w.ex x.3.0 w.var x.3.0 w.var n.0 w.fun x.3.0 n.0 w.all w.app n.1 x.3.0 w.var n.0 w.fun x.3.0 n.0 w.all w.app x.3.1 w.var m.3.0 w.app x.3.1 n.0 w.ex n.1 x.3.0 x.3.1 w.var m.3.0 w.app x.3.1 n.0 w.ex n.1 x.3.0 x.3.1 w.var m.3.0 w.app x.3.1 n.0 w.ex x.3.0 fr.d su.f x.3.0 w.var x.3.0 w.var n.0 w.fun x.3.0 n.0 w.all x.3.0 w.var n.0 w.fun x.3.0 n.0 w.all n.1 n.1 x.3.0 n.1 x.3.0 su.v x.3.0 w.var n.0 w.fun x.3.0 n.0 w.all n.1 x.3.0 x.3.0 w.var n.0 w.fun x.3.0 n.0 fr.allb su.f su.app su.imp inst $.\n$}\n"
 
--- behind the header, of 5968 bytes, there is no fault; without the axiom that it cites the lemma has a bad step
+-- after the header, of 5968 bytes, there is no fault; without the axiom that it cites the lemma has a bad step
 pub record RenderedCases : Type 0 where
   pub stated : first_fault (header_bytes ++ (names_text ++ (axiom_text ++ lemma_text))) ≡ None
   pub blocks : first_fault (header_bytes ++ (names_text ++ (hypothesis_block ++ (citing_block ++ (variable_block ++ instance_block))))) ≡ None

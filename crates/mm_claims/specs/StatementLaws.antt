@@ -1,4 +1,4 @@
--- What follows of statements behind a text that fits.
+-- What follows of statements after a text that fits.
 use Rattle.std.specs.Prelude.{ℕ, ◌<◌, ◌^◌, true, false, List, [], ◌∷◌, ◌++◌, length}
 use Rattle.mm_text.specs.Bytes.{Token}
 use Rattle.mm_database.specs.Validity.{IsValid}
@@ -30,7 +30,7 @@ NamesFitClaims =
     AreNames (declared ++ more) → AreDistinct (declared ++ more) → length (declared ++ more) < 2 ^ 64 →
     FitsClaims (declared ++ more) claims (bytes ++ written_statements (all_name_statements (length declared) more))
 
--- a text that fits, with an axiom behind it, fits with one claim more
+-- a text that fits, with an axiom after it, fits with one claim more
 abbrev pub AxiomFits : Type 0
 AxiomFits =
     (declared : List Token) (claims : List Claim) (bytes : List ℕ) (s : Claim) → FitsClaims declared claims bytes →

@@ -18,7 +18,7 @@ pub fn tried()
 {}
 
 /// A text that has declared the header, some names and some claims, which may have variables and hypotheses, is valid,
-/// and stays so with more names behind it, with an axiom, and with a theorem by a derivation that cites only what was
+/// and stays so with more names after it, with an axiom, and with a theorem by a derivation that cites only what was
 /// claimed before, at any patterns without object variables for its pattern variables. It has then declared that claim
 /// besides, and has gained just that assertion, with its variables, hypotheses and pairs that have to stay apart, and
 /// the typings of the variables in its block.
@@ -49,8 +49,8 @@ pub fn citing_laws()
     ensures derivations { CitingDerivationsAreProved }
 {}
 
-/// The empty text fits where nothing is kept; the header behind it fits the header; and a text that fits still does so
-/// with the declarations of more names behind it.
+/// The empty text fits where nothing is kept; the header after it fits the header; and a text that fits still does so
+/// with the declarations of more names after it.
 pub fn fitting_laws()
     ensures empty { EmptyFits }
     ensures begun { BegunFits }

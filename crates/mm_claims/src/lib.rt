@@ -6,7 +6,7 @@
 //! `mm_proof`), in which claims and hypotheses are cited by the labels of their places (`specs/CitedAt`).
 //!
 //! **What fits what.** A text fits what was kept of it where it is valid and has declared and stated that
-//! (`specs/Kept`, `specs/Keeping`, `specs/Claiming`). Which claims may be stated or proved behind it stands in
+//! (`specs/Kept`, `specs/Keeping`, `specs/Claiming`). Which claims may be stated or proved after it stands in
 //! `specs/Keeping` and `specs/Places`, and what was gained then.
 //!
 //! Nothing here knows who writes such texts, or what their names stand for. The laws are clauses of functions that do

@@ -82,7 +82,7 @@ pub noted-or : (p q r : Bool) → (p ≡ true → r ≡ true) → q ≡ r → (p
 noted-or true q r f e = sym (f refl)
 noted-or false q r f e = e
 
--- Pairs of numbers, one with those behind it.
+-- Pairs of numbers, one with those after it.
 
 turned-and : (a b : Bool) → (a && b) ≡ (b && a)
 turned-and true true = refl
@@ -222,7 +222,7 @@ or-nil : (b : Bool) → (b || false) ≡ b
 or-nil true = refl
 or-nil false = refl
 
--- a step through numbers, each with those behind it
+-- a step through numbers, each with those after it
 pub pairs-step : (groups : List (List ℕ)) (before after : Bool) (n : ℕ) (ns ms : List ℕ) (u v : ℕ) (whole : Bool) → after ≡ (before || list_any (is_pair_of groups n u v) ns) → ms ≡ n ∷ ns → (before || have_pair groups ms u v) ≡ whole → (after || have_pair groups ns u v) ≡ whole
 pairs-step groups before after n ns ms u v whole is front was =
     ap (λ c. c || have_pair groups ns u v) is ∙ first before (list_any (is_pair_of groups n u v) ns) (have_pair groups ns u v)

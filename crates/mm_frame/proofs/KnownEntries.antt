@@ -17,7 +17,7 @@ entry-known names [] i e k is = search rules
 entry-known names (x ∷ es) zero e k is = search rules
 entry-known names (x ∷ es) (suc i) e k is = entry-known names es i e (search rules) (search rules)
 
--- a token that named nothing gets a name, and an entry behind the others
+-- a token that named nothing gets a name, and an entry after the others
 pub entries-more : (old new : Token → Option Name) (e : Entry) (es : List Entry) → old (entry_word e) ≡ None → ((t : Token) → new t ≡ (if bytes_eq (entry_word e) t then Some e.name else old t)) → Known old es → Known new (es ++ e ∷ [])
 entries-more old new e [] none renames k =
     let same : bytes_eq (entry_word e) (entry_word e) ≡ true = (bytes_eq-Decides (entry_word e) (entry_word e)).1 refl in

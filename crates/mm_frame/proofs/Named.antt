@@ -15,7 +15,7 @@ use Rattle.mm_database.specs.Orderly.{TypeOnce}
 use Rattle.mm_frame.specs.Numbered.{NumberedHypothesis, NumberedFrame, IsNaming, named, named_hypothesis, IsNamedFrame}
 use Rattle.mm_frame.specs.NumberedSteps.{numbered_applied, NumberedPlace, IsNamedPlace, same_numbers, begins_with, all_agree, numbers_apart}
 
--- the substitution gives each variable the text behind the first symbol of its entry
+-- the substitution gives each variable the text after the first symbol of its entry
 abbrev Binds : (ℕ → List ℕ) → List NumberedHypothesis → List (List ℕ) → Type 0
 Binds sigma [] entries = Unit {0}
 Binds sigma (h ∷ hypotheses) [] = Unit {0}
@@ -71,7 +71,7 @@ same_numbers-same : (xs : List ℕ) → same_numbers xs xs ≡ true
 same_numbers-same [] = refl
 same_numbers-same (x ∷ xs) = rw (nat_eq_equiv.refl x) (same_numbers-same xs)
 
--- an entry that begins with the typecode is the typecode and what stands behind
+-- an entry that begins with the typecode is the typecode and what stands after
 begins_with-same : (typecode : ℕ) (entry : List ℕ) → begins_with typecode entry ≡ same_numbers entry (typecode ∷ behind_first entry)
 begins_with-same typecode [] = refl
 begins_with-same typecode (symbol ∷ symbols) = sym (ap (λ b. nat_eq symbol typecode && b) (same_numbers-same symbols) ∙ and-true (nat_eq symbol typecode))

@@ -15,7 +15,7 @@ use Rattle.mm_frame.specs.declared.scopes.Name.TheVariants.{Constant, Variable, 
 use Rattle.mm_frame.specs.declared.scopes.OpenBlock.{OpenBlock}
 use Rattle.mm_frame.proofs.Namings.{slice_get-last, slice_get-front, slice_get-cases}
 
--- Scopes and blocks with more behind them.
+-- Scopes and blocks with more after them.
 
 pub more-declared : (name : ℕ → Token) (d e : Token → Bool) (vs : List ℕ) (hs : List NumberedHypothesis) (ds : List (List ℕ)) (scope : Scope) → ((t : Token) → e t ≡ false → d t ≡ false) → ScopeStands name d vs hs ds scope → ScopeStands name e vs hs ds scope
 more-declared name d e vs hs ds scope less s = record { only = λ t none. s.only t (less t none); active = s.active; typed = s.typed; separate = s.separate }

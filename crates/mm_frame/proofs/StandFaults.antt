@@ -133,7 +133,7 @@ variables-same b y r nil f = rw f (rest (y || r) nil)
     rest false true = refl
     rest false false = refl
 
--- the faults of a `$f` behind kind 6
+-- the faults of a `$f` after kind 6
 floating-rest : Context → List Token → List Token → Option ℕ
 floating-rest c ls ws = if not (is_typing c ws) then a_fault 7 else if second_has_type c ws then a_fault 8 else if not (has_one_label c ls) then a_fault 11 else None
 

@@ -10,12 +10,12 @@ names_symbols Constants = true
 names_symbols Variables = true
 names_symbols keyword = false
 
--- the proof that stands behind the symbols of a `$p`
+-- the proof that stands after the symbols of a `$p`
 abbrev pub proof_read : List Token → Option (List Token)
 proof_read [] = None
 proof_read (token ∷ rest) = if bytes_eq token (codes "$=") && is_end (from_dollar rest) then Some (before_dollar rest) else None
 
--- the proof that stands behind symbols and a keyword, which is empty where the keyword has none
+-- the proof that stands after symbols and a keyword, which is empty where the keyword has none
 abbrev pub proof_for : Keyword → List Token → List Token → Option (List Token)
 proof_for Theorem symbols rest = proof_read rest
 proof_for keyword symbols rest = if is_end rest && (not (is_nil symbols) || not (names_symbols keyword)) then Some [] else None

@@ -29,7 +29,7 @@ abbrev pub begins_with : ℕ → List ℕ → Bool
 begins_with typecode [] = false
 begins_with typecode (symbol ∷ symbols) = nat_eq symbol typecode
 
--- an entry is what a hypothesis asks for: at a `$f` any text behind its typecode, at a `$e` the
+-- an entry is what a hypothesis asks for: at a `$f` any text after its typecode, at a `$e` the
 -- statement with the texts in it
 abbrev pub agrees : (ℕ → List ℕ) → NumberedHypothesis → List ℕ → Bool
 agrees sigma (floating label typecode variable) entry = begins_with typecode entry
@@ -57,7 +57,7 @@ pub data Citation : Type 0 where
   gives : List ℕ → Citation
   applies : NumberedFrame → Citation
 
--- the stack behind what is cited
+-- the stack after what is cited
 abbrev pub stack_after_citation : NumberedPlace → Citation → List (List ℕ) → Option (List (List ℕ))
 stack_after_citation p (gives statement) stack = Some (stack ++ statement ∷ [])
 stack_after_citation p (applies f) stack = stack_with (numbered_applied p f) (length f.hypotheses) stack

@@ -10,7 +10,7 @@ use Rattle.mm_frame.specs.declared.declare.Added.{Added}
 use Rattle.mm_frame.specs.declared.declare.FrameEnd.{FrameEnd}
 use Rattle.mm_frame.specs.declared.declare.FrameEnd.TheVariants.{Fault, Memory}
 
--- A statement without fault of kinds 3 to 11 is added, so that the scopes stand for the context behind
+-- A statement without fault of kinds 3 to 11 is added, so that the scopes stand for the context after
 -- it; of another one its fault is answered, and nothing is changed.
 abbrev pub Takes : Context → Statement → Held → Held → Result Added FrameEnd → Type 0
 Takes c s old new (Ok added) = (declaration_fault c (form_of s.tokens) ≡ None) × Stands new (context_after c s)

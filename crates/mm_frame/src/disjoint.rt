@@ -58,7 +58,7 @@ impl Disjoint {
         self.groups.len()
     }
 
-    /// Keeps the variables of a group apart from each other. After want of memory no groups may be left.
+    /// Keeps the variables of a group apart from each other. After running out of memory no groups may be left.
     pub(crate) fn push(&mut self, alloc: Global, group: Vec<u32>) -> Result<(), AllocError>
         ensures { IfOk result (λ _. Extends (groups_in self.old) group.items (groups_in self.new)) }
     {
@@ -68,7 +68,7 @@ impl Disjoint {
         self.append(alloc, group)
     }
 
-    /// Appends a group. After want of memory no groups may be left.
+    /// Appends a group. After running out of memory no groups may be left.
     fn append(&mut self, alloc: Global, group: Vec<u32>) -> Result<(), AllocError>
         ensures { IfOk result (λ _. groups_in self.new ≡ groups_in self.old ++ group.items ∷ []) }
     {

@@ -45,7 +45,7 @@ impl<'a> Entry<'a> {
     }
 }
 
-/// A short token, with zeros behind it.
+/// A short token, with zeros after it.
 fn front(word: &[u8]) -> [u8; SHORT]
     ensures { IsFront result word.now }
 {

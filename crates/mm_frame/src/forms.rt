@@ -131,7 +131,7 @@ fn keyword_of(word: &[u8]) -> Option<Keyword>
     }
 }
 
-/// The tokens of the proof, none where there is none, in what stands behind the symbols.
+/// The tokens of the proof, none where there is none, in what stands after the symbols.
 fn proof_of<'t>(
     bytes: &[u8],
     keyword: Keyword,

@@ -63,7 +63,7 @@ impl<'a> Scopes<'a> {
         Ok(symbols)
     }
 
-    /// The symbols of a statement, and those of the active `$e` behind them.
+    /// The symbols of a statement, and those of the active `$e` after them.
     fn stated_symbols(&self, alloc: Global, statement: &[u32]) -> Result<Vec<u32>, AllocError>
         ensures { IfOk result (λ v. v.items ≡ statement.now ++ flat_map (λ i. premise_at (slice_get (held self.now).hypotheses i)) (places_of is_essential (held self.now).hypotheses)) }
     {

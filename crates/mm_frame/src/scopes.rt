@@ -46,7 +46,7 @@ pub(crate) struct OpenBlock {
 /// tells.
 ///
 /// Where the active `$e` are long, assertions share what they ask for. What they share is let go at each
-/// change of what it was made from, and is made where two assertions are stated behind the change, so that
+/// change of what it was made from, and is made where two assertions are stated after the change, so that
 /// nothing is made for one alone.
 #[derive(Drop)]
 pub struct Scopes<'a> {

@@ -61,7 +61,7 @@ impl<'a> Scopes<'a> {
         }
     }
 
-    /// Adds a theorem as it was proposed. After want of memory the scopes may have a part of it, and are
+    /// Adds a theorem as it was proposed. After running out of memory the scopes may have a part of it, and are
     /// to be let go.
     pub fn add_theorem(&mut self, alloc: Global, theorem: Theorem<'a, '_>) -> Result<(), AllocError>
         ensures stands { IfOk result (λ _. (bytes : List ℕ) (c : Context) (s : Statement) → Stands (held self.old) c → IsProposed bytes (held self.old) c s theorem.entry → Stands (held self.new) (context_after c s)) }

@@ -96,7 +96,7 @@ names_allowed : (theory : RewriteTheory) (i : ℕ) (ts : List Token) → AreOwnT
 names_allowed theory i [] own = tt
 names_allowed theory i (t ∷ ts) own = (λ is. declaration t own.0 (record { statement = refl; premises = refl; types = λ v. refl; apart = λ x y h. h }), names_allowed theory (i + 1) ts own.1)
 
--- behind a text
+-- after a text
 pub declared_behind : (theory : RewriteTheory) (done more : List Token) (claims : List Claim) (bytes : List ℕ) → FitsClaims done claims bytes → AreNames (done ++ more) → AreDistinct (done ++ more) → length (done ++ more) < 2 ^ 64
     → AreOwnTokens theory.sig more → HasOnlyAxiomsOf theory bytes → HasOnlyAxiomsOf theory (bytes ++ written_statements (all_name_statements (length done) more))
 declared_behind theory done more claims bytes (c, leaves, w) names distinct few own only =

@@ -99,7 +99,7 @@ decimal_zero =
     decimal_by_steps (λ m ds. m ≡ 0 → ds ≡ 48 ∷ []) (λ m small none. ap (λ (n : ℕ). (48 + n) ∷ []) none)
     (λ m ds large below none. absurd (omega (arith, large, none))) 0 (omega arith) refl
 
--- what stands behind the header, with the digits of 0
+-- what stands after the header, with the digits of 0
 abbrev spelt_with : List ℕ → List ℕ
 spelt_with digits =
     written_statements (plain_tokens [] declares_constants (codes "f:a" ∷ []) ∷ plain_tokens ((codes "n." ++ digits) ∷ []) asserts (codes "#Pattern" ∷ codes "f:a" ∷ []) ∷ [])

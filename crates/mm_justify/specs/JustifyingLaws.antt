@@ -27,7 +27,7 @@ use Rattle.mm_justify.specs.Justifying.{IsAssumed, HasOnlyAxiomsOf, Justifies, J
 abbrev pub HeaderHasOnly : Type 0
 HeaderHasOnly = (theory : RewriteTheory) → HasOnlyAxiomsOf theory header_bytes
 
--- A text that fits and has only a program's axioms still has only these with the declarations of more names behind it,
+-- A text that fits and has only a program's axioms still has only these with the declarations of more names after it,
 -- which are the program's own tokens.
 abbrev pub DeclaredHasOnly : Type 0
 DeclaredHasOnly =
@@ -36,7 +36,7 @@ DeclaredHasOnly =
     Fits names k bytes → HasOnlyAxiomsOf theory bytes →
     HasOnlyAxiomsOf theory (bytes ++ written_statements (all_name_statements k.named (drop k.named names)))
 
--- And so it has with an axiom behind it that the program may assume, whatever variables it binds.
+-- And so it has with an axiom after it that the program may assume, whatever variables it binds.
 abbrev pub AxiomHasOnly : Type 0
 AxiomHasOnly =
     (theory : RewriteTheory) (names : List Token) (old new : Kept) (s : Sentence) (p : Pattern)
@@ -45,7 +45,7 @@ AxiomHasOnly =
     (open_assertion false (take old.named names) old.count (claim_of [] p)) →
     Fits names old bytes → HasOnlyAxiomsOf theory bytes → HasOnlyAxiomsOf theory (bytes ++ appended)
 
--- And with a theorem behind it. What was appended to the buffer at hand, in which the lemma was stated, does so behind
+-- And with a theorem after it. What was appended to the buffer at hand, in which the lemma was stated, does so after
 -- every text that fits: so a file is written step by step, and no more of it need be held than the last step.
 abbrev pub TheoremHasOnly : Type 0
 TheoremHasOnly =

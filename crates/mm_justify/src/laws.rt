@@ -16,7 +16,7 @@ pub fn tried()
 {}
 
 /// A text that fits and whose axioms are the header's rows, declarations and what a program may assume still has only
-/// these behind declarations of the program's tokens, images of what it may assume, and theorems. It justifies a run of
+/// these after declarations of the program's tokens, images of what it may assume, and theorems. It justifies a run of
 /// the program where its last theorem says that the start reaches the end.
 pub fn justifying_laws()
     ensures header { HeaderHasOnly }

@@ -74,7 +74,7 @@ mutual
   labels_of_forest (more_proofs tree trees) =
       labels_in-append (entries_of tree) (entries_below trees) ∙ ap (λ (ts : List Token). ts ++ labels_in (entries_below trees)) (labels_of_tree tree) ∙ ap (λ (ts : List Token). postorder tree ++ ts) (labels_of_forest trees)
 
--- behind the tokens of a part others
+-- after the tokens of a part others
 behind_part : (xs ys : List Entry) (ts us : List Token) → labels_in xs ≡ ts → labels_in ys ≡ us → labels_in (xs ++ ys) ≡ ts ++ us
 behind_part xs ys ts us h k = labels_in-append xs ys ∙ ap (λ (vs : List Token). vs ++ labels_in ys) h ∙ ap (λ (vs : List Token). ts ++ vs) k
 

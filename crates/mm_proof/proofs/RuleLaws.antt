@@ -28,7 +28,7 @@ use Rattle.mm_proof.proofs.ProofRowFrames.{row_p_1, row_p_2, row_p_3, row_mp, ro
 abbrev below : Naming → Rule → List Instance → List ProofTree → List ProofTree
 below l r is trees = map (instance_tree l) is ++ (trees_before l r is ++ (trees ++ trees_behind l r is))
 
--- where no judgement stands behind them
+-- where no judgement stands after them
 unbehind : (c : Context) (trees : List ProofTree) (es : List Expression) → AllProve c (trees_of trees) es → AllProve c (trees_of (trees ++ [])) es
 unbehind c trees es h = subst (λ (ts : List ProofTree). AllProve c (trees_of ts) es) (sym (append-nil trees)) h
 

@@ -40,11 +40,11 @@ bracket_law sigma k xs ys h this same =
 closing : (sigma : Token → Expression) → Leaves sigma → substituted sigma bracket ≡ bracket
 closing sigma h = ap (λ e. e ++ []) (left sigma h 1)
 
--- arguments one behind the other
+-- arguments one after the other
 behind : (sigma : Token → Expression) (xs ys xs' ys' : Expression) → substituted sigma xs ≡ xs' → substituted sigma ys ≡ ys' → substituted sigma (xs ++ ys) ≡ xs' ++ ys'
 behind sigma xs ys xs' ys' h k = substituted-append sigma xs ys ∙ ap (λ e. e ++ substituted sigma ys) h ∙ ap (λ e. xs' ++ e) k
 
--- a leaf, and what is behind it
+-- a leaf, and what is after it
 leaf : (sigma : Token → Expression) (t : Token) (ys ys' : Expression) → substituted sigma ys ≡ ys' → substituted sigma ((t ∷ []) ++ ys) ≡ sigma t ++ ys'
 leaf sigma t ys ys' h = ap (λ e. sigma t ++ e) h
 

@@ -24,7 +24,7 @@ abbrev mutual
   entries_below no_proof = []
   entries_below (more_proofs tree trees) = entries_of tree ++ entries_below trees
 
--- of trees one behind the other, and of what stands for the variables of a rule
+-- of trees one after the other, and of what stands for the variables of a rule
 abbrev pub all_entries : List ProofTree → List Entry
 all_entries trees = flat_map entries_of trees
 

@@ -257,7 +257,7 @@ pattern_at is i = pattern_of_instance (slice_index_or is i (sort 0))
 abbrev pub variable_at : List Instance → ℕ → ℕ
 variable_at is i = variable_of_instance (slice_index_or is i (sort 0))
 
--- The judgements of a rule, before and behind the proofs of what it concludes from.
+-- The judgements of a rule, before and after the proofs of what it concludes from.
 abbrev pub trees_before : Naming → Rule → List Instance → List ProofTree
 trees_before l rule.Inst is =
     substitution_tree l (variable_at is 3) (pattern_at is 1) (pattern_at is 0) (pattern_at is 2) ∷ []

@@ -32,7 +32,7 @@ label_entry names k l = record { label = word_token names k l.word; takes = l.ta
 abbrev pub listed : List Token → ℕ → List Label → List Entry
 listed names k labels = map (label_entry names k) labels
 
--- labels were put behind others, whatever the names and the statement
+-- labels were put after others, whatever the names and the statement
 abbrev pub Lists : (List Token → ℕ → List Entry) → List Label → List Label → Type 0
 Lists entries old new = (names : List Token) (k : ℕ) → listed names k new ≡ listed names k old ++ entries names k
 
@@ -47,7 +47,7 @@ work_tokens names k (work.Unchanged x u p) = postorder (unchanged_tree (own_labe
 work_tokens names k (work.Substituted x u p r) = postorder (substitution_tree (own_labels k) x.0 u.now p.now r.now)
 work_tokens names k (work.Predicate p) = postorder (predicate_tree (own_labels k) p.now)
 
--- works one behind the other
+-- works one after the other
 abbrev pub all_tokens : List Token → ℕ → List Work → List Token
 all_tokens names k works = flat_map (work_tokens names k) works
 

@@ -77,7 +77,7 @@ pub fn list_before(
     }
 }
 
-/// How many judgements a rule has, before the proofs of what it concludes from and behind them.
+/// How many judgements a rule has, before the proofs of what it concludes from and after them.
 pub fn judgements(rule: Rule) -> usize
     ensures judged { (l : Naming) (is : List Instance) →
         result ≡ length (trees_before l rule is) + length (trees_behind l rule is) }

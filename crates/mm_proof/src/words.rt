@@ -1,4 +1,4 @@
-// Tokens as they are written, each with white space behind it.
+// Tokens as they are written, each with white space after it.
 ghost use Rattle.std.specs.Prelude.{◌≡◌, ◌∷◌, [], ◌++◌, OnOk, decimal, map};
 ghost use Rattle.mm_proof.specs.Labels.{two_numbers};
 ghost use Rattle.mm_proof.specs.Tokens.{name_of};
@@ -51,7 +51,7 @@ pub fn push_word(to: &mut Vec<u8>, names: &Names, serial: u64, word: Word) -> Re
     Ok(())
 }
 
-/// The white space behind a token: a line ends with a statement.
+/// The white space after a token: a line ends with a statement.
 fn white_behind(token: &[u8]) -> u8
     ensures { result ≡ white_behind token.now }
 {
@@ -59,7 +59,7 @@ fn white_behind(token: &[u8]) -> u8
     if ends { b'\n' } else { b' ' }
 }
 
-/// Adds tokens, each with white space behind it.
+/// Adds tokens, each with white space after it.
 pub fn push_words(
     to: &mut Vec<u8>,
     names: &Names,
@@ -74,7 +74,7 @@ pub fn push_words(
     Ok(())
 }
 
-/// Adds the text of a list of labels, each with white space behind it.
+/// Adds the text of a list of labels, each with white space after it.
 pub fn push_labels(
     to: &mut Vec<u8>,
     names: &Names,
@@ -90,7 +90,7 @@ pub fn push_labels(
     Ok(())
 }
 
-/// Puts a label that takes so many proofs behind others.
+/// Puts a label that takes so many proofs after others.
 pub fn list_label(labels: &mut Vec<Label>, word: Word, takes: usize) -> Result<(), AllocError>
     ensures { OnOk result
         (Lists (λ names k. label_entry names k (record { word = word; takes = takes }) ∷ [])

@@ -34,7 +34,7 @@ pub enum Work<'a> {
     Predicate(&'a MPat),
 }
 
-/// Writes works one behind the other, in the block of the statement with the number `serial`, in time linear in what is
+/// Writes works one after the other, in the block of the statement with the number `serial`, in time linear in what is
 /// written.
 pub fn write_works(
     to: &mut Vec<u8>,
@@ -49,7 +49,7 @@ pub fn write_works(
     push_labels(to, names, serial, &labels)
 }
 
-/// Puts the labels of works behind others, in time linear in how many they are.
+/// Puts the labels of works after others, in time linear in how many they are.
 pub fn list_works(labels: &mut Vec<Label>, works: &[Work<'_>]) -> Result<(), AllocError>
     ensures { OnOk result (Lists (λ names k. works_entries names k works.now) labels.old.items labels.new.items) }
 {

@@ -1,4 +1,4 @@
--- The head of a block as it is written, one statement behind the other.
+-- The head of a block as it is written, one statement after the other.
 use Rattle.std.proofs.Common.{◌≡◌, ℕ, ◌+◌, List, [], ◌∷◌, ◌++◌, length, refl, ap, ◌∙◌, sym, arith, append_assoc}
 use Rattle.std.specs.Prelude.{map, filter, flat_map, not}
 use Rattle.std.proofs.lemmas.Grind.{flat_map-append}

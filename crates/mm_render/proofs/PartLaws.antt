@@ -62,7 +62,7 @@ parts_front f g h a b n old mid new first rest same heavy = record {
 pub part_one : (f : List Token → ℕ → Citing → List Entry) (n : ℕ) (p : Part) (old new : List Part) → new ≡ old ++ p ∷ [] → ((names : List Token) (k : ℕ) (s : Citing) → f names k s ≡ part_entries names k s p ++ []) → part_weight p ≤ n → PutsParts f n old new
 part_one f n p old new is same heavy = part_more (λ names k s. []) f 0 n p old old new (part_none (λ names k s. []) 0 old (λ names k s. refl)) is same (omega (arith, heavy))
 
--- the judgement behind a rule
+-- the judgement after a rule
 pub put_fresh : (r : Rule) (is : List Instance) (x : VarNo) (p : Bor Pattern) (old new : List Part) → r ≡ rule.ExEl → x.0 ≡ variable_at is 2 → p.now ≡ pattern_at is 1 → new ≡ old ++ part.Plain (work.Fresh x p) ∷ []
     → PutsParts (λ names k s. all_entries (trees_behind (own_labels k) r is)) 1 old new
 put_fresh r is x p old new same variable pattern pushed =

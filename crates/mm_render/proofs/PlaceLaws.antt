@@ -22,7 +22,7 @@ use Rattle.mm_render.specs.Keys.{pattern_key, statement_key}
 use Rattle.mm_render.specs.PlaceTable.{found_in}
 use Rattle.mm_render.proofs.KeyLaws.{key_same, hypotheses_same, conclusion_same}
 
--- what a table finds behind an insertion
+-- what a table finds after an insertion
 
 apart : (bs cs ks : List ℕ) → bytes_eq bs cs ≡ false → is_eq (slice_cmp nat_cmp bs ks) ≡ true → is_eq (slice_cmp nat_cmp cs ks) ≡ false
 apart bs cs ks other same = go (bytes_eq cs ks) refl

@@ -24,6 +24,6 @@ separation [] = []
 separation (t ∷ []) = []
 separation (t ∷ (u ∷ ts)) = plain_tokens [] separates (t ∷ (u ∷ ts)) ∷ []
 
--- of each pattern variable among some, behind these tokens
+-- of each pattern variable among some, after these tokens
 abbrev pub pattern_separations : List Token → List Variable → List (List Token)
 pattern_separations objects vs = flat_map (λ v. separation (objects ++ variable_token v ∷ [])) (filter (λ v. not (is_object v)) vs)

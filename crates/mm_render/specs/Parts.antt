@@ -64,7 +64,7 @@ pub record PartIsTaken (names : List Token) (k : ℕ) (s : Citing) (p : Part) (o
   pub entries : list' ++ parts_entries names k s new ≡ list ++ (part_entries names k s p ++ parts_entries names k s old)
   pub weight : parts_weight new < parts_weight old + part_weight p
 
--- what is left of a rule: the proofs of what it concludes from, its judgement behind them and its label
+-- what is left of a rule: the proofs of what it concludes from, its judgement after them and its label
 abbrev pub rest_of_rule : ℕ → Citing → Rule → List Instance → Derivations → List Entry
 rest_of_rule k s r is ds =
     all_entries_by k s ds ++ (all_entries (trees_behind (own_labels k) r is) ++

@@ -1,4 +1,4 @@
--- A theorem with its proof behind a text: cited by the clauses of private functions alone.
+-- A theorem with its proof after a text: cited by the clauses of private functions alone.
 use Rattle.std.specs.Prelude.{◌≡◌, ℕ, true, List, ◌++◌, take}
 use Rattle.mm_text.specs.Bytes.{Token}
 use Rattle.mm_database.specs.StatementTexts.{written_statements}

@@ -181,7 +181,7 @@ fn put_derived<'a>(stack: &mut Vec<Part<'a>>, parts: &'a [Deriv]) -> Result<(), 
     Ok(())
 }
 
-/// Puts on a stack what is left of a rule: the proofs of what it concludes from, the judgement behind them and its
+/// Puts on a stack what is left of a rule: the proofs of what it concludes from, the judgement after them and its
 /// label.
 fn put_rule<'a>(
     stack: &mut Vec<Part<'a>>,
@@ -201,7 +201,7 @@ fn put_rule<'a>(
     put_derived(stack, parts)
 }
 
-/// Puts on a stack the judgement of a rule behind the proofs of what it concludes from, where it has one.
+/// Puts on a stack the judgement of a rule after the proofs of what it concludes from, where it has one.
 fn put_behind<'a>(
     stack: &mut Vec<Part<'a>>,
     rule: Rule,

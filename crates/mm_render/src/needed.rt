@@ -17,7 +17,7 @@ use ml_kernel::{Deriv, DerivStep, Inst};
 use ml_pat::{MPat, VarNo};
 use std::alloc::{AllocError, Global};
 
-/// Some variables, and behind them the others that a derivation has, each once. Their numbers fit in 64 bits.
+/// Some variables, and after them the others that a derivation has, each once. Their numbers fit in 64 bits.
 pub(crate) fn needed_variables(
     alloc: Global,
     at: &Standing<'_>,

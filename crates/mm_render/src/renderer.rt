@@ -1,4 +1,4 @@
-// What is written: whole statements, behind a text that fits.
+// What is written: whole statements, after a text that fits.
 ghost use Rattle.std.specs.Prelude.{◌≡◌, ◌+◌, ◌<◌, ◌≤◌, [], ◌∷◌, ◌++◌, false, IsTrue, IfOk, OnErr, OnOk, drop, length, option_copied, take, unwrap_or};
 ghost use Rattle.mm_header.specs.HeaderText.{header_bytes};
 ghost use Rattle.mm_claims.specs.Blocks.{axiom_statements, open_assertion};
@@ -102,7 +102,7 @@ impl Renderer {
     }
 
     /// States an axiom of a theory under the next label, in a block with its variables where it has any. Where it is over the names
-    /// that were declared, each text that fits fits with it behind, and has gained just this axiom. Where memory is wanting, nothing
+    /// that were declared, each text that fits fits with it appended, and has gained just this axiom. Where memory is wanting, nothing
     /// changes.
     pub fn axiom(
         &mut self,
@@ -129,8 +129,8 @@ impl Renderer {
 
     /// States a theorem under the next label, with its proof, in a block with its hypotheses and with the variables
     /// that stand in it or in its proof where there are any. Where it is over the names that were declared, and its
-    /// proof uses only these and cites only what is kept, each text that fits fits with it behind, and has gained just
-    /// this theorem. It is kept. The error is want of memory, or of labels behind 2^64 of them; then nothing changes.
+    /// proof uses only these and cites only what is kept, each text that fits fits with it appended, and has gained just
+    /// this theorem. It is kept. The error: out of memory, or of labels after 2^64 of them; then nothing changes.
     pub fn lemma(&mut self, names: &Names, lemma: &Thm, to: &mut Vec<u8>) -> Result<(), AllocError>
         ensures states { OnOk result (StatesLemma names.now self.old self.new lemma.now to.old.items to.new.items) }
         ensures kept { OnOk result (self.new ≡ with_stated self.old (claim_of lemma.now.hypotheses lemma.now.conclusion)) }
@@ -231,7 +231,7 @@ impl Renderer {
     }
 }
 
-// The number behind this one; the error is that there is none of 64 bits.
+// The number after this one; the error is that there is none of 64 bits.
 fn next_number(number: u64) -> Result<u64, AllocError>
     ensures { IfOk result (λ next. next ≡ number + 1) }
 {

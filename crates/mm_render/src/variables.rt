@@ -76,7 +76,7 @@ impl VariableList {
         self.all
     }
 
-    /// Adds a variable behind the others, where it is none of them.
+    /// Adds a variable after the others, where it is none of them.
     pub(crate) fn add(&mut self, variable: Variable) -> Result<(), AllocError>
         ensures { OnOk result (listed self.new ≡ added (listed self.old) (variable_of variable ∷ [])) }
     {
@@ -86,7 +86,7 @@ impl VariableList {
         self.push(variable)
     }
 
-    /// Adds a variable behind the others.
+    /// Adds a variable after the others.
     fn push(&mut self, variable: Variable) -> Result<(), AllocError>
         ensures { OnOk result (listed self.new ≡ listed self.old ++ variable_of variable ∷ []) }
     {

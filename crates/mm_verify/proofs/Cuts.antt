@@ -98,7 +98,7 @@ AreEnds-take whole from [] (suc n) s is h le = absurd (none n le)
 AreEnds-take whole from (to ∷ ends) (suc n) s is h le =
     (h.0, AreEnds-take whole to ends n s (is ∙ sym (start-next from to ends n (omega (arith, le)))) h.1 (omega (arith, le)))
 
--- one more piece behind the others
+-- one more piece after the others
 pub pushed_ends : (xs ys zs ends more : List ℕ) → zs ≡ xs ++ ys → more ≡ ends ++ length zs ∷ [] → AreEnds (length xs) 0 ends → AreEnds (length zs) 0 more
 pushed_ends xs ys zs ends more is at h =
     let longer = ap (λ (l : List ℕ). length l) is ∙ length-append xs ys in

@@ -7,7 +7,7 @@ use Rattle.mm_verify.specs.declared.parts.Part.{Part}
 use Rattle.mm_verify.specs.Filling.{part_text, filled}
 use Rattle.mm_frame.specs.NumberedSteps.{same_numbers}
 
--- a list is a text and another behind it where it begins with the text and goes on with the other
+-- a list is a text and another after it where it begins with the text and goes on with the other
 pub same-append : (xs text zs : List ℕ) → same_numbers xs (text ++ zs) ≡ (same_numbers (take (length text) xs) text && same_numbers (drop (length text) xs) zs)
 same-append xs [] zs = refl
 same-append [] (t ∷ text) zs = refl

@@ -76,7 +76,7 @@ saves-read table saved b letters is =
     ap (λ (s : Option (List CompressedStep)). read_on table saved s) (steps-letter a_number b letters saves is)
     ∙ save-read table saved (steps_from a_save letters)
 
--- a `Z` behind anything else, or a byte that is no letter
+-- a `Z` after anything else, or a byte that is no letter
 pub no-save-read : (table : List Citation) (saved b : ℕ) (before : Before) (letters : List ℕ) → letter_of b ≡ saves → (before ≡ a_number → ⊥) → left_meanings table saved before (b ∷ letters) ≡ None
 no-save-read table saved b beginning letters is no_number = ap (λ (s : Option (List CompressedStep)). read_on table saved s) (steps-letter beginning b letters saves is)
 no-save-read table saved b (digits n) letters is no_number = ap (λ (s : Option (List CompressedStep)). read_on table saved s) (steps-letter (digits n) b letters saves is)
@@ -91,7 +91,7 @@ pub step-behind : (done : List (Step Citation)) (step : Step Citation) (left : O
 step-behind done step None = refl
 step-behind done step (Some steps) = ap (λ (s : List (Step Citation)). Some s) (sym (append_assoc done (step ∷ []) steps))
 
--- a whole number and a `Z` are steps behind what is read
+-- a whole number and a `Z` are steps after what is read
 pub number-on : (done : List (Step Citation)) (table : List Citation) (saved d b : ℕ) (before : Before) (others : List ℕ) (step : Step Citation) → letter_of b ≡ last_digit d → meaning table saved (20 * value_before before + d - 1) ≡ Some step → behind_items done (left_meanings table saved before (b ∷ others)) ≡ behind_items (done ++ step ∷ []) (left_meanings table saved a_number others)
 number-on done table saved d b before others step is found =
     ap (behind_items done) (last-read table saved d b before others is ∙ ap (λ (o : Option (Step Citation)). with_step o (left_meanings table saved a_number others)) found)

@@ -34,7 +34,7 @@ another-token stamp marks w t within h = go (bytes_eq w t) refl
 none-of-two : (a b : Bool) → a ≡ false → b ≡ false → (a || b) ≡ false
 none-of-two a b h k = rw (h, k) refl
 
--- one more label in front of others, or behind them
+-- one more label in front of others, or after them
 front-marked : (stamp : ℕ) (marks : List ℕ) (w : Token) (others ws : List Token) → mark_of w < length marks → ((t : Token) → is_set stamp marks (mark_of t) ≡ false → (has_token others t || has_token ws t) ≡ false) → (t : Token) → is_set stamp (slice_set marks (mark_of w) stamp) (mark_of t) ≡ false → (has_token others t || has_token (w ∷ ws) t) ≡ false
 front-marked stamp marks w others ws within marked t h =
     or-swap (has_token others t) (bytes_eq w t) (has_token ws t)

@@ -29,7 +29,7 @@ axioms_among xs = count_by (λ a. not a.is_proved) xs
 abbrev theorems_among : List Assertion → ℕ
 theorems_among xs = count_by (λ a. a.is_proved) xs
 
--- the statements before a place are without fault, and are behind the checker and in the counts
+-- the statements before a place are without fault, and are after the checker and in the counts
 pub record IsAt (bytes : List ℕ) (reader : MmTokens) (k : Checker) (r : Report) : Type 0 where
   pub text : reader.bytes.now ≡ bytes
   pub context : Context

@@ -40,7 +40,7 @@ form_stated (Some block_start) = stated.Nothing
 form_stated (Some block_end) = stated.Nothing
 form_stated (Some (plain labels keyword symbols proof)) = keyword_stated keyword
 
--- a statement without fault is behind the checker, and else its fault is answered
+-- a statement without fault is after the checker, and else its fault is answered
 abbrev pub Checks : Context → Statement → Checker → Result Stated VerifyEnd → Type 0
 Checks c s new (Ok a) = (statement_fault c s.tokens ≡ None) × IsBehind new (context_after c s) × (a ≡ form_stated (form_of s.tokens))
 Checks c s new (Err (Invalid f)) = (statement_fault c s.tokens ≡ Some f.kind) × (f.at ≡ s.at)
@@ -52,7 +52,7 @@ Declares c s new (Ok a) = (declaration_fault c (form_of s.tokens) ≡ None) × S
 Declares c s new (Err (Invalid f)) = (declaration_fault c (form_of s.tokens) ≡ Some f.kind) × (f.at ≡ s.at)
 Declares c s new (Err Memory) = Unit {0}
 
--- a theorem is behind the checker, as what it was proposed to be
+-- a theorem is after the checker, as what it was proposed to be
 abbrev pub Adds : Checker → Theorem → Checker → Type 0
 Adds old t new =
     HasFrames new × ((bytes : List ℕ) (c : Context) (s : Statement) → Stands (held old.scopes) c → IsProposed bytes (held old.scopes) c s t → Stands (held new.scopes) (context_after c s))

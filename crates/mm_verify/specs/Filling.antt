@@ -11,7 +11,7 @@ use Rattle.mm_database.specs.Stack.{behind_first}
 use Rattle.mm_database.specs.Proofs.{texts_apart}
 use Rattle.mm_frame.specs.NumberedSteps.{NumberedPlace, same_numbers, begins_with, numbers_apart}
 
--- the text of the entry at a place: what stands behind its typecode
+-- the text of the entry at a place: what stands after its typecode
 abbrev pub text_at : List (List ℕ) → ℕ → List ℕ
 text_at entries i = behind_first (slice_index_or entries i [])
 

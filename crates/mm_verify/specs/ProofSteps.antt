@@ -29,7 +29,7 @@ listed_citations h hypotheses listed = if clashes (labels_in hypotheses) listed 
 abbrev pub lettered : List NumberedHypothesis → List ℕ → List Citation → Option (List (Step Citation))
 lettered hypotheses letters listed = lettered_steps (given_by hypotheses ++ listed) letters
 
--- the steps of the tokens behind the `(` of a compressed proof
+-- the steps of the tokens after the `(` of a compressed proof
 abbrev pub compressed_proof : Held → List NumberedHypothesis → List Token → Option (List (Step Citation))
 compressed_proof h hypotheses tokens =
     if has_token tokens (codes ")")

@@ -27,7 +27,7 @@ behind_items done left = option_map (λ others. done ++ others) left
 abbrev pub citations_in : Vec code.Citation → List Citation
 citations_in v = map citation_of v.items
 
--- what the first numbers cite: the hypotheses, and behind them what is listed
+-- what the first numbers cite: the hypotheses, and after them what is listed
 abbrev pub table_of : List Hyp → List code.Citation → List Citation
 table_of hyps listed = given_by (hypotheses_held hyps) ++ map citation_of listed
 

@@ -9,7 +9,7 @@ use crate::stack::Stack;
 use std::alloc::AllocError;
 use std::slice::from_ref;
 
-/// The text that stands for a part: the symbol itself, or what stands behind the typecode of an entry
+/// The text that stands for a part: the symbol itself, or what stands after the typecode of an entry
 /// from `base` on.
 pub(crate) fn text_of<'a>(part: &'a Part, stack: &'a Stack, base: usize) -> &'a [u32]
     requires { IsWithin (length (drop base stack.now)) part.now }
@@ -21,7 +21,7 @@ pub(crate) fn text_of<'a>(part: &'a Part, stack: &'a Stack, base: usize) -> &'a 
     }
 }
 
-/// The text of the entry at a place from `base` on: what stands behind its typecode.
+/// The text of the entry at a place from `base` on: what stands after its typecode.
 pub(crate) fn text_at(stack: &Stack, base: usize, place: usize) -> &[u32]
     requires { place < length (drop base stack.now) }
     ensures { result.now ≡ text_at (drop base stack.now) place }
@@ -29,7 +29,7 @@ pub(crate) fn text_at(stack: &Stack, base: usize, place: usize) -> &[u32]
     behind_typecode(stack.entry_above(base, place))
 }
 
-/// What stands behind the first symbol of an entry.
+/// What stands after the first symbol of an entry.
 fn behind_typecode(entry: &[u32]) -> &[u32]
     ensures { result.now ≡ behind_first entry.now }
 {
@@ -94,7 +94,7 @@ pub(crate) fn is_filled(parts: &[Part], stack: &Stack, base: usize, entry: &[u32
     rest.is_empty()
 }
 
-/// What stands behind the text of a part, where symbols begin with that text.
+/// What stands after the text of a part, where symbols begin with that text.
 fn behind_part<'r>(part: &Part, stack: &Stack, base: usize, symbols: &'r [u32]) -> Option<&'r [u32]>
     requires within { IsWithin (length (drop base stack.now)) part.now }
     ensures { (others : List ℕ) → MatchOption result (same_numbers symbols.now (part_text (drop base stack.now) part.now ++ others) ≡ false) (λ r. same_numbers symbols.now (part_text (drop base stack.now) part.now ++ others) ≡ same_numbers r.now others) }
@@ -105,7 +105,7 @@ fn behind_part<'r>(part: &Part, stack: &Stack, base: usize, symbols: &'r [u32]) 
     }
 }
 
-/// What stands behind a symbol, where symbols begin with it.
+/// What stands after a symbol, where symbols begin with it.
 fn behind_symbol(symbol: u32, symbols: &[u32]) -> Option<&[u32]>
     ensures { (others : List ℕ) → MatchOption result (same_numbers symbols.now (symbol ∷ others) ≡ false) (λ r. same_numbers symbols.now (symbol ∷ others) ≡ same_numbers r.now others) }
 {
@@ -115,7 +115,7 @@ fn behind_symbol(symbol: u32, symbols: &[u32]) -> Option<&[u32]>
     }
 }
 
-/// What stands behind a text, where symbols begin with it.
+/// What stands after a text, where symbols begin with it.
 fn behind_text<'r>(text: &[u32], symbols: &'r [u32]) -> Option<&'r [u32]>
     ensures { (others : List ℕ) → MatchOption result (same_numbers symbols.now (text.now ++ others) ≡ false) (λ r. same_numbers symbols.now (text.now ++ others) ≡ same_numbers r.now others) }
 {

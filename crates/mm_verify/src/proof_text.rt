@@ -117,7 +117,7 @@ fn cite_all<'s, 'a>(
     Ok(true)
 }
 
-/// The steps of a compressed proof, by the tokens behind its `(`.
+/// The steps of a compressed proof, by the tokens after its `(`.
 fn read_compressed<'s, 'a>(
     alloc: Global,
     known: &Known<'s, 'a>,
@@ -141,7 +141,7 @@ fn read_compressed<'s, 'a>(
     }
 }
 
-/// The tokens before the first `)`, and those behind it.
+/// The tokens before the first `)`, and those after it.
 fn split_at_close<'t>(bytes: &[u8], tokens: &'t [MmToken]) -> Option<(&'t [MmToken], &'t [MmToken])>
     ensures found { IfSome result (λ r. (has_token (words_of bytes.now tokens.now) (codes ")") ≡ true) × (words_of bytes.now r.0.now ≡ before_close (words_of bytes.now tokens.now)) × (words_of bytes.now r.1.now ≡ behind_close (words_of bytes.now tokens.now))) }
     ensures none { result ≡ None → has_token (words_of bytes.now tokens.now) (codes ")") ≡ false }

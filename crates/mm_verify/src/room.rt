@@ -1,4 +1,4 @@
-// What proofs are checked in, one behind another.
+// What proofs are checked in, one after another.
 
 use crate::machine::Machine;
 use crate::scattered::Marks;

@@ -30,7 +30,7 @@ impl Marks {
     }
 }
 
-/// Whether each label has a mark that neither a label of a hypothesis nor one behind it has. Then none
+/// Whether each label has a mark that neither a label of a hypothesis nor one after it has. Then none
 /// stands twice or is that of a hypothesis. Few labels mostly have marks of their own. It takes no
 /// memory, and time in the number of their bytes.
 pub(crate) fn are_scattered(

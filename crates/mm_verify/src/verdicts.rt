@@ -15,7 +15,7 @@ use std::alloc::Global;
 
 /// Whether a Metamath database is valid (Metamath book, "The Complete Language Specification"): then
 /// how many `$a` and `$p` statements it has, and else its first fault. `VerifyEnd::Memory` says that
-/// memory was wanting. It recurses nowhere, and looks at each token of the text a few times.
+/// memory ran out. It recurses nowhere, and looks at each token of the text a few times.
 pub fn verify(alloc: Global, bytes: &[u8]) -> Result<Report, VerifyEnd>
     ensures valid { IfOk result (λ r. IsValid bytes.now × (r.axioms ≡ axiom_count bytes.now) × (r.theorems ≡ theorem_count bytes.now)) }
     ensures invalid { (f : AFault) → result ≡ Err (Invalid f) → IsFirstFault bytes.now f }

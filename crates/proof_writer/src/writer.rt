@@ -42,7 +42,7 @@ pub struct Writer {
 }
 
 impl Writer {
-    /// Appends the header. The error is want of memory; what was appended then is a part of it.
+    /// Appends the header. The error: out of memory; what was appended then is a part of it.
     pub fn begin(alloc: Global, program: &Program, to: &mut Vec<u8>) -> Result<Writer, AllocError>
         ensures written { IfOk result (λ w. HasWrittenAll w (new_context program.now)) }
         ensures text { IfOk result (λ w. Begins (new_context program.now) w.renderer to.old.items to.new.items) }
@@ -57,7 +57,7 @@ impl Writer {
         })
     }
 
-    /// Appends what is not written yet: declarations of names, axioms and lemmas. The error is want of memory; then a
+    /// Appends what is not written yet: declarations of names, axioms and lemmas. The error: out of memory; then a
     /// part of that was appended.
     pub fn write(&mut self, made: &Made<'_>, to: &mut Vec<u8>) -> Result<(), AllocError>
         requires names { HasPlainNames made.now.program.now.sig }

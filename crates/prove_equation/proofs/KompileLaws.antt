@@ -58,7 +58,7 @@ of_sorts sig (u ∷ us) (s ∷ sorts) refs is sorted normal =
     let same : here.0 ≡ s = some_same here.0 s (sym here.1) in
     ((normal.0, subst (IsTermOf sig u) same here.2), of_sorts sig us sorts (map named sorts) refl here.3 normal.1)
 
--- ---- sorts behind parameters
+-- ---- sorts after parameters
 
 mutual
   sorted-behind : (sig : Signature) (sorts vars : List ℕ) (p : RulePattern) (sort : ℕ) → HasSort sig vars p sort → HasSort sig (sorts ++ vars) (shifted (length sorts) p) sort
@@ -158,7 +158,7 @@ pub record IsMet (cx : Context) (f : ℕ) (e : Equation) (lemma : Theorem) (thet
   pub elements : AreElementsFor cx theta gs
   pub members : AreMemberships cx theta e.arguments us ms
 
--- the equation behind its parameters, and the terms in front of what the substitution gives
+-- the equation after its parameters, and the terms in front of what the substitution gives
 record IsPlaced (cx : Context) (f : ℕ) (e : Equation) (p : Pattern) (theta : List (Option Tree)) (us : List Tree) (fs gs : List Theorem) : Type 0 where
   shape : IsKompile cx.program.sig cx.names f e p
   count : length us ≡ length shape.sorts

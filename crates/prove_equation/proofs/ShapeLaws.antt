@@ -179,7 +179,7 @@ kompile_shape sig names f e p some (s, kompile c info sorts sort other many decl
       says = inside.says ∙ ap (closed 0 inside.numbers) (parts.says ∙ ap (λ (q : Pattern). imp q (equal parts.left parts.right)) w.4);
     }
 
--- what is behind parameters
+-- what is after parameters
 mutual
   pub shifted_has : (sig : Signature) (k n : ℕ) (p : RulePattern) → HasImage sig n p → HasImage sig (k + n) (shifted k p)
   shifted_has sig k n (variable x) h = omega (arith, h)

@@ -22,7 +22,7 @@ use term_core::{Subst, Term};
 
 /// What the lemma of an equation gives its function at terms that its arguments match: the function of them equals the
 /// right side, with what the match gives its variables in their places. `condition` says that the equation's condition
-/// is true there, where it has one. `AllocError` says that memory was wanting, or what it says of `fun_of`; the context
+/// is true there, where it has one. `AllocError` says that memory ran out, or what it says of `fun_of`; the context
 /// may have grown then too. The cost grows with the terms that the match gives the variables.
 pub fn equation_at(
     alloc: Global,

@@ -14,7 +14,7 @@ use std::alloc::{AllocError, Global};
 
 /// An equation of a function as a lemma: of pattern variables in the place of its variables, in the form of kompile
 /// also in the place of its parameters. It assumes that each is one element of its sort, that each parameter is in its
-/// argument, and what the condition says. `AllocError` says that memory was wanting; the context may have grown then
+/// argument, and what the condition says. `AllocError` says that memory ran out; the context may have grown then
 /// too. Its image is stated as an axiom, so who uses an equation often keeps its lemma.
 pub fn equation_lemma(
     alloc: Global,

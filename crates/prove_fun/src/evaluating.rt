@@ -42,7 +42,7 @@ use term_core::{MAX_HEIGHT, RulePat, SortId, Subst, SymId, Term, pattern_of};
 /// That the image of a pattern, with the images of a substitution's terms in the places of its variables, equals that
 /// of its value, by the record of its evaluation. Where both are literally the same there is no theorem. What is stated
 /// and proved once is kept in the context, and `kept` has the places of the equations' lemmas there. `AllocError` says
-/// that memory was wanting, or what it says of `fun_of`; the context may have grown then too. It recurses as deep as
+/// that memory ran out, or what it says of `fun_of`; the context may have grown then too. It recurses as deep as
 /// the record. An injection costs the size of its value, and a call those of its arguments' values.
 pub fn eval_eq(
     alloc: Global,

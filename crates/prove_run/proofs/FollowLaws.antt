@@ -131,7 +131,7 @@ covered_parts theory start h = split_true (is_plain start) (list_all is_plain_ru
 pub covered_rules : (theory : RewriteTheory) (start : RulePattern) → is_covered theory start ≡ true → list_all is_plain_rule theory.rules ≡ true
 covered_rules theory start h = (covered_parts theory start h).1
 
--- what a text is that begins, and with a theorem behind it
+-- what a text is that begins, and with a theorem after it
 pub begun_text : FitsLater → (old new : Context) (k k' : Kept) (before middle after : List ℕ) → k.named ≤ length old.names → HasGrown old new → Begins old k before middle →
     Adds new k k' middle after → (added : List ℕ) × (after ≡ before ++ added) × IsTextOf new k' added
 begun_text later old new k k' before middle after few grown (m, is, text) (n, is', f) = (

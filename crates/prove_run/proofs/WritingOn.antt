@@ -39,7 +39,7 @@ pub added_same : (before xs ys : List ℕ) → before ++ xs ≡ before ++ ys →
 added_same [] xs ys h = h
 added_same (b ∷ before) xs ys h = added_same before xs ys (tail_same b b (before ++ xs) (before ++ ys) h)
 
--- what a theorem concludes behind what was written before it
+-- what a theorem concludes after what was written before it
 pub concludes_after : (cx : Context) (a b c : Kept) (t : Theorem) (x y z : List ℕ) → Adds cx a b x y → Adds cx b c y z → Concludes cx b t y z → Concludes cx a t x z
 concludes_after cx a b c t x y z (m, is, f) (n, is', g) concludes start end from to added text none none' image image' says whole h =
     let same : m ++ n ≡ added = added_same x (m ++ n) added (sym (append_assoc x m n) ∙ ap (λ (l : List ℕ). l ++ n) (sym is) ∙ sym is' ∙ whole) in

@@ -40,7 +40,7 @@ pub record CanStep (proof : RunProof) (place : ℕ) (theta : List (Option Tree))
   pub matches : Matches (theory_of proof.program) (rewrite_rule rule) term theta
   pub makes : instance_of theta (plain_pattern rule.right) ≡ Some u
 
--- A proof goes on to a term: it is the present configuration then. Bytes were appended to a buffer; with them behind it
+-- A proof goes on to a term: it is the present configuration then. Bytes were appended to a buffer; with them after it
 -- each text that fitted the proof fits the new one.
 pub record StepsTo (old new : RunProof) (u : Tree) (before after : List ℕ) : Type 0 where
   pub same_program : new.program ≡ old.program

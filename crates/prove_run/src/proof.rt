@@ -61,7 +61,7 @@ impl<'p> Model for Proof<'p> {
 
 impl<'p> Proof<'p> {
     /// The proof of a run of no step: the start reaches its value, or where it has none itself. Its text is appended to
-    /// the buffer. The program is well-sorted and covered with this start. The error is want of memory; then a part of
+    /// the buffer. The program is well-sorted and covered with this start. The error: out of memory; then a part of
     /// the text was appended.
     pub fn begin(
         alloc: Global,
@@ -97,7 +97,7 @@ impl<'p> Proof<'p> {
 
     /// One step more, by the rule at a place of the program, which matches the present configuration with a
     /// substitution. What it makes of its right side is the present configuration then. The text of the step is
-    /// appended to the buffer. The error is want of memory; then a part of it was appended, and no proof is left.
+    /// appended to the buffer. The error: out of memory; then a part of it was appended, and no proof is left.
     pub fn step(
         self,
         alloc: Global,

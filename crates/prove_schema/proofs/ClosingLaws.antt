@@ -1,4 +1,4 @@
--- A pattern behind quantifiers, and the schema that is its instance at pattern variables.
+-- A pattern after quantifiers, and the schema that is its instance at pattern variables.
 use Rattle.std.proofs.Common.{◌≡◌, ◌≢◌, ◌<◌, ◌≤◌, ◌+◌, ℕ, Bool, true, false, zero, suc, List, [], ◌∷◌, Option, Some, None, length, slice_get, inl, inr, refl, sym, ◌∙◌, ap, subst, arith}
 use Rattle.std.specs.Prelude.{◌==◌, ◌⊎◌, cond}
 use Rattle.std.specs.List.{AllZip}

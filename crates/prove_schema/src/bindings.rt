@@ -41,7 +41,7 @@ fn element(alloc: Global, cx: &mut Cx<'_>, subst: &Subst, x: u32) -> Result<Thm,
     }
 }
 
-/// That each of some terms is one element of its sort. `AllocError` says that memory was wanting, or what it says of
+/// That each of some terms is one element of its sort. `AllocError` says that memory ran out, or what it says of
 /// `fun_of`; the context may have grown then too.
 pub fn term_elements(alloc: Global, cx: &mut Cx<'_>, terms: &[Term]) -> Result<Vec<Thm>, AllocError>
     requires well_sorted { IsWellSorted (theory_of cx.old.program) }

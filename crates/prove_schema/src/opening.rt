@@ -13,7 +13,7 @@ use ml_scope::{assume, mp, top};
 use std::alloc::{AllocError, Global};
 
 /// What a sentence says of all elements of some sorts, of the pattern variables with the numbers of its variables. It
-/// assumes that each is one element of its sort. An error: memory was refused. The cost grows with the number of
+/// assumes that each is one element of its sort. An error: out of memory. The cost grows with the number of
 /// variables times the size of the sentence.
 pub fn schema(alloc: Global, sentence: Thm) -> Result<Thm, AllocError>
     requires { IsForAll sentence.conclusion }

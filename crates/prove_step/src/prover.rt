@@ -55,7 +55,7 @@ impl<'p> Model for Prover<'p> {
 }
 
 impl<'p> Prover<'p> {
-    /// The context at the start: nothing was made. `AllocError` says that memory was wanting.
+    /// The context at the start: nothing was made. `AllocError` says that memory ran out.
     pub fn new(alloc: Global, program: &'p Program) -> Result<Prover<'p>, AllocError>
         ensures { IfOk result (λ prover. prover ≡ new_context program.now) }
     {
@@ -72,7 +72,7 @@ impl<'p> Prover<'p> {
         &self.cx
     }
 
-    /// The image of a pattern whose sorts and symbols are the program's. `AllocError` says that memory was wanting; the
+    /// The image of a pattern whose sorts and symbols are the program's. `AllocError` says that memory ran out; the
     /// names may have grown then too.
     pub fn image(&mut self, alloc: Global, pat: &RulePat) -> Result<MPat, AllocError>
         requires { HasImage self.old.program.sig (2 ^ 32) (plain_pattern pat.now) }
@@ -85,7 +85,7 @@ impl<'p> Prover<'p> {
 
     /// That the image of a pattern, with the images of a substitution's terms in the places of its variables, equals
     /// that of the term that the pattern becomes. Where no two injections meet both are the same, and there is no
-    /// theorem. `AllocError` says that memory was wanting; the context may have grown then too.
+    /// theorem. `AllocError` says that memory ran out; the context may have grown then too.
     pub fn inj_eq(
         &mut self,
         alloc: Global,
@@ -115,7 +115,7 @@ impl<'p> Prover<'p> {
     }
 
     /// The step by a rule, with what stands for its variables, as a theorem: the instance of the rule's left side
-    /// makes a step to that of its right side. `AllocError` says that memory was wanting; the context may have grown
+    /// makes a step to that of its right side. `AllocError` says that memory ran out; the context may have grown
     /// then too.
     pub fn step(&mut self, alloc: Global, rule: u32, subst: &Subst) -> Result<Thm, AllocError>
         requires well_sorted { IsWellSorted (theory_of self.old.program) }

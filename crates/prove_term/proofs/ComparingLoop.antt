@@ -91,7 +91,7 @@ made_item sig args ws i p w (variables, theta, refs, us, h, is) low at on =
 
 -- ---- some arguments
 
--- What is left, whatever it becomes as it is written, is applied to behind a pattern as all of it is behind the head.
+-- What is left, whatever it becomes as it is written, is applied to after a pattern as all of it is after the head.
 abbrev pub IsWritten : Context → List (Option Tree) → Pattern → RulePatterns → RulePatterns → Pattern → Type 0
 IsWritten cx theta head ps rest left =
     (later : Context) → HasGrown cx later → (ts : Forest) (qs : List Pattern) → all_substituted theta rest ≡ Some ts → AreImages later.program.sig later.names (ground_patterns ts) qs

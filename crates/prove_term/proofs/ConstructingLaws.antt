@@ -53,7 +53,7 @@ is_totality cx f n t says none takes = record {
   no_hypotheses = none;
 }
 
--- a lemma that was made of it, behind the others
+-- a lemma that was made of it, after the others
 pub constructor_learned : (cx : Context) (f n place : ℕ) (t lemma : Theorem) → SaysTotality cx f t.conclusion → t.hypotheses ≡ [] → Takes cx.program.sig f n → TotalFrom n t lemma → place ≡ length cx.lemmas
     → IsConstructorAt (record cx { lemmas = cx.lemmas ++ lemma ∷ [] }) f place
 constructor_learned cx f n place t lemma says none takes from last = record {

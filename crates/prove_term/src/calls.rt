@@ -20,7 +20,7 @@ use term_core::{RulePat, SortId, Subst, SymId, Term, pattern_of};
 
 /// That a function of patterns, with a substitution's terms in the places of their variables, equals the function of
 /// the terms that the patterns become. Both are literally the same where no two injections meet, and then there is no
-/// theorem. `AllocError` says that memory was wanting, or what it says of `inj_eq`; the context may have grown then
+/// theorem. `AllocError` says that memory ran out, or what it says of `inj_eq`; the context may have grown then
 /// too.
 pub fn call_eq(
     alloc: Global,

@@ -27,7 +27,7 @@ use term_core::{MAX_HEIGHT, RulePat, SortId, Subst, instance, pattern_of};
 
 /// That the image of a pattern, with the images of a substitution's terms in the places of its variables, equals that
 /// of the term that the pattern becomes. Both are literally the same where no two injections meet, and then there is
-/// no theorem. Lemmas on injections are made when they are first needed. `AllocError` says that memory was wanting, or
+/// no theorem. Lemmas on injections are made when they are first needed. `AllocError` says that memory ran out, or
 /// that a constructor of an injected term has 2^31 arguments or more; the context may have grown then too. It recurses
 /// as deep as the pattern and the injected terms are high.
 pub fn inj_eq(

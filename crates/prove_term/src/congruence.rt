@@ -16,7 +16,7 @@ pub struct Parts {
     pub arguments: Vec<MPat>,
 }
 
-/// The head of a pattern that is applied to so many, and these. `AllocError` says that memory was wanting.
+/// The head of a pattern that is applied to so many, and these. `AllocError` says that memory ran out.
 pub fn taken_apart(alloc: Global, image: &MPat, count: usize) -> Result<Parts, AllocError>
     requires { (head : Pattern) × (qs : List Pattern) × (image.now ≡ applied_to head qs) × (count ≡ length qs) }
     ensures { IfOk result (λ a. (head : Pattern) (qs : List Pattern) → image.now ≡ applied_to head qs →
@@ -46,7 +46,7 @@ pub fn halves(p: &MPat) -> (&MPat, &MPat)
 }
 
 /// An application, with what equals the function and the argument in their places, where something does: that it equals
-/// the application as it is. `AllocError` says that memory was wanting.
+/// the application as it is. `AllocError` says that memory ran out.
 pub fn applied(
     alloc: Global,
     function: &Option<Thm>,

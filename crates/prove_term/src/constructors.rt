@@ -15,7 +15,7 @@ use std::alloc::{AllocError, Global};
 use term_core::SymId;
 
 impl<'p> Cx<'p> {
-    // The place of the lemma of a constructor. A constructor of 2^31 arguments or more is refused as want of memory.
+    // The place of the lemma of a constructor. A constructor of 2^31 arguments or more is refused as out of memory.
     pub(crate) fn constructor(&mut self, alloc: Global, symbol: SymId) -> Result<usize, AllocError>
         requires signature { IsSignature self.old.program.sig }
         requires constructs { Constructs self.old.program.sig symbol.0 }

@@ -130,7 +130,7 @@ impl<'p> Cx<'p> {
         let _names = &self.names;
     }
 
-    /// The image of a pattern whose sorts and symbols are the program's. `AllocError` says that memory was wanting; the
+    /// The image of a pattern whose sorts and symbols are the program's. `AllocError` says that memory ran out; the
     /// names may have grown then too.
     pub fn image(&mut self, alloc: Global, pat: &RulePat) -> Result<MPat, AllocError>
         requires { HasImage self.old.program.sig (2 ^ 32) (plain_pattern pat.now) }
@@ -142,7 +142,7 @@ impl<'p> Cx<'p> {
     }
 
     /// The image of the rule at a place as a theorem. It is stated as an axiom when it is first asked for. `AllocError`
-    /// says that memory was wanting; the context may have grown then too.
+    /// says that memory ran out; the context may have grown then too.
     pub fn rule_axiom(&mut self, alloc: Global, rule: u32) -> Result<Thm, AllocError>
         requires { HasImageAt self.old.program rule }
         ensures says { IfOk result (λ t. SaysRuleAt self.new rule t.conclusion) }
@@ -188,7 +188,7 @@ impl<'p> Cx<'p> {
         Ok(())
     }
 
-    /// States the image of what is assumed as an axiom. `AllocError` says that memory was wanting.
+    /// States the image of what is assumed as an axiom. `AllocError` says that memory ran out.
     pub fn state(&mut self, image: MPat) -> Result<AxiomNo, AllocError>
         requires { IsImageOf self.old.program.sig self.old.names (IsAssumed (theory_of self.old.program)) image }
         ensures there { IfOk result (λ no. slice_get self.new.axioms no.0 ≡ Some image) }
@@ -198,7 +198,7 @@ impl<'p> Cx<'p> {
         self.theory.add(image)
     }
 
-    /// An axiom as a theorem. `AllocError` says that memory was wanting.
+    /// An axiom as a theorem. `AllocError` says that memory ran out.
     pub fn axiom(&self, alloc: Global, no: AxiomNo) -> Result<Thm, AllocError>
         requires { no.0 < length self.now.axioms }
         ensures conclusion { IfOk result (λ t. slice_get self.now.axioms no.0 ≡ Some t.conclusion) }

@@ -20,7 +20,7 @@ use std::alloc::{AllocError, Global};
 use term_core::{RulePat, SortId, SymId, Term, pattern_of};
 
 /// That a term is one element of its sort, from the axioms of its values and the lemmas of its constructors and
-/// injections, which are made when they are first needed. `AllocError` says that memory was wanting, or that a
+/// injections, which are made when they are first needed. `AllocError` says that memory ran out, or that a
 /// constructor of the term has 2^31 arguments or more; the context may have grown then too. It recurses as deep as the
 /// term is high.
 pub fn fun_of(alloc: Global, cx: &mut Cx<'_>, term: &Term) -> Result<Thm, AllocError>

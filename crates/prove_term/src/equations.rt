@@ -15,7 +15,7 @@ use std::alloc::{AllocError, Global};
 
 impl<'p> Cx<'p> {
     /// The image of an equation of a function as a theorem. Each call states it as an axiom: who uses an equation often
-    /// keeps the theorem, or what is made of it. `AllocError` says that memory was wanting; the context may have grown
+    /// keeps the theorem, or what is made of it. `AllocError` says that memory ran out; the context may have grown
     /// then too.
     pub fn equation_axiom(&mut self, alloc: Global, equation: &Equation) -> Result<Thm, AllocError>
         requires image { HasEquationImage self.old.program.sig equation.now.fun.0 (function_equation equation.now) }

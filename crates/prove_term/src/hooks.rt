@@ -18,7 +18,7 @@ type Call = (u32, i128, i128);
 
 impl<'p> Cx<'p> {
     /// That a function with a hook is, of values, the value that the hook gives there. It is stated as an axiom when it
-    /// is first asked for. `AllocError` says that memory was wanting; the context may have grown then too.
+    /// is first asked for. `AllocError` says that memory ran out; the context may have grown then too.
     pub fn hook(&mut self, alloc: Global, symbol: SymId, args: &[Scalar]) -> Result<Thm, AllocError>
         requires { (s : Sentence) × SaysHook self.old.program.sig symbol.0 (map scalar_value args.now) s }
         ensures says { IfOk result (λ t. IsImageOf self.new.program.sig self.new.names

@@ -193,7 +193,7 @@ front_of_proof (Some old) (Some mid) new theory start end written text first (fr
   inr (end, (rest, subst (λ (l : List ℕ). JustifiesRun l theory start end) (ap (λ (l : List ℕ). written ++ l) is ∙ sym (append_assoc written front rest)) whole)),
 )
 
--- at an error behind what was written before
+-- at an error after what was written before
 pub on_err_front : {T E : Type 0} (r : Result T E) (old mid new : Option Told) (program : Program) (start : Pattern) (written bytes : List ℕ) (s : ProvedSteps) → Writes old mid written → IsProvedRun program start written s →
     bytes ≡ s.text.items → OnErr r (WritesFront mid new bytes) → OnErr r (WritesFrontOfProof old new (theory_of program) start)
 on_err_front (Ok t) old mid new program start written bytes s first proved text front = tt

@@ -20,7 +20,7 @@ use term_core::RulePat;
 
 /// The run of an initial term, with at most `limit` steps and `calls` calls of functions. A Metamath database that
 /// justifies it, from the initial term to what the run keeps, is appended to the desk's created file as the run goes.
-/// The error is want of memory or a fault that the desk counted; then the front of such a database was appended, of a
+/// The error: out of memory or a fault that the desk counted; then the front of such a database was appended, of a
 /// run that is maybe shorter, or nothing.
 ///
 /// The text of a step grows with the configurations that it speaks of, at most with the square of their sizes. The text

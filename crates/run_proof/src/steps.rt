@@ -47,7 +47,7 @@ pub(crate) enum Going<'p> {
     Blocked(Blocked, Term, Vec<u8>),
 }
 
-/// The run of an initial term as far as its value, with so many calls of functions. The error is want of memory.
+/// The run of an initial term as far as its value, with so many calls of functions. The error: out of memory.
 pub(crate) fn proved_beginning<'p>(
     alloc: Global,
     engine: &Engine<'p>,
@@ -104,7 +104,7 @@ fn unstarted<'p>(
     Ok(Beginning::Unstarted(why, text))
 }
 
-/// The next step of a run, and its proof. The error is want of memory.
+/// The next step of a run, and its proof. The error: out of memory.
 pub(crate) fn proved_step<'p>(
     alloc: Global,
     engine: &Engine<'p>,
