@@ -5,13 +5,15 @@ use crate::test_definitions::HIGHER;
 use mm_verify::verify;
 use std::test::Fail;
 
+const TWENTY_STEPS: &[&str] = &["run", "d.kore", "t.kore", "--limit=20", "--proof=p.mm"];
+
 /// Each step makes the configuration higher. The proof of a run that reaches its limit is valid.
 #[test]
 fn a_run_by_a_rule_with_a_variable_leaves_its_proof(rt: HostRuntime) -> Result<(), Fail> {
     let alloc = rt.alloc();
     let out = nested(alloc, "limit 20\n", 20, "\n")?;
     let case = Case {
-        words: &["run", "d.kore", "t.kore", "--limit=20", "--proof=p.mm"],
+        words: TWENTY_STEPS,
         definition: HIGHER,
         code: 10,
         out: out.as_str(),
@@ -19,6 +21,7 @@ fn a_run_by_a_rule_with_a_variable_leaves_its_proof(rt: HostRuntime) -> Result<(
     };
     let (desk, holds) = call(alloc, &case)?;
     assert!(rt; holds);
-    assert!(rt; verify(alloc, desk.file("p.mm").unwrap_or_default()).is_ok());
+    let database = desk.file("p.mm").unwrap_or_default();
+    assert!(rt; verify(alloc, database).is_ok());
     Ok(())
 }
