@@ -192,8 +192,8 @@ const PROVED: [(Case<'static>, &str); 8] = [
             out: "stuck 1\ndone{}(inj{SortInt{},SortStmt{}}(\\dv{SortInt{}}(\"5\")))\n",
             ..PROVES
         },
-        "p |- ( \\imp ( \\app f:k ( \\app ( \\at ( \\at f:inj s:SortInt ) s:SortKItem ) d:SortInt:35 ) ) ( \\ev ( \\app \
-         f:done ( \\app ( \\at ( \\at f:inj s:SortInt ) s:SortStmt ) d:SortInt:35 ) ) ) ) ",
+        "p |- ( \\imp ( \\app f:k ( \\app ( \\at ( \\at f:inj s:SortInt ) s:SortKItem ) d:SortInt:35 ) ) ( \\ev ( \
+         \\app f:done ( \\app ( \\at ( \\at f:inj s:SortInt ) s:SortStmt ) d:SortInt:35 ) ) ) ) ",
     ),
     (
         Case {
@@ -202,9 +202,9 @@ const PROVED: [(Case<'static>, &str); 8] = [
             out: "stuck 2\nout{}(inj{A{},D{}}(a{}()),inj{A{},D{}}(a{}()))\n",
             ..PROVES
         },
-        "p |- ( \\imp ( \\app ( \\app f:pair ( \\app ( \\at ( \\at f:inj s:B ) s:C ) ( \\app ( \\at ( \\at f:inj s:A ) s:B ) \
-         f:a ) ) ) ( \\app ( \\at ( \\at f:inj s:A ) s:B ) f:a ) ) ( \\ev ( \\app ( \\app f:out ( \\app ( \\at ( \\at f:inj \
-         s:A ) s:D ) f:a ) ) ( \\app ( \\at ( \\at f:inj s:A ) s:D ) f:a ) ) ) ) ",
+        "p |- ( \\imp ( \\app ( \\app f:pair ( \\app ( \\at ( \\at f:inj s:B ) s:C ) ( \\app ( \\at ( \\at f:inj s:A ) \
+         s:B ) f:a ) ) ) ( \\app ( \\at ( \\at f:inj s:A ) s:B ) f:a ) ) ( \\ev ( \\app ( \\app f:out ( \\app ( \
+         \\at ( \\at f:inj s:A ) s:D ) f:a ) ) ( \\app ( \\at ( \\at f:inj s:A ) s:D ) f:a ) ) ) ) ",
     ),
 ];
 

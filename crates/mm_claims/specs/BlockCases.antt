@@ -40,4 +40,6 @@ small_text =
 pub record BlockTried : Type 0 where
   pub tokens : small_tokens ≡ small_text
   pub may : IsClaim (codes "s:S" ∷ []) small_claim
-  pub cited : postorder (claim_tree (own_labels 9) (record { number = 0; claim = small_claim }) [] (bot ∷ imp bot bot ∷ []) []) ≡ object_label 9 0 ∷ object_label 9 2 ∷ codes "w.bot" ∷ codes "w.bot" ∷ codes "w.bot" ∷ codes "w.imp" ∷ statement_label 0 ∷ []
+  pub cited : postorder (claim_tree (own_labels 9) (record { number = 0; claim = small_claim }) []
+      (bot ∷ imp bot bot ∷ []) []) ≡ object_label 9 0 ∷ object_label 9 2 ∷ codes "w.bot" ∷ codes "w.bot" ∷
+      codes "w.bot" ∷ codes "w.imp" ∷ statement_label 0 ∷ []

@@ -28,4 +28,5 @@ NeededAreEnough =
     (declared : List Token) (claims : List Claim) (s : Claim) (d : Derivation) (place : List Pattern → Pattern → ℕ) (premise_place : Pattern → ℕ) →
     IsClaim declared s → AreNumbered (variables_of (at_places claims place) d) → Concludes s.hypotheses d s.conclusion →
     EachUsed (over_names declared) d → EachCited (citable (over_names declared) claims place) d → ArePremises s.hypotheses premise_place →
-    IsProvable declared claims s (other_variables s.variables (variables_of (at_places claims place) d)) d place premise_place
+    IsProvable declared claims s (other_variables s.variables (variables_of (at_places claims place) d)) d place
+    premise_place

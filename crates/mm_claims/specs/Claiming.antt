@@ -45,7 +45,8 @@ abbrev pub FitsClaims : List Token → List Claim → List ℕ → Type 0
 FitsClaims declared claims bytes = (c : Context) × Leaves bytes c × HoldsClaims declared claims c
 
 -- what is written of a theorem by a derivation, where what it cites is found so
-abbrev pub proved_statements : List Token → ℕ → (List Pattern → Pattern → Stated) → (Pattern → ℕ) → Claim → List Variable → Derivation → List (List Token)
+abbrev pub proved_statements : List Token → ℕ → (List Pattern → Pattern → Stated) → (Pattern → ℕ) → Claim →
+    List Variable → Derivation → List (List Token)
 proved_statements declared k find premise_place s more d =
     theorem_statements declared k s more (derivation_tree (own_labels k) (claims_citing k find premise_place) d)
 

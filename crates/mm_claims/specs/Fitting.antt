@@ -20,8 +20,9 @@ abbrev pub name_frame : ℕ → Token → Frame
 name_frame i t = closed_frame (name_label i) (typecode_of t ∷ (t ∷ []))
 
 -- What a text has declared where the header was written and these names: the rows of the header are there, and what is active
--- is what is active after the header; variables of statements may have been declared besides. Its constants are those of the header and the names, of which each has its `$a` under
--- its label. The labels of later names are free, and no label is a name's token.
+-- is what is active after the header; variables of statements may have been declared besides. Its constants are those
+-- of the header and the names, of which each has its `$a` under its label. The labels of later names are free, and no
+-- label is a name's token.
 pub record Holds (declared : List Token) (c : Context) : Type 0 where
   pub rows : (label : Token) (f : Frame) → header_context.frames label ≡ Some f → c.frames label ≡ Some f
   pub scope : c.scope ≡ header_context.scope

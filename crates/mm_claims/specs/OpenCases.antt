@@ -37,6 +37,11 @@ abbrev only_premise : Pattern → ℕ
 only_premise p = 0
 
 pub record TriedCitations : Type 0 where
-  pub citation : postorder (derivation_tree (own_labels 2) (claims_citing 2 (at_places (next_claim ∷ []) only_place) only_premise) (citing_next (constant 1))) ≡ object_label 2 0 ∷ name_label 1 ∷ premise_label 2 0 ∷ statement_label 0 ∷ []
-  pub renamed : postorder (derivation_tree (own_labels 2) (claims_citing 2 (at_places (next_claim ∷ []) only_place) only_premise) (citing_next (meta 3))) ≡ object_label 2 0 ∷ meta_label 2 3 ∷ premise_label 2 0 ∷ statement_label 0 ∷ []
-  pub needed : other_variables (pattern_variable 3 ∷ []) (variables_of (at_places (next_claim ∷ []) only_place) (citing_next (next (imp (meta 3) (meta 5))))) ≡ object_variable 0 ∷ (pattern_variable 5 ∷ [])
+  pub citation : postorder (derivation_tree (own_labels 2) (claims_citing 2 (at_places (next_claim ∷ []) only_place)
+      only_premise) (citing_next (constant 1))) ≡ object_label 2 0 ∷ name_label 1 ∷ premise_label 2 0 ∷
+      statement_label 0 ∷ []
+  pub renamed : postorder (derivation_tree (own_labels 2) (claims_citing 2 (at_places (next_claim ∷ []) only_place)
+      only_premise) (citing_next (meta 3))) ≡ object_label 2 0 ∷ meta_label 2 3 ∷ premise_label 2 0 ∷
+      statement_label 0 ∷ []
+  pub needed : other_variables (pattern_variable 3 ∷ []) (variables_of (at_places (next_claim ∷ []) only_place)
+      (citing_next (next (imp (meta 3) (meta 5))))) ≡ object_variable 0 ∷ (pattern_variable 5 ∷ [])

@@ -46,7 +46,8 @@ abbrev pub CitingIsSound : Type 0
 CitingIsSound =
     (c : Context) (declared : List Token) (known : Known) (claims : List Claim) (k : ℕ) (hypotheses : List Pattern) (place : List Pattern → Pattern → ℕ) (premise_place : Pattern → ℕ) →
     AreNames declared → Serves c (own_labels k) (own_naming declared) (are_known known) → ServesClaims c declared claims k hypotheses → ArePremises hypotheses premise_place →
-    CitesSoundly c (own_naming declared) hypotheses (citable (are_known known) claims place) (claims_citing k (at_places claims place) premise_place)
+    CitesSoundly c (own_naming declared) hypotheses (citable (are_known known) claims place)
+    (claims_citing k (at_places claims place) premise_place)
 
 -- and a derivation that cites them is written as a proof of what it concludes
 abbrev pub CitingDerivationsAreProved : Type 0
@@ -54,4 +55,5 @@ CitingDerivationsAreProved =
     (c : Context) (declared : List Token) (known : Known) (claims : List Claim) (k : ℕ) (hypotheses : List Pattern) (place : List Pattern → Pattern → ℕ) (premise_place : Pattern → ℕ) (d : Derivation) (q : Pattern) →
     AreNames declared → Serves c (own_labels k) (own_naming declared) (are_known known) → ServesClaims c declared claims k hypotheses → ArePremises hypotheses premise_place →
     Concludes hypotheses d q → EachUsed (are_known known) d → EachCited (citable (are_known known) claims place) d →
-    IsWritten c (own_naming declared) (derivation_tree (own_labels k) (claims_citing k (at_places claims place) premise_place) d) (holds q)
+    IsWritten c (own_naming declared)
+    (derivation_tree (own_labels k) (claims_citing k (at_places claims place) premise_place) d) (holds q)

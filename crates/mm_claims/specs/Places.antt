@@ -17,10 +17,11 @@ use Rattle.mm_claims.specs.Keeping.{Gains}
 use Rattle.mm_database.specs.StatementTexts.{written_statements}
 
 -- among some claims is this one, of this conclusion under these hypotheses
-pub record IsFoundAs (claims : List Stated) (hypotheses : List Pattern) (conclusion : Pattern) (s : Stated) : Type 0 where
-  pub there : Contains claims s
-  pub hypotheses_are : s.claim.hypotheses ≡ hypotheses
-  pub conclusion_is : s.claim.conclusion ≡ conclusion
+pub record IsFoundAs (claims : List Stated) (hypotheses : List Pattern) (conclusion : Pattern) (s : Stated) : Type 0
+  where
+    pub there : Contains claims s
+    pub hypotheses_are : s.claim.hypotheses ≡ hypotheses
+    pub conclusion_is : s.claim.conclusion ≡ conclusion
 
 abbrev pub IsStated : List Stated → List Pattern → Pattern → Type 0
 IsStated claims hypotheses conclusion = (s : Stated) × IsFoundAs claims hypotheses conclusion s
@@ -32,8 +33,8 @@ stated_cites declared claims = record {
   lemma = λ own q ms. IsStated claims own q × AreOverNames declared ms;
 }
 
--- What may be proved after what is kept: a pattern under hypotheses, over the names that were declared, by a derivation that uses
--- only patterns over these and cites only what was stated.
+-- What may be proved after what is kept: a pattern under hypotheses, over the names that were declared, by a
+-- derivation that uses only patterns over these and cites only what was stated.
 pub record MayProve (names : List Token) (k : Kept) (t : Theorem) : Type 0 where
   pub begun : IsTrue k.begun
   pub over : AreOverNames (take k.named names) (t.conclusion ∷ t.hypotheses)
@@ -51,9 +52,11 @@ abbrev pub more_variables : (List Pattern → Pattern → Stated) → Theorem �
 more_variables find t = other_variables (claim_variables t.hypotheses t.conclusion) (variables_of find t.derivation)
 
 -- a lemma as the theorem with a number, where what it cites is found so
-abbrev pub lemma_statements : List Token → ℕ → (List Pattern → Pattern → Stated) → (Pattern → ℕ) → Theorem → List (List Token)
+abbrev pub lemma_statements : List Token → ℕ → (List Pattern → Pattern → Stated) → (Pattern → ℕ) → Theorem →
+    List (List Token)
 lemma_statements names k find premise_place t =
-    proved_statements names k find premise_place (claim_of t.hypotheses t.conclusion) (more_variables find t) t.derivation
+    proved_statements names k find premise_place (claim_of t.hypotheses t.conclusion) (more_variables find t)
+    t.derivation
 
 -- A lemma was stated: its statements were appended, where each citation has the label of the claim, or of the place of
 -- the hypothesis; and where it may be proved, just this theorem is gained.

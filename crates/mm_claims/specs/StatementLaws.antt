@@ -42,7 +42,9 @@ abbrev pub TheoremFits : Type 0
 TheoremFits =
     (declared : List Token) (claims : List Claim) (bytes : List ℕ) (s : Claim) (more : List Variable) (d : Derivation) (place : List Pattern → Pattern → ℕ) (premise_place : Pattern → ℕ) →
     FitsClaims declared claims bytes → length claims < 2 ^ 64 → IsClaim declared s → IsProvable declared claims s more d place premise_place →
-    FitsClaims declared (claims ++ s ∷ []) (bytes ++ written_statements (proved_statements declared (length claims) (at_places claims place) premise_place s more d))
+    FitsClaims declared (claims ++ s ∷ [])
+    (bytes ++ written_statements (proved_statements declared (length claims) (at_places claims place) premise_place s
+    more d))
 
 abbrev pub AxiomIsGained : Type 0
 AxiomIsGained =
@@ -54,4 +56,5 @@ abbrev pub TheoremIsGained : Type 0
 TheoremIsGained =
     (declared : List Token) (claims : List Claim) (bytes : List ℕ) (s : Claim) (more : List Variable) (d : Derivation) (place : List Pattern → Pattern → ℕ) (premise_place : Pattern → ℕ) →
     FitsClaims declared claims bytes → length claims < 2 ^ 64 → IsClaim declared s → IsProvable declared claims s more d place premise_place →
-    HasJust bytes (written_statements (proved_statements declared (length claims) (at_places claims place) premise_place s more d)) (length claims) (s.variables ++ more) (open_assertion true declared (length claims) s)
+    HasJust bytes (written_statements (proved_statements declared (length claims) (at_places claims place)
+    premise_place s more d)) (length claims) (s.variables ++ more) (open_assertion true declared (length claims) s)

@@ -43,7 +43,8 @@ PutsMore entries old new =
 
 abbrev pub quantifier_entries : List Token → Token → ℕ → ℕ → Pattern → List Entry
 quantifier_entries names connective x s p =
-    plain_bracketed connective (plain (object_token x) ∷ (plain (name_of names s) ∷ (text_entries names p ++ plain_bracket)))
+    plain_bracketed connective (plain (object_token x) ∷
+    (plain (name_of names s) ∷ (text_entries names p ++ plain_bracket)))
 
 abbrev pub quantifier_steps : ℕ → ℕ → ℕ → Pattern → Token → List Entry
 quantifier_steps k x s p label = entries_of (
@@ -115,7 +116,8 @@ under_steps k x u y s p r label = entries_of (
 -- a work is taken from a stack: a label of it is listed, or smaller works were put on the stack
 abbrev pub IsTaken : List Token → ℕ → Work → List Work → List Work → List Label → List Label → Type 0
 IsTaken names k w old new labels labels' =
-    (listed names k labels' ++ stack_entries names k new ≡ listed names k labels ++ (work_entries names k w ++ stack_entries names k old))
+    (listed names k labels' ++ stack_entries names k new ≡ listed names k labels
+    ++ (work_entries names k w ++ stack_entries names k old))
     × (stack_weight names k new < stack_weight names k old + weight names k w)
 
 abbrev pub TakesWork : Work → List Work → List Work → List Label → List Label → Type 0

@@ -4,8 +4,9 @@
 //! **What is written.** A pattern is a list of tokens (`specs/Tokens`). That it is one, and each judgement on it, has a
 //! proof by the rows of the header, form by form, but one row for a whole part in which the variable of a judgement
 //! does not stand; a rule is its label over the proofs of what it concludes from, and a derivation is written by
-//! recursion (`specs/Trees`, `specs/Derivations`). `proof_laws` says of patterns, judgements and rules that these are proofs in
-//! every database that has the header and the declarations that they cite (`specs/Serving`, `specs/RenderLaws`).
+//! recursion (`specs/Trees`, `specs/Derivations`). `proof_laws` says of patterns, judgements and rules that these are
+//! proofs in every database that has the header and the declarations that they cite (`specs/Serving`,
+//! `specs/RenderLaws`).
 //!
 //! **How it is written.** A proof is a list of labels, each with the number of proofs that it takes (`specs/Entries`,
 //! `specs/Writing`), and its text is made from the list in one pass (`push_labels`). What is still to be listed lies on

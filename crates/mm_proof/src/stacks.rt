@@ -14,7 +14,8 @@ pub(crate) fn put_steps<'a>(
     label: &'static str,
 ) -> Result<(), AllocError>
     ensures { OnOk result
-        (PutsOn (λ names k. works_entries names k parts.now ++ record { label = label.now; takes = length parts.now } ∷ [])
+        (PutsOn (λ names k. works_entries names k parts.now ++ record { label = label.now; takes = length parts.now }
+        ∷ [])
         stack.old.items stack.new.items) }
 {
     stack.push(Work::Taking(Word::Fixed(label), parts.len()))?;

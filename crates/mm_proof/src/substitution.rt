@@ -190,7 +190,8 @@ fn expand_by_form<'a>(
     pat: &'a MPat,
     made: &'a MPat,
 ) -> Result<(), AllocError>
-    ensures { OnOk result (PutsOn (λ names k. entries_of (substitution_by_form (own_labels k) x.0 u.now pat.now made.now))
+    ensures { OnOk result (PutsOn
+        (λ names k. entries_of (substitution_by_form (own_labels k) x.0 u.now pat.now made.now))
         stack.old.items stack.new.items) }
 {
     match pat.form() {

@@ -22,9 +22,12 @@ abbrev pub claim_code : Coded Claim
 claim_code = code_by (List Variable × (List Pattern × Pattern)) (coded× (coded_list variable_code) (coded× (coded_list pattern_code) pattern_code)) (λ s. (s.variables, (s.hypotheses, s.conclusion))) (λ p. record { variables = p.0; hypotheses = p.1.0; conclusion = p.1.1 }) (λ _. refl)
 
 abbrev pub stated_code : Coded Stated
-stated_code = code_by (ℕ × Claim) (coded× coded_ℕ claim_code) (λ s. (s.number, s.claim)) (λ p. record { number = p.0; claim = p.1 }) (λ _. refl)
+stated_code = code_by (ℕ × Claim) (coded× coded_ℕ claim_code) (λ s. (s.number, s.claim))
+    (λ p. record { number = p.0; claim = p.1 }) (λ _. refl)
 
 abbrev pub kept_code : Coded Kept
 kept_code =
-    code_by (Bool × (ℕ × (ℕ × (List Stated × List Stated)))) (coded× coded_bool (coded× coded_ℕ (coded× coded_ℕ (coded× (coded_list stated_code) (coded_list stated_code)))))
-    (λ k. (k.begun, (k.named, (k.count, (k.stated, k.last))))) (λ p. record { begun = p.0; named = p.1.0; count = p.1.1.0; stated = p.1.1.1.0; last = p.1.1.1.1 }) (λ _. refl)
+    code_by (Bool × (ℕ × (ℕ × (List Stated × List Stated))))
+    (coded× coded_bool (coded× coded_ℕ (coded× coded_ℕ (coded× (coded_list stated_code) (coded_list stated_code)))))
+    (λ k. (k.begun, (k.named, (k.count, (k.stated, k.last)))))
+    (λ p. record { begun = p.0; named = p.1.0; count = p.1.1.0; stated = p.1.1.1.0; last = p.1.1.1.1 }) (λ _. refl)

@@ -6,7 +6,13 @@ use Rattle.mm_render.specs.KeyPlaces.{ArePlaced}
 use Rattle.mm_render.specs.PlaceTable.{found_in}
 
 abbrev pub kept_of : Inside → Kept
-kept_of r = record { begun = r.begun; named = r.named; count = r.written; stated = plain_stated_all r.stated.items; last = last_of r.run }
+kept_of r = record {
+  begun = r.begun;
+  named = r.named;
+  count = r.written;
+  stated = plain_stated_all r.stated.items;
+  last = last_of r.run;
+}
 
 -- its table has what may always be cited
 abbrev pub FindsKept : Inside → Type 0

@@ -23,7 +23,8 @@ placed_or_last stated last None = stated_or_none last
 
 -- the claim that is found by the bytes of a statement, and the place of a hypothesis
 abbrev pub find_by : List Stated → List Stated → (List ℕ → Option ℕ) → List Pattern → Pattern → Stated
-find_by stated last found hypotheses conclusion = placed_or_last stated last (found (statement_key hypotheses conclusion))
+find_by stated last found hypotheses conclusion = placed_or_last stated last
+    (found (statement_key hypotheses conclusion))
 
 abbrev pub premise_place_by : (List ℕ → Option ℕ) → Pattern → ℕ
 premise_place_by found p = unwrap_or (found (pattern_key p)) 0

@@ -56,11 +56,13 @@ parts_weight (p ∷ ps) = parts_weight ps + part_weight p
 
 -- parts that list these labels were put on a stack, with at most this weight
 pub record PutsParts (put : List Token → ℕ → Citing → List Entry) (more : ℕ) (old new : List Part) : Type 0 where
-  pub entries : (names : List Token) (k : ℕ) (s : Citing) → parts_entries names k s new ≡ put names k s ++ parts_entries names k s old
+  pub entries : (names : List Token) (k : ℕ) (s : Citing) → parts_entries names k s new ≡ put names k s
+      ++ parts_entries names k s old
   pub weight : parts_weight new ≤ parts_weight old + more
 
 -- a part was taken from a stack: it is listed, or the parts that are left of it were put on the stack
-pub record PartIsTaken (names : List Token) (k : ℕ) (s : Citing) (p : Part) (old new : List Part) (list list' : List Entry) : Type 0 where
+pub record PartIsTaken (names : List Token) (k : ℕ) (s : Citing) (p : Part) (old new : List Part)
+    (list list' : List Entry) : Type 0 where
   pub entries : list' ++ parts_entries names k s new ≡ list ++ (part_entries names k s p ++ parts_entries names k s old)
   pub weight : parts_weight new < parts_weight old + part_weight p
 
@@ -68,12 +70,20 @@ pub record PartIsTaken (names : List Token) (k : ℕ) (s : Citing) (p : Part) (o
 abbrev pub rest_of_rule : ℕ → Citing → Rule → List Instance → Derivations → List Entry
 rest_of_rule k s r is ds =
     all_entries_by k s ds ++ (all_entries (trees_behind (own_labels k) r is) ++
-    record { label = label r; takes = length is + (length (trees_before (own_labels k) r is) + (how_many_by ds + length (trees_behind (own_labels k) r is))) } ∷ [])
+    record {
+      label = label r;
+      takes = length is + (length (trees_before (own_labels k) r is)
+          + (how_many_by ds + length (trees_behind (own_labels k) r is)));
+    } ∷ [])
 
 -- what is left of the citation of a claim: the proofs of its hypotheses and its label
 abbrev pub rest_of_citation : ℕ → Citing → Stated → Derivations → List Entry
 rest_of_citation k s c ds =
-    all_entries_by k s ds ++ record { label = statement_label c.number; takes = length c.claim.variables + how_many_by ds } ∷ []
+    all_entries_by k s ds ++ record {
+      label = statement_label c.number;
+      takes = length c.claim.variables + how_many_by
+          ds;
+    } ∷ []
 
 -- the proofs of what stands for variables of a claim
 abbrev pub value_entries : ℕ → List ℕ → List Pattern → List Variable → List Entry

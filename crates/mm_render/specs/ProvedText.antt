@@ -12,7 +12,8 @@ use Rattle.mm_claims.specs.Kept.{Kept, all_stated}
 use Rattle.mm_claims.specs.Places.{Finds, MayProve, lemma_statements, more_variables}
 
 -- just this theorem is gained where it is kept as a lemma, or as the last of a run
-abbrev pub GainsTheorem : List Token → Kept → Kept → (List Pattern → Pattern → Stated) → (Pattern → ℕ) → Theorem → Type 0
+abbrev pub GainsTheorem : List Token → Kept → Kept → (List Pattern → Pattern → Stated) → (Pattern → ℕ) → Theorem →
+    Type 0
 GainsTheorem names old new find premise_place t =
     Gains names old new (written_statements (lemma_statements names old.count find premise_place t))
     (claim_variables t.hypotheses t.conclusion ++ more_variables find t)
@@ -24,5 +25,7 @@ pub record WritesProof (names : List Token) (k : Kept) (t : Theorem) (text text'
   pub finds : Finds (all_stated k) find
   pub premises : ArePremises t.hypotheses premise_place
   pub appended : text' ≡ text ++ written_statements (lemma_statements names k.count find premise_place t)
-  pub gains : MayProve names k t → GainsTheorem names k (with_stated k (claim_of t.hypotheses t.conclusion)) find premise_place t
-  pub gains_last : MayProve names k t → GainsTheorem names k (with_last k (claim_of t.hypotheses t.conclusion)) find premise_place t
+  pub gains : MayProve names k t → GainsTheorem names k (with_stated k (claim_of t.hypotheses t.conclusion)) find
+      premise_place t
+  pub gains_last : MayProve names k t → GainsTheorem names k (with_last k (claim_of t.hypotheses t.conclusion)) find
+      premise_place t

@@ -24,7 +24,8 @@ pub(crate) fn needed_variables(
     variables: &[Variable],
     derivation: &Deriv,
 ) -> Result<Vec<Variable>, AllocError>
-    ensures needed { IfOk result (λ all. plain_variables all.items ≡ added (plain_variables variables.now) (variables_of (found_at at.now) derivation.now)) }
+    ensures needed { IfOk result (λ all. plain_variables all.items ≡ added (plain_variables variables.now)
+        (variables_of (found_at at.now) derivation.now)) }
     ensures numbered { OnOk result (AreNumbered (variables_of (found_at at.now) derivation.now)) }
 {
     let mut list = VariableList::from_variables(alloc, variables)?;
@@ -44,7 +45,8 @@ fn take_step<'a>(
     stack: &mut Vec<&'a Deriv>,
     derivation: &'a Deriv,
 ) -> Result<(), AllocError>
-    ensures { OnOk result (StepIsTaken (found_at at.now) derivation.now stack.old.items stack.new.items (listed list.old) (listed list.new)) }
+    ensures { OnOk result (StepIsTaken (found_at at.now) derivation.now stack.old.items stack.new.items
+        (listed list.old) (listed list.new)) }
 {
     match derivation.step() {
         DerivStep::Hyp(_) => Ok(()),
@@ -72,7 +74,8 @@ fn add_values(
     new: &[VarNo],
     patterns: &[MPat],
 ) -> Result<(), AllocError>
-    ensures { OnOk result (listed list.new ≡ added (listed list.old) (flat_map (variables_at (numbers_of new.now) patterns.now) (plain_variables variables.now))) }
+    ensures { OnOk result (listed list.new ≡ added (listed list.old)
+        (flat_map (variables_at (numbers_of new.now) patterns.now) (plain_variables variables.now))) }
 {
     for variable in variables {
         add_value(alloc, list, *variable, new, patterns)?;

@@ -1,11 +1,13 @@
 // What is written: whole statements, after a text that fits.
-ghost use Rattle.std.specs.Prelude.{◌≡◌, ◌+◌, ◌<◌, ◌≤◌, [], ◌∷◌, ◌++◌, false, IsTrue, IfOk, OnErr, OnOk, drop, length, option_copied, take, unwrap_or};
+ghost use Rattle.std.specs.Prelude.{◌≡◌, ◌+◌, ◌<◌, ◌≤◌, [], ◌∷◌, ◌++◌, false, IsTrue, IfOk, OnErr, OnOk, drop};
+ghost use Rattle.std.specs.Prelude.{length, option_copied, take, unwrap_or};
 ghost use Rattle.mm_header.specs.HeaderText.{header_bytes};
 ghost use Rattle.mm_claims.specs.Blocks.{axiom_statements, open_assertion};
 ghost use Rattle.mm_claims.specs.ClaimVariables.{claim_of, claim_variables};
 ghost use Rattle.mm_render.specs.ClaimView.{plain_claim};
 ghost use Rattle.mm_claims.specs.Fitting.{AreNames};
-ghost use Rattle.mm_claims.specs.Keeping.{AppendsFitting, AppendsFittingNames, Gains, MayState, axiom_at, with_last, with_stated};
+ghost use Rattle.mm_claims.specs.Keeping.{AppendsFitting, AppendsFittingNames, Gains, MayState, axiom_at, with_last};
+ghost use Rattle.mm_claims.specs.Keeping.{with_stated};
 ghost use Rattle.mm_claims.specs.Kept.{header_kept, nothing_kept};
 ghost use Rattle.mm_claims.specs.Places.{StatesLemma};
 ghost use Rattle.mm_render.specs.ProvedText.{WritesProof};
@@ -68,7 +70,7 @@ impl Renderer {
         }
     }
 
-    /// Adds the header. Where memory is wanting, nothing changes.
+    /// Adds the header. Where memory runs out, nothing changes.
     pub fn begin(&mut self, to: &mut Vec<u8>) -> Result<(), AllocError>
         requires { self.old ≡ nothing_kept }
         ensures text { OnOk result (to.new.items ≡ to.old.items ++ header_bytes) }
@@ -102,8 +104,8 @@ impl Renderer {
     }
 
     /// States an axiom of a theory under the next label, in a block with its variables where it has any. Where it is over the names
-    /// that were declared, each text that fits fits with it appended, and has gained just this axiom. Where memory is wanting, nothing
-    /// changes.
+    /// that were declared, each text that fits fits with it appended, and has gained just this axiom. Where memory is
+    /// wanting, nothing changes.
     pub fn axiom(
         &mut self,
         names: &Names,
@@ -112,11 +114,15 @@ impl Renderer {
         to: &mut Vec<u8>,
     ) -> Result<(), AllocError>
         requires { no.0 < length theory.now }
-        ensures text { OnOk result (to.new.items ≡ to.old.items ++ written_statements (axiom_statements names.now self.old.count (claim_of [] (axiom_at theory.now no.0)))) }
+        ensures text { OnOk result (to.new.items ≡ to.old.items ++ written_statements
+            (axiom_statements names.now self.old.count (claim_of [] (axiom_at theory.now no.0)))) }
         ensures kept { OnOk result (self.new ≡ with_stated self.old (claim_of [] (axiom_at theory.now no.0))) }
         ensures gains { OnOk result (MayState names.now self.old (axiom_at theory.now no.0) →
-            Gains names.now self.old self.new (written_statements (axiom_statements names.now self.old.count (claim_of [] (axiom_at theory.now no.0)))) (claim_variables [] (axiom_at theory.now no.0))
-            (open_assertion false (take self.old.named names.now) self.old.count (claim_of [] (axiom_at theory.now no.0)))) }
+            Gains names.now self.old self.new
+            (written_statements (axiom_statements names.now self.old.count (claim_of [] (axiom_at theory.now no.0))))
+            (claim_variables [] (axiom_at theory.now no.0))
+            (open_assertion false (take self.old.named names.now) self.old.count
+            (claim_of [] (axiom_at theory.now no.0)))) }
         ensures unchanged { OnErr result (to.new.items ≡ to.old.items) }
         ensures as_before { OnErr result (self.new ≡ self.old) }
     {
@@ -129,8 +135,9 @@ impl Renderer {
 
     /// States a theorem under the next label, with its proof, in a block with its hypotheses and with the variables
     /// that stand in it or in its proof where there are any. Where it is over the names that were declared, and its
-    /// proof uses only these and cites only what is kept, each text that fits fits with it appended, and has gained just
-    /// this theorem. It is kept. The error: out of memory, or of labels after 2^64 of them; then nothing changes.
+    /// proof uses only these and cites only what is kept, each text that fits fits with it appended, and has gained
+    /// just this theorem. It is kept. The error: out of memory, or of labels after 2^64 of them; then nothing
+    /// changes.
     pub fn lemma(&mut self, names: &Names, lemma: &Thm, to: &mut Vec<u8>) -> Result<(), AllocError>
         ensures states { OnOk result (StatesLemma names.now self.old self.new lemma.now to.old.items to.new.items) }
         ensures kept { OnOk result (self.new ≡ with_stated self.old (claim_of lemma.now.hypotheses lemma.now.conclusion)) }
@@ -151,7 +158,8 @@ impl Renderer {
         to: &mut Vec<u8>,
     ) -> Result<(), AllocError>
         ensures states { OnOk result (StatesLemma names.now self.old self.new theorem.now to.old.items to.new.items) }
-        ensures kept { OnOk result (self.new ≡ with_last self.old (claim_of theorem.now.hypotheses theorem.now.conclusion)) }
+        ensures kept { OnOk result
+            (self.new ≡ with_last self.old (claim_of theorem.now.hypotheses theorem.now.conclusion)) }
         ensures unchanged { OnErr result (to.new.items ≡ to.old.items) }
         ensures as_before { OnErr result (self.new ≡ self.old) }
     {
@@ -174,7 +182,8 @@ impl Renderer {
         theorem: &Thm,
         to: &mut Vec<u8>,
     ) -> Result<Claim, AllocError>
-        ensures claim { IfOk result (λ claim. plain_claim claim ≡ claim_of theorem.now.hypotheses theorem.now.conclusion) }
+        ensures claim { IfOk result (λ claim. plain_claim claim ≡ claim_of theorem.now.hypotheses
+            theorem.now.conclusion) }
         ensures text { OnOk result (WritesProof names.now self.now theorem.now to.old.items to.new.items) }
     {
         let alloc = *to.allocator();

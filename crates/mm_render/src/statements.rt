@@ -71,8 +71,11 @@ pub(crate) fn push_theorem(
     claim: &Claim,
     derivation: &Deriv,
 ) -> Result<(), AllocError>
-    ensures text { OnOk result (to.new.items ≡ to.old.items ++ written_statements (proved_statements at.now.names.now at.now.serial (found_at at.now) (premises_at at.now) (plain_claim claim.now)
-        (other_variables (plain_variables claim.now.variables.items) (variables_of (found_at at.now) derivation.now)) derivation.now)) }
+    ensures text { OnOk result (to.new.items ≡ to.old.items ++ written_statements
+        (proved_statements at.now.names.now at.now.serial (found_at at.now) (premises_at at.now)
+        (plain_claim claim.now)
+        (other_variables (plain_variables claim.now.variables.items) (variables_of (found_at at.now) derivation.now))
+        derivation.now)) }
     ensures numbered { OnOk result (AreNumbered (variables_of (found_at at.now) derivation.now)) }
 {
     let variables = needed_variables(*to.allocator(), at, &claim.variables, derivation)?;

@@ -174,8 +174,8 @@ impl Writer {
         Ok(())
     }
 
-    /// Appends a theorem that follows from what is written. It may be cited until the next is appended. The error is want
-    /// of memory; then a part of it was appended.
+    /// Appends a theorem that follows from what is written. It may be cited until the next is appended. The error is
+    /// want of memory; then a part of it was appended.
     pub fn theorem(
         &mut self,
         made: &Made<'_>,
