@@ -11,7 +11,7 @@ use Rattle.mm_proof.proofs.Looking.{all_forms-push}
 use Rattle.mm_render.specs.Keys.{numbers, bytes_within, number_bytes, all_bytes, pattern_key, statement_key}
 use Rattle.mm_render.specs.PlaceTable.{all_numbers, FormIsAdded}
 
--- reading numbers from after
+-- reading numbers from the end
 
 leaf_of : ℕ → ℕ → Pattern
 leaf_of k n = if k == 0 then bot else (if k == 1 then top else (if k == 2 then var n else (if k == 3 then meta n else constant n)))
@@ -89,7 +89,7 @@ numbers_in_front (equal p q) more rest = ap (λ (ns : List ℕ). 15 ∷ 0 ∷ 0 
 numbers_in_front (member p q) more rest = ap (λ (ns : List ℕ). 16 ∷ 0 ∷ 0 ∷ ns) (numbers_in_front p (numbers q more) rest ∙ ap (numbers p) (numbers_in_front q more rest))
 numbers_in_front (app p q) more rest = ap (λ (ns : List ℕ). 17 ∷ 0 ∷ 0 ∷ ns) (numbers_in_front p (numbers q more) rest ∙ ap (numbers p) (numbers_in_front q more rest))
 
--- reading bytes from after
+-- reading bytes from the end
 
 join : ℕ → List ℕ → List ℕ
 join b [] = []
