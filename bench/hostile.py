@@ -61,6 +61,13 @@ def premises_between_with_variables(n):
     return HEAD + declared + "${\n" + "".join(f"e{i} $e t {v} $. a{i} $a t u $.\n" for i, v in enumerate(names)) + "$}\n"
 
 
+def declarations_between(n):
+    """n active `$e`, and n axioms, with a constant, a typed variable, a `$d` or a block before each."""
+    between = ["$c c{i} $. ", "$v v{i} $. f{i} $f t v{i} $. ", "$d x y $. $d y x $. ", "${{ b{i} $a t u $. $}} "]
+    premises = "".join(f"e{i} $e t u $.\n" for i in range(n))
+    return HEAD + premises + "".join(f"{between[i % 4].format(i=i)}a{i} $a t u $.\n" for i in range(n))
+
+
 def pair_in_many_groups(n):
     """Two texts of √n variables, kept apart by n groups of one axiom."""
     many = max(int(n**0.5), 2)
@@ -168,6 +175,7 @@ CASES = {
     "many_premises": (many_premises, 12500),
     "premises_between": (premises_between, 6000),
     "premises_between_with_variables": (premises_between_with_variables, 3000),
+    "declarations_between": (declarations_between, 3000),
     "pair_in_many_groups": (pair_in_many_groups, 10000),
     "empty_texts": (empty_texts, 10000),
     "proofs_under_premises": (proofs_under_premises, 5000),
@@ -175,7 +183,7 @@ CASES = {
     "repeated_groups_between": (repeated_groups_between, 6000),
     "many_pairs": (many_pairs, 12500),
     "one_group": (one_group, 20000),
-    "wide_group": (wide_group, 1000),
+    "wide_group": (wide_group, 10000),
     "groups_at_long_text": (groups_at_long_text, 2**15),
     "letters_alone": (letters_alone, 25000),
     "one_long_proof": (one_long_proof, 200000),

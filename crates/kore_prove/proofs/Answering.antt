@@ -5,7 +5,7 @@ use Rattle.desk_io.specs.Sent.{SameBytes}
 use Rattle.rule_core.specs.Runs.{Run, stuck, limited, stopped, unstarted, kept_by}
 use Rattle.kore_prove.specs.Words.{RunRequest, AreBad, IsRun, IsVerify, IsProofRun}
 use Rattle.kore_prove.specs.PrintedRun.{code_of, IsPrinted, PrintsRun}
-use Rattle.kore_prove.specs.ProvedRun.{HoldsProof, HasWantedProof, IsProved, ProvesRun, KeepsOthers}
+use Rattle.kore_prove.specs.ProvedRun.{HoldsProof, HasWantedProof, IsProved, ProvesRun, LeavesFront, KeepsOthers}
 use Rattle.kore_prove.specs.Verdicts.{PrintsVerdict}
 use Rattle.kore_prove.specs.DatabaseVerdicts.{PrintsVerdictOn, verdict_code}
 use Rattle.kore_prove.specs.declared.verification.Verdict.{Verdict}
@@ -17,9 +17,10 @@ use Rattle.kore_prove.specs.RunsDone.{IsRunDone, IsRunEnded}
 use Rattle.kore_prove.specs.Calls.{IsAnswered}
 use Rattle.kore_prove.proofs.CommandWords.{one_request, run_good, verify_good, not_both}
 use Rattle.kore_prove.proofs.Completing.{run_ends_without_memory, verify_ends_without_memory, ready_run, ready_verify}
-use Rattle.kore_prove.proofs.Ending.{IsDoneCode, code_of_no_end, code_of_run, code_of_one, unwritten, files_at}
+use Rattle.kore_prove.proofs.Ending.{IsDoneCode, code_of_no_end, code_of_run, code_of_one, unwritten, files_at, same_files}
 use Rattle.kore_prove.proofs.Verifying.{code_of_verdict, prints_verdict}
-use Rattle.kore_prove.proofs.FileProofs.{kept_others, fewer_others}
+use Rattle.kore_prove.proofs.FileProofs.{kept_others, fewer_others, kept_file}
+use Rattle.kore_prove.proofs.Performing.{left_front, proof_is_front}
 
 -- the code of a run is one of three
 run_code : (run : Run) (code : ℕ) → code ≡ code_of run → (code ≡ 0) ⊎ (code ≡ 10) ⊎ (code ≡ 11)
@@ -41,6 +42,15 @@ more_code code (inr (inr h)) = inr (inr (inl h))
 wanted_proof : (proof : Option (List ℕ)) (file : List ℕ) (c : Course) (asked : RunRequest) (run : Run) (done : IsRunDone asked c run) → asked.proof ≡ Some file → HoldsProof c.told c.told' file done.theory done.start run
 wanted_proof proof file c asked run done is = subst (λ (p : Option (List ℕ)). HasWantedProof p c.told c.told' done.theory done.start run) is done.proof
 
+-- a proof that was left is the front of one, by whatever reading of the words
+same_front : (asked asked' : RunRequest) (c : Course) → asked ≡ asked' → LeavesFront asked c.told c.told' → LeavesFront asked' c.told c.told'
+same_front asked asked' c same h = subst (λ (r : RunRequest). LeavesFront r c.told c.told') same h
+
+front_of_run : (asked : RunRequest) (c : Course) (run : Run) → IsRunDone asked c run → LeavesFront asked c.told c.told'
+front_of_run asked c run done =
+    let files = done.printed.of_files.files in
+    left_front asked c.told c.told c.told' done.theory done.start files (same_files c.told) (proof_is_front asked.proof c.told c.told' done.theory done.start run done.proof)
+
 -- words that ask for a run get no verdict, and the other way round
 no_verdict : (words : List (List ℕ)) (asked : RunRequest) (told : Option Told) (before after : Option (List ℕ)) (code : ℕ) → IsRun words asked → PrintsVerdict words told before after code
 no_verdict words asked None before after code command = tt
@@ -60,8 +70,9 @@ run_answered c code asked run command done is silent =
     let codes : (code ≡ 0) ⊎ (code ≡ 10) ⊎ (code ≡ 11) = run_code run code is in record {
       printed_run = λ _. printed;
       proved_run = λ _ file wanted. (
-          let same : asked.proof ≡ Some file = (one_request c.words asked wanted.0 command wanted.1).proof ∙ wanted.2 in
+          let same : asked.proof ≡ Some file = ap (λ (r : RunRequest). r.proof) (one_request c.words asked wanted.0 command wanted.1) ∙ wanted.2 in
           record { printed = printed; wanted = same; proof = wanted_proof asked.proof file c.course asked run done same });
+      proof_front = λ asked' command'. same_front asked asked' c.course (one_request c.words asked asked' command command') (front_of_run asked c.course run done);
       verdict = no_verdict c.words asked c.course.told c.course.output c.course.output' code command;
       ends = inl (record { done = run_done command codes; silent = silent });
       complete = λ _ _. more_code code codes;
@@ -75,6 +86,7 @@ pub run_ended : (c : Call) (code : ℕ) (asked : RunRequest) (e : Ending) → Is
 run_ended c code asked e command ended said = record {
   printed_run = λ h. absurd (code_of_no_end e _ _ _ _ code said (code_of_run c.words code h));
   proved_run = λ h _ _. absurd (code_of_no_end e _ _ _ _ code said (code_of_run c.words code h));
+  proof_front = λ asked' command'. same_front asked asked' c.course (one_request c.words asked asked' command command') ended.front;
   verdict = no_verdict c.words asked c.course.told c.course.output c.course.output' code command;
   ends = inr (record { end = e; cause = of_run command ended.cause; output = ended.output; said = said });
   complete = λ ready free. inr (inr (inr (code_of_one e _ _ _ _ code said (run_ends_without_memory c.words c.course.told asked c.course e refl ready command free ended.cause))));
@@ -100,6 +112,7 @@ pub verify_answered : (c : Call) (code : ℕ) (file : List ℕ) (v : Verdict) �
 verify_answered c code file v command printed kept is silent = record {
   printed_run = λ h. verdict_no_run c.words file v code _ command is h;
   proved_run = λ h _ _. verdict_no_run c.words file v code _ command is h;
+  proof_front = λ _ _ name _. inl (kept_file c.course.told c.course.told' name kept);
   verdict = prints_verdict c.words c.course.told c.course.output c.course.output' file v code command printed is;
   ends = inl (record { done = verify_done command (code_of_verdict v code is); silent = silent });
   complete = λ ready _. (let r = ready_run c.words c.course.told ready in absurd (not_both c.words r.0 file r.1 command));
@@ -121,6 +134,7 @@ pub verify_ended : (c : Call) (code : ℕ) (file : List ℕ) (e : Ending) → Is
 verify_ended c code file e command cause output kept said = record {
   printed_run = λ h. absurd (code_of_no_end e _ _ _ _ code said (code_of_run c.words code h));
   proved_run = λ h _ _. absurd (code_of_no_end e _ _ _ _ code said (code_of_run c.words code h));
+  proof_front = λ _ _ name _. inl (kept_file c.course.told c.course.told' name kept);
   verdict = ended_no_verdict c.words c.course.told c.course.output c.course.output' e _ _ _ _ code said;
   ends = inr (record { end = e; cause = of_verify command cause; output = output; said = said });
   complete = λ ready _. (let r = ready_run c.words c.course.told ready in absurd (not_both c.words r.0 file r.1 command));
@@ -138,6 +152,7 @@ pub bad_answered : (c : Call) (code : ℕ) → AreBad c.words → SameBytes c.co
 bad_answered c code bad output kept said = record {
   printed_run = λ h. absurd (code_of_no_end bad_words _ _ _ _ code said (code_of_run c.words code h));
   proved_run = λ h _ _. absurd (code_of_no_end bad_words _ _ _ _ code said (code_of_run c.words code h));
+  proof_front = λ _ _ name _. inl (kept_file c.course.told c.course.told' name kept);
   verdict = ended_no_verdict c.words c.course.told c.course.output c.course.output' bad_words _ _ _ _ code said;
   ends = inr (record { end = bad_words; cause = with_bad_words bad; output = output; said = said });
   complete = λ ready _. (let r = ready_run c.words c.course.told ready in absurd (run_good c.words r.0 r.1 bad));
@@ -152,6 +167,7 @@ memory_answered c code output kept said =
     let one : code ≡ 1 = code_of_one out_of_memory _ _ _ _ code said refl in record {
       printed_run = λ h. absurd (code_of_no_end out_of_memory _ _ _ _ code said (code_of_run c.words code h));
       proved_run = λ h _ _. absurd (code_of_no_end out_of_memory _ _ _ _ code said (code_of_run c.words code h));
+      proof_front = λ _ _ name _. inl (kept_file c.course.told c.course.told' name kept);
       verdict = ended_no_verdict c.words c.course.told c.course.output c.course.output' out_of_memory _ _ _ _ code said;
       ends = inr (record { end = out_of_memory; cause = without_memory; output = output; said = said });
       complete = λ _ _. inr (inr (inr one));

@@ -12,18 +12,18 @@ some_same o a b h k = cc
 never : (b : Bool) → b ≡ false → b ≡ true → ⊥
 never b h k = cc
 
--- the same files, by two readings of the same words
-pub record AreSame (a b : RunRequest) : Type 0 where
-  pub definition : a.definition ≡ b.definition
-  pub term : a.term ≡ b.term
-  pub proof : a.proof ≡ b.proof
-
-pub one_request : (words : List (List ℕ)) (a b : RunRequest) → IsRun words a → IsRun words b → AreSame a b
-one_request words a b h k = record {
-  definition = some_same _ _ _ h.definition k.definition;
-  term = some_same _ _ _ h.term k.term;
-  proof = h.proof ∙ sym k.proof;
-}
+pub one_request : (words : List (List ℕ)) (a b : RunRequest) → IsRun words a → IsRun words b → a ≡ b
+one_request words a b h k =
+    let definition : a.definition ≡ b.definition = some_same _ _ _ h.definition k.definition in
+    let term : a.term ≡ b.term = some_same _ _ _ h.term k.term in
+    let limit : a.limit ≡ b.limit = some_same _ _ _ h.limit k.limit in
+    let calls : a.calls ≡ b.calls = h.calls ∙ sym k.calls in
+    let proof : a.proof ≡ b.proof = h.proof ∙ sym k.proof in
+    ap (λ (d : List ℕ). record a { definition = d }) definition
+    ∙ ap (λ (t : List ℕ). record b { term = t; limit = a.limit; calls = a.calls; proof = a.proof }) term
+    ∙ ap (λ (n : ℕ). record b { limit = n; calls = a.calls; proof = a.proof }) limit
+    ∙ ap (λ (n : ℕ). record b { calls = n; proof = a.proof }) calls
+    ∙ ap (λ (p : Option (List ℕ)). record b { proof = p }) proof
 
 pub one_file : (words : List (List ℕ)) (a b : List ℕ) → IsVerify words a → IsVerify words b → a ≡ b
 one_file words a b h k = some_same _ _ _ h.file_is k.file_is

@@ -2,17 +2,15 @@
 use Rattle.std.proofs.Common.{◌≡◌, ℕ, ◌⊎◌, inl, inr, List, Option, None, Some, refl, sym, subst}
 use Rattle.desk_io.specs.Told.{Told, Holds, Lacks, HoldsMore}
 use Rattle.desk_io.specs.Counts.{Rose}
-use Rattle.term_core.specs.Patterns.{Pattern}
 use Rattle.rule_core.specs.Theories.{RewriteTheory}
-use Rattle.kore_rules.specs.Acceptance.{IsAccepted, IsRefused, IsAcceptedTerm, IsRefusedTerm}
+use Rattle.kore_rules.specs.Acceptance.{IsAccepted, IsRefused, IsRefusedTerm}
 use Rattle.kore_prove.specs.Words.{RunRequest, IsRun, IsVerify}
 use Rattle.kore_prove.specs.Limits.{HoldsWithin, definition_limit, term_limit, database_limit}
-use Rattle.kore_prove.specs.Files.{HoldsProgram, HoldsStart}
-use Rattle.kore_prove.specs.ProvedRun.{IsProvable}
+use Rattle.kore_prove.specs.Files.{HoldsProgram}
 use Rattle.kore_prove.specs.Reports.{Ending, out_of_memory, bad_words, read_fault, write_fault, no_such_file, definition_refused, term_refused, too_large, end_code}
-use Rattle.kore_prove.specs.Causes.{Course, ReadCause, RunCause, VerifyCause, HoldsRefused, HoldsRefusedTerm, IsUnproved}
-use Rattle.kore_prove.specs.Readiness.{CanRun, CanVerify, IsReady, IsReadyToVerify, IsFaultless, IsFaultlessTerm, IsProvableOf, IsUnhindered}
-use Rattle.kore_prove.proofs.CommandWords.{AreSame, one_request, one_file}
+use Rattle.kore_prove.specs.Causes.{Course, ReadCause, RunCause, VerifyCause, HoldsRefused, HoldsRefusedTerm}
+use Rattle.kore_prove.specs.Readiness.{CanRun, CanVerify, IsReady, IsReadyToVerify, IsFaultless, IsFaultlessTerm, IsUnhindered}
+use Rattle.kore_prove.proofs.CommandWords.{one_request, one_file}
 use Rattle.kore_prove.proofs.Ending.{one_content, not_lacking, not_more}
 
 -- the files that are asked for can be run
@@ -23,28 +21,23 @@ record StandsFor (told : Told) (asked : RunRequest) : Type 0 where
   term : List ℕ
   term_held : HoldsWithin (Some told) asked.term term_limit term
   faultless_term : (theory : RewriteTheory) (top : Option ℕ) → IsAccepted definition theory top → IsFaultlessTerm theory top term
-  provable : (theory : RewriteTheory) (top : Option ℕ) → IsAccepted definition theory top → IsProvableOf asked theory top term
 
 stands : (words : List (List ℕ)) (told : Told) (r : CanRun words told) (asked : RunRequest) → IsRun words asked → StandsFor told asked
 stands words told r asked command =
-    let same : AreSame r.asked asked = one_request words r.asked asked r.command command in record {
+    let own : StandsFor told r.asked = record {
       definition = r.definition;
-      definition_held = subst (λ (n : List ℕ). HoldsWithin (Some told) n definition_limit r.definition) same.definition r.definition_held;
+      definition_held = r.definition_held;
       faultless = r.faultless;
       term = r.term;
-      term_held = subst (λ (n : List ℕ). HoldsWithin (Some told) n term_limit r.term) same.term r.term_held;
+      term_held = r.term_held;
       faultless_term = r.faultless_term;
-      provable = λ theory top accepted start is. subst (λ (p : Option (List ℕ)). IsProvable p theory start) same.proof (r.provable theory top accepted start is);
-    }
+    } in
+    subst (StandsFor told) (one_request words r.asked asked r.command command) own
 
 -- the definition that stands is the one that is held
 held_accepted : (told : Told) (asked : RunRequest) (s : StandsFor told asked) (theory : RewriteTheory) (top : Option ℕ) → HoldsProgram (Some told) asked.definition theory top → IsAccepted s.definition theory top
 held_accepted told asked s theory top h =
     subst (λ (bytes : List ℕ). IsAccepted bytes theory top) (one_content told asked.definition h.bytes s.definition h.held.0 s.definition_held.0) h.accepted
-
-held_start : (told : Told) (asked : RunRequest) (s : StandsFor told asked) (theory : RewriteTheory) (top : Option ℕ) (start : Pattern) → HoldsStart (Some told) asked.term theory top start → IsAcceptedTerm theory.sig top s.term start
-held_start told asked s theory top start h =
-    subst (λ (bytes : List ℕ). IsAcceptedTerm theory.sig top bytes start) (one_content told asked.term h.bytes s.term h.held.0 s.term_held.0) h.accepted
 
 no_read_cause : (told : Told) (asked : RunRequest) (s : StandsFor told asked) (reads reads' : ℕ) (e : Ending) → (Rose reads reads' → ⊥) → ReadCause asked (Some told) reads reads' e → end_code e ≡ 1
 no_read_cause told asked s reads reads' out_of_memory free h = refl
@@ -53,10 +46,8 @@ no_read_cause told asked s reads reads' read_fault free h = absurd (free h)
 no_read_cause told asked s reads reads' write_fault free h = absurd h
 no_read_cause told asked s reads reads' (no_such_file name) free (inl h) = absurd (not_lacking told asked.definition name s.definition h.0 s.definition_held.0 h.1)
 no_read_cause told asked s reads reads' (no_such_file name) free (inr h) = absurd (not_lacking told asked.term name s.term h.0 s.term_held.0 h.2)
-no_read_cause told asked s reads reads' (definition_refused number byte) free (inl h) =
+no_read_cause told asked s reads reads' (definition_refused number byte) free h =
     absurd (s.faultless _ (subst (λ (bytes : List ℕ). IsRefused bytes _) (one_content told asked.definition h.bytes s.definition h.held.0 s.definition_held.0) h.refused))
-no_read_cause told asked s reads reads' (definition_refused number byte) free (inr h) =
-    absurd (h.1.unproved (s.provable h.1.theory h.1.top (held_accepted told asked s h.1.theory h.1.top h.1.definition) h.1.start (held_start told asked s h.1.theory h.1.top h.1.start h.1.term)))
 no_read_cause told asked s reads reads' (term_refused number byte) free h =
     absurd (s.faultless_term h.theory h.top (held_accepted told asked s h.theory h.top h.definition) _ (subst (λ (bytes : List ℕ). IsRefusedTerm h.theory.sig h.top bytes _) (one_content told asked.term h.bytes s.term h.held.0 s.term_held.0) h.refused))
 no_read_cause told asked s reads reads' (too_large name) free (inl h) = absurd (not_more told asked.definition name s.definition definition_limit h.0 s.definition_held.0 s.definition_held.1 h.1)

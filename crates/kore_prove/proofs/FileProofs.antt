@@ -1,12 +1,24 @@
 -- The file of a proof, and what becomes of the other files.
-use Rattle.std.proofs.Common.{◌≡◌, ◌≢◌, ℕ, List, [], ◌++◌, Option, Some, None, true, refl, sym, ◌∙◌, ap, subst}
+use Rattle.std.proofs.Common.{◌≡◌, ◌≢◌, ℕ, ◌⊎◌, inl, inr, List, [], ◌++◌, Option, Some, None, Result, Ok, Err, true, refl, sym, ◌∙◌, ap, subst}
+use Rattle.std.specs.Prelude.{OnErr}
+use Rattle.std.proofs.lemmas.List.{append-nil}
 use Rattle.desk_io.specs.Told.{Told, KeepsFiles, Same, TellsCreated, Creates, Writes, Closes, PutsFile, file_of}
 use Rattle.term_core.specs.Patterns.{Pattern}
 use Rattle.rule_core.specs.Theories.{RewriteTheory}
-use Rattle.rule_core.specs.Runs.{Run}
-use Rattle.run_proof.specs.WrittenProofs.{WritesProof, WritesSome}
-use Rattle.kore_prove.specs.ProvedRun.{Tells, TellsNow, KeepsOthers, HoldsProof}
-use Rattle.kore_prove.specs.ProofFiles.{PutsCreated, PutsProof, KeepsOthersNow}
+use Rattle.rule_core.specs.Runs.{Run, kept_by}
+use Rattle.mm_justify.specs.Justifying.{JustifiesRun}
+use Rattle.run_proof.specs.WrittenProofs.{WritesProof, WritesFrontOfProof, IsFrontOfProof}
+use Rattle.kore_prove.specs.ProvedRun.{Tells, TellsNow, KeepsFile, KeepsOthers, HoldsProof, HoldsFront}
+use Rattle.kore_prove.specs.ProofFiles.{PutsCreated, PutsProof, PutsFront, MayHoldFront, KeepsOthersNow}
+
+-- what is said of an error
+pub on_err : {T E : Type 0} (r : Result T E) (P : Type 0) → P → OnErr r P
+on_err (Ok t) P h = tt
+on_err (Err e) P h = h
+
+pub on_err_more : {T E : Type 0} (r : Result T E) (P Q : Type 0) → (P → Q) → OnErr r P → OnErr r Q
+on_err_more (Ok t) P Q f h = tt
+on_err_more (Err e) P Q f h = f h
 
 some_same : {A : Type 0} (a b : A) → Some a ≡ Some b → a ≡ b
 some_same a b h = cc
@@ -26,6 +38,22 @@ then_others W (Some old) between new kept h =
     let P : Option Told → Type 0 = λ o. KeepsOthers W o new in
     let q : KeepsOthers W (Some (record old { unread = kept.0 })) new = subst P kept.1 h in
     (q.0, q.1, q.2)
+
+-- .. and each of them
+pub kept_file : (old new : Option Told) (file : List ℕ) → KeepsFiles old new → KeepsFile old new file
+kept_file None new file h = tt
+kept_file (Some old) new file h = (record old { unread = h.0 }, h.1, refl)
+
+pub then_file : (old between new : Option Told) (file : List ℕ) → KeepsFiles old between → KeepsFile between new file → KeepsFile old new file
+then_file None between new file kept h = tt
+then_file (Some old) between new file kept h =
+    let P : Option Told → Type 0 = λ o. KeepsFile o new file in
+    let q : KeepsFile (Some (record old { unread = kept.0 })) new file = subst P kept.1 h in
+    (q.0, q.1, q.2)
+
+pub same_file : (old new : Option Told) (file : List ℕ) → Same old new → KeepsFile old new file
+same_file None new file h = tt
+same_file (Some old) new file h = (old, h, refl)
 
 -- The created file of a desk, from its creation to its end.
 
@@ -84,10 +112,20 @@ puts_others (Some made) new name bytes told h = (
       (h.2 created told.1 is held).1 other differs),
 )
 
--- some bytes that were written, and closed
-pub some_closed : (made mid new : Option Told) → WritesSome made mid → Closes mid new → TellsCreated true made → KeepsOthersNow made new
-some_closed None mid new h k told = tt
-some_closed (Some made) mid new h k told = puts_others (Some made) new told.0 h.0 told (written_closed (Some made) mid new h.0 h.1 k)
+-- the front of a proof that was written, and closed
+pub front_closed : (made mid new : Option Told) (theory : RewriteTheory) (start : Pattern) → WritesFrontOfProof made mid theory start → Closes mid new → PutsFront made new theory start
+front_closed made mid new theory start h k = (h.0, written_closed made mid new h.0 h.1 k, h.2)
+
+pub front_others : (made mid new : Option Told) (theory : RewriteTheory) (start : Pattern) → WritesFrontOfProof made mid theory start → Closes mid new → TellsCreated true made → KeepsOthersNow made new
+front_others None mid new theory start h k told = tt
+front_others (Some made) mid new theory start h k told = puts_others (Some made) new told.0 h.0 told (written_closed (Some made) mid new h.0 h.1 k)
+
+-- a proof is the front of one
+pub proof_front : (theory : RewriteTheory) (start end : Pattern) (bytes : List ℕ) → JustifiesRun bytes theory start end → IsFrontOfProof theory start bytes
+proof_front theory start end bytes h = (end, ([], subst (λ (text : List ℕ). JustifiesRun text theory start end) (sym (append-nil bytes)) h))
+
+pub proof_written : (old new : Option Told) (theory : RewriteTheory) (start : Pattern) (run : Run) → WritesProof old new theory start run → WritesFrontOfProof old new theory start
+proof_written old new theory start run h = (h.0, h.1, inr (proof_front theory start (kept_by start run) h.0 h.2))
 
 -- a proof that was written, and closed
 pub proof_closed : (made mid new : Option Told) (theory : RewriteTheory) (start : Pattern) (run : Run) → WritesProof made mid theory start run → Closes mid new → PutsProof made new theory start run
@@ -101,3 +139,11 @@ created_proof old made new file theory start run h k = record {
   held = created_tells old made new file k.0 h k.1;
   justifies = k.2;
 }
+
+-- .. or the front of one
+pub created_front : (old made new : Option Told) (file : List ℕ) (theory : RewriteTheory) (start : Pattern) → Creates old made file → PutsFront made new theory start → MayHoldFront old new file theory start
+created_front old made new file theory start h k = inr (record { bytes = k.0; held = created_tells old made new file k.0 h k.1; front = k.2 })
+
+-- .. where none was created, the file is as before
+pub not_created : (old new : Option Told) (file : List ℕ) (theory : RewriteTheory) (start : Pattern) → Same old new → MayHoldFront old new file theory start
+not_created old new file theory start h = inl (same_file old new file h)

@@ -18,18 +18,19 @@ use Rattle.run_lines.specs.Lines.{kept_pattern}
 use Rattle.kore_rules.specs.Acceptance.{IsAcceptedTerm}
 use Rattle.kore_prove.specs.Words.{RunRequest}
 use Rattle.kore_prove.specs.Limits.{HoldsWithin, term_limit}
-use Rattle.kore_prove.specs.Files.{HoldsProgram, HoldsStart}
+use Rattle.kore_prove.specs.Files.{HoldsProgram, HoldsStart, HoldsRun}
 use Rattle.kore_prove.specs.AcceptedRuns.{IsRunOfFiles}
 use Rattle.kore_prove.specs.PrintedRun.{PrintsLines}
-use Rattle.kore_prove.specs.ProvedRun.{Tells, TellsNow, HoldsProof, HasWantedProof, KeepsOthers}
-use Rattle.kore_prove.specs.Causes.{Course, HasRun, HoldsRun, RunCause, ReadCause, Grows, KeepsOutput}
+use Rattle.kore_prove.specs.ProvedRun.{Tells, TellsNow, HoldsProof, HasWantedProof, KeepsFile, HoldsFrontOfRun, LeavesFront, KeepsOthers}
+use Rattle.kore_prove.specs.ProofFiles.{HasWantedFront}
+use Rattle.kore_prove.specs.Causes.{Course, HasRun, RunCause, ReadCause, Grows, KeepsOutput}
 use Rattle.kore_prove.specs.FileCauses.{KeepsFilesAt}
 use Rattle.kore_prove.specs.PlainEnds.{fault_end}
 use Rattle.kore_prove.specs.Reports.{Ending}
 use Rattle.kore_prove.specs.Requests.{IsWanted}
 use Rattle.kore_prove.specs.RunsDone.{HasLines, IsRunDone, IsRunEnded}
 use Rattle.kore_prove.proofs.Ending.{kept_output, files_at, same_grows}
-use Rattle.kore_prove.proofs.FileProofs.{kept_others, then_others}
+use Rattle.kore_prove.proofs.FileProofs.{kept_others, then_others, kept_file, then_file, proof_front}
 
 -- the initial term, as the rewriter asks for it
 pub start_of : (theory : RewriteTheory) (start : Pattern) → IsStart theory start → IsStartOf theory start
@@ -59,6 +60,25 @@ proof_kept None told read told' theory start run kept h = tt
 proof_kept (Some file) told read told' theory start run kept h =
     record { bytes = h.bytes; held = told_now told read told' file h.bytes kept h.held; justifies = h.justifies }
 
+-- the front of a proof, seen from before the files were read
+pub left_front : (asked : RunRequest) (told read told' : Option Told) (theory : RewriteTheory) (start : Pattern) → HoldsRun asked told theory start → KeepsFiles told read → HasWantedFront asked.proof read told' theory start → LeavesFront asked told told'
+left_front asked told read told' theory start held kept h = λ file wanted. (
+    let front : HasWantedFront (Some file) read told' theory start = subst (λ (p : Option (List ℕ)). HasWantedFront p read told' theory start) wanted h in
+    elim front [
+      | inl same ↦ inl (then_file told read told' file kept same)
+      | inr made ↦ inr (record {
+        theory = theory;
+        start = start;
+        of_files = held;
+        holds = record { bytes = made.bytes; held = told_now told read told' file made.bytes kept made.held; front = made.front };
+      })
+    ])
+
+-- a proof is the front of one
+pub proof_is_front : (proof : Option (List ℕ)) (told told' : Option Told) (theory : RewriteTheory) (start : Pattern) (run : Run) → HasWantedProof proof told told' theory start run → HasWantedFront proof told told' theory start
+proof_is_front None told told' theory start run h = tt
+proof_is_front (Some file) told told' theory start run h = inr (record { bytes = h.bytes; held = h.held; front = inr (proof_front theory start (kept_by start run) h.bytes h.justifies) })
+
 -- the run was printed
 pub run_done : (asked : RunRequest) (c : Course) (read : Option Told) (theory : RewriteTheory) (start : Pattern) (run : Run) (lines : List ℕ) → HoldsRun asked c.told theory start → KeepsFiles c.told read → HasLines asked theory start run lines → HasWantedProof asked.proof read c.told' theory start run
     → KeepsOthers (IsWanted asked) read c.told' → Appends c.output c.output' lines → IsRunDone asked c run
@@ -66,7 +86,7 @@ run_done asked c read theory start run lines held kept h proof others grew = rec
   theory = theory;
   start = start;
   printed = record {
-    of_files = record { top = held.top; definition = held.definition; term = held.term; is_run = h.is_run };
+    of_files = record { files = held; is_run = h.is_run };
     lines = lines;
     lines_are = h.lines_are;
     grew = grew;
@@ -80,6 +100,7 @@ pub read_ended : (asked : RunRequest) (c : Course) (e : Ending) (bytes : Option 
 read_ended asked c e bytes before after cause kept = record {
   cause = inl cause;
   output = subst (λ (o : Option (List ℕ)). KeepsOutput e o c.output') (sym before) (subst (λ (o : Option (List ℕ)). KeepsOutput e bytes o) (sym after) (kept_output e bytes));
+  front = λ file wanted. inl (kept_file c.told c.told' file kept);
   others = kept_others (IsWanted asked) c.told c.told' kept;
   files = files_at e c.told c.told' kept;
 }
@@ -97,19 +118,16 @@ fault_files : (f : DeskFault) (old new : Option Told) → KeepsFilesAt (fault_en
 fault_files fault.Failed old new = tt
 fault_files fault.Memory old new = tt
 
-pub write_ended : (asked : RunRequest) (c : Course) (e : Ending) (f : DeskFault) (read : Option Told) (theory : RewriteTheory) (start : Pattern) → e ≡ fault_end f → HoldsRun asked c.told theory start → KeepsFiles c.told read → KeepsOthers (IsWanted asked) read c.told'
+pub write_ended : (asked : RunRequest) (c : Course) (e : Ending) (f : DeskFault) (read : Option Told) (theory : RewriteTheory) (start : Pattern) → e ≡ fault_end f → HoldsRun asked c.told theory start → KeepsFiles c.told read → HasWantedFront asked.proof read c.told' theory start → KeepsOthers (IsWanted asked) read c.told'
     → (f ≡ fault.Failed → Rose c.writes c.writes' ⊎ Rose c.files c.files') → Grows c.output c.output' → IsRunEnded asked c e
-write_ended asked c e f read theory start is held kept others rose grows =
+write_ended asked c e f read theory start is held kept front others rose grows =
     subst (λ (end : Ending). IsRunEnded asked c end) (sym is) (record {
       cause = fault_cause asked c f (theory, start, held) rose;
       output = fault_output f c.output c.output' grows;
+      front = left_front asked c.told read c.told' theory start held kept front;
       others = then_others (IsWanted asked) c.told read c.told' kept others;
       files = fault_files f c.told c.told';
     })
-
--- a test that is false is not true
-pub not_true : (b : Bool) → b ≡ false → IsTrue b → ⊥
-not_true b e t = let never : ⊥ = cc in never
 
 -- a count of faults in writing, seen from before the files were read
 pub rose_files : (a b c : ℕ) → b ≡ a → Rose b c → Rose a c

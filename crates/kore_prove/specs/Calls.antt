@@ -3,7 +3,7 @@ use Rattle.std.specs.Prelude.{◌≡◌, ℕ, ◌⊎◌}
 use Rattle.desk_io.specs.Told.{KeepsFiles}
 use Rattle.kore_prove.specs.Words.{AreBad, IsProofRun}
 use Rattle.kore_prove.specs.PrintedRun.{PrintsRun}
-use Rattle.kore_prove.specs.ProvedRun.{ProvesRun, KeepsOthers}
+use Rattle.kore_prove.specs.ProvedRun.{ProvesRun, LeavesFrontOfRun, KeepsOthers}
 use Rattle.kore_prove.specs.Verdicts.{PrintsVerdict}
 use Rattle.kore_prove.specs.Causes.{Call, Ends, IsUnwritten}
 use Rattle.kore_prove.specs.Readiness.{Completes, CompletesVerdict}
@@ -12,6 +12,7 @@ use Rattle.kore_prove.specs.Readiness.{Completes, CompletesVerdict}
 pub record IsAnswered (c : Call) (code : ℕ) : Type 0 where
   pub printed_run : PrintsRun c.words c.course.told c.course.output c.course.output' code
   pub proved_run : ProvesRun c.words c.course.told c.course.told' c.course.output c.course.output' code
+  pub proof_front : LeavesFrontOfRun c.words c.course.told c.course.told'
   pub verdict : PrintsVerdict c.words c.course.told c.course.output c.course.output' code
   pub ends : Ends c code
   pub complete : Completes c.words c.course code

@@ -1,4 +1,5 @@
--- The cause of each end of a call that prints no run and no verdict. Of a desk that tells nothing only its counts speak.
+-- The cause of each end of a call that prints no run and no verdict. Of a desk that tells nothing only its counts
+-- speak.
 use Rattle.std.specs.Prelude.{◌≡◌, ◌≢◌, ℕ, ◌⊎◌, List, ◌++◌, Option, None, Some}
 use Rattle.desk_io.specs.Told.{Told, Lacks, HoldsMore}
 use Rattle.desk_io.specs.Sent.{SameBytes}
@@ -9,8 +10,7 @@ use Rattle.kore_sig.specs.FirstFault.{Fault}
 use Rattle.kore_rules.specs.Acceptance.{IsRefused, IsRefusedTerm}
 use Rattle.kore_prove.specs.Words.{RunRequest, AreBad, IsRun, IsVerify}
 use Rattle.kore_prove.specs.Limits.{HoldsWithin, definition_limit, term_limit, database_limit}
-use Rattle.kore_prove.specs.Files.{HoldsProgram, HoldsStart}
-use Rattle.kore_prove.specs.ProvedRun.{IsProvable}
+use Rattle.kore_prove.specs.Files.{HoldsProgram, HoldsRun}
 use Rattle.kore_prove.specs.Reports.{Ending, out_of_memory, bad_words, read_fault, write_fault, no_such_file}
 use Rattle.kore_prove.specs.Reports.{definition_refused, term_refused, too_large, Reports}
 
@@ -18,25 +18,9 @@ use Rattle.kore_prove.specs.Reports.{definition_refused, term_refused, too_large
 abbrev pub HasProgram : RunRequest → Option Told → Type 0
 HasProgram asked told = (theory : RewriteTheory) × (top : Option ℕ) × HoldsProgram told asked.definition theory top
 
--- Both files were read and accepted, and mean this program and this initial term. Where a proof is wanted, their runs
--- are proved today.
-pub record HoldsRun (asked : RunRequest) (told : Option Told) (theory : RewriteTheory) (start : Pattern) : Type 0 where
-  pub top : Option ℕ
-  pub definition : HoldsProgram told asked.definition theory top
-  pub term : HoldsStart told asked.term theory top start
-  pub provable : IsProvable asked.proof theory start
-
+-- both files were
 abbrev pub HasRun : RunRequest → Option Told → Type 0
 HasRun asked told = (theory : RewriteTheory) × (start : Pattern) × HoldsRun asked told theory start
-
--- both files were read and accepted, and a proof is wanted, but their runs have none today
-pub record IsUnproved (asked : RunRequest) (told : Option Told) : Type 0 where
-  pub theory : RewriteTheory
-  pub top : Option ℕ
-  pub start : Pattern
-  pub definition : HoldsProgram told asked.definition theory top
-  pub term : HoldsStart told asked.term theory top start
-  pub unproved : IsProvable asked.proof theory start → ⊥
 
 -- the file with the definition holds what is refused so
 pub record HoldsRefused (asked : RunRequest) (told : Option Told) (f : Fault) : Type 0 where
@@ -53,12 +37,8 @@ pub record HoldsRefusedTerm (asked : RunRequest) (told : Option Told) (f : Fault
   pub held : HoldsWithin told asked.term term_limit bytes
   pub refused : IsRefusedTerm theory.sig top bytes f
 
--- 90 at the first byte
-abbrev pub unproved : Fault
-unproved = record { number = 90; byte = 0 }
-
 -- The end of a command that runs has its cause in the files that are read. The term is answered where the definition
--- was accepted, and that no proof is written today where both were.
+-- was accepted.
 abbrev pub ReadCause : RunRequest → Option Told → ℕ → ℕ → Ending → Type 0
 ReadCause asked told reads reads' out_of_memory = Unit {0}
 ReadCause asked told reads reads' bad_words = ⊥
@@ -68,15 +48,14 @@ ReadCause asked told reads reads' (no_such_file name) =
     ((name ≡ asked.definition) × Lacks told name) ⊎ ((name ≡ asked.term) × HasProgram asked told × Lacks told name)
 ReadCause asked told reads reads' (definition_refused number byte) =
     HoldsRefused asked told (record { number = number; byte = byte })
-    ⊎ ((record { number = number; byte = byte } ≡ unproved) × IsUnproved asked told)
 ReadCause asked told reads reads' (term_refused number byte) =
     HoldsRefusedTerm asked told (record { number = number; byte = byte })
 ReadCause asked told reads reads' (too_large name) =
     ((name ≡ asked.definition) × HoldsMore told name definition_limit)
     ⊎ ((name ≡ asked.term) × HasProgram asked told × HoldsMore told name term_limit)
 
--- What is known of a desk and an output: what they told before and after, and the counts of their faults, in reading, in
--- writing files and in writing the output.
+-- What is known of a desk and an output: what they told before and after, and the counts of their faults, in reading,
+-- in writing files and in writing the output.
 pub record Course : Type 0 where
   pub told : Option Told
   pub told' : Option Told

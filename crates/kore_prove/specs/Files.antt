@@ -5,6 +5,7 @@ use Rattle.term_core.specs.Patterns.{Pattern}
 use Rattle.rule_core.specs.Theories.{RewriteTheory}
 use Rattle.kore_rules.specs.Acceptance.{IsAccepted, IsAcceptedTerm}
 use Rattle.kore_prove.specs.Limits.{HoldsWithin, definition_limit, term_limit}
+use Rattle.kore_prove.specs.Words.{RunRequest}
 
 -- the file of that name is within its limit and accepted as a definition, which means this program, whose rules have
 -- this sort
@@ -19,3 +20,9 @@ pub record HoldsStart (told : Option Told) (name : List ℕ) (theory : RewriteTh
   pub bytes : List ℕ
   pub held : HoldsWithin told name term_limit bytes
   pub accepted : IsAcceptedTerm theory.sig top bytes start
+
+-- both files that are asked for were read and accepted, and mean this program and this initial term
+pub record HoldsRun (asked : RunRequest) (told : Option Told) (theory : RewriteTheory) (start : Pattern) : Type 0 where
+  pub top : Option ℕ
+  pub definition : HoldsProgram told asked.definition theory top
+  pub term : HoldsStart told asked.term theory top start

@@ -1,10 +1,12 @@
 -- The created file of a desk, as it is written and closed.
-use Rattle.std.specs.Prelude.{◌≡◌, ◌≢◌, ℕ, List, ◌++◌, Option, Some, None}
+use Rattle.std.specs.Prelude.{◌≡◌, ◌≢◌, ℕ, ◌⊎◌, List, [], ◌++◌, Option, Some, None}
 use Rattle.desk_io.specs.Told.{Told, PutsFile, file_of}
 use Rattle.term_core.specs.Patterns.{Pattern}
 use Rattle.rule_core.specs.Theories.{RewriteTheory}
 use Rattle.rule_core.specs.Runs.{Run, kept_by}
 use Rattle.mm_justify.specs.Justifying.{JustifiesRun}
+use Rattle.run_proof.specs.WrittenProofs.{IsFrontOfProof}
+use Rattle.kore_prove.specs.ProvedRun.{KeepsFile, HoldsFront}
 
 -- the created file grew by these bytes and is created no longer, and the others are as before
 abbrev pub PutsCreated : Option Told → Option Told → List ℕ → Type 0
@@ -26,3 +28,17 @@ KeepsOthersNow (Some old) new =
 abbrev pub PutsProof : Option Told → Option Told → RewriteTheory → Pattern → Run → Type 0
 PutsProof old new theory start run =
     (text : List ℕ) × PutsCreated old new text × JustifiesRun text theory start (kept_by start run)
+
+-- .. by the front of one, or by nothing
+abbrev pub PutsFront : Option Told → Option Told → RewriteTheory → Pattern → Type 0
+PutsFront old new theory start =
+    (bytes : List ℕ) × PutsCreated old new bytes × ((bytes ≡ []) ⊎ IsFrontOfProof theory start bytes)
+
+-- the file is as before, or it was created and holds the front of a proof
+abbrev pub MayHoldFront : Option Told → Option Told → List ℕ → RewriteTheory → Pattern → Type 0
+MayHoldFront told told' file theory start = KeepsFile told told' file ⊎ HoldsFront told told' file theory start
+
+-- .. where a proof is wanted
+abbrev pub HasWantedFront : Option (List ℕ) → Option Told → Option Told → RewriteTheory → Pattern → Type 0
+HasWantedFront None told told' theory start = Unit {0}
+HasWantedFront (Some file) told told' theory start = MayHoldFront told told' file theory start

@@ -1,18 +1,14 @@
--- What the file of a proof holds: a database that justifies the run that was printed.
-use Rattle.std.specs.Prelude.{◌≡◌, ℕ, List, true, Option, Some, None}
+-- What the file of a proof holds: a database that justifies the run that was printed, or the front of one.
+use Rattle.std.specs.Prelude.{◌≡◌, ℕ, ◌⊎◌, List, [], Option, Some, None}
 use Rattle.desk_io.specs.Told.{Told, file_of}
 use Rattle.term_core.specs.Patterns.{Pattern}
 use Rattle.rule_core.specs.Theories.{RewriteTheory}
 use Rattle.rule_core.specs.Runs.{Run, kept_by}
 use Rattle.mm_justify.specs.Justifying.{JustifiesRun}
-use Rattle.prove_run.specs.Covered.{is_covered}
-use Rattle.kore_prove.specs.Words.{IsProofRun}
+use Rattle.run_proof.specs.WrittenProofs.{IsFrontOfProof}
+use Rattle.kore_prove.specs.Words.{RunRequest, IsRun, IsProofRun}
+use Rattle.kore_prove.specs.Files.{HoldsRun}
 use Rattle.kore_prove.specs.PrintedRun.{IsCodeOfRun, IsPrinted}
-
--- Where a proof is wanted, the program and the initial term are such that their runs are proved today.
-abbrev pub IsProvable : Option (List ℕ) → RewriteTheory → Pattern → Type 0
-IsProvable None theory start = Unit {0}
-IsProvable (Some file) theory start = is_covered theory start ≡ true
 
 -- the desk tells a file of that name, with this content
 abbrev pub Tells : Option Told → List ℕ → List ℕ → Type 0
@@ -47,6 +43,35 @@ pub record IsProved (words : List (List ℕ)) (told told' : Option Told) (before
 abbrev pub ProvesRun : List (List ℕ) → Option Told → Option Told → Option (List ℕ) → Option (List ℕ) → ℕ → Type 0
 ProvesRun words told told' before after code =
     IsCodeOfRun words code → (file : List ℕ) → IsProofRun words file → IsProved words told told' before after code file
+
+-- the file holds nothing, or the front of a database that justifies a run from the initial term to some configuration
+pub record HoldsFront (told told' : Option Told) (file : List ℕ) (theory : RewriteTheory) (start : Pattern) :
+    Type 0 where
+  pub bytes : List ℕ
+  pub held : TellsNow told told' file bytes
+  pub front : (bytes ≡ []) ⊎ IsFrontOfProof theory start bytes
+
+-- .. of the program and the initial term that the files give
+pub record HoldsFrontOfRun (asked : RunRequest) (told told' : Option Told) (file : List ℕ) : Type 0 where
+  pub theory : RewriteTheory
+  pub start : Pattern
+  pub of_files : HoldsRun asked told theory start
+  pub holds : HoldsFront told told' file theory start
+
+-- the file is as before
+abbrev pub KeepsFile : Option Told → Option Told → List ℕ → Type 0
+KeepsFile None new file = Unit {0}
+KeepsFile (Some old) new file =
+    (now : Told) × (new ≡ Some now) × (file_of now.files file ≡ file_of old.files file)
+
+-- where a proof is wanted, its file is as before, or it was created and holds the front of one
+abbrev pub LeavesFront : RunRequest → Option Told → Option Told → Type 0
+LeavesFront asked told told' =
+    (file : List ℕ) → asked.proof ≡ Some file → KeepsFile told told' file ⊎ HoldsFrontOfRun asked told told' file
+
+-- where the words ask for a run, whatever its exit code
+abbrev pub LeavesFrontOfRun : List (List ℕ) → Option Told → Option Told → Type 0
+LeavesFrontOfRun words told told' = (asked : RunRequest) → IsRun words asked → LeavesFront asked told told'
 
 -- each file that is not written is as before
 abbrev pub KeepsOthers : (List ℕ → Type 0) → Option Told → Option Told → Type 0

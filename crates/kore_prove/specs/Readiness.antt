@@ -2,13 +2,11 @@
 use Rattle.std.specs.Prelude.{◌≡◌, ◌⊎◌, ℕ, List, Option, Some, None}
 use Rattle.desk_io.specs.Told.{Told}
 use Rattle.desk_io.specs.Counts.{Rose}
-use Rattle.term_core.specs.Patterns.{Pattern}
 use Rattle.rule_core.specs.Theories.{RewriteTheory}
 use Rattle.kore_sig.specs.FirstFault.{Fault}
-use Rattle.kore_rules.specs.Acceptance.{IsAccepted, IsRefused, IsAcceptedTerm, IsRefusedTerm}
+use Rattle.kore_rules.specs.Acceptance.{IsAccepted, IsRefused, IsRefusedTerm}
 use Rattle.kore_prove.specs.Limits.{HoldsWithin, definition_limit, term_limit, database_limit}
 use Rattle.kore_prove.specs.Words.{RunRequest, IsRun, IsVerify}
-use Rattle.kore_prove.specs.ProvedRun.{IsProvable}
 use Rattle.kore_prove.specs.Causes.{Course}
 
 -- no first fault of a definition stands against the bytes
@@ -19,13 +17,8 @@ IsFaultless bytes = (f : Fault) → IsRefused bytes f → ⊥
 abbrev pub IsFaultlessTerm : RewriteTheory → Option ℕ → List ℕ → Type 0
 IsFaultlessTerm theory top bytes = (f : Fault) → IsRefusedTerm theory.sig top bytes f → ⊥
 
--- where a proof is wanted, the runs of the program from the term are proved today
-abbrev pub IsProvableOf : RunRequest → RewriteTheory → Option ℕ → List ℕ → Type 0
-IsProvableOf asked theory top bytes =
-    (start : Pattern) → IsAcceptedTerm theory.sig top bytes start → IsProvable asked.proof theory start
-
 -- The words ask for a run. Both files are there, within their limits; no fault stands against the one as a definition,
--- nor, of each program that this means, against the other as a term; and the run is proved today where a proof is wanted.
+-- nor, of each program that this means, against the other as a term.
 pub record CanRun (words : List (List ℕ)) (told : Told) : Type 0 where
   pub asked : RunRequest
   pub command : IsRun words asked
@@ -36,8 +29,6 @@ pub record CanRun (words : List (List ℕ)) (told : Told) : Type 0 where
   pub term_held : HoldsWithin (Some told) asked.term term_limit term
   pub faultless_term : (theory : RewriteTheory) (top : Option ℕ) → IsAccepted definition theory top →
       IsFaultlessTerm theory top term
-  pub provable : (theory : RewriteTheory) (top : Option ℕ) → IsAccepted definition theory top →
-      IsProvableOf asked theory top term
 
 -- the desk tells its files, and the words can run on them
 abbrev pub IsReady : List (List ℕ) → Option Told → Type 0

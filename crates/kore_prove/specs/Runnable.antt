@@ -2,6 +2,7 @@
 use Rattle.term_core.specs.RulePatterns.{plain_pattern}
 use Rattle.rule_core.specs.ProgramView.{theory_of}
 use Rattle.rule_core.specs.WellSorted.{IsWellSorted, IsStart}
+use Rattle.rule_core.specs.BoundVariables.{HasBoundVariables}
 use Rattle.rule_core.specs.declared.rules.Program.{Program}
 use Rattle.term_core.specs.declared.rule_patterns.RulePat.{RulePat}
 use Rattle.fun_eval.specs.Evaluable.{HasNumbers}
@@ -13,6 +14,7 @@ use Rattle.kore_prove.specs.declared.files.Accepted.{Accepted}
 -- what is known of a program that was accepted
 pub record IsProgram (program : Program) : Type 0 where
   pub well_sorted : IsWellSorted (theory_of program)
+  pub bound : HasBoundVariables program
   pub numbers : HasNumbers (theory_of program)
   pub numbered : IsNumbered program.sig
   pub top : IsSortOfRules (theory_of program) (top_of program)

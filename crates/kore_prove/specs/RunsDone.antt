@@ -9,7 +9,7 @@ use Rattle.kore_prove.specs.Words.{RunRequest}
 use Rattle.kore_prove.specs.Causes.{Course, RunCause, KeepsOutput}
 use Rattle.kore_prove.specs.FileCauses.{KeepsFilesAt}
 use Rattle.kore_prove.specs.PrintedRun.{PrintsLines}
-use Rattle.kore_prove.specs.ProvedRun.{HasWantedProof, KeepsOthers}
+use Rattle.kore_prove.specs.ProvedRun.{HasWantedProof, LeavesFront, KeepsOthers}
 use Rattle.kore_prove.specs.Reports.{Ending}
 use Rattle.kore_prove.specs.Requests.{IsWanted}
 
@@ -31,5 +31,6 @@ pub record IsRunDone (asked : RunRequest) (c : Course) (run : Run) : Type 0 wher
 pub record IsRunEnded (asked : RunRequest) (c : Course) (e : Ending) : Type 0 where
   pub cause : RunCause asked c e
   pub output : KeepsOutput e c.output c.output'
+  pub front : LeavesFront asked c.told c.told'
   pub others : KeepsOthers (IsWanted asked) c.told c.told'
   pub files : KeepsFilesAt e c.told c.told'

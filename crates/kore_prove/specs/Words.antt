@@ -4,8 +4,8 @@ use Rattle.std.specs.Option.{option_map_or}
 use Rattle.std.specs.Str.Parse.{digits_value}
 use Rattle.command_words.specs.CommandLine.{run_app, verify_app, value_of, usual_calls, is_named, are_bad}
 
--- a run that is asked for: the names of the files with the definition and the term, the greatest numbers of steps and of
--- calls of functions, and the name of the file for the proof, where one is wanted
+-- a run that is asked for: the names of the files with the definition and the term, the greatest numbers of steps and
+-- of calls of functions, and the name of the file for the proof, where one is wanted
 pub record RunRequest : Type 0 where
   pub definition : List ℕ
   pub term : List ℕ

@@ -6,7 +6,7 @@ ghost use Rattle.kore_prove.specs.Calls.{IsAnswered};
 ghost use Rattle.kore_prove.specs.Causes.{Ends, IsUnwritten};
 ghost use Rattle.kore_prove.specs.PlainEnds.{fault_end, plain_end};
 ghost use Rattle.kore_prove.specs.PrintedRun.{PrintsRun, code_of};
-ghost use Rattle.kore_prove.specs.ProvedRun.{ProvesRun, KeepsOthers};
+ghost use Rattle.kore_prove.specs.ProvedRun.{ProvesRun, LeavesFrontOfRun, KeepsOthers};
 ghost use Rattle.kore_prove.specs.Readiness.{Completes, CompletesVerdict};
 ghost use Rattle.kore_prove.specs.Reports.{Reports};
 ghost use Rattle.kore_prove.specs.Requests.{AsksFor, request};
@@ -29,12 +29,13 @@ pub struct Status {
     pub code: u8,
 }
 
-/// Does what the words name: reads its files from the desk, runs the term, writes the proof of the run to its file where
-/// one is named, and prints the two lines of the run to `out`; or verifies the database and prints the line of the
-/// verdict. Where it does not come to that, `err` gets one line that says why.
+/// Does what the words name: reads its files from the desk, runs the term, writes the proof of the run to its file
+/// where one is named, and prints the two lines of the run to `out`; or verifies the database and prints the line of
+/// the verdict. Where it does not come to that, `err` gets one line that says why, and the file of the proof is as
+/// before or holds the front of a proof.
 ///
-/// The status has the exit code: 0 where the run is stuck, 10 where it reached its limit, 11 where it is blocked; 0 where
-/// the database is valid, 12 where it is not; else that of the end (`Reports`).
+/// The status has the exit code: 0 where the run is stuck, 10 where it reached its limit, 11 where it is blocked; 0
+/// where the database is valid, 12 where it is not; else that of the end (`Reports`).
 pub fn kore_main<D: Desk, O: Sink, E: Sink>(
     alloc: Global,
     words: &[String],
@@ -48,6 +49,7 @@ pub fn kore_main<D: Desk, O: Sink, E: Sink>(
     ensures proved_run { ProvesRun
         (map string_bytes words.now) (D.told desk.old) (D.told desk.new) (O.bytes out.old) (O.bytes out.new)
         result.code }
+    ensures proof_front { LeavesFrontOfRun (map string_bytes words.now) (D.told desk.old) (D.told desk.new) }
     ensures verdict { PrintsVerdict
         (map string_bytes words.now) (D.told desk.old) (O.bytes out.old) (O.bytes out.new) result.code }
     ensures ends { Ends (record {

@@ -1,12 +1,11 @@
 // The lines of a run and, where one is wanted, the file of its proof.
-ghost use Rattle.std.specs.Prelude.{◌≡◌, ◌≤◌, true, Some, IsTrue, IsFalse, IfOk, IsErrOf};
+ghost use Rattle.std.specs.Prelude.{◌≡◌, ◌≤◌, Some, IsTrue, IsFalse, IfOk, OnErr, IsErrOf};
 ghost use Rattle.term_core.specs.RulePatterns.{plain_pattern};
 ghost use Rattle.rule_core.specs.ProgramView.{theory_of};
 ghost use Rattle.desk_io.specs.Counts.{Rose};
-ghost use Rattle.prove_run.specs.Covered.{is_covered};
 ghost use Rattle.run_loop.specs.RunEnds.{plain_run};
-ghost use Rattle.kore_prove.specs.ProofFiles.{PutsProof, KeepsOthersNow};
-ghost use Rattle.kore_prove.specs.ProvedRun.{IsProvable, HoldsProof, HasWantedProof, KeepsOthers};
+ghost use Rattle.kore_prove.specs.ProofFiles.{PutsProof, PutsFront, MayHoldFront, HasWantedFront, KeepsOthersNow};
+ghost use Rattle.kore_prove.specs.ProvedRun.{HoldsProof, HasWantedProof, KeepsOthers};
 ghost use Rattle.kore_prove.specs.Requests.{request, IsWanted};
 ghost use Rattle.kore_prove.specs.Runnable.{IsRunnable};
 ghost use Rattle.kore_prove.specs.RunsDone.{HasLines};
@@ -19,7 +18,8 @@ use run_loop::RunEnd;
 use std::alloc::Global;
 
 /// How the run that is asked for ends, and its two lines. Where a file for the proof is named, it is created before the
-/// run, written as the run goes, and closed after it. The error: out of memory or a fault that the desk counted.
+/// run, written as the run goes, and closed after it. The error: out of memory or a fault that the desk counted; then
+/// the file is as before, or holds the front of a proof.
 pub fn made_lines<D: Desk>(
     alloc: Global,
     desk: &mut D,
@@ -28,12 +28,12 @@ pub fn made_lines<D: Desk>(
 ) -> Result<(RunEnd, Vec<u8>), DeskFault>
     requires none_created { IsFalse (D.created desk.old) }
     requires runnable { IsRunnable accepted.now }
-    requires provable { IsProvable
-        (request asked.now).proof (theory_of accepted.now.program) (plain_pattern accepted.now.start) }
     ensures run { IfOk result (λ r. HasLines (request asked.now)
         (theory_of accepted.now.program) (plain_pattern accepted.now.start) (plain_run r.0) r.1.items) }
     ensures proof { IfOk result (λ r. HasWantedProof (request asked.now).proof (D.told desk.old) (D.told desk.new)
         (theory_of accepted.now.program) (plain_pattern accepted.now.start) (plain_run r.0)) }
+    ensures front { OnErr result (HasWantedFront (request asked.now).proof (D.told desk.old) (D.told desk.new)
+        (theory_of accepted.now.program) (plain_pattern accepted.now.start)) }
     ensures failed { IsErrOf result DeskFault.Failed → Rose (D.write_faults desk.old) (D.write_faults desk.new) }
     ensures files { KeepsOthers (IsWanted (request asked.now)) (D.told desk.old) (D.told desk.new) }
     ensures created { D.created desk.new ≡ D.created desk.old }
@@ -58,11 +58,12 @@ fn proved_lines<D: Desk>(
 ) -> Result<(RunEnd, Vec<u8>), DeskFault>
     requires none_created { IsFalse (D.created desk.old) }
     requires runnable { IsRunnable accepted.now }
-    requires covered { is_covered (theory_of accepted.now.program) (plain_pattern accepted.now.start) ≡ true }
     ensures run { IfOk result (λ r. HasLines (request asked.now)
         (theory_of accepted.now.program) (plain_pattern accepted.now.start) (plain_run r.0) r.1.items) }
     ensures proof { IfOk result (λ r. HoldsProof (D.told desk.old) (D.told desk.new) file.now
         (theory_of accepted.now.program) (plain_pattern accepted.now.start) (plain_run r.0)) }
+    ensures front { OnErr result (MayHoldFront (D.told desk.old) (D.told desk.new) file.now
+        (theory_of accepted.now.program) (plain_pattern accepted.now.start)) }
     ensures failed { IsErrOf result DeskFault.Failed → Rose (D.write_faults desk.old) (D.write_faults desk.new) }
     ensures files { KeepsOthers (λ other. Some file.now ≡ Some other) (D.told desk.old) (D.told desk.new) }
     ensures created { D.created desk.new ≡ D.created desk.old }
@@ -83,11 +84,12 @@ fn proved_and_closed<D: Desk>(
 ) -> Result<(RunEnd, Vec<u8>), DeskFault>
     requires file { IsTrue (D.created desk.old) }
     requires runnable { IsRunnable accepted.now }
-    requires covered { is_covered (theory_of accepted.now.program) (plain_pattern accepted.now.start) ≡ true }
     ensures run { IfOk result (λ r. HasLines (request asked.now)
         (theory_of accepted.now.program) (plain_pattern accepted.now.start) (plain_run r.0) r.1.items) }
     ensures proof { IfOk result (λ r. PutsProof (D.told desk.old) (D.told desk.new)
         (theory_of accepted.now.program) (plain_pattern accepted.now.start) (plain_run r.0)) }
+    ensures front { OnErr result (PutsFront (D.told desk.old) (D.told desk.new)
+        (theory_of accepted.now.program) (plain_pattern accepted.now.start)) }
     ensures files { KeepsOthersNow (D.told desk.old) (D.told desk.new) }
     ensures failed { IsErrOf result DeskFault.Failed → Rose (D.write_faults desk.old) (D.write_faults desk.new) }
     ensures counts { D.write_faults desk.old ≤ D.write_faults desk.new }

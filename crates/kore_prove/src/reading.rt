@@ -1,16 +1,15 @@
 // What a run stands on: the definition and the term, accepted.
-ghost use Rattle.std.specs.Prelude.{◌≡◌, ◌↔◌, ℕ, Option, IsTrue, IfOk, IfErr, option_copied};
+ghost use Rattle.std.specs.Prelude.{◌≡◌, ℕ, Option, IfOk, IfErr};
 ghost use Rattle.desk_io.specs.Told.{Told, KeepsFiles};
 ghost use Rattle.term_core.specs.RulePatterns.{plain_pattern};
 ghost use Rattle.rule_core.specs.Theories.{RewriteTheory};
 ghost use Rattle.rule_core.specs.ProgramView.{theory_of};
 ghost use Rattle.kore_rules.specs.Acceptance.{IsRefused, IsRefusedTerm};
-ghost use Rattle.kore_prove.specs.Causes.{HoldsRun, ReadCause};
+ghost use Rattle.kore_prove.specs.Causes.{ReadCause};
 ghost use Rattle.kore_prove.specs.FileCauses.{FileCause};
-ghost use Rattle.kore_prove.specs.Files.{HoldsProgram};
+ghost use Rattle.kore_prove.specs.Files.{HoldsProgram, HoldsRun};
 ghost use Rattle.kore_prove.specs.Limits.{definition_limit, term_limit};
 ghost use Rattle.kore_prove.specs.PlainEnds.{plain_end};
-ghost use Rattle.kore_prove.specs.ProvedRun.{IsProvable};
 ghost use Rattle.kore_prove.specs.Requests.{request};
 ghost use Rattle.kore_prove.specs.Runnable.{IsRunnable};
 ghost use Rattle.kore_prove.specs.Words.{RunRequest};
@@ -20,14 +19,9 @@ use crate::report::End;
 use command_words::RunWords;
 use desk_io::{Desk, ReadEnd};
 use kore_rules::Refusal;
-use prove_run::is_covered;
 use std::alloc::Global;
 
-/// The number of the refusal where a proof is wanted and none is written yet.
-const UNPROVED: u8 = 90;
-
-/// The program and the initial term that the files of a run hold, the definition first. Where a proof is wanted, their
-/// runs are ones that are proved.
+/// The program and the initial term that the files of a run hold, the definition first.
 pub fn read_run<'a, D: Desk>(
     alloc: Global,
     desk: &mut D,
@@ -36,8 +30,6 @@ pub fn read_run<'a, D: Desk>(
     ensures found { IfOk result (λ a. HoldsRun
         (request asked.now) (D.told desk.old) (theory_of a.program) (plain_pattern a.start)) }
     ensures runnable { IfOk result IsRunnable }
-    ensures provable { IfOk result (λ a. IsProvable
-        (request asked.now).proof (theory_of a.program) (plain_pattern a.start)) }
     ensures cause { IfErr result (λ end. ReadCause (request asked.now)
         (D.told desk.old) (D.read_faults desk.old) (D.read_faults desk.new) (plain_end end)) }
     ensures writes { D.write_faults desk.new ≡ D.write_faults desk.old }
@@ -52,23 +44,7 @@ pub fn read_run<'a, D: Desk>(
         Ok(start) => start,
         Err(end) => return Err(term_end(end, asked.term)),
     };
-    let accepted = Accepted { program, start };
-    if is_provable(asked.proof, &accepted) {
-        Ok(accepted)
-    } else {
-        Err(End::DefinitionRefused(UNPROVED, 0))
-    }
-}
-
-// Whether no proof is wanted, or the runs are ones that are proved.
-fn is_provable(proof: Option<&str>, accepted: &Accepted) -> bool
-    ensures { IsTrue result ↔ IsProvable
-        (option_copied proof.entry) (theory_of accepted.now.program) (plain_pattern accepted.now.start) }
-{
-    match proof {
-        Some(_) => is_covered(&accepted.program, &accepted.start),
-        None => true,
-    }
+    Ok(Accepted { program, start })
 }
 
 // The end of a call whose definition was not read or not accepted.

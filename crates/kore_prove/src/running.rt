@@ -1,11 +1,10 @@
 // The run that is asked for, its lines, and its proof.
-ghost use Rattle.std.specs.Prelude.{◌≡◌, ◌≤◌, true, IsTrue, IfOk, OnErr, IsErrOf};
+ghost use Rattle.std.specs.Prelude.{◌≡◌, ◌≤◌, IsTrue, IfOk, OnErr, IsErrOf};
 ghost use Rattle.term_core.specs.RulePatterns.{plain_pattern};
 ghost use Rattle.rule_core.specs.ProgramView.{theory_of};
 ghost use Rattle.desk_io.specs.Counts.{Rose};
-ghost use Rattle.prove_run.specs.Covered.{is_covered};
 ghost use Rattle.run_loop.specs.RunEnds.{plain_run};
-ghost use Rattle.run_proof.specs.WrittenProofs.{WritesProof, WritesSome};
+ghost use Rattle.run_proof.specs.WrittenProofs.{WritesProof, WritesFrontOfProof};
 ghost use Rattle.kore_prove.specs.Requests.{request};
 ghost use Rattle.kore_prove.specs.Runnable.{IsRunnable};
 ghost use Rattle.kore_prove.specs.RunsDone.{HasLines};
@@ -38,7 +37,7 @@ pub fn lines_of_run(
 }
 
 /// The same; a database that justifies the run is appended to the created file as it goes. The error: out of memory
-/// or a fault that the desk counted; then some bytes were appended.
+/// or a fault that the desk counted; then the front of such a database was appended, or nothing.
 pub fn proved_lines_of_run<D: Desk>(
     alloc: Global,
     desk: &mut D,
@@ -47,12 +46,12 @@ pub fn proved_lines_of_run<D: Desk>(
 ) -> Result<(RunEnd, Vec<u8>), DeskFault>
     requires file { IsTrue (D.created desk.old) }
     requires runnable { IsRunnable accepted.now }
-    requires covered { is_covered (theory_of accepted.now.program) (plain_pattern accepted.now.start) ≡ true }
     ensures run { IfOk result (λ r. HasLines (request asked.now)
         (theory_of accepted.now.program) (plain_pattern accepted.now.start) (plain_run r.0) r.1.items) }
     ensures justified { IfOk result (λ r. WritesProof (D.told desk.old) (D.told desk.new)
         (theory_of accepted.now.program) (plain_pattern accepted.now.start) (plain_run r.0)) }
-    ensures some { OnErr result (WritesSome (D.told desk.old) (D.told desk.new)) }
+    ensures front { OnErr result (WritesFrontOfProof (D.told desk.old) (D.told desk.new)
+        (theory_of accepted.now.program) (plain_pattern accepted.now.start)) }
     ensures created { IsTrue (D.created desk.new) }
     ensures failed { IsErrOf result DeskFault.Failed → Rose (D.write_faults desk.old) (D.write_faults desk.new) }
     ensures counts { D.write_faults desk.old ≤ D.write_faults desk.new }

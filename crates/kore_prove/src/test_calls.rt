@@ -34,6 +34,13 @@ pub(crate) const BASE: Case<'static> = Case {
     err: "",
 };
 
+/// A run of two steps that is proved in `p.mm`.
+pub(crate) const PROVES: Case<'static> = Case {
+    words: &["run", "d.kore", "t.kore", "--limit=5", "--proof=p.mm"],
+    out: "stuck 2\nc{}()\n",
+    ..BASE
+};
+
 /// The number of the first case of which something else comes.
 pub(crate) fn first_failing(
     alloc: Global,

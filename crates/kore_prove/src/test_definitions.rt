@@ -377,3 +377,37 @@ axiom{} \rewrites{S{}}(\and{S{}}(a{}(),\top{S{}}()),\and{S{}}(b{}(),\top{S{}}())
 axiom{} \rewrites{S{}}(\and{S{}}(b{}(),\top{S{}}()),\and{S{}}(c{}(),\top{S{}}())) []
 endmodule []
 "#;
+
+pub(crate) const COUNTING_DOWN: &str = r#"[]
+module D
+hooked-sort SortInt{} [hook{}("INT.Int")]
+hooked-sort SortBool{} [hook{}("BOOL.Bool")]
+sort T{} []
+symbol t{}(SortInt{}) : T{} [constructor{}()]
+hooked-symbol sub{}(SortInt{},SortInt{}) : SortInt{} [function{}(),hook{}("INT.sub")]
+hooked-symbol gt{}(SortInt{},SortInt{}) : SortBool{} [function{}(),hook{}("INT.gt")]
+axiom{} \rewrites{T{}}(\and{T{}}(t{}(N:SortInt{}),\equals{SortBool{},T{}}(gt{}(N:SortInt{},
+  \dv{SortInt{}}("0")),\dv{SortBool{}}("true"))),\and{T{}}(t{}(sub{}(N:SortInt{},
+  \dv{SortInt{}}("1"))),\top{T{}}())) []
+endmodule []
+"#;
+
+pub(crate) const APPENDED_LISTS: &str = r#"[]
+module B
+sort E{} []
+sort L{} []
+sort T{} []
+symbol p{}() : E{} [constructor{}()]
+symbol q{}() : E{} [constructor{}()]
+symbol nil{}() : L{} [constructor{}()]
+symbol cons{}(E{},L{}) : L{} [constructor{}()]
+symbol append{}(L{},L{}) : L{} [function{}()]
+symbol both{}(L{},L{}) : T{} [constructor{}()]
+symbol done{}(L{}) : T{} [constructor{}()]
+axiom{S} \equals{L{},S}(append{}(nil{}(),Y:L{}),\and{L{}}(Y:L{},\top{L{}}())) []
+axiom{S} \equals{L{},S}(append{}(cons{}(X:E{},Z:L{}),Y:L{}),
+  \and{L{}}(cons{}(X:E{},append{}(Z:L{},Y:L{})),\top{L{}}())) []
+axiom{} \rewrites{T{}}(\and{T{}}(both{}(X:L{},Y:L{}),\top{T{}}()),
+  \and{T{}}(done{}(append{}(X:L{},Y:L{})),\top{T{}}())) []
+endmodule []
+"#;

@@ -7,7 +7,8 @@ ghost use Rattle.kore_prove.specs.FileCauses.{UnreadCause};
 ghost use Rattle.kore_prove.specs.Causes.{Course, VerifyCause, KeepsOutput};
 ghost use Rattle.kore_prove.specs.Limits.{database_limit};
 ghost use Rattle.kore_prove.specs.PlainEnds.{plain_end};
-ghost use Rattle.kore_prove.specs.DatabaseVerdicts.{IsVerdictOn, HoldsDatabase, PrintsVerdictOn, verdict_code, verdict_line};
+ghost use Rattle.kore_prove.specs.DatabaseVerdicts.{IsVerdictOn, HoldsDatabase, PrintsVerdictOn};
+ghost use Rattle.kore_prove.specs.DatabaseVerdicts.{verdict_code, verdict_line};
 ghost use Rattle.kore_prove.specs.Verdicts.{valid_line, invalid_line};
 
 use crate::report::{End, send_pieces};

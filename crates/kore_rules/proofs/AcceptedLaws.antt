@@ -22,14 +22,18 @@ use Rattle.kore_rules.specs.Programs.{IsTopOf}
 use Rattle.kore_rules.specs.Acceptance.{IsAccepted, IsRefused, IsRefusedTerm, HasTextFault}
 use Rattle.kore_rules.specs.AxiomsRead.{AreFew}
 use Rattle.kore_rules.specs.FirstRefusal.{FirstOfAxioms, FirstOfDefinition, FirstOfTerm}
-use Rattle.kore_rules.specs.MadePrograms.{IsMadeOf}
+use Rattle.kore_rules.specs.MadePrograms.{IsMadeOf, ListsOwnEquations}
 use Rattle.kore_text.specs.Identifiers.{NamesAreIdentifiers}
 use Rattle.rule_core.specs.WellSorted.{IsWellSorted}
 use Rattle.kore_rules.specs.Names.{HasIdentifierNames}
-use Rattle.kore_rules.specs.RefusedTexts.{IsSortOfRules}
+use Rattle.kore_rules.specs.RefusedTexts.{top_of, IsSortOfRules}
+use Rattle.rule_core.specs.BoundVariables.{HasBoundVariables}
+use Rattle.rule_core.specs.ProgramView.{theory_of}
+use Rattle.rule_core.specs.declared.rules.Program.{Program}
+use Rattle.kore_rules.proofs.BoundPrograms.{bound_program}
 use Rattle.kore_rules.proofs.ProgramNames.{identifier_names}
 use Rattle.kore_rules.proofs.WellSortedPrograms.{IsFaultlessProgram, well_sorted_program, sorted_rules}
-use Rattle.kore_rules.proofs.Places.{axioms-rise, once, few}
+use Rattle.kore_rules.proofs.Places.{axioms-rise, once, few, variables-few}
 
 -- the axioms of a text of fewer than 2^32 bytes are few, and each at a place of its own
 pub axioms_few : TokensCover → (bytes : List ℕ) (d : DefinitionTree) → length bytes < 4294967296 → ReadsDefinition bytes d → AreFew (axioms_of d)
@@ -119,3 +123,8 @@ made_top d theory top made = sorted_rules d made.declared theory top (faultless 
 
 pub made_names : NamesAreIdentifiers → (bytes : List ℕ) (d : DefinitionTree) (theory : RewriteTheory) (top : Option ℕ) → ReadsDefinition bytes d → IsMadeOf d theory top → HasIdentifierNames theory.sig
 made_names law bytes d theory top reads made = identifier_names law bytes d made.declared theory reads made.signature made.program
+
+pub made_bound : TokensCover → (bytes : List ℕ) (d : DefinitionTree) (p : Program) → length bytes < 4294967296 → ReadsDefinition bytes d → IsMadeOf d (theory_of p) (top_of p) → ListsOwnEquations p → HasBoundVariables p
+made_bound law bytes d p lt reads made own =
+    bound_program made.declared (axioms_of d) p made.program own (λ a has.
+    let most = variables-few (λ n. Unit {0}) (length bytes) 0 (axioms_of d) a (axioms-rise law bytes d reads) has in omega (arith, most, lt))

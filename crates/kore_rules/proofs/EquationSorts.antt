@@ -32,7 +32,7 @@ use Rattle.kore_rules.proofs.KeptSorts.{IsKept, sort_kept, all_sorts_kept}
 use Rattle.kore_rules.proofs.MeaningSorts.{sorted_at, sorted_side, all_no_call, uses_only, AreDeclared, all_variables_declared}
 use Rattle.kore_rules.proofs.RuleSorts.{sorted_condition}
 
-count_read : (ps : List PatternTree) → count (all_read ps) ≡ length ps
+pub count_read : (ps : List PatternTree) → count (all_read ps) ≡ length ps
 count_read [] = refl
 count_read (p ∷ ps) = ap (λ (n : ℕ). n + 1) (count_read ps) ∙ omega arith
 

@@ -1,4 +1,5 @@
 pub mod NotedSteps
+pub mod VariableCounts
 pub mod Places
 pub mod InTrialOrder
 pub mod AxiomSteps
@@ -17,6 +18,7 @@ pub mod ProgramLaws
 pub mod AnswerLaws
 pub mod AcceptedLaws
 pub mod MeaningSorts
+pub mod BoundPrograms
 pub mod KeptSorts
 pub mod RuleSorts
 pub mod EquationSorts

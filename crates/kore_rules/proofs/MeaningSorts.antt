@@ -1,10 +1,10 @@
 -- What follows for the meaning of a pattern without faults.
-use Rattle.std.proofs.Common.{◌≡◌, ◌<◌, ℕ, Bool, true, false, ◌&&◌, ◌||◌, List, [], ◌∷◌, ◌++◌, length, Option, Some, None, ◌⊎◌, ⊎_elim, inl, inr, refl, ap, sym, ◌∙◌, subst}
+use Rattle.std.proofs.Common.{◌≡◌, ◌<◌, ℕ, ◌+◌, Bool, true, false, ◌&&◌, ◌||◌, List, [], ◌∷◌, ◌++◌, length, Option, Some, None, ◌⊎◌, ⊎_elim, inl, inr, refl, ap, sym, ◌∙◌, subst, arith}
 use Rattle.std.specs.Prelude.{All, not, ◌==◌, is_some, if◌then◌else◌}
 use Rattle.std.specs.Option.{option_and_then}
-use Rattle.std.proofs.lemmas.Bool.{false≢true, eqb-true}
+use Rattle.std.proofs.lemmas.Bool.{false≢true, eqb-true, eq-eqb}
 use Rattle.std.proofs.lemmas.Slice.Eq.{bytes_eq-Decides}
-use Rattle.std.proofs.lemmas.List.{map-append}
+use Rattle.std.proofs.lemmas.List.{map-append, length-append}
 use Rattle.std.proofs.lemmas.List.Elements.{All-push}
 use Rattle.kore_text.specs.Trees.{SortTree}
 use Rattle.term_core.specs.Patterns.{Pattern, Patterns, no_pattern, more_patterns}
@@ -22,13 +22,15 @@ use Rattle.kore_check.specs.PatternFaults.{pattern_faults, clash_faults}
 use Rattle.kore_check.specs.PatternMeanings.{Means, by_variable, by_value, by_symbol, AllMean, none_mean, more_mean, applied_pattern, injected_only, variable_number, with_variable, with_variables, with_all_variables, IsNamed}
 use Rattle.kore_check.specs.PatternSorts.{symbol_info, symbol_named, sort_of}
 use Rattle.kore_check.specs.SortedMeanings.{variable_sorts}
-use Rattle.kore_check.proofs.BuildLaws.{unless_empty}
+use Rattle.kore_check.specs.Building.{Extends}
+use Rattle.kore_check.proofs.BuildLaws.{unless_empty, number-added, number-kept, extends-refl, extends-trans}
 use Rattle.kore_check.proofs.CheckLaws.{faultless_sorted, some_or_none}
 use Rattle.kore_check.proofs.SortedLaws.{meanings_are_sorted}
 use Rattle.kore_check.proofs.SortLaws.{sort_number-within}
 use Rattle.kore_axioms.proofs.ApplicativeLaws.{neither}
 use Rattle.kore_axioms.proofs.BoundLaws.{no_faults, same_number}
 use Rattle.kore_axioms.specs.RuleFaults.{faults_at_sort}
+use Rattle.kore_equations.proofs.MeaningLaws.{all_variables_extend}
 use Rattle.kore_axioms.specs.Uses.{has_symbol, have_symbol, is_plain_function, is_plain_function_with, is_ac_symbol, is_ac_with, is_function_kind, stands_in, stands_in_some, is_bound_by, are_bound_by}
 
 some_same : {X : Type 0} (x y : X) → Some x ≡ Some y → x ≡ y
@@ -181,6 +183,60 @@ mutual
   all_use_only sig vars all bound (more_mean first rest) = λ x stands.
       let both = both_true _ _ bound in
       ⊎_elim (λ here. uses_only sig vars all both.0 first x here) (λ later. all_use_only sig vars all both.1 rest x later) stands
+
+-- ---- numbers
+
+last_or_before : (x n : ℕ) → x < n + 1 → (x < n) ⊎ (x ≡ n)
+last_or_before x n lt = by_case (x == n) refl where
+  by_case : (b : Bool) → (x == n) ≡ b → (x < n) ⊎ (x ≡ n)
+  by_case true e = inr (eqb-true x n e)
+  by_case false e = let other : x ≡ n → ⊥ = λ same. false≢true (sym e ∙ eq-eqb x n same) in inl (omega (arith, lt, other))
+
+-- a variable that is numbered anew stands in a pattern as the last one
+last_stands : (vars more : List (List ℕ × ℕ)) (name : List ℕ) (s x y : ℕ) → Extends (vars ++ (name, s) ∷ []) more → variable_number vars name s ≡ None → variable_number more name s ≡ Some y
+    → x < length (vars ++ (name, s) ∷ []) → (x < length vars) ⊎ (x ≡ y)
+last_stands vars more name s x y extends new is lt = ⊎_elim (λ before. inl before) (λ last. inr (last ∙ number)) (last_or_before x (length vars) (omega (arith, lt, long))) where
+  number : length vars ≡ y
+  number = some_same (length vars) y (sym (number-kept (vars ++ (name, s) ∷ []) more name s (length vars) extends (number-added vars name s new)) ∙ is)
+
+  long : length (vars ++ (name, s) ∷ []) ≡ length vars + 1
+  long = length-append vars ((name, s) ∷ [])
+
+variable_stands : (vars more : List (List ℕ × ℕ)) (name : List ℕ) (s x y : ℕ) → Extends (with_variable vars name (Some s)) more → variable_number more name s ≡ Some y → x < length (with_variable vars name (Some s)) → (x < length vars) ⊎ (x ≡ y)
+variable_stands vars more name s x y extends is lt = by_case (variable_number vars name s) refl extends lt where
+  by_case : (o : Option ℕ) → variable_number vars name s ≡ o → Extends (if is_some o then vars else vars ++ (name, s) ∷ []) more → x < length (if is_some o then vars else vars ++ (name, s) ∷ []) → (x < length vars) ⊎ (x ≡ y)
+  by_case (Some k) e extends lt = inl lt
+  by_case None e extends lt = last_stands vars more name s x y extends e is lt
+
+-- each variable that numbering a pattern adds stands in what the pattern means, also where more are numbered later
+mutual
+  pub numbered_stand : (sig : Signature) (vars more : List (List ℕ × ℕ)) {u : Unfolded} {p : Pattern} → Extends (with_variables sig vars u) more → Means sig more u p → (x : ℕ) → x < length (with_variables sig vars u) → (x < length vars) ⊎ StandsIn x p
+  numbered_stand sig vars more extends (by_variable {x = y} {s = s} {name = name} {tree = tree} number is) = λ x lt.
+      variable_stands vars more name s x y (subst (λ (o : Option ℕ). Extends (with_variable vars name o) more) number extends) is (subst (λ (o : Option ℕ). x < length (with_variable vars name o)) number lt)
+  numbered_stand sig vars more extends (by_value a b) = λ x lt. inl lt
+  numbered_stand sig vars more extends (by_symbol {f = f} {ns = ns} {ps = ps} {p = p} {info = info} named numbers all made) = λ x lt.
+      ⊎_elim (λ before. inl before) (λ stands. inr (applied_forth info.kind f ns ps p x made stands)) (all_numbered_stand sig vars more extends all x lt)
+
+  pub all_numbered_stand : (sig : Signature) (vars more : List (List ℕ × ℕ)) {us : Unfoldeds} {ps : Patterns} → Extends (with_all_variables sig vars us) more → AllMean sig more us ps → (x : ℕ) → x < length (with_all_variables sig vars us) → (x < length vars) ⊎ StandsInSome x ps
+  all_numbered_stand sig vars more extends none_mean = λ x lt. inl lt
+  all_numbered_stand sig vars more extends (more_mean {u = u} {us = us} first rest) = λ x lt.
+      let mid = with_variables sig vars u in
+      let shorter : Extends mid more = extends-trans mid (with_all_variables sig mid us) more (all_variables_extend sig mid us) extends in
+      ⊎_elim (λ before. ⊎_elim (λ earlier. inl earlier) (λ stands. inr (inl stands)) (numbered_stand sig vars more shorter first x before))
+      (λ stands. inr (inr stands)) (all_numbered_stand sig mid more extends rest x lt)
+
+none_before : {P : Type 0} (x : ℕ) → (x < length {A = List ℕ × ℕ} []) ⊎ P → P
+none_before x (inl lt) = absurd (omega (arith, lt))
+none_before x (inr p) = p
+
+-- .. so all do that are numbered from the start
+pub each_stands : (sig : Signature) (vars : List (List ℕ × ℕ)) (u : Unfolded) (p : Pattern) → vars ≡ with_variables sig [] u → Means sig vars u p → (x : ℕ) → x < length vars → StandsIn x p
+each_stands sig vars u p numbered means x lt =
+    none_before x (numbered_stand sig [] vars (subst (λ (vs : List (List ℕ × ℕ)). Extends vs vars) numbered (extends-refl vars)) means x (subst (λ (vs : List (List ℕ × ℕ)). x < length vs) numbered lt))
+
+pub each_stands_in_some : (sig : Signature) (vars : List (List ℕ × ℕ)) (us : Unfoldeds) (ps : Patterns) → vars ≡ with_all_variables sig [] us → AllMean sig vars us ps → (x : ℕ) → x < length vars → StandsInSome x ps
+each_stands_in_some sig vars us ps numbered means x lt =
+    none_before x (all_numbered_stand sig [] vars (subst (λ (vs : List (List ℕ × ℕ)). Extends vs vars) numbered (extends-refl vars)) means x (subst (λ (vs : List (List ℕ × ℕ)). x < length vs) numbered lt))
 
 -- ---- the sorts of variables
 

@@ -1,5 +1,6 @@
--- The axioms of a definition that bytes spell stand at places that rise, below the number of the bytes.
-use Rattle.std.proofs.Common.{◌≡◌, ◌<◌, ◌≤◌, ℕ, zero, suc, ◌+◌, ◌-◌, Bool, true, false, cond, List, [], ◌∷◌, ◌++◌, length, map, take, drop, Some, None, Option, subst, arith, refl, sym, ap, ◌∙◌, length-drop}
+-- The axioms of a definition that bytes spell stand at places that rise, below the number of the bytes, and none has more
+-- variables than half of that number.
+use Rattle.std.proofs.Common.{◌≡◌, ◌<◌, ◌≤◌, ℕ, zero, suc, ◌+◌, ◌*◌, ◌-◌, Bool, true, false, cond, List, [], ◌∷◌, ◌++◌, length, map, take, drop, Contains, Some, None, Option, inl, inr, subst, arith, refl, sym, ap, ◌∙◌, length-drop}
 use Rattle.std.specs.Prelude.{filter_map, flat_map, count_by, ◌==◌, codes}
 use Rattle.std.specs.List.{cons_option}
 use Rattle.std.proofs.lemmas.List.Elements.{filter_map-append}
@@ -17,22 +18,24 @@ use Rattle.kore_text.specs.Grammar.{Want, placed, any, given, Spelling, listed, 
 use Rattle.kore_ast.specs.KoreText.{ReadsDefinition}
 use Rattle.kore_sig.specs.CountedModules.{counts, counted}
 use Rattle.kore_sig.specs.Declarations.{axiom_declared, axioms_of}
+use Rattle.kore_sig.proofs.FirstLaws.{contains_cases, contains_none}
+use Rattle.kore_rules.proofs.VariableCounts.{variable_count, variables_count}
 
 -- ---- tokens
 
 -- the tokens stand from the one place on, each further than the one before, and below the other
 abbrev pub Stand : ℕ → ℕ → Stream → Type 0
-Stand low high (end e) = Unit {0}
-Stand low high (fault e) = Unit {0}
+Stand low high (end e) = low ≤ high
+Stand low high (fault e) = low ≤ high
 Stand low high (token t p s) = (low ≤ p) × (p < high) × Stand (p + 1) high s
 
 stand-lower : (low less high : ℕ) (s : Stream) → less ≤ low → Stand low high s → Stand less high s
-stand-lower low less high (end e) le h = tt
-stand-lower low less high (fault e) le h = tt
+stand-lower low less high (end e) le h = omega (arith, le, h)
+stand-lower low less high (fault e) le h = omega (arith, le, h)
 stand-lower low less high (token t p s) le h = ((let a = h.0 in omega arith), h.1, h.2)
 
 joined-stand : (text : List ℕ) (k : TokenKind) (from to low high : ℕ) (s : Stream) → low ≤ from → from < high → Stand (from + 1) high s → Stand low high (joined text k from to s)
-joined-stand text kind.End from to low high s a b h = tt
+joined-stand text kind.End from to low high s a b h = omega (arith, a, b)
 joined-stand text kind.Ident from to low high s a b h = (a, b, h)
 joined-stand text kind.SetIdent from to low high s a b h = (a, b, h)
 joined-stand text kind.Builtin from to low high s a b h = (a, b, h)
@@ -45,8 +48,8 @@ no-empty k zero bs h = absurd h
 no-empty k (suc n) bs h = omega arith
 
 covered-stand : (text : List ℕ) (at high : ℕ) (bs : List ℕ) (s : Cut) → at + length bs ≤ high → Covers at bs s → Stand at high (named text s)
-covered-stand text at high bs (cut_end e) le h = tt
-covered-stand text at high bs (cut_fault e) le h = tt
+covered-stand text at high bs (cut_end e) le h = omega (arith, le)
+covered-stand text at high bs (cut_fault e) le h = omega (arith, le)
 covered-stand text at high bs (cut_token k from to s) le (m, n, gap, is_from, is_to, fits, longest, rest) =
     let some : 0 < n = no-empty k n (drop m bs) longest.0 in
     let left : length (drop m bs) ≡ length bs - m = length-drop m bs in
@@ -62,19 +65,30 @@ tokens-stand law bytes = covered-stand bytes 0 (length bytes) bytes (lexed 0 byt
 
 -- the tokens that are wished for at places stand so
 abbrev Rising : ℕ → ℕ → List Want → Type 0
-Rising low high [] = Unit {0}
+Rising low high [] = low ≤ high
 Rising low high (given b ∷ ws) = Rising low high ws
 Rising low high (any t ∷ ws) = Rising low high ws
 Rising low high (placed p t ∷ ws) = (low ≤ p) × (p < high) × Rising (p + 1) high ws
 
 rising-lower : (low less high : ℕ) (ws : List Want) → less ≤ low → Rising low high ws → Rising less high ws
-rising-lower low less high [] le h = tt
+rising-lower low less high [] le h = omega (arith, le, h)
 rising-lower low less high (given b ∷ ws) le h = rising-lower low less high ws le h
 rising-lower low less high (any t ∷ ws) le h = rising-lower low less high ws le h
 rising-lower low less high (placed p t ∷ ws) le h = ((let a = h.0 in omega arith), h.1, h.2)
 
+rising-room : (low high : ℕ) (ws : List Want) → Rising low high ws → low ≤ high
+rising-room low high [] h = h
+rising-room low high (given b ∷ ws) h = rising-room low high ws h
+rising-room low high (any t ∷ ws) h = rising-room low high ws h
+rising-room low high (placed p t ∷ ws) h = let a = h.0 in let b = h.1 in omega (arith, a, b)
+
+stand-room : (low high : ℕ) (s : Stream) → Stand low high s → low ≤ high
+stand-room low high (end e) h = h
+stand-room low high (fault e) h = h
+stand-room low high (token t p s) h = let a = h.0 in let b = h.1 in omega (arith, a, b)
+
 taken : (low high : ℕ) (ws : List Want) (s e : Stream) → Takes ws s e → Stand low high s → Rising low high ws
-taken low high [] s e h a = tt
+taken low high [] s e h a = stand-room low high s a
 taken low high (given b ∷ ws) s e h a = taken low high ws s e h.1 a
 taken low high (any u ∷ ws) (end x) e h a = absurd h
 taken low high (any u ∷ ws) (fault x) e h a = absurd h
@@ -119,49 +133,87 @@ mutual
   sorts-skip no_sorts = none-skips
   sorts-skip (sort_then s ss) = more-skips (spell_sort s) (spell_sorts ss) (sort-skips s) (sorts-skip ss)
 
-applied-skips : (at : ℕ) (t : Token) (ss : SortTrees) (ps : List Spelling) → SkipsAll ps → (low high : ℕ) (k : List Want) → Rising low high (spell_applied at t ss ps k) → Rising low high k
-applied-skips at t ss ps all low high k h =
+-- a sort moves on by a place, and each variable of a pattern by two
+sort-further : (t : SortTree) (low high : ℕ) (k : List Want) → Rising low high (spell_sort t k) → Rising (low + 1) high k
+sort-further (sort_parameter at n) low high k h = let a = h.0 in rising-lower (at + 1) (low + 1) high k (omega (arith, a)) h.2
+sort-further (sort_applied at n ss) low high k h =
+    let a = h.0 in rising-lower (at + 1) (low + 1) high k (omega (arith, a)) ((sorts-skip ss).first 125 (at + 1) high k h.2)
+
+record Counts (n : ℕ) (f : Spelling) : Type 0 where
+  pub count : (low high : ℕ) (k : List Want) → Rising low high (f k) → Rising (low + n * 2) high k
+
+record CountsAll (n : ℕ) (fs : List Spelling) : Type 0 where
+  pub first : (close low high : ℕ) (k : List Want) → Rising low high (listed fs close k) → Rising (low + n * 2) high k
+  pub further : (close low high : ℕ) (k : List Want) → Rising low high (more_listed fs close k) → Rising (low + n * 2) high k
+
+skips-of : (n : ℕ) (f : Spelling) → Counts n f → Skips f
+skips-of n f one = record { skip = λ low high k h. rising-lower (low + n * 2) low high k (omega arith) (one.count low high k h) }
+
+still : (low high : ℕ) (k : List Want) → Rising low high k → Rising (low + 0 * 2) high k
+still low high k h = rising-lower low (low + 0 * 2) high k (omega arith) h
+
+none-counts : CountsAll 0 []
+none-counts = record { first = λ close low high k h. still low high k h; further = λ close low high k h. still low high k h }
+
+more-counts : (n m : ℕ) (f : Spelling) (fs : List Spelling) → Counts n f → CountsAll m fs → CountsAll (n + m) (f ∷ fs)
+more-counts n m f fs one all = record {
+  first = λ close low high k h.
+      rising-lower (low + n * 2 + m * 2) (low + (n + m) * 2) high k (omega arith) (all.further close (low + n * 2) high k (one.count low high (more_listed fs close k) h));
+  further = λ close low high k h.
+      rising-lower (low + n * 2 + m * 2) (low + (n + m) * 2) high k (omega arith) (all.further close (low + n * 2) high k (one.count low high (more_listed fs close k) h));
+}
+
+applied-counts : (n at : ℕ) (t : Token) (ss : SortTrees) (ps : List Spelling) → CountsAll n ps → (low high : ℕ) (k : List Want) → Rising low high (spell_applied at t ss ps k) → Rising (low + n * 2) high k
+applied-counts n at t ss ps all low high k h =
     all.first 41 low high k
     ((sorts-skip ss).first 125 low high (any (mark 40) ∷ listed ps 41 k)
     (behind low high at (any (mark 123) ∷ listed (spell_sorts ss) 125 (any (mark 40) ∷ listed ps 41 k)) h))
 
 mutual
-  pattern-skips : (b : Bool) (t : PatternTree) → Skips (spell_pattern b t)
-  pattern-skips b (element_variable at n s) = record {
-    skip = λ low high k h. (sort-skips s).skip low high k (behind low high at (any (mark 58) ∷ spell_sort s k) h);
+  pattern-counts : (b : Bool) (t : PatternTree) → Counts (variable_count t) (spell_pattern b t)
+  pattern-counts b (element_variable at n s) = record {
+    count = λ low high k h. let a = h.0 in rising-lower (at + 1 + 1) (low + 1 * 2) high k (omega (arith, a)) (sort-further s (at + 1) high k h.2);
   }
-  pattern-skips b (set_variable at n s) = record {
-    skip = λ low high k h. (sort-skips s).skip low high k (behind low high at (any (mark 58) ∷ spell_sort s k) h);
+  pattern-counts b (set_variable at n s) = record {
+    count = λ low high k h. still low high k ((sort-skips s).skip low high k (behind low high at (any (mark 58) ∷ spell_sort s k) h));
   }
-  pattern-skips b (string at t) = record { skip = λ low high k h. behind low high at k h }
-  pattern-skips b (symbol_applied at n ss ps) = record {
-    skip = applied-skips at (identifier n) ss (spell_patterns b ps) (patterns-skip b ps);
+  pattern-counts b (string at t) = record { count = λ low high k h. still low high k (behind low high at k h) }
+  pattern-counts b (symbol_applied at n ss ps) = record {
+    count = applied-counts (variables_count ps) at (identifier n) ss (spell_patterns b ps) (patterns-count b ps);
   }
-  pattern-skips b (connected at o ss ps) = record {
-    skip = applied-skips at (builtin (Some (Connective o))) ss (spell_patterns b ps) (patterns-skip b ps);
+  pattern-counts b (connected at o ss ps) = record {
+    count = applied-counts (variables_count ps) at (builtin (Some (Connective o))) ss (spell_patterns b ps) (patterns-count b ps);
   }
-  pattern-skips b (binding at o ss x p) = record {
-    skip = λ low high k h.
-        (pattern-skips b p).skip low high (any (mark 41) ∷ k)
-        ((pattern-skips b x).skip low high (any (mark 44) ∷ spell_pattern b p (any (mark 41) ∷ k))
+  pattern-counts b (binding at o ss x p) = record {
+    count = λ low high k h.
+        let n = variable_count x in
+        let m = variable_count p in
+        rising-lower (low + n * 2 + m * 2) (low + (n + m) * 2) high k (omega arith)
+        ((pattern-counts b p).count (low + n * 2) high (any (mark 41) ∷ k)
+        ((pattern-counts b x).count low high (any (mark 44) ∷ spell_pattern b p (any (mark 41) ∷ k))
         ((sorts-skip ss).first 125 low high (any (mark 40) ∷ spell_pattern b x (any (mark 44) ∷ spell_pattern b p (any (mark 41) ∷ k)))
-        (behind low high at (any (mark 123) ∷ listed (spell_sorts ss) 125 (any (mark 40) ∷ spell_pattern b x (any (mark 44) ∷ spell_pattern b p (any (mark 41) ∷ k)))) h)));
+        (behind low high at (any (mark 123) ∷ listed (spell_sorts ss) 125 (any (mark 40) ∷ spell_pattern b x (any (mark 44) ∷ spell_pattern b p (any (mark 41) ∷ k)))) h))));
   }
-  pattern-skips b (domain_value at s t place) = record {
-    skip = λ low high k h.
-        behind low high place (any (mark 41) ∷ k)
+  pattern-counts b (domain_value at s t place) = record {
+    count = λ low high k h.
+        still low high k
+        (behind low high place (any (mark 41) ∷ k)
         ((sort-skips s).skip low high (any (mark 125) ∷ any (mark 40) ∷ placed place (string_token t) ∷ any (mark 41) ∷ k)
-        (behind low high at (any (mark 123) ∷ spell_sort s (any (mark 125) ∷ any (mark 40) ∷ placed place (string_token t) ∷ any (mark 41) ∷ k)) h));
+        (behind low high at (any (mark 123) ∷ spell_sort s (any (mark 125) ∷ any (mark 40) ∷ placed place (string_token t) ∷ any (mark 41) ∷ k)) h)));
   }
-  pattern-skips b (folded at left p) = record {
-    skip = λ low high k h.
-        (pattern-skips b p).skip low high (any (mark 41) ∷ k)
+  pattern-counts b (folded at left p) = record {
+    count = λ low high k h.
+        (pattern-counts b p).count low high (any (mark 41) ∷ k)
         (behind low high at (any (mark 123) ∷ any (mark 125) ∷ any (mark 40) ∷ spell_pattern b p (any (mark 41) ∷ k)) h);
   }
 
-  patterns-skip : (b : Bool) (ts : PatternTrees) → SkipsAll (spell_patterns b ts)
-  patterns-skip b no_patterns = none-skips
-  patterns-skip b (pattern_then t ts) = more-skips (spell_pattern b t) (spell_patterns b ts) (pattern-skips b t) (patterns-skip b ts)
+  patterns-count : (b : Bool) (ts : PatternTrees) → CountsAll (variables_count ts) (spell_patterns b ts)
+  patterns-count b no_patterns = none-counts
+  patterns-count b (pattern_then t ts) =
+      more-counts (variable_count t) (variables_count ts) (spell_pattern b t) (spell_patterns b ts) (pattern-counts b t) (patterns-count b ts)
+
+pattern-skips : (b : Bool) (t : PatternTree) → Skips (spell_pattern b t)
+pattern-skips b t = skips-of (variable_count t) (spell_pattern b t) (pattern-counts b t)
 
 names-skip : (ns : List (List ℕ)) → Skips (spell_names ns)
 names-skip ns = record { skip = λ low high k h. (list-skips spell_name (λ n. record { skip = λ low high k h. h }) ns).first 125 low high k h }
@@ -200,10 +252,17 @@ alias-skips d low high k h =
 
 -- ---- axioms
 
--- the axioms stand at places that rise, and from after the last of them on P holds
+-- a statement leaves room for its variables
+statement-room : (d : AxiomDeclaration) (low high : ℕ) (k : List Want) → Rising low high (spell_statement d k) → low + variable_count d.pattern * 2 ≤ high
+statement-room d low high k h =
+    rising-room (low + variable_count d.pattern * 2) high (spell_attributes d.attributes k)
+    ((pattern-counts false d.pattern).count low high (spell_attributes d.attributes k)
+    ((names-skip d.params).skip low high (spell_pattern false d.pattern (spell_attributes d.attributes k)) h))
+
+-- the axioms stand at places that rise, with room for their variables, and from after the last of them on P holds
 abbrev pub Rise : (ℕ → Type 0) → ℕ → ℕ → List AxiomDeclaration → Type 0
 Rise P high low [] = P low
-Rise P high low (a ∷ axioms) = (low ≤ a.at) × (a.at < high) × Rise P high (a.at + 1) axioms
+Rise P high low (a ∷ axioms) = (low ≤ a.at) × (a.at + variable_count a.pattern * 2 < high) × Rise P high (a.at + 1) axioms
 
 rise-then : (P Q : ℕ → Type 0) (high low : ℕ) (axioms : List AxiomDeclaration) → ((n : ℕ) → P n → Q n) → Rise P high low axioms → Rise Q high low axioms
 rise-then P Q high low [] into h = into low h
@@ -236,7 +295,9 @@ declaration-rises (symbol_declaration d) ds low high k rest h =
     ((signature-skips d.args d.result).skip low high attributes ((names-skip d.params).skip low high signature (behind low high d.at (spell_names d.params signature) h))))
 declaration-rises (alias_declaration d) ds low high k rest h = rest low (alias-skips d low high (in_order (map spell_declaration ds) k) h)
 declaration-rises (axiom_declaration d) ds low high k rest h =
-    (h.0, h.1, rest (d.at + 1) ((statement-skips d).skip (d.at + 1) high (in_order (map spell_declaration ds) k) h.2))
+    let later = in_order (map spell_declaration ds) k in
+    let room = statement-room d (d.at + 1) high later h.2 in
+    (h.0, omega (arith, room), rest (d.at + 1) ((statement-skips d).skip (d.at + 1) high later h.2))
 declaration-rises (claim_declaration d) ds low high k rest h =
     let later = in_order (map spell_declaration ds) k in
     rest low ((statement-skips d).skip low high later (behind low high d.at (spell_statement d later) h))
@@ -326,6 +387,14 @@ once_by P high low p a axioms false e h rest =
 pub once : (P : ℕ → Type 0) (high low p : ℕ) (axioms : List AxiomDeclaration) → Rise P high low axioms → count_by (is_at p) axioms ≤ 1
 once P high low p [] h = omega arith
 once P high low p (a ∷ axioms) h = once_by P high low p a axioms (a.at == p) refl h (once P high (a.at + 1) p axioms h.2)
+
+-- each has no more variables than half of the bytes
+pub variables-few : (P : ℕ → Type 0) (high low : ℕ) (axioms : List AxiomDeclaration) (a : AxiomDeclaration) → Rise P high low axioms → Contains axioms a → variable_count a.pattern * 2 < high
+variables-few P high low [] a h has = absurd (contains_none a has)
+variables-few P high low (b ∷ axioms) a h has = elim (contains_cases b a axioms has) [
+  | inl same ↦ let room = h.1 in subst (λ (c : AxiomDeclaration). variable_count c.pattern * 2 < high) same (omega (arith, room))
+  | inr later ↦ variables-few P high (b.at + 1) axioms a h.2 later
+]
 
 pub few : (P : ℕ → Type 0) (high low : ℕ) (axioms : List AxiomDeclaration) → low ≤ high → Rise P high low axioms → length axioms + low ≤ high
 few P high low [] le h = omega (arith, le)

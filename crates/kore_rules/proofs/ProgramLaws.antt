@@ -44,12 +44,17 @@ length_mapped f (x ∷ xs) = ap suc (length_mapped f xs)
 
 -- ---- items of lists
 
-contains_map : {X Y : Type 0} (f : X → Y) (xs : List X) (x : X) → Contains xs x → Contains (map f xs) (f x)
+pub contains_map : {X Y : Type 0} (f : X → Y) (xs : List X) (x : X) → Contains xs x → Contains (map f xs) (f x)
 contains_map f [] x has = absurd (contains_none x has)
 contains_map f (y ∷ ys) x has = elim (contains_cases y x ys has) [
   | inl same ↦ subst (λ z. Contains (map f (y ∷ ys)) (f z)) same (contains_here (f y) (map f ys))
   | inr later ↦ contains_there (f y) (f x) (map f ys) (contains_map f ys x later)
 ]
+
+pub contains_at : {X : Type 0} (xs : List X) (i : ℕ) (x : X) → slice_get xs i ≡ Some x → Contains xs x
+contains_at [] i x at = absurd (let never : ⊥ = cc in never)
+contains_at (y ∷ ys) zero x at = subst (Contains (y ∷ ys)) (some_same y x at) (contains_here y ys)
+contains_at (y ∷ ys) (suc i) x at = contains_there y x ys (contains_at ys i x at)
 
 contains_mapped : {X Y : Type 0} (f : X → Y) (xs : List X) (y : Y) → Contains (map f xs) y → (x : X) × Contains xs x × (f x ≡ y)
 contains_mapped f [] y has = absurd (contains_none y has)
@@ -197,10 +202,15 @@ symbols_are sig axioms marks unreadable made zip terms is final =
 
 -- ---- equations
 
-listed_view : (lists : List (Vec Equation Global)) (n : ℕ) → slice_index_or (function_equations lists) n [] ≡ map function_equation (listed_at lists n)
+pub listed_view : (lists : List (Vec Equation Global)) (n : ℕ) → slice_index_or (function_equations lists) n [] ≡ map function_equation (listed_at lists n)
 listed_view [] n = refl
 listed_view (first ∷ lists) zero = refl
 listed_view (first ∷ lists) (suc n) = listed_view lists n
+
+pub listed_there : (lists : List (Vec Equation Global)) (n : ℕ) (es : Vec Equation Global) → slice_get lists n ≡ Some es → listed_at lists n ≡ es.items
+listed_there [] n es at = absurd (let never : ⊥ = cc in never)
+listed_there (first ∷ lists) zero es at = ap (λ (v : Vec Equation Global). v.items) (some_same first es at)
+listed_there (first ∷ lists) (suc n) es at = listed_there lists n es at
 
 both_true : (a b : Bool) → (a && b) ≡ true → (a ≡ true) × (b ≡ true)
 both_true true b e = (refl, e)
@@ -257,6 +267,15 @@ equations_are sig axioms made old new lists n f info distinct symbols read moved
       );
       in_order = subst (λ (es : List plain.Equation). AreInOrder (map plain_equation_key es)) (sym view) (subst AreInOrder (sym (equation_keys all)) (filter_in_order equation_key test new in_order));
     }
+
+-- an equation is listed for its own function
+pub listed_own : (made : List (List ℕ × SymInfo)) (new : List Equation) (lists : List (Vec Equation Global)) (f i : ℕ) (es : Vec Equation Global) (e : Equation)
+    → listed_at lists f ≡ filter (belongs_to made f) new → slice_get lists f ≡ Some es → slice_get es.items i ≡ Some e → e.fun.0 ≡ f
+listed_own made new lists f i es e listed there at =
+    let test : Equation → Bool = belongs_to made f in
+    let same : es.items ≡ filter test new = sym (listed_there lists f es there) ∙ listed in
+    let kept = contains_filtered test new e (subst (λ (xs : List Equation). Contains xs e) same (contains_at es.items i e at)) in
+    eqb-true e.fun.0 f (both_true (e.fun.0 == f) (has_equations made e.fun.0) kept.1).0
 
 -- ---- how many
 

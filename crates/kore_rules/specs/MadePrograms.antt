@@ -1,9 +1,12 @@
 -- What is known of the program of a definition once it is made.
-use Rattle.std.specs.Prelude.{ℕ, Option, None}
+use Rattle.std.specs.Prelude.{◌≡◌, ℕ, Option, None}
 use Rattle.kore_text.specs.Trees.{DefinitionTree}
+use Rattle.rule_core.specs.BoundVariables.{IsEquationAt}
 use Rattle.rule_core.specs.Named.{names_of, AreDistinct}
 use Rattle.rule_core.specs.Theories.{RewriteTheory}
 use Rattle.rule_core.specs.WellSorted.{IsSignature}
+use Rattle.rule_core.specs.declared.rules.Equation.{Equation}
+use Rattle.rule_core.specs.declared.rules.Program.{Program}
 use Rattle.rule_core.specs.declared.signature.Signature.{Signature}
 use Rattle.kore_sig.specs.Declarations.{axioms_of}
 use Rattle.kore_sig.specs.SignatureFaults.{FirstOfSignature}
@@ -21,3 +24,7 @@ pub record IsMadeOf (d : DefinitionTree) (theory : RewriteTheory) (top : Option 
   pub no_axiom_fault : FirstOfAxioms declared (axioms_of d) None
   pub program : IsProgramUnder declared (axioms_of d) theory
   pub sort : IsTopOf theory.sig (axioms_of d) top
+
+-- each equation is listed for its own function
+abbrev pub ListsOwnEquations : Program → Type 0
+ListsOwnEquations program = (f i : ℕ) (e : Equation) → IsEquationAt program f i e → e.fun.0 ≡ f

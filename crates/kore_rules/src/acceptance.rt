@@ -6,6 +6,7 @@ ghost use Rattle.std.specs.Prelude.{List};
 ghost use Rattle.kore_text.specs.Trees.{AxiomDeclaration};
 ghost use Rattle.kore_ast.specs.Plain.{plain_definition};
 ghost use Rattle.term_core.specs.RulePatterns.{plain_pattern};
+ghost use Rattle.rule_core.specs.BoundVariables.{HasBoundVariables};
 ghost use Rattle.rule_core.specs.Named.{names_of, AreDistinct};
 ghost use Rattle.rule_core.specs.ProgramView.{theory_of};
 ghost use Rattle.rule_core.specs.Theories.{equations_of};
@@ -16,7 +17,7 @@ ghost use Rattle.kore_rules.specs.Acceptance.{IsAccepted, IsAcceptedTerm, IsRefu
 ghost use Rattle.kore_rules.specs.AxiomsRead.{HaveRead, IsFirstSort, AreFew, sort_at, tree_at};
 ghost use Rattle.kore_rules.specs.FirstRefusal.{FirstOfDefinition};
 ghost use Rattle.kore_rules.specs.Names.{HasIdentifierNames};
-ghost use Rattle.kore_rules.specs.MadePrograms.{IsMadeOf};
+ghost use Rattle.kore_rules.specs.MadePrograms.{IsMadeOf, ListsOwnEquations};
 ghost use Rattle.kore_rules.specs.Programs.{IsProgramUnder, IsTopOf};
 ghost use Rattle.kore_rules.specs.RefusedTexts.{RefusesFor, top_of, sort_of, IsSortOfRules};
 
@@ -37,7 +38,8 @@ use std::alloc::{AllocError, Global};
 use term_core::{RulePat, SortId};
 
 /// The program that a definition means, or why it is refused: the text's first fault, or else that of its declarations,
-/// or else that of its axioms in the order of the file.
+/// or else that of its axioms in the order of the file. Each variable of a rule stands in its left side, and each
+/// variable of an equation in its arguments.
 ///
 /// It goes through the text a few times, and through each declaration a few times, with a look-up for each name; the
 /// rules and the equations are sorted. It recurses no deeper than brackets are open in the text.
@@ -49,6 +51,7 @@ pub fn accept(alloc: Global, bytes: &[u8]) -> Result<Program, Refusal>
     ensures numbered { IfOk result (λ p. IsNumbered p.sig) }
     ensures rules { IfOk result (λ p. length p.rules.items ≤ 2 ^ 32) }
     ensures equations { IfOk result (λ p. (f : ℕ) → length (equations_of (theory_of p) f) ≤ 2 ^ 32) }
+    ensures bound { IfOk result HasBoundVariables }
     ensures names { IfOk result (λ p. HasIdentifierNames p.sig) }
     ensures refused { IfErr result (RefusesFor (IsRefused bytes.now)) }
 {
@@ -67,6 +70,7 @@ fn program_of(alloc: Global, definition: &Definition) -> Result<Program, Refusal
     ensures numbered { IfOk result (λ p. IsNumbered p.sig) }
     ensures rules { IfOk result (λ p. length p.rules.items ≤ 2 ^ 32) }
     ensures equations { IfOk result (λ p. (f : ℕ) → length (equations_of (theory_of p) f) ≤ 2 ^ 32) }
+    ensures own { IfOk result ListsOwnEquations }
     ensures refused { IfErr result (RefusesFor (λ f. FirstOfDefinition (plain_definition definition.now) (Some f))) }
 {
     let sig = match signature_of(alloc, definition) {
@@ -112,6 +116,7 @@ fn program_under(
     ensures numbered { IfOk result (λ p. IsNumbered p.sig) }
     ensures rules { IfOk result (λ p. length p.rules.items ≤ 2 ^ 32) }
     ensures equations { IfOk result (λ p. (f : ℕ) → length (equations_of (theory_of p) f) ≤ 2 ^ 32) }
+    ensures own { IfOk result ListsOwnEquations }
 {
     let with_terms = sorts_with_terms(alloc, &sig, axioms)?;
     let symbols = final_symbols(alloc, &sig, &with_terms, &readings.unreadable)?;

@@ -20,6 +20,7 @@ pub mod Taken
 pub mod StandReads
 pub mod StandSteps
 pub mod SharedFrames
+mod SharedKept
 pub mod Labelled
 mod FramesKept
 mod Proposed

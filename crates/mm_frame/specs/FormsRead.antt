@@ -4,7 +4,8 @@ use Rattle.mm_text.specs.Reader.{words_of}
 use Rattle.mm_database.specs.Forms as forms
 use Rattle.mm_database.specs.Forms.{plain, block_start, block_end}
 use Rattle.mm_frame.specs.declared.forms.Keyword.{Keyword}
-use Rattle.mm_frame.specs.declared.forms.Keyword.TheVariants.{Constants, Variables, Floating, Essential, Disjoint, Axiom, Theorem}
+use Rattle.mm_frame.specs.declared.forms.Keyword.TheVariants.{Constants, Variables, Floating, Essential}
+use Rattle.mm_frame.specs.declared.forms.Keyword.TheVariants.{Disjoint, Axiom, Theorem}
 use Rattle.mm_frame.specs.declared.forms.Form.{Form}
 use Rattle.mm_frame.specs.declared.forms.Form.TheVariants.{BlockStart, BlockEnd, Plain}
 
@@ -20,4 +21,5 @@ keyword_read Theorem = forms.proves
 abbrev pub form_read : List ℕ → Form → forms.Form
 form_read bytes BlockStart = block_start
 form_read bytes BlockEnd = block_end
-form_read bytes (Plain p) = plain (words_of bytes p.labels.now) (keyword_read p.keyword) (words_of bytes p.symbols.now) (words_of bytes p.proof.now)
+form_read bytes (Plain p) = plain (words_of bytes p.labels.now) (keyword_read p.keyword)
+    (words_of bytes p.symbols.now) (words_of bytes p.proof.now)

@@ -1,14 +1,17 @@
 -- The fault of a statement, or what it declares, by what scopes hold: cited by the clauses of private
 -- functions alone. Laws say that it is the fault that the definitions give.
-use Rattle.std.specs.Prelude.{◌≡◌, ℕ, Bool, true, false, not, ◌||◌, if◌then◌else◌, List, [], ◌∷◌, Option, Some, None, is_some, Result, Ok, Err}
+use Rattle.std.specs.Prelude.{◌≡◌, ℕ, Bool, true, false, not, ◌||◌, if◌then◌else◌, List, [], ◌∷◌, Option}
+use Rattle.std.specs.Prelude.{Some, None, is_some, Result, Ok, Err}
 use Rattle.std.specs.List.{list_any, list_all}
 use Rattle.mm_text.specs.Bytes.{Token, has_repeated}
-use Rattle.mm_text.specs.FaultKinds.{inner_constant, redeclared, not_active, bad_typecode, second_float, bad_disjoint, bad_label}
+use Rattle.mm_text.specs.FaultKinds.{inner_constant, redeclared, not_active, bad_typecode, second_float}
+use Rattle.mm_text.specs.FaultKinds.{bad_disjoint, bad_label}
 use Rattle.mm_database.specs.Forms.{is_nil}
 use Rattle.mm_frame.specs.Numbered.{NumberedHypothesis}
 use Rattle.mm_database.specs.Validity.{has_two}
 use Rattle.mm_frame.specs.Held.{Held}
-use Rattle.mm_frame.specs.HeldTests.{is_held_typed, number_in, is_active_in, numbers_in, constant_in, label_in, redeclares_constant, redeclares_variable}
+use Rattle.mm_frame.specs.HeldTests.{is_held_typed, number_in, is_active_in, numbers_in, constant_in}
+use Rattle.mm_frame.specs.HeldTests.{label_in, redeclares_constant, redeclares_variable}
 use Rattle.mm_frame.specs.declared.scopes.OpenBlock.{OpenBlock}
 use Rattle.mm_frame.specs.declared.scopes.Need.TheVariants as need
 use Rattle.mm_frame.specs.declared.judge.Refusal.{Refusal}

@@ -15,4 +15,5 @@ pub record IsHeldFrame (h : Held) (s : Statement) (f : NumberedFrame) : Type 0 w
   pub label : f.label ≡ s.label
   pub statement : f.statement ≡ s.symbols
   pub hypotheses : f.hypotheses ≡ filter (is_mandatory_number (is_needed_number h.hypotheses s.symbols)) h.hypotheses
-  pub apart : (a b : ℕ) → f.apart a b ≡ (in_groups h.disjoint a b && (is_needed_number h.hypotheses s.symbols a && is_needed_number h.hypotheses s.symbols b))
+  pub apart : (a b : ℕ) → f.apart a b ≡ (in_groups h.disjoint a b
+      && (is_needed_number h.hypotheses s.symbols a && is_needed_number h.hypotheses s.symbols b))

@@ -19,4 +19,6 @@ ArePlaced h = ArePlacedIn h.types h.hypotheses
 -- the places of the active `$f` of these variables
 abbrev pub typed_places : Held → List ℕ → List ℕ
 typed_places h [] = []
-typed_places h (n ∷ numbers) = if is_held_typed h n then slice_index h.types n ∷ typed_places h numbers else typed_places h numbers
+typed_places h (n ∷ numbers) = if is_held_typed h n
+    then slice_index h.types n ∷ typed_places h numbers
+    else typed_places h numbers

@@ -1,5 +1,6 @@
 -- What adding a declaration does to what scopes hold: cited by the clauses of private functions alone.
-use Rattle.std.specs.Prelude.{◌≡◌, ℕ, Bool, true, false, if◌then◌else◌, List, [], ◌∷◌, ◌++◌, length, take, slice_set, Option, Some, None, bytes_eq}
+use Rattle.std.specs.Prelude.{◌≡◌, ℕ, Bool, true, false, if◌then◌else◌, List, [], ◌∷◌, ◌++◌, length, take}
+use Rattle.std.specs.Prelude.{slice_set, Option, Some, None, bytes_eq}
 use Rattle.mm_text.specs.Bytes.{Token}
 use Rattle.mm_frame.specs.Numbered.{NumberedHypothesis, NumberedFrame}
 use Rattle.mm_frame.specs.Held.{Held, symbol, symbol_name}
@@ -62,7 +63,12 @@ pub record AddsAssertion (old : Held) (f : NumberedFrame) (new : Held) : Type 0 
   pub rest : new ≡ record old { names = new.names; frames = old.frames ++ f ∷ [] }
 
 abbrev pub block_at : Held → ℕ → OpenBlock
-block_at h at = record { at = at; variables = length h.variables; hyps = length h.hypotheses; disjoint = length h.disjoint }
+block_at h at = record {
+  at = at;
+  variables = length h.variables;
+  hyps = length h.hypotheses;
+  disjoint = length h.disjoint;
+}
 
 abbrev pub OpensBlock : Held → ℕ → Held → Type 0
 OpensBlock old at new = new ≡ record old { blocks = old.blocks ++ block_at old at ∷ [] }
@@ -80,7 +86,8 @@ ClosesBlock old new (Some block) = (old.blocks ≡ new.blocks ++ block ∷ []) �
 -- each token gets a number and the name of a constant
 abbrev pub AddsConstants : Held → List Token → Held → Type 0
 AddsConstants old [] new = new ≡ old
-AddsConstants old (token ∷ tokens) new = (n : ℕ) × (mid : Held) × AddsSymbol old token false n mid × AddsConstants mid tokens new
+AddsConstants old (token ∷ tokens) new = (n : ℕ) × (mid : Held) × AddsSymbol old token false n mid
+    × AddsConstants mid tokens new
 
 -- a variable that is new gets a number, and each becomes active
 abbrev pub VariableStep : Held → Token → Option Name → Held → Type 0

@@ -7,11 +7,14 @@ use Rattle.mm_text.specs.Reader.{words_of}
 use Rattle.mm_frame.specs.Numbered.{NumberedHypothesis, NumberedFrame}
 use Rattle.mm_frame.specs.FramesHeld.{hypothesis_held}
 use Rattle.mm_frame.specs.Held.{Held}
-use Rattle.mm_frame.specs.HeldFaults.{stated_held, floating_in, stated_in, disjoint_in, constants_fault, variables_fault}
+use Rattle.mm_frame.specs.HeldFaults.{stated_held, floating_in, stated_in, disjoint_in, constants_fault}
+use Rattle.mm_frame.specs.HeldFaults.{variables_fault}
 use Rattle.mm_frame.specs.HeldFrames.{IsHeldFrame, Statement}
-use Rattle.mm_frame.specs.HeldSteps.{AddsConstants, AddsVariables, AddsHypothesis, AddsDisjoint, AddsAssertion, OpensBlock, ClosesBlock}
+use Rattle.mm_frame.specs.HeldSteps.{AddsConstants, AddsVariables, AddsHypothesis, AddsDisjoint}
+use Rattle.mm_frame.specs.HeldSteps.{AddsAssertion, OpensBlock, ClosesBlock}
 use Rattle.mm_frame.specs.declared.forms.Keyword.{Keyword}
-use Rattle.mm_frame.specs.declared.forms.Keyword.TheVariants.{Constants, Variables, Floating, Essential, Disjoint, Axiom, Theorem}
+use Rattle.mm_frame.specs.declared.forms.Keyword.TheVariants.{Constants, Variables, Floating, Essential}
+use Rattle.mm_frame.specs.declared.forms.Keyword.TheVariants.{Disjoint, Axiom, Theorem}
 use Rattle.mm_frame.specs.declared.forms.Form.{Form}
 use Rattle.mm_frame.specs.declared.forms.Form.TheVariants.{BlockStart, BlockEnd, Plain}
 use Rattle.mm_frame.specs.declared.scopes.OpenBlock.{OpenBlock}

@@ -1,5 +1,6 @@
 -- The groups that each number is in, by their places.
-use Rattle.std.specs.Prelude.{◌≡◌, ℕ, zero, suc, ◌-◌, Bool, false, ◌&&◌, nat_eq, if◌then◌else◌, List, [], ◌∷◌, ◌++◌, length, take, slice_get, Option, Some, None, true}
+use Rattle.std.specs.Prelude.{◌≡◌, ℕ, zero, suc, ◌-◌, Bool, false, ◌&&◌, nat_eq, if◌then◌else◌, List, [], ◌∷◌}
+use Rattle.std.specs.Prelude.{◌++◌, length, take, slice_get, Option, Some, None, true}
 use Rattle.std.specs.Global.{Vec}
 use Rattle.mm_frame.specs.FramesHeld.{has_number, in_group}
 use Rattle.mm_frame.specs.Places.{places_of, passes}
@@ -38,7 +39,8 @@ without_place place places = if ends_with place places then take (length places 
 
 -- the group at a place has two different numbers, which are among others
 abbrev pub shares : List (List ℕ) → List ℕ → ℕ → ℕ → ℕ → Bool
-shares groups numbers a b place = passes (in_group a b) (slice_get groups place) && (has_number numbers a && has_number numbers b)
+shares groups numbers a b place = passes (in_group a b) (slice_get groups place)
+    && (has_number numbers a && has_number numbers b)
 
 abbrev pub is_essential : NumberedHypothesis → Bool
 is_essential (floating label typecode variable) = false

@@ -3,7 +3,8 @@ use Rattle.std.specs.Prelude.{◌≡◌, ℕ, Bool, true, false, List, map, Opti
 use Rattle.mm_text.specs.Bytes.{Token}
 use Rattle.mm_text.specs.Statements.{Statement}
 use Rattle.mm_text.specs.Reader.{words_of}
-use Rattle.mm_database.specs.Forms.{Keyword, declares_constants, declares_variables, types_variable, assumes, separates, asserts, proves, Form, block_start, block_end, plain, form_of}
+use Rattle.mm_database.specs.Forms.{Keyword, declares_constants, declares_variables, types_variable, assumes}
+use Rattle.mm_database.specs.Forms.{separates, asserts, proves, Form, block_start, block_end, plain, form_of}
 use Rattle.mm_database.specs.Frames.{frame_of}
 use Rattle.mm_database.specs.Database.{Context, first_label}
 use Rattle.mm_database.specs.Validity.{declaration_fault}
@@ -42,7 +43,8 @@ pub record IsProposed (bytes : List ℕ) (h : Held) (c : Context) (s : Statement
   pub free : h.names stated.label ≡ None
   pub numbers : (name : ℕ → Token) → NamesSymbols name h.symbols → map name stated.symbols ≡ symbols
   pub held : IsHeldFrame h stated (frame_held t.frame)
-  pub frame : (name : ℕ → Token) → IsNaming name → NamesSymbols name h.symbols → IsNamedFrame name (frame_held t.frame) (frame_of c.scope (first_label labels) symbols)
+  pub frame : (name : ℕ → Token) → IsNaming name → NamesSymbols name h.symbols
+      → IsNamedFrame name (frame_held t.frame) (frame_of c.scope (first_label labels) symbols)
 
 abbrev pub Proposes : List ℕ → Held → Context → Statement → Result (Option Theorem) FrameEnd → Type 0
 Proposes bytes h c s (Ok None) = is_theorem (form_of s.tokens) ≡ false

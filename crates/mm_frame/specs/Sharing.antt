@@ -1,11 +1,11 @@
 -- What assertions of one place ask for in common: cited by the clauses of private functions alone.
-use Rattle.std.specs.Prelude.{◌≡◌, ℕ, ◌&&◌, List, [], filter, slice_get, slice_index, Some}
+use Rattle.std.specs.Prelude.{◌≡◌, ℕ, true, false, ◌&&◌, List, [], filter, slice_get, slice_index, Some}
 use Rattle.std.specs.List.Sorted.{IsStrictlyIncreasing}
 use Rattle.mm_frame.specs.Numbered.{NumberedHypothesis}
-use Rattle.mm_frame.specs.FramesHeld.{has_number, in_groups, groups_of, hypotheses_held}
+use Rattle.mm_frame.specs.FramesHeld.{has_number, in_group, in_groups, groups_of, hypotheses_held}
 use Rattle.mm_frame.specs.NeededNumbers.{is_needed_number, is_mandatory_number}
 use Rattle.mm_text.specs.Bytes.{Token}
-use Rattle.mm_database.specs.Frames.{floating}
+use Rattle.mm_database.specs.Frames.{floating, essential}
 use Rattle.mm_frame.specs.declared.labels.Mandatory.{Mandatory}
 use Rattle.mm_frame.specs.declared.sharing.Shared.{Shared}
 
@@ -28,3 +28,13 @@ pub record IsShared (types : List ℕ) (hypotheses : List NumberedHypothesis) (g
   pub ascending : IsStrictlyIncreasing s.symbols.items
   pub symbols : (n : ℕ) → has_number s.symbols.items n ≡ is_needed_number hypotheses [] n
   pub mandatory : ArePlacedIn types hypotheses → IsMandatory hypotheses groups [] s.mandatory.value
+
+-- a hypothesis that changes nothing of it: the `$f` of a variable that is none of the symbols
+abbrev pub Spares : NumberedHypothesis → Shared → Type 0
+Spares (floating label typecode variable) s = has_number s.symbols.items variable ≡ false
+Spares (essential label statement) s = ⊥
+
+-- nor does a `$d` no two of whose variables are among the symbols
+abbrev pub SparesPairs : List ℕ → Shared → Type 0
+SparesPairs group s = (a b : ℕ) → in_group a b group ≡ true
+    → (has_number s.symbols.items a && has_number s.symbols.items b) ≡ false

@@ -1,6 +1,7 @@
 -- What scopes hold stands for what a database has declared: names for its symbols and labels, and
 -- numbers for symbols, under every naming that gives the numbers their tokens.
-use Rattle.std.specs.Prelude.{◌≡◌, ℕ, ◌≤◌, Bool, true, false, List, [], ◌∷◌, map, length, take, reverse, slice_get, slice_index, Option, Some, None}
+use Rattle.std.specs.Prelude.{◌≡◌, ℕ, ◌≤◌, Bool, true, false, List, [], ◌∷◌, map, length, take, reverse}
+use Rattle.std.specs.Prelude.{slice_get, slice_index, Option, Some, None}
 use Rattle.mm_text.specs.Bytes.{Token}
 use Rattle.mm_database.specs.Frames.{Scope, Frame, floating, label_of}
 use Rattle.mm_database.specs.Database.{Block, Context}
@@ -45,19 +46,23 @@ abbrev pub NamesSymbols : (ℕ → Token) → List HeldSymbol → Type 0
 NamesSymbols name symbols = (n : ℕ) (s : HeldSymbol) → slice_get symbols n ≡ Some s → name n ≡ s.token
 
 -- lists of what is active stand for a scope
-pub record ScopeStands (name : ℕ → Token) (declared : Token → Bool) (vs : List ℕ) (hs : List NumberedHypothesis) (ds : List (List ℕ)) (scope : Scope) : Type 0 where
+pub record ScopeStands (name : ℕ → Token) (declared : Token → Bool) (vs : List ℕ)
+    (hs : List NumberedHypothesis) (ds : List (List ℕ)) (scope : Scope) : Type 0 where
   pub only : (t : Token) → declared t ≡ false → scope.variables t ≡ false
   pub active : (n : ℕ) → scope.variables (name n) ≡ has_number vs n
   pub typed : scope.hypotheses ≡ map (named_hypothesis name) hs
   pub separate : (a b : ℕ) → scope.apart (name a) (name b) ≡ in_groups ds a b
 
 -- the lists, cut for each block, inmost first, stand for what was active outside it
-abbrev pub BlocksStand : (ℕ → Token) → (Token → Bool) → List ℕ → List NumberedHypothesis → List (List ℕ) → List OpenBlock → List Block → Type 0
+abbrev pub BlocksStand : (ℕ → Token) → (Token → Bool) → List ℕ → List NumberedHypothesis → List (List ℕ)
+    → List OpenBlock → List Block → Type 0
 BlocksStand name declared vs hs ds [] [] = Unit {0}
 BlocksStand name declared vs hs ds [] (block ∷ blocks) = ⊥
 BlocksStand name declared vs hs ds (o ∷ os) [] = ⊥
 BlocksStand name declared vs hs ds (o ∷ os) (block ∷ blocks) =
-    (block.at ≡ o.at) × (o.variables ≤ length vs) × (o.hyps ≤ length hs) × (o.disjoint ≤ length ds) × ScopeStands name declared (take o.variables vs) (take o.hyps hs) (take o.disjoint ds) block.outside × BlocksStand name declared (take o.variables vs) (take o.hyps hs) (take o.disjoint ds) os blocks
+    (block.at ≡ o.at) × (o.variables ≤ length vs) × (o.hyps ≤ length hs) × (o.disjoint ≤ length ds)
+    × ScopeStands name declared (take o.variables vs) (take o.hyps hs) (take o.disjoint ds) block.outside
+    × BlocksStand name declared (take o.variables vs) (take o.hyps hs) (take o.disjoint ds) os blocks
 
 -- the number of an assertion is that of its frame
 abbrev pub FrameStands : (ℕ → Token) → List NumberedFrame → Option Name → Option Frame → Type 0
@@ -78,12 +83,15 @@ pub record Stands (h : Held) (c : Context) : Type 0 where
   pub variables : (t : Token) → c.variables t ≡ names_variable (h.names t)
   pub labels : (t : Token) → c.labels t ≡ names_label (h.names t)
   pub numbered : (t : Token) → SymbolStands h.symbols t (h.names t)
-  pub named : (n : ℕ) (s : HeldSymbol) → slice_get h.symbols n ≡ Some s → h.names s.token ≡ Some (symbol_name s.is_variable n)
+  pub named : (n : ℕ) (s : HeldSymbol) → slice_get h.symbols n ≡ Some s
+      → h.names s.token ≡ Some (symbol_name s.is_variable n)
   pub many_places : length h.places ≡ length h.symbols
   pub many_types : length h.types ≡ length h.symbols
   pub placed : (i v : ℕ) → slice_get h.variables i ≡ Some v → slice_index h.places v ≡ i
-  pub typed : (i : ℕ) (l : Token) (k v : ℕ) → slice_get h.hypotheses i ≡ Some (floating l k v) → slice_index h.types v ≡ i
-  pub labelled : (i : ℕ) (x : NumberedHypothesis) → slice_get h.hypotheses i ≡ Some x → h.names (label_of x) ≡ Some (Hypothesis i)
+  pub typed : (i : ℕ) (l : Token) (k v : ℕ) → slice_get h.hypotheses i ≡ Some (floating l k v)
+      → slice_index h.types v ≡ i
+  pub labelled : (i : ℕ) (x : NumberedHypothesis) → slice_get h.hypotheses i ≡ Some x
+      → h.names (label_of x) ≡ Some (Hypothesis i)
   pub under : (name : ℕ → Token) → IsNaming name → NamesSymbols name h.symbols → StandsUnder name h c
 
 -- a fact on each context that scopes stand for, under each naming of their symbols

@@ -41,5 +41,6 @@ FrameCited =
 
 abbrev pub NothingCited : Type 0
 NothingCited =
-    (h : Held) (label : Token) (c : Context) → Stands h c → hypothesis_named h label ≡ None → frame_named h label ≡ None →
+    (h : Held) (label : Token) (c : Context) → Stands h c → hypothesis_named h label ≡ None →
+    frame_named h label ≡ None →
     is_citable c label ≡ false

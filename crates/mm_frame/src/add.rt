@@ -4,7 +4,8 @@ ghost use Rattle.std.specs.Prelude.{◌≡◌, ◌++◌, ◌∷◌, [], ℕ, con
 ghost use Rattle.mm_text.specs.Bytes.{Token};
 ghost use Rattle.mm_frame.specs.Held.{held, Held, symbol_name};
 ghost use Rattle.mm_frame.specs.FramesHeld.{hypothesis_held, frame_held};
-ghost use Rattle.mm_frame.specs.HeldSteps.{AppendsSymbol, Names, AddsSymbol, Activates, AddsHypothesis, AddsDisjoint, AddsAssertion, OpensBlock, ClosesBlock};
+ghost use Rattle.mm_frame.specs.HeldSteps.{AppendsSymbol, Names, AddsSymbol, Activates, AddsHypothesis};
+ghost use Rattle.mm_frame.specs.HeldSteps.{AddsDisjoint, AddsAssertion, OpensBlock, ClosesBlock, types_with};
 
 use crate::frames::{Frame, Hyp};
 use crate::scopes::{Name, OpenBlock, Scopes, Symbol};
@@ -31,14 +32,14 @@ impl<'a> Scopes<'a> {
     fn push_symbol(&mut self, word: &'a [u8], is_variable: bool) -> Result<(), AllocError>
         ensures { IfOk result (λ _. AppendsSymbol (held self.old) word.now is_variable (held self.new)) }
     {
-        self.shared = None;
-        self.is_stated = false;
+        let shared = self.shared.take();
         self.places.push(0)?;
         self.types.push(0)?;
         self.symbols.push(Symbol {
             token: word,
             is_variable,
         })?;
+        self.shared = shared;
         Ok(())
     }
 
@@ -68,16 +69,16 @@ impl<'a> Scopes<'a> {
     {
         let place = self.hyps.len();
         self.rename(hyp.label(), Name::Hypothesis(place))?;
-        self.shared = None;
-        self.is_stated = false;
-        if let Hyp::Floating(_, _, variable) = &hyp {
-            let n = *variable as usize;
-            if n < self.types.len() {
-                self.types[n] = place;
-            }
-        }
+        let spares = self.spares(&hyp);
+        let shared = self.shared.take();
+        set_type(&mut self.types, &hyp, place);
         if self.hyps.push(hyp).is_err() {
             return Err(AllocError);
+        }
+        if spares {
+            self.shared = shared;
+        } else {
+            self.is_stated = false;
         }
         Ok(())
     }
@@ -90,9 +91,14 @@ impl<'a> Scopes<'a> {
     ) -> Result<(), AllocError>
         ensures { IfOk result (λ _. AddsDisjoint (held self.old) variables.items (held self.new)) }
     {
-        self.shared = None;
-        self.is_stated = false;
+        let spares = self.spares_pairs(alloc, &variables)?;
+        let shared = self.shared.take();
         self.disjoint.push(alloc, variables)?;
+        if spares {
+            self.shared = shared;
+        } else {
+            self.is_stated = false;
+        }
         Ok(())
     }
 
@@ -139,12 +145,29 @@ impl<'a> Scopes<'a> {
         ensures { ClosesBlock (held self.old) (held self.new) result }
     {
         let block = self.blocks.pop()?;
-        self.shared.take();
-        self.is_stated = false;
+        let spares = self.spares_end(&block);
+        let shared = self.shared.take();
         self.variables.truncate(block.variables);
         self.hyps.truncate(block.hyps);
         self.disjoint.truncate(block.disjoint);
+        if spares {
+            self.shared = shared;
+            return Some(block);
+        }
+        self.is_stated = false;
         Some(block)
+    }
+}
+
+/// Keeps the place of an `$f` for its variable.
+fn set_type(types: &mut Vec<usize>, hyp: &Hyp<'_>, place: usize)
+    ensures { types.new.items ≡ types_with types.old.items place (hypothesis_held hyp.now) }
+{
+    if let Hyp::Floating(_, _, variable) = hyp {
+        let n = *variable as usize;
+        if n < types.len() {
+            types[n] = place;
+        }
     }
 }
 

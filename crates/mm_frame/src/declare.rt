@@ -72,9 +72,11 @@ impl<'a> Scopes<'a> {
         bytes: &'a [u8],
         tokens: &[MmToken],
     ) -> Result<Added, FrameEnd>
-        ensures takes { (c : Context) → Stands (held self.old) c → Takes c (statement_of bytes.now tokens.now) (held self.old) (held self.new) result }
+        ensures takes { (c : Context) → Stands (held self.old) c
+            → Takes c (statement_of bytes.now tokens.now) (held self.old) (held self.new) result }
         ensures frames { IfOk result (λ _. KeepsFrames (held self.old) (held self.new)) }
-        ensures added { IfOk result (λ a. option_map form_added (form_of (statement_of bytes.now tokens.now).tokens) ≡ Some a) }
+        ensures added { IfOk result
+            (λ a. option_map form_added (form_of (statement_of bytes.now tokens.now).tokens) ≡ Some a) }
     {
         let at = first_byte(tokens);
         let Some(form) = read_form(bytes, tokens) else {
@@ -119,7 +121,9 @@ impl<'a> Scopes<'a> {
         bytes: &'a [u8],
         plain: &Plain<'t>,
     ) -> Result<Said<'a, 't>, Refusal>
-        ensures { Judges (said_by bytes.now) result (judged_plain (held self.now) plain.now.keyword (words_of bytes.now plain.now.labels.now) (words_of bytes.now plain.now.symbols.now)) }
+        ensures { Judges (said_by bytes.now) result
+            (judged_plain (held self.now) plain.now.keyword (words_of bytes.now plain.now.labels.now)
+            (words_of bytes.now plain.now.symbols.now)) }
     {
         let labels = plain.labels;
         let symbols = plain.symbols;

@@ -133,6 +133,27 @@ impl Disjoint {
         }
     }
 
+    /// Whether a group is found that has all these variables. It is not looked for where the first of them
+    /// is in more groups than there are variables.
+    pub(crate) fn are_together(&self, variables: &[u32]) -> bool
+        ensures { result ≡ true → (a b : ℕ) → in_group a b variables.now ≡ true → in_groups (groups_in self.now) a b
+            ≡ true }
+    {
+        if variables.is_empty() {
+            return false;
+        }
+        let places = self.listed(variables[0]);
+        if places.len() > variables.len() {
+            return false;
+        }
+        for place in places {
+            if self.are_listed(variables, *place) {
+                return true;
+            }
+        }
+        false
+    }
+
     /// Whether each two of the variables that differ are in a group.
     fn are_all_apart(&self, group: &[u32]) -> bool
         ensures { result ≡ list_all (λ a. list_all (is_apart_or_same (groups_in self.now) a) group.now) group.now }
@@ -278,7 +299,8 @@ impl Disjoint {
     /// are numbers, or as it has variables, where these are fewer.
     fn groups_within(&self, alloc: Global, numbers: &[u32]) -> Result<Vec<Vec<u32>>, AllocError>
         requires { IsStrictlyIncreasing numbers.now }
-        ensures { IfOk result (λ v. (a b : ℕ) → in_groups (groups_of v.items) a b ≡ (in_groups (groups_in self.now) a b && (has_number numbers.now a && has_number numbers.now b))) }
+        ensures { IfOk result (λ v. (a b : ℕ) → in_groups (groups_of v.items) a b
+            ≡ (in_groups (groups_in self.now) a b && (has_number numbers.now a && has_number numbers.now b))) }
     {
         let places = self.places_among(alloc, numbers)?;
         let mut groups = Vec::new(alloc);
@@ -291,7 +313,8 @@ impl Disjoint {
 
     /// The places of the groups that have one of these numbers, ascending and each once.
     fn places_among(&self, alloc: Global, numbers: &[u32]) -> Result<Vec<usize>, AllocError>
-        ensures { IfOk result (λ v. (i : ℕ) → has_number v.items i ≡ list_any (λ n. has_number (group_places (groups_in self.now) n) i) numbers.now) }
+        ensures { IfOk result (λ v. (i : ℕ) → has_number v.items i
+            ≡ list_any (λ n. has_number (group_places (groups_in self.now) n) i) numbers.now) }
     {
         let mut places = Vec::new(alloc);
         for n in numbers {
@@ -305,7 +328,9 @@ impl Disjoint {
     /// What the group at a place has of these numbers, which ascend.
     fn common(&self, alloc: Global, place: usize, numbers: &[u32]) -> Result<Vec<u32>, AllocError>
         requires { IsStrictlyIncreasing numbers.now }
-        ensures { IfOk result (λ v. (n : ℕ) → has_number v.items n ≡ (passes (λ group. has_number group n) (slice_get (groups_in self.now) place) && has_number numbers.now n)) }
+        ensures { IfOk result (λ v. (n : ℕ) → has_number v.items n
+            ≡ (passes (λ group. has_number group n) (slice_get (groups_in self.now) place)
+            && has_number numbers.now n)) }
     {
         match self.group(place) {
             None => Ok(Vec::new(alloc)),
@@ -324,7 +349,8 @@ impl Disjoint {
         place: usize,
         numbers: &[u32],
     ) -> Result<Vec<u32>, AllocError>
-        ensures { IfOk result (λ v. v.items ≡ filter (λ n. has_number (group_places (groups_in self.now) n) place) numbers.now) }
+        ensures { IfOk result (λ v. v.items
+            ≡ filter (λ n. has_number (group_places (groups_in self.now) n) place) numbers.now) }
     {
         let mut kept = Vec::new(alloc);
         for n in numbers {
@@ -376,7 +402,9 @@ fn list_all(
     group: &[u32],
     place: usize,
 ) -> Result<(), AllocError>
-    ensures { IfOk result (λ _. (n : ℕ) → list_of lists.new.items n ≡ (if has_number group.now n then with_place place (list_of lists.old.items n) else list_of lists.old.items n)) }
+    ensures { IfOk result (λ _. (n : ℕ) → list_of lists.new.items n
+        ≡ (if has_number group.now n then with_place place (list_of lists.old.items n)
+        else list_of lists.old.items n)) }
 {
     for n in group {
         list_one(lists, alloc, *n as usize, place)?;
@@ -391,7 +419,8 @@ fn list_one(
     at: usize,
     place: usize,
 ) -> Result<(), AllocError>
-    ensures { IfOk result (λ _. (n : ℕ) → list_of lists.new.items n ≡ (if nat_eq at n then with_place place (list_of lists.old.items n) else list_of lists.old.items n)) }
+    ensures { IfOk result (λ _. (n : ℕ) → list_of lists.new.items n
+        ≡ (if nat_eq at n then with_place place (list_of lists.old.items n) else list_of lists.old.items n)) }
 {
     reach(lists, alloc, at)?;
     if stands_last(lists, at, place) {
@@ -417,7 +446,9 @@ fn reach(lists: &mut Vec<Vec<usize>>, alloc: Global, at: usize) -> Result<(), Al
 /// Takes the place away from the lists of the group's numbers, where it stands last and only once.
 fn unlist_all(lists: &mut Vec<Vec<usize>>, group: &[u32], place: usize)
     requires { (n : ℕ) → ends_with place (without_place place (list_of lists.old.items n)) ≡ false }
-    ensures { (n : ℕ) → list_of lists.new.items n ≡ (if has_number group.now n then without_place place (list_of lists.old.items n) else list_of lists.old.items n) }
+    ensures { (n : ℕ) → list_of lists.new.items n
+        ≡ (if has_number group.now n then without_place place (list_of lists.old.items n)
+        else list_of lists.old.items n) }
 {
     for n in group {
         unlist_one(lists, *n as usize, place);
@@ -426,7 +457,8 @@ fn unlist_all(lists: &mut Vec<Vec<usize>>, group: &[u32], place: usize)
 
 /// Takes the place away from one list, where it stands last in it.
 fn unlist_one(lists: &mut Vec<Vec<usize>>, at: usize, place: usize)
-    ensures { (n : ℕ) → list_of lists.new.items n ≡ (if nat_eq at n then without_place place (list_of lists.old.items n) else list_of lists.old.items n) }
+    ensures { (n : ℕ) → list_of lists.new.items n
+        ≡ (if nat_eq at n then without_place place (list_of lists.old.items n) else list_of lists.old.items n) }
 {
     if at >= lists.len() {
         return;
@@ -493,7 +525,11 @@ pub(crate) fn is_among(numbers: &[u32], n: u32) -> bool
 }
 
 /// What a group has of the numbers, which ascend.
-fn kept_numbers(alloc: Global, numbers: &[u32], group: &[u32]) -> Result<Vec<u32>, AllocError>
+pub(crate) fn kept_numbers(
+    alloc: Global,
+    numbers: &[u32],
+    group: &[u32],
+) -> Result<Vec<u32>, AllocError>
     requires { IsStrictlyIncreasing numbers.now }
     ensures { IfOk result (λ v. v.items ≡ filter (has_number numbers.now) group.now) }
 {
@@ -516,7 +552,8 @@ fn push_if(keeps: bool, kept: &mut Vec<u32>, n: u32) -> Result<(), AllocError>
 
 /// Appends the group, where it has a pair.
 fn push_group(groups: &mut Vec<Vec<u32>>, group: Vec<u32>) -> Result<(), AllocError>
-    ensures { IfOk result (λ _. (a b : ℕ) → in_groups (groups_of groups.new.items) a b ≡ (in_groups (groups_of groups.old.items) a b || in_group a b group.items)) }
+    ensures { IfOk result (λ _. (a b : ℕ) → in_groups (groups_of groups.new.items) a b
+        ≡ (in_groups (groups_of groups.old.items) a b || in_group a b group.items)) }
 {
     if group.len() < 2 {
         return Ok(());

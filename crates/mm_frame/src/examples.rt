@@ -122,7 +122,8 @@ fn texts_have_their_first_fault(rt: HostRuntime) -> Result<(), Fail> {
 }
 
 const SCOPED: &str =
-    "$c t $. $v x y z $. fz $f t z $. fx $f t x $. ${ $v w $. fw $f t w $. fy $f t y $. $d x y w $. h $e t y $. a $a t x $. $}";
+    "$c t $. $v x y z $. fz $f t z $. fx $f t x $. ${ $v w $. fw $f t w $. fy $f t y $. $d x y w $. h $e t y \
+     $. a $a t x $. $}";
 
 /// The scopes after the statements of a text, as far as they have no fault.
 pub(crate) fn scopes_of(alloc: Global, text: &[u8]) -> Result<Scopes<'_>, AllocError> {

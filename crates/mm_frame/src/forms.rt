@@ -2,7 +2,8 @@
 
 ghost use Rattle.std.specs.Prelude.{◌≡◌, [], option_map};
 ghost use Rattle.mm_text.specs.Reader.{words_of};
-ghost use Rattle.mm_database.specs.Forms.{form_of, keyword_of, has_dollar, before_dollar, from_dollar, is_end, block_form, labelled_form};
+ghost use Rattle.mm_database.specs.Forms.{form_of, keyword_of, has_dollar, before_dollar, from_dollar};
+ghost use Rattle.mm_database.specs.Forms.{is_end, block_form, labelled_form};
 ghost use Rattle.mm_frame.specs.FormsRead.{form_read, keyword_read};
 ghost use Rattle.mm_frame.specs.FormParts.{proof_read, proof_for, names_symbols};
 
@@ -59,7 +60,8 @@ pub fn read_form<'t>(bytes: &[u8], tokens: &'t [MmToken]) -> Option<Form<'t>>
 
 /// The form of labels and of the tokens from a keyword on.
 fn labelled_form<'t>(bytes: &[u8], labels: &'t [MmToken], rest: &'t [MmToken]) -> Option<Form<'t>>
-    ensures { option_map (form_read bytes.now) result ≡ labelled_form (words_of bytes.now labels.now) (words_of bytes.now rest.now) }
+    ensures { option_map (form_read bytes.now) result
+        ≡ labelled_form (words_of bytes.now labels.now) (words_of bytes.now rest.now) }
 {
     let (first, rest) = rest.split_first()?;
     let keyword = keyword_of(first.word(bytes))?;
@@ -138,7 +140,8 @@ fn proof_of<'t>(
     symbols: &[MmToken],
     rest: &'t [MmToken],
 ) -> Option<&'t [MmToken]>
-    ensures { option_map (λ p. words_of bytes.now p.now) result ≡ proof_for keyword (words_of bytes.now symbols.now) (words_of bytes.now rest.now) }
+    ensures { option_map (λ p. words_of bytes.now p.now) result
+        ≡ proof_for keyword (words_of bytes.now symbols.now) (words_of bytes.now rest.now) }
 {
     if keyword == Keyword::Theorem {
         return theorem_proof(bytes, rest);

@@ -7,8 +7,10 @@ ghost use Rattle.mm_text.specs.Labels.{is_label, is_label_byte};
 ghost use Rattle.mm_database.specs.Forms.{is_nil};
 ghost use Rattle.mm_frame.specs.FramesHeld.{items_of, hypothesis_held};
 ghost use Rattle.mm_frame.specs.Held.{held};
-ghost use Rattle.mm_frame.specs.HeldTests.{numbers_in, is_active_in, constant_in, label_in, redeclares_constant, redeclares_variable};
-ghost use Rattle.mm_frame.specs.HeldFaults.{Judges, stated_held, floating_in, stated_in, disjoint_in, constants_fault, variables_fault};
+ghost use Rattle.mm_frame.specs.HeldTests.{numbers_in, is_active_in, constant_in, label_in};
+ghost use Rattle.mm_frame.specs.HeldTests.{redeclares_constant, redeclares_variable};
+ghost use Rattle.mm_frame.specs.HeldFaults.{Judges, stated_held, floating_in, stated_in, disjoint_in};
+ghost use Rattle.mm_frame.specs.HeldFaults.{constants_fault, variables_fault};
 ghost use Rattle.mm_text.specs.Bytes.{has_repeated};
 
 use crate::frames::Hyp;
@@ -40,7 +42,8 @@ impl<'a> Scopes<'a> {
         bytes: &'a [u8],
         tokens: &[MmToken],
     ) -> Result<Option<Vec<u32>>, AllocError>
-        ensures { IfOk result (λ r. option_map items_of r ≡ numbers_in (held self.now) need (words_of bytes.now tokens.now)) }
+        ensures { IfOk result
+            (λ r. option_map items_of r ≡ numbers_in (held self.now) need (words_of bytes.now tokens.now)) }
     {
         let mut numbers = Vec::with_capacity(alloc, tokens.len())?;
         for token in tokens {
@@ -96,7 +99,8 @@ impl<'a> Scopes<'a> {
         labels: &[MmToken],
         symbols: &[MmToken],
     ) -> Result<Hyp<'a>, Refusal>
-        ensures { Judges hypothesis_held result (floating_in (held self.now) (words_of bytes.now labels.now) (words_of bytes.now symbols.now)) }
+        ensures { Judges hypothesis_held result
+            (floating_in (held self.now) (words_of bytes.now labels.now) (words_of bytes.now symbols.now)) }
     {
         if !self.are_active(bytes, symbols) {
             return Err(Refusal::Fault(6));
@@ -127,7 +131,8 @@ impl<'a> Scopes<'a> {
         labels: &[MmToken],
         symbols: &[MmToken],
     ) -> Result<Stated<'a>, Refusal>
-        ensures { Judges stated_held result (stated_in (held self.now) (words_of bytes.now labels.now) (words_of bytes.now symbols.now)) }
+        ensures { Judges stated_held result
+            (stated_in (held self.now) (words_of bytes.now labels.now) (words_of bytes.now symbols.now)) }
     {
         let statement = match self.numbers(alloc, Need::Typed, bytes, symbols) {
             Err(_) => return Err(Refusal::Memory),
@@ -151,7 +156,8 @@ impl<'a> Scopes<'a> {
         labels: &[MmToken],
         symbols: &[MmToken],
     ) -> Result<Vec<u32>, Refusal>
-        ensures { Judges items_of result (disjoint_in (held self.now) (words_of bytes.now labels.now) (words_of bytes.now symbols.now)) }
+        ensures { Judges items_of result
+            (disjoint_in (held self.now) (words_of bytes.now labels.now) (words_of bytes.now symbols.now)) }
     {
         let variables = match self.numbers(alloc, Need::Variable, bytes, symbols) {
             Err(_) => return Err(Refusal::Memory),
@@ -216,7 +222,8 @@ impl<'a> Scopes<'a> {
         labels: &[MmToken],
         symbols: &[MmToken],
     ) -> Result<Option<u8>, AllocError>
-        ensures { IfOk result (λ r. r ≡ constants_fault (held self.now) (words_of bytes.now labels.now) (words_of bytes.now symbols.now)) }
+        ensures { IfOk result (λ r. r
+            ≡ constants_fault (held self.now) (words_of bytes.now labels.now) (words_of bytes.now symbols.now)) }
     {
         if !self.blocks.is_empty() {
             return Ok(Some(4));
@@ -236,7 +243,8 @@ impl<'a> Scopes<'a> {
         labels: &[MmToken],
         symbols: &[MmToken],
     ) -> Result<Option<u8>, AllocError>
-        ensures { IfOk result (λ r. r ≡ variables_fault (held self.now) (words_of bytes.now labels.now) (words_of bytes.now symbols.now)) }
+        ensures { IfOk result (λ r. r
+            ≡ variables_fault (held self.now) (words_of bytes.now labels.now) (words_of bytes.now symbols.now)) }
     {
         let repeated = has_repeated(alloc, bytes, symbols)?;
         if self.redeclare_variables(bytes, symbols) || repeated {

@@ -1,9 +1,11 @@
 // The frame of an assertion.
 
-ghost use Rattle.std.specs.Prelude.{◌≡◌, ℕ, ◌||◌, ◌&&◌, IfOk, filter, flat_map, slice_get, if◌then◌else◌, ◌++◌, ◌∷◌, []};
+ghost use Rattle.std.specs.Prelude.{◌≡◌, ℕ, ◌||◌, ◌&&◌, IfOk, filter, flat_map, slice_get, if◌then◌else◌};
+ghost use Rattle.std.specs.Prelude.{◌++◌, ◌∷◌, []};
 ghost use Rattle.std.specs.List.Sorted.{IsStrictlyIncreasing};
 ghost use Rattle.mm_frame.specs.Held.{held};
-ghost use Rattle.mm_frame.specs.FramesHeld.{has_number, in_group, in_groups, items_of, groups_of, hypothesis_held, hypotheses_held, frame_held};
+ghost use Rattle.mm_frame.specs.FramesHeld.{has_number, in_group, in_groups, items_of, groups_of};
+ghost use Rattle.mm_frame.specs.FramesHeld.{hypothesis_held, hypotheses_held, frame_held};
 ghost use Rattle.mm_frame.specs.HeldFaults.{stated_held};
 ghost use Rattle.mm_frame.specs.HeldFrames.{IsHeldFrame};
 ghost use Rattle.mm_frame.specs.NeededNumbers.{is_needed_number, is_mandatory_number};
@@ -22,7 +24,8 @@ use std::rc::Rc;
 impl<'a> Scopes<'a> {
     /// The frame of an assertion with this label and these symbols.
     pub(crate) fn frame(&self, alloc: Global, stated: Stated<'a>) -> Result<Frame<'a>, AllocError>
-        ensures { IfOk result (λ f. ArePlaced (held self.now) → IsHeldFrame (held self.now) (stated_held stated.entry) (frame_held f)) }
+        ensures { IfOk result (λ f. ArePlaced (held self.now)
+            → IsHeldFrame (held self.now) (stated_held stated.entry) (frame_held f)) }
     {
         let mandatory = match self.shared_for(&stated.statement) {
             Some(shared) => shared.clone()?,
@@ -55,7 +58,8 @@ impl<'a> Scopes<'a> {
     /// The symbols of a statement and of the active `$e`, ascending and each once.
     pub(crate) fn needed(&self, alloc: Global, statement: &[u32]) -> Result<Vec<u32>, AllocError>
         ensures ascending { IfOk result (λ v. IsStrictlyIncreasing v.items) }
-        ensures symbols { IfOk result (λ v. (n : ℕ) → has_number v.items n ≡ is_needed_number (held self.now).hypotheses statement.now n) }
+        ensures symbols { IfOk result (λ v. (n : ℕ) → has_number v.items n
+            ≡ is_needed_number (held self.now).hypotheses statement.now n) }
     {
         let mut symbols = self.stated_symbols(alloc, statement)?;
         symbols.sort_unstable();
@@ -65,7 +69,9 @@ impl<'a> Scopes<'a> {
 
     /// The symbols of a statement, and those of the active `$e` after them.
     fn stated_symbols(&self, alloc: Global, statement: &[u32]) -> Result<Vec<u32>, AllocError>
-        ensures { IfOk result (λ v. v.items ≡ statement.now ++ flat_map (λ i. premise_at (slice_get (held self.now).hypotheses i)) (places_of is_essential (held self.now).hypotheses)) }
+        ensures { IfOk result (λ v. v.items
+            ≡ statement.now ++ flat_map (λ i. premise_at (slice_get (held self.now).hypotheses i))
+            (places_of is_essential (held self.now).hypotheses)) }
     {
         let mut symbols = Vec::from_slice(alloc, statement)?;
         for place in self.hyps.essentials() {
@@ -78,7 +84,9 @@ impl<'a> Scopes<'a> {
 
     /// The active `$e`, and the active `$f` of these variables.
     fn mandatory(&self, alloc: Global, needed: &[u32]) -> Result<Vec<Hyp<'a>>, AllocError>
-        ensures { IfOk result (λ v. ArePlaced (held self.now) → hypotheses_held v.items ≡ filter (is_mandatory_number (has_number needed.now)) (held self.now).hypotheses) }
+        ensures { IfOk result (λ v. ArePlaced (held self.now)
+            → hypotheses_held v.items
+            ≡ filter (is_mandatory_number (has_number needed.now)) (held self.now).hypotheses) }
     {
         let places = self.places(alloc, needed)?;
         self.copies(alloc, &places)
@@ -88,7 +96,9 @@ impl<'a> Scopes<'a> {
     /// once.
     fn places(&self, alloc: Global, needed: &[u32]) -> Result<Vec<usize>, AllocError>
         ensures ascending { IfOk result (λ v. IsStrictlyIncreasing v.items) }
-        ensures places { IfOk result (λ v. (i : ℕ) → has_number v.items i ≡ (has_number (places_of is_essential (held self.now).hypotheses) i || has_number (typed_places (held self.now) needed.now) i)) }
+        ensures places { IfOk result (λ v. (i : ℕ) → has_number v.items i
+            ≡ (has_number (places_of is_essential (held self.now).hypotheses) i
+            || has_number (typed_places (held self.now) needed.now) i)) }
     {
         let mut places = Vec::from_slice(alloc, self.hyps.essentials())?;
         for n in needed {
@@ -111,7 +121,8 @@ impl<'a> Scopes<'a> {
 
     /// The hypotheses at places.
     fn copies(&self, alloc: Global, places: &[usize]) -> Result<Vec<Hyp<'a>>, AllocError>
-        ensures { IfOk result (λ v. hypotheses_held v.items ≡ flat_map (λ i. found_at (slice_get (held self.now).hypotheses i)) places.now) }
+        ensures { IfOk result (λ v. hypotheses_held v.items
+            ≡ flat_map (λ i. found_at (slice_get (held self.now).hypotheses i)) places.now) }
     {
         let mut hyps = Vec::with_capacity(alloc, places.len())?;
         for place in places {

@@ -1,9 +1,9 @@
 // What scopes answer.
 
-ghost use Rattle.std.specs.Prelude.{◌≡◌, ℕ, option_map, slice_get, slice_index, option_and_then, map, []};
+ghost use Rattle.std.specs.Prelude.{◌≡◌, ℕ, true, option_map, slice_get, slice_index, option_and_then, map, []};
 ghost use Rattle.mm_frame.specs.Held.{held, named};
 ghost use Rattle.mm_frame.specs.CitedView.{cited_hypothesis, cited_assertion};
-ghost use Rattle.mm_frame.specs.FramesHeld.{frames_held, in_groups, hypothesis_held, frame_held};
+ghost use Rattle.mm_frame.specs.FramesHeld.{frames_held, in_group, in_groups, hypothesis_held, frame_held};
 ghost use Rattle.mm_database.specs.Database.{Context, empty_context};
 ghost use Rattle.mm_frame.specs.Standing.{Stands, Tells, FrameFound};
 ghost use Rattle.mm_database.specs.Validity.{first_open};
@@ -212,6 +212,15 @@ impl<'a> Scopes<'a> {
         ensures tells { Tells (held self.now) (λ c name. result ≡ c.scope.apart (name a) (name b)) }
     {
         self.are_grouped(a, b)
+    }
+
+    /// Whether an active `$d` is found that has all these symbols: then each two of them that differ are a
+    /// pair of it. Takes no memory, and no more than a search for each two symbols.
+    pub fn are_together(&self, symbols: &[u32]) -> bool
+        ensures { result ≡ true → (a b : ℕ) → in_group a b symbols.now ≡ true
+            → in_groups (held self.now).disjoint a b ≡ true }
+    {
+        self.disjoint.are_together(symbols)
     }
 
     fn are_grouped(&self, a: u32, b: u32) -> bool

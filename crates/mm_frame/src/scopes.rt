@@ -61,7 +61,8 @@ pub struct Scopes<'a> {
     pub(crate) frames: Vec<Frame<'a>>,
     pub(crate) shared: Option<Shared<'a>>,
     pub(crate) is_stated: bool,
-    ghost shared_is: { IfSome shared (IsShared types.items (hypotheses_in hyps) (groups_in disjoint)) } by { Prim.hlevel props },
+    ghost shared_is: { IfSome shared
+        (IsShared types.items (hypotheses_in hyps) (groups_in disjoint)) } by { Prim.hlevel props },
 }
 
 /// What a symbol has to be.

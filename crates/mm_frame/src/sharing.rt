@@ -1,16 +1,18 @@
 // What assertions of one place ask for in common.
 
-ghost use Rattle.std.specs.Prelude.{◌≡◌, IfSome};
+ghost use Rattle.std.specs.Prelude.{◌≡◌, ◌≤◌, true, length, IfSome, IfOk};
 ghost use Rattle.std.specs.List.{list_all};
 ghost use Rattle.std.specs.List.Sorted.{IsStrictlyIncreasing};
 ghost use Rattle.mm_frame.specs.Held.{held};
 ghost use Rattle.mm_frame.specs.HeldPlaces.{ArePlaced};
-ghost use Rattle.mm_frame.specs.Sharing.{IsMandatory};
+ghost use Rattle.mm_frame.specs.FramesHeld.{hypothesis_held};
+ghost use Rattle.mm_frame.specs.Sharing.{IsMandatory, Spares, SparesPairs};
 ghost use Rattle.mm_frame.specs.HeldTests.{is_covered};
 
-use crate::disjoint::is_among;
+use crate::disjoint::{is_among, kept_numbers};
+use crate::frames::Hyp;
 use crate::labels::Mandatory;
-use crate::scopes::Scopes;
+use crate::scopes::{OpenBlock, Scopes};
 use std::alloc::{AllocError, Global};
 use std::rc::Rc;
 
@@ -54,6 +56,46 @@ impl<'a> Scopes<'a> {
         ensures { result ≡ is_covered (held self.now) symbols.now n }
     {
         is_among(symbols, n) || !self.has_type(n) && self.disjoint.is_free(n)
+    }
+
+    /// Whether what assertions share, if it is made, stays the same with one more hypothesis: it does with
+    /// the `$f` of a variable that no active `$e` has.
+    pub(crate) fn spares(&self, hyp: &Hyp<'a>) -> bool
+        ensures { result ≡ true → IfSome self.now.shared (Spares (hypothesis_held hyp.now)) }
+    {
+        match hyp {
+            Hyp::Essential(_, _) => false,
+            Hyp::Floating(_, _, variable) => match &self.shared {
+                None => true,
+                Some(shared) => !is_among(&shared.symbols, *variable),
+            },
+        }
+    }
+
+    /// Whether what assertions share, if it is made, stays the same with one more `$d`: it does where the
+    /// active `$e` have fewer than two of its variables.
+    pub(crate) fn spares_pairs(&self, alloc: Global, group: &[u32]) -> Result<bool, AllocError>
+        ensures { IfOk result (λ r. r ≡ true → IfSome self.now.shared (SparesPairs group.now)) }
+    {
+        match &self.shared {
+            None => Ok(true),
+            Some(shared) => {
+                let kept = kept_numbers(alloc, &shared.symbols, group)?;
+                Ok(kept.len() < 2)
+            }
+        }
+    }
+
+    /// Whether what assertions share stays the same when a block ends: it does where the block declared no
+    /// hypotheses and no `$d`.
+    pub(crate) fn spares_end(&self, block: &OpenBlock) -> bool
+        ensures hyps { result ≡ true → length (held self.now).hypotheses ≤ block.now.hyps }
+        ensures groups { result ≡ true → length (held self.now).disjoint ≤ block.now.disjoint }
+    {
+        if self.hyps.len() > block.hyps {
+            return false;
+        }
+        self.disjoint.len() <= block.disjoint
     }
 
     /// Makes what assertions may share, where the active `$e` are long, it is not made yet, and an

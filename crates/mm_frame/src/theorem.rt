@@ -37,7 +37,8 @@ impl<'a> Scopes<'a> {
         bytes: &'a [u8],
         tokens: &'t [MmToken],
     ) -> Result<Option<Theorem<'a, 't>>, FrameEnd>
-        ensures { (c : Context) → Stands (held self.now) c → Proposes bytes.now (held self.now) c (statement_of bytes.now tokens.now) result }
+        ensures { (c : Context) → Stands (held self.now) c
+            → Proposes bytes.now (held self.now) c (statement_of bytes.now tokens.now) result }
     {
         let Some(form) = read_form(bytes, tokens) else {
             return Ok(None);
@@ -64,7 +65,9 @@ impl<'a> Scopes<'a> {
     /// Adds a theorem as it was proposed. After running out of memory the scopes may have a part of it, and are
     /// to be let go.
     pub fn add_theorem(&mut self, alloc: Global, theorem: Theorem<'a, '_>) -> Result<(), AllocError>
-        ensures stands { IfOk result (λ _. (bytes : List ℕ) (c : Context) (s : Statement) → Stands (held self.old) c → IsProposed bytes (held self.old) c s theorem.entry → Stands (held self.new) (context_after c s)) }
+        ensures stands { IfOk result (λ _. (bytes : List ℕ) (c : Context) (s : Statement)
+            → Stands (held self.old) c → IsProposed bytes (held self.old) c s theorem.entry
+            → Stands (held self.new) (context_after c s)) }
         ensures frames { IfOk result (λ _. KeepsFrames (held self.old) (held self.new)) }
     {
         match self.add_assertion(alloc, theorem.frame) {

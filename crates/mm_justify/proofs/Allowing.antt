@@ -90,7 +90,7 @@ theorem_behind theory names old new s vs text appended gains fits only =
     has_only_just theory text appended old.count vs (open_assertion true (take old.named names) old.count s) only (λ never. absurd (false≢true (sym never)), tt) (gains.just text fits)
 
 -- what was appended to a buffer
-same_appended : (buffer xs ys : List ℕ) → buffer ++ xs ≡ buffer ++ ys → xs ≡ ys
+pub same_appended : (buffer xs ys : List ℕ) → buffer ++ xs ≡ buffer ++ ys → xs ≡ ys
 same_appended buffer xs ys same = sym (drop-append_seam buffer xs) ∙ ap (drop (length buffer)) same ∙ drop-append_seam buffer ys
 
 pub theorem_has_only : TheoremHasOnly

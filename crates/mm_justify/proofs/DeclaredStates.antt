@@ -1,6 +1,8 @@
 -- What declarations state: that each name is of its type, and nothing else.
 use Rattle.std.proofs.Common.{◌≡◌, ℕ, ◌+◌, ◌<◌, ◌^◌, Bool, true, false, List, [], ◌∷◌, ◌++◌, length, take, drop, refl, ap, ◌∙◌, sym, subst, arith, append_assoc, length-append, Option, Some}
+use Rattle.std.specs.Prelude.{◌≤◌, count_by, suc}
 use Rattle.std.proofs.lemmas.Bool.{false≢true}
+use Rattle.std.proofs.Math.Nat.{zero-add}
 use Rattle.mm_text.specs.Bytes.{Token}
 use Rattle.mm_text.specs.Statements.{Statements, next_statement, statement, statements_from}
 use Rattle.mm_text.proofs.Writing.{written_statement}
@@ -19,13 +21,16 @@ use Rattle.mm_claims.specs.Statements.{typecode_of, all_name_statements}
 use Rattle.mm_claims.specs.Fitting.{AreNames, name_frame, Holds}
 use Rattle.mm_claims.specs.Blocks.{Claim}
 use Rattle.mm_claims.specs.Claiming.{FitsClaims}
-use Rattle.mm_claims.specs.Kept.{all_stated}
-use Rattle.mm_claims.specs.Keeping.{FitsWhen}
+use Rattle.mm_claims.specs.Kept.{Kept, all_stated}
+use Rattle.mm_claims.specs.Keeping.{Fits, FitsWhen}
 use Rattle.mm_justify.specs.Justifying.{declaration, AreAllowed, HasOnlyAxiomsOf}
 use Rattle.mm_justify.specs.JustifyingLaws.{DeclaredHasOnly}
+use Rattle.mm_justify.specs.Counting.{is_fact}
+use Rattle.mm_justify.specs.CountingLaws.{DeclaredCounts}
 use Rattle.mm_claims.proofs.NameLaws.{NameFacts, name_facts, name_label-clean}
 use Rattle.mm_claims.proofs.FittingLaws.{with_constant, with_name, IsNew, name_holds, behind_names, adds_names, none_has, AreNames-front, AreNames-next, take-drop, length-front, clean_one, clean_two}
 use Rattle.mm_justify.proofs.Allowing.{has_only_more}
+use Rattle.mm_justify.proofs.CountedTexts.{count_first, counts_more}
 use Rattle.mm_text.specs.Written.{written}
 use Rattle.mm_database.specs.StatementTexts.{plain_tokens, written_statements}
 
@@ -96,24 +101,57 @@ names_allowed : (theory : RewriteTheory) (i : ℕ) (ts : List Token) → AreOwnT
 names_allowed theory i [] own = tt
 names_allowed theory i (t ∷ ts) own = (λ is. declaration t own.0 (record { statement = refl; premises = refl; types = λ v. refl; apart = λ x y h. h }), names_allowed theory (i + 1) ts own.1)
 
+-- a text has gained the declarations of these names
+abbrev GainsNames : List ℕ → List ℕ → ℕ → List Token → Type 0
+GainsNames old new i ts = (assertions_of new ≡ assertions_of old ++ name_assertions i ts) × (typings_of new ≡ typings_of old ++ [])
+
 -- after a text
-pub declared_behind : (theory : RewriteTheory) (done more : List Token) (claims : List Claim) (bytes : List ℕ) → FitsClaims done claims bytes → AreNames (done ++ more) → AreDistinct (done ++ more) → length (done ++ more) < 2 ^ 64
-    → AreOwnTokens theory.sig more → HasOnlyAxiomsOf theory bytes → HasOnlyAxiomsOf theory (bytes ++ written_statements (all_name_statements (length done) more))
-declared_behind theory done more claims bytes (c, leaves, w) names distinct few own only =
+gained_behind : (done more : List Token) (claims : List Claim) (bytes : List ℕ) → FitsClaims done claims bytes → AreNames (done ++ more) → AreDistinct (done ++ more) → length (done ++ more) < 2 ^ 64
+    → GainsNames bytes (bytes ++ written_statements (all_name_statements (length done) more)) (length done) more
+gained_behind done more claims bytes (c, leaves, w) names distinct few =
     let appended : List ℕ = written_statements (all_name_statements (length done) more) in
     let gains : (assertions_of (bytes ++ appended) ≡ assertions_of bytes ++ assertions_in c (statements_from (length bytes) appended)) × (typings_of (bytes ++ appended) ≡ typings_of bytes ++ typings_in (statements_from (length bytes) appended)) =
     appended_states bytes appended c leaves.white leaves.fine in
-    let states : StatesJust c (statements_from (length bytes) appended) (name_assertions (length done) more) = declared_states done more c (length bytes) w.base leaves.closed names distinct few in
-    has_only_more theory bytes appended (name_assertions (length done) more) [] only (names_allowed theory (length done) more own) tt
-    (gains.0 ∙ ap (λ (others : List Assertion). assertions_of bytes ++ others) states.0)
-    (gains.1 ∙ ap (λ (hs : List Hypothesis). typings_of bytes ++ hs) states.1)
+    let states : StatesJust c (statements_from (length bytes) appended) (name_assertions (length done) more) = declared_states done more c (length bytes) w.base leaves.closed names distinct few in (
+      gains.0 ∙ ap (λ (others : List Assertion). assertions_of bytes ++ others) states.0,
+      gains.1 ∙ ap (λ (hs : List Hypothesis). typings_of bytes ++ hs) states.1,
+    )
 
-pub declared_has_only : DeclaredHasOnly
-declared_has_only theory names k bytes each distinct few begun within own fits only = go k.begun begun fits
+pub declared_behind : (theory : RewriteTheory) (done more : List Token) (claims : List Claim) (bytes : List ℕ) → FitsClaims done claims bytes → AreNames (done ++ more) → AreDistinct (done ++ more) → length (done ++ more) < 2 ^ 64
+    → AreOwnTokens theory.sig more → HasOnlyAxiomsOf theory bytes → HasOnlyAxiomsOf theory (bytes ++ written_statements (all_name_statements (length done) more))
+declared_behind theory done more claims bytes fits names distinct few own only =
+    let gains = gained_behind done more claims bytes fits names distinct few in
+    has_only_more theory bytes (written_statements (all_name_statements (length done) more)) (name_assertions (length done) more) [] only (names_allowed theory (length done) more own) tt gains.0 gains.1
+
+declared_gains : (names : List Token) (k : Kept) (bytes : List ℕ) → AreNames names → AreDistinct names → length names < 2 ^ 64 → k.begun ≡ true → k.named ≤ length names → Fits names k bytes
+    → GainsNames bytes (bytes ++ written_statements (all_name_statements k.named (drop k.named names))) k.named (drop k.named names)
+declared_gains names k bytes each distinct few begun within fits = go k.begun begun fits
   where
-    go : (b : Bool) → b ≡ true → FitsWhen b (take k.named names) k.count (all_stated k) bytes → HasOnlyAxiomsOf theory (bytes ++ written_statements (all_name_statements k.named (drop k.named names)))
+    go : (b : Bool) → b ≡ true → FitsWhen b (take k.named names) k.count (all_stated k) bytes → GainsNames bytes (bytes ++ written_statements (all_name_statements k.named (drop k.named names))) k.named (drop k.named names)
     go false never fit = absurd (false≢true never)
     go true is fit =
         let whole : take k.named names ++ drop k.named names ≡ names = take-drop k.named names in
-        subst (λ (n : ℕ). HasOnlyAxiomsOf theory (bytes ++ written_statements (all_name_statements n (drop k.named names)))) (length-front k.named names within)
-        (declared_behind theory (take k.named names) (drop k.named names) fit.claims bytes fit.fits (subst AreNames (sym whole) each) (subst AreDistinct (sym whole) distinct) (subst (λ (ts : List Token). length ts < 2 ^ 64) (sym whole) few) own only)
+        subst (λ (n : ℕ). GainsNames bytes (bytes ++ written_statements (all_name_statements n (drop k.named names))) n (drop k.named names)) (length-front k.named names within)
+        (gained_behind (take k.named names) (drop k.named names) fit.claims bytes fit.fits (subst AreNames (sym whole) each) (subst AreDistinct (sym whole) distinct) (subst (λ (ts : List Token). length ts < 2 ^ 64) (sym whole) few))
+
+pub declared_has_only : DeclaredHasOnly
+declared_has_only theory names k bytes each distinct few begun within own fits only =
+    let gains = declared_gains names k bytes each distinct few begun within fits in
+    has_only_more theory bytes (written_statements (all_name_statements k.named (drop k.named names))) (name_assertions k.named (drop k.named names)) [] only (names_allowed theory k.named (drop k.named names) own) tt
+    gains.0 gains.1
+
+-- ---- how many they are
+
+names_length : (i : ℕ) (ts : List Token) → length (name_assertions i ts) ≡ length ts
+names_length i [] = refl
+names_length i (t ∷ ts) = ap suc (names_length (i + 1) ts)
+
+names_no_facts : (i : ℕ) (ts : List Token) → count_by is_fact (name_assertions i ts) ≡ 0
+names_no_facts i [] = refl
+names_no_facts i (t ∷ ts) = count_first is_fact (name_assertion i t) (name_assertions (i + 1) ts) ∙ zero-add (count_by is_fact (name_assertions (i + 1) ts)) ∙ names_no_facts (i + 1) ts
+
+pub declared_counts : DeclaredCounts
+declared_counts names k bytes each distinct few begun within fits =
+    let more : List Token = drop k.named names in
+    let gains = declared_gains names k bytes each distinct few begun within fits in
+    counts_more bytes (bytes ++ written_statements (all_name_statements k.named more)) (name_assertions k.named more) 0 (length more) gains.0 (names_no_facts k.named more) (names_length k.named more)

@@ -1,6 +1,6 @@
 -- What the header states: each of its axioms is a row, and each typing one of its variables.
 use Rattle.std.proofs.Common.{◌≡◌, ℕ, ◌<◌, false, List, [], ◌∷◌, map, length, suc, refl, sym, ap, ◌∙◌, subst, arith}
-use Rattle.std.specs.Prelude.{Option, Some, slice_index_or}
+use Rattle.std.specs.Prelude.{Option, Some, slice_index_or, count_by}
 use Rattle.std.proofs.lemmas.List.{get_or-map}
 use Rattle.std.proofs.lemmas.List.Elements.{All-contains_itself}
 use Rattle.mm_database.specs.Frames.{Frame}
@@ -13,6 +13,8 @@ use Rattle.mm_header.proofs.HeaderFrames.{header_frames}
 use Rattle.rule_core.specs.Theories.{RewriteTheory}
 use Rattle.mm_justify.specs.Justifying.{SaysNoMore, IsAxiomOf, header_row, AreAllowed, AreTypings}
 use Rattle.mm_justify.specs.JustifyingLaws.{HeaderHasOnly}
+use Rattle.mm_justify.specs.Counting.{is_fact, capped}
+use Rattle.mm_justify.specs.CountingLaws.{HeaderCounts}
 
 -- the `$a` of a row
 abbrev row_assertion : Row → Assertion
@@ -61,4 +63,20 @@ pub header_has_only : HeaderHasOnly
 header_has_only theory = record {
   axioms = subst (AreAllowed theory) (sym header_assertions) (header_allowed theory);
   types = subst AreTypings (sym header_typings) header_typed;
+}
+
+-- ---- how many they are
+
+no_facts : count_by is_fact (map row_assertion header_rows) ≡ 0
+unfolding header_rows
+no_facts = refl
+
+all_statements : length (map row_assertion header_rows) ≡ 88
+unfolding header_rows
+all_statements = refl
+
+pub header_counts : HeaderCounts
+header_counts = record {
+  facts_are = sym (ap (λ (stated : List Assertion). capped (count_by is_fact stated)) header_assertions ∙ ap capped no_facts);
+  statements_are = sym (ap (λ (stated : List Assertion). capped (length stated)) header_assertions ∙ ap capped all_statements);
 }

@@ -81,7 +81,7 @@ constant_leaves f None each p h = absurd (none_some p h)
 constant_leaves f (Some n) each p h = subst (EachLeaf f) (some_same (constant n) p h) (each n refl)
 
 -- of two patterns, where a connective keeps the facts
-two_leaves : (f : LeafFacts) (k : Pattern → Pattern → Pattern) → ((x y : Pattern) → EachLeaf f x → EachLeaf f y → EachLeaf f (k x y)) → (a b : Option Pattern) → Each f a → Each f b → Each f (both k a b)
+pub two_leaves : (f : LeafFacts) (k : Pattern → Pattern → Pattern) → ((x y : Pattern) → EachLeaf f x → EachLeaf f y → EachLeaf f (k x y)) → (a b : Option Pattern) → Each f a → Each f b → Each f (both k a b)
 two_leaves f k keeps None b ka kb p h = absurd (none_some p h)
 two_leaves f k keeps (Some x) None ka kb p h = absurd (none_some p h)
 two_leaves f k keeps (Some x) (Some y) ka kb p h = subst (EachLeaf f) (some_same (k x y) p h) (keeps x y (ka x refl) (kb y refl))
@@ -90,7 +90,7 @@ one_leaves : (f : LeafFacts) (k : Pattern → Pattern) → ((x : Pattern) → Ea
 one_leaves f k keeps None ka p h = absurd (none_some p h)
 one_leaves f k keeps (Some x) ka p h = subst (EachLeaf f) (some_same (k x) p h) (keeps x (ka x refl))
 
-sorted_leaves : (f : LeafFacts) (k : Pattern → ℕ → Pattern) → ((x : Pattern) (n : ℕ) → EachLeaf f x → f.sort n → EachLeaf f (k x n)) → (a : Option Pattern) (s : Option ℕ) → Each f a → EachSort f s → Each f (both k a s)
+pub sorted_leaves : (f : LeafFacts) (k : Pattern → ℕ → Pattern) → ((x : Pattern) (n : ℕ) → EachLeaf f x → f.sort n → EachLeaf f (k x n)) → (a : Option Pattern) (s : Option ℕ) → Each f a → EachSort f s → Each f (both k a s)
 sorted_leaves f k keeps None s ka ks p h = absurd (none_some p h)
 sorted_leaves f k keeps (Some x) None ka ks p h = absurd (none_some p h)
 sorted_leaves f k keeps (Some x) (Some n) ka ks p h = subst (EachLeaf f) (some_same (k x n) p h) (keeps x n (ka x refl) (ks n refl))
@@ -100,7 +100,7 @@ bound_leaves f k keeps None a ks ka p h = absurd (none_some p h)
 bound_leaves f k keeps (Some n) None ks ka p h = absurd (none_some p h)
 bound_leaves f k keeps (Some n) (Some x) ks ka p h = subst (EachLeaf f) (some_same (k n x) p h) (keeps n x (ks n refl) (ka x refl))
 
-sort_fact : (sig : Signature) (names : List Token) (f : LeafFacts) → Known names f → (s : ℕ) → EachSort f (sort_image sig names s)
+pub sort_fact : (sig : Signature) (names : List Token) (f : LeafFacts) → Known names f → (s : ℕ) → EachSort f (sort_image sig names s)
 sort_fact sig names f known s n h = known.sorts n (sort_leaf sig names s n h)
 
 symbol_leaves : (sig : Signature) (names : List Token) (f : LeafFacts) → Known names f → (g : ℕ) → Each f (symbol_image sig names g)
@@ -116,7 +116,7 @@ some_leaves sig names f known (Some g) p h = symbol_leaves sig names f known g p
 
 -- the image of a pattern whose variables have their fact
 mutual
-  term_leaves : (sig : Signature) (names : List Token) (f : LeafFacts) → Known names f → (a : RulePattern) → ((x : ℕ) → StandsIn x a → f.object x) → Each f (image_of sig names a)
+  pub term_leaves : (sig : Signature) (names : List Token) (f : LeafFacts) → Known names f → (a : RulePattern) → ((x : ℕ) → StandsIn x a → f.object x) → Each f (image_of sig names a)
   term_leaves sig names f known (variable x) objects p h = subst (EachLeaf f) (some_same (logic.var x) p h) (objects x refl)
   term_leaves sig names f known (domain_value s v) objects p h = constant_leaves f (numbered names (token_of_value sig s v)) (λ n k. known.constants n (value_leaf sig names s v n k)) p h
   term_leaves sig names f known (application g ps) objects p h = applied_leaves sig names f known ps (symbol_image sig names g) objects (symbol_leaves sig names f known g) p h

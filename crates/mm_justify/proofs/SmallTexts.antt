@@ -175,12 +175,12 @@ begins (b ∷ bytes) = go (b == 115)
 -- ---- what the program may assume
 
 -- what two things make is there where both are
-both_there : {A B C : Type 0} (f : A → B → C) (a : Option A) (b : Option B) (c : C) → both f a b ≡ Some c → (x : A) × (y : B) × (a ≡ Some x) × (b ≡ Some y) × (c ≡ f x y)
+pub both_there : {A B C : Type 0} (f : A → B → C) (a : Option A) (b : Option B) (c : C) → both f a b ≡ Some c → (x : A) × (y : B) × (a ≡ Some x) × (b ≡ Some y) × (c ≡ f x y)
 both_there f None b c is = absurd (none_some c is)
 both_there f (Some x) None c is = absurd (none_some c is)
 both_there f (Some x) (Some y) c is = (x, y, refl, refl, some_same c (f x y) (sym is))
 
-map_there : {A B : Type 0} (f : A → B) (a : Option A) (b : B) → option_map f a ≡ Some b → (x : A) × (a ≡ Some x) × (b ≡ f x)
+pub map_there : {A B : Type 0} (f : A → B) (a : Option A) (b : B) → option_map f a ≡ Some b → (x : A) × (a ≡ Some x) × (b ≡ f x)
 map_there f None b is = absurd (none_some b is)
 map_there f (Some x) b is = (x, refl, some_same b (f x) (sym is))
 

@@ -1,7 +1,9 @@
 -- Believed: what public clauses say, and believed definitions of other crates.
 pub mod Justifying
+pub mod Counting
 -- Laws: what follows from that. Each is a clause of a function that does nothing.
 pub mod JustifyingLaws
+pub mod CountingLaws
 pub mod JustifyingCases
 pub mod ImageCases
 pub mod ImageLaws

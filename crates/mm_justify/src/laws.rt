@@ -1,4 +1,6 @@
 // Laws on what justifies a run, and the definition tried on small texts and frames.
+ghost use Rattle.mm_justify.specs.CountingLaws.{AxiomCounts, DeclaredCounts, FactsAreTrue, HeaderCounts};
+ghost use Rattle.mm_justify.specs.CountingLaws.{TheoremCounts, TrueFactsAreFacts};
 ghost use Rattle.mm_justify.specs.ImageCases.{TriedImages};
 ghost use Rattle.mm_justify.specs.ImageLaws.{ImageIsClosed, SentenceHasNoMeta, SentenceIsOver};
 ghost use Rattle.mm_justify.specs.JustifyingCases.{ConclusionIsNoAxiom, SmallJustifies, TriedFrames};
@@ -34,4 +36,16 @@ pub fn image_laws()
     ensures over { SentenceIsOver }
     ensures metas { SentenceHasNoMeta }
     ensures closed { ImageIsClosed }
+{}
+
+/// What is counted of a text. A `$a` of a program is counted as a fact just where it has the frame of a true fact on
+/// built-ins. The header has 88 statements; declarations, images of what a program may assume, and theorems are one
+/// statement each.
+pub fn counting_laws()
+    ensures facts { FactsAreTrue }
+    ensures all_facts { TrueFactsAreFacts }
+    ensures header { HeaderCounts }
+    ensures declared { DeclaredCounts }
+    ensures axiomatic { AxiomCounts }
+    ensures theorem { TheoremCounts }
 {}

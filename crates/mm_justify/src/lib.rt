@@ -10,4 +10,4 @@
 
 mod laws;
 
-pub use laws::{image_laws, justifying_laws, tried};
+pub use laws::{counting_laws, image_laws, justifying_laws, tried};

@@ -17,7 +17,7 @@ pub(crate) fn three_names(alloc: Global) -> Result<Names, AllocError> {
 pub(crate) fn text_of(alloc: Global, work: Work<'_>) -> Result<Vec<u8>, AllocError> {
     let names = three_names(alloc)?;
     let mut text = Vec::new(alloc);
-    write_works(&mut text, &names, 7, &[work])?;
+    write_works(&mut text, &mut Vec::new(alloc), &names, 7, &[work])?;
     Ok(text)
 }
 

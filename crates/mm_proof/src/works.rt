@@ -35,18 +35,19 @@ pub enum Work<'a> {
 }
 
 /// Writes works one after the other, in the block of the statement with the number `serial`, in time linear in what is
-/// written.
+/// written. What stood in `labels` is let go; one list for many calls is given room once.
 pub fn write_works(
     to: &mut Vec<u8>,
+    labels: &mut Vec<Label>,
     names: &Names,
     serial: u64,
     works: &[Work<'_>],
 ) -> Result<(), AllocError>
     ensures { OnOk result (to.new.items ≡ to.old.items ++ written (all_tokens names.now serial works.now)) }
 {
-    let mut labels = Vec::new(*to.allocator());
-    list_works(&mut labels, works)?;
-    push_labels(to, names, serial, &labels)
+    labels.clear();
+    list_works(labels, works)?;
+    push_labels(to, names, serial, labels)
 }
 
 /// Puts the labels of works after others, in time linear in how many they are.

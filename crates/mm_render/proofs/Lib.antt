@@ -5,3 +5,4 @@ pub mod NeededLaws
 pub mod HeadTexts
 pub mod StackedVariables
 pub mod RenamedVariables
+pub mod StatedTheorems

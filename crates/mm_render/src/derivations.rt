@@ -34,18 +34,19 @@ pub(crate) enum Part<'a> {
     Derived(&'a Deriv),
 }
 
-/// Writes the proof by a derivation of the statement that stands there.
+/// Writes the proof by a derivation of the statement that stands there. What stood in `labels` is let go.
 pub(crate) fn write_derivation(
     to: &mut Vec<u8>,
+    labels: &mut Vec<Label>,
     at: &Standing<'_>,
     derivation: &Deriv,
 ) -> Result<(), AllocError>
     ensures { OnOk result
         (to.new.items ≡ to.old.items ++ written (proof_of at.now.serial (citing_at at.now) derivation.now)) }
 {
-    let mut labels = Vec::new(*to.allocator());
-    list_derivation(&mut labels, at, derivation)?;
-    push_labels(to, at.names, at.serial, &labels)
+    labels.clear();
+    list_derivation(labels, at, derivation)?;
+    push_labels(to, at.names, at.serial, labels)
 }
 
 /// Lists the labels of the proof by a derivation of the statement that stands there.

@@ -9,12 +9,13 @@ ghost use Rattle.mm_database.specs.StatementTexts.{written_statements};
 
 use crate::variables::Variable;
 use ml_pat::{MPat, Names};
-use mm_proof::{Word, Work, push_word, push_words, write_works};
+use mm_proof::{Label, Word, Work, push_word, push_words, write_works};
 use std::alloc::{AllocError, Global};
 
 /// Adds the head of the block with the number `serial`: its variables, which of them stay apart, and its hypotheses.
 pub(crate) fn push_head(
     to: &mut Vec<u8>,
+    labels: &mut Vec<Label>,
     names: &Names,
     serial: u64,
     variables: &[Variable],
@@ -24,7 +25,7 @@ pub(crate) fn push_head(
 {
     push_variables(to, names, serial, variables)?;
     push_separations(to, names, serial, variables)?;
-    push_premises(to, names, serial, hypotheses)
+    push_premises(to, labels, names, serial, hypotheses)
 }
 
 /// Adds the declarations of variables, each with its type.
@@ -189,6 +190,7 @@ fn push_separation(
 /// Adds hypotheses.
 fn push_premises(
     to: &mut Vec<u8>,
+    labels: &mut Vec<Label>,
     names: &Names,
     serial: u64,
     hypotheses: &[MPat],
@@ -196,7 +198,7 @@ fn push_premises(
     ensures { OnOk result (to.new.items ≡ to.old.items ++ written_statements (premise_statements names.now serial 0 hypotheses.now)) }
 {
     for no in 0..hypotheses.len() {
-        push_premise(to, names, serial, no as u64, &hypotheses[no])?;
+        push_premise(to, labels, names, serial, no as u64, &hypotheses[no])?;
     }
     Ok(())
 }
@@ -204,6 +206,7 @@ fn push_premises(
 /// Adds the hypothesis with the number `no`.
 fn push_premise(
     to: &mut Vec<u8>,
+    labels: &mut Vec<Label>,
     names: &Names,
     serial: u64,
     no: u64,
@@ -213,6 +216,7 @@ fn push_premise(
 {
     write_works(
         to,
+        labels,
         names,
         serial,
         &[

@@ -21,12 +21,13 @@ use crate::statements::{push_axiom, push_theorem};
 use ml_kernel::{AxiomNo, Theory, Thm};
 use ml_pat::Names;
 use mm_header::header_text;
-use mm_proof::{Word, push_words};
+use mm_proof::{Label, Word, push_words};
 use std::alloc::{AllocError, Global};
 use std::collections::BTreeMap;
 use std::marker::Model;
 
-/// What was written of a proof file. Contracts see it as what it keeps.
+/// What was written of a proof file. Contracts see it as what it keeps. Statements have numbers of 64 bits: a renderer
+/// that has stated so many answers as where memory runs out.
 #[derive(Drop)]
 pub struct Renderer {
     begun: bool,
@@ -38,6 +39,9 @@ pub struct Renderer {
     places: BTreeMap<Vec<u8>, u64>,
     // The last of a run.
     run: Option<Stated>,
+    // The labels of what is written. Each statement empties the list and keeps its room, so that a statement that is no
+    // longer than those before it takes no memory for its labels.
+    labels: Vec<Label>,
 }
 
 impl Model for Renderer {
@@ -67,10 +71,11 @@ impl Renderer {
             stated: Vec::new(alloc),
             places: BTreeMap::new(alloc),
             run: None,
+            labels: Vec::new(alloc),
         }
     }
 
-    /// Adds the header. Where memory runs out, nothing changes.
+    /// Adds the header. The error: out of memory; then nothing changes.
     pub fn begin(&mut self, to: &mut Vec<u8>) -> Result<(), AllocError>
         requires { self.old ≡ nothing_kept }
         ensures text { OnOk result (to.new.items ≡ to.old.items ++ header_bytes) }
@@ -84,8 +89,8 @@ impl Renderer {
         Ok(())
     }
 
-    /// Declares each name that is not declared yet: as a constant, and of its type by an axiom. Where memory is wanting,
-    /// nothing changes.
+    /// Declares each name that is not declared yet: as a constant, and of its type by an axiom. The error: out of
+    /// memory; then nothing changes.
     pub fn declare(&mut self, names: &Names, to: &mut Vec<u8>) -> Result<(), AllocError>
         requires { self.old.named ≤ length names.now }
         ensures text { OnOk result (to.new.items ≡ to.old.items ++ written_statements (all_name_statements self.old.named (drop self.old.named names.now))) }
@@ -104,8 +109,8 @@ impl Renderer {
     }
 
     /// States an axiom of a theory under the next label, in a block with its variables where it has any. Where it is over the names
-    /// that were declared, each text that fits fits with it appended, and has gained just this axiom. Where memory is
-    /// wanting, nothing changes.
+    /// that were declared, each text that fits fits with it appended, and has gained just this axiom. The error: out of
+    /// memory; then nothing changes.
     pub fn axiom(
         &mut self,
         names: &Names,
@@ -129,15 +134,14 @@ impl Renderer {
         let alloc = *to.allocator();
         let claim = claim_of(alloc, &[], theory.at(no))?;
         let mut text = Vec::new(alloc);
-        push_axiom(&mut text, names, self.written, &claim)?;
+        push_axiom(&mut text, &mut self.labels, names, self.written, &claim)?;
         self.keep(claim, &text, to)
     }
 
     /// States a theorem under the next label, with its proof, in a block with its hypotheses and with the variables
     /// that stand in it or in its proof where there are any. Where it is over the names that were declared, and its
     /// proof uses only these and cites only what is kept, each text that fits fits with it appended, and has gained
-    /// just this theorem. It is kept. The error: out of memory, or of labels after 2^64 of them; then nothing
-    /// changes.
+    /// just this theorem. It is kept. The error: out of memory; then nothing changes.
     pub fn lemma(&mut self, names: &Names, lemma: &Thm, to: &mut Vec<u8>) -> Result<(), AllocError>
         ensures states { OnOk result (StatesLemma names.now self.old self.new lemma.now to.old.items to.new.items) }
         ensures kept { OnOk result (self.new ≡ with_stated self.old (claim_of lemma.now.hypotheses lemma.now.conclusion)) }
@@ -177,14 +181,15 @@ impl Renderer {
 
     // Adds a theorem with its proof to a text; its claim is the answer.
     fn write_proof(
-        &self,
+        &mut self,
         names: &Names,
         theorem: &Thm,
         to: &mut Vec<u8>,
     ) -> Result<Claim, AllocError>
         ensures claim { IfOk result (λ claim. plain_claim claim ≡ claim_of theorem.now.hypotheses
             theorem.now.conclusion) }
-        ensures text { OnOk result (WritesProof names.now self.now theorem.now to.old.items to.new.items) }
+        ensures text { OnOk result (WritesProof names.now self.old theorem.now to.old.items to.new.items) }
+        ensures as_before { self.new ≡ self.old }
     {
         let alloc = *to.allocator();
         // Its contract tells that the theorem's derivation concludes what the theorem does.
@@ -200,7 +205,7 @@ impl Renderer {
             last: &self.run,
             premises: &premises,
         };
-        push_theorem(to, &at, &claim, theorem.derivation())?;
+        push_theorem(to, &mut self.labels, &at, &claim, theorem.derivation())?;
         Ok(claim)
     }
 

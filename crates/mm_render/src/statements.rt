@@ -19,12 +19,13 @@ use crate::places::Standing;
 use crate::variables::Variable;
 use ml_kernel::Deriv;
 use ml_pat::{MPat, Names};
-use mm_proof::{Word, Work, push_word, push_words, write_works};
+use mm_proof::{Label, Word, Work, push_word, push_words, write_works};
 use std::alloc::AllocError;
 
 /// Adds a claim as an axiom, under the label with this number.
 pub(crate) fn push_axiom(
     to: &mut Vec<u8>,
+    labels: &mut Vec<Label>,
     names: &Names,
     serial: u64,
     claim: &Claim,
@@ -32,17 +33,25 @@ pub(crate) fn push_axiom(
     ensures { OnOk result (to.new.items ≡ to.old.items ++ written_statements (axiom_statements names.now serial (plain_claim claim.now))) }
 {
     if !needs_block(&claim.variables, &claim.hypotheses) {
-        return push_plain_axiom(to, names, serial, &claim.conclusion);
+        return push_plain_axiom(to, labels, names, serial, &claim.conclusion);
     }
     push_word(to, names, serial, Word::Fixed("${"))?;
-    push_head(to, names, serial, &claim.variables, &claim.hypotheses)?;
-    push_plain_axiom(to, names, serial, &claim.conclusion)?;
+    push_head(
+        to,
+        labels,
+        names,
+        serial,
+        &claim.variables,
+        &claim.hypotheses,
+    )?;
+    push_plain_axiom(to, labels, names, serial, &claim.conclusion)?;
     push_word(to, names, serial, Word::Fixed("$}"))
 }
 
 /// Adds the `$a` of a pattern.
 fn push_plain_axiom(
     to: &mut Vec<u8>,
+    labels: &mut Vec<Label>,
     names: &Names,
     serial: u64,
     pattern: &MPat,
@@ -51,6 +60,7 @@ fn push_plain_axiom(
 {
     write_works(
         to,
+        labels,
         names,
         serial,
         &[
@@ -67,6 +77,7 @@ fn push_plain_axiom(
 /// fit in 64 bits.
 pub(crate) fn push_theorem(
     to: &mut Vec<u8>,
+    labels: &mut Vec<Label>,
     at: &Standing<'_>,
     claim: &Claim,
     derivation: &Deriv,
@@ -80,12 +91,12 @@ pub(crate) fn push_theorem(
 {
     let variables = needed_variables(*to.allocator(), at, &claim.variables, derivation)?;
     if !needs_block(&variables, &claim.hypotheses) {
-        push_statement_front(to, at.names, at.serial, &claim.conclusion)?;
-        write_derivation(to, at, derivation)?;
+        push_statement_front(to, labels, at.names, at.serial, &claim.conclusion)?;
+        write_derivation(to, labels, at, derivation)?;
         return push_word(to, at.names, at.serial, Word::Fixed("$."));
     }
-    push_theorem_front(to, at.names, at.serial, &variables, claim)?;
-    write_derivation(to, at, derivation)?;
+    push_theorem_front(to, labels, at.names, at.serial, &variables, claim)?;
+    write_derivation(to, labels, at, derivation)?;
     push_words(
         to,
         at.names,
@@ -97,6 +108,7 @@ pub(crate) fn push_theorem(
 /// Adds the front of a theorem's block, up to its proof: its head, its label and its conclusion.
 fn push_theorem_front(
     to: &mut Vec<u8>,
+    labels: &mut Vec<Label>,
     names: &Names,
     serial: u64,
     variables: &[Variable],
@@ -105,13 +117,14 @@ fn push_theorem_front(
     ensures { OnOk result (to.new.items ≡ to.old.items ++ theorem_front names.now serial (plain_variables variables.now) claim.now.hypotheses.items claim.now.conclusion) }
 {
     push_word(to, names, serial, Word::Fixed("${"))?;
-    push_head(to, names, serial, variables, &claim.hypotheses)?;
-    push_statement_front(to, names, serial, &claim.conclusion)
+    push_head(to, labels, names, serial, variables, &claim.hypotheses)?;
+    push_statement_front(to, labels, names, serial, &claim.conclusion)
 }
 
 /// Adds a theorem up to its proof: its label and its conclusion.
 fn push_statement_front(
     to: &mut Vec<u8>,
+    labels: &mut Vec<Label>,
     names: &Names,
     serial: u64,
     conclusion: &MPat,
@@ -120,6 +133,7 @@ fn push_statement_front(
 {
     write_works(
         to,
+        labels,
         names,
         serial,
         &[

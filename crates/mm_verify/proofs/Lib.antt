@@ -1,5 +1,6 @@
 mod Apartness
 mod Spreading
+mod Meeting
 mod Clashing
 mod Scattering
 mod Cuts

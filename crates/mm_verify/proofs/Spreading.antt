@@ -66,16 +66,16 @@ pairs-all f xs i all same = sym (ap (each_pair f) all) ∙ same
 
 -- numbers that pass
 
-eq-from : (a b : ℕ) → nat_eq a b ≡ true → a ≡ b
+pub eq-from : (a b : ℕ) → nat_eq a b ≡ true → a ≡ b
 eq-from a b h = grind (arith, h)
 
 eq-same : (a : ℕ) → nat_eq a a ≡ true
 eq-same a = grind arith
 
-or-left : (a b : Bool) → a ≡ true → (a || b) ≡ true
+pub or-left : (a b : Bool) → a ≡ true → (a || b) ≡ true
 or-left a b h = ap (λ (c : Bool). c || b) h
 
-or-right : (a b : Bool) → b ≡ true → (a || b) ≡ true
+pub or-right : (a b : Bool) → b ≡ true → (a || b) ≡ true
 or-right true b h = refl
 or-right false b h = h
 
@@ -87,7 +87,7 @@ all-at f (x ∷ xs) n h k = go (nat_eq x n) refl (all-at f xs n (both-true (f x)
     go true e others k = ap f (sym (eq-from x n e)) ∙ (both-true (f x) (list_all f xs) h).0
     go false e others k = others k
 
-all-from : (f : ℕ → Bool) (xs : List ℕ) → ((n : ℕ) → has_number xs n ≡ true → f n ≡ true) → list_all f xs ≡ true
+pub all-from : (f : ℕ → Bool) (xs : List ℕ) → ((n : ℕ) → has_number xs n ≡ true → f n ≡ true) → list_all f xs ≡ true
 all-from f [] h = refl
 all-from f (x ∷ xs) h =
     and-true (f x) (list_all f xs) (h x (or-left (nat_eq x x) (has_number xs x) (eq-same x)))
@@ -123,7 +123,7 @@ module _ (p : NumberedPlace) where
           go x y hx hy true vx false vy = ap (λ (b : Bool). not (b && p.is_variable y) || is_variable_apart p x y) vx ∙ ap (λ (b : Bool). not b || is_variable_apart p x y) vy
           go x y hx hy false vx b vy = ap (λ (b : Bool). not (b && p.is_variable y) || is_variable_apart p x y) vx
 
-  places-texts : (entries : List (List ℕ)) (a b : Option ℕ) → places_apart p entries a b ≡ texts_apart (numbers_apart p) (text_for entries a) (text_for entries b)
+  pub places-texts : (entries : List (List ℕ)) (a b : Option ℕ) → places_apart p entries a b ≡ texts_apart (numbers_apart p) (text_for entries a) (text_for entries b)
   places-texts entries None b = refl
   places-texts entries (Some a) None = sym (all-true (text_for entries (Some a)))
   places-texts entries (Some a) (Some b) = refl

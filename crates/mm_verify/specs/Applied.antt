@@ -11,7 +11,8 @@ bindings_in f entries = text_in nat_eq (bindings_of f.hypotheses entries)
 
 -- the entries are what the frame asks for
 abbrev pub is_met : NumberedPlace → NumberedFrame → List (List ℕ) → Bool
-is_met p f entries = all_agree (bindings_in f entries) f.hypotheses entries && keeps_apart (numbers_apart p) f (bindings_in f entries)
+is_met p f entries = all_agree (bindings_in f entries) f.hypotheses entries
+    && keeps_apart (numbers_apart p) f (bindings_in f entries)
 
 -- where there is a next state, it is reached, else nothing changes
 abbrev pub Answers : {S : Type 0} → Option S → S → S → Bool → Type 0

@@ -42,17 +42,21 @@ form_stated (Some (plain labels keyword symbols proof)) = keyword_stated keyword
 
 -- a statement without fault is after the checker, and else its fault is answered
 abbrev pub Checks : Context → Statement → Checker → Result Stated VerifyEnd → Type 0
-Checks c s new (Ok a) = (statement_fault c s.tokens ≡ None) × IsBehind new (context_after c s) × (a ≡ form_stated (form_of s.tokens))
+Checks c s new (Ok a) = (statement_fault c s.tokens ≡ None) × IsBehind new (context_after c s)
+    × (a ≡ form_stated (form_of s.tokens))
 Checks c s new (Err (Invalid f)) = (statement_fault c s.tokens ≡ Some f.kind) × (f.at ≡ s.at)
 Checks c s new (Err Memory) = Unit {0}
 
 -- the part of it on declarations
 abbrev pub Declares : Context → Statement → Checker → Result Added VerifyEnd → Type 0
-Declares c s new (Ok a) = (declaration_fault c (form_of s.tokens) ≡ None) × Stands (held new.scopes) (context_after c s) × HasFrames new × (option_map form_added (form_of s.tokens) ≡ Some a)
+Declares c s new (Ok a) = (declaration_fault c (form_of s.tokens) ≡ None)
+    × Stands (held new.scopes) (context_after c s) × HasFrames new
+    × (option_map form_added (form_of s.tokens) ≡ Some a)
 Declares c s new (Err (Invalid f)) = (declaration_fault c (form_of s.tokens) ≡ Some f.kind) × (f.at ≡ s.at)
 Declares c s new (Err Memory) = Unit {0}
 
 -- a theorem is after the checker, as what it was proposed to be
 abbrev pub Adds : Checker → Theorem → Checker → Type 0
 Adds old t new =
-    HasFrames new × ((bytes : List ℕ) (c : Context) (s : Statement) → Stands (held old.scopes) c → IsProposed bytes (held old.scopes) c s t → Stands (held new.scopes) (context_after c s))
+    HasFrames new × ((bytes : List ℕ) (c : Context) (s : Statement) → Stands (held old.scopes) c
+    → IsProposed bytes (held old.scopes) c s t → Stands (held new.scopes) (context_after c s))

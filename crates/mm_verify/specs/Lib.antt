@@ -8,6 +8,7 @@ pub mod AssertionView
 pub mod KeptView
 pub mod Filling
 pub mod Pairs
+pub mod Meeting
 pub mod Turned
 pub mod Applied
 pub mod Running

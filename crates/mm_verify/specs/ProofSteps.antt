@@ -1,5 +1,6 @@
 -- The steps that the text of a proof names, by what scopes hold.
-use Rattle.std.specs.Prelude.{ℕ, Bool, false, ◌||◌, if◌then◌else◌, List, [], ◌∷◌, ◌++◌, map, flat_map, Option, None, option_map, option_and_then, codes, bytes_eq}
+use Rattle.std.specs.Prelude.{ℕ, Bool, false, ◌||◌, if◌then◌else◌, List, [], ◌∷◌, ◌++◌, map, flat_map, Option}
+use Rattle.std.specs.Prelude.{None, option_map, option_and_then, codes, bytes_eq}
 use Rattle.mm_text.specs.Bytes.{Token, has_token}
 use Rattle.mm_database.specs.Frames.{label_of, statement_of}
 use Rattle.mm_database.specs.Steps.{Step, cites}
@@ -33,7 +34,8 @@ lettered hypotheses letters listed = lettered_steps (given_by hypotheses ++ list
 abbrev pub compressed_proof : Held → List NumberedHypothesis → List Token → Option (List (Step Citation))
 compressed_proof h hypotheses tokens =
     if has_token tokens (codes ")")
-    then option_and_then (lettered hypotheses (flat_map (λ t. t) (behind_close tokens))) (listed_citations h hypotheses (before_close tokens))
+    then option_and_then (lettered hypotheses (flat_map (λ t. t) (behind_close tokens)))
+    (listed_citations h hypotheses (before_close tokens))
     else None
 
 -- steps that only cite
@@ -43,4 +45,5 @@ citing citations = map (λ x. cites x) citations
 abbrev pub steps_named : Held → List NumberedHypothesis → List Token → Option (List (Step Citation))
 steps_named h hypotheses [] = None
 steps_named h hypotheses (token ∷ tokens) =
-    if bytes_eq token (codes "(") then compressed_proof h hypotheses tokens else option_map citing (all_cited h (token ∷ tokens))
+    if bytes_eq token (codes "(") then compressed_proof h hypotheses tokens
+    else option_map citing (all_cited h (token ∷ tokens))

@@ -38,13 +38,15 @@ abbrev pub numbered_step : NumberedPlace → steps.Step numbered.Citation → Sa
 numbered_step p s w = saving_after_step (stack_after_citation p) s w
 
 -- what some steps leave, where each fits
-abbrev pub numbered_steps : NumberedPlace → List (steps.Step numbered.Citation) → Saving (List ℕ) → Option (Saving (List ℕ))
+abbrev pub numbered_steps : NumberedPlace → List (steps.Step numbered.Citation) → Saving (List ℕ)
+    → Option (Saving (List ℕ))
 numbered_steps p ss w = saving_after (stack_after_citation p) ss w
 
 -- the entries left are the conclusion alone
 abbrev pub left_fault : List ℕ → Option (Saving (List ℕ)) → Option ProofFault
 left_fault conclusion None = Some fault.Step
-left_fault conclusion (Some w) = if pointwise same_numbers w.stack (conclusion ∷ []) then None else Some fault.Conclusion
+left_fault conclusion (Some w) = if pointwise same_numbers w.stack (conclusion ∷ []) then None
+    else Some fault.Conclusion
 
 abbrev pub steps_fault : NumberedPlace → List (steps.Step numbered.Citation) → List ℕ → Option ProofFault
 steps_fault p ss conclusion = left_fault conclusion (numbered_steps p ss (saving [] []))

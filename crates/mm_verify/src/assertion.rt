@@ -64,6 +64,7 @@ impl<'a> Assertion<'a> {
     /// Whether the entries from `base` on, one for each mandatory hypothesis, are what it asks for.
     pub(crate) fn is_met<P: Place>(
         &self,
+        alloc: Global,
         place: &P,
         stack: &Stack,
         base: usize,
@@ -73,7 +74,7 @@ impl<'a> Assertion<'a> {
         ensures { IfOk result (λ r. r ≡ met (P.place place.now) (assertion_frame self.now) (drop base stack.now)) }
     {
         if self.agrees(stack, base) {
-            self.is_apart(place, stack, base, spreads)
+            self.is_apart(alloc, place, stack, base, spreads)
         } else {
             Ok(false)
         }
@@ -82,7 +83,8 @@ impl<'a> Assertion<'a> {
     /// Whether the entries are of the right typecodes and what the `$e` ask for.
     fn agrees(&self, stack: &Stack, base: usize) -> bool
         requires { length (assertion_frame self.now).hypotheses ≡ length (drop base stack.now) }
-        ensures { result ≡ all_agree (bindings_in (assertion_frame self.now) (drop base stack.now)) (assertion_frame self.now).hypotheses (drop base stack.now) }
+        ensures { result ≡ all_agree (bindings_in (assertion_frame self.now) (drop base stack.now))
+            (assertion_frame self.now).hypotheses (drop base stack.now) }
     {
         are_wanted(&self.wanted, stack, base)
     }
@@ -90,6 +92,7 @@ impl<'a> Assertion<'a> {
     /// Whether the texts keep apart what `$d` asks for.
     fn is_apart<P: Place>(
         &self,
+        alloc: Global,
         place: &P,
         stack: &Stack,
         base: usize,
@@ -100,7 +103,7 @@ impl<'a> Assertion<'a> {
             ≡ keeps_apart (numbers_apart (P.place place.now)) (assertion_frame self.now)
             (bindings_in (assertion_frame self.now) (drop base stack.now))) }
     {
-        are_groups_apart(place, &self.apart, stack, base, spreads)
+        are_groups_apart(alloc, place, &self.apart, stack, base, spreads)
     }
 
     /// Whether its statement may be long, by what the entries from `base` on have all together.
@@ -125,7 +128,9 @@ impl<'a> Assertion<'a> {
         to: &mut Vec<u32>,
     ) -> Result<(), AllocError>
         requires { length (assertion_frame self.now).hypotheses ≡ length (drop base stack.now) }
-        ensures { OnOk result (to.new.items ≡ to.old.items ++ substituted (bindings_in (assertion_frame self.now) (drop base stack.now)) (assertion_frame self.now).statement) }
+        ensures { OnOk result (to.new.items ≡ to.old.items
+            ++ substituted (bindings_in (assertion_frame self.now) (drop base stack.now))
+            (assertion_frame self.now).statement) }
     {
         fill(&self.conclusion, stack, base, to)
     }

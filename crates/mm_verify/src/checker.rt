@@ -75,7 +75,9 @@ impl<'a> Checker<'a> {
         room: &mut Room,
     ) -> Result<Stated, VerifyEnd>
         requires frames { HasFrames self.old }
-        ensures { (c : Context) → IsBehind self.old c → IsProposed bytes.now (held self.old.scopes) c (statement_of bytes.now tokens.now) theorem.entry → Checks c (statement_of bytes.now tokens.now) self.new result }
+        ensures { (c : Context) → IsBehind self.old c
+            → IsProposed bytes.now (held self.old.scopes) c (statement_of bytes.now tokens.now) theorem.entry
+            → Checks c (statement_of bytes.now tokens.now) self.new result }
     {
         mm_database::proof_laws();
         mm_frame::number_laws();
@@ -115,7 +117,8 @@ impl<'a> Checker<'a> {
         tokens: &[MmToken],
     ) -> Result<Added, VerifyEnd>
         requires frames { HasFrames self.old }
-        ensures { (c : Context) → Stands (held self.old.scopes) c → Declares c (statement_of bytes.now tokens.now) self.new result }
+        ensures { (c : Context) → Stands (held self.old.scopes) c
+            → Declares c (statement_of bytes.now tokens.now) self.new result }
     {
         let added = match self.scopes.statement(alloc, bytes, tokens) {
             Err(end) => return Err(verify_end(end)),

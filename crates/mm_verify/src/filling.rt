@@ -1,5 +1,6 @@
 // Statements of assertions with the texts of a stack's entries in the places of variables.
-ghost use Rattle.std.specs.Prelude.{◌≡◌, ◌+◌, ◌-◌, ◌<◌, ◌≤◌, ◌++◌, ◌∷◌, [], ℕ, List, false, length, drop, OnOk, MatchOption};
+ghost use Rattle.std.specs.Prelude.{◌≡◌, ◌+◌, ◌-◌, ◌<◌, ◌≤◌, ◌++◌, ◌∷◌, [], ℕ, List, false, length, drop};
+ghost use Rattle.std.specs.Prelude.{OnOk, MatchOption};
 ghost use Rattle.mm_verify.specs.Filling.{part_text, text_at, filled, IsWithin, AreWithin};
 ghost use Rattle.mm_database.specs.Stack.{behind_first};
 ghost use Rattle.mm_frame.specs.NumberedSteps.{same_numbers};
@@ -97,7 +98,10 @@ pub(crate) fn is_filled(parts: &[Part], stack: &Stack, base: usize, entry: &[u32
 /// What stands after the text of a part, where symbols begin with that text.
 fn behind_part<'r>(part: &Part, stack: &Stack, base: usize, symbols: &'r [u32]) -> Option<&'r [u32]>
     requires within { IsWithin (length (drop base stack.now)) part.now }
-    ensures { (others : List ℕ) → MatchOption result (same_numbers symbols.now (part_text (drop base stack.now) part.now ++ others) ≡ false) (λ r. same_numbers symbols.now (part_text (drop base stack.now) part.now ++ others) ≡ same_numbers r.now others) }
+    ensures { (others : List ℕ) → MatchOption result
+        (same_numbers symbols.now (part_text (drop base stack.now) part.now ++ others) ≡ false)
+        (λ r. same_numbers symbols.now (part_text (drop base stack.now) part.now ++ others)
+        ≡ same_numbers r.now others) }
 {
     match part.place() {
         None => behind_symbol(part.symbol, symbols),
@@ -107,7 +111,9 @@ fn behind_part<'r>(part: &Part, stack: &Stack, base: usize, symbols: &'r [u32]) 
 
 /// What stands after a symbol, where symbols begin with it.
 fn behind_symbol(symbol: u32, symbols: &[u32]) -> Option<&[u32]>
-    ensures { (others : List ℕ) → MatchOption result (same_numbers symbols.now (symbol ∷ others) ≡ false) (λ r. same_numbers symbols.now (symbol ∷ others) ≡ same_numbers r.now others) }
+    ensures { (others : List ℕ) → MatchOption result
+        (same_numbers symbols.now (symbol ∷ others) ≡ false)
+        (λ r. same_numbers symbols.now (symbol ∷ others) ≡ same_numbers r.now others) }
 {
     match symbols {
         [first, behind @ ..] => if *first == symbol { Some(behind) } else { None },
@@ -117,7 +123,9 @@ fn behind_symbol(symbol: u32, symbols: &[u32]) -> Option<&[u32]>
 
 /// What stands after a text, where symbols begin with it.
 fn behind_text<'r>(text: &[u32], symbols: &'r [u32]) -> Option<&'r [u32]>
-    ensures { (others : List ℕ) → MatchOption result (same_numbers symbols.now (text.now ++ others) ≡ false) (λ r. same_numbers symbols.now (text.now ++ others) ≡ same_numbers r.now others) }
+    ensures { (others : List ℕ) → MatchOption result
+        (same_numbers symbols.now (text.now ++ others) ≡ false)
+        (λ r. same_numbers symbols.now (text.now ++ others) ≡ same_numbers r.now others) }
 {
     symbols.strip_prefix(text)
 }

@@ -56,10 +56,10 @@ impl<'a> Kept<'a> {
             (length (kept_frame self.now).hypotheses) stack.old) stack.old stack.new) }
     {
         match self {
-            Kept::Built(assertion) => apply(place, assertion, stack, buffer, spreads),
+            Kept::Built(assertion) => apply(alloc, place, assertion, stack, buffer, spreads),
             Kept::Shared(frame) => {
                 let assertion = Assertion::of(alloc, frame)?;
-                apply(place, &assertion, stack, buffer, spreads)
+                apply(alloc, place, &assertion, stack, buffer, spreads)
             }
         }
     }

@@ -58,4 +58,8 @@ impl Place for Known<'_, '_> {
     fn apart(&self, a: u32, b: u32) -> bool {
         self.scopes.apart(a, b)
     }
+
+    fn are_together(&self, symbols: &[u32]) -> bool {
+        self.scopes.are_together(symbols)
+    }
 }

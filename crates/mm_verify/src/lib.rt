@@ -32,6 +32,7 @@ mod spreads;
 mod stack;
 #[cfg(test)]
 mod tests;
+mod together;
 mod verdicts;
 
 pub use ends::{Report, VerifyEnd};

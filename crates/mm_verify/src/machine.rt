@@ -82,7 +82,9 @@ impl Machine {
         place: &P,
         step: Step<'_, '_>,
     ) -> Result<bool, AllocError>
-        ensures { IfOk result (Answers (numbered_step (P.place place.now) (step_of step.entry) (saving_of self.old)) (saving_of self.old) (saving_of self.new)) }
+        ensures { IfOk result (Answers
+            (numbered_step (P.place place.now) (step_of step.entry) (saving_of self.old))
+            (saving_of self.old) (saving_of self.new)) }
     {
         match step {
             Step::Cites(Citation::Gives(hyp)) => self.give(place, hyp),
@@ -102,7 +104,9 @@ impl Machine {
 
     /// Puts the statement of a hypothesis on top.
     fn give<P: Place>(&mut self, place: &P, hyp: &Hyp<'_>) -> Result<bool, AllocError>
-        ensures { IfOk result (Answers (numbered_step (P.place place.now) (cites (gives (statement_of (hypothesis_held hyp.now)))) (saving_of self.old)) (saving_of self.old) (saving_of self.new)) }
+        ensures { IfOk result (Answers
+            (numbered_step (P.place place.now) (cites (gives (statement_of (hypothesis_held hyp.now))))
+            (saving_of self.old)) (saving_of self.old) (saving_of self.new)) }
     {
         match hyp {
             Hyp::Floating(_label, typecode, variable) => self.stack.push(&[*typecode, *variable])?,
@@ -113,7 +117,9 @@ impl Machine {
 
     /// Saves the last entry, where there is one.
     fn save<P: Place>(&mut self, place: &P) -> Result<bool, AllocError>
-        ensures { IfOk result (Answers (numbered_step (P.place place.now) saves (saving_of self.old)) (saving_of self.old) (saving_of self.new)) }
+        ensures { IfOk result (Answers
+            (numbered_step (P.place place.now) saves (saving_of self.old))
+            (saving_of self.old) (saving_of self.new)) }
     {
         let count = self.stack.len();
         if count == 0 {
@@ -125,7 +131,9 @@ impl Machine {
 
     /// Puts a saved entry on top, where there is one of this number.
     fn repeat<P: Place>(&mut self, place: &P, number: usize) -> Result<bool, AllocError>
-        ensures { IfOk result (Answers (numbered_step (P.place place.now) (repeats number) (saving_of self.old)) (saving_of self.old) (saving_of self.new)) }
+        ensures { IfOk result (Answers
+            (numbered_step (P.place place.now) (repeats number) (saving_of self.old))
+            (saving_of self.old) (saving_of self.new)) }
     {
         if number >= self.saved.len() {
             return Ok(false);

@@ -35,7 +35,10 @@ pub(crate) fn proof_fault<'a>(
     room: &mut Room,
 ) -> Result<Option<u8>, AllocError>
     requires same { map kept_frame assertions.now ≡ (held scopes.now).frames }
-    ensures { IfOk result (λ k. k ≡ proof_kind (place_of (held scopes.now)) (frame_held theorem.now.frame).statement (steps_named (held scopes.now) (frame_held theorem.now.frame).hypotheses (words_of bytes.now theorem.now.proof.now))) }
+    ensures { IfOk result (λ k. k
+        ≡ proof_kind (place_of (held scopes.now)) (frame_held theorem.now.frame).statement
+        (steps_named (held scopes.now) (frame_held theorem.now.frame).hypotheses
+        (words_of bytes.now theorem.now.proof.now))) }
 {
     let known = Known::new(scopes, assertions);
     match read_proof(

@@ -105,7 +105,9 @@ fn cite_all<'s, 'a>(
     labels: &[MmToken],
     citations: &mut Vec<Citation<'s, 'a>>,
 ) -> Result<bool, AllocError>
-    ensures { IfOk result (λ all. behind_items (map citation_of citations.old.items) (all_cited (held known.now.scopes.now) (words_of bytes.now labels.now)) ≡ (if all then Some (map citation_of citations.new.items) else None)) }
+    ensures { IfOk result (λ all. behind_items (map citation_of citations.old.items)
+        (all_cited (held known.now.scopes.now) (words_of bytes.now labels.now))
+        ≡ (if all then Some (map citation_of citations.new.items) else None)) }
 {
     citations.reserve(labels.len())?;
     for label in labels {
@@ -143,7 +145,9 @@ fn read_compressed<'s, 'a>(
 
 /// The tokens before the first `)`, and those after it.
 fn split_at_close<'t>(bytes: &[u8], tokens: &'t [MmToken]) -> Option<(&'t [MmToken], &'t [MmToken])>
-    ensures found { IfSome result (λ r. (has_token (words_of bytes.now tokens.now) (codes ")") ≡ true) × (words_of bytes.now r.0.now ≡ before_close (words_of bytes.now tokens.now)) × (words_of bytes.now r.1.now ≡ behind_close (words_of bytes.now tokens.now))) }
+    ensures found { IfSome result (λ r. (has_token (words_of bytes.now tokens.now) (codes ")") ≡ true)
+        × (words_of bytes.now r.0.now ≡ before_close (words_of bytes.now tokens.now))
+        × (words_of bytes.now r.1.now ≡ behind_close (words_of bytes.now tokens.now))) }
     ensures none { result ≡ None → has_token (words_of bytes.now tokens.now) (codes ")") ≡ false }
 {
     let mut at = 0;

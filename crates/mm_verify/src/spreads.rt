@@ -14,6 +14,7 @@ use crate::filling::text_at;
 use crate::parts::Part;
 use crate::place::Place;
 use crate::stack::Stack;
+use crate::together::is_group_apart;
 use std::alloc::{AllocError, Global};
 use std::collections::BTreeMap;
 
@@ -55,7 +56,7 @@ impl Spreads {
     }
 
     /// The number of the list of the variables in the text of the entry at a place.
-    fn find<P: Place>(
+    pub(crate) fn find<P: Place>(
         &mut self,
         place: &P,
         stack: &Stack,
@@ -92,7 +93,7 @@ impl Spreads {
     }
 
     /// The list with this number.
-    fn list(&self, number: usize) -> &[u32]
+    pub(crate) fn list(&self, number: usize) -> &[u32]
         requires { number < length self.now.lists }
         ensures { result.now ≡ slice_index_or self.now.lists number [] }
     {
@@ -137,6 +138,7 @@ fn pair_key(i: usize, j: usize) -> usize {
 /// Whether in each group the texts of variables that are not the same have no variable in common, and
 /// each pair of their variables is kept apart at the place. The variables of each text are found once.
 pub(crate) fn are_groups_apart<P: Place>(
+    alloc: Global,
     place: &P,
     groups: &[Vec<Part>],
     stack: &Stack,
@@ -151,7 +153,7 @@ pub(crate) fn are_groups_apart<P: Place>(
     }
     spreads.clear(stack.len().saturating_sub(base))?;
     for group in groups {
-        if !is_group_apart(place, group, stack, base, spreads)? {
+        if !is_group_apart(alloc, place, group, stack, base, spreads)? {
             return Ok(false);
         }
     }
@@ -160,7 +162,7 @@ pub(crate) fn are_groups_apart<P: Place>(
 
 /// The same of one group. It takes time in the length of the texts whose variables are not known yet,
 /// but for a factor of its logarithm, and a test for each two variables of different texts.
-fn is_group_apart<P: Place>(
+pub(crate) fn are_pairs_apart<P: Place>(
     place: &P,
     group: &[Part],
     stack: &Stack,

@@ -17,7 +17,8 @@ use std::alloc::Global;
 /// how many `$a` and `$p` statements it has, and else its first fault. `VerifyEnd::Memory` says that
 /// memory ran out. It recurses nowhere, and looks at each token of the text a few times.
 pub fn verify(alloc: Global, bytes: &[u8]) -> Result<Report, VerifyEnd>
-    ensures valid { IfOk result (λ r. IsValid bytes.now × (r.axioms ≡ axiom_count bytes.now) × (r.theorems ≡ theorem_count bytes.now)) }
+    ensures valid { IfOk result (λ r. IsValid bytes.now × (r.axioms ≡ axiom_count bytes.now)
+        × (r.theorems ≡ theorem_count bytes.now)) }
     ensures invalid { (f : AFault) → result ≡ Err (Invalid f) → IsFirstFault bytes.now f }
 {
     mm_database::proof_laws();

@@ -37,8 +37,8 @@ use Rattle.prove_schema.proofs.ElementLaws.{pattern_grown}
 use Rattle.prove_schema.proofs.BindingLaws.{HasImages, elements_have, elements_within, proved_fact}
 use Rattle.prove_schema.proofs.SentenceLaws.{schema_over_places}
 use Rattle.prove_equation.specs.EquationLemmas.{SaysEquationSchema, IsEquationLemma}
-use Rattle.prove_equation.specs.Conditions.{SaysCondition, BindsEach}
-use Rattle.prove_equation.specs.Filled.{CanFill, SaysFilled, listed}
+use Rattle.prove_equation.specs.Conditions.{SaysCondition, BindsEach, listed}
+use Rattle.prove_equation.specs.Filled.{CanFill, SaysFilled}
 use Rattle.prove_equation.proofs.ShapeLaws.{IsDirect, direct_shape, closed_same, condition_is}
 
 -- ---- sorts
@@ -167,6 +167,18 @@ condition_proved cx vars theta qs ns others x sort p t condition h images there 
     only_one a b (zero, low, same) = same
     only_one a b (suc k, low, same) = absurd (omega (arith, low))
 
+-- what the condition's theorem, where there is one, proves of the lemma's assumptions
+pub part_proved : (cx : Context) (vars : List ℕ) (theta : List (Option Tree)) (qs : List Pattern) (ns : List ℕ) (holds : Sentence) (condition : Pattern) (c : Option RulePattern) (o : Option Theorem) → condition_of cx.program.sig vars c ≡ Some holds → sentence_image cx.program.sig cx.names holds ≡ Some condition
+    → IsCondition cx.program.sig vars c → AreImages cx.program.sig cx.names theta qs → AllThere theta (length vars) → length vars ≡ length qs → SaysCondition cx vars theta c o → (h : Pattern) → Contains (parts_of (with_metas condition)) h → IsProved qs ns (listed o) h
+part_proved cx vars theta qs ns holds condition None o is_holds image has images there many said h part =
+    let nothing_said : holds ≡ says.top = some_same holds says.top (sym is_holds) in
+    let nothing : condition ≡ top = some_same condition top (sym image ∙ ap (sentence_image cx.program.sig cx.names) nothing_said) in
+    absurd (omega (arith, (subst (λ (q : Pattern). Contains (parts_of (with_metas q)) h) nothing part).1))
+part_proved cx vars theta qs ns holds condition (Some c) None is_holds image has images there many said h part = absurd said
+part_proved cx vars theta qs ns holds condition (Some c) (Some t) is_holds image has images there many (sort, sorted, value, stays) h part =
+    let is : holds ≡ is_true c sort = condition_is cx.program.sig vars c sort holds (sort_of_sorted cx.program.sig vars c sort sorted) is_holds in
+    condition_proved cx vars theta qs ns (t ∷ []) 0 sort c t condition h images there many has sorted (ap (sentence_image cx.program.sig cx.names) (sym is) ∙ image) value refl refl part
+
 pub value_grown : (old new : Context) (theta : List (Option Tree)) (p : RulePattern) (u : Tree) (q : Pattern) → HasGrown old new → SaysValue old theta p u q → SaysValue new theta p u q
 value_grown old new theta p u q g says = record {
   left = says.left;
@@ -240,20 +252,6 @@ direct_schema cx f e lemma has s d =
           (subst (λ (c : Pattern). Contains (meta_facts 0 s.numbers ++ parts_of (with_metas c)) h) same.1 (s.assumes h there));
     }
 
--- what the condition's theorem proves
-direct_proved : (cx : Context) (f : ℕ) (e : Equation) (p : Pattern) (theta : List (Option Tree)) (o : Option Theorem) (qs : List Pattern) (d : IsDirect cx.program.sig cx.names f e p) → (c : Option RulePattern) → e.condition ≡ c → IsCondition cx.program.sig e.variables c
-    → AreImages cx.program.sig cx.names theta qs → AllThere theta (length e.variables) → length e.variables ≡ length qs → SaysCondition cx e.variables theta c o
-    → (h : Pattern) → Contains (parts_of (with_metas d.condition)) h → IsProved qs d.numbers (listed o) h
-direct_proved cx f e p theta o qs d None is has images there many said h part =
-    let holds : d.holds ≡ says.top = some_same d.holds says.top (sym d.is_holds ∙ ap (condition_of cx.program.sig e.variables) is) in
-    let nothing : d.condition ≡ top = some_same d.condition top (sym d.is_condition ∙ ap (sentence_image cx.program.sig cx.names) holds) in
-    absurd (omega (arith, (subst (λ (q : Pattern). Contains (parts_of (with_metas q)) h) nothing part).1))
-direct_proved cx f e p theta None qs d (Some c) is has images there many said h part = absurd said
-direct_proved cx f e p theta (Some t) qs d (Some c) is has images there many (sort, sorted, value, stays) h part =
-    let holds : d.holds ≡ is_true c sort =
-    condition_is cx.program.sig e.variables c sort d.holds (sort_of_sorted cx.program.sig e.variables c sort sorted) (ap (condition_of cx.program.sig e.variables) (sym is) ∙ d.is_holds) in
-    condition_proved cx e.variables theta qs d.numbers (t ∷ []) 0 sort c t d.condition h images there many has sorted (ap (sentence_image cx.program.sig cx.names) (sym holds) ∙ d.is_condition) value refl refl part
-
 -- all that is known where the lemma is cited
 pub record IsCited (cx : Context) (f : ℕ) (e : Equation) (lemma : Theorem) (theta : List (Option Tree)) (o : Option Theorem) (ts : List Theorem) : Type 0 where
   pub can : CanFill cx f e lemma theta o
@@ -277,7 +275,7 @@ ready cx f e lemma theta o ts w =
       parts = parts_of (with_metas d.condition);
       schema = direct_schema cx f e lemma w.can.image w.can.is_lemma.says d;
       images = i;
-      proved = direct_proved cx f e w.can.is_lemma.says.sentence theta o i.patterns d e.condition refl w.can.image.condition i.images (all_there e.variables theta w.can.bound) total w.can.condition;
+      proved = part_proved cx e.variables theta i.patterns d.numbers d.holds d.condition e.condition o d.is_holds d.is_condition w.can.image.condition i.images (all_there e.variables theta w.can.bound) total w.can.condition;
     }
 
 pub cited_usable : (cx : Context) (f : ℕ) (e : Equation) (lemma : Theorem) (theta : List (Option Tree)) (o : Option Theorem) (ts : List Theorem) → IsCited cx f e lemma theta o ts → (qs : List Pattern) × (ns : List ℕ) × IsUsable qs ns lemma ts (listed o)

@@ -39,8 +39,7 @@ use Rattle.prove_schema.proofs.ClosingLaws.{numbers_length}
 use Rattle.prove_schema.proofs.InstanceLaws.{AreImages, AllThere, filled_image}
 use Rattle.prove_schema.proofs.UsingLaws.{as_many_facts}
 use Rattle.prove_equation.specs.EquationLemmas.{SaysEquationSchema}
-use Rattle.prove_equation.specs.Conditions.{SaysCondition}
-use Rattle.prove_equation.specs.Filled.{listed}
+use Rattle.prove_equation.specs.Conditions.{SaysCondition, listed}
 use Rattle.prove_equation.specs.Parameters.{behind_terms, IsMembership, AreMemberships, CanMeet}
 use Rattle.prove_equation.proofs.ShapeLaws.{IsKompile, kompile_shape, closed_same, condition_is, shifted_has, condition_behind, behind}
 use Rattle.prove_schema.proofs.BindingLaws.{HasImages, elements_have}

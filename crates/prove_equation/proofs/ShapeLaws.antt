@@ -47,7 +47,7 @@ closed_same k (n ∷ ns) (m ∷ ms) p q a b e =
 pub condition_is : (sig : Signature) (vars : List ℕ) (p : RulePattern) (sort : ℕ) (c : Sentence) → sort_of sig vars p ≡ Some sort → condition_of sig vars (Some p) ≡ Some c → c ≡ is_true p sort
 condition_is sig vars p sort c sorted is = some_same c (is_true p sort) (sym is ∙ ap (option_map (is_true p)) sorted)
 
-condition_open : (sig : Signature) (vars : List ℕ) (o : Option RulePattern) (c : Sentence) → own.IsCondition sig vars o → condition_of sig vars o ≡ Some c → IsOpenSentence sig (length vars) c
+pub condition_open : (sig : Signature) (vars : List ℕ) (o : Option RulePattern) (c : Sentence) → own.IsCondition sig vars o → condition_of sig vars o ≡ Some c → IsOpenSentence sig (length vars) c
 condition_open sig vars None c h is = subst (IsOpenSentence sig (length vars)) (some_same top c is) tt
 condition_open sig vars (Some p) c h is =
     subst (IsOpenSentence sig (length vars)) (sym (condition_is sig vars p h.sort c h.sorted is)) (h.image, h.truths)

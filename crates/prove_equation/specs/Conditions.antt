@@ -1,5 +1,5 @@
 -- What is known where an equation is used at terms.
-use Rattle.std.specs.Prelude.{ℕ, ◌<◌, true, List, length, Option, Some, None, IsSome}
+use Rattle.std.specs.Prelude.{ℕ, ◌<◌, true, List, [], ◌∷◌, length, Option, Some, None, IsSome}
 use Rattle.term_core.specs.Terms.{Tree, leaf, truth}
 use Rattle.term_core.specs.Patterns.{Pattern as RulePattern, binding}
 use Rattle.ml_kernel.specs.Theorems.{Theorem}
@@ -16,6 +16,11 @@ SaysCondition cx variables theta (Some p) None = ⊥
 SaysCondition cx variables theta (Some p) (Some t) =
     (sort : ℕ) × HasSort cx.program.sig variables p sort × SaysValue cx theta p (leaf sort (truth true)) t.conclusion
     × StaysIn cx t
+
+-- the theorem, where there is one
+abbrev pub listed : Option Theorem → List Theorem
+listed None = []
+listed (Some t) = t ∷ []
 
 -- the substitution binds each of the variables
 abbrev pub BindsEach : List ℕ → List (Option Tree) → Type 0

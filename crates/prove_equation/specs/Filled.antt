@@ -37,11 +37,6 @@ pub record SaysFilled (cx : Context) (f : ℕ) (e : Equation) (theta : List (Opt
   pub says : p ≡ equal left right
   pub no_variable : HasNoVariable left × HasNoVariable right
 
--- the theorem, where there is one
-abbrev pub listed : Option Theorem → List Theorem
-listed None = []
-listed (Some t) = t ∷ []
-
 -- `p = r`, and maybe `p = q`
 abbrev pub CanTurn : Pattern → Option Theorem → Type 0
 CanTurn made None = Unit {0}

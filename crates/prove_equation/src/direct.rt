@@ -11,8 +11,9 @@ ghost use Rattle.prove_term.specs.Contexts.{HasGrown, StaysIn};
 ghost use Rattle.prove_term.specs.Values.{SaysEquationAt};
 ghost use Rattle.prove_equation.specs.Conditions.{BindsEach, SaysCondition};
 ghost use Rattle.prove_equation.specs.EquationLemmas.{IsEquationLemma};
-ghost use Rattle.prove_equation.specs.Filled.{CanFill, CanTurn, IsTurned, SaysFilled, StaysTurned, listed};
+ghost use Rattle.prove_equation.specs.Filled.{CanFill, CanTurn, IsTurned, SaysFilled, StaysTurned};
 
+use crate::conditions::given;
 use ml_derived::{flip, join};
 use ml_kernel::{Lemma, Thm};
 use prove_schema::{elements, schema_at};
@@ -72,17 +73,6 @@ fn filled(
     let facts = elements(alloc, cx, subst)?;
     let others = given(alloc, condition)?;
     schema_at(alloc, lemma, &facts, &others)
-}
-
-// The theorem, where there is one.
-pub(crate) fn given(alloc: Global, condition: &Option<Thm>) -> Result<Vec<Thm>, AllocError>
-    ensures { IfOk result (λ v. v.items ≡ listed condition.now) }
-{
-    let mut theorems = Vec::new(alloc);
-    if let Some(thm) = condition {
-        theorems.push(thm.share(alloc)?)?;
-    }
-    Ok(theorems)
 }
 
 // `q = r`, from `p = r` and `p = q`; or `p = r` as it is, where q is p.

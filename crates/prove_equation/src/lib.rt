@@ -6,9 +6,11 @@
 #![tactic(auto)]
 
 mod at_terms;
+mod conditions;
 mod direct;
 mod lemmas;
 mod parameters;
 
 pub use at_terms::equation_at;
+pub use conditions::given;
 pub use lemmas::equation_lemma;

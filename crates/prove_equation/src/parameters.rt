@@ -22,7 +22,7 @@ ghost use Rattle.prove_equation.specs.EquationLemmas.{IsEquationLemma};
 ghost use Rattle.prove_equation.specs.Parameters.{AreMemberships, CanEnter, IsEntered, IsInItself, IsMembership};
 ghost use Rattle.prove_equation.specs.Parameters.{IsEquality, IsInHole, SaysElement, StaysEntered};
 
-use crate::direct::given;
+use crate::conditions::given;
 use ml_derived::{carry, flip};
 use ml_kernel::{Lemma, Thm};
 use ml_pat::{MForm, MPat, MSort, VarNo};

@@ -1,8 +1,8 @@
 -- Lemmas of equations whose places are kept: what stays when a context grows, and when one more is kept.
-use Rattle.std.proofs.Common.{◌≡◌, ◌<◌, ℕ, Bool, true, false, cond, [], ◌∷◌, ◌++◌, Option, Some, length, slice_get, refl, sym, ◌∙◌, subst}
+use Rattle.std.proofs.Common.{◌≡◌, ◌<◌, ℕ, Bool, true, false, cond, List, [], ◌∷◌, ◌++◌, Option, Some, length, slice_get, refl, sym, ◌∙◌, subst}
 use Rattle.std.specs.Prelude.{IfSome}
-use Rattle.std.specs.BTreeMap as tree
-use Rattle.std.specs.BTreeMap.{UpdatesBy, is_at}
+use Rattle.std.specs.BTreeMap.{BTreeMap, UpdatesBy, is_at}
+use Rattle.std.specs.Map.{lookup}
 use Rattle.std.specs.Ordering.{is_eq, ordering_then, nat_cmp}
 use Rattle.std.specs.Cmp.{unsigned_ties}
 use Rattle.std.specs.declared.cmp.Ordering.{Ordering}
@@ -20,7 +20,6 @@ use Rattle.prove_term.proofs.KeptInside.{last_there}
 use Rattle.prove_term.proofs.EquationLaws.{says_equation_grown}
 use Rattle.prove_equation.specs.EquationLemmas.{SaysEquationSchema, IsEquationLemma}
 use Rattle.prove_fun.specs.KeptLemmas.{IsLemmaAt, IsKeptIn, pair_cmp}
-use Rattle.prove_fun.specs.declared.kept.Kept.{Kept}
 
 -- ---- growing
 
@@ -42,8 +41,8 @@ lemma_at_grown a b f i k g h = λ e there.
     h e (subst (λ (p : Program). slice_get (equations_of (theory_of p) f) i ≡ Some e) g.program there) in
     (old.0, lemma_there_grown a b k old.0 g old.1, schema_grown a b f e old.0 g old.2)
 
-pub kept_grown : (a b : Context) (kept : Kept) → HasGrown a b → IsKeptIn a kept → IsKeptIn b kept
-kept_grown a b kept g h = record { each = λ f i. IfSome_then (tree.get pair_cmp kept.places (f, i)) (h.each f i) (λ k is. lemma_at_grown a b f i k g is) }
+pub kept_grown : (a b : Context) (kept : List ((ℕ × ℕ) × ℕ)) → HasGrown a b → IsKeptIn a kept → IsKeptIn b kept
+kept_grown a b kept g h = record { each = λ f i. IfSome_then (lookup (is_at (pair_cmp (f, i))) kept) (h.each f i) (λ k is. lemma_at_grown a b f i k g is) }
 
 pub ruleset growing = (grown_none, grown_twice, kept_grown)
 
@@ -84,9 +83,9 @@ kept_at : (P : ℕ → Type 0) (t : Bool) (before after : Option ℕ) (k : ℕ) 
 kept_at P true before after k e h f = subst (λ (o : Option ℕ). IfSome o P) (sym e) (f refl)
 kept_at P false before after k e h f = subst (λ (o : Option ℕ). IfSome o P) (sym e) h
 
-pub place_kept : (cx : Context) (before after : Kept) (x y k : ℕ) → IsLemmaAt cx x y k → UpdatesBy pair_cmp (pair_cmp (x, y)) before.places after.places (Some k) → IsKeptIn cx before → IsKeptIn cx after
+pub place_kept : (cx : Context) (before after : BTreeMap (ℕ × ℕ) ℕ) (x y k : ℕ) → IsLemmaAt cx x y k → UpdatesBy pair_cmp (pair_cmp (x, y)) before after (Some k) → IsKeptIn cx before.entries → IsKeptIn cx after.entries
 place_kept cx before after x y k is updates kept = record {
-  each = λ f i. kept_at (IsLemmaAt cx f i) (is_at (pair_cmp (x, y)) (f, i)) (tree.get pair_cmp before.places (f, i)) (tree.get pair_cmp after.places (f, i)) k (updates.0 (f, i)) (kept.each f i) (here f i);
+  each = λ f i. kept_at (IsLemmaAt cx f i) (is_at (pair_cmp (x, y)) (f, i)) (lookup (is_at (pair_cmp (f, i))) before.entries) (lookup (is_at (pair_cmp (f, i))) after.entries) k (updates.0 (f, i)) (kept.each f i) (here f i);
 }
   where
     here : (f i : ℕ) → is_at (pair_cmp (x, y)) (f, i) ≡ true → IsLemmaAt cx f i k

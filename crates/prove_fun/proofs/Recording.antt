@@ -330,10 +330,10 @@ made_no_call program theta f ps r rs t is h = go (subst (Records (theory_of prog
 
 -- ---- the use of an equation
 
-all_at : {X : Type 0} (P : X → Type 0) (xs : List X) (i : ℕ) (x : X) → All P xs → slice_get xs i ≡ Some x → P x
+pub all_at : {X : Type 0} (P : X → Type 0) (xs : List X) (i : ℕ) (x : X) → All P xs → slice_get xs i ≡ Some x → P x
 all_at P xs i x each there = subst P (get_or_from_slice_get xs i x x there) (each i x (slice_get_within xs i x there))
 
-held_record : (program : Program) (sigma : List (Option Tree)) (variables : List ℕ) (ps : RulePatterns) (ts : Forest) (p : RulePattern) (q : Record) (c : Option RulePattern) (o : OptionalRecord) → IsReady program → IsCondition program.sig variables ps p
+pub held_record : (program : Program) (sigma : List (Option Tree)) (variables : List ℕ) (ps : RulePatterns) (ts : Forest) (p : RulePattern) (q : Record) (c : Option RulePattern) (o : OptionalRecord) → IsReady program → IsCondition program.sig variables ps p
     → MatchAll program.sig variables ps ts sigma → heights ts ≤ most_height → c ≡ Some p → o ≡ conditional q → RecordsCondition (theory_of program) sigma c o → (h : IsRecorded program sigma p q) × (h.variables ≡ variables) × IsTrueValue (result_of q)
 held_record program sigma variables ps ts p q c o ready has matches low is_c is_o held =
     let w : RecordsCondition (theory_of program) sigma (Some p) (conditional q) = subst (λ (x : Option RulePattern). RecordsCondition (theory_of program) sigma x (conditional q)) is_c (subst (RecordsCondition (theory_of program) sigma c) is_o held) in

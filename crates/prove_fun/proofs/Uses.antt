@@ -1,6 +1,6 @@
 -- Equations that were used: where they stand, and what they give.
-use Rattle.std.proofs.Common.{◌≡◌, ◌<◌, ℕ, zero, suc, List, [], ◌∷◌, ◌++◌, Option, Some, None, length, map, option_map, get_or, slice_get, take, refl, sym, ◌∙◌, ap, subst, arith}
-use Rattle.std.specs.Prelude.{true, Vec, slice_index_or}
+use Rattle.std.proofs.Common.{◌≡◌, ◌<◌, ℕ, zero, suc, List, [], ◌∷◌, ◌++◌, Option, Some, None, length, map, option_map, get_or, slice_get, take, inl, inr, refl, sym, ◌∙◌, ap, subst, arith}
+use Rattle.std.specs.Prelude.{true, Vec, slice_index_or, ◌⊎◌}
 use Rattle.std.specs.Global.{Global}
 use Rattle.ml_pat.specs.Patterns.{Pattern}
 use Rattle.ml_kernel.specs.Theorems.{Theorem}
@@ -8,24 +8,27 @@ use Rattle.term_core.specs.Terms.{Tree, Forest, forest, more_trees, leaf, truth}
 use Rattle.term_core.specs.Patterns.{Pattern as RulePattern}
 use Rattle.term_core.specs.PatternLists.{plain_patterns}
 use Rattle.term_core.specs.RulePatterns.{plain_pattern}
+use Rattle.term_core.specs.declared.rule_patterns.RulePat.{RulePat}
 use Rattle.rule_core.specs.Rules.{Equation as PlainEquation}
 use Rattle.rule_core.specs.Theories.{equations_of}
 use Rattle.rule_core.specs.Sorting.{HasSort, IsTermOf}
 use Rattle.rule_core.specs.Matching.{MatchAll}
+use Rattle.rule_core.specs.BoundVariables.{IsBoundEquation, IsEquationAt}
 use Rattle.rule_core.specs.Evaluation.{IsTrueValue}
 use Rattle.rule_core.specs.ProgramView.{theory_of, function_equation, sorts_of}
 use Rattle.rule_core.specs.Records.{Record, RecordList, OptionalRecord, unconditional, RecordsCondition, no_record, more_records, result_of, results_of}
 use Rattle.rule_core.specs.declared.rules.Equation.{Equation}
 use Rattle.rule_core.specs.declared.rules.Program.{Program}
-use Rattle.ml_image.specs.HasImages.{HasEquationImage}
+use Rattle.ml_image.specs.HasImages.{HasEquationImage, count_of}
 use Rattle.ml_image.specs.OwnAxioms.{IsEquationFor}
+use Rattle.ml_image.proofs.ConditionLaws.{length-sorts_of}
+use Rattle.ml_image.proofs.WellSortedLaws.{equation_has_image}
 use Rattle.prove_term.specs.Contexts.{Context, HasGrown, StaysIn}
 use Rattle.prove_term.specs.Filling.{filled}
 use Rattle.prove_term.specs.Values.{SaysEquationAt, SaysValue}
 use Rattle.prove_term.proofs.ContextLaws.{contains_there, grown_twice, image_grown}
 use Rattle.ml_image.specs.Sentences.{term}
 use Rattle.prove_equation.specs.Conditions.{BindsEach, SaysCondition}
-use Rattle.prove_fun.specs.Covered.{IsEquationAt, IsCovered}
 use Rattle.prove_fun.specs.RecordParts.{listed}
 use Rattle.prove_fun.specs.Evaluating.{IsReady, IsImage, IsRecorded, HasEqual, Equates, SaysCall}
 use Rattle.prove_fun.specs.Using.{IsUse, SaysConditionAt}
@@ -81,8 +84,21 @@ used_own program f rs i sigma o body u = record {
   listed = contains_there (equations_of (theory_of program) f) i u.equation u.there;
 }
 
-pub binds_each : (program : Program) (f : ℕ) (q : Equation) (ts : Forest) (sigma : List (Option Tree)) → IsCovered program.sig f q → MatchAll program.sig (sorts_of q.vars.items) (plain_patterns q.args.items) ts sigma → BindsEach (sorts_of q.vars.items) sigma
-binds_each program f q ts sigma covered matches = λ x low. (matches.binds.just x).1 (covered.bound x low)
+pub binds_each : (program : Program) (f : ℕ) (q : Equation) (ts : Forest) (sigma : List (Option Tree)) → IsBoundEquation f q → MatchAll program.sig (sorts_of q.vars.items) (plain_patterns q.args.items) ts sigma → BindsEach (sorts_of q.vars.items) sigma
+binds_each program f q ts sigma bound matches = λ x low. (matches.binds.just x).1 (bound.each x (omega (arith, low, length-sorts_of q.vars.items)))
+
+count_patterns : (ps : List RulePat) → count_of (plain_patterns ps) ≡ length ps
+count_patterns [] = refl
+count_patterns (p ∷ ps) = ap suc (count_patterns ps)
+
+-- the equation has an image
+has_image : (program : Program) (f : ℕ) (q : Equation) → IsReady program → IsBoundEquation f q → IsEquationFor (theory_of program) f (function_equation q) → HasEquationImage program.sig f (function_equation q)
+has_image program f q ready bound own =
+    equation_has_image (theory_of program) f own.info (function_equation q) ready.well_sorted own.function own.by_equations own.listed (omega (arith, bound.few, length-sorts_of q.vars.items)) (go bound.parameters)
+  where
+    go : (q.params ≡ 0) ⊎ (q.params ≡ length q.args.items) → (q.params ≡ 0) ⊎ (q.params ≡ count_of (plain_patterns q.args.items))
+    go (inl none) = inl none
+    go (inr many) = inr (many ∙ sym (count_patterns q.args.items))
 
 -- ---- what the equation gives is what is asked of it
 
@@ -90,12 +106,12 @@ pub equation_call : (cx : Context) (f : ℕ) (e : PlainEquation) (sigma : List (
 equation_call cx f e sigma ts t s stays = record { left = s.left; left_image = s.left_image; closed = s.no_variable.0; equal = record { says = s.says; stays = stays } }
 
 -- the condition
-pub condition_says : (cx : Context) (program : Program) (f : ℕ) (rs : RecordList) (i : ℕ) (sigma : List (Option Tree)) (o : OptionalRecord) (body : Record) (u : IsUse program f rs i sigma o body) (p : RulePattern) (q : Record) (t : Theorem) → cx.program ≡ program → (h : IsRecorded program sigma p q)
-    → h.variables ≡ u.equation.variables → IsTrueValue (result_of q) → SaysValue cx sigma p (result_of q) t.conclusion → StaysIn cx t → SaysCondition cx u.equation.variables sigma (Some p) (Some t)
-condition_says cx program f rs i sigma o body u p q t same h variables is_true says stays =
+pub condition_says : (cx : Context) (program : Program) (variables : List ℕ) (sigma : List (Option Tree)) (p : RulePattern) (q : Record) (t : Theorem) → cx.program ≡ program → (h : IsRecorded program sigma p q)
+    → h.variables ≡ variables → IsTrueValue (result_of q) → SaysValue cx sigma p (result_of q) t.conclusion → StaysIn cx t → SaysCondition cx variables sigma (Some p) (Some t)
+condition_says cx program variables sigma p q t same h own is_true says stays =
     let sorted : IsTermOf program.sig (leaf is_true.0 (truth true)) h.sort = subst (λ (x : Tree). IsTermOf program.sig x h.sort) is_true.1 (result_good program sigma p q h).0 in (
       h.sort,
-      subst (λ (pr : Program). HasSort pr.sig u.equation.variables p h.sort) (sym same) (subst (λ (vs : List ℕ). HasSort program.sig vs p h.sort) variables h.sorted),
+      subst (λ (pr : Program). HasSort pr.sig variables p h.sort) (sym same) (subst (λ (vs : List ℕ). HasSort program.sig vs p h.sort) own h.sorted),
       subst (λ (x : Tree). SaysValue cx sigma p x t.conclusion) (is_true.1 ∙ ap (λ (n : ℕ). leaf n (truth true)) sorted.0) says,
       stays,
     )
@@ -171,17 +187,17 @@ pub record IsAsked (program : Program) (f : ℕ) (rs : RecordList) (i : ℕ) (si
 
 pub asked : (program : Program) (f : ℕ) (rs : RecordList) (i : ℕ) (sigma : List (Option Tree)) (o : OptionalRecord) (body : Record) (q : Equation) → IsReady program → IsUse program f rs i sigma o body → IsEquationAt program f i q → IsAsked program f rs i sigma q
 asked program f rs i sigma o body q ready u at =
-    let covered : IsCovered program.sig f q = ready.covered f i q at in
+    let bound : IsBoundEquation f q = ready.bound.equations f i q at in
     let own : IsEquationFor (theory_of program) f (function_equation q) =
     subst (λ (e : PlainEquation). IsEquationFor (theory_of program) f e) (sym (same_equation program f i q u.equation at u.there)) (used_own program f rs i sigma o body u) in
     let matches = used_matches program f rs i sigma o body q u at in
     record {
-      function = covered.own;
-      image = subst (λ (n : ℕ). HasEquationImage program.sig n (function_equation q)) (sym covered.own) covered.image;
-      own = subst (λ (n : ℕ). IsEquationFor (theory_of program) n (function_equation q)) (sym covered.own) own;
-      there = subst (λ (n : ℕ). slice_get (equations_of (theory_of program) n) i ≡ Some (function_equation q)) (sym covered.own) (plain_there program f i q at);
+      function = bound.own;
+      image = subst (λ (n : ℕ). HasEquationImage program.sig n (function_equation q)) (sym bound.own) (has_image program f q ready bound own);
+      own = subst (λ (n : ℕ). IsEquationFor (theory_of program) n (function_equation q)) (sym bound.own) own;
+      there = subst (λ (n : ℕ). slice_get (equations_of (theory_of program) n) i ≡ Some (function_equation q)) (sym bound.own) (plain_there program f i q at);
       matches = matches;
-      bound = binds_each program f q (results_of rs) sigma covered matches;
+      bound = binds_each program f q (results_of rs) sigma bound matches;
     }
 
 pub asked_later : (a b : Context) (f : ℕ) (rs : RecordList) (i : ℕ) (sigma : List (Option Tree)) (q : Equation) → HasGrown a b → IsAsked a.program f rs i sigma q → IsAsked b.program f rs i sigma q

@@ -12,6 +12,7 @@ use Rattle.rule_core.specs.Sorting.{HasSort, HaveSorts, HasValue, IsSymbol, sort
 use Rattle.rule_core.specs.MatchLaws.{AreTermsOf}
 use Rattle.rule_core.specs.HookCalls.{HookAnswers}
 use Rattle.rule_core.specs.WellSorted.{FitsHook, IsWellSorted, Serves}
+use Rattle.rule_core.specs.BoundVariables.{HasBoundVariables}
 use Rattle.rule_core.specs.Matching.{StandsInSome, RespectsSorts}
 use Rattle.rule_core.specs.Evaluation.{most_height}
 use Rattle.rule_core.specs.Records.{Record, RecordList, Records, RecordAll}
@@ -21,12 +22,11 @@ use Rattle.rule_core.specs.declared.signature.SymInfo.{SymInfo}
 use Rattle.ml_image.specs.Images.{image_of, applied}
 use Rattle.prove_term.specs.Contexts.{Context, StaysIn}
 use Rattle.prove_term.specs.Filling.{filled, all_filled}
-use Rattle.prove_fun.specs.Covered.{AreCovered}
 
--- The program is well sorted, and proofs can use its equations.
+-- The program is well sorted, and its variables are bound.
 pub record IsReady (program : Program) : Type 0 where
   pub well_sorted : IsWellSorted (theory_of program)
-  pub covered : AreCovered program
+  pub bound : HasBoundVariables program
 
 -- The record follows the evaluation of a pattern that has a sort, under a substitution that serves it.
 pub record IsRecorded (program : Program) (theta : List (Option Tree)) (p : RulePattern) (r : Record) : Type 0 where

@@ -1,6 +1,7 @@
 -- Lemmas of equations whose places are kept.
-use Rattle.std.specs.Prelude.{◌≡◌, ℕ, Some, IfSome, slice_get}
-use Rattle.std.specs.BTreeMap as tree
+use Rattle.std.specs.Prelude.{◌≡◌, ℕ, List, Some, IfSome, slice_get}
+use Rattle.std.specs.BTreeMap.{is_at}
+use Rattle.std.specs.Map.{lookup}
 use Rattle.std.specs.Ordering.{nat_cmp, ordering_then}
 use Rattle.std.specs.declared.cmp.Ordering.{Ordering}
 use Rattle.ml_kernel.specs.Theorems.{Theorem}
@@ -9,7 +10,6 @@ use Rattle.rule_core.specs.Theories.{equations_of}
 use Rattle.rule_core.specs.ProgramView.{theory_of}
 use Rattle.prove_term.specs.Contexts.{Context}
 use Rattle.prove_equation.specs.EquationLemmas.{SaysEquationSchema}
-use Rattle.prove_fun.specs.declared.kept.Kept.{Kept}
 
 -- the lemma at a place of the context is that of the function's equation with this number
 abbrev pub IsLemmaAt : Context → ℕ → ℕ → ℕ → Type 0
@@ -21,6 +21,6 @@ IsLemmaAt cx f i k =
 abbrev pub pair_cmp : ℕ × ℕ → ℕ × ℕ → Ordering
 pair_cmp a b = ordering_then (nat_cmp a.0 b.0) (nat_cmp a.1 b.1)
 
--- Each place that is kept, by a function and the number of one of its equations, is that of the equation's lemma.
-pub record IsKeptIn (cx : Context) (kept : Kept) : Type 0 where
-  pub each : (f i : ℕ) → IfSome (tree.get pair_cmp kept.places (f, i)) (IsLemmaAt cx f i)
+-- Each place that is listed, by a function and the number of one of its equations, is that of the equation's lemma.
+pub record IsKeptIn (cx : Context) (kept : List ((ℕ × ℕ) × ℕ)) : Type 0 where
+  pub each : (f i : ℕ) → IfSome (lookup (is_at (pair_cmp (f, i))) kept) (IsLemmaAt cx f i)

@@ -1,8 +1,8 @@
 -- Believed: what public clauses say, and believed definitions of other crates.
 pub mod Valuing
-pub mod Covered
 pub mod KeptLemmas
 -- Private: what clauses of private functions cite, and how private fields are seen.
+pub mod KeptView
 pub mod RecordParts
 pub mod Evaluating
 pub mod Using

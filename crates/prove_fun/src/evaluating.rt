@@ -10,6 +10,7 @@ ghost use Rattle.term_core.specs.PatternLists.{plain_patterns};
 ghost use Rattle.rule_core.specs.Sorting.{HasInjection, HasSort, IsTermOf};
 ghost use Rattle.rule_core.specs.Subsorts.{IsBelow};
 ghost use Rattle.rule_core.specs.ProgramView.{theory_of};
+ghost use Rattle.rule_core.specs.BoundVariables.{HasBoundVariables, IsEquationAt};
 ghost use Rattle.rule_core.specs.Records.{Record, RecordList, Records, result_of, results_of};
 ghost use Rattle.rule_core.specs.RecordView.{plain_record};
 ghost use Rattle.rule_core.specs.WellSorted.{IsSignature, IsWellSorted, Serves};
@@ -19,7 +20,6 @@ ghost use Rattle.prove_term.specs.Applications.{applied_to};
 ghost use Rattle.prove_term.specs.Comparing.{IsOverContext};
 ghost use Rattle.prove_term.specs.Values.{SaysValue};
 ghost use Rattle.prove_fun.specs.Valuing.{EqualsValue};
-ghost use Rattle.prove_fun.specs.Covered.{AreCovered, IsEquationAt};
 ghost use Rattle.prove_fun.specs.KeptLemmas.{IsKeptIn};
 ghost use Rattle.prove_fun.specs.RecordParts.{children_of};
 ghost use Rattle.prove_fun.specs.Evaluating.{AreEvaluated, AreRecorded, Equates, IsEvaluated, IsImage};
@@ -53,7 +53,7 @@ pub fn eval_eq(
     evaluation: &EvalRecord,
 ) -> Result<Option<Thm>, AllocError>
     requires well_sorted { IsWellSorted (theory_of cx.old.program) }
-    requires equations { AreCovered cx.old.program }
+    requires bound { HasBoundVariables cx.old.program }
     requires sorted { (variables : List ℕ) × (sort : ℕ)
         × HasSort cx.old.program.sig variables (plain_pattern pat.now) sort
         × Serves cx.old.program.sig variables subst.now (plain_pattern pat.now) }
@@ -69,6 +69,33 @@ pub fn eval_eq(
     let whole = pattern_of(alloc, evaluation.result())?;
     let image = cx.image(alloc, &whole)?;
     evaluated(alloc, cx, kept, pat, subst, evaluation, &image)
+}
+
+/// The same as a theorem in each case, also where both images are the same. `AllocError` as of `eval_eq`; the context
+/// may have grown then too.
+pub fn value_eq(
+    alloc: Global,
+    cx: &mut Cx<'_>,
+    kept: &mut Kept,
+    pat: &RulePat,
+    subst: &Subst,
+    evaluation: &EvalRecord,
+) -> Result<Thm, AllocError>
+    requires well_sorted { IsWellSorted (theory_of cx.old.program) }
+    requires bound { HasBoundVariables cx.old.program }
+    requires sorted { (variables : List ℕ) × (sort : ℕ)
+        × HasSort cx.old.program.sig variables (plain_pattern pat.now) sort
+        × Serves cx.old.program.sig variables subst.now (plain_pattern pat.now) }
+    requires recorded { Records (theory_of cx.old.program) subst.now (plain_pattern pat.now)
+        (plain_record evaluation.now) }
+    requires kept { IsKeptIn cx.old kept.old }
+    ensures says { IfOk result (λ t.
+        SaysValue cx.new subst.now (plain_pattern pat.now) (result_of (plain_record evaluation.now)) t.conclusion) }
+    ensures stays { IfOk result (StaysIn cx.new) }
+    ensures grown { HasGrown cx.old cx.new }
+    ensures kept { IsKeptIn cx.new kept.new }
+{
+    value_held(alloc, cx, kept, pat, subst, evaluation)
 }
 
 // The same, with the image of the value.

@@ -6,7 +6,8 @@ ghost use Rattle.ml_image.specs.HasImages.{HasEquationImage};
 ghost use Rattle.ml_image.specs.OwnAxioms.{IsEquationFor};
 ghost use Rattle.prove_term.specs.Contexts.{Context, HasGrown};
 ghost use Rattle.prove_equation.specs.EquationLemmas.{IsEquationLemma};
-ghost use Rattle.std.specs.BTreeMap as tree;
+ghost use Rattle.std.specs.BTreeMap.{is_at};
+ghost use Rattle.std.specs.Map.{lookup};
 ghost use Rattle.prove_fun.specs.KeptLemmas.{IsKeptIn, IsLemmaAt, pair_cmp};
 
 use ml_kernel::Lemma;
@@ -15,11 +16,23 @@ use prove_term::Cx;
 use rule_core::Equation;
 use std::alloc::{AllocError, Global};
 use std::collections::BTreeMap;
+use std::marker::Model;
 
-/// Where the lemmas of equations stand in a context, by the function and the number of the equation.
+/// Where the lemmas of equations stand in a context, by the function and the number of the equation. Contracts see the
+/// list of these pairs, each beside the lemma's place.
 #[derive(Drop)]
 pub struct Kept {
     places: BTreeMap<(u32, u32), usize>,
+}
+
+impl Model for Kept {
+    ghost use Rattle.std.specs.Prelude.{ℕ, List};
+
+    ghost Value = { List ((ℕ × ℕ) × ℕ) };
+
+    ghost use Rattle.prove_fun.specs.KeptView.{places_of};
+
+    ghost view = { places_of };
 }
 
 impl Kept {
@@ -34,7 +47,7 @@ impl Kept {
 
     // The place of the lemma of an equation, where there is one.
     fn place(&self, function: u32, number: u32) -> Option<usize>
-        ensures { result ≡ tree.get pair_cmp self.now.places (function, number) }
+        ensures { result ≡ lookup (is_at (pair_cmp (function, number))) self.now }
     {
         self.places.get(&(function, number)).copied()
     }

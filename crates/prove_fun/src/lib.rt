@@ -9,5 +9,5 @@ mod hooks;
 mod kept;
 mod parts;
 
-pub use evaluating::eval_eq;
+pub use evaluating::{eval_eq, value_eq};
 pub use kept::Kept;

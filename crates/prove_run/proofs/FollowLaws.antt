@@ -1,6 +1,5 @@
 -- The theorem of a step follows from what is written.
-use Rattle.std.proofs.Common.{◌≡◌, ℕ, ◌≤◌, true, List, [], ◌++◌, Some, length, inl, inr, refl, ap, ◌∙◌, sym, subst}
-use Rattle.std.specs.List.{list_all}
+use Rattle.std.proofs.Common.{◌≡◌, ℕ, ◌≤◌, List, [], ◌++◌, Some, length, inl, inr, refl, ap, ◌∙◌, sym, subst}
 use Rattle.std.proofs.lemmas.List.{append_assoc}
 use Rattle.ml_pat.specs.Patterns.{Pattern, imp, next, ev}
 use Rattle.ml_kernel.specs.Theorems.{Theorem, IsByLemma}
@@ -8,30 +7,22 @@ use Rattle.ml_kernel.specs.Lemmas.{HasNoMeta, HasNoVariable, instance}
 use Rattle.ml_kernel.proofs.InstanceLaws.{instance-empty}
 use Rattle.ml_scope.specs.Scopes.{IsOver, IsWithin}
 use Rattle.ml_scope.proofs.RuleLaws.{lemma_within}
-use Rattle.term_core.specs.Terms.{Tree, Forest, leaf, node, inj, no_tree, more_trees, height}
+use Rattle.term_core.specs.Terms.{Tree, Forest, leaf, node, inj, no_tree, more_trees}
 use Rattle.term_core.specs.Patterns.{Pattern as RulePattern, ground_pattern, ground_patterns}
 use Rattle.rule_core.specs.Matching.{StandsInSome}
-use Rattle.ml_pat.proofs.LeafLaws.{split_true}
 use Rattle.ml_derived.specs.Implications.{IsOneStepOn, ReachesOneFurther}
 use Rattle.ml_image.specs.NamingLaws.{ImageStays}
 use Rattle.mm_justify.specs.ImageLaws.{SentenceHasNoMeta}
-use Rattle.rule_core.specs.Evaluation.{most_height}
-use Rattle.rule_core.specs.Theories.{RewriteTheory}
 use Rattle.mm_claims.specs.LaterLaws.{FitsLater}
-use Rattle.prove_step.specs.PlainRules.{is_plain, is_plain_rule}
-use Rattle.prove_run.specs.Covered.{is_covered}
-use Rattle.std.specs.Prelude.{slice_get, Option, Contains, IsSomeAnd}
-use Rattle.term_core.specs.Patterns.{instance_of, FitsWithin}
+use Rattle.std.specs.Prelude.{Option, Contains}
 use Rattle.term_core.specs.RulePatterns.{plain_pattern}
 use Rattle.term_core.specs.declared.rule_patterns.RulePat.{RulePat}
-use Rattle.rule_core.specs.FirstRule.{Matches}
-use Rattle.rule_core.specs.ProgramView.{rewrite_rule, theory_of}
-use Rattle.rule_core.specs.declared.rules.Rule.{Rule}
+use Rattle.rule_core.specs.ProgramView.{theory_of}
+use Rattle.rule_core.specs.Records.{StepRecord, result_of}
 use Rattle.rule_core.specs.declared.rules.Program.{Program}
-use Rattle.prove_step.specs.Steps.{SaysStep, SaysStepAt}
+use Rattle.prove_step.specs.Steps.{IsStepFrom, SaysStep}
 use Rattle.prove_run.specs.RunProof.{RunProof, configuration, reached}
 use Rattle.prove_run.specs.Proving.{CanStep}
-use Rattle.prove_run.proofs.PlainSteps.{match_makes, plain_at}
 use Rattle.proof_writer.specs.declared.writer.Writer.{Writer}
 use Rattle.prove_run.specs.Reaching.{HasReached}
 use Rattle.prove_run.specs.ReachLemma.{GoesFurther}
@@ -125,12 +116,6 @@ mutual
 
 -- ---- a proof begins, and goes on
 
-pub covered_parts : (theory : RewriteTheory) (start : RulePattern) → is_covered theory start ≡ true → (is_plain start ≡ true) × (list_all is_plain_rule theory.rules ≡ true)
-covered_parts theory start h = split_true (is_plain start) (list_all is_plain_rule theory.rules) h
-
-pub covered_rules : (theory : RewriteTheory) (start : RulePattern) → is_covered theory start ≡ true → list_all is_plain_rule theory.rules ≡ true
-covered_rules theory start h = (covered_parts theory start h).1
-
 -- what a text is that begins, and with a theorem after it
 pub begun_text : FitsLater → (old new : Context) (k k' : Kept) (before middle after : List ℕ) → k.named ≤ length old.names → HasGrown old new → Begins old k before middle →
     Adds new k k' middle after → (added : List ℕ) × (after ≡ before ++ added) × IsTextOf new k' added
@@ -142,49 +127,37 @@ begun_text later old new k k' before middle after few grown (m, is, text) (n, is
 
 -- ---- what is known of a proof where it makes a step
 
--- the rule that is named, and the term that the proof has come to
-pub record Standing (prover : Context) (w : Writer) (last : Theorem) (start : RulePattern) (i : ℕ) (theta : List (Option Tree)) (u : Tree) : Type 0 where
-  pub rule : Rule
-  pub there : slice_get prover.program.rules.items i ≡ Some rule
+-- the term that the proof has come to, from which the step is
+pub record Standing (prover : Context) (w : Writer) (last : Theorem) (start : RulePattern) (step : StepRecord) : Type 0 where
   pub term : Tree
-  pub matches : Matches (theory_of prover.program) (rewrite_rule rule) term theta
-  pub makes : instance_of theta (plain_pattern rule.right) ≡ Some u
-  pub low : height term ≤ most_height
-  pub plain : is_plain_rule (rewrite_rule rule) ≡ true
+  pub follows : IsStepFrom (theory_of prover.program) term step
   pub reached : HasReached prover w last start (ground_pattern term)
 
-pub standing : (v : RunProof) (prover : Context) (w : Writer) (start : RulePat) (config : Option Tree) (last : Theorem) (i : ℕ) (theta : List (Option Tree)) (u : Tree)
+pub standing : (v : RunProof) (prover : Context) (w : Writer) (start : RulePat) (config : Option Tree) (last : Theorem) (step : StepRecord)
     → record { program = prover.program; start = start; made = config; names = prover.names; kept = w.renderer } ≡ v
-    → list_all is_plain_rule (theory_of prover.program).rules ≡ true
-    → HasReached prover w last (plain_pattern start) (configuration (plain_pattern start) config) → CanStep v i theta u → Standing prover w last (plain_pattern start) i theta u
-standing v prover w start config last i theta u is rules reach can =
+    → HasReached prover w last (plain_pattern start) (configuration (plain_pattern start) config) → CanStep v step → Standing prover w last (plain_pattern start) step
+standing v prover w start config last step is reach can =
     let at : configuration (plain_pattern start) config ≡ ground_pattern can.term = ap reached is ∙ can.at in
     let program : v.program ≡ prover.program = ap (λ (p : RunProof). p.program) (sym is) in
-    let there : slice_get prover.program.rules.items i ≡ Some can.rule = subst (λ (p : Program). slice_get p.rules.items i ≡ Some can.rule) program can.there in
     record {
-      rule = can.rule;
-      there = there;
       term = can.term;
-      matches = subst (λ (p : Program). Matches (theory_of p) (rewrite_rule can.rule) can.term theta) program can.matches;
-      makes = can.makes;
-      low = can.low;
-      plain = plain_at prover.program.rules.items i can.rule there rules;
+      follows = subst (λ (p : Program). IsStepFrom (theory_of p) can.term step) program can.follows;
       reached = subst (HasReached prover w last (plain_pattern start)) at reach;
     }
 
--- what the step makes is not too high
-pub makes_low : (theta : List (Option Tree)) (r : Rule) (u : Tree) → instance_of theta (plain_pattern r.right) ≡ Some u → height u ≤ most_height → FitsWithin most_height theta (plain_pattern r.right)
-makes_low theta r u makes low = subst (λ (o : Option Tree). IsSomeAnd o (λ (t : Tree). height t ≤ most_height)) (sym makes) low
+-- what the theorem of a step says, from whatever term it is
+abbrev pub SaysMoved : Context → StepRecord → Pattern → Type 0
+SaysMoved cx step p = (t : Tree) → IsStepFrom (theory_of cx.program) t step → SaysStep cx t (result_of step.right) p
 
-pub making : ImageStays → SentenceHasNoMeta → (prover : Context) (w : Writer) (last : Theorem) (start : RulePattern) (i : ℕ) (theta : List (Option Tree)) (u : Tree) (new : Context) (sofar step : Theorem)
-    (s : Standing prover w last start i theta u) → HasGrown prover new → SaysStepAt new i theta step.conclusion → sofar.conclusion ≡ instance [] last.conclusion
-    → Making prover new w last sofar step start s.term u
-making stays no_metas prover w last start i theta u new sofar step s grown says again = record {
+pub making : ImageStays → SentenceHasNoMeta → (prover : Context) (w : Writer) (last : Theorem) (start : RulePattern) (step : StepRecord) (new : Context) (sofar moved : Theorem)
+    (s : Standing prover w last start step) → HasGrown prover new → SaysMoved new step moved.conclusion → sofar.conclusion ≡ instance [] last.conclusion
+    → Making prover new w last sofar moved start s.term (result_of step.right)
+making stays no_metas prover w last start step new sofar moved s grown says again = record {
   stays = stays;
   no_metas = no_metas;
   grown = grown;
   reached = s.reached;
-  says = says s.rule (subst (λ (p : Program). slice_get p.rules.items i ≡ Some s.rule) (sym grown.program) s.there) s.term u (match_makes (theory_of prover.program) (rewrite_rule s.rule) s.term theta s.matches) s.makes;
+  says = says s.term (subst (λ (p : Program). IsStepFrom (theory_of p) s.term step) (sym grown.program) s.follows);
   again = again;
 }
 

@@ -1,6 +1,5 @@
 pub mod ContextLaws
 pub mod FollowLaws
-pub mod PlainSteps
 pub mod WritingOn
 pub mod ReachLaws
 pub mod StartingLaws

@@ -1,6 +1,5 @@
 -- What the first theorem of a run says.
-use Rattle.std.proofs.Common.{◌≡◌, ◌≤◌, ◌^◌, ℕ, List, [], ◌∷◌, Option, Some, None, refl, sym, ◌∙◌, ap, subst}
-use Rattle.std.specs.Prelude.{IsSomeAnd}
+use Rattle.std.proofs.Common.{◌≡◌, ◌^◌, ℕ, List, [], ◌∷◌, Option, Some, None, refl, sym, ◌∙◌, ap, subst}
 use Rattle.ml_pat.specs.Patterns.{Pattern, imp, equal, ev, var}
 use Rattle.ml_pat.specs.Judgements.{substituted}
 use Rattle.ml_kernel.specs.Lemmas.{HasNoVariable}
@@ -8,12 +7,10 @@ use Rattle.ml_kernel.specs.Theorems.{Theorem}
 use Rattle.ml_kernel.proofs.InstanceLaws.{substituted-without}
 use Rattle.ml_scope.specs.Scopes.{StaysWithin}
 use Rattle.ml_derived.specs.Equalities.{CanCarry, IsCarried}
-use Rattle.term_core.specs.Terms.{Tree, height}
-use Rattle.term_core.specs.Patterns.{Pattern as RulePattern, binding, instance_of, ground_pattern, FitsWithin}
-use Rattle.rule_core.specs.Evaluation.{most_height}
-use Rattle.rule_core.specs.Matching.{RespectsSorts}
+use Rattle.term_core.specs.Terms.{Tree}
+use Rattle.term_core.specs.Patterns.{Pattern as RulePattern, binding, ground_pattern}
 use Rattle.rule_core.specs.Sorting.{HasSort}
-use Rattle.rule_core.specs.WellSorted.{IsSignature}
+use Rattle.rule_core.specs.WellSorted.{IsSignature, Serves}
 use Rattle.rule_core.specs.declared.signature.Signature.{Signature}
 use Rattle.ml_image.specs.HasImages.{HasImage}
 use Rattle.ml_image.specs.Images.{image_of}
@@ -21,17 +18,17 @@ use Rattle.ml_image.specs.Sentences.{term}
 use Rattle.ml_image.proofs.ImageLaws.{some_same}
 use Rattle.ml_image.proofs.WellSortedLaws.{sorted_has_image}
 use Rattle.prove_term.specs.Contexts.{Context, HasGrown, StaysIn}
-use Rattle.prove_term.specs.EqualImages.{SaysEqualImages}
-use Rattle.prove_term.proofs.ContextLaws.{grown_none, has_before}
+use Rattle.prove_term.specs.Filling.{filled}
+use Rattle.prove_term.specs.Values.{SaysValue}
+use Rattle.prove_term.proofs.ContextLaws.{has_before}
 use Rattle.prove_term.proofs.ComparingLaws.{image_closed}
 use Rattle.prove_term.proofs.FillingLaws.{filled_nothing}
-use Rattle.prove_step.specs.Normalizing.{Turns}
 use Rattle.prove_schema.proofs.ElementLaws.{pattern_grown}
-use Rattle.prove_step.proofs.NormalizingLaws.{turned_side}
+use Rattle.prove_fun.specs.Valuing.{HasImageOf}
 use Rattle.proof_writer.specs.Writing.{HasNoVariables}
 use Rattle.prove_run.specs.RunProof.{configuration}
 use Rattle.prove_run.specs.Reaching.{SaysReached}
-use Rattle.prove_run.proofs.ContextLaws.{image_wherever, image_is_closed}
+use Rattle.prove_run.proofs.ContextLaws.{image_wherever, image_is_closed, sorted_has_none}
 use Rattle.prove_run.proofs.FollowLaws.{ground_has_none}
 
 -- ---- initial terms
@@ -43,13 +40,13 @@ start_has_image sig start sort ok sorted = image_wherever sig (2 ^ 32) start (so
 nothing_bound : {P : Type 0} (x : ℕ) (t : Tree) → binding [] x ≡ Some t → P
 nothing_bound x t e = absurd (let no : ⊥ = cc in no)
 
-pub nothing_respects : (sig : Signature) (theta : List (Option Tree)) → theta ≡ [] → RespectsSorts sig [] theta
-nothing_respects sig theta none = subst (RespectsSorts sig []) (sym none) (λ x t bound. nothing_bound x t bound)
-
-pub value_fits : (theta : List (Option Tree)) (start : RulePattern) (t : Tree) → theta ≡ [] → instance_of [] start ≡ Some t → height t ≤ most_height → FitsWithin most_height theta start
-value_fits theta start t none makes low =
-    subst (λ (s : List (Option Tree)). FitsWithin most_height s start) (sym none)
-    (subst (λ (o : Option Tree). IsSomeAnd o (λ (u : Tree). height u ≤ most_height)) (sym makes) low)
+-- and none is asked for
+pub start_serves : (sig : Signature) (theta : List (Option Tree)) (start : RulePattern) (sort : ℕ) → theta ≡ [] → HasSort sig [] start sort → Serves sig [] theta start
+start_serves sig theta start sort none sorted = subst (λ (s : List (Option Tree)). Serves sig [] s start) (sym none) (record {
+  bound = λ x stands. absurd (sorted_has_none sig start sort sorted x stands);
+  sorted = λ x t bound. nothing_bound x t bound;
+  low = λ x t bound. nothing_bound x t bound;
+})
 
 -- no variable stands in the configuration at which a proof begins
 pub begun_has_none : (start : RulePattern) (value : Option Tree) → HasNoVariables start → HasNoVariables (configuration start value)
@@ -76,12 +73,12 @@ itself_stays cx start here t image stays s has = stays s (has.images (term start
 
 -- ---- .. and its value
 
--- the image of the start turns into that of its value
-reaching : (old new : Context) (start : RulePattern) (theta : List (Option Tree)) (u : Tree) (o : Option Theorem) (itself : Theorem) → theta ≡ [] → HasGrown old new → (h : SaysReached old start start itself)
-    → SaysEqualImages new theta start o → instance_of [] start ≡ Some u → (to : Pattern) × Turns o h.to to × (image_of new.program.sig new.names (ground_pattern u) ≡ Some to)
-reaching old new start theta u o itself none g h equal_images makes =
-    turned_side new new [] start o u h.to (grown_none new) (subst (λ (s : List (Option Tree)). SaysEqualImages new s start o) none equal_images) makes
-    (ap (image_of new.program.sig new.names) (filled_nothing start) ∙ pattern_grown old new start h.to g h.to_image)
+-- the start is as it is with nothing in the places of its variables
+start_image : (old new : Context) (start : RulePattern) (theta : List (Option Tree)) (itself : Theorem) → theta ≡ [] → HasGrown old new → (h : SaysReached old start start itself)
+    → image_of new.program.sig new.names (filled theta start) ≡ Some h.to
+start_image old new start theta itself none g h =
+    ap (λ (s : List (Option Tree)). image_of new.program.sig new.names (filled s start)) none ∙ ap (image_of new.program.sig new.names) (filled_nothing start)
+    ∙ pattern_grown old new start h.to g h.to_image
 
 reached_as : (old new : Context) (start : RulePattern) (u : Tree) (itself t : Theorem) (to : Pattern) → HasGrown old new → (h : SaysReached old start start itself)
     → image_of new.program.sig new.names (ground_pattern u) ≡ Some to → t.conclusion ≡ imp h.from (ev to) → SaysReached new start (ground_pattern u) t
@@ -95,24 +92,27 @@ reached_as old new start u itself t to g h image says = record {
 }
 
 pub same_reached : (old new : Context) (start : RulePattern) (theta : List (Option Tree)) (u : Tree) (itself : Theorem) → theta ≡ [] → HasGrown old new → SaysReached old start start itself
-    → SaysEqualImages new theta start None → instance_of [] start ≡ Some u → SaysReached new start (ground_pattern u) itself
-same_reached old new start theta u itself none g h equal_images makes =
-    let w : (to : Pattern) × Turns None h.to to × (image_of new.program.sig new.names (ground_pattern u) ≡ Some to) = reaching old new start theta u None itself none g h equal_images makes in
-    reached_as old new start u itself itself w.0 g h w.2 (h.says ∙ ap (λ (p : Pattern). imp h.from (ev p)) w.1)
+    → HasImageOf new theta start u → SaysReached new start (ground_pattern u) itself
+same_reached old new start theta u itself none g h has =
+    let same : h.to ≡ has.image = some_same h.to has.image (sym (start_image old new start theta itself none g h) ∙ has.left_image) in
+    reached_as old new start u itself itself has.image g h has.right_image (h.says ∙ ap (λ (p : Pattern). imp h.from (ev p)) same)
+
+-- the equality turns the image of the start into that of its value
+turned : (old new : Context) (start : RulePattern) (theta : List (Option Tree)) (u : Tree) (e itself : Theorem) → theta ≡ [] → HasGrown old new → (h : SaysReached old start start itself)
+    → (is : SaysValue new theta start u e.conclusion) → e.conclusion ≡ equal h.to is.right
+turned old new start theta u e itself none g h is =
+    is.says ∙ ap (λ (p : Pattern). equal p is.right) (some_same is.left h.to (sym is.left_image ∙ start_image old new start theta itself none g h))
 
 -- what the rule that turns it asks for
 pub can_turn : (old new : Context) (start : RulePattern) (theta : List (Option Tree)) (u : Tree) (e itself : Theorem) → theta ≡ [] → HasGrown old new → SaysReached old start start itself
-    → SaysEqualImages new theta start (Some e) → instance_of [] start ≡ Some u → (p r q : Pattern) × (e.conclusion ≡ equal r q) × (itself.conclusion ≡ imp p (ev r)) × HasNoVariable p
-can_turn old new start theta u e itself none g h equal_images makes =
-    let w : (to : Pattern) × Turns (Some e) h.to to × (image_of new.program.sig new.names (ground_pattern u) ≡ Some to) = reaching old new start theta u (Some e) itself none g h equal_images makes in
-    (h.from, h.to, w.0, w.1, h.says, h.closed.0)
+    → SaysValue new theta start u e.conclusion → (p r q : Pattern) × (e.conclusion ≡ equal r q) × (itself.conclusion ≡ imp p (ev r)) × HasNoVariable p
+can_turn old new start theta u e itself none g h is = (h.from, h.to, is.right, turned old new start theta u e itself none g h is, h.says, h.closed.0)
 
 pub other_reached : (old new : Context) (start : RulePattern) (theta : List (Option Tree)) (u : Tree) (e itself t : Theorem) → theta ≡ [] → HasGrown old new → SaysReached old start start itself
-    → SaysEqualImages new theta start (Some e) → instance_of [] start ≡ Some u → ((p r q : Pattern) → e.conclusion ≡ equal r q → itself.conclusion ≡ imp p (ev r) → t.conclusion ≡ imp p (ev q))
+    → SaysValue new theta start u e.conclusion → ((p r q : Pattern) → e.conclusion ≡ equal r q → itself.conclusion ≡ imp p (ev r) → t.conclusion ≡ imp p (ev q))
     → SaysReached new start (ground_pattern u) t
-other_reached old new start theta u e itself t none g h equal_images makes turns =
-    let w : (to : Pattern) × Turns (Some e) h.to to × (image_of new.program.sig new.names (ground_pattern u) ≡ Some to) = reaching old new start theta u (Some e) itself none g h equal_images makes in
-    reached_as old new start u itself t w.0 g h w.2 (turns h.from h.to w.0 w.1 h.says)
+other_reached old new start theta u e itself t none g h is turns =
+    reached_as old new start u itself t is.right g h is.right_image (turns h.from h.to is.right (turned old new start theta u e itself none g h is) h.says)
 
 pub other_stays : (old new : Context) (e itself t : Theorem) → HasGrown old new → StaysIn old itself → StaysIn new e → StaysWithin (var 0 ∷ []) (e ∷ itself ∷ []) t → StaysIn new t
 other_stays old new e itself t g stays on_equality turned s has = turned s (has.objects 0, tt) (on_equality s has, (stays s (has_before old new s g has), tt))

@@ -1,11 +1,10 @@
 -- How a `Proof` of the code is seen, and what is true of it.
-use Rattle.std.specs.Prelude.{◌≡◌, true, Contains}
-use Rattle.std.specs.List.{list_all}
+use Rattle.std.specs.Prelude.{Contains}
 use Rattle.term_core.specs.RulePatterns.{plain_pattern}
+use Rattle.rule_core.specs.BoundVariables.{HasBoundVariables}
 use Rattle.rule_core.specs.ProgramView.{theory_of}
 use Rattle.rule_core.specs.WellSorted.{IsWellSorted}
 use Rattle.prove_term.specs.Contexts.{IsContext}
-use Rattle.prove_step.specs.PlainRules.{is_plain_rule}
 use Rattle.proof_writer.specs.PlainNames.{HasPlainNames}
 use Rattle.proof_writer.specs.Writing.{HasWrittenAll}
 use Rattle.prove_run.specs.RunProof.{RunProof, configuration}
@@ -22,12 +21,12 @@ run_proof p = record {
   kept = p.writer.renderer;
 }
 
--- The program is well-sorted, and its names can stand in a text; all that was made is written; the last theorem says
--- how far the run has come; and the lemma by which it goes further is one of the context's.
+-- The program is well-sorted, its variables are bound, and its names can stand in a text; all that was made is written;
+-- the last theorem says how far the run has come; and the lemma by which it goes further is one of the context's.
 pub record IsProof (p : Inside) : Type 0 where
   pub well_sorted : IsWellSorted (theory_of p.prover.program)
+  pub bound : HasBoundVariables p.prover.program
   pub names : HasPlainNames p.prover.program.sig
-  pub rules : list_all is_plain_rule (theory_of p.prover.program).rules ≡ true
   pub context : IsContext p.prover
   pub written : HasWrittenAll p.writer p.prover
   pub has_reached : HasReached p.prover p.writer p.last (plain_pattern p.start.now)

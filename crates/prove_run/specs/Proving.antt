@@ -1,16 +1,17 @@
 -- Which texts fit a proof of a run, how a proof begins, and what a step makes of it.
-use Rattle.std.specs.Prelude.{◌≡◌, ◌≤◌, ℕ, List, ◌++◌, slice_get, Option, Some}
-use Rattle.term_core.specs.Terms.{Tree, height}
-use Rattle.term_core.specs.Patterns.{ground_pattern, instance_of}
+use Rattle.std.specs.Prelude.{◌≡◌, ℕ, List, ◌++◌, Option, Some, option_map}
+use Rattle.term_core.specs.Terms.{Tree}
+use Rattle.term_core.specs.Patterns.{ground_pattern}
 use Rattle.term_core.specs.declared.rule_patterns.RulePat.{RulePat}
 use Rattle.term_core.specs.RulePatterns.{plain_pattern}
-use Rattle.rule_core.specs.Evaluation.{most_height}
-use Rattle.rule_core.specs.FirstRule.{Matches}
-use Rattle.rule_core.specs.ProgramView.{rewrite_rule, theory_of}
-use Rattle.rule_core.specs.declared.rules.Rule.{Rule}
+use Rattle.rule_core.specs.ProgramView.{theory_of}
+use Rattle.rule_core.specs.Records.{StepRecord, result_of}
+use Rattle.rule_core.specs.RecordView.{plain_record}
+use Rattle.rule_core.specs.declared.records.EvalRecord.{EvalRecord}
 use Rattle.rule_core.specs.declared.rules.Program.{Program}
 use Rattle.mm_claims.specs.Keeping.{Fits}
 use Rattle.mm_justify.specs.Justifying.{HasOnlyAxiomsOf, JustifiesRun}
+use Rattle.prove_step.specs.Steps.{IsStepFrom}
 use Rattle.prove_run.specs.RunProof.{RunProof, reached}
 
 -- A text fits a proof: it is just what the proof keeps of it, it has only axioms of the program, and it justifies the
@@ -19,6 +20,10 @@ pub record FitsProof (proof : RunProof) (text : List ℕ) : Type 0 where
   pub fits : Fits proof.names proof.kept text
   pub only : HasOnlyAxiomsOf (theory_of proof.program) text
   pub justifies : JustifiesRun text (theory_of proof.program) (plain_pattern proof.start) (reached proof)
+
+-- the value that a record tells, where there is one
+abbrev pub value_told : Option EvalRecord → Option Tree
+value_told o = option_map (λ (r : EvalRecord). result_of (plain_record r)) o
 
 -- a proof that a start reaches its value, or where it has none itself, by no step; what was appended to a buffer is a
 -- text that fits it
@@ -29,16 +34,11 @@ pub record Begins (program : Program) (start : RulePat) (value : Option Tree) (p
   pub made : proof.made ≡ value
   pub text : (added : List ℕ) × (after ≡ before ++ added) × FitsProof proof added
 
--- The rule at a place matches the present configuration, which is not too high, with the substitution, which makes the
--- term u of its right side.
-pub record CanStep (proof : RunProof) (place : ℕ) (theta : List (Option Tree)) (u : Tree) : Type 0 where
-  pub rule : Rule
-  pub there : slice_get proof.program.rules.items place ≡ Some rule
+-- The record tells a step from the present configuration, which is a term.
+pub record CanStep (proof : RunProof) (step : StepRecord) : Type 0 where
   pub term : Tree
   pub at : reached proof ≡ ground_pattern term
-  pub low : height term ≤ most_height
-  pub matches : Matches (theory_of proof.program) (rewrite_rule rule) term theta
-  pub makes : instance_of theta (plain_pattern rule.right) ≡ Some u
+  pub follows : IsStepFrom (theory_of proof.program) term step
 
 -- A proof goes on to a term: it is the present configuration then. Bytes were appended to a buffer; with them after it
 -- each text that fitted the proof fits the new one.

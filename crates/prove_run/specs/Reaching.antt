@@ -1,6 +1,11 @@
--- What the theorem that was stated last says.
-use Rattle.std.specs.Prelude.{◌≡◌, [], Some}
+-- What a start is, and what the theorem that was stated last says.
+use Rattle.std.specs.Prelude.{◌≡◌, ℕ, [], Some}
 use Rattle.term_core.specs.Patterns.{Pattern as RulePattern}
+use Rattle.rule_core.specs.BoundVariables.{HasBoundVariables}
+use Rattle.rule_core.specs.ProgramView.{theory_of}
+use Rattle.rule_core.specs.Sorting.{HasSort}
+use Rattle.rule_core.specs.WellSorted.{IsWellSorted}
+use Rattle.rule_core.specs.declared.rules.Program.{Program}
 use Rattle.ml_pat.specs.Patterns.{Pattern, imp, ev}
 use Rattle.ml_kernel.specs.Lemmas.{HasNoVariable}
 use Rattle.ml_kernel.specs.Theorems.{Theorem}
@@ -10,6 +15,13 @@ use Rattle.mm_claims.specs.Places.{IsStated}
 use Rattle.prove_term.specs.Contexts.{Context}
 use Rattle.proof_writer.specs.Writing.{HasNoVariables}
 use Rattle.proof_writer.specs.declared.writer.Writer.{Writer}
+
+-- an initial term without variables, of a well-sorted program whose variables are bound
+pub record IsStarting (program : Program) (start : RulePattern) : Type 0 where
+  pub well_sorted : IsWellSorted (theory_of program)
+  pub bound : HasBoundVariables program
+  pub sort : ℕ
+  pub sorted : HasSort program.sig [] start sort
 
 -- the theorem says that the image of the start reaches that of the present configuration; no object variable stands in
 -- them

@@ -1,16 +1,17 @@
 // A proof of a run, step by step.
-ghost use Rattle.std.specs.Prelude.{◌≡◌, true, [], Contains, IfOk, IfSome, OnOk, Some};
-ghost use Rattle.term_core.specs.Patterns.{instance_of};
+ghost use Rattle.std.specs.Prelude.{◌≡◌, [], Contains, IfOk, IfSome, OnOk, option_copied};
 ghost use Rattle.term_core.specs.RulePatterns.{plain_pattern};
+ghost use Rattle.rule_core.specs.BoundVariables.{HasBoundVariables};
 ghost use Rattle.rule_core.specs.ProgramView.{theory_of};
+ghost use Rattle.rule_core.specs.Records.{Records, result_of};
+ghost use Rattle.rule_core.specs.RecordView.{plain_record, plain_step};
 ghost use Rattle.rule_core.specs.WellSorted.{IsStart, IsWellSorted};
 ghost use Rattle.mm_claims.specs.Kept.{all_stated};
 ghost use Rattle.mm_claims.specs.Places.{IsStated};
 ghost use Rattle.prove_term.specs.Contexts.{HasGrown, IsContext};
 ghost use Rattle.proof_writer.specs.PlainNames.{HasPlainNames};
 ghost use Rattle.proof_writer.specs.Writing.{Adds, Concludes, HasWritten, HasWrittenAll, Keeps, MayFollow};
-ghost use Rattle.prove_run.specs.Covered.{is_covered};
-ghost use Rattle.prove_run.specs.Proving.{Begins, CanStep, StepsTo};
+ghost use Rattle.prove_run.specs.Proving.{Begins, CanStep, StepsTo, value_told};
 ghost use Rattle.prove_run.specs.ReachLemma.{IsReachLemma};
 
 use crate::further::{reach_further, reach_lemma};
@@ -21,10 +22,10 @@ use mm_claims::later_laws;
 use mm_justify::image_laws;
 use proof_writer::{Made, Writer};
 use prove_step::Prover;
-use rule_core::Program;
+use rule_core::{EvalRecord, Program, StepRecord};
 use std::alloc::{AllocError, Global};
 use std::marker::Model;
-use term_core::{RulePat, Subst, Term};
+use term_core::{RulePat, Term};
 
 /// A proof that the start of a run reaches the present configuration. Contracts see it as these two, the program, the
 /// names, and what is kept of the text.
@@ -60,22 +61,23 @@ impl<'p> Model for Proof<'p> {
 }
 
 impl<'p> Proof<'p> {
-    /// The proof of a run of no step: the start reaches its value, or where it has none itself. Its text is appended to
-    /// the buffer. The program is well-sorted and covered with this start. The error: out of memory; then a part of
-    /// the text was appended.
+    /// The proof of a run of no step: the start reaches its value, by the record of its evaluation, or where it has
+    /// none itself. Its text is appended to the buffer. The error: out of memory; then a part of the text was appended.
     pub fn begin(
         alloc: Global,
         program: &'p Program,
         start: &'p RulePat,
-        value: Option<Term>,
+        value: Option<&EvalRecord>,
         to: &mut Vec<u8>,
     ) -> Result<Proof<'p>, AllocError>
         requires names { HasPlainNames program.now.sig }
         requires well_sorted { IsWellSorted (theory_of program.now) }
+        requires bound { HasBoundVariables program.now }
         requires start { IsStart (theory_of program.now) (plain_pattern start.now) }
-        requires covered { is_covered (theory_of program.now) (plain_pattern start.now) ≡ true }
-        requires value { IfSome value (λ t. instance_of [] (plain_pattern start.now) ≡ Some t) }
-        ensures { IfOk result (λ proof. Begins program.now start.now value proof to.old.items to.new.items) }
+        requires value { IfSome value
+            (λ r. Records (theory_of program.now) [] (plain_pattern start.now) (plain_record r.now)) }
+        ensures { IfOk result (λ proof. Begins program.now start.now (value_told (option_copied value.entry)) proof
+            to.old.items to.new.items) }
     {
         condition_laws();
         later_laws();
@@ -83,43 +85,42 @@ impl<'p> Proof<'p> {
         let mut prover = Prover::new(alloc, program)?;
         let mut writer = Writer::begin(alloc, program, to)?;
         let reach = keep_reach_lemma(alloc, &mut prover)?;
-        let first = start_reaches(alloc, &mut prover, start, &value)?;
+        let first = start_reaches(alloc, &mut prover, start, value)?;
         let last = state(&prover, &mut writer, first, to)?;
+        let reached = value_of(value)?;
         Ok(Proof {
             prover,
             writer,
             start,
-            reached: value,
+            reached,
             last,
             reach,
         })
     }
 
-    /// One step more, by the rule at a place of the program, which matches the present configuration with a
-    /// substitution. What it makes of its right side is the present configuration then. The text of the step is
-    /// appended to the buffer. The error: out of memory; then a part of it was appended, and no proof is left.
+    /// One step more, by the record of a step from the present configuration. The value of its right side is the
+    /// present configuration then. The text of the step is appended to the buffer. The error: out of memory; then a
+    /// part of it was appended, and no proof is left.
     pub fn step(
         self,
         alloc: Global,
-        rule: u32,
-        subst: &Subst,
-        config: &Term,
+        step: &StepRecord,
         to: &mut Vec<u8>,
     ) -> Result<Proof<'p>, AllocError>
-        requires applies { CanStep self rule subst.now config.now }
-        ensures { IfOk result (λ further. StepsTo self.entry further config.now to.old.items to.new.items) }
+        requires applies { CanStep self (plain_step step.now) }
+        ensures { IfOk result (λ further.
+            StepsTo self.entry further (result_of (plain_step step.now).right) to.old.items to.new.items) }
     {
         image_laws();
         later_laws();
         naming_laws();
-        let _high = config.height();
         let mut prover = self.prover;
         let mut writer = self.writer;
-        let step = prover.step(alloc, rule, subst)?;
+        let moved = prover.step(alloc, step)?;
         let sofar = Thm::use_lemma(alloc, &self.last, &[], &[])?;
-        let further = reach_further(alloc, &self.reach, &sofar, &step)?;
+        let further = reach_further(alloc, &self.reach, &sofar, &moved)?;
         let last = state(&prover, &mut writer, further, to)?;
-        let made = config.share()?;
+        let made = step.right.result().share()?;
         Ok(Proof {
             prover,
             writer,
@@ -128,6 +129,16 @@ impl<'p> Proof<'p> {
             last,
             reach: self.reach,
         })
+    }
+}
+
+// The value that a record tells, where there is one.
+fn value_of(value: Option<&EvalRecord>) -> Result<Option<Term>, AllocError>
+    ensures { IfOk result (λ told. told ≡ value_told (option_copied value.entry)) }
+{
+    match value {
+        Some(evaluation) => Ok(Some(evaluation.result().share()?)),
+        None => Ok(None),
     }
 }
 

@@ -1,45 +1,47 @@
 // The first theorem of a run: the initial term reaches its value.
-ghost use Rattle.std.specs.Prelude.{◌≡◌, ◌∷◌, ℕ, [], IfOk, IfSome, Some};
+ghost use Rattle.std.specs.Prelude.{◌≡◌, ◌∷◌, [], IfOk, IfSome, Some, option_copied};
 ghost use Rattle.ml_pat.specs.Patterns.{Pattern, imp, equal, ev, var};
 ghost use Rattle.ml_kernel.specs.Lemmas.{HasNoVariable};
 ghost use Rattle.ml_scope.specs.Scopes.{StaysWithin};
-ghost use Rattle.term_core.specs.Patterns.{instance_of};
 ghost use Rattle.term_core.specs.RulePatterns.{plain_pattern};
-ghost use Rattle.rule_core.specs.Sorting.{HasSort};
-ghost use Rattle.rule_core.specs.WellSorted.{IsSignature};
+ghost use Rattle.rule_core.specs.ProgramView.{theory_of};
+ghost use Rattle.rule_core.specs.Records.{Records, result_of};
+ghost use Rattle.rule_core.specs.RecordView.{plain_record};
 ghost use Rattle.prove_term.specs.Contexts.{HasGrown, StaysIn};
 ghost use Rattle.prove_run.specs.RunProof.{configuration};
-ghost use Rattle.prove_run.specs.Reaching.{SaysReached};
+ghost use Rattle.prove_run.specs.Proving.{value_told};
+ghost use Rattle.prove_run.specs.Reaching.{IsStarting, SaysReached};
 
 use ml_derived::{carry, reach_here};
 use ml_kernel::Thm;
 use ml_pat::{MForm, MPat, VarNo};
 use prove_step::Prover;
+use rule_core::EvalRecord;
 use std::alloc::{AllocError, Global};
-use term_core::{RulePat, Subst, Term};
+use term_core::{RulePat, Subst};
 
 // The variable that marks the place in the context made here.
 const HOLE: VarNo = VarNo(0);
 
-// That an initial term reaches its value, or where it has none itself.
+// That an initial term reaches its value, by the record of its evaluation, or where it has none itself.
 pub(crate) fn start_reaches(
     alloc: Global,
     prover: &mut Prover<'_>,
     start: &RulePat,
-    value: &Option<Term>,
+    value: Option<&EvalRecord>,
 ) -> Result<Thm, AllocError>
-    requires signature { IsSignature prover.old.program.sig }
-    requires start { (sort : ℕ) × HasSort prover.old.program.sig [] (plain_pattern start.now) sort }
-    requires value { IfSome value.now (λ t. instance_of [] (plain_pattern start.now) ≡ Some t) }
-    ensures says { IfOk result
-        (SaysReached prover.new (plain_pattern start.now) (configuration (plain_pattern start.now) value.now)) }
+    requires start { IsStarting prover.old.program (plain_pattern start.now) }
+    requires value { IfSome value
+        (λ r. Records (theory_of prover.old.program) [] (plain_pattern start.now) (plain_record r.now)) }
+    ensures says { IfOk result (SaysReached prover.new (plain_pattern start.now)
+        (configuration (plain_pattern start.now) (value_told (option_copied value.entry)))) }
     ensures stays { IfOk result (StaysIn prover.new) }
     ensures grown { HasGrown prover.old prover.new }
 {
     let here = prover.image(alloc, start)?;
     let itself = reach_here(alloc, &here)?;
     match value {
-        Some(term) => valued(alloc, prover, start, term, itself),
+        Some(evaluation) => valued(alloc, prover, start, evaluation, itself),
         None => Ok(itself),
     }
 }
@@ -49,22 +51,21 @@ fn valued(
     alloc: Global,
     prover: &mut Prover<'_>,
     start: &RulePat,
-    value: &Term,
+    evaluation: &EvalRecord,
     itself: Thm,
 ) -> Result<Thm, AllocError>
-    requires signature { IsSignature prover.old.program.sig }
-    requires start { (sort : ℕ) × HasSort prover.old.program.sig [] (plain_pattern start.now) sort }
-    requires value { instance_of [] (plain_pattern start.now) ≡ Some value.now }
+    requires start { IsStarting prover.old.program (plain_pattern start.now) }
+    requires recorded { Records (theory_of prover.old.program) [] (plain_pattern start.now)
+        (plain_record evaluation.now) }
     requires says { SaysReached prover.old (plain_pattern start.now) (plain_pattern start.now) itself }
     requires stays { StaysIn prover.old itself }
-    ensures says { IfOk result
-        (SaysReached prover.new (plain_pattern start.now) (configuration (plain_pattern start.now) (Some value.now))) }
+    ensures says { IfOk result (SaysReached prover.new (plain_pattern start.now)
+        (configuration (plain_pattern start.now) (Some (result_of (plain_record evaluation.now))))) }
     ensures stays { IfOk result (StaysIn prover.new) }
     ensures grown { HasGrown prover.old prover.new }
 {
-    let _high = value.height();
     let none = Subst::new(alloc, 0)?;
-    match prover.inj_eq(alloc, start, &none)? {
+    match prover.eval_eq(alloc, start, &none, evaluation)? {
         Some(e) => to_other(alloc, &e, &itself),
         None => Ok(itself),
     }

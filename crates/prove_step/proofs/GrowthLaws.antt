@@ -1,13 +1,19 @@
--- What stays true of schemas and facts when a context grows.
-use Rattle.std.proofs.Common.{◌≡◌, ℕ, List, [], ◌∷◌, Some, slice_get, subst}
+-- What stays true of schemas and lemmas when a context grows.
+use Rattle.std.proofs.Common.{◌≡◌, ℕ, List, [], ◌∷◌, Option, Some, length, slice_get, sym, ◌∙◌, ap, subst}
 use Rattle.ml_kernel.specs.Theorems.{Theorem}
 use Rattle.rule_core.specs.Rules.{RewriteRule}
 use Rattle.rule_core.specs.ProgramView.{rewrite_rule}
 use Rattle.rule_core.specs.declared.rules.Program.{Program}
+use Rattle.ml_image.specs.OwnAxioms.{condition_of}
 use Rattle.prove_term.specs.Contexts.{Context, HasGrown}
-use Rattle.prove_term.proofs.ContextLaws.{lemma_there_grown}
+use Rattle.prove_term.proofs.ContextLaws.{grown_none, grown_twice, image_grown, lemma_there_grown}
 use Rattle.prove_schema.proofs.ElementLaws.{pattern_grown, sort_grown}
-use Rattle.prove_step.specs.RuleLemmas.{AreNumbers, SaysRuleSchema, SaysSchemaAt, IsLemmaOf}
+use Rattle.prove_fun.specs.KeptLemmas.{IsKeptIn}
+use Rattle.prove_fun.proofs.KeptLaws.{kept_grown}
+use Rattle.prove_step.specs.ProverView.{AreLemmas}
+use Rattle.prove_step.specs.RuleLemmas.{AreNumbers, SaysRuleSchema, SaysSchemaAt, IsLemmaOf, AreRuleLemmas}
+
+pub ruleset growing = (grown_none, grown_twice, kept_grown)
 
 pub numbers_grown : (old new : Context) (ss ns : List ℕ) → HasGrown old new → AreNumbers old.program.sig old.names ss ns → AreNumbers new.program.sig new.names ss ns
 numbers_grown old new [] [] g are = tt
@@ -19,12 +25,16 @@ pub schema_grown : (old new : Context) (r : RewriteRule) (t : Theorem) → HasGr
 schema_grown old new r t g says = record {
   numbers = says.numbers;
   are = numbers_grown old new r.variables says.numbers g says.are;
-  hypotheses = says.hypotheses;
   left = says.left;
   left_image = pattern_grown old new r.left says.left g says.left_image;
+  holds = says.holds;
+  is_holds = ap (λ (p : Program). condition_of p.sig r.variables r.condition) g.program ∙ says.is_holds;
+  condition = says.condition;
+  condition_image = image_grown old new says.holds says.condition g says.condition_image;
   right = says.right;
   right_image = pattern_grown old new r.right says.right g says.right_image;
   says = says.says;
+  assumes = says.assumes;
 }
 
 pub schema_at_grown : (old new : Context) (i : ℕ) (t : Theorem) → HasGrown old new → SaysSchemaAt old i t → SaysSchemaAt new i t
@@ -34,3 +44,17 @@ schema_at_grown old new i t g says r there =
 
 pub lemma_of_grown : (old new : Context) (i k : ℕ) → HasGrown old new → IsLemmaOf old i k → IsLemmaOf new i k
 lemma_of_grown old new i k g (t, there, says) = (t, lemma_there_grown old new k t g there, schema_at_grown old new i t g says)
+
+rule_lemmas_grown : (old new : Context) (places : List (Option ℕ)) → HasGrown old new → AreRuleLemmas old places → AreRuleLemmas new places
+rule_lemmas_grown old new places g are i k there = lemma_of_grown old new i k g (are i k there)
+
+-- other places of equations may be kept then
+pub lemmas_after : (old new : Context) (places : List (Option ℕ)) (kept more : List ((ℕ × ℕ) × ℕ)) → HasGrown old new → AreLemmas old places kept → IsKeptIn new more → AreLemmas new places more
+lemmas_after old new places kept more g are is = record {
+  room = are.room ∙ sym (ap (λ (p : Program). length p.rules.items) g.program);
+  rules = rule_lemmas_grown old new places g are.rules;
+  equations = is;
+}
+
+pub lemmas_grown : (old new : Context) (places : List (Option ℕ)) (kept : List ((ℕ × ℕ) × ℕ)) → HasGrown old new → AreLemmas old places kept → AreLemmas new places kept
+lemmas_grown old new places kept g are = lemmas_after old new places kept kept g are (kept_grown old new kept g are.equations)

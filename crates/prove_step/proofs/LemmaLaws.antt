@@ -1,29 +1,36 @@
 -- How the lemma of a rule is made: from its axiom as a schema.
-use Rattle.std.proofs.Common.{◌≡◌, ◌+◌, ℕ, zero, suc, true, List, [], ◌∷◌, Option, Some, slice_get, inl, inr, sym, ◌∙◌, ap, subst, arith}
-use Rattle.std.specs.Prelude.{IsTrue, Contains, ◌⊎◌, slice_index_or}
-use Rattle.std.proofs.lemmas.List.Elements.{Contains-get_or}
-use Rattle.ml_pat.specs.Patterns.{Pattern, top, fun, next, meta}
+use Rattle.std.proofs.Common.{◌≡◌, ◌+◌, ℕ, zero, suc, List, [], ◌∷◌, ◌++◌, Option, Some, slice_get, inl, inr, sym, ◌∙◌, ap, subst, arith}
+use Rattle.std.specs.Prelude.{IsTrue, Contains, ◌⊎◌}
+use Rattle.std.proofs.lemmas.List.Elements.{Contains-append_left, Contains-append_right}
+use Rattle.ml_pat.specs.PatternView.{pattern_of}
+use Rattle.ml_pat.specs.declared.patterns.MForm.{MForm}
+use Rattle.ml_pat.specs.declared.patterns.MForm.TheVariants as form
+use Rattle.ml_pat.specs.Patterns.{Pattern, top, imp, and, fun, next, meta}
 use Rattle.ml_kernel.specs.Theorems.{Theorem}
-use Rattle.ml_scope.specs.Scopes.{Scope, IsOver, AreAssumed, StaysWithin}
-use Rattle.ml_derived.specs.Implications.{HasTopCondition, IsFreed}
+use Rattle.ml_scope.specs.Scopes.{Scope, IsOver, IsWithin, AreAssumed, StaysWithin}
+use Rattle.ml_derived.specs.Implications.{HasCondition, IsFreedOf}
 use Rattle.rule_core.specs.ProgramView.{rewrite_rule}
 use Rattle.rule_core.specs.declared.rules.Rule.{Rule}
 use Rattle.rule_core.specs.declared.rules.Program.{Program}
+use Rattle.ml_image.specs.HasImages.{HasRuleImage}
 use Rattle.ml_image.specs.Images.{both, sort_image}
 use Rattle.ml_image.specs.Sentences.{functional}
 use Rattle.ml_image.specs.Sentences as says
 use Rattle.ml_image.proofs.ImageLaws.{some_same}
 use Rattle.prove_term.specs.Contexts.{Context, HasContext, HasGrown, StaysIn, IsLemmaIn}
 use Rattle.prove_term.specs.RuleAxioms.{HasImageAt, SaysRuleAt}
-use Rattle.prove_schema.specs.Schemas.{with_metas, meta_facts}
+use Rattle.prove_schema.specs.Assumptions.{HoldsByParts}
+use Rattle.prove_schema.specs.Schemas.{with_metas, meta_facts, parts_of}
 use Rattle.prove_schema.specs.Opening.{IsForAll, IsSchemaOf, StaysOpen}
+use Rattle.prove_schema.proofs.OpeningLaws.{alone}
 use Rattle.prove_schema.proofs.ScopeLaws.{StaysAssuming, lemma_of, assumes_only}
-use Rattle.prove_schema.proofs.BindingLaws.{first_meta_fact}
-use Rattle.prove_step.specs.Steps.{IsPlainAt}
-use Rattle.prove_step.specs.PlainRules.{is_plain_rule}
-use Rattle.prove_step.specs.RuleLemmas.{AreNumbers, IsMetaFact, SaysRuleSchema, SaysSchemaAt}
-use Rattle.prove_step.proofs.PlainLaws.{either}
-use Rattle.prove_step.proofs.AxiomLaws.{body_of, IsPlainImage, plain_image, image_sentence}
+use Rattle.prove_equation.proofs.LemmaLaws.{parts_over}
+use Rattle.prove_step.specs.RuleLemmas.{AreNumbers, IsCondition, IsConditional, SaysRuleSchema, SaysSchemaAt}
+use Rattle.prove_step.proofs.AxiomLaws.{body_of, IsRuleImage, rule_image, image_sentence, image_condition}
+
+either : {A B C : Type 0} → (A → C) → (B → C) → A ⊎ B → C
+either f g (inl a) = f a
+either f g (inr b) = g b
 
 -- ---- assumed facts
 
@@ -31,13 +38,8 @@ first_or_later : {X : Type 0} (x : X) (xs : List X) (y : X) → Contains (x ∷ 
 first_or_later x xs y (zero, low, is) = inl is
 first_or_later x xs y (suc k, low, is) = inr (k, omega (arith, low), is)
 
-is_meta_fact : (ns : List ℕ) (p : Pattern) → Contains (meta_facts 0 ns) p → IsMetaFact ns p
-is_meta_fact ns p there =
-    let w : (x : ℕ) × (n : ℕ) × (slice_get ns x ≡ Some n) × (p ≡ fun (meta x) n) = first_meta_fact ns p there in
-    (w.0, w.1, w.2, w.3)
-
 -- a scope that has a context has the numbers of its sorts
-pub has_sort : (s : Scope) (cx : Context) (sort n : ℕ) → HasContext s cx → sort_image cx.program.sig cx.names sort ≡ Some n → IsTrue (s.sort n)
+has_sort : (s : Scope) (cx : Context) (sort n : ℕ) → HasContext s cx → sort_image cx.program.sig cx.names sort ≡ Some n → IsTrue (s.sort n)
 has_sort s cx sort n has is =
     (has.images (functional says.top sort) (fun top n) (ap (says_functional) is)).1
   where
@@ -52,70 +54,105 @@ facts_over s cx k (sort ∷ ss) (n ∷ ns) p has are there =
     (λ (below : Contains (meta_facts (k + 1) ns) p). facts_over s cx (k + 1) ss ns p has are.1 below)
     (first_or_later (fun (meta k) n) (meta_facts (k + 1) ns) p there)
 
+-- ---- the condition
+
+-- a condition is no conjunction
+no_conjunction : (p q : Pattern) → IsCondition (and p q) → ⊥
+no_conjunction p q (inl h) = cc
+no_conjunction p q (inr (a, b, h)) = cc
+
+-- a condition that says something is its only part
+pub only_part : (f : MForm) → IsCondition (pattern_of f) → (f ≡ form.Top → ⊥) → parts_of (pattern_of f) ≡ pattern_of f ∷ []
+only_part f is some = alone f some (λ p q e. no_conjunction p q (subst (λ (x : MForm). IsCondition (pattern_of x)) e is))
+
+condition_same : (l c r m d q : Pattern) → imp (and l c) r ≡ imp (and m d) q → c ≡ d
+condition_same l c r m d q e = cc
+
 -- ---- the lemma
 
 -- the image of the rule at a place
-pub image_at : (old cx : Context) (i : ℕ) (p : Pattern) → HasGrown old cx → HasImageAt old.program i → IsPlainAt old.program i → SaysRuleAt cx i p → (r : Rule) × (slice_get cx.program.rules.items i ≡ Some r) × IsPlainImage cx.program.sig cx.names (rewrite_rule r) p
-image_at old cx i p g has plain says = go
-    (subst (λ (q : Program). HasImageAt q i) (sym g.program) has)
-    (subst (λ (q : Program). IsPlainAt q i) (sym g.program) plain)
-  where
-    go : HasImageAt cx.program i → IsPlainAt cx.program i → (r : Rule) × (slice_get cx.program.rules.items i ≡ Some r) × IsPlainImage cx.program.sig cx.names (rewrite_rule r) p
-    go (r, there, image) (q, q_there, q_plain) =
-        let is_plain : is_plain_rule (rewrite_rule r) ≡ true =
-        subst (λ (x : Rule). is_plain_rule (rewrite_rule x) ≡ true) (some_same q r (sym q_there ∙ there)) q_plain in
-        (r, there, plain_image cx.program.sig cx.names (rewrite_rule r) p is_plain image (says r there))
+pub record ImageAt (cx : Context) (i : ℕ) (p : Pattern) : Type 0 where
+  pub rule : Rule
+  pub there : slice_get cx.program.rules.items i ≡ Some rule
+  pub has : HasRuleImage cx.program.sig (rewrite_rule rule)
+  pub image : IsRuleImage cx.program.sig cx.names (rewrite_rule rule) p
 
--- what is known of a rule, its axiom, and the axiom as a schema
-pub record Opened (cx : Context) (i : ℕ) (r : Rule) (stated whole : Theorem) : Type 0 where
-  pub there : slice_get cx.program.rules.items i ≡ Some r
-  pub image : IsPlainImage cx.program.sig cx.names (rewrite_rule r) stated.conclusion
+pub image_at : (old cx : Context) (i : ℕ) (p : Pattern) → HasGrown old cx → HasImageAt old.program i → SaysRuleAt cx i p → ImageAt cx i p
+image_at old cx i p g has says = go (subst (λ (q : Program). HasImageAt q i) (sym g.program) has)
+  where
+    go : HasImageAt cx.program i → ImageAt cx i p
+    go (r, there, image) =
+        record { rule = r; there = there; has = image; image = rule_image cx.program.sig cx.names (rewrite_rule r) p image (says r there) }
+
+pub image_for_all : (cx : Context) (i : ℕ) (p : Pattern) → ImageAt cx i p → IsForAll p
+image_for_all cx i p a =
+    (a.image.numbers, body_of a.image.left a.image.condition a.image.right, image_sentence cx.program.sig cx.names (rewrite_rule a.rule) p a.image)
+
+-- the rule under the pattern variables
+pub whole_says : (cx : Context) (i : ℕ) (p q : Pattern) (a : ImageAt cx i p) → IsSchemaOf p q → q ≡ body_of (with_metas a.image.left) (with_metas a.image.condition) (with_metas a.image.right)
+whole_says cx i p q a schema =
+    schema a.image.numbers (body_of a.image.left a.image.condition a.image.right) (image_sentence cx.program.sig cx.names (rewrite_rule a.rule) p a.image)
+
+pub whole_conditional : (cx : Context) (i : ℕ) (p q : Pattern) → ImageAt cx i p → IsSchemaOf p q → IsConditional q
+whole_conditional cx i p q a schema =
+    (with_metas a.image.left, with_metas a.image.condition, next (with_metas a.image.right), whole_says cx i p q a schema)
+
+pub whole_condition : (cx : Context) (i : ℕ) (p q c : Pattern) (a : ImageAt cx i p) → IsSchemaOf p q → HasCondition c q → c ≡ with_metas a.image.condition
+whole_condition cx i p q c a schema (l, (r, is)) =
+    condition_same l c r (with_metas a.image.left) (with_metas a.image.condition) (next (with_metas a.image.right)) (sym is ∙ whole_says cx i p q a schema)
+
+pub is_condition : (cx : Context) (i : ℕ) (p q c : Pattern) → ImageAt cx i p → IsSchemaOf p q → HasCondition c q → IsCondition c
+is_condition cx i p q c a schema has =
+    subst IsCondition (sym (whole_condition cx i p q c a schema has)) (image_condition cx.program.sig cx.names (rewrite_rule a.rule) p a.has a.image)
+
+-- what is known of a rule, its axiom, the axiom as a schema, and its condition
+pub record Opened (cx : Context) (i : ℕ) (stated whole held : Theorem) : Type 0 where
+  pub at : ImageAt cx i stated.conclusion
   pub axiom_stays : StaysIn cx stated
   pub schema : IsSchemaOf stated.conclusion whole.conclusion
   pub whole_stays : StaysOpen stated whole
-
-pub image_for_all : (cx : Context) (r : Rule) (p : Pattern) → IsPlainImage cx.program.sig cx.names (rewrite_rule r) p → IsForAll p
-image_for_all cx r p i = (i.numbers, body_of i.left i.right, image_sentence cx.program.sig cx.names (rewrite_rule r) p i)
-
--- the rule under the pattern variables
-whole_says : (cx : Context) (i : ℕ) (r : Rule) (stated whole : Theorem) (o : Opened cx i r stated whole) → whole.conclusion ≡ body_of (with_metas o.image.left) (with_metas o.image.right)
-whole_says cx i r stated whole o =
-    o.schema o.image.numbers (body_of o.image.left o.image.right) (image_sentence cx.program.sig cx.names (rewrite_rule r) stated.conclusion o.image)
-
-pub whole_has_top : (cx : Context) (i : ℕ) (r : Rule) (stated whole : Theorem) → Opened cx i r stated whole → HasTopCondition whole.conclusion
-whole_has_top cx i r stated whole o =
-    (with_metas o.image.left, (next (with_metas o.image.right), whole_says cx i r stated whole o))
+  pub held_has : HasCondition held.conclusion whole.conclusion
+  pub held_stays : HoldsByParts held.conclusion held
 
 -- without its condition it is the lemma
-opened_assuming : (cx : Context) (i : ℕ) (r : Rule) (stated whole freed : Theorem) (o : Opened cx i r stated whole) → StaysWithin [] (whole ∷ []) freed →
-    StaysAssuming cx (meta_facts 0 o.image.numbers) freed
-opened_assuming cx i r stated whole freed o freed_stays s has may =
-    let assumed : AreAssumed s (meta_facts 0 o.image.numbers) =
-    λ p there. (may p there, facts_over s cx 0 (rewrite_rule r).variables o.image.numbers p has o.image.are there) in
-    freed_stays s tt (
-      o.whole_stays o.image.numbers (body_of o.image.left o.image.right) (image_sentence cx.program.sig cx.names (rewrite_rule r) stated.conclusion o.image)
-          s (o.axiom_stays s has) assumed,
-      tt,
-    )
+opened_assuming : (cx : Context) (i : ℕ) (stated whole held freed : Theorem) (o : Opened cx i stated whole held) → StaysWithin [] (whole ∷ held ∷ []) freed
+    → StaysAssuming cx (meta_facts 0 o.at.image.numbers ++ parts_of (with_metas o.at.image.condition)) freed
+opened_assuming cx i stated whole held freed o freed_stays s has may =
+    let facts_assumed : AreAssumed s (meta_facts 0 o.at.image.numbers) =
+    λ p there. (may p (Contains-append_left (meta_facts 0 o.at.image.numbers) (parts_of (with_metas o.at.image.condition)) p there), facts_over s cx 0 (rewrite_rule o.at.rule).variables o.at.image.numbers p has o.at.image.are there) in
+    let whole_within : IsWithin s whole =
+    o.whole_stays o.at.image.numbers (body_of o.at.image.left o.at.image.condition o.at.image.right) (image_sentence cx.program.sig cx.names (rewrite_rule o.at.rule) stated.conclusion o.at.image) s (o.axiom_stays s has) facts_assumed in
+    let over : IsOver s (body_of (with_metas o.at.image.left) (with_metas o.at.image.condition) (with_metas o.at.image.right)) =
+    subst (IsOver s) (whole_says cx i stated.conclusion whole.conclusion o.at o.schema) whole_within.conclusion in
+    let parts_assumed : AreAssumed s (parts_of (with_metas o.at.image.condition)) =
+    λ p there. (may p (Contains-append_right (meta_facts 0 o.at.image.numbers) (parts_of (with_metas o.at.image.condition)) p there), parts_over s (with_metas o.at.image.condition) p over.0.1 there) in
+    let same : held.conclusion ≡ with_metas o.at.image.condition = whole_condition cx i stated.conclusion whole.conclusion held.conclusion o.at o.schema o.held_has in
+    freed_stays s tt (whole_within, (o.held_stays s (subst (λ (c : Pattern). AreAssumed s (parts_of c)) (sym same) parts_assumed), tt))
 
-pub opened_lemma : (cx : Context) (i : ℕ) (r : Rule) (stated whole freed : Theorem) → Opened cx i r stated whole → StaysWithin [] (whole ∷ []) freed → IsLemmaIn cx freed
-opened_lemma cx i r stated whole freed o freed_stays =
-    lemma_of cx (meta_facts 0 o.image.numbers) freed (opened_assuming cx i r stated whole freed o freed_stays)
+pub opened_lemma : (cx : Context) (i : ℕ) (stated whole held freed : Theorem) → Opened cx i stated whole held → StaysWithin [] (whole ∷ held ∷ []) freed → IsLemmaIn cx freed
+opened_lemma cx i stated whole held freed o freed_stays =
+    lemma_of cx (meta_facts 0 o.at.image.numbers ++ parts_of (with_metas o.at.image.condition)) freed (opened_assuming cx i stated whole held freed o freed_stays)
 
-opened_schema : (cx : Context) (i : ℕ) (r : Rule) (stated whole freed : Theorem) → Opened cx i r stated whole → IsFreed whole.conclusion freed.conclusion → StaysWithin [] (whole ∷ []) freed → SaysRuleSchema cx (rewrite_rule r) freed
-opened_schema cx i r stated whole freed o freed_is freed_stays = record {
-  numbers = o.image.numbers;
-  are = o.image.are;
-  hypotheses = λ k d low. is_meta_fact o.image.numbers (slice_index_or freed.hypotheses k d)
-      (assumes_only cx (meta_facts 0 o.image.numbers) freed (opened_assuming cx i r stated whole freed o freed_stays) (slice_index_or freed.hypotheses k d) (Contains-get_or freed.hypotheses k d low));
-  left = o.image.left;
-  left_image = o.image.left_image;
-  right = o.image.right;
-  right_image = o.image.right_image;
-  says = freed_is (with_metas o.image.left) (next (with_metas o.image.right)) (whole_says cx i r stated whole o);
-}
+opened_schema : (cx : Context) (i : ℕ) (stated whole held freed : Theorem) (o : Opened cx i stated whole held) → IsFreedOf held.conclusion whole.conclusion freed.conclusion → StaysWithin [] (whole ∷ held ∷ []) freed → SaysRuleSchema cx (rewrite_rule o.at.rule) freed
+opened_schema cx i stated whole held freed o freed_is freed_stays =
+    let same : held.conclusion ≡ with_metas o.at.image.condition = whole_condition cx i stated.conclusion whole.conclusion held.conclusion o.at o.schema o.held_has in
+    record {
+      numbers = o.at.image.numbers;
+      are = o.at.image.are;
+      left = o.at.image.left;
+      left_image = o.at.image.left_image;
+      holds = o.at.image.holds;
+      is_holds = o.at.image.is_holds;
+      condition = o.at.image.condition;
+      condition_image = o.at.image.condition_image;
+      right = o.at.image.right;
+      right_image = o.at.image.right_image;
+      says = freed_is (with_metas o.at.image.left) (next (with_metas o.at.image.right))
+          (whole_says cx i stated.conclusion whole.conclusion o.at o.schema ∙ ap (λ (c : Pattern). body_of (with_metas o.at.image.left) c (with_metas o.at.image.right)) (sym same));
+      assumes = assumes_only cx (meta_facts 0 o.at.image.numbers ++ parts_of (with_metas o.at.image.condition)) freed (opened_assuming cx i stated whole held freed o freed_stays);
+    }
 
-pub opened_says : (cx : Context) (i : ℕ) (r : Rule) (stated whole freed : Theorem) → Opened cx i r stated whole → IsFreed whole.conclusion freed.conclusion → StaysWithin [] (whole ∷ []) freed → SaysSchemaAt cx i freed
-opened_says cx i r stated whole freed o freed_is freed_stays q there =
-    let same : r ≡ q = some_same r q (sym o.there ∙ there) in
-    subst (λ (x : Rule). SaysRuleSchema cx (rewrite_rule x) freed) same (opened_schema cx i r stated whole freed o freed_is freed_stays)
+pub opened_says : (cx : Context) (i : ℕ) (stated whole held freed : Theorem) → Opened cx i stated whole held → IsFreedOf held.conclusion whole.conclusion freed.conclusion → StaysWithin [] (whole ∷ held ∷ []) freed → SaysSchemaAt cx i freed
+opened_says cx i stated whole held freed o freed_is freed_stays q there =
+    let same : o.at.rule ≡ q = some_same o.at.rule q (sym o.at.there ∙ there) in
+    subst (λ (x : Rule). SaysRuleSchema cx (rewrite_rule x) freed) same (opened_schema cx i stated whole held freed o freed_is freed_stays)

@@ -1,9 +1,9 @@
-pub mod PlainLaws
 pub mod AxiomLaws
 pub mod GrowthLaws
 pub mod LemmaLaws
 pub mod StepLaws
 pub mod ApplyingLaws
+pub mod StepFacts
 pub mod ProverLaws
 pub mod MeetingLaws
 pub mod NormalizingLaws

@@ -1,6 +1,6 @@
 -- A step as it is written, and the same step between normal terms.
-use Rattle.std.proofs.Common.{◌≡◌, ◌≤◌, ℕ, List, Option, Some, None, slice_get, get_or, refl, sym, ◌∙◌, ap, subst}
-use Rattle.std.specs.Prelude.{IsSomeAnd, IfSome}
+use Rattle.std.proofs.Common.{◌≡◌, List, Option, Some, None, refl, sym, ◌∙◌, ap, subst}
+use Rattle.std.specs.Prelude.{IfSome}
 use Rattle.ml_pat.specs.Patterns.{Pattern, imp, equal, next, var}
 use Rattle.ml_pat.specs.Judgements.{substituted}
 use Rattle.ml_kernel.specs.Lemmas.{HasNoVariable, HasNoMeta}
@@ -8,100 +8,29 @@ use Rattle.ml_kernel.specs.Theorems.{Theorem}
 use Rattle.ml_kernel.proofs.InstanceLaws.{substituted-without}
 use Rattle.ml_scope.specs.Scopes.{Scope, IsWithin}
 use Rattle.ml_derived.specs.Equalities.{CanCarry, IsCarried}
-use Rattle.term_core.specs.Terms.{Tree, Forest, no_tree, more_trees, height}
-use Rattle.term_core.specs.Patterns.{Pattern as RulePattern, instance_of, instances_of, ground_pattern, FitsWithin, no_pattern}
+use Rattle.term_core.specs.Terms.{Tree}
+use Rattle.term_core.specs.Patterns.{Pattern as RulePattern, instance_of, ground_pattern}
 use Rattle.term_core.specs.RulePatterns.{plain_pattern}
-use Rattle.rule_core.specs.Evaluation.{most_height}
-use Rattle.rule_core.specs.FirstRule.{Matches}
-use Rattle.rule_core.specs.Matching.{RespectsSorts}
-use Rattle.rule_core.specs.Sorting.{HasSort, IsTermOf}
-use Rattle.rule_core.specs.WellSorted.{IsRuleOf, IsSignature, IsWellSorted}
-use Rattle.rule_core.specs.ProgramView.{rewrite_rule, theory_of}
+use Rattle.rule_core.specs.Records.{StepRecord, result_of}
+use Rattle.rule_core.specs.Sorting.{IsTermOf}
+use Rattle.rule_core.specs.ProgramView.{rewrite_rule}
 use Rattle.rule_core.specs.declared.rules.Rule.{Rule}
-use Rattle.rule_core.specs.declared.rules.Program.{Program}
-use Rattle.rule_core.proofs.SortedInstances.{both_there, instance_is_sorted}
+use Rattle.rule_core.proofs.SortedInstances.{instance_is_sorted}
 use Rattle.ml_image.specs.Images.{image_of}
 use Rattle.ml_image.proofs.ImageLaws.{some_same}
 use Rattle.prove_term.specs.Contexts.{Context, HasContext, HasGrown, StaysIn}
 use Rattle.prove_term.specs.Filling.{filled}
 use Rattle.prove_term.specs.EqualImages.{SaysEqual, SaysEqualImages}
-use Rattle.prove_term.proofs.ContextLaws.{grown_none, grown_twice, has_before}
+use Rattle.prove_term.proofs.ContextLaws.{grown_twice, has_before}
 use Rattle.prove_term.proofs.FillingLaws.{filled_written, written_there}
-use Rattle.prove_term.proofs.KeptLaws.{rule_found}
+use Rattle.prove_fun.specs.Valuing.{EqualsValue}
+use Rattle.prove_fun.proofs.Recording.{result_good}
 use Rattle.prove_step.specs.Applying.{SaysFilled, SaysFilledAt}
-use Rattle.prove_step.specs.Normalizing.{Turns, CanTurnLeft, CanTurnRight, TurnsLeft, TurnsRight, StaysTurned}
-use Rattle.prove_step.specs.Steps.{MakesAt, MatchesAt, SaysStep, SaysStepAt}
+use Rattle.prove_step.specs.Normalizing.{Turns, CanTurnLeft, CanTurnRight, TurnsLeft, TurnsRight, StaysTurned, SaysStepOf}
+use Rattle.prove_step.specs.Steps.{SaysStep}
 use Rattle.prove_schema.proofs.ElementLaws.{pattern_grown}
-use Rattle.prove_step.proofs.ProverLaws.{rule_listed, sorted_rule}
+use Rattle.prove_step.proofs.StepFacts.{StepFacts, facts_later, same_term}
 use Rattle.prove_step.proofs.StepLaws.{closed_term}
-
--- ---- the sides of a rule, and the terms that they become
-
-pub record Sides (program : Program) (i : ℕ) (theta : List (Option Tree)) (r : Rule) : Type 0 where
-  pub there : slice_get program.rules.items i ≡ Some r
-  pub signature : IsSignature program.sig
-  pub sort : ℕ
-  pub left : HasSort program.sig (rewrite_rule r).variables (plain_pattern r.left) sort
-  pub right : HasSort program.sig (rewrite_rule r).variables (plain_pattern r.right) sort
-  pub respects : RespectsSorts program.sig (rewrite_rule r).variables theta
-  pub term : Tree
-  pub from : instance_of theta (plain_pattern r.left) ≡ Some term
-  pub low : height term ≤ most_height
-  pub made : Tree
-  pub to : instance_of theta (plain_pattern r.right) ≡ Some made
-  pub low_made : height made ≤ most_height
-
-fits_some : (o : Option Tree) → IsSomeAnd o (λ (t : Tree). height t ≤ most_height) → (t : Tree) × (o ≡ Some t) × (height t ≤ most_height)
-fits_some None h = absurd h
-fits_some (Some t) h = (t, refl, h)
-
-some_fits : (o : Option Tree) (t : Tree) → o ≡ Some t → height t ≤ most_height → IsSomeAnd o (λ (u : Tree). height u ≤ most_height)
-some_fits o t is low = subst (λ (x : Option Tree). IsSomeAnd x (λ (u : Tree). height u ≤ most_height)) (sym is) low
-
-first_tree : (a b : Tree) (rest other : Forest) → more_trees a rest ≡ more_trees b other → a ≡ b
-first_tree a b rest other e = cc
-
--- what is matched is what the left side becomes
-matched : (program : Program) (r : Rule) (t : Tree) (theta : List (Option Tree)) → Matches (theory_of program) (rewrite_rule r) t theta → instance_of theta (plain_pattern r.left) ≡ Some t
-matched program r t theta matches =
-    let made : (u : Tree) × ((us : Forest) × ((more_trees t no_tree ≡ more_trees u us) × ((instance_of theta (plain_pattern r.left) ≡ Some u) × (instances_of theta no_pattern ≡ Some us)))) =
-    both_there (instance_of theta (plain_pattern r.left)) (instances_of theta no_pattern) (more_trees t no_tree) matches.makes in
-    made.1.1.1.0 ∙ ap (λ (u : Tree). Some u) (sym (first_tree t made.0 no_tree made.1.0 made.1.1.0))
-
-pub sides_at : (program : Program) (i : ℕ) (theta : List (Option Tree)) (r : Rule) → slice_get program.rules.items i ≡ Some r → IsWellSorted (theory_of program) → MatchesAt program i theta → MakesAt program i theta → Sides program i theta r
-sides_at program i theta r there ok (m, m_there, (t, low, m_matches)) (k, k_there, fits) =
-    let matches : Matches (theory_of program) (rewrite_rule r) t theta = subst (λ (x : Rule). Matches (theory_of program) (rewrite_rule x) t theta) (some_same m r (sym m_there ∙ there)) m_matches in
-    let rule : (sort : ℕ) × IsRuleOf program.sig sort (rewrite_rule r) = sorted_rule (theory_of program) (rewrite_rule r) ok (rule_listed program i r there) in
-    let makes : (u : Tree) × (instance_of theta (plain_pattern r.right) ≡ Some u) × (height u ≤ most_height) =
-    fits_some (instance_of theta (plain_pattern r.right)) (subst (λ (x : Rule). FitsWithin most_height theta (plain_pattern x.right)) (some_same k r (sym k_there ∙ there)) fits) in
-    record {
-      there = there;
-      signature = ok.signature;
-      sort = rule.0;
-      left = rule.1.left;
-      right = rule.1.right;
-      respects = matches.binds.sorted;
-      term = t;
-      from = matched program r t theta matches;
-      low = low;
-      made = makes.0;
-      to = makes.1;
-      low_made = makes.2;
-    }
-
--- the rule that was looked up
-pub sides_found : (program lent : Program) (i : ℕ) (theta : List (Option Tree)) (found : Rule) → lent ≡ program → found ≡ get_or lent.rules.items i found → IsWellSorted (theory_of program) → MatchesAt program i theta → MakesAt program i theta
-    → Sides program i theta found
-sides_found program lent i theta found same is ok matches makes =
-    let at : get_or program.rules.items i found ≡ found = ap (λ (p : Program). get_or p.rules.items i found) (sym same) ∙ sym is in
-    let rule : matches.0 ≡ found = rule_found program.rules.items i matches.0 found matches.1 at in
-    sides_at program i theta found (matches.1 ∙ ap (λ (r : Rule). Some r) rule) ok matches makes
-
-pub left_fits : (program : Program) (i : ℕ) (theta : List (Option Tree)) (r : Rule) → Sides program i theta r → FitsWithin most_height theta (plain_pattern r.left)
-left_fits program i theta r s = some_fits (instance_of theta (plain_pattern r.left)) s.term s.from s.low
-
-pub right_fits : (program : Program) (i : ℕ) (theta : List (Option Tree)) (r : Rule) → Sides program i theta r → FitsWithin most_height theta (plain_pattern r.right)
-right_fits program i theta r s = some_fits (instance_of theta (plain_pattern r.right)) s.made s.to s.low_made
 
 -- ---- contexts with a place
 
@@ -174,30 +103,38 @@ filled_grown old new theta l r p g says = record {
   no_variable = says.no_variable;
 }
 
+-- .. or into its value
+pub turned_value : (cx : Context) (theta : List (Option Tree)) (p : RulePattern) (o : Option Theorem) (u : Tree) (from : Pattern) → EqualsValue cx theta p u o → image_of cx.program.sig cx.names (filled theta p) ≡ Some from
+    → (to : Pattern) × Turns o from to × (image_of cx.program.sig cx.names (ground_pattern u) ≡ Some to)
+turned_value cx theta p None u from same image = (from, refl, same.right_image ∙ sym same.left_image ∙ image)
+turned_value cx theta p (Some e) u from says image =
+    let left : says.left ≡ from = some_same says.left from (sym says.left_image ∙ image) in
+    (says.right, says.says ∙ ap (λ (q : Pattern). equal q says.right) left, says.right_image)
+
 -- what is known of both
-pub record Turning (cx : Context) (i : ℕ) (theta : List (Option Tree)) (r : Rule) (left right : Option Theorem) (written : Theorem) : Type 0 where
-  pub sides : Sides cx.program i theta r
-  pub says : SaysFilled cx theta (plain_pattern r.left) (plain_pattern r.right) written.conclusion
+pub record Turning (cx : Context) (step : StepRecord) (r : Rule) (left right : Option Theorem) (written : Theorem) : Type 0 where
+  pub facts : StepFacts cx.program step r
+  pub says : SaysFilled cx step.theta (plain_pattern r.left) (plain_pattern r.right) written.conclusion
   pub from : Pattern
   pub from_turned : Turns left says.from from
-  pub from_image : image_of cx.program.sig cx.names (ground_pattern sides.term) ≡ Some from
+  pub from_image : image_of cx.program.sig cx.names (ground_pattern facts.term) ≡ Some from
   pub to : Pattern
   pub to_turned : Turns right says.to to
-  pub to_image : image_of cx.program.sig cx.names (ground_pattern sides.made) ≡ Some to
+  pub to_image : image_of cx.program.sig cx.names (ground_pattern (result_of step.right)) ≡ Some to
 
-pub turning : (old mid new : Context) (i : ℕ) (theta : List (Option Tree)) (r : Rule) (left right : Option Theorem) (written : Theorem) → HasGrown old mid → HasGrown mid new → Sides old.program i theta r
-    → SaysFilledAt old i theta written.conclusion → SaysEqualImages mid theta (plain_pattern r.left) left → SaysEqualImages new theta (plain_pattern r.right) right → Turning new i theta r left right written
-turning old mid new i theta r left right written g k sides said turns_left turns_right =
+pub turning : (old mid new : Context) (step : StepRecord) (r : Rule) (left right : Option Theorem) (written : Theorem) → HasGrown old mid → HasGrown mid new → StepFacts old.program step r
+    → SaysFilledAt old step.rule step.theta written.conclusion → SaysEqualImages mid step.theta (plain_pattern r.left) left → EqualsValue new step.theta (plain_pattern r.right) (result_of step.right) right → Turning new step r left right written
+turning old mid new step r left right written g k facts said turns_left turns_right =
     let whole : HasGrown old new = grown_twice old mid new g k in
-    let after : Sides new.program i theta r = subst (λ (p : Program). Sides p i theta r) (sym whole.program) sides in
-    let says : SaysFilled new theta (plain_pattern r.left) (plain_pattern r.right) written.conclusion =
-    filled_grown old new theta (plain_pattern r.left) (plain_pattern r.right) written.conclusion whole (said r sides.there) in
+    let after : StepFacts new.program step r = facts_later old new step r whole facts in
+    let says : SaysFilled new step.theta (plain_pattern r.left) (plain_pattern r.right) written.conclusion =
+    filled_grown old new step.theta (plain_pattern r.left) (plain_pattern r.right) written.conclusion whole (said r facts.there) in
     let from : (to : Pattern) × Turns left says.from to × (image_of new.program.sig new.names (ground_pattern after.term) ≡ Some to) =
-    turned_side mid new theta (plain_pattern r.left) left after.term says.from k turns_left after.from says.from_image in
-    let to : (to : Pattern) × Turns right says.to to × (image_of new.program.sig new.names (ground_pattern after.made) ≡ Some to) =
-    turned_side new new theta (plain_pattern r.right) right after.made says.to (grown_none new) turns_right after.to says.to_image in
+    turned_side mid new step.theta (plain_pattern r.left) left after.term says.from k turns_left after.from says.from_image in
+    let to : (to : Pattern) × Turns right says.to to × (image_of new.program.sig new.names (ground_pattern (result_of step.right)) ≡ Some to) =
+    turned_value new step.theta (plain_pattern r.right) right (result_of step.right) says.to turns_right says.to_image in
     record {
-      sides = after;
+      facts = after;
       says = says;
       from = from.0;
       from_turned = from.1;
@@ -207,8 +144,8 @@ turning old mid new i theta r left right written g k sides said turns_left turns
       to_image = to.2;
     }
 
-pub can_turn_left : (cx : Context) (i : ℕ) (theta : List (Option Tree)) (r : Rule) (left right : Option Theorem) (written : Theorem) → Turning cx i theta r left right written → CanTurnLeft left written
-can_turn_left cx i theta r left right written w = record {
+pub can_turn_left : (cx : Context) (step : StepRecord) (r : Rule) (left right : Option Theorem) (written : Theorem) → Turning cx step r left right written → CanTurnLeft left written
+can_turn_left cx step r left right written w = record {
   from = w.says.from;
   turned = w.from;
   to = w.says.to;
@@ -218,48 +155,43 @@ can_turn_left cx i theta r left right written w = record {
 }
 
 -- no variable stands in what the sides are turned into
-from_closed : (cx : Context) (i : ℕ) (theta : List (Option Tree)) (r : Rule) (left right : Option Theorem) (written : Theorem) (w : Turning cx i theta r left right written) → HasNoVariable w.from × HasNoMeta w.from
-from_closed cx i theta r left right written w =
-    let sorted : IsTermOf cx.program.sig w.sides.term w.sides.sort = (instance_is_sorted cx.program.sig (rewrite_rule r).variables (plain_pattern r.left) w.sides.sort theta w.sides.term w.sides.left w.sides.respects w.sides.from).0 in
-    closed_term cx.program.sig cx.names w.sides.term w.sides.sort w.from w.sides.signature sorted w.from_image
+from_closed : (cx : Context) (step : StepRecord) (r : Rule) (left right : Option Theorem) (written : Theorem) (w : Turning cx step r left right written) → HasNoVariable w.from × HasNoMeta w.from
+from_closed cx step r left right written w =
+    let sorted : IsTermOf cx.program.sig w.facts.term w.facts.sort = (instance_is_sorted cx.program.sig (rewrite_rule r).variables (plain_pattern r.left) w.facts.sort step.theta w.facts.term w.facts.fits.left w.facts.matches.binds.sorted w.facts.from).0 in
+    closed_term cx.program.sig cx.names w.facts.term w.facts.sort w.from w.facts.ready.well_sorted.signature sorted w.from_image
 
-to_closed : (cx : Context) (i : ℕ) (theta : List (Option Tree)) (r : Rule) (left right : Option Theorem) (written : Theorem) (w : Turning cx i theta r left right written) → HasNoVariable w.to × HasNoMeta w.to
-to_closed cx i theta r left right written w =
-    let sorted : IsTermOf cx.program.sig w.sides.made w.sides.sort = (instance_is_sorted cx.program.sig (rewrite_rule r).variables (plain_pattern r.right) w.sides.sort theta w.sides.made w.sides.right w.sides.respects w.sides.to).0 in
-    closed_term cx.program.sig cx.names w.sides.made w.sides.sort w.to w.sides.signature sorted w.to_image
+to_closed : (cx : Context) (step : StepRecord) (r : Rule) (left right : Option Theorem) (written : Theorem) (w : Turning cx step r left right written) → HasNoVariable w.to × HasNoMeta w.to
+to_closed cx step r left right written w =
+    let sorted : IsTermOf cx.program.sig (result_of step.right) w.facts.right.sort = (result_good cx.program step.theta (plain_pattern r.right) step.right w.facts.right).0 in
+    closed_term cx.program.sig cx.names (result_of step.right) w.facts.right.sort w.to w.facts.ready.well_sorted.signature sorted w.to_image
 
-pub can_turn_right : (cx : Context) (i : ℕ) (theta : List (Option Tree)) (r : Rule) (left right : Option Theorem) (written t : Theorem) → Turning cx i theta r left right written → TurnsLeft left written t → CanTurnRight right t
-can_turn_right cx i theta r left right written t w turned = record {
+pub can_turn_right : (cx : Context) (step : StepRecord) (r : Rule) (left right : Option Theorem) (written t : Theorem) → Turning cx step r left right written → TurnsLeft left written t → CanTurnRight right t
+can_turn_right cx step r left right written t w turned = record {
   from = w.from;
   to = w.says.to;
   turned = w.to;
   turns = w.to_turned;
   says = turned w.says.from w.from w.says.to w.from_turned w.says.says;
-  closed = (from_closed cx i theta r left right written w).0;
+  closed = (from_closed cx step r left right written w).0;
 }
 
 -- the step between the normal terms
-pub step_turned : (cx : Context) (i : ℕ) (theta : List (Option Tree)) (r : Rule) (left right : Option Theorem) (written t u : Theorem) → Turning cx i theta r left right written → TurnsLeft left written t → TurnsRight right t u
-    → SaysStepAt cx i theta u.conclusion
-step_turned cx i theta r left right written t u w turned_left turned_right = λ q there a b from to.
-    subst (λ (x : Tree). SaysStep cx x b u.conclusion) (some_same w.sides.term a (sym w.sides.from ∙ ap (λ (x : Rule). instance_of theta (plain_pattern x.left)) (same q there) ∙ from))
-    (subst (λ (x : Tree). SaysStep cx w.sides.term x u.conclusion) (some_same w.sides.made b (sym w.sides.to ∙ ap (λ (x : Rule). instance_of theta (plain_pattern x.right)) (same q there) ∙ to)) whole)
+pub step_turned : (cx : Context) (step : StepRecord) (r : Rule) (left right : Option Theorem) (written t u : Theorem) → Turning cx step r left right written → TurnsLeft left written t → TurnsRight right t u → SaysStepOf cx step u.conclusion
+step_turned cx step r left right written t u w turned_left turned_right = λ a from.
+    subst (λ (x : Tree). SaysStep cx x (result_of step.right) u.conclusion) (same_term cx.program step r a w.facts from) whole
   where
-    same : (q : Rule) → slice_get cx.program.rules.items i ≡ Some q → r ≡ q
-    same q there = some_same r q (sym w.sides.there ∙ there)
-
     middle : t.conclusion ≡ imp w.from (next w.says.to)
     middle = turned_left w.says.from w.from w.says.to w.from_turned w.says.says
 
-    whole : SaysStep cx w.sides.term w.sides.made u.conclusion
+    whole : SaysStep cx w.facts.term (result_of step.right) u.conclusion
     whole = record {
       from = w.from;
       from_image = w.from_image;
       to = w.to;
       to_image = w.to_image;
       says = turned_right w.from w.says.to w.to w.to_turned middle;
-      no_variable = ((from_closed cx i theta r left right written w).0, (to_closed cx i theta r left right written w).0);
-      no_meta = ((from_closed cx i theta r left right written w).1, (to_closed cx i theta r left right written w).1);
+      no_variable = ((from_closed cx step r left right written w).0, (to_closed cx step r left right written w).0);
+      no_meta = ((from_closed cx step r left right written w).1, (to_closed cx step r left right written w).1);
     }
 
 -- ---- the step stays in the context

@@ -1,31 +1,32 @@
 -- What the lemma of a rule says at the images of what stands for its variables.
-use Rattle.std.proofs.Common.{◌≡◌, ℕ, List, [], Option, Some, length, sym, ◌∙◌, ap, subst, arith}
-use Rattle.std.proofs.lemmas.List.Elements.{All-weaker}
+use Rattle.std.proofs.Common.{◌≡◌, ◌⊎◌, ℕ, List, [], Option, length, inl, inr, sym, ◌∙◌, ap, subst}
+use Rattle.std.specs.Prelude.{Contains, Some, slice_index_or}
+use Rattle.std.proofs.lemmas.List.Elements.{Contains-get_or, Contains-append_cases}
 use Rattle.ml_pat.specs.Patterns.{Pattern}
-use Rattle.ml_kernel.specs.Lemmas.{instance, IsMetaBelow, HasNoMeta, HasNoVariable}
+use Rattle.ml_kernel.specs.Lemmas.{instance, IsMetaBelow, HasNoMeta, HasNoVariable, HaveNoVariables}
 use Rattle.ml_kernel.specs.Theorems.{Theorem}
 use Rattle.ml_scope.specs.Scopes.{Scope, IsOverPlaces}
 use Rattle.term_core.specs.Terms.{Tree}
-use Rattle.term_core.specs.Patterns.{Pattern as RulePattern, binding, ground_pattern}
+use Rattle.term_core.specs.Patterns.{Pattern as RulePattern, ground_pattern}
 use Rattle.rule_core.specs.Rules.{RewriteRule}
-use Rattle.rule_core.specs.Sorting.{HasSort, IsTermOf}
+use Rattle.rule_core.specs.Sorting.{IsTermOf}
 use Rattle.rule_core.specs.WellSorted.{IsSignature}
 use Rattle.rule_core.specs.declared.signature.Signature.{Signature}
 use Rattle.ml_image.specs.Images.{image_of}
-use Rattle.ml_image.specs.HasImages.{HasImage}
 use Rattle.ml_image.specs.Sentences.{term}
 use Rattle.ml_image.proofs.WellSortedLaws.{sorted_has_image}
 use Rattle.prove_term.specs.Contexts.{Context, HasContext, StaysIn}
-use Rattle.prove_schema.specs.Schemas.{with_metas, IsOpenFrom}
-use Rattle.prove_schema.specs.Using.{IsProved, by_fact, IsUsable, IsUsed, StaysUsed}
+use Rattle.prove_schema.specs.Schemas.{with_metas, meta_facts, parts_of, IsOpenFrom}
+use Rattle.prove_schema.specs.Using.{IsProved, IsUsable, IsUsed, StaysUsed}
 use Rattle.prove_schema.specs.Elements.{AreElementsFor}
 use Rattle.prove_schema.proofs.OpenLaws.{open_no_variable, open_metas, open_closed, image_is_open}
 use Rattle.prove_schema.proofs.ClosingLaws.{numbers_length}
 use Rattle.prove_schema.proofs.InstanceLaws.{AllThere, filled_image, instance_closed}
 use Rattle.prove_schema.proofs.SentenceLaws.{schema_over_places}
 use Rattle.prove_schema.proofs.UsingLaws.{as_many_facts, facts_closed}
-use Rattle.prove_schema.proofs.BindingLaws.{HasImages, elements_have, elements_within}
-use Rattle.prove_step.specs.RuleLemmas.{IsMetaFact}
+use Rattle.prove_schema.proofs.BindingLaws.{HasImages, elements_have, elements_within, proved_fact}
+use Rattle.prove_equation.specs.Conditions.{listed}
+use Rattle.prove_equation.proofs.FillingLaws.{all_there, part_proved, condition_within}
 use Rattle.prove_step.specs.Applying.{CanApply, SaysFilled}
 
 -- ---- closed images
@@ -40,71 +41,70 @@ closed_term sig names t sort p ok sorted image =
 -- ---- where the lemma is cited
 
 -- what is known where the lemma of a rule is cited
-pub record IsCited (cx : Context) (r : RewriteRule) (lemma : Theorem) (theta : List (Option Tree)) (ts : List Theorem) : Type 0 where
-  pub can : CanApply cx r lemma theta
+pub record IsCited (cx : Context) (r : RewriteRule) (lemma : Theorem) (theta : List (Option Tree)) (o : Option Theorem) (ts : List Theorem) : Type 0 where
+  pub can : CanApply cx r lemma theta o
   pub elements : AreElementsFor cx theta ts
 
-images_at : (cx : Context) (r : RewriteRule) (lemma : Theorem) (theta : List (Option Tree)) (ts : List Theorem) (w : IsCited cx r lemma theta ts) → HasImages cx theta w.can.schema.numbers ts
-images_at cx r lemma theta ts w =
-    elements_have cx theta r.variables w.can.schema.numbers ts w.elements w.can.schema.are w.can.respects w.can.room
+-- the images of the terms, and what is proved of them
+record IsReady (cx : Context) (r : RewriteRule) (lemma : Theorem) (theta : List (Option Tree)) (o : Option Theorem) (ts : List Theorem) (w : IsCited cx r lemma theta o ts) : Type 0 where
+  images : HasImages cx theta w.can.schema.numbers ts
+  there : AllThere theta (length r.variables)
+  left_open : IsOpenFrom 0 (length r.variables) w.can.schema.left
+  right_open : IsOpenFrom 0 (length r.variables) w.can.schema.right
+  usable : IsUsable images.patterns w.can.schema.numbers lemma ts (listed o)
 
-all_there : (cx : Context) (r : RewriteRule) (lemma : Theorem) (theta : List (Option Tree)) → CanApply cx r lemma theta → AllThere theta (length r.variables)
-all_there cx r lemma theta can x low =
-    let bound : (t : Tree) × (binding theta x ≡ Some t) × ((sort : ℕ) × IsTermOf cx.program.sig t sort) = can.bound x (omega (arith, low, can.room)) in
-    (bound.0, bound.1)
-
-side_has_image : (cx : Context) (r : RewriteRule) (lemma : Theorem) (theta : List (Option Tree)) (side : RulePattern) (sort : ℕ) → CanApply cx r lemma theta → HasSort cx.program.sig r.variables side sort
-    → HasImage cx.program.sig (length r.variables) side
-side_has_image cx r lemma theta side sort can sorted = sorted_has_image cx.program.sig r.variables side sort can.well_sorted.signature sorted
-
-side_open : (cx : Context) (r : RewriteRule) (lemma : Theorem) (theta : List (Option Tree)) (side : RulePattern) (sort : ℕ) (image : Pattern) → CanApply cx r lemma theta → HasSort cx.program.sig r.variables side sort
-    → image_of cx.program.sig cx.names side ≡ Some image → IsOpenFrom 0 (length r.variables) image
-side_open cx r lemma theta side sort image can sorted is =
-    image_is_open cx.program.sig cx.names (length r.variables) side (side_has_image cx r lemma theta side sort can sorted) image is
-
-usable : (cx : Context) (r : RewriteRule) (lemma : Theorem) (theta : List (Option Tree)) (ts : List Theorem) (w : IsCited cx r lemma theta ts) (i : HasImages cx theta w.can.schema.numbers ts)
-    → IsUsable i.patterns w.can.schema.numbers lemma ts []
-usable cx r lemma theta ts w i =
+ready : (cx : Context) (r : RewriteRule) (lemma : Theorem) (theta : List (Option Tree)) (o : Option Theorem) (ts : List Theorem) (w : IsCited cx r lemma theta o ts) → IsReady cx r lemma theta o ts w
+ready cx r lemma theta o ts w =
+    let i : HasImages cx theta w.can.schema.numbers ts = elements_have cx theta r.variables w.can.schema.numbers ts w.elements w.can.schema.are w.can.respects w.can.room in
     let many : (length i.patterns ≡ length ts) × (length w.can.schema.numbers ≡ length ts) = as_many_facts i.patterns w.can.schema.numbers ts i.facts in
     let total : length r.variables ≡ length i.patterns = sym (numbers_length cx.program.sig cx.names r.variables w.can.schema.numbers w.can.schema.are) ∙ many.1 ∙ sym many.0 in
-    let left : IsMetaBelow (length r.variables) (with_metas w.can.schema.left) =
-    open_metas 0 (length r.variables) w.can.schema.left (side_open cx r lemma theta r.left w.can.left.0 w.can.schema.left w.can w.can.left.1 w.can.schema.left_image) in
-    let right : IsMetaBelow (length r.variables) (with_metas w.can.schema.right) =
-    open_metas 0 (length r.variables) w.can.schema.right (side_open cx r lemma theta r.right w.can.right.0 w.can.schema.right w.can w.can.right.1 w.can.schema.right_image) in
+    let left : IsOpenFrom 0 (length r.variables) w.can.schema.left = image_is_open cx.program.sig cx.names (length r.variables) r.left w.can.image.left w.can.schema.left w.can.schema.left_image in
+    let right : IsOpenFrom 0 (length r.variables) w.can.schema.right = image_is_open cx.program.sig cx.names (length r.variables) r.right w.can.image.right w.can.schema.right w.can.schema.right_image in
+    let left_below : IsMetaBelow (length r.variables) (with_metas w.can.schema.left) = open_metas 0 (length r.variables) w.can.schema.left left in
+    let right_below : IsMetaBelow (length r.variables) (with_metas w.can.schema.right) = open_metas 0 (length r.variables) w.can.schema.right right in
+    let proved : (h : Pattern) → Contains (parts_of (with_metas w.can.schema.condition)) h → IsProved i.patterns w.can.schema.numbers (listed o) h =
+    part_proved cx r.variables theta i.patterns w.can.schema.numbers w.can.schema.holds w.can.schema.condition r.condition o w.can.schema.is_holds w.can.schema.condition_image w.can.image.condition i.images (all_there r.variables theta w.can.bound) total w.can.condition in
+    let one : (h : Pattern) → Contains (meta_facts 0 w.can.schema.numbers) h ⊎ Contains (parts_of (with_metas w.can.schema.condition)) h → IsProved i.patterns w.can.schema.numbers (listed o) h =
+    λ h. either (proved_fact i.patterns w.can.schema.numbers (listed o) h) (proved h) in
     record {
-      are = i.facts;
-      proved = All-weaker (IsMetaFact w.can.schema.numbers) (IsProved i.patterns w.can.schema.numbers []) fact lemma.hypotheses w.can.schema.hypotheses;
-      below = subst (IsMetaBelow (length i.patterns)) (sym w.can.schema.says)
-          (subst (λ (n : ℕ). IsMetaBelow n (with_metas w.can.schema.left) × IsMetaBelow n (with_metas w.can.schema.right)) total (left, right));
+      images = i;
+      there = all_there r.variables theta w.can.bound;
+      left_open = left;
+      right_open = right;
+      usable = record {
+        are = i.facts;
+        proved = λ k d low. one (slice_index_or lemma.hypotheses k d)
+            (Contains-append_cases (meta_facts 0 w.can.schema.numbers) (parts_of (with_metas w.can.schema.condition)) (slice_index_or lemma.hypotheses k d)
+            (w.can.schema.assumes (slice_index_or lemma.hypotheses k d) (Contains-get_or lemma.hypotheses k d low)));
+        below = subst (IsMetaBelow (length i.patterns)) (sym w.can.schema.says)
+            (subst (λ (n : ℕ). IsMetaBelow n (with_metas w.can.schema.left) × IsMetaBelow n (with_metas w.can.schema.right)) total (left_below, right_below));
+      };
     }
   where
-    fact : (p : Pattern) → IsMetaFact w.can.schema.numbers p → IsProved i.patterns w.can.schema.numbers [] p
-    fact p (x, n, number, is) = by_fact x n number is
+    either : {A B C : Type 0} → (A → C) → (B → C) → A ⊎ B → C
+    either f g (inl a) = f a
+    either f g (inr b) = g b
 
-pub cited_usable : (cx : Context) (r : RewriteRule) (lemma : Theorem) (theta : List (Option Tree)) (ts : List Theorem) → IsCited cx r lemma theta ts → (qs : List Pattern) × (ns : List ℕ) × IsUsable qs ns lemma ts []
-cited_usable cx r lemma theta ts w =
-    let i : HasImages cx theta w.can.schema.numbers ts = images_at cx r lemma theta ts w in
-    (i.patterns, w.can.schema.numbers, usable cx r lemma theta ts w i)
+pub cited_usable : (cx : Context) (r : RewriteRule) (lemma : Theorem) (theta : List (Option Tree)) (o : Option Theorem) (ts : List Theorem) → IsCited cx r lemma theta o ts → (qs : List Pattern) × (ns : List ℕ) × IsUsable qs ns lemma ts (listed o)
+cited_usable cx r lemma theta o ts w =
+    let g : IsReady cx r lemma theta o ts w = ready cx r lemma theta o ts w in
+    (g.images.patterns, w.can.schema.numbers, g.usable)
 
 -- The lemma says that the left side, with terms in the places of its variables, makes a step to the right side.
-pub cited_says : (cx : Context) (r : RewriteRule) (lemma : Theorem) (theta : List (Option Tree)) (ts : List Theorem) (t : Theorem) → IsCited cx r lemma theta ts → IsUsed lemma ts [] t → SaysFilled cx theta r.left r.right t.conclusion
-cited_says cx r lemma theta ts t w used =
-    let can : CanApply cx r lemma theta = w.can in
-    let i : HasImages cx theta can.schema.numbers ts = images_at cx r lemma theta ts w in
-    let is : t.conclusion ≡ instance i.patterns lemma.conclusion = used i.patterns can.schema.numbers (usable cx r lemma theta ts w i) in
-    let left_open : IsOpenFrom 0 (length r.variables) can.schema.left = side_open cx r lemma theta r.left can.left.0 can.schema.left can can.left.1 can.schema.left_image in
-    let right_open : IsOpenFrom 0 (length r.variables) can.schema.right = side_open cx r lemma theta r.right can.right.0 can.schema.right can can.right.1 can.schema.right_image in
+pub cited_says : (cx : Context) (r : RewriteRule) (lemma : Theorem) (theta : List (Option Tree)) (o : Option Theorem) (ts : List Theorem) (t : Theorem) → IsCited cx r lemma theta o ts → IsUsed lemma ts (listed o) t → SaysFilled cx theta r.left r.right t.conclusion
+cited_says cx r lemma theta o ts t w used =
+    let g : IsReady cx r lemma theta o ts w = ready cx r lemma theta o ts w in
+    let is : t.conclusion ≡ instance g.images.patterns lemma.conclusion = used g.images.patterns w.can.schema.numbers g.usable in
+    let closed : HaveNoVariables g.images.patterns = facts_closed g.images.patterns w.can.schema.numbers ts g.images.facts in
     record {
-      from = instance i.patterns (with_metas can.schema.left);
-      from_image = filled_image cx.program.sig cx.names theta i.patterns (length r.variables) r.left i.images (all_there cx r lemma theta can)
-          (side_has_image cx r lemma theta r.left can.left.0 can can.left.1) can.schema.left can.schema.left_image;
-      to = instance i.patterns (with_metas can.schema.right);
-      to_image = filled_image cx.program.sig cx.names theta i.patterns (length r.variables) r.right i.images (all_there cx r lemma theta can)
-          (side_has_image cx r lemma theta r.right can.right.0 can can.right.1) can.schema.right can.schema.right_image;
-      says = is ∙ ap (instance i.patterns) can.schema.says;
+      from = instance g.images.patterns (with_metas w.can.schema.left);
+      from_image = filled_image cx.program.sig cx.names theta g.images.patterns (length r.variables) r.left g.images.images g.there w.can.image.left w.can.schema.left w.can.schema.left_image;
+      to = instance g.images.patterns (with_metas w.can.schema.right);
+      to_image = filled_image cx.program.sig cx.names theta g.images.patterns (length r.variables) r.right g.images.images g.there w.can.image.right w.can.schema.right w.can.schema.right_image;
+      says = is ∙ ap (instance g.images.patterns) w.can.schema.says;
       no_variable = (
-        instance_closed i.patterns (with_metas can.schema.left) (facts_closed i.patterns can.schema.numbers ts i.facts) (open_no_variable 0 (length r.variables) can.schema.left left_open),
-        instance_closed i.patterns (with_metas can.schema.right) (facts_closed i.patterns can.schema.numbers ts i.facts) (open_no_variable 0 (length r.variables) can.schema.right right_open),
+        instance_closed g.images.patterns (with_metas w.can.schema.left) closed (open_no_variable 0 (length r.variables) w.can.schema.left g.left_open),
+        instance_closed g.images.patterns (with_metas w.can.schema.right) closed (open_no_variable 0 (length r.variables) w.can.schema.right g.right_open),
       );
     }
 
@@ -112,9 +112,9 @@ cited_says cx r lemma theta ts t w used =
 side_over : (s : Scope) (cx : Context) (side : RulePattern) (image : Pattern) → HasContext s cx → image_of cx.program.sig cx.names side ≡ Some image → IsOverPlaces s (with_metas image)
 side_over s cx side image has is = schema_over_places s cx (term side) image has is
 
-pub cited_stays : (cx : Context) (r : RewriteRule) (lemma : Theorem) (theta : List (Option Tree)) (ts : List Theorem) (t : Theorem) → IsCited cx r lemma theta ts → StaysUsed lemma ts [] t → StaysIn cx t
-cited_stays cx r lemma theta ts t w used s has =
+pub cited_stays : (cx : Context) (r : RewriteRule) (lemma : Theorem) (theta : List (Option Tree)) (o : Option Theorem) (ts : List Theorem) (t : Theorem) → IsCited cx r lemma theta o ts → StaysUsed lemma ts (listed o) t → StaysIn cx t
+cited_stays cx r lemma theta o ts t w used s has =
     let over : IsOverPlaces s lemma.conclusion =
     subst (IsOverPlaces s) (sym w.can.schema.says)
     (side_over s cx r.left w.can.schema.left has w.can.schema.left_image, side_over s cx r.right w.can.schema.right has w.can.schema.right_image) in
-    used s (has.lemmas lemma w.can.listed) over (elements_within s cx theta ts has w.elements) tt
+    used s (has.lemmas lemma w.can.listed) over (elements_within s cx theta ts has w.elements) (condition_within cx r.variables theta r.condition o w.can.condition s has)

@@ -1,35 +1,52 @@
--- Where the lemma of a rule is used: what stands for the rule's variables, and what is proved of it.
-use Rattle.std.specs.Prelude.{◌≡◌, ℕ, true, List, length, Option, Some, Contains, slice_get}
+-- Where the lemma of a rule is used: the step that is made, what stands for the rule's variables, and what is proved
+-- of it.
+use Rattle.std.specs.Prelude.{◌≡◌, ℕ, List, length, Option, Some, Contains, slice_get}
 use Rattle.ml_pat.specs.Patterns.{Pattern, imp, next}
 use Rattle.ml_kernel.specs.Theorems.{Theorem}
 use Rattle.term_core.specs.Terms.{Tree}
 use Rattle.term_core.specs.Patterns.{Pattern as RulePattern}
 use Rattle.term_core.specs.RulePatterns.{plain_pattern}
+use Rattle.rule_core.specs.BoundVariables.{HasBoundVariables}
+use Rattle.rule_core.specs.Records.{StepRecord}
 use Rattle.rule_core.specs.Rules.{RewriteRule}
-use Rattle.rule_core.specs.Sorting.{HasSort}
 use Rattle.rule_core.specs.Matching.{RespectsSorts}
 use Rattle.rule_core.specs.WellSorted.{IsWellSorted}
-use Rattle.rule_core.specs.ProgramView.{theory_of}
+use Rattle.rule_core.specs.ProgramView.{rewrite_rule, theory_of}
+use Rattle.rule_core.specs.declared.rules.Program.{Program}
 use Rattle.rule_core.specs.declared.rules.Rule.{Rule}
 use Rattle.ml_kernel.specs.Lemmas.{HasNoVariable}
+use Rattle.ml_image.specs.HasImages.{HasRuleImage}
 use Rattle.ml_image.specs.Images.{image_of}
 use Rattle.prove_term.specs.Contexts.{Context}
 use Rattle.prove_term.specs.Filling.{filled}
-use Rattle.prove_schema.specs.Elements.{AllBound}
-use Rattle.prove_step.specs.PlainRules.{is_plain_rule}
+use Rattle.prove_equation.specs.Conditions.{BindsEach, SaysCondition}
 use Rattle.prove_step.specs.RuleLemmas.{SaysRuleSchema}
+use Rattle.prove_step.specs.Steps.{IsStepFrom}
 
--- the lemma of the rule may be used with this substitution
-pub record CanApply (cx : Context) (r : RewriteRule) (lemma : Theorem) (theta : List (Option Tree)) : Type 0 where
+-- a term makes this step, and the program is well sorted with its variables bound
+pub record IsStepOf (program : Program) (step : StepRecord) : Type 0 where
+  pub well_sorted : IsWellSorted (theory_of program)
+  pub bound : HasBoundVariables program
+  pub term : Tree
+  pub follows : IsStepFrom (theory_of program) term step
+
+-- the theorem, which is there where there is a condition, says that the condition of the rule at this place holds
+abbrev pub SaysConditionAt : Context → ℕ → List (Option Tree) → Option Theorem → Type 0
+SaysConditionAt cx i theta o =
+    (r : Rule) → slice_get cx.program.rules.items i ≡ Some r →
+    SaysCondition cx (rewrite_rule r).variables theta (rewrite_rule r).condition o
+
+-- the lemma of the rule may be used with this substitution, and this theorem on its condition
+pub record CanApply (cx : Context) (r : RewriteRule) (lemma : Theorem) (theta : List (Option Tree))
+    (o : Option Theorem) : Type 0 where
   pub well_sorted : IsWellSorted (theory_of cx.program)
-  pub plain : is_plain_rule r ≡ true
-  pub left : (sort : ℕ) × HasSort cx.program.sig r.variables r.left sort
-  pub right : (sort : ℕ) × HasSort cx.program.sig r.variables r.right sort
+  pub image : HasRuleImage cx.program.sig r
   pub room : length theta ≡ length r.variables
   pub respects : RespectsSorts cx.program.sig r.variables theta
-  pub bound : AllBound cx.program.sig theta
+  pub bound : BindsEach r.variables theta
   pub schema : SaysRuleSchema cx r lemma
   pub listed : Contains cx.lemmas lemma
+  pub condition : SaysCondition cx r.variables theta r.condition o
 
 -- the pattern says that the image of the left side, with terms in the places of its variables, makes a step to that of
 -- the right side; no object variable stands in them
@@ -49,6 +66,6 @@ SaysFilledAt cx i theta p =
     SaysFilled cx theta (plain_pattern r.left) (plain_pattern r.right) p
 
 -- with this substitution the rule's lemma says so of the rule's sides
-abbrev pub SaysApplied : Context → Theorem → List (Option Tree) → Context → Theorem → Type 0
-SaysApplied old lemma theta new t =
-    (r : RewriteRule) → CanApply old r lemma theta → SaysFilled new theta r.left r.right t.conclusion
+abbrev pub SaysApplied : Context → Theorem → List (Option Tree) → Option Theorem → Context → Theorem → Type 0
+SaysApplied old lemma theta o new t =
+    (r : RewriteRule) → CanApply old r lemma theta o → SaysFilled new theta r.left r.right t.conclusion

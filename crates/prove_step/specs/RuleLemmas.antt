@@ -1,35 +1,38 @@
 -- Rules as lemmas: what a lemma of a rule says, by its pattern variables.
-use Rattle.std.specs.Prelude.{◌≡◌, ℕ, List, All, Contains, Option, Some, None, slice_get, slice_index_or}
+use Rattle.std.specs.Prelude.{◌≡◌, ◌⊎◌, ◌++◌, ℕ, List, Contains, Option, Some, None, slice_get, slice_index_or}
 use Rattle.std.specs.List.{AllZip}
-use Rattle.ml_pat.specs.Patterns.{Pattern, imp, fun, next, meta}
+use Rattle.ml_pat.specs.Patterns.{Pattern, top, imp, and, equal, next}
 use Rattle.ml_kernel.specs.Theorems.{Theorem}
 use Rattle.rule_core.specs.Rules.{RewriteRule}
 use Rattle.rule_core.specs.ProgramView.{rewrite_rule}
 use Rattle.rule_core.specs.declared.rules.Rule.{Rule}
 use Rattle.rule_core.specs.declared.signature.Signature.{Signature}
 use Rattle.ml_image.specs.Images.{image_of, sort_image}
+use Rattle.ml_image.specs.OwnAxioms.{condition_of}
+use Rattle.ml_image.specs.Sentences.{Sentence, sentence_image}
 use Rattle.prove_term.specs.Contexts.{Context}
-use Rattle.prove_schema.specs.Schemas.{with_metas}
+use Rattle.prove_schema.specs.Schemas.{with_metas, meta_facts, parts_of}
 
 -- the numbers of these sorts, in order
 abbrev pub AreNumbers : Signature → List (List ℕ) → List ℕ → List ℕ → Type 0
 AreNumbers sig names ss ns = AllZip (λ (s n : ℕ). sort_image sig names s ≡ Some n) ss ns
 
--- the pattern says that one of the pattern variables is one element of the sort with its number
-abbrev pub IsMetaFact : List ℕ → Pattern → Type 0
-IsMetaFact numbers p = (x n : ℕ) × (slice_get numbers x ≡ Some n) × (p ≡ fun (meta x) n)
-
--- Where each pattern variable is one element of the sort of the rule's variable with its number, what is the rule's
--- left side makes a step to its right side.
+-- Where each pattern variable is one element of the sort of the rule's variable with its number, and the rule's
+-- condition says no more than what is assumed, what is the rule's left side makes a step to its right side.
 pub record SaysRuleSchema (cx : Context) (r : RewriteRule) (t : Theorem) : Type 0 where
   pub numbers : List ℕ
   pub are : AreNumbers cx.program.sig cx.names r.variables numbers
-  pub hypotheses : All (IsMetaFact numbers) t.hypotheses
   pub left : Pattern
   pub left_image : image_of cx.program.sig cx.names r.left ≡ Some left
+  pub holds : Sentence
+  pub is_holds : condition_of cx.program.sig r.variables r.condition ≡ Some holds
+  pub condition : Pattern
+  pub condition_image : sentence_image cx.program.sig cx.names holds ≡ Some condition
   pub right : Pattern
   pub right_image : image_of cx.program.sig cx.names r.right ≡ Some right
   pub says : t.conclusion ≡ imp (with_metas left) (next (with_metas right))
+  pub assumes : (h : Pattern) → Contains t.hypotheses h →
+      Contains (meta_facts 0 numbers ++ parts_of (with_metas condition)) h
 
 -- the theorem says so of the rule at this place
 abbrev pub SaysSchemaAt : Context → ℕ → Theorem → Type 0
@@ -47,3 +50,11 @@ IsRuleLemma cx i t = Contains cx.lemmas t × SaysSchemaAt cx i t
 -- the lemmas at the places that are kept for rules, by the rules' places, are those of the rules
 abbrev pub AreRuleLemmas : Context → List (Option ℕ) → Type 0
 AreRuleLemmas cx places = (i k : ℕ) → slice_index_or places i None ≡ Some k → IsLemmaOf cx i k
+
+-- something follows where a condition holds
+abbrev pub IsConditional : Pattern → Type 0
+IsConditional p = (l c r : Pattern) × (p ≡ imp (and l c) r)
+
+-- a condition says nothing, or that two patterns are equal
+abbrev pub IsCondition : Pattern → Type 0
+IsCondition c = (c ≡ top) ⊎ ((p q : Pattern) × (c ≡ equal p q))

@@ -1,13 +1,12 @@
 // One step of a run as a theorem: the rule that applies is a lemma, made once, and the step is its instance, in which
-// injections that meet are made one.
-#![tactic(auto)]
+// injections that meet are made one, and the right side is its value.
+#![tactic(auto, using(crate::proofs::GrowthLaws::growing))]
 
 mod applying;
+mod conditions;
 mod meeting;
 mod normalizing;
-mod plain;
 mod prover;
 mod schemas;
 
-pub use plain::{is_plain, is_plain_rule};
 pub use prover::Prover;

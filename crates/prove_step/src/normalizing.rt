@@ -1,4 +1,4 @@
-// The step of a rule as it is written, carried to terms in which no two injections meet.
+// The step of a rule as it is written, carried to terms in which no two injections meet, and to the right side's value.
 ghost use Rattle.std.specs.Prelude.{◌∷◌, ℕ, List, [], IfOk, IfSome, Some};
 ghost use Rattle.ml_pat.specs.Patterns.{var};
 ghost use Rattle.ml_scope.specs.Scopes.{StaysWithin};
@@ -6,46 +6,50 @@ ghost use Rattle.term_core.specs.Patterns.{FitsWithin};
 ghost use Rattle.term_core.specs.RulePatterns.{plain_pattern};
 ghost use Rattle.rule_core.specs.Evaluation.{most_height};
 ghost use Rattle.rule_core.specs.Matching.{RespectsSorts};
-ghost use Rattle.rule_core.specs.ProgramView.{theory_of};
+ghost use Rattle.rule_core.specs.RecordView.{plain_step};
 ghost use Rattle.rule_core.specs.Sorting.{HasSort};
-ghost use Rattle.rule_core.specs.WellSorted.{IsSignature, IsWellSorted};
+ghost use Rattle.rule_core.specs.WellSorted.{IsSignature};
 ghost use Rattle.prove_term.specs.Contexts.{HasGrown, StaysIn};
 ghost use Rattle.prove_term.specs.EqualImages.{SaysEqualImages};
-ghost use Rattle.prove_step.specs.Applying.{SaysFilledAt};
-ghost use Rattle.prove_step.specs.Normalizing.{CanTurnLeft, CanTurnRight, StaysTurned, TurnsLeft, TurnsRight};
-ghost use Rattle.prove_step.specs.Steps.{MakesAt, MatchesAt, SaysStepAt};
+ghost use Rattle.prove_fun.specs.KeptLemmas.{IsKeptIn};
+ghost use Rattle.prove_step.specs.Applying.{IsStepOf, SaysFilledAt};
+ghost use Rattle.prove_step.specs.Normalizing.{CanTurnLeft, CanTurnRight, SaysStepOf, StaysTurned};
+ghost use Rattle.prove_step.specs.Normalizing.{TurnsLeft, TurnsRight};
 
 use crate::meeting::meet_in;
 use ml_derived::carry;
 use ml_kernel::Thm;
 use ml_pat::{MForm, MPat, VarNo};
+use prove_fun::{Kept, eval_eq};
 use prove_term::{Cx, inj_eq};
+use rule_core::StepRecord;
 use std::alloc::{AllocError, Global};
 use term_core::{RulePat, Subst};
 
 // The variable that marks the place in the contexts made here.
 const HOLE: VarNo = VarNo(0);
 
-// The step by a rule, from the theorem that says it of the rule's sides with terms in the places of the variables.
+// The step that was recorded, from the theorem that says it of the rule's sides with terms in the places of the
+// variables.
 pub(crate) fn normalized(
     alloc: Global,
     cx: &mut Cx<'_>,
-    rule: u32,
-    subst: &Subst,
+    kept: &mut Kept,
+    step: &StepRecord,
     written: Thm,
 ) -> Result<Thm, AllocError>
-    requires well_sorted { IsWellSorted (theory_of cx.old.program) }
-    requires matches { MatchesAt cx.old.program rule subst.now }
-    requires makes { MakesAt cx.old.program rule subst.now }
-    requires says { SaysFilledAt cx.old rule subst.now written.conclusion }
+    requires step { IsStepOf cx.old.program (plain_step step.now) }
+    requires says { SaysFilledAt cx.old step.now.rule step.now.subst written.conclusion }
     requires stays { StaysIn cx.old written }
-    ensures says { IfOk result (λ thm. SaysStepAt cx.new rule subst.now thm.conclusion) }
+    requires kept { IsKeptIn cx.old kept.old }
+    ensures says { IfOk result (λ thm. SaysStepOf cx.new (plain_step step.now) thm.conclusion) }
     ensures stays { IfOk result (StaysIn cx.new) }
     ensures grown { HasGrown cx.old cx.new }
+    ensures kept { IsKeptIn cx.new kept.new }
 {
-    let sides = &cx.program().rules[rule as usize];
-    let left = compared(alloc, cx, &sides.left, subst)?;
-    let right = compared(alloc, cx, &sides.right, subst)?;
+    let sides = &cx.program().rules[step.rule as usize];
+    let left = compared(alloc, cx, &sides.left, &step.subst)?;
+    let right = eval_eq(alloc, cx, kept, &sides.right, &step.subst, &step.right)?;
     let from = left_turned(alloc, &left, written)?;
     right_turned(alloc, &right, from)
 }

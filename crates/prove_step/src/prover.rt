@@ -1,39 +1,44 @@
 // Steps of a program's runs as theorems.
 ghost use Rattle.std.specs.Prelude.{◌≡◌, ◌<◌, ◌∷◌, ◌++◌, ◌^◌, ℕ, List, [], length, replicate};
 ghost use Rattle.std.specs.Prelude.{IfOk, IfSome, OnOk, OnErr, Some, None};
-ghost use Rattle.term_core.specs.Patterns.{FitsWithin};
+ghost use Rattle.term_core.specs.Terms.{Tree};
 ghost use Rattle.term_core.specs.RulePatterns.{plain_pattern};
+ghost use Rattle.rule_core.specs.BoundVariables.{HasBoundVariables};
 ghost use Rattle.rule_core.specs.ProgramView.{theory_of};
-ghost use Rattle.rule_core.specs.Evaluation.{most_height};
-ghost use Rattle.rule_core.specs.Matching.{RespectsSorts};
+ghost use Rattle.rule_core.specs.Records.{Records, result_of};
+ghost use Rattle.rule_core.specs.RecordView.{plain_record, plain_step};
 ghost use Rattle.rule_core.specs.Sorting.{HasSort};
-ghost use Rattle.rule_core.specs.WellSorted.{IsSignature, IsWellSorted};
+ghost use Rattle.rule_core.specs.WellSorted.{IsWellSorted, Serves};
 ghost use Rattle.ml_image.specs.Images.{image_of};
 ghost use Rattle.ml_image.specs.HasImages.{HasImage};
 ghost use Rattle.prove_term.specs.Contexts.{HasGrown, IsLemmaIn, StaysIn, new_context};
-ghost use Rattle.prove_term.specs.EqualImages.{SaysEqualImages};
 ghost use Rattle.prove_term.specs.RuleAxioms.{HasImageAt};
-ghost use Rattle.prove_step.specs.Steps.{MakesAt, MatchesAt, SaysStepAt, IsPlainAt};
+ghost use Rattle.prove_fun.specs.Valuing.{EqualsValue};
+ghost use Rattle.prove_step.specs.Steps.{IsStepFrom, SaysStep};
 ghost use Rattle.prove_step.specs.RuleLemmas.{IsLemmaOf, IsRuleLemma};
 
 use crate::applying::applied;
+use crate::conditions::condition_held;
 use crate::normalizing::normalized;
 use crate::schemas::rule_schema;
 use ml_kernel::{Lemma, Thm};
 use ml_pat::MPat;
-use prove_term::{Cx, inj_eq};
-use rule_core::Program;
+use prove_fun::{Kept, eval_eq};
+use prove_term::Cx;
+use rule_core::{EvalRecord, Program, StepRecord};
 use std::alloc::{AllocError, Global};
 use std::marker::Model;
 use term_core::{RulePat, Subst};
 
-/// What proves the steps of a program's runs: a context, in which each rule is a lemma from its first use on. Contracts
-/// see it as its context.
+/// What proves the steps of a program's runs: a context, in which each rule and each equation is a lemma from its first
+/// use on. Contracts see it as its context.
 #[derive(Drop)]
 pub struct Prover<'p> {
     cx: Cx<'p>,
     // The place of the lemma of each rule, where it was used.
     rules: Vec<Option<usize>>,
+    // The places of the lemmas of the equations that were used.
+    kept: Kept,
 }
 
 impl<'p> Model for Prover<'p> {
@@ -47,11 +52,11 @@ impl<'p> Model for Prover<'p> {
 
     ghost coded = { Prim.hlevel (codes, rule_pattern.the_row.coded, pattern_code, theorem_code) };
 
-    ghost use Rattle.prove_step.specs.ProverView.{context_of, HasRuleLemmas};
+    ghost use Rattle.prove_step.specs.ProverView.{context_of, HasLemmas};
 
     ghost view = { context_of };
 
-    ghost invariant = { HasRuleLemmas };
+    ghost invariant = { HasLemmas };
 }
 
 impl<'p> Prover<'p> {
@@ -62,6 +67,7 @@ impl<'p> Prover<'p> {
         Ok(Prover {
             cx: Cx::new(alloc, program),
             rules: no_lemmas(alloc, program.rules.len())?,
+            kept: Kept::new(alloc),
         })
     }
 
@@ -84,24 +90,28 @@ impl<'p> Prover<'p> {
     }
 
     /// That the image of a pattern, with the images of a substitution's terms in the places of its variables, equals
-    /// that of the term that the pattern becomes. Where no two injections meet both are the same, and there is no
-    /// theorem. `AllocError` says that memory ran out; the context may have grown then too.
-    pub fn inj_eq(
+    /// that of its value, by the record of its evaluation. Where both are literally the same there is no theorem.
+    /// `AllocError` says that memory ran out; the context may have grown then too.
+    pub fn eval_eq(
         &mut self,
         alloc: Global,
         pat: &RulePat,
         subst: &Subst,
+        evaluation: &EvalRecord,
     ) -> Result<Option<Thm>, AllocError>
-        requires signature { IsSignature self.old.program.sig }
+        requires well_sorted { IsWellSorted (theory_of self.old.program) }
+        requires bound { HasBoundVariables self.old.program }
         requires sorted { (variables : List ℕ) × (sort : ℕ)
             × HasSort self.old.program.sig variables (plain_pattern pat.now) sort
-            × RespectsSorts self.old.program.sig variables subst.now }
-        requires fits { FitsWithin most_height subst.now (plain_pattern pat.now) }
-        ensures says { IfOk result (SaysEqualImages self.new subst.now (plain_pattern pat.now)) }
+            × Serves self.old.program.sig variables subst.now (plain_pattern pat.now) }
+        requires recorded { Records (theory_of self.old.program) subst.now (plain_pattern pat.now)
+            (plain_record evaluation.now) }
+        ensures says { IfOk result
+            (EqualsValue self.new subst.now (plain_pattern pat.now) (result_of (plain_record evaluation.now))) }
         ensures stays { IfOk result (λ o. IfSome o (StaysIn self.new)) }
         ensures grown { HasGrown self.old self.new }
     {
-        inj_eq(alloc, &mut self.cx, pat, subst)
+        eval_eq(alloc, &mut self.cx, &mut self.kept, pat, subst, evaluation)
     }
 
     /// Keeps a theorem as a lemma: it stays in the context but for its own hypotheses. `AllocError` says that memory
@@ -114,28 +124,28 @@ impl<'p> Prover<'p> {
         self.cx.add_lemma(alloc, thm)
     }
 
-    /// The step by a rule, with what stands for its variables, as a theorem: the instance of the rule's left side
-    /// makes a step to that of its right side. `AllocError` says that memory ran out; the context may have grown
-    /// then too.
-    pub fn step(&mut self, alloc: Global, rule: u32, subst: &Subst) -> Result<Thm, AllocError>
+    /// A step as a theorem, by its record: the term that the rule matches makes a step to the value of the rule's right
+    /// side. `AllocError` says that memory ran out; the context may have grown then too.
+    pub fn step(&mut self, alloc: Global, step: &StepRecord) -> Result<Thm, AllocError>
         requires well_sorted { IsWellSorted (theory_of self.old.program) }
-        requires plain { IsPlainAt self.old.program rule }
-        requires matches { MatchesAt self.old.program rule subst.now }
-        requires makes { MakesAt self.old.program rule subst.now }
-        ensures says { IfOk result (λ thm. SaysStepAt self.new rule subst.now thm.conclusion) }
+        requires bound { HasBoundVariables self.old.program }
+        requires follows { (t : Tree) × IsStepFrom (theory_of self.old.program) t (plain_step step.now) }
+        ensures says { IfOk result (λ thm. (t : Tree) →
+            IsStepFrom (theory_of self.new.program) t (plain_step step.now) →
+            SaysStep self.new t (result_of (plain_step step.now).right) thm.conclusion) }
         ensures no_hypotheses { IfOk result (λ thm. thm.hypotheses ≡ []) }
         ensures stays { IfOk result (StaysIn self.new) }
         ensures grown { HasGrown self.old self.new }
     {
-        let lemma = self.rule_lemma(alloc, rule)?;
-        let written = applied(alloc, &mut self.cx, &lemma, subst)?;
-        normalized(alloc, &mut self.cx, rule, subst, written)
+        let lemma = self.rule_lemma(alloc, step.rule)?;
+        let condition = condition_held(alloc, &mut self.cx, &mut self.kept, step)?;
+        let written = applied(alloc, &mut self.cx, &lemma, &step.subst, &condition)?;
+        normalized(alloc, &mut self.cx, &mut self.kept, step, written)
     }
 
     // The lemma of a rule, which is made when it is first asked for.
     fn rule_lemma(&mut self, alloc: Global, rule: u32) -> Result<Lemma, AllocError>
-        requires image { HasImageAt self.old.program rule }
-        requires plain { IsPlainAt self.old.program rule }
+        requires { HasImageAt self.old.program rule }
         ensures lemma { IfOk result (IsRuleLemma self.new rule) }
         ensures grown { HasGrown self.old self.new }
     {
@@ -145,8 +155,7 @@ impl<'p> Prover<'p> {
 
     // The place of the lemma of a rule.
     fn rule_place(&mut self, alloc: Global, rule: u32) -> Result<usize, AllocError>
-        requires image { HasImageAt self.old.program rule }
-        requires plain { IsPlainAt self.old.program rule }
+        requires { HasImageAt self.old.program rule }
         ensures place { IfOk result (IsLemmaOf self.new rule) }
         ensures grown { HasGrown self.old self.new }
     {
@@ -160,8 +169,7 @@ impl<'p> Prover<'p> {
 
     // Makes the lemma of a rule.
     fn new_lemma(&mut self, alloc: Global, rule: u32) -> Result<usize, AllocError>
-        requires image { HasImageAt self.old.program rule }
-        requires plain { IsPlainAt self.old.program rule }
+        requires { HasImageAt self.old.program rule }
         ensures place { IfOk result (IsLemmaOf self.new rule) }
         ensures grown { HasGrown self.old self.new }
     {

@@ -14,6 +14,7 @@ pub mod Records
 pub mod Runs
 pub mod RunView
 pub mod ProgramView
+pub mod BoundVariables
 pub mod RecordView
 pub mod RuleVariables
 pub mod Trial

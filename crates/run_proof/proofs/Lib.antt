@@ -1,2 +1,1 @@
-pub mod PlainPatterns
 pub mod ProofsAt

@@ -1,29 +1,22 @@
 -- A proof that has come as far as a run, with its text.
-use Rattle.std.proofs.Common.{◌≡◌, ◌≤◌, ℕ, zero, suc, true, List, [], ◌∷◌, ◌++◌, Option, Some, None, slice_get, inl, inr, refl, sym, ◌∙◌, ap, subst}
-use Rattle.std.specs.Prelude.{option_map, Result, Ok, Err, IfOk, OnOk, OnErr}
-use Rattle.std.specs.List.{list_all}
+use Rattle.std.proofs.Common.{◌≡◌, ◌≤◌, ℕ, true, List, [], ◌++◌, Option, Some, None, inl, inr, refl, sym, ◌∙◌, ap, subst}
+use Rattle.std.specs.Prelude.{Result, Ok, Err, IfOk, OnOk, OnErr}
 use Rattle.std.proofs.lemmas.List.{append_assoc}
-use Rattle.std.proofs.lemmas.Option.{slice_get-map}
 use Rattle.term_core.specs.Terms.{Tree, height}
-use Rattle.term_core.specs.Patterns.{Pattern, ground_pattern, instance_of}
+use Rattle.term_core.specs.Patterns.{Pattern, ground_pattern}
 use Rattle.term_core.specs.RulePatterns.{plain_pattern}
 use Rattle.term_core.specs.declared.rule_patterns.RulePat.{RulePat}
-use Rattle.rule_core.specs.Rules.{RewriteRule}
 use Rattle.rule_core.specs.Theories.{RewriteTheory}
 use Rattle.rule_core.specs.Evaluation.{most_height, Evaluates, blocked}
-use Rattle.rule_core.specs.FirstRule.{Matches, most_nesting}
+use Rattle.rule_core.specs.FirstRule.{most_nesting}
 use Rattle.rule_core.specs.RunView.{cause_of}
 use Rattle.rule_core.specs.declared.rules.Blocked.{Blocked}
-use Rattle.rule_core.specs.ProgramView.{rewrite_rule, rewrite_rules, theory_of}
-use Rattle.rule_core.specs.Records.{StepRecord, RecordsStep, result_of}
+use Rattle.rule_core.specs.ProgramView.{theory_of}
+use Rattle.rule_core.specs.Records.{StepRecord, RecordsStep}
 use Rattle.rule_core.specs.WellSorted.{IsStart}
-use Rattle.rule_core.specs.declared.rules.Rule.{Rule}
 use Rattle.rule_core.specs.declared.rules.Program.{Program}
 use Rattle.mm_justify.specs.Justifying.{JustifiesRun}
-use Rattle.fun_eval.specs.Recorded.{IsRecorded}
-use Rattle.prove_step.specs.PlainRules.{is_plain, is_plain_rule}
-use Rattle.prove_step.proofs.PlainLaws.{plain_rule}
-use Rattle.prove_run.specs.Covered.{is_covered}
+use Rattle.prove_step.specs.Steps.{IsStepFrom}
 use Rattle.prove_run.specs.RunProof.{RunProof, configuration, reached}
 use Rattle.prove_run.specs.Proving.{Begins, CanStep, FitsProof, StepsTo}
 use Rattle.rule_core.specs.Runs.{Steps, next, Reaches}
@@ -37,14 +30,7 @@ use Rattle.run_proof.specs.ProvedSteps.{IsProofAt, IsProvedRun, BeginsAt, Begins
 use Rattle.desk_io.specs.Told.{Told, TellsCreated, Writes, WritesFront}
 use Rattle.desk_io.proofs.Told.{Writes-nil, Writes-then}
 use Rattle.rule_core.specs.Runs.{Run, kept_by}
-use Rattle.run_proof.specs.WrittenProofs.{WritesFrontOfProof, WritesProof, WritesSome}
-use Rattle.run_proof.proofs.PlainPatterns.{both, recorded_is}
-
-pub covered_start : (theory : RewriteTheory) (start : Pattern) → is_covered theory start ≡ true → is_plain start ≡ true
-covered_start theory start h = (both (is_plain start) (list_all is_plain_rule theory.rules) h).0
-
-pub covered_rules : (theory : RewriteTheory) (start : Pattern) → is_covered theory start ≡ true → list_all is_plain_rule theory.rules ≡ true
-covered_rules theory start h = (both (is_plain start) (list_all is_plain_rule theory.rules) h).1
+use Rattle.run_proof.specs.WrittenProofs.{WritesFrontOfProof, WritesProof}
 
 -- a proof of no step has come as far as the value of the start, or where it has none as the start
 pub begun_at : (program : Program) (start : RulePat) (value : Option Tree) (proof : RunProof) (before text : List ℕ) → before ≡ [] → Begins program start value proof before text →
@@ -55,10 +41,6 @@ begun_at program start value proof before text none h = record {
   is_reached = ap (configuration (plain_pattern proof.start)) h.made ∙ ap (λ (r : RulePat). configuration (plain_pattern r) value) h.starts;
   fits = subst (FitsProof proof) (sym (h.text.1 ∙ ap (λ (l : List ℕ). l ++ h.text.0) none)) h.text.2;
 }
-
--- the value of a plain initial term is its instance
-pub value_is : (theory : RewriteTheory) (start : Pattern) (t : Tree) → is_plain start ≡ true → IsRecorded (λ r. Unit {0}) theory [] start t → instance_of [] start ≡ Some t
-value_is theory start t good recorded = recorded_is theory [] start recorded.0 good recorded.2 ∙ ap (λ (u : Tree). Some u) recorded.3
 
 -- so where the run begins
 pub begins_run : (program : Program) (start : Pattern) (calls : ℕ) (run : RunState) (b : Beginning) → Reaches (theory_of program) start calls 0 run.config run.calls → IsConfiguration (theory_of program) run.config →
@@ -82,44 +64,20 @@ unstarted_run program start calls why (beginning.Unstarted because text) ends h 
 
 -- ---- a step
 
-mapped : (o : Option Rule) (rule : RewriteRule) → option_map rewrite_rule o ≡ Some rule → (r : Rule) × (o ≡ Some r) × (rewrite_rule r ≡ rule)
-mapped None rule h = absurd (let z : ⊥ = cc in z)
-mapped (Some r) rule h = (r, refl, cc)
-
-same_rule : (q r : Rule) → Some q ≡ Some r → q ≡ r
-same_rule q r h = cc
-
-covered_item : (rules : List Rule) (i : ℕ) (r : Rule) → slice_get rules i ≡ Some r → list_all is_plain_rule (rewrite_rules rules) ≡ true → is_plain_rule (rewrite_rule r) ≡ true
-covered_item [] i r there h = absurd (let z : ⊥ = cc in z)
-covered_item (q ∷ rules) zero r there h =
-    subst (λ (x : Rule). is_plain_rule (rewrite_rule x) ≡ true) (same_rule q r there) (both (is_plain_rule (rewrite_rule q)) (list_all is_plain_rule (rewrite_rules rules)) h).0
-covered_item (q ∷ rules) (suc i) r there h = covered_item rules i r there (both (is_plain_rule (rewrite_rule q)) (list_all is_plain_rule (rewrite_rules rules)) h).1
-
-plain_right : (r : RewriteRule) → is_plain_rule r ≡ true → is_plain r.right ≡ true
-plain_right r h = (plain_rule r h).right
-
-pub can_step : (program : Program) (start : Pattern) (proof : RunProof) (text : List ℕ) (t u : Tree) (i : ℕ) (theta : List (Option Tree)) (step : StepRecord) →
-    IsProofAt program start (ground_pattern t) proof text → list_all is_plain_rule (rewrite_rules program.rules.items) ≡ true → height t ≤ most_height → step.rule ≡ i → step.theta ≡ theta →
-    RecordsStep (theory_of program) t step → result_of step.right ≡ u → CanStep proof i theta u
-can_step program start proof text t u i theta step at covered low number same follows result =
-    let items = program.rules.items in
-    let found = mapped (slice_get items step.rule) follows.rule (sym (slice_get-map rewrite_rule items step.rule) ∙ follows.there) in
-    let plain : is_plain_rule (rewrite_rule found.0) ≡ true = covered_item items step.rule found.0 found.1 covered in
-    let right : is_plain follows.rule.right ≡ true = plain_right follows.rule (subst (λ (r : RewriteRule). is_plain_rule r ≡ true) found.2 plain) in
-    let makes : instance_of step.theta follows.rule.right ≡ Some u =
-    recorded_is (theory_of program) step.theta follows.rule.right step.right right follows.right ∙ ap (λ (v : Tree). Some v) result in
-    record {
-      rule = found.0;
-      there = subst (λ (p : Program). slice_get p.rules.items i ≡ Some found.0) (sym at.same_program) (subst (λ (n : ℕ). slice_get items n ≡ Some found.0) number found.1);
-      term = t;
-      at = at.is_reached;
-      low = low;
-      matches = subst (λ (p : Program). Matches (theory_of p) (rewrite_rule found.0) t theta) (sym at.same_program)
-          (subst (λ (s : List (Option Tree)). Matches (theory_of program) (rewrite_rule found.0) t s) same
-          (subst (λ (r : RewriteRule). Matches (theory_of program) r t step.theta) (sym found.2) follows.matches));
-      makes = subst (λ (s : List (Option Tree)). instance_of s (plain_pattern found.0.right) ≡ Some u) same
-          (ap (instance_of step.theta) (ap (λ (r : RewriteRule). r.right) found.2) ∙ makes);
-    }
+pub can_step : (program : Program) (start : Pattern) (proof : RunProof) (text : List ℕ) (t : Tree) (step : StepRecord) → IsProofAt program start (ground_pattern t) proof text → height t ≤ most_height →
+    RecordsStep (theory_of program) t step → CanStep proof step
+can_step program start proof text t step at low follows = record {
+  term = t;
+  at = at.is_reached;
+  follows = subst (λ (p : Program). IsStepFrom (theory_of p) t step) (sym at.same_program) (record {
+    rule = follows.rule;
+    there = follows.there;
+    low = low;
+    matches = follows.matches;
+    condition = follows.condition;
+    right = follows.right;
+  });
+}
 
 pub goes_on : (program : Program) (start : Pattern) (proof further : RunProof) (written before after : List ℕ) (t u : Tree) →
     IsProofAt program start (ground_pattern t) proof (written ++ before) → StepsTo proof further u before after → IsProofAt program start (ground_pattern u) further (written ++ after)
@@ -164,15 +122,6 @@ pub on_err : {T E : Type 0} (r : Result T E) (P : Type 0) → P → OnErr r P
 on_err (Ok t) P h = tt
 on_err (Err e) P h = h
 
--- nothing was written
-pub none_written : (told : Option Told) → TellsCreated true told → WritesSome told told
-none_written told h = ([], Writes-nil told h)
-
--- bytes were written up to a fault
-pub front_written : (old new : Option Told) (bytes : List ℕ) → WritesFront old new bytes → WritesSome old new
-front_written None new bytes h = ([], tt)
-front_written (Some old) new bytes h = (h.0, h.3)
-
 -- nothing was written of some bytes
 pub none_front : (told : Option Told) (bytes : List ℕ) → TellsCreated true told → WritesFront told told bytes
 none_front None bytes h = tt
@@ -200,10 +149,6 @@ on_err_front (Ok t) old mid new program start written bytes s first proved text 
 on_err_front (Err e) old mid new program start written bytes s first proved text front =
     front_of_proof old mid new (theory_of program) start (ground_pattern s.run.config) written s.text.items first (subst (WritesFront mid new) text front)
     (justified program start (ground_pattern s.run.config) (ground_pattern s.run.config) s.proof (written ++ s.text.items) proved.1 refl)
-
--- more bytes were written
-pub more_written : (old mid new : Option Told) → WritesSome old mid → WritesSome mid new → WritesSome old new
-more_written old mid new h k = (h.0 ++ k.0, Writes-then old mid new h.0 k.0 h.1 k.1)
 
 -- all of the text was written, of which some was before
 pub all_written : (old mid new : Option Told) (program : Program) (start : Pattern) (run : Run) (written : List ℕ) (s : ProvedSteps) → Writes old mid written → Writes mid new s.text.items →

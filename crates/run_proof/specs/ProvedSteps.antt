@@ -3,15 +3,18 @@ use Rattle.std.specs.Prelude.{◌≡◌, ℕ, List, [], ◌++◌}
 use Rattle.term_core.specs.Terms.{Tree}
 use Rattle.term_core.specs.Patterns.{Pattern, ground_pattern}
 use Rattle.term_core.specs.RulePatterns.{plain_pattern}
+use Rattle.rule_core.specs.BoundVariables.{HasBoundVariables}
 use Rattle.rule_core.specs.ProgramView.{theory_of}
 use Rattle.rule_core.specs.RunView.{cause_of}
 use Rattle.rule_core.specs.Evaluation.{Evaluates, blocked}
 use Rattle.rule_core.specs.FirstRule.{most_nesting}
 use Rattle.rule_core.specs.Runs.{Steps, next, stays, stops, Reaches}
+use Rattle.rule_core.specs.WellSorted.{IsStart}
 use Rattle.rule_core.specs.declared.rules.Blocked.{Blocked}
 use Rattle.rule_core.specs.declared.rules.Program.{Program}
 use Rattle.mm_justify.specs.Justifying.{JustifiesRun}
 use Rattle.rewriter.specs.Configurations.{RunState, IsConfiguration}
+use Rattle.proof_writer.specs.PlainNames.{HasPlainNames}
 use Rattle.prove_run.specs.RunProof.{RunProof, reached}
 use Rattle.prove_run.specs.Proving.{FitsProof, StepsTo}
 use Rattle.run_proof.specs.declared.steps.ProvedSteps.{ProvedSteps}
@@ -19,6 +22,12 @@ use Rattle.run_proof.specs.declared.steps.Beginning.{Beginning}
 use Rattle.run_proof.specs.declared.steps.Beginning.TheVariants as beginning
 use Rattle.run_proof.specs.declared.steps.Going.{Going}
 use Rattle.run_proof.specs.declared.steps.Going.TheVariants as going
+
+-- the program and the initial term are such that the run can be proved
+pub record IsReady (program : Program) (start : Pattern) : Type 0 where
+  pub bound : HasBoundVariables program
+  pub plain : HasPlainNames program.sig
+  pub is_start : IsStart (theory_of program) start
 
 -- a proof of this program from this start has come to a configuration, and the text fits it
 pub record IsProofAt (program : Program) (start at : Pattern) (proof : RunProof) (text : List ℕ) : Type 0 where

@@ -19,7 +19,3 @@ IsFrontOfProof theory start bytes = (end : Pattern) × ((rest : List ℕ) × Jus
 abbrev pub WritesFrontOfProof : Option Told → Option Told → RewriteTheory → Pattern → Type 0
 WritesFrontOfProof old new theory start =
     (bytes : List ℕ) × Writes old new bytes × ((bytes ≡ []) ⊎ IsFrontOfProof theory start bytes)
-
--- the created file grew by some bytes, maybe by none
-abbrev pub WritesSome : Option Told → Option Told → Type 0
-WritesSome old new = (bytes : List ℕ) × Writes old new bytes

@@ -1,8 +1,8 @@
 // The whole run of a term with its proof.
 //
 // `proved_run` goes by the steps of `rewriter` as `run` of `run_loop` does, and states each in a Metamath database by
-// `prove_run`. Its answer is the run of the definition; a database that justifies it stands in the created file of a
-// desk then, written as the run went. It covers the programs and initial terms that `prove_run` covers.
+// `prove_run`, from the records of its evaluations. Its answer is the run of the definition; a database that justifies
+// it stands in the created file of a desk then, written as the run went.
 #![tactic(auto)]
 
 mod proved;

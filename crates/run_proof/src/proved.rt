@@ -1,14 +1,14 @@
 // The loop of a run that is proved as it goes.
-ghost use Rattle.std.specs.Prelude.{◌≡◌, ◌≤◌, true, IsTrue, IfOk, OnErr, IsErrOf};
+ghost use Rattle.std.specs.Prelude.{◌≡◌, ◌≤◌, IsTrue, IfOk, OnErr, IsErrOf};
 ghost use Rattle.term_core.specs.RulePatterns.{plain_pattern};
+ghost use Rattle.rule_core.specs.BoundVariables.{HasBoundVariables};
 ghost use Rattle.rule_core.specs.ProgramView.{theory_of};
 ghost use Rattle.rule_core.specs.Runs.{IsRunOf};
 ghost use Rattle.rule_core.specs.WellSorted.{IsStart};
 ghost use Rattle.desk_io.specs.Counts.{Rose};
 ghost use Rattle.proof_writer.specs.PlainNames.{HasPlainNames};
-ghost use Rattle.prove_run.specs.Covered.{is_covered};
 ghost use Rattle.run_loop.specs.RunEnds.{plain_run, IsSortedEnd};
-ghost use Rattle.run_proof.specs.WrittenProofs.{WritesFrontOfProof, WritesProof, WritesSome};
+ghost use Rattle.run_proof.specs.WrittenProofs.{WritesFrontOfProof, WritesProof};
 
 use crate::steps::{Beginning, Going, proved_beginning, proved_step};
 use crate::writing::{at_limit, ended, hand_on};
@@ -23,8 +23,9 @@ use term_core::RulePat;
 /// The error: out of memory or a fault that the desk counted; then the front of such a database was appended, of a
 /// run that is maybe shorter, or nothing.
 ///
-/// The text of a step grows with the configurations that it speaks of, at most with the square of their sizes. The text
-/// of one step and less than 64 KiB before it are held in memory.
+/// The text of a step grows with the configurations that it speaks of, at most with the square of their sizes, and with
+/// the calls of functions that it makes. The text of one step and less than 64 KiB before it are held in memory, and
+/// the records of what the step evaluated.
 pub fn proved_run<'p, D: Desk>(
     alloc: Global,
     desk: &mut D,
@@ -35,7 +36,7 @@ pub fn proved_run<'p, D: Desk>(
 ) -> Result<RunEnd, DeskFault>
     requires file { IsTrue (D.created desk.old) }
     requires start { IsStart (theory_of engine.now) (plain_pattern start.now) }
-    requires covered { is_covered (theory_of engine.now) (plain_pattern start.now) ≡ true }
+    requires bound { HasBoundVariables engine.now }
     requires names { HasPlainNames engine.now.sig }
     ensures run { IfOk result
         (λ end. IsRunOf (theory_of engine.now) limit calls (plain_pattern start.now) (plain_run end)) }
@@ -44,7 +45,6 @@ pub fn proved_run<'p, D: Desk>(
         (theory_of engine.now) (plain_pattern start.now) (plain_run end)) }
     ensures front { OnErr result (WritesFrontOfProof (D.told desk.old) (D.told desk.new)
         (theory_of engine.now) (plain_pattern start.now)) }
-    ensures some { OnErr result (WritesSome (D.told desk.old) (D.told desk.new)) }
     ensures created { IsTrue (D.created desk.new) }
     ensures failed { IsErrOf result DeskFault.Failed → Rose (D.write_faults desk.old) (D.write_faults desk.new) }
     ensures counts { D.write_faults desk.old ≤ D.write_faults desk.new }

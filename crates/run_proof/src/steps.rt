@@ -1,21 +1,17 @@
 // Steps of a run, each with its proof.
-ghost use Rattle.std.specs.Prelude.{◌≡◌, true, [], IfOk, Some};
-ghost use Rattle.std.specs.List.{list_all};
-ghost use Rattle.term_core.specs.Patterns.{instance_of};
+ghost use Rattle.std.specs.Prelude.{◌≡◌, [], IfOk};
 ghost use Rattle.term_core.specs.RulePatterns.{plain_pattern};
 ghost use Rattle.rule_core.specs.ProgramView.{theory_of};
-ghost use Rattle.rule_core.specs.WellSorted.{IsStart};
-ghost use Rattle.proof_writer.specs.PlainNames.{HasPlainNames};
-ghost use Rattle.prove_step.specs.PlainRules.{is_plain_rule};
-ghost use Rattle.prove_run.specs.Covered.{is_covered};
+ghost use Rattle.rule_core.specs.Records.{Records, result_of};
+ghost use Rattle.rule_core.specs.RecordView.{plain_record, plain_step};
 ghost use Rattle.prove_run.specs.Proving.{CanStep};
-ghost use Rattle.run_proof.specs.ProvedSteps.{BeginsAt, BeginsRun, IsUnstarted};
+ghost use Rattle.run_proof.specs.ProvedSteps.{BeginsAt, BeginsRun, IsReady, IsUnstarted};
 ghost use Rattle.run_proof.specs.ProvedSteps.{GoesOn, IsAtStep, IsBlockedAt, IsFurther, IsStuckAt};
 
-use fun_eval::{Engine, EvalEnd, Unrecorded};
+use fun_eval::{Engine, EvalEnd};
 use prove_run::Proof;
-use rewriter::{Made, Next, Run};
-use rule_core::Blocked;
+use rewriter::{Next, Run};
+use rule_core::{Blocked, EvalRecord, StepRecord};
 use std::alloc::{AllocError, Global};
 use term_core::{RulePat, Term};
 
@@ -54,13 +50,11 @@ pub(crate) fn proved_beginning<'p>(
     start: &'p RulePat,
     calls: u32,
 ) -> Result<Beginning<'p>, AllocError>
-    requires start { IsStart (theory_of engine.now) (plain_pattern start.now) }
-    requires covered { is_covered (theory_of engine.now) (plain_pattern start.now) ≡ true }
-    requires names { HasPlainNames engine.now.sig }
+    requires { IsReady engine.now (plain_pattern start.now) }
     ensures { IfOk result (BeginsRun engine.now (plain_pattern start.now) calls) }
 {
-    match Run::new_as::<Unrecorded>(alloc, engine, start, calls) {
-        Ok((run, _)) => begun(alloc, engine, start, run),
+    match Run::new(alloc, engine, start, calls) {
+        Ok((run, evaluation)) => begun(alloc, engine, start, run, &evaluation),
         Err(end) => match end {
             EvalEnd::Blocked(why) => unstarted(alloc, engine, start, why),
             EvalEnd::Memory => Err(AllocError),
@@ -68,22 +62,21 @@ pub(crate) fn proved_beginning<'p>(
     }
 }
 
-// A run that has come to the value of its initial term.
+// A run that has come to the value of its initial term, as the record of its evaluation tells.
 fn begun<'p>(
     alloc: Global,
     engine: &Engine<'p>,
     start: &'p RulePat,
     run: Run,
+    evaluation: &EvalRecord,
 ) -> Result<Beginning<'p>, AllocError>
-    requires start { IsStart (theory_of engine.now) (plain_pattern start.now) }
-    requires covered { is_covered (theory_of engine.now) (plain_pattern start.now) ≡ true }
-    requires names { HasPlainNames engine.now.sig }
-    requires value { instance_of [] (plain_pattern start.now) ≡ Some run.config }
+    requires ready { IsReady engine.now (plain_pattern start.now) }
+    requires recorded { Records (theory_of engine.now) [] (plain_pattern start.now) (plain_record evaluation.now) }
+    requires value { result_of (plain_record evaluation.now) ≡ run.config }
     ensures { IfOk result (BeginsAt engine.now (plain_pattern start.now) run) }
 {
     let mut text = Vec::new(alloc);
-    let value = Some(run.config().share()?);
-    let proof = Proof::begin(alloc, engine.program(), start, value, &mut text)?;
+    let proof = Proof::begin(alloc, engine.program(), start, Some(evaluation), &mut text)?;
     Ok(Beginning::Begun(ProvedSteps { run, proof, text }))
 }
 
@@ -94,9 +87,7 @@ fn unstarted<'p>(
     start: &'p RulePat,
     why: Blocked,
 ) -> Result<Beginning<'p>, AllocError>
-    requires start { IsStart (theory_of engine.now) (plain_pattern start.now) }
-    requires covered { is_covered (theory_of engine.now) (plain_pattern start.now) ≡ true }
-    requires names { HasPlainNames engine.now.sig }
+    requires { IsReady engine.now (plain_pattern start.now) }
     ensures { IfOk result (IsUnstarted engine.now (plain_pattern start.now) why) }
 {
     let mut text = Vec::new(alloc);
@@ -110,8 +101,7 @@ pub(crate) fn proved_step<'p>(
     engine: &Engine<'p>,
     steps: ProvedSteps<'p>,
 ) -> Result<Going<'p>, AllocError>
-    requires rules { list_all is_plain_rule (theory_of engine.now).rules ≡ true }
-    requires at { IsAtStep engine.now steps }
+    requires { IsAtStep engine.now steps }
     ensures { IfOk result (GoesOn engine.now steps.entry) }
 {
     let ProvedSteps {
@@ -120,7 +110,7 @@ pub(crate) fn proved_step<'p>(
         text,
     } = steps;
     let _high = run.config().height();
-    match run.step_as::<Unrecorded>(alloc, engine)? {
+    match run.step(alloc, engine)? {
         Next::Made(step) => further(alloc, run, proof, &step, text),
         Next::Stuck => stuck(&run, proof, text),
         Next::Blocked(why) => blocked(why, &run, proof, text),
@@ -132,14 +122,15 @@ fn further<'p>(
     alloc: Global,
     run: Run,
     proof: Proof<'p>,
-    step: &Made<Unrecorded>,
+    step: &StepRecord,
     text: Vec<u8>,
 ) -> Result<Going<'p>, AllocError>
-    requires applies { CanStep proof step.now.rule step.now.subst run.config }
+    requires applies { CanStep proof (plain_step step.now) }
+    requires makes { result_of (plain_step step.now).right ≡ run.config }
     ensures { IfOk result (IsFurther run proof.entry text.items) }
 {
     let mut longer = text;
-    let further = proof.step(alloc, step.rule, &step.subst, run.config(), &mut longer)?;
+    let further = proof.step(alloc, step, &mut longer)?;
     Ok(Going::Further(ProvedSteps {
         run,
         proof: further,

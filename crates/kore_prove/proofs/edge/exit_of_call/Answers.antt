@@ -6,6 +6,7 @@ returns-clause-answered g c =
     rw c.from.ensures (record {
       printed_run = main.printed_run;
       proved_run = main.proved_run;
+      proof_front = main.proof_front;
       verdict = main.verdict;
       ends = main.ends;
       complete = main.complete;

@@ -2,9 +2,9 @@ use Rattle.std.proofs.Common.{Result, Ok, Err, IfOk}
 use Rattle.term_core.specs.RulePatterns.{plain_pattern}
 use Rattle.rule_core.specs.ProgramView.{theory_of}
 use Rattle.run_loop.specs.RunEnds.{plain_run}
-use Rattle.kore_prove.specs.ProofFiles.{PutsProof}
+use Rattle.kore_prove.specs.ProofFiles.{PutsProof, PutsFront, MayHoldFront}
 use Rattle.kore_prove.specs.ProvedRun.{HoldsProof}
-use Rattle.kore_prove.proofs.FileProofs.{created_proof, created_others}
+use Rattle.kore_prove.proofs.FileProofs.{created_proof, created_front, created_others, on_err_more}
 use Rattle.kore_prove.proofs.proof_file.proved_lines.Goals as goal
 
 if_ok : {T E : Type 0} (r : Result T E) (P Q : T → Type 0) → ((t : T) → P t → Q t) → IfOk r P → IfOk r Q
@@ -20,6 +20,16 @@ returns-in-Ok-clause-proof g c =
     let start = plain_pattern c.args.accepted.now.start in
     if_ok c.proved_and_closed.result (λ r. PutsProof made new theory start (plain_run r.0)) (λ r. HoldsProof old new c.args.file.now theory start (plain_run r.0))
     (λ r h. created_proof old made new c.args.file.now theory start (plain_run r.0) c.in-Ok.ensures.creates h) c.proved_and_closed.ensures.proof
+
+pub returns-in-Ok-clause-front : goal.returns-in-Ok-clause-front
+returns-in-Ok-clause-front g c =
+    let old = g.D.Desk.told c.args.desk.now in
+    let made = g.D.Desk.told c.create_file.new.self in
+    let new = g.D.Desk.told c.proved_and_closed.new.desk in
+    let theory = theory_of c.args.accepted.now.program in
+    let start = plain_pattern c.args.accepted.now.start in
+    on_err_more c.proved_and_closed.result (PutsFront made new theory start) (MayHoldFront old new c.args.file.now theory start)
+    (λ h. created_front old made new c.args.file.now theory start c.in-Ok.ensures.creates h) c.proved_and_closed.ensures.front
 
 pub returns-in-Ok-clause-files : goal.returns-in-Ok-clause-files
 returns-in-Ok-clause-files g c =

@@ -1,11 +1,10 @@
-use Rattle.std.proofs.Common.{refl, inr}
-use Rattle.term_core.specs.RulePatterns.{plain_pattern}
+use Rattle.std.proofs.Common.{refl}
 use Rattle.rule_core.specs.ProgramView.{theory_of}
 use Rattle.kore_rules.specs.Acceptance.{IsRefusedTerm}
 use Rattle.kore_rules.specs.RefusedTexts.{top_of}
 use Rattle.kore_prove.specs.Requests.{request}
 use Rattle.kore_prove.proofs.Ending.{FileCause-kept}
-use Rattle.kore_prove.proofs.Performing.{start_kept, not_true}
+use Rattle.kore_prove.proofs.Performing.{start_kept}
 use Rattle.kore_prove.proofs.reading.read_run.Goals as goal
 
 pub returns-in-Err-clause-cause : goal.returns-in-Err-clause-cause
@@ -20,19 +19,3 @@ returns-in-Err-read_start-clause-cause g c =
     let between = g.D.Desk.told c.read_program.new.desk in
     c.term_end.ensures (request c.args.asked.now) told (g.D.Desk.read_faults c.args.desk.now) (g.D.Desk.read_faults c.read_start.new.desk) theory top refl c.in-Ok.ensures.found
     (FileCause-kept (IsRefusedTerm theory.sig top) told between _ _ (g.D.Desk.read_faults c.args.desk.now) (g.D.Desk.read_faults c.read_program.new.desk) (g.D.Desk.read_faults c.read_start.new.desk) c.in-Err-read_start.end c.in-Ok.ensures.files c.in-Ok.ensures.counts c.in-Err-read_start.ensures.cause)
-
-pub returns-clause-cause : goal.returns-clause-cause
-returns-clause-cause g c =
-    let program = c.in-Ok.program in
-    let start = plain_pattern c.in-Ok-read_start.start in
-    inr (
-      refl,
-      record {
-        theory = theory_of program;
-        top = top_of program;
-        start = start;
-        definition = c.in-Ok.ensures.found;
-        term = start_kept (g.D.Desk.told c.args.desk.now) (g.D.Desk.told c.read_program.new.desk) _ (theory_of program) (top_of program) start c.in-Ok.ensures.files c.in-Ok-read_start.ensures.found;
-        unproved = λ p. not_true c.is_provable.result c.if-is_provable.false (c.is_provable.ensures.1 p);
-      },
-    )

@@ -1,6 +1,7 @@
 use Rattle.std.proofs.Common.{Some}
 use Rattle.kore_ast.specs.Plain.{plain_definition}
 use Rattle.kore_text.specs.Faults.{IsDefinition}
+use Rattle.rule_core.specs.BoundVariables.{HasBoundVariables}
 use Rattle.rule_core.specs.ProgramView.{theory_of}
 use Rattle.rule_core.specs.WellSorted.{IsWellSorted}
 use Rattle.rule_core.specs.declared.rules.Program.{Program}
@@ -8,11 +9,11 @@ use Rattle.kore_axioms.specs.declared.refusals.Refusal.{Refusal}
 use Rattle.kore_sig.specs.FirstFault.{Fault}
 use Rattle.kore_rules.specs.Acceptance.{IsAccepted, IsRefused, HasTextFault}
 use Rattle.kore_rules.specs.FirstRefusal.{FirstOfDefinition}
-use Rattle.kore_rules.specs.MadePrograms.{IsMadeOf}
+use Rattle.kore_rules.specs.MadePrograms.{IsMadeOf, ListsOwnEquations}
 use Rattle.kore_rules.specs.Names.{HasIdentifierNames}
 use Rattle.kore_rules.specs.RefusedTexts.{top_of, IsSortOfRules, RefusesFor}
-use Rattle.kore_rules.proofs.AcceptedLaws.{axioms_few, made_accepted, text_refused, definition_refused, made_sorted, made_top, made_names}
-use Rattle.kore_rules.proofs.AnswerLaws.{ok_into, err_into}
+use Rattle.kore_rules.proofs.AcceptedLaws.{axioms_few, made_accepted, text_refused, definition_refused, made_sorted, made_top, made_names, made_bound}
+use Rattle.kore_rules.proofs.AnswerLaws.{ok_into, ok_both, err_into}
 use Rattle.kore_rules.proofs.FirstLaws.{refuses_into}
 use Rattle.kore_rules.proofs.acceptance.accept.Goals as goal
 
@@ -34,6 +35,13 @@ pub returns-in-Ok-clause-top : goal.returns-in-Ok-clause-top
 returns-in-Ok-clause-top c =
     let d = plain_definition c.in-Ok.definition in
     ok_into (λ (p : Program). IsMadeOf d (theory_of p) (top_of p)) (λ (p : Program). IsSortOfRules (theory_of p) (top_of p)) c.program_of.result (λ p made. made_top d (theory_of p) (top_of p) made) c.program_of.ensures.made
+
+pub returns-in-Ok-clause-bound : goal.returns-in-Ok-clause-bound
+returns-in-Ok-clause-bound c =
+    let d = plain_definition c.in-Ok.definition in
+    ok_into (λ (p : Program). IsMadeOf d (theory_of p) (top_of p) × ListsOwnEquations p) HasBoundVariables c.program_of.result
+    (λ p h. made_bound c.token_laws.ensures.cover c.args.bytes.now d p c.requires c.in-Ok.ensures.spelled h.0 h.1)
+    (ok_both (λ (p : Program). IsMadeOf d (theory_of p) (top_of p)) ListsOwnEquations c.program_of.result c.program_of.ensures.made c.program_of.ensures.own)
 
 pub returns-in-Ok-clause-names : goal.returns-in-Ok-clause-names
 returns-in-Ok-clause-names c =

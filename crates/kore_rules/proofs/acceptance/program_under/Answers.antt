@@ -13,7 +13,7 @@ use Rattle.kore_rules.specs.AxiomsRead.{IsNumberedEquation, numbered_equation, t
 use Rattle.kore_rules.specs.Programs.{IsSymbolOf}
 use Rattle.kore_rules.specs.ScalarSorts.{IsFinal}
 use Rattle.kore_rules.specs.TrialOrder.{rule_key, equation_key}
-use Rattle.kore_rules.proofs.ProgramLaws.{length_mapped, read_apart, rules_are, symbols_are, equations_are, few_rules, few_equations, functions_there}
+use Rattle.kore_rules.proofs.ProgramLaws.{length_mapped, read_apart, rules_are, symbols_are, equations_are, few_rules, few_equations, functions_there, listed_own}
 use Rattle.kore_rules.proofs.acceptance.program_under.Goals as goal
 
 pub by_function-requires : goal.by_function-requires
@@ -54,5 +54,6 @@ returns c =
       top = refl;
       numbered = (c.requires.numbered.0, (let few = c.requires.numbered.1 in omega (arith, few, long)));
       rules = few_rules sig axioms old_rules rules c.requires.few c.requires.read.rules c.in_ok-put_rules_in_order.ensures.permutation;
+      own = λ f i e at. listed_own made new lists f i at.0 e (c.in_ok-equations.ensures.listed f) at.1 at.2;
       equations = λ f. few_equations sig axioms made old new lists f c.requires.few c.requires.read.equations c.in_ok-put_equations_in_order.ensures.permutation (c.in_ok-equations.ensures.listed f);
     }

@@ -14,7 +14,7 @@ use Rattle.prove_schema.specs.Using.{IsUsable, IsUsed, StaysUsed}
 use Rattle.prove_schema.proofs.ResultLaws.{if_ok}
 use Rattle.prove_schema.proofs.ElementLaws.{elements_grown}
 use Rattle.prove_schema.proofs.ScopeLaws.{stays_no_hypotheses}
-use Rattle.prove_equation.specs.Filled.{listed}
+use Rattle.prove_equation.specs.Conditions.{listed}
 use Rattle.prove_equation.specs.Parameters.{AreMemberships, CanMeet}
 use Rattle.prove_equation.proofs.FillingLaws.{all_bound}
 use Rattle.prove_equation.proofs.TurningLaws.{arguments_sorted}

@@ -5,12 +5,12 @@ use Rattle.rule_core.specs.Matching.{MatchAll}
 use Rattle.rule_core.specs.Rules.{Equation as PlainEquation}
 use Rattle.rule_core.specs.ProgramView.{function_equation, sorts_of}
 use Rattle.rule_core.specs.Records.{results_of}
+use Rattle.rule_core.specs.BoundVariables.{IsEquationAt}
 use Rattle.rule_core.specs.RecordView.{plain_record}
 use Rattle.rule_core.specs.declared.rules.Program.{Program}
 use Rattle.prove_term.specs.Values.{SaysEquationAt}
 use Rattle.prove_term.proofs.ResultLaws.{if_ok}
 use Rattle.prove_equation.proofs.FillingLaws.{condition_grown}
-use Rattle.prove_fun.specs.Covered.{IsEquationAt}
 use Rattle.prove_fun.specs.RecordParts.{children_of}
 use Rattle.prove_fun.proofs.KeptLaws.{kept_grown}
 use Rattle.prove_fun.proofs.Uses.{asked, asked_later, plain_there, same_equation}

@@ -26,7 +26,7 @@ use Rattle.prove_term.specs.Contexts.{Context, HasGrown, StaysIn}
 use Rattle.prove_term.specs.Values.{SaysEquationAt, SaysValue}
 use Rattle.prove_term.specs.Filling.{filled}
 use Rattle.prove_equation.specs.Conditions.{SaysCondition}
-use Rattle.prove_fun.specs.Covered.{IsEquationAt}
+use Rattle.rule_core.specs.BoundVariables.{IsEquationAt}
 use Rattle.prove_fun.specs.Using.{IsUse, condition_record, used_record}
 use Rattle.prove_term.specs.Schemas.{AreImages}
 use Rattle.prove_term.specs.Applications.{applied_to}
@@ -703,7 +703,7 @@ condition_held-returns-in_ok-value_held-in-Some-Some-clause-says t c =
     let g : c.value_held.new.cx.program ≡ c.args.cx.now.program = c.in_ok-value_held-in-Some-Some.ensures.grown.program in
     condition_at c.value_held.new.cx c.args.cx.now.program c.args.symbol.0 _ c.args.used.now.equation c.args.used.now.subst _ _ (Some made) u g
     (subst (λ (x : Option RulePattern). SaysCondition c.value_held.new.cx u.equation.variables c.args.used.now.subst x (Some made)) (sym is_p)
-    (condition_says c.value_held.new.cx c.args.cx.now.program c.args.symbol.0 _ c.args.used.now.equation c.args.used.now.subst _ _ u p q made g h.0 h.1 h.2 says c.in_ok-value_held-in-Some-Some.ensures.stays))
+    (condition_says c.value_held.new.cx c.args.cx.now.program u.equation.variables c.args.used.now.subst p q made g h.0 h.1 h.2 says c.in_ok-value_held-in-Some-Some.ensures.stays))
 
 pub condition_held-returns-in-None-default-clause-says : goal.condition_held-returns-in-None-default-clause-says
 condition_held-returns-in-None-default-clause-says t c =

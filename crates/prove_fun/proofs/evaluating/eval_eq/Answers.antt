@@ -22,7 +22,7 @@ pub image-requires : goal.image-requires
 image-requires c =
     let t : Tree = result_of (plain_record c.args.evaluation.now) in
     let recorded : IsRecorded c.args.cx.now.program c.args.subst.now (plain_pattern c.args.pat.now) (plain_record c.args.evaluation.now) =
-    record { ready = record { well_sorted = c.requires.well_sorted; covered = c.requires.equations }; variables = c.requires.sorted.0; sort = c.requires.sorted.1; sorted = c.requires.sorted.2; serves = c.requires.sorted.3; records = c.requires.recorded } in
+    record { ready = record { well_sorted = c.requires.well_sorted; bound = c.requires.bound }; variables = c.requires.sorted.0; sort = c.requires.sorted.1; sorted = c.requires.sorted.2; serves = c.requires.sorted.3; records = c.requires.recorded } in
     let sorted : IsTermOf c.args.cx.now.program.sig t c.requires.sorted.1 = (result_good c.args.cx.now.program c.args.subst.now (plain_pattern c.args.pat.now) (plain_record c.args.evaluation.now) recorded).0 in
     let tree : plain_pattern c.in_ok-whole.whole ≡ ground_pattern t = c.in_ok-whole.ensures.tree ∙ ap ground_pattern c.result.ensures in
     subst (λ (p : Pattern). HasImage c.args.cx.now.program.sig (2 ^ 32) p) (sym tree)
@@ -49,7 +49,7 @@ pub evaluated-requires-clause-recorded : goal.evaluated-requires-clause-recorded
 evaluated-requires-clause-recorded c =
     recorded_later c.args.cx.now c.image.new.self c.args.subst.now (plain_pattern c.args.pat.now) (plain_record c.args.evaluation.now) c.in_ok-image.ensures.grown
     (record {
-      ready = record { well_sorted = c.requires.well_sorted; covered = c.requires.equations };
+      ready = record { well_sorted = c.requires.well_sorted; bound = c.requires.bound };
       variables = c.requires.sorted.0;
       sort = c.requires.sorted.1;
       sorted = c.requires.sorted.2;

@@ -1,4 +1,3 @@
-use Rattle.std.proofs.Common.{◌∙◌}
 use Rattle.prove_step.proofs.MeetingLaws.{high_tells}
 use Rattle.prove_step.proofs.meeting.is_injection.Goals as goal
 

@@ -8,8 +8,8 @@ use Rattle.rule_core.specs.ProgramView.{theory_of}
 use Rattle.rule_core.specs.Theories.{RewriteTheory}
 use Rattle.rule_core.specs.Runs.{Run, limited, IsRunOf, Steps, next, Reaches, after_step}
 use Rattle.run_loop.specs.RunEnds.{plain_run}
-use Rattle.run_proof.specs.WrittenProofs.{WritesFrontOfProof, WritesSome}
-use Rattle.run_proof.proofs.ProofsAt.{on_err, on_err_front, on_err_more, none_front, none_written, no_proof_written, front_of_proof, front_written, justified, more_written, ended_proof, handed_on}
+use Rattle.run_proof.specs.WrittenProofs.{WritesFrontOfProof}
+use Rattle.run_proof.proofs.ProofsAt.{on_err, on_err_front, on_err_more, none_front, no_proof_written, front_of_proof, justified, ended_proof, handed_on}
 use Rattle.run_proof.proofs.proved.proved_run.Goals as goal
 
 if_ok : {T E : Type 0} (r : Result T E) (P Q : T → Type 0) → ((t : T) → P t → Q t) → IfOk r P → IfOk r Q
@@ -20,15 +20,13 @@ one_more : (theory : RewriteTheory) (start : Pattern) (calls n c d : ℕ) (t u :
 one_more theory start calls n c d t u reached step =
     subst (λ (m : ℕ). Reaches theory start calls m u d) (sym (add-one n)) (after_step reached step)
 
+pub proved_beginning-requires : goal.proved_beginning-requires
+proved_beginning-requires g c = record { bound = c.requires.bound; plain = c.requires.names; is_start = c.requires.start }
+
 pub returns-in_err-steps-clause-front : goal.returns-in_err-steps-clause-front
 returns-in_err-steps-clause-front g c =
     let told = g.D.Desk.told c.args.desk.now in
     on_err c.from_residual.result (WritesFrontOfProof told told (theory_of c.args.engine.now) (plain_pattern c.args.start.now)) (no_proof_written told (theory_of c.args.engine.now) (plain_pattern c.args.start.now) (rw c.requires.file at (g.met.D.Desk.tells_created c.args.desk.now)))
-
-pub returns-in_err-steps-clause-some : goal.returns-in_err-steps-clause-some
-returns-in_err-steps-clause-some g c =
-    let told = g.D.Desk.told c.args.desk.now in
-    on_err c.from_residual.result (WritesSome told told) (none_written told (rw c.requires.file at (g.met.D.Desk.tells_created c.args.desk.now)))
 
 pub returns-in-Unstarted-clause-front : goal.returns-in-Unstarted-clause-front
 returns-in-Unstarted-clause-front g c =
@@ -37,11 +35,6 @@ returns-in-Unstarted-clause-front g c =
     on_err_more c.ended.result (WritesFront (g.D.Desk.told c.args.desk.now) new c.deref.result.now) (WritesFrontOfProof (g.D.Desk.told c.args.desk.now) new (theory_of c.args.engine.now) (plain_pattern c.args.start.now))
     (λ front. front_of_proof (g.D.Desk.told c.args.desk.now) (g.D.Desk.told c.args.desk.now) new (theory_of c.args.engine.now) (plain_pattern c.args.start.now) (plain_pattern c.args.start.now) [] c.in-Unstarted.text.items (Writes-nil (g.D.Desk.told c.args.desk.now) (rw c.requires.file at (g.met.D.Desk.tells_created c.args.desk.now)))
     (subst (WritesFront (g.D.Desk.told c.args.desk.now) new) c.deref.ensures.value front) begun.1) c.ended.ensures.front
-
-pub returns-in-Unstarted-clause-some : goal.returns-in-Unstarted-clause-some
-returns-in-Unstarted-clause-some g c =
-    let new = g.D.Desk.told c.ended.new.desk in
-    on_err_more c.ended.result (WritesFront (g.D.Desk.told c.args.desk.now) new c.deref.result.now) (WritesSome (g.D.Desk.told c.args.desk.now) new) (front_written (g.D.Desk.told c.args.desk.now) new c.deref.result.now) c.ended.ensures.front
 
 pub returns-in_err-further-clause-front : goal.returns-in_err-further-clause-front
 returns-in_err-further-clause-front g c =
@@ -91,12 +84,6 @@ returns-in-Stuck-clause-front g c =
     let before = c.loop-made.invariant.written in
     on_err_front c.ended-in-Stuck.result (g.D.Desk.told c.args.desk.now) (g.D.Desk.told c.loop-made.desk) (g.D.Desk.told c.ended-in-Stuck.new.desk) c.args.engine.now (plain_pattern c.args.start.now) before.0 c.deref-in-Stuck.result.now c.loop-made.steps before.1 before.2 (c.deref-in-Stuck.ensures.value ∙ going.2) c.ended-in-Stuck.ensures.front
 
-pub returns-in-Stuck-clause-some : goal.returns-in-Stuck-clause-some
-returns-in-Stuck-clause-some g c =
-    let new = g.D.Desk.told c.ended-in-Stuck.new.desk in
-    on_err_more c.ended-in-Stuck.result (WritesFront (g.D.Desk.told c.loop-made.desk) new c.deref-in-Stuck.result.now) (WritesSome (g.D.Desk.told c.args.desk.now) new)
-    (λ front. more_written (g.D.Desk.told c.args.desk.now) (g.D.Desk.told c.loop-made.desk) new (c.loop-made.invariant.written.0, c.loop-made.invariant.written.1) (front_written (g.D.Desk.told c.loop-made.desk) new c.deref-in-Stuck.result.now front)) c.ended-in-Stuck.ensures.front
-
 pub returns-in-Blocked-clause-justified : goal.returns-in-Blocked-clause-justified
 returns-in-Blocked-clause-justified g c =
     let going = rw c.in-Blocked.is at c.in_ok-further.ensures in
@@ -110,12 +97,6 @@ returns-in-Blocked-clause-front g c =
     let before = c.loop-made.invariant.written in
     on_err_front c.ended-in-Blocked.result (g.D.Desk.told c.args.desk.now) (g.D.Desk.told c.loop-made.desk) (g.D.Desk.told c.ended-in-Blocked.new.desk) c.args.engine.now (plain_pattern c.args.start.now) before.0 c.deref-in-Blocked.result.now c.loop-made.steps before.1 before.2 (c.deref-in-Blocked.ensures.value ∙ going.2) c.ended-in-Blocked.ensures.front
 
-pub returns-in-Blocked-clause-some : goal.returns-in-Blocked-clause-some
-returns-in-Blocked-clause-some g c =
-    let new = g.D.Desk.told c.ended-in-Blocked.new.desk in
-    on_err_more c.ended-in-Blocked.result (WritesFront (g.D.Desk.told c.loop-made.desk) new c.deref-in-Blocked.result.now) (WritesSome (g.D.Desk.told c.args.desk.now) new)
-    (λ front. more_written (g.D.Desk.told c.args.desk.now) (g.D.Desk.told c.loop-made.desk) new (c.loop-made.invariant.written.0, c.loop-made.invariant.written.1) (front_written (g.D.Desk.told c.loop-made.desk) new c.deref-in-Blocked.result.now front)) c.ended-in-Blocked.ensures.front
-
 pub returns-in_err-hand_on-clause-front : goal.returns-in_err-hand_on-clause-front
 returns-in_err-hand_on-clause-front g c =
     let before = c.loop-made.invariant.written in
@@ -124,11 +105,6 @@ returns-in_err-hand_on-clause-front g c =
     on_err c.from_residual-in_err-hand_on.result (WritesFrontOfProof (g.D.Desk.told c.args.desk.now) (g.D.Desk.told c.hand_on.new.desk) (theory_of c.args.engine.now) (plain_pattern c.args.start.now))
     (front_of_proof (g.D.Desk.told c.args.desk.now) (g.D.Desk.told c.loop-made.desk) (g.D.Desk.told c.hand_on.new.desk) (theory_of c.args.engine.now) (plain_pattern c.args.start.now) (ground_pattern s.run.config) before.0 s.text.items before.1 c.in_err-hand_on.ensures.front
     (justified c.args.engine.now (plain_pattern c.args.start.now) (ground_pattern s.run.config) (ground_pattern s.run.config) s.proof (before.0 ++ s.text.items) (made.1 (plain_pattern c.args.start.now) before.0 before.2).1 refl))
-
-pub returns-in_err-hand_on-clause-some : goal.returns-in_err-hand_on-clause-some
-returns-in_err-hand_on-clause-some g c =
-    on_err c.from_residual-in_err-hand_on.result (WritesSome (g.D.Desk.told c.args.desk.now) (g.D.Desk.told c.hand_on.new.desk))
-    (more_written (g.D.Desk.told c.args.desk.now) (g.D.Desk.told c.loop-made.desk) (g.D.Desk.told c.hand_on.new.desk) (c.loop-made.invariant.written.0, c.loop-made.invariant.written.1) (front_written (g.D.Desk.told c.loop-made.desk) (g.D.Desk.told c.hand_on.new.desk) c.in-Further.further.text.items c.in_err-hand_on.ensures.front))
 
 pub returns-clause-run : goal.returns-clause-run
 returns-clause-run g c =
@@ -147,9 +123,3 @@ pub returns-clause-front : goal.returns-clause-front
 returns-clause-front g c =
     let before = c.loop-made.invariant.written in
     on_err_front c.at_limit.result (g.D.Desk.told c.args.desk.now) (g.D.Desk.told c.loop-made.desk) (g.D.Desk.told c.at_limit.new.desk) c.args.engine.now (plain_pattern c.args.start.now) before.0 c.loop-made.steps.text.items c.loop-made.steps before.1 before.2 refl c.at_limit.ensures.front
-
-pub returns-clause-some : goal.returns-clause-some
-returns-clause-some g c =
-    let new = g.D.Desk.told c.at_limit.new.desk in
-    on_err_more c.at_limit.result (WritesFront (g.D.Desk.told c.loop-made.desk) new c.loop-made.steps.text.items) (WritesSome (g.D.Desk.told c.args.desk.now) new)
-    (λ front. more_written (g.D.Desk.told c.args.desk.now) (g.D.Desk.told c.loop-made.desk) new (c.loop-made.invariant.written.0, c.loop-made.invariant.written.1) (front_written (g.D.Desk.told c.loop-made.desk) new c.loop-made.steps.text.items front)) c.at_limit.ensures.front

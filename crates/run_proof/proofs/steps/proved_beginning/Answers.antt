@@ -3,19 +3,15 @@ use Rattle.term_core.specs.RulePatterns.{plain_pattern}
 use Rattle.rule_core.specs.ProgramView.{theory_of}
 use Rattle.run_proof.specs.declared.steps.Beginning.{Beginning}
 use Rattle.run_proof.specs.ProvedSteps.{BeginsAt, BeginsRun}
-use Rattle.run_proof.proofs.ProofsAt.{covered_start, value_is, begins_run, start_of}
+use Rattle.run_proof.proofs.ProofsAt.{begins_run, start_of}
 use Rattle.run_proof.proofs.steps.proved_beginning.Goals as goal
 
 if_ok : {T E : Type 0} (r : Result T E) (P Q : T → Type 0) → ((t : T) → P t → Q t) → IfOk r P → IfOk r Q
 if_ok (Ok t) P Q f h = f t h
 if_ok (Err e) P Q f h = tt
 
-pub new_as-requires : goal.new_as-requires
-new_as-requires c = start_of (theory_of c.args.engine.now) (plain_pattern c.args.start.now) c.requires.start
-
-pub begun-requires-clause-value : goal.begun-requires-clause-value
-begun-requires-clause-value c =
-    value_is (theory_of c.args.engine.now) (plain_pattern c.args.start.now) c.in-Ok.run'.config (covered_start (theory_of c.args.engine.now) (plain_pattern c.args.start.now) c.requires.covered) c.in-Ok.ensures.recorded
+pub new-requires : goal.new-requires
+new-requires c = start_of (theory_of c.args.engine.now) (plain_pattern c.args.start.now) c.requires.is_start
 
 pub returns-in-Ok : goal.returns-in-Ok
 returns-in-Ok c =

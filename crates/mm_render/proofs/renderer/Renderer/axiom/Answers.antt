@@ -24,5 +24,5 @@ returns-clause-gains c =
     let p : Pattern = axiom_at c.args.theory.now c.args.no.0 in
     let text : List ℕ = written_statements (axiom_statements c.args.names.now c.args.self.now.count (claim_of [] p)) in
     let numbered : AreNumbered (claim_variables [] p) = subst (λ (q : Pattern). AreNumbered (claim_variables [] q)) (sym (axiom_of c)) c.in_ok-claim.ensures.numbered in
-    on_ok c.keep.result (λ h may. subst (λ (k : Kept). Gains c.args.names.now c.args.self.now k text (claim_variables [] p) (open_assertion false (take c.args.self.now.named c.args.names.now) c.args.self.now.count (claim_of [] p))) (sym (h ∙ ap (with_stated c.args.self.now) (stated c)))
+    on_ok c.keep.result (λ h may. subst (λ (k : Kept). Gains c.args.names.now c.args.self.now k text (claim_variables [] p) (open_assertion false (take c.args.self.now.named c.args.names.now) c.args.self.now.count (claim_of [] p))) (sym (h ∙ ap (λ (k : Kept). with_stated k (plain_claim c.in_ok-claim.claim)) c.self.view_is ∙ ap (with_stated c.args.self.now) (stated c)))
     (axiom_gains c.args.names.now c.args.self.now p few numbered may)) c.keep.ensures.kept

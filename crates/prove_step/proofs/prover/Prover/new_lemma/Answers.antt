@@ -1,43 +1,30 @@
-use Rattle.std.proofs.Common.{length, ℕ, refl, sym, ◌∙◌, ap, subst}
+use Rattle.std.proofs.Common.{length, ℕ, refl, sym, ap, subst}
 use Rattle.prove_term.specs.Contexts.{Context, HasGrown}
 use Rattle.prove_term.specs.RuleAxioms.{HasImageAt}
 use Rattle.prove_term.proofs.ContextLaws.{grown_twice}
-use Rattle.prove_step.specs.Steps.{IsPlainAt}
 use Rattle.prove_step.specs.RuleLemmas.{IsLemmaOf}
-use Rattle.prove_step.proofs.ProverLaws.{rule_lemmas_grown, rules_kept, lemma_placed, grown_to, grown_same}
+use Rattle.prove_step.proofs.GrowthLaws.{lemmas_grown}
+use Rattle.prove_step.proofs.ProverLaws.{lemma_placed, grown_to, grown_same}
 use Rattle.prove_step.proofs.prover.Prover.new_lemma.Goals as goal
 
-pub rule_schema-requires-clause-image : goal.rule_schema-requires-clause-image
-rule_schema-requires-clause-image c =
-    subst (λ (cx : Context). HasImageAt cx.program c.args.rule) (sym c.self.view_is) c.requires.image
-
-pub rule_schema-requires-clause-plain : goal.rule_schema-requires-clause-plain
-rule_schema-requires-clause-plain c =
-    subst (λ (cx : Context). IsPlainAt cx.program c.args.rule) (sym c.self.view_is) c.requires.plain
+pub rule_schema-requires : goal.rule_schema-requires
+rule_schema-requires c =
+    subst (λ (cx : Context). HasImageAt cx.program c.args.rule) (sym c.self.view_is) c.requires
 
 pub invariant_of-self : goal.invariant_of-self
-invariant_of-self c = record {
-  room = c.self.invariant.room ∙ rules_kept c.self.inside.cx c.rule_schema.new.cx c.rule_schema.ensures.grown;
-  lemmas = rule_lemmas_grown c.self.inside.cx c.rule_schema.new.cx c.self.inside.rules.items c.rule_schema.ensures.grown c.self.invariant.lemmas;
-}
+invariant_of-self c = lemmas_grown c.self.inside.cx c.rule_schema.new.cx c.self.inside.rules.items c.self.inside.kept c.rule_schema.ensures.grown c.self.invariant
 
 pub invariant_of-self-in_err-add_lemma : goal.invariant_of-self-in_err-add_lemma
 invariant_of-self-in_err-add_lemma c =
     let grown : HasGrown c.self.inside.cx c.add_lemma.new.self =
     grown_twice c.self.inside.cx c.rule_schema.new.cx c.add_lemma.new.self c.rule_schema.ensures.grown (grown_same c.rule_schema.new.cx c.add_lemma.new.self c.in_err-add_lemma.ensures.err) in
-    record {
-      room = c.self.invariant.room ∙ rules_kept c.self.inside.cx c.add_lemma.new.self grown;
-      lemmas = rule_lemmas_grown c.self.inside.cx c.add_lemma.new.self c.self.inside.rules.items grown c.self.invariant.lemmas;
-    }
+    lemmas_grown c.self.inside.cx c.add_lemma.new.self c.self.inside.rules.items c.self.inside.kept grown c.self.invariant
 
 pub invariant_of-self-2 : goal.invariant_of-self-2
 invariant_of-self-2 c =
     let grown : HasGrown c.self.inside.cx c.add_lemma.new.self =
     grown_twice c.self.inside.cx c.rule_schema.new.cx c.add_lemma.new.self c.rule_schema.ensures.grown (grown_to c.rule_schema.new.cx c.add_lemma.new.self c.in_ok-schema.schema c.in_ok-add_lemma.ensures.ok) in
-    record {
-      room = c.self.invariant.room ∙ rules_kept c.self.inside.cx c.add_lemma.new.self grown;
-      lemmas = rule_lemmas_grown c.self.inside.cx c.add_lemma.new.self c.self.inside.rules.items grown c.self.invariant.lemmas;
-    }
+    lemmas_grown c.self.inside.cx c.add_lemma.new.self c.self.inside.rules.items c.self.inside.kept grown c.self.invariant
 
 pub returns-clause-place : goal.returns-clause-place
 returns-clause-place c =

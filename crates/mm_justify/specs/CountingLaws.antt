@@ -1,0 +1,102 @@
+-- What is counted as a fact, and how the counts of a text grow that is written statement by statement.
+use Rattle.std.specs.Prelude.{◌≡◌, ℕ, ◌+◌, ◌<◌, ◌≤◌, ◌^◌, Bool, true, false, if◌then◌else◌}
+use Rattle.std.specs.Prelude.{List, [], ◌++◌, length, drop, take, Some}
+use Rattle.mm_text.specs.Bytes.{Token}
+use Rattle.mm_header.specs.HeaderText.{header_bytes}
+use Rattle.mm_database.specs.Frames.{Frame}
+use Rattle.mm_database.specs.Assertions.{Assertion}
+use Rattle.mm_database.specs.StatementTexts.{written_statements}
+use Rattle.ml_pat.specs.Patterns.{Pattern, bot, top, imp, not, and, or, equal, member, fun, ex, all, app}
+use Rattle.ml_pat.specs.Patterns.{at_sort, next, ev, var, meta, constant}
+use Rattle.ml_pat.specs.Named.{AreDistinct}
+use Rattle.ml_kernel.specs.Theorems.{Theorem}
+use Rattle.rule_core.specs.Theories.{RewriteTheory}
+use Rattle.ml_image.specs.Sentences.{Sentence, sentence_image}
+use Rattle.ml_image.specs.TrueFacts.{IsTrueFact}
+use Rattle.mm_claims.specs.Kept.{Kept}
+use Rattle.mm_claims.specs.Statements.{all_name_statements}
+use Rattle.mm_claims.specs.Fitting.{AreNames}
+use Rattle.mm_claims.specs.Blocks.{open_assertion}
+use Rattle.mm_claims.specs.ClaimVariables.{claim_of, claim_variables}
+use Rattle.mm_claims.specs.Keeping.{Fits, Gains}
+use Rattle.mm_claims.specs.Places.{MayProve, StatesLemma}
+use Rattle.mm_justify.specs.Counting.{is_fact, facts_in, statements_in, HasCounts}
+use Rattle.mm_justify.specs.Justifying.{SaysNoMore, holds_frame, IsAssumed, IsAxiomOf}
+
+-- ---- what is counted
+
+-- the frame is that of a true fact on the program's built-ins, with the tokens of names
+pub record IsFrameOfFact (theory : RewriteTheory) (f : Frame) : Type 0 where
+  pub names : List Token
+  pub sentence : Sentence
+  pub image : Pattern
+  pub fact : IsTrueFact theory.sig sentence
+  pub image_is : sentence_image theory.sig names sentence ≡ Some image
+  pub says : SaysNoMore f (holds_frame names image)
+
+-- an axiom of a program that is counted has the frame of a true fact
+abbrev pub FactsAreTrue : Type 0
+FactsAreTrue =
+    (theory : RewriteTheory) (a : Assertion) → IsAxiomOf theory a.frame → is_fact a ≡ true →
+    IsFrameOfFact theory a.frame
+
+-- and each `$a` with such a frame is counted
+abbrev pub TrueFactsAreFacts : Type 0
+TrueFactsAreFacts =
+    (theory : RewriteTheory) (a : Assertion) → a.is_proved ≡ false → IsFrameOfFact theory a.frame → is_fact a ≡ true
+
+-- ---- how counts grow
+
+-- so many more facts and statements are in a text
+pub record AddsCounts (facts statements : ℕ) (old new : List ℕ) : Type 0 where
+  pub more_facts : facts_in new ≡ facts_in old + facts
+  pub more_statements : statements_in new ≡ statements_in old + statements
+
+-- the header has 88 statements and no fact
+abbrev pub HeaderCounts : Type 0
+HeaderCounts = HasCounts 0 88 header_bytes
+
+-- each declaration of a name is a statement
+abbrev pub DeclaredCounts : Type 0
+DeclaredCounts =
+    (names : List Token) (k : Kept) (bytes : List ℕ) → AreNames names → AreDistinct names →
+    length names < 2 ^ 64 → k.begun ≡ true → k.named ≤ length names → Fits names k bytes →
+    AddsCounts 0 (length (drop k.named names)) bytes
+    (bytes ++ written_statements (all_name_statements k.named (drop k.named names)))
+
+-- the pattern says of one that it is an element of a sort, or of two that they are equal
+abbrev pub is_fact_form : Pattern → Bool
+is_fact_form bot = false
+is_fact_form top = false
+is_fact_form (imp p q) = false
+is_fact_form (not p) = false
+is_fact_form (and p q) = false
+is_fact_form (or p q) = false
+is_fact_form (equal p q) = true
+is_fact_form (member p q) = false
+is_fact_form (fun p s) = true
+is_fact_form (ex x s p) = false
+is_fact_form (all x s p) = false
+is_fact_form (app p q) = false
+is_fact_form (at_sort p s) = false
+is_fact_form (next p) = false
+is_fact_form (ev p) = false
+is_fact_form (var x) = false
+is_fact_form (meta i) = false
+is_fact_form (constant c) = false
+
+-- an axiom that the program may assume is a statement, and a fact where its image has that form
+abbrev pub AxiomCounts : Type 0
+AxiomCounts =
+    (theory : RewriteTheory) (names : List Token) (old new : Kept) (s : Sentence) (p : Pattern)
+    (bytes appended : List ℕ) → IsAssumed theory s → sentence_image theory.sig (take old.named names) s ≡ Some p →
+    Gains names old new appended (claim_variables [] p)
+    (open_assertion false (take old.named names) old.count (claim_of [] p)) →
+    Fits names old bytes → AddsCounts (if is_fact_form p then 1 else 0) 1 bytes (bytes ++ appended)
+
+-- a theorem is a statement and no fact
+abbrev pub TheoremCounts : Type 0
+TheoremCounts =
+    (names : List Token) (old new : Kept) (t : Theorem) (buffer buffer' text appended : List ℕ) →
+    StatesLemma names old new t buffer buffer' → buffer' ≡ buffer ++ appended → MayProve names old t →
+    Fits names old text → AddsCounts 0 1 text (text ++ appended)

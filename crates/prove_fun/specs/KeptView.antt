@@ -1,0 +1,6 @@
+-- The places of lemmas that a `Kept` of the code stands for.
+use Rattle.std.specs.Prelude.{ℕ, List}
+use Rattle.prove_fun.specs.declared.kept.Kept.TheInside.{Inside}
+
+abbrev pub places_of : Inside → List ((ℕ × ℕ) × ℕ)
+places_of a = a.places.entries

@@ -1,0 +1,328 @@
+$c ( ) \bot \top \imp \not \and \or \eq \mem \fun \ex \all \app \at \next \ev #Pattern #Sort #Var #Sub #Fresh #Pred |- $.
+$v p q r t u x y s v $.
+fp $f #Pattern p $.
+fq $f #Pattern q $.
+fr $f #Pattern r $.
+ft $f #Pattern t $.
+fu $f #Pattern u $.
+fx $f #Var x $.
+fy $f #Var y $.
+fs $f #Sort s $.
+fv $f #Sort v $.
+w.var $a #Pattern x $.
+w.bot $a #Pattern \bot $.
+w.top $a #Pattern \top $.
+w.imp $a #Pattern ( \imp p q ) $.
+w.and $a #Pattern ( \and p q ) $.
+w.or $a #Pattern ( \or p q ) $.
+w.eq $a #Pattern ( \eq p q ) $.
+w.mem $a #Pattern ( \mem p q ) $.
+w.app $a #Pattern ( \app p q ) $.
+w.not $a #Pattern ( \not p ) $.
+w.next $a #Pattern ( \next p ) $.
+w.ev $a #Pattern ( \ev p ) $.
+w.at $a #Pattern ( \at p s ) $.
+w.fun $a #Pattern ( \fun p s ) $.
+w.ex $a #Pattern ( \ex x s p ) $.
+w.all $a #Pattern ( \all x s p ) $.
+${
+$d x p $.
+fr.d $a #Fresh x p $.
+$}
+${
+fr.imp.1 $e #Fresh x p $.
+fr.imp.2 $e #Fresh x q $.
+fr.imp $a #Fresh x ( \imp p q ) $.
+$}
+${
+fr.and.1 $e #Fresh x p $.
+fr.and.2 $e #Fresh x q $.
+fr.and $a #Fresh x ( \and p q ) $.
+$}
+${
+fr.or.1 $e #Fresh x p $.
+fr.or.2 $e #Fresh x q $.
+fr.or $a #Fresh x ( \or p q ) $.
+$}
+${
+fr.eq.1 $e #Fresh x p $.
+fr.eq.2 $e #Fresh x q $.
+fr.eq $a #Fresh x ( \eq p q ) $.
+$}
+${
+fr.mem.1 $e #Fresh x p $.
+fr.mem.2 $e #Fresh x q $.
+fr.mem $a #Fresh x ( \mem p q ) $.
+$}
+${
+fr.app.1 $e #Fresh x p $.
+fr.app.2 $e #Fresh x q $.
+fr.app $a #Fresh x ( \app p q ) $.
+$}
+${
+fr.not.1 $e #Fresh x p $.
+fr.not $a #Fresh x ( \not p ) $.
+$}
+${
+fr.next.1 $e #Fresh x p $.
+fr.next $a #Fresh x ( \next p ) $.
+$}
+${
+fr.ev.1 $e #Fresh x p $.
+fr.ev $a #Fresh x ( \ev p ) $.
+$}
+${
+fr.at.1 $e #Fresh x p $.
+fr.at $a #Fresh x ( \at p s ) $.
+$}
+${
+fr.fun.1 $e #Fresh x p $.
+fr.fun $a #Fresh x ( \fun p s ) $.
+$}
+${
+fr.ex.1 $e #Fresh x p $.
+fr.ex $a #Fresh x ( \ex y s p ) $.
+$}
+${
+fr.all.1 $e #Fresh x p $.
+fr.all $a #Fresh x ( \all y s p ) $.
+$}
+fr.exb $a #Fresh x ( \ex x s p ) $.
+fr.allb $a #Fresh x ( \all x s p ) $.
+su.v $a #Sub u x u x $.
+${
+su.f.1 $e #Fresh x p $.
+su.f $a #Sub p p u x $.
+$}
+${
+su.imp.1 $e #Sub t p u x $.
+su.imp.2 $e #Sub r q u x $.
+su.imp $a #Sub ( \imp t r ) ( \imp p q ) u x $.
+$}
+${
+su.and.1 $e #Sub t p u x $.
+su.and.2 $e #Sub r q u x $.
+su.and $a #Sub ( \and t r ) ( \and p q ) u x $.
+$}
+${
+su.or.1 $e #Sub t p u x $.
+su.or.2 $e #Sub r q u x $.
+su.or $a #Sub ( \or t r ) ( \or p q ) u x $.
+$}
+${
+su.eq.1 $e #Sub t p u x $.
+su.eq.2 $e #Sub r q u x $.
+su.eq $a #Sub ( \eq t r ) ( \eq p q ) u x $.
+$}
+${
+su.mem.1 $e #Sub t p u x $.
+su.mem.2 $e #Sub r q u x $.
+su.mem $a #Sub ( \mem t r ) ( \mem p q ) u x $.
+$}
+${
+su.app.1 $e #Sub t p u x $.
+su.app.2 $e #Sub r q u x $.
+su.app $a #Sub ( \app t r ) ( \app p q ) u x $.
+$}
+${
+su.not.1 $e #Sub t p u x $.
+su.not $a #Sub ( \not t ) ( \not p ) u x $.
+$}
+${
+su.next.1 $e #Sub t p u x $.
+su.next $a #Sub ( \next t ) ( \next p ) u x $.
+$}
+${
+su.ev.1 $e #Sub t p u x $.
+su.ev $a #Sub ( \ev t ) ( \ev p ) u x $.
+$}
+${
+su.at.1 $e #Sub t p u x $.
+su.at $a #Sub ( \at t s ) ( \at p s ) u x $.
+$}
+${
+su.fun.1 $e #Sub t p u x $.
+su.fun $a #Sub ( \fun t s ) ( \fun p s ) u x $.
+$}
+${
+$d x y $.
+su.ex.1 $e #Fresh y u $.
+su.ex.2 $e #Sub t p u x $.
+su.ex $a #Sub ( \ex y s t ) ( \ex y s p ) u x $.
+$}
+${
+$d x y $.
+su.all.1 $e #Fresh y u $.
+su.all.2 $e #Sub t p u x $.
+su.all $a #Sub ( \all y s t ) ( \all y s p ) u x $.
+$}
+pr.bot $a #Pred \bot $.
+pr.top $a #Pred \top $.
+${
+pr.imp.1 $e #Pred p $.
+pr.imp.2 $e #Pred q $.
+pr.imp $a #Pred ( \imp p q ) $.
+$}
+${
+pr.and.1 $e #Pred p $.
+pr.and.2 $e #Pred q $.
+pr.and $a #Pred ( \and p q ) $.
+$}
+${
+pr.or.1 $e #Pred p $.
+pr.or.2 $e #Pred q $.
+pr.or $a #Pred ( \or p q ) $.
+$}
+${
+pr.not.1 $e #Pred p $.
+pr.not $a #Pred ( \not p ) $.
+$}
+pr.eq $a #Pred ( \eq p q ) $.
+pr.mem $a #Pred ( \mem p q ) $.
+pr.fun $a #Pred ( \fun p s ) $.
+${
+pr.ex.1 $e #Pred p $.
+pr.ex $a #Pred ( \ex x s p ) $.
+$}
+${
+pr.all.1 $e #Pred p $.
+pr.all $a #Pred ( \all x s p ) $.
+$}
+p.1 $a |- ( \imp p ( \imp q p ) ) $.
+p.2 $a |- ( \imp ( \imp p ( \imp q r ) ) ( \imp ( \imp p q ) ( \imp p r ) ) ) $.
+p.3 $a |- ( \imp ( \imp ( \imp p \bot ) \bot ) p ) $.
+${
+mp.1 $e |- p $.
+mp.2 $e |- ( \imp p q ) $.
+mp $a |- q $.
+$}
+not.1 $a |- ( \imp ( \not p ) ( \imp p \bot ) ) $.
+not.2 $a |- ( \imp ( \imp p \bot ) ( \not p ) ) $.
+and.1 $a |- ( \imp ( \and p q ) p ) $.
+and.2 $a |- ( \imp ( \and p q ) q ) $.
+and.3 $a |- ( \imp p ( \imp q ( \and p q ) ) ) $.
+or.1 $a |- ( \imp p ( \or p q ) ) $.
+or.2 $a |- ( \imp q ( \or p q ) ) $.
+or.3 $a |- ( \imp ( \imp p r ) ( \imp ( \imp q r ) ( \imp ( \or p q ) r ) ) ) $.
+top $a |- \top $.
+${
+inst.1 $e #Sub r p q x $.
+inst $a |- ( \imp ( \all x s p ) ( \imp ( \fun q s ) r ) ) $.
+$}
+${
+$d y p $.
+fun.ex $a |- ( \imp ( \ex y s ( \eq y p ) ) ( \fun p s ) ) $.
+$}
+${
+ex.el.1 $e |- ( \imp ( \fun x s ) ( \imp p q ) ) $.
+ex.el.2 $e #Fresh x q $.
+ex.el $a |- ( \imp ( \ex x s p ) q ) $.
+$}
+eq.refl $a |- ( \eq p p ) $.
+${
+eq.el.1 $e #Sub t r p x $.
+eq.el.2 $e #Sub u r q x $.
+eq.el $a |- ( \imp ( \eq p q ) ( \imp t u ) ) $.
+$}
+${
+eq.in.1 $e |- ( \imp p q ) $.
+eq.in.2 $e |- ( \imp q p ) $.
+eq.in $a |- ( \eq p q ) $.
+$}
+mem.in $a |- ( \imp ( \fun p s ) ( \mem p p ) ) $.
+${
+mem.no.1 $e #Pred r $.
+mem.no.2 $e |- ( \imp r ( \not ( \and p q ) ) ) $.
+mem.no $a |- ( \imp r ( \not ( \mem p q ) ) ) $.
+$}
+apart $a |- ( \imp ( \fun p s ) ( \imp ( \fun q v ) ( \imp ( \not ( \eq p q ) ) ( \not ( \and p q ) ) ) ) ) $.
+${
+app.l.1 $e #Pred r $.
+app.l.2 $e |- ( \imp r ( \imp p q ) ) $.
+app.l $a |- ( \imp r ( \imp ( \app p t ) ( \app q t ) ) ) $.
+$}
+${
+app.r.1 $e #Pred r $.
+app.r.2 $e |- ( \imp r ( \imp p q ) ) $.
+app.r $a |- ( \imp r ( \imp ( \app t p ) ( \app t q ) ) ) $.
+$}
+bot.l $a |- ( \imp ( \app \bot p ) \bot ) $.
+bot.r $a |- ( \imp ( \app p \bot ) \bot ) $.
+${
+next.in.1 $e |- ( \imp p q ) $.
+next.in $a |- ( \imp ( \next p ) ( \next q ) ) $.
+$}
+ev.1 $a |- ( \imp p ( \ev p ) ) $.
+ev.2 $a |- ( \imp ( \next ( \ev p ) ) ( \ev p ) ) $.
+${
+ev.kt.1 $e |- ( \imp p q ) $.
+ev.kt.2 $e |- ( \imp ( \next q ) q ) $.
+ev.kt $a |- ( \imp ( \ev p ) q ) $.
+$}
+$c f:t $.
+n.0 $a #Pattern f:t $.
+$c d:Int:33 $.
+n.1 $a #Pattern d:Int:33 $.
+${
+$v m:0 $.
+m.0.0 $f #Pattern m:0 $.
+$v m:2 $.
+m.0.2 $f #Pattern m:2 $.
+$v m:1 $.
+m.0.1 $f #Pattern m:1 $.
+e.0.0 $e |- ( \imp m:0 ( \ev m:1 ) ) $.
+e.0.1 $e |- ( \imp m:1 ( \next m:2 ) ) $.
+t.0 $p |- ( \imp m:0 ( \ev m:2 ) ) $= m.0.0 m.0.1 w.ev w.imp m.0.0 m.0.2 w.ev w.imp e.0.0 m.0.0 m.0.1 w.ev m.0.2 w.ev w.imp w.imp m.0.0 m.0.1 w.ev w.imp m.0.0 m.0.2 w.ev w.imp w.imp m.0.1 w.ev m.0.2 w.ev w.imp m.0.0 m.0.1 w.ev m.0.2 w.ev w.imp w.imp m.0.1 m.0.2 w.ev m.0.1 m.0.2 w.next w.imp m.0.1 m.0.2 w.ev w.imp e.0.1 m.0.1 m.0.2 w.next m.0.2 w.ev w.imp w.imp m.0.1 m.0.2 w.next w.imp m.0.1 m.0.2 w.ev w.imp w.imp m.0.2 w.next m.0.2 w.ev w.imp m.0.1 m.0.2 w.next m.0.2 w.ev w.imp w.imp m.0.2 w.next m.0.2 w.ev w.next w.imp m.0.2 w.next m.0.2 w.ev w.imp m.0.2 m.0.2 w.ev m.0.2 ev.1 next.in m.0.2 w.next m.0.2 w.ev w.next m.0.2 w.ev w.imp w.imp m.0.2 w.next m.0.2 w.ev w.next w.imp m.0.2 w.next m.0.2 w.ev w.imp w.imp m.0.2 w.ev w.next m.0.2 w.ev w.imp m.0.2 w.next m.0.2 w.ev w.next m.0.2 w.ev w.imp w.imp m.0.2 ev.2 m.0.2 w.ev w.next m.0.2 w.ev w.imp m.0.2 w.next p.1 mp m.0.2 w.next m.0.2 w.ev w.next m.0.2 w.ev p.2 mp mp m.0.2 w.next m.0.2 w.ev w.imp m.0.1 p.1 mp m.0.1 m.0.2 w.next m.0.2 w.ev p.2 mp mp m.0.2 ev.2 ev.kt m.0.1 w.ev m.0.2 w.ev w.imp m.0.0 p.1 mp m.0.0 m.0.1 w.ev m.0.2 w.ev p.2 mp mp $.
+$}
+t.1 $p |- ( \imp ( \app f:t d:Int:33 ) ( \ev ( \app f:t d:Int:33 ) ) ) $= n.0 n.1 w.app ev.1 $.
+$c f:lt $.
+n.2 $a #Pattern f:lt $.
+$c d:Int:34 $.
+n.3 $a #Pattern d:Int:34 $.
+$c d:Bool:74727565 $.
+n.4 $a #Pattern d:Bool:74727565 $.
+$c f:twice $.
+n.5 $a #Pattern f:twice $.
+$c s:Int $.
+n.6 $a #Sort s:Int $.
+$c d:Int:36 $.
+n.7 $a #Pattern d:Int:36 $.
+$c f:add $.
+n.8 $a #Pattern f:add $.
+${
+$v x:0 $.
+x.2.0 $f #Var x:0 $.
+t.2 $a |- ( \all x:0 s:Int ( \imp ( \and ( \app f:t x:0 ) ( \eq ( \app ( \app f:lt x:0 ) d:Int:34 ) d:Bool:74727565 ) ) ( \next ( \app f:t ( \app f:twice x:0 ) ) ) ) ) $.
+$}
+t.3 $a |- ( \eq ( \app ( \app f:lt d:Int:33 ) d:Int:34 ) d:Bool:74727565 ) $.
+t.4 $a |- ( \fun d:Int:33 s:Int ) $.
+${
+$v x:0 $.
+x.5.0 $f #Var x:0 $.
+t.5 $a |- ( \all x:0 s:Int ( \imp \top ( \eq ( \app f:twice x:0 ) ( \app ( \app f:add x:0 ) x:0 ) ) ) ) $.
+$}
+t.6 $a |- ( \eq ( \app ( \app f:add d:Int:33 ) d:Int:33 ) d:Int:36 ) $.
+${
+$v m:0 $.
+m.7.0 $f #Pattern m:0 $.
+$v x:0 $.
+x.7.0 $f #Var x:0 $.
+$d x:0 m:0 $.
+e.7.0 $e |- ( \eq ( \app ( \app f:lt m:0 ) d:Int:34 ) d:Bool:74727565 ) $.
+e.7.1 $e |- ( \fun m:0 s:Int ) $.
+t.7 $p |- ( \imp ( \app f:t m:0 ) ( \next ( \app f:t ( \app f:twice m:0 ) ) ) ) $= n.0 m.7.0 w.app n.0 m.7.0 w.app n.2 m.7.0 w.app n.3 w.app n.4 w.eq w.and w.imp n.0 m.7.0 w.app n.0 n.5 m.7.0 w.app w.app w.next w.imp n.0 m.7.0 w.app n.2 m.7.0 w.app n.3 w.app n.4 w.eq w.imp n.0 m.7.0 w.app n.0 m.7.0 w.app n.2 m.7.0 w.app n.3 w.app n.4 w.eq w.and w.imp n.2 m.7.0 w.app n.3 w.app n.4 w.eq n.0 m.7.0 w.app n.2 m.7.0 w.app n.3 w.app n.4 w.eq w.imp e.7.0 n.2 m.7.0 w.app n.3 w.app n.4 w.eq n.0 m.7.0 w.app p.1 mp n.0 m.7.0 w.app n.2 m.7.0 w.app n.3 w.app n.4 w.eq n.0 m.7.0 w.app n.2 m.7.0 w.app n.3 w.app n.4 w.eq w.and w.imp w.imp n.0 m.7.0 w.app n.2 m.7.0 w.app n.3 w.app n.4 w.eq w.imp n.0 m.7.0 w.app n.0 m.7.0 w.app n.2 m.7.0 w.app n.3 w.app n.4 w.eq w.and w.imp w.imp n.0 m.7.0 w.app n.2 m.7.0 w.app n.3 w.app n.4 w.eq and.3 n.0 m.7.0 w.app n.2 m.7.0 w.app n.3 w.app n.4 w.eq n.0 m.7.0 w.app n.2 m.7.0 w.app n.3 w.app n.4 w.eq w.and p.2 mp mp n.0 m.7.0 w.app n.0 m.7.0 w.app n.2 m.7.0 w.app n.3 w.app n.4 w.eq w.and n.0 n.5 m.7.0 w.app w.app w.next w.imp w.imp n.0 m.7.0 w.app n.0 m.7.0 w.app n.2 m.7.0 w.app n.3 w.app n.4 w.eq w.and w.imp n.0 m.7.0 w.app n.0 n.5 m.7.0 w.app w.app w.next w.imp w.imp n.0 m.7.0 w.app n.2 m.7.0 w.app n.3 w.app n.4 w.eq w.and n.0 n.5 m.7.0 w.app w.app w.next w.imp n.0 m.7.0 w.app n.0 m.7.0 w.app n.2 m.7.0 w.app n.3 w.app n.4 w.eq w.and n.0 n.5 m.7.0 w.app w.app w.next w.imp w.imp m.7.0 n.6 w.fun n.0 m.7.0 w.app n.2 m.7.0 w.app n.3 w.app n.4 w.eq w.and n.0 n.5 m.7.0 w.app w.app w.next w.imp e.7.1 n.0 x.7.0 w.var w.app n.2 x.7.0 w.var w.app n.3 w.app n.4 w.eq w.and n.0 n.5 x.7.0 w.var w.app w.app w.next w.imp x.7.0 n.6 w.all m.7.0 n.6 w.fun n.0 m.7.0 w.app n.2 m.7.0 w.app n.3 w.app n.4 w.eq w.and n.0 n.5 m.7.0 w.app w.app w.next w.imp w.imp x.7.0 t.2 n.0 x.7.0 w.var w.app n.2 x.7.0 w.var w.app n.3 w.app n.4 w.eq w.and n.0 n.5 x.7.0 w.var w.app w.app w.next w.imp m.7.0 n.0 m.7.0 w.app n.2 m.7.0 w.app n.3 w.app n.4 w.eq w.and n.0 n.5 m.7.0 w.app w.app w.next w.imp x.7.0 n.6 n.0 x.7.0 w.var w.app n.2 x.7.0 w.var w.app n.3 w.app n.4 w.eq w.and n.0 n.5 x.7.0 w.var w.app w.app w.next n.0 n.5 m.7.0 w.app w.app w.next n.0 m.7.0 w.app n.2 m.7.0 w.app n.3 w.app n.4 w.eq w.and m.7.0 x.7.0 n.0 x.7.0 w.var w.app n.2 x.7.0 w.var w.app n.3 w.app n.4 w.eq n.2 m.7.0 w.app n.3 w.app n.4 w.eq n.0 m.7.0 w.app m.7.0 x.7.0 n.0 x.7.0 w.var m.7.0 n.0 m.7.0 x.7.0 n.0 m.7.0 x.7.0 n.0 x.7.0 fr.d su.f m.7.0 x.7.0 su.v su.app n.2 x.7.0 w.var w.app n.3 w.app n.4 n.4 n.2 m.7.0 w.app n.3 w.app m.7.0 x.7.0 n.2 x.7.0 w.var w.app n.3 n.3 n.2 m.7.0 w.app m.7.0 x.7.0 n.2 x.7.0 w.var m.7.0 n.2 m.7.0 x.7.0 n.2 m.7.0 x.7.0 n.2 x.7.0 fr.d su.f m.7.0 x.7.0 su.v su.app n.3 m.7.0 x.7.0 n.3 x.7.0 fr.d su.f su.app n.4 m.7.0 x.7.0 n.4 x.7.0 fr.d su.f su.eq su.and n.0 n.5 x.7.0 w.var w.app w.app n.0 n.5 m.7.0 w.app w.app m.7.0 x.7.0 n.0 n.5 x.7.0 w.var w.app n.5 m.7.0 w.app n.0 m.7.0 x.7.0 n.0 m.7.0 x.7.0 n.0 x.7.0 fr.d su.f n.5 x.7.0 w.var m.7.0 n.5 m.7.0 x.7.0 n.5 m.7.0 x.7.0 n.5 x.7.0 fr.d su.f m.7.0 x.7.0 su.v su.app su.app su.next su.imp inst mp mp n.0 m.7.0 w.app n.2 m.7.0 w.app n.3 w.app n.4 w.eq w.and n.0 n.5 m.7.0 w.app w.app w.next w.imp n.0 m.7.0 w.app p.1 mp n.0 m.7.0 w.app n.0 m.7.0 w.app n.2 m.7.0 w.app n.3 w.app n.4 w.eq w.and n.0 n.5 m.7.0 w.app w.app w.next p.2 mp mp $.
+$}
+${
+$v m:0 $.
+m.8.0 $f #Pattern m:0 $.
+$v x:0 $.
+x.8.0 $f #Var x:0 $.
+$d x:0 m:0 $.
+e.8.0 $e |- ( \fun m:0 s:Int ) $.
+t.8 $p |- ( \eq ( \app f:twice m:0 ) ( \app ( \app f:add m:0 ) m:0 ) ) $= w.top n.5 m.8.0 w.app n.8 m.8.0 w.app m.8.0 w.app w.eq top m.8.0 n.6 w.fun w.top n.5 m.8.0 w.app n.8 m.8.0 w.app m.8.0 w.app w.eq w.imp e.8.0 w.top n.5 x.8.0 w.var w.app n.8 x.8.0 w.var w.app x.8.0 w.var w.app w.eq w.imp x.8.0 n.6 w.all m.8.0 n.6 w.fun w.top n.5 m.8.0 w.app n.8 m.8.0 w.app m.8.0 w.app w.eq w.imp w.imp x.8.0 t.5 w.top n.5 x.8.0 w.var w.app n.8 x.8.0 w.var w.app x.8.0 w.var w.app w.eq w.imp m.8.0 w.top n.5 m.8.0 w.app n.8 m.8.0 w.app m.8.0 w.app w.eq w.imp x.8.0 n.6 w.top n.5 x.8.0 w.var w.app n.8 x.8.0 w.var w.app x.8.0 w.var w.app w.eq n.5 m.8.0 w.app n.8 m.8.0 w.app m.8.0 w.app w.eq w.top m.8.0 x.8.0 w.top m.8.0 x.8.0 w.top x.8.0 fr.d su.f n.5 x.8.0 w.var w.app n.8 x.8.0 w.var w.app x.8.0 w.var w.app n.8 m.8.0 w.app m.8.0 w.app n.5 m.8.0 w.app m.8.0 x.8.0 n.5 x.8.0 w.var m.8.0 n.5 m.8.0 x.8.0 n.5 m.8.0 x.8.0 n.5 x.8.0 fr.d su.f m.8.0 x.8.0 su.v su.app n.8 x.8.0 w.var w.app x.8.0 w.var m.8.0 n.8 m.8.0 w.app m.8.0 x.8.0 n.8 x.8.0 w.var m.8.0 n.8 m.8.0 x.8.0 n.8 m.8.0 x.8.0 n.8 x.8.0 fr.d su.f m.8.0 x.8.0 su.v su.app m.8.0 x.8.0 su.v su.app su.eq su.imp inst mp mp mp $.
+$}
+${
+$v x:0 $.
+x.9.0 $f #Var x:0 $.
+t.9 $p |- ( \imp ( \app f:t d:Int:33 ) ( \ev ( \app f:t d:Int:36 ) ) ) $= n.0 n.1 w.app n.0 n.7 w.app n.0 n.1 w.app t.1 n.0 n.1 w.app n.0 n.5 n.1 w.app w.app w.next w.imp n.0 n.1 w.app n.0 n.7 w.app w.next w.imp n.1 t.3 t.4 t.7 n.0 n.5 n.1 w.app w.app n.0 n.7 w.app w.eq n.0 n.1 w.app n.0 n.5 n.1 w.app w.app w.next w.imp n.0 n.1 w.app n.0 n.7 w.app w.next w.imp w.imp n.0 n.5 n.1 w.app w.app n.0 n.5 n.1 w.app w.app w.eq n.0 n.5 n.1 w.app w.app n.0 n.7 w.app w.eq n.0 n.5 n.1 w.app w.app eq.refl n.5 n.1 w.app n.7 w.eq n.0 n.5 n.1 w.app w.app n.0 n.5 n.1 w.app w.app w.eq n.0 n.5 n.1 w.app w.app n.0 n.7 w.app w.eq w.imp n.5 n.1 w.app n.8 n.1 w.app n.1 w.app w.eq n.5 n.1 w.app n.7 w.eq n.1 t.4 t.8 n.8 n.1 w.app n.1 w.app n.7 w.eq n.5 n.1 w.app n.8 n.1 w.app n.1 w.app w.eq n.5 n.1 w.app n.7 w.eq w.imp t.6 n.8 n.1 w.app n.1 w.app n.7 n.5 n.1 w.app x.9.0 w.var w.eq n.5 n.1 w.app n.8 n.1 w.app n.1 w.app w.eq n.5 n.1 w.app n.7 w.eq x.9.0 n.5 n.1 w.app x.9.0 w.var n.8 n.1 w.app n.1 w.app n.5 n.1 w.app n.8 n.1 w.app n.1 w.app x.9.0 n.5 n.1 w.app n.8 n.1 w.app n.1 w.app x.9.0 n.5 n.1 w.app x.9.0 fr.d su.f n.8 n.1 w.app n.1 w.app x.9.0 su.v su.eq n.5 n.1 w.app x.9.0 w.var n.7 n.5 n.1 w.app n.7 x.9.0 n.5 n.1 w.app n.7 x.9.0 n.5 n.1 w.app x.9.0 fr.d su.f n.7 x.9.0 su.v su.eq eq.el mp mp n.5 n.1 w.app n.7 n.0 n.5 n.1 w.app w.app n.0 x.9.0 w.var w.app w.eq n.0 n.5 n.1 w.app w.app n.0 n.5 n.1 w.app w.app w.eq n.0 n.5 n.1 w.app w.app n.0 n.7 w.app w.eq x.9.0 n.0 n.5 n.1 w.app w.app n.0 x.9.0 w.var w.app n.0 n.5 n.1 w.app w.app n.0 n.5 n.1 w.app w.app n.5 n.1 w.app x.9.0 n.0 n.5 n.1 w.app w.app n.5 n.1 w.app x.9.0 n.0 n.5 n.1 w.app w.app x.9.0 fr.d su.f n.0 x.9.0 w.var n.5 n.1 w.app n.0 n.5 n.1 w.app x.9.0 n.0 n.5 n.1 w.app x.9.0 n.0 x.9.0 fr.d su.f n.5 n.1 w.app x.9.0 su.v su.app su.eq n.0 n.5 n.1 w.app w.app n.0 x.9.0 w.var w.app n.0 n.7 w.app n.0 n.5 n.1 w.app w.app n.7 x.9.0 n.0 n.5 n.1 w.app w.app n.7 x.9.0 n.0 n.5 n.1 w.app w.app x.9.0 fr.d su.f n.0 x.9.0 w.var n.7 n.0 n.7 x.9.0 n.0 n.7 x.9.0 n.0 x.9.0 fr.d su.f n.7 x.9.0 su.v su.app su.eq eq.el mp mp n.0 n.5 n.1 w.app w.app n.0 n.7 w.app n.0 n.1 w.app x.9.0 w.var w.next w.imp n.0 n.1 w.app n.0 n.5 n.1 w.app w.app w.next w.imp n.0 n.1 w.app n.0 n.7 w.app w.next w.imp x.9.0 n.0 n.1 w.app x.9.0 w.var w.next n.0 n.5 n.1 w.app w.app w.next n.0 n.1 w.app n.0 n.5 n.1 w.app w.app x.9.0 n.0 n.1 w.app n.0 n.5 n.1 w.app w.app x.9.0 n.0 n.1 w.app x.9.0 fr.d su.f x.9.0 w.var n.0 n.5 n.1 w.app w.app n.0 n.5 n.1 w.app w.app x.9.0 n.0 n.5 n.1 w.app w.app x.9.0 su.v su.next su.imp n.0 n.1 w.app x.9.0 w.var w.next n.0 n.7 w.app w.next n.0 n.1 w.app n.0 n.7 w.app x.9.0 n.0 n.1 w.app n.0 n.7 w.app x.9.0 n.0 n.1 w.app x.9.0 fr.d su.f x.9.0 w.var n.0 n.7 w.app n.0 n.7 w.app x.9.0 n.0 n.7 w.app x.9.0 su.v su.next su.imp eq.el mp mp t.0 $.
+$}
