@@ -31,6 +31,3 @@ pub use real_desk::RealDesk;
 pub use real_sink::RealSink;
 pub use sink::{Sink, send_whole};
 pub use write::write_whole;
-
-#[cfg(test)]
-mod tests;

@@ -13,8 +13,6 @@ mod evaluation;
 mod functions;
 mod recording;
 mod terms;
-#[cfg(test)]
-mod tests;
 
 pub use answer::{Answer, EvalEnd};
 pub use engine::{Budget, Engine, MAX_NESTING};

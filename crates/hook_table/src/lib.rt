@@ -10,8 +10,6 @@ mod calls;
 mod integers;
 mod rows;
 mod table;
-#[cfg(test)]
-mod tests;
 mod truths;
 
 pub use calls::{apply, fits};

@@ -21,6 +21,3 @@ pub use tree::{
     AliasDecl, AxiomDecl, Decl, Definition, ImportDecl, Module, Pat, PatForm, ReadFault, Sort,
     SortDecl, SortForm, SymbolDecl,
 };
-
-#[cfg(test)]
-mod tests;

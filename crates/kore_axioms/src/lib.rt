@@ -8,8 +8,6 @@ mod priorities;
 mod refusals;
 mod rules;
 mod sides;
-#[cfg(test)]
-mod tests;
 mod uses;
 
 pub use classes::{AxiomClass, class_of};

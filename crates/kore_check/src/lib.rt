@@ -2,8 +2,6 @@
 #![tactic(auto)]
 
 mod build;
-#[cfg(test)]
-mod build_tests;
 mod check;
 mod checked;
 mod faults;
@@ -13,8 +11,6 @@ mod laws;
 mod notes;
 mod patterns;
 mod sorts;
-#[cfg(test)]
-mod tests;
 mod values;
 mod variables;
 

@@ -6,8 +6,6 @@ mod patterns;
 mod readable;
 mod readings;
 mod sorts;
-#[cfg(test)]
-mod tests;
 
 pub use laws::reading_laws;
 pub use readings::{Reading, read_equation};

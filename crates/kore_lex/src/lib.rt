@@ -17,6 +17,3 @@ mod value;
 pub use laws::token_laws;
 pub use lexer::{LexFault, Lexer, Token, TokenKind};
 pub use value::text_value;
-
-#[cfg(test)]
-mod tests;

@@ -12,6 +12,3 @@ mod strings;
 
 pub use laws::print_laws;
 pub use print::print_pattern;
-
-#[cfg(test)]
-mod tests;

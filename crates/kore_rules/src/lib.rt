@@ -16,8 +16,6 @@ mod laws;
 mod order;
 mod sorts;
 mod start;
-#[cfg(test)]
-mod tests;
 mod texts;
 
 pub use acceptance::{accept, accept_term};

@@ -6,8 +6,6 @@ mod forms;
 mod shapes;
 mod sorts;
 mod statements;
-#[cfg(test)]
-mod tests;
 
 pub use equations::{EquationParts, equation_parts};
 pub use forms::{SoughtForms, has_binder, has_form};

@@ -8,8 +8,6 @@
 mod laws;
 mod names;
 mod patterns;
-#[cfg(test)]
-mod tests;
 
 pub use laws::shown_laws;
 pub use patterns::shown;

@@ -12,8 +12,6 @@
 mod attributes;
 mod counted;
 mod declaring;
-#[cfg(test)]
-mod fault_tests;
 mod faults;
 mod kinds;
 mod known;
@@ -22,8 +20,6 @@ mod meaning;
 mod names;
 mod pairs;
 mod references;
-#[cfg(test)]
-mod signature_tests;
 mod symbols;
 
 pub use attributes::{first_of_name, has_attribute, text_of};

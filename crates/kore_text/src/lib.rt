@@ -23,6 +23,3 @@ pub use finder::{definition_fault, pattern_fault};
 pub use laws::{name_laws, text_laws};
 pub use names::{Binder, Built, Op};
 pub use tokens::{Next, Tokens};
-
-#[cfg(test)]
-mod tests;

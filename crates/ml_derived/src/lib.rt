@@ -13,6 +13,3 @@ pub use equalities::{carry, cong_app, cong_arg, cong_fun, flip, join};
 pub use implications::{both, chain, free_of_condition, free_of_top};
 pub use instances::instance;
 pub use reaching::{reach_here, reach_step};
-
-#[cfg(test)]
-mod tests;

@@ -148,8 +148,9 @@ pub(crate) fn injection_image(
     }
 }
 
-// The number of the injection symbol. It looks at the symbols up to this one, which definitions declare early.
-pub(crate) fn injection_symbol(sig: &Signature) -> Option<usize>
+/// The number of the injection symbol, where there is one. It looks at the symbols up to this one, which definitions
+/// declare early.
+pub fn injection_symbol(sig: &Signature) -> Option<usize>
     ensures symbol { result ≡ injection_symbol sig.now }
     ensures within { IfSome result (λ symbol. symbol < length sig.now.symbols) }
 {

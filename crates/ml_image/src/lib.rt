@@ -18,10 +18,7 @@ mod tokens;
 
 pub use constructors::{ctor_apart, ctor_free, ctor_total};
 pub use facts::{hook_fact, value_fact};
-pub use images::term_image;
+pub use images::{injection_symbol, term_image};
 pub use laws::{condition_laws, naming_laws};
 pub use rules::{equation_image, rule_image};
 pub use subsorts::{inj_collapse, inj_total};
-
-#[cfg(test)]
-mod tests;

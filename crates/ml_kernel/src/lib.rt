@@ -17,6 +17,3 @@ pub use derivations::{AxiomNo, Deriv, DerivStep, Inst, Lemma};
 pub use rules::Rule;
 pub use theorems::Thm;
 pub use theory::Theory;
-
-#[cfg(test)]
-mod tests;

@@ -17,6 +17,3 @@ pub use names::Names;
 pub use numbers::{ConstNo, MSort, VarNo};
 pub use patterns::{MForm, MPat};
 pub use substitution::{first_part, subst};
-
-#[cfg(test)]
-mod tests;

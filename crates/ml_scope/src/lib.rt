@@ -10,6 +10,3 @@ pub use citing::{assume, use_lemma};
 pub use rules::{
     and_3, eq_el, eq_refl, ev_1, ev_2, ev_kt, fun_ex, inst, mp, next_in, p_1, p_2, top,
 };
-
-#[cfg(test)]
-mod tests;

@@ -30,6 +30,3 @@ pub use labels::{Mandatory, own_labels};
 pub use laws::{number_laws, scope_laws};
 pub use scopes::Scopes;
 pub use theorem::Theorem;
-
-#[cfg(test)]
-mod examples;

@@ -43,6 +43,3 @@ pub use declarations::{CONSTANTS, HeaderVariable, VARIABLE_NAMES, VARIABLES, var
 pub use laws::header_laws;
 pub use rows::{HEADER, HeaderRow, table};
 pub use text::header_text;
-
-#[cfg(test)]
-mod tests;

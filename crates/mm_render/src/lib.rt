@@ -20,6 +20,3 @@ mod statements;
 mod variables;
 
 pub use renderer::Renderer;
-
-#[cfg(test)]
-mod tests;

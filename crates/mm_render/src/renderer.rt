@@ -89,6 +89,13 @@ impl Renderer {
         Ok(())
     }
 
+    /// How many of the names were declared.
+    pub fn declared(&self) -> u64
+        ensures { result ≡ self.now.named }
+    {
+        self.named
+    }
+
     /// Declares each name that is not declared yet: as a constant, and of its type by an axiom. The error: out of
     /// memory; then nothing changes.
     pub fn declare(&mut self, names: &Names, to: &mut Vec<u8>) -> Result<(), AllocError>

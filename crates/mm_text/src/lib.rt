@@ -19,6 +19,3 @@ pub use laws::{letter_laws, number_laws, place_laws, text_laws, tried};
 pub use numbers::{push_number, read_number};
 pub use statements::{MmFound, MmReadEnd};
 pub use tokens::{MmToken, MmTokens};
-
-#[cfg(test)]
-mod tests;

@@ -30,8 +30,6 @@ mod room;
 mod scattered;
 mod spreads;
 mod stack;
-#[cfg(test)]
-mod tests;
 mod together;
 mod verdicts;
 

@@ -10,8 +10,6 @@
 mod rules;
 mod run;
 mod step;
-#[cfg(test)]
-mod tests;
 
 pub use run::{Next, Run};
 pub use step::Made;

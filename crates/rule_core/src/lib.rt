@@ -19,8 +19,6 @@ mod signature;
 mod sort_sets;
 mod subsorts;
 mod table;
-#[cfg(test)]
-mod tests;
 mod trial;
 
 pub use evaluation::{evaluation_laws, record_laws, run_laws, tried};

@@ -12,8 +12,6 @@ mod rule_patterns;
 mod steps;
 mod subst;
 mod terms;
-#[cfg(test)]
-mod tests;
 mod values;
 
 pub use ids::{HookNo, SortId, SymId};

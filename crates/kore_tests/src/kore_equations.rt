@@ -1,0 +1,152 @@
+// Axioms, and what one expects them to be read as.
+ghost use Rattle.rule_core.specs.WellSorted.{IsSignature};
+ghost use Rattle.kore_sig.specs.Signatures.{IsNumbered};
+
+use kore_ast::{AxiomDecl, Decl, read_definition};
+use kore_axioms::{AxiomClass, class_of};
+use kore_equations::{Reading, read_equation};
+use kore_sig::{counted_declarations, signature};
+use rule_core::{Equation, Signature};
+use std::alloc::Global;
+use std::test::Fail;
+
+/// Longer texts are not tried.
+const LONGEST: usize = 10_000;
+
+/// What stands in front of the axiom.
+const DECLARED: &str =
+    "[] module M sort S{} [] sort T{} [] hooked-sort B{} [hook{}(\"BOOL.Bool\")] \
+    hooked-sort I{} [hook{}(\"INT.Int\")] symbol a{}() : S{} [constructor{}()] symbol t{}() : T{} [constructor{}()] \
+    symbol p{}(S{}) : S{} [constructor{}()] symbol c{}(S{},S{}) : S{} [constructor{}(),assoc{}()] \
+    symbol i{}(I{}) : S{} [constructor{}()] symbol n{}() : S{} [] symbol f{}(S{}) : S{} [function{}()] \
+    symbol g{}() : S{} [function{}()] symbol h{}(S{},S{}) : S{} [function{}()] \
+    symbol m{}(S{}) : S{} [function{}(),comm{}()] symbol is{}(S{}) : B{} [function{}()] ";
+
+/// The numbers of parameters, of arguments and of variables of an equation, and whether it has a condition.
+type Counts = (u32, usize, usize, bool);
+
+fn counts_of(equation: &Equation) -> Counts {
+    (
+        equation.params,
+        equation.args.len(),
+        equation.vars.len(),
+        equation.cond.is_some(),
+    )
+}
+
+/// The counts of the equation that the only axiom means; none where it is not readable.
+fn counts_in(alloc: Global, axiom: &str) -> Result<Option<Counts>, Fail> {
+    let text = format!(in alloc; "{DECLARED}axiom{{R}} {axiom} endmodule []")?;
+    if text.len() > LONGEST {
+        return Err(Fail::from("long"));
+    }
+    let Ok(definition) = read_definition(alloc, text.as_bytes()) else {
+        return Err(Fail::from("unreadable"));
+    };
+    let Ok(sig) = signature(alloc, &definition) else {
+        return Err(Fail::from("no signature"));
+    };
+    for decl in counted_declarations(alloc, &definition)?.iter() {
+        if let Decl::Axiom(decl) = decl {
+            return counts_at(alloc, &sig, decl);
+        }
+    }
+    Err(Fail::from("no axiom"))
+}
+
+fn counts_at(alloc: Global, sig: &Signature, decl: &AxiomDecl) -> Result<Option<Counts>, Fail>
+    requires numbered { IsNumbered sig.now }
+    requires signature { IsSignature sig.now }
+{
+    let AxiomClass::Equates(stated) = class_of(sig, decl) else {
+        return Err(Fail::from("no equation"));
+    };
+    match read_equation(alloc, sig, decl, &stated)? {
+        Reading::Equation(equation) => Ok(Some(counts_of(&equation))),
+        Reading::Unreadable(_) => Ok(None),
+    }
+}
+
+/// Both forms, with and without a condition.
+#[test]
+fn readable_equations(rt: HostRuntime) -> Result<(), Fail> {
+    let cases = [
+        (
+            "\\equals{S{},R}(f{}(a{}()),p{}(a{}())) []",
+            (0, 1, 0, false),
+        ),
+        (
+            "\\equals{S{},R}(f{}(p{}(X:S{})),\\and{S{}}(f{}(X:S{}),\\top{S{}}())) [priority{}(\"9\")]",
+            (0, 1, 1, false),
+        ),
+        (
+            "\\implies{R}(\\top{R}(),\\equals{S{},R}(h{}(X:S{},Y:S{}),c{}(Y:S{},X:S{}))) []",
+            (0, 2, 2, false),
+        ),
+        (
+            "\\implies{R}(\\equals{B{},R}(is{}(X:S{}),\\dv{B{}}(\"true\")),\\equals{S{},R}(f{}(X:S{}),X:S{})) []",
+            (0, 1, 1, true),
+        ),
+        (
+            "\\implies{R}(\\and{R}(\\top{R}(),\\and{R}(\\in{S{},R}(X0:S{},p{}(Y:S{})),\\top{R}())), \
+            \\equals{S{},R}(f{}(X0:S{}),\\and{S{}}(Y:S{},\\top{S{}}()))) []",
+            (1, 1, 1, false),
+        ),
+        (
+            "\\implies{R}(\\and{R}(\\equals{B{},R}(is{}(X:S{}),\\dv{B{}}(\"true\")),\\and{R}(\\in{S{},R}(X0:S{},X:S{}), \
+            \\and{R}(\\in{S{},R}(X1:S{},p{}(X:S{})),\\top{R}()))),\\equals{S{},R}(h{}(X0:S{},X1:S{}),a{}())) []",
+            (2, 2, 1, true),
+        ),
+        ("\\equals{S{},R}(g{}(),a{}()) []", (0, 0, 0, false)),
+        (
+            "\\implies{R}(\\and{R}(\\top{R}(),\\top{R}()),\\equals{S{},R}(g{}(),a{}())) []",
+            (0, 0, 0, false),
+        ),
+    ];
+    for (axiom, expected) in cases {
+        if counts_in(rt.alloc(), axiom)? != Some(expected) {
+            return Err(Fail::from(axiom));
+        }
+    }
+    Ok(())
+}
+
+/// Each reason for which an equation is not readable.
+#[test]
+fn unreadable_equations(rt: HostRuntime) -> Result<(), Fail> {
+    let cases = [
+        "\\equals{S{},R}(f{}(X:S{}),X:S{}) [owise{}()]",
+        "\\equals{S{},R}(f{}(X:S{}),X:S{}) [priority{}(\"first\")]",
+        "\\equals{S{},Q{}}(f{}(X:S{}),X:S{}) []",
+        "\\equals{T{},R}(f{}(X:S{}),t{}()) []",
+        "\\equals{S{},R}(f{}(X:S{},Y:S{}),X:S{}) []",
+        "\\equals{S{},R}(f{}(X:Q{}),a{}()) []",
+        "\\equals{S{},R}(f{}(q{}()),a{}()) []",
+        "\\equals{S{},R}(f{}(p{}()),a{}()) []",
+        "\\equals{S{},R}(f{}(t{}()),a{}()) []",
+        "\\equals{S{},R}(f{}(a{}()),t{}()) []",
+        "\\equals{S{},R}(f{}(i{}(\\dv{I{}}(\"x\"))),a{}()) []",
+        "\\equals{S{},R}(f{}(n{}()),a{}()) []",
+        "\\equals{S{},R}(f{}(f{}(X:S{})),X:S{}) []",
+        "\\equals{S{},R}(f{}(c{}(X:S{},Y:S{})),X:S{}) []",
+        "\\equals{S{},R}(m{}(X:S{}),X:S{}) []",
+        "\\equals{S{},R}(f{}(X:S{}),\\or{S{}}(X:S{},a{}())) []",
+        "\\equals{S{},R}(f{}(\\and{S{}}(X:S{},p{}(Y:S{}))),X:S{}) []",
+        "\\equals{S{},R}(f{}(X:S{}),\\exists{S{}}(Y:S{},a{}())) []",
+        "\\equals{S{},R}(f{}(X:S{}),\\and{S{}}(X:S{},a{}())) []",
+        "\\equals{S{},R}(f{}(X:S{}),\\and{S{}}(\\top{S{}}(),X:S{})) []",
+        "\\equals{S{},R}(f{}(a{}()),X:S{}) []",
+        "\\implies{R}(\\equals{S{},R}(a{}(),\\dv{S{}}(\"true\")),\\equals{S{},R}(f{}(a{}()),a{}())) []",
+        "\\implies{R}(\\equals{B{},R}(is{}(Y:S{}),\\dv{B{}}(\"true\")),\\equals{S{},R}(f{}(X:S{}),X:S{})) []",
+        "\\implies{R}(\\and{R}(\\top{R}(),\\top{R}()),\\equals{S{},R}(f{}(a{}()),a{}())) []",
+        "\\implies{R}(\\and{R}(\\top{R}(),\\and{R}(\\in{S{},R}(X:S{},Y:S{}),Y:S{})),\\equals{S{},R}(f{}(X:S{}),Y:S{})) []",
+        "\\implies{R}(\\and{R}(\\top{R}(),\\and{R}(\\in{S{},R}(Z:S{},Y:S{}),\\top{R}())),\\equals{S{},R}(f{}(X:S{}),Y:S{})) []",
+        "\\implies{R}(\\and{R}(\\top{R}(),\\and{R}(\\in{S{},R}(X:S{},Y:S{}),\\top{R}())),\\equals{S{},R}(f{}(X:S{}),X:S{})) []",
+    ];
+    for axiom in cases {
+        if counts_in(rt.alloc(), axiom)?.is_some() {
+            return Err(Fail::from(axiom));
+        }
+    }
+    Ok(())
+}

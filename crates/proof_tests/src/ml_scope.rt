@@ -1,0 +1,29 @@
+// One happy call of what takes more than patterns.
+use ml_kernel::{Lemma, Thm};
+use ml_pat::{ConstNo, MPat};
+use ml_scope::{assume, use_lemma};
+use std::test::Fail;
+
+// What is assumed is the only hypothesis.
+#[test]
+fn assumes_a_pattern(rt: HostRuntime) -> Result<(), Fail> {
+    let alloc = rt.alloc();
+    let a = MPat::constant(alloc, ConstNo(0))?;
+    let thm = assume(alloc, a.share()?)?;
+    assert!(rt; thm.conclusion().same(&a));
+    assert_eq!(rt; thm.hypotheses().len(), 1);
+    Ok(())
+}
+
+// A lemma is cited at an instance of its pattern variable.
+#[test]
+fn cites_a_lemma(rt: HostRuntime) -> Result<(), Fail> {
+    let alloc = rt.alloc();
+    let a = MPat::constant(alloc, ConstNo(0))?;
+    let lemma = Lemma::close(Thm::p_1(alloc, &MPat::meta(alloc, 0)?, &MPat::meta(alloc, 0)?)?)?;
+    let thm = Thm::p_1(alloc, &a, &a)?;
+    let metas = vec![in alloc; a]?;
+    let cited = use_lemma(alloc, &lemma, &metas, &[])?;
+    assert!(rt; cited.conclusion().same(thm.conclusion()));
+    Ok(())
+}

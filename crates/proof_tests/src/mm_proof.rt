@@ -1,0 +1,154 @@
+// Worked examples, written by hand.
+use ml_pat::{ConstNo, MPat, MSort, Names, VarNo};
+use mm_proof::{Work, write_works};
+use std::alloc::{AllocError, Global};
+use std::test::Fail;
+
+// The sort S and the symbols a and f, with these numbers.
+pub(crate) fn three_names(alloc: Global) -> Result<Names, AllocError> {
+    let mut names = Names::new(alloc);
+    names.number("s:S")?;
+    names.number("f:a")?;
+    names.number("f:f")?;
+    Ok(names)
+}
+
+// What a work writes, in the block of the statement 7.
+pub(crate) fn text_of(alloc: Global, work: Work<'_>) -> Result<Vec<u8>, AllocError> {
+    let names = three_names(alloc)?;
+    let mut text = Vec::new(alloc);
+    write_works(&mut text, &mut Vec::new(alloc), &names, 7, &[work])?;
+    Ok(text)
+}
+
+#[test]
+fn writes_an_application(rt: HostRuntime) -> Result<(), Fail> {
+    let alloc = rt.alloc();
+    let applied = MPat::app(
+        alloc,
+        &MPat::constant(alloc, ConstNo(2))?,
+        &MPat::constant(alloc, ConstNo(1))?,
+    )?;
+    let text = text_of(alloc, Work::Text(&applied))?;
+    assert_eq!(rt; text.as_slice(), b"( \\app f:f f:a ) ".as_slice());
+    Ok(())
+}
+
+#[test]
+fn proves_the_syntax_of_an_application(rt: HostRuntime) -> Result<(), Fail> {
+    let alloc = rt.alloc();
+    let applied = MPat::app(
+        alloc,
+        &MPat::constant(alloc, ConstNo(2))?,
+        &MPat::constant(alloc, ConstNo(1))?,
+    )?;
+    let text = text_of(alloc, Work::Syntax(&applied))?;
+    assert_eq!(rt; text.as_slice(), b"n.2 n.1 w.app ".as_slice());
+    Ok(())
+}
+
+#[test]
+fn writes_a_quantifier(rt: HostRuntime) -> Result<(), Fail> {
+    let alloc = rt.alloc();
+    let here = MPat::fun(alloc, &MPat::var(alloc, VarNo(4))?, MSort(0))?;
+    let each = MPat::all(alloc, VarNo(4), MSort(0), &here)?;
+    let text = text_of(alloc, Work::Text(&each))?;
+    assert_eq!(rt;
+        text.as_slice(),
+        b"( \\all x:4 s:S ( \\fun x:4 s:S ) ) ".as_slice()
+    );
+    Ok(())
+}
+
+// The labels of variables have the number of the statement in which they stand.
+#[test]
+fn proves_the_syntax_of_a_quantifier(rt: HostRuntime) -> Result<(), Fail> {
+    let alloc = rt.alloc();
+    let here = MPat::var(alloc, VarNo(4))?;
+    let each = MPat::all(alloc, VarNo(4), MSort(0), &here)?;
+    let text = text_of(alloc, Work::Syntax(&each))?;
+    assert_eq!(rt; text.as_slice(), b"x.7.4 w.var x.7.4 n.0 w.all ".as_slice());
+    Ok(())
+}
+
+// x is not free under its own quantifier.
+#[test]
+fn proves_that_a_bound_variable_is_not_free(rt: HostRuntime) -> Result<(), Fail> {
+    let alloc = rt.alloc();
+    let here = MPat::var(alloc, VarNo(4))?;
+    let each = MPat::all(alloc, VarNo(4), MSort(0), &here)?;
+    let text = text_of(alloc, Work::Fresh(VarNo(4), &each))?;
+    assert_eq!(rt;
+        text.as_slice(),
+        b"x.7.4 w.var x.7.4 n.0 fr.allb ".as_slice()
+    );
+    Ok(())
+}
+
+// a stands for x in `next x`.
+#[test]
+fn proves_a_substitution(rt: HostRuntime) -> Result<(), Fail> {
+    let alloc = rt.alloc();
+    let a = MPat::constant(alloc, ConstNo(1))?;
+    let pat = MPat::next(alloc, &MPat::var(alloc, VarNo(0))?)?;
+    let made = MPat::next(alloc, &a)?;
+    let text = text_of(alloc, Work::Substituted(VarNo(0), &a, &pat, &made))?;
+    assert_eq!(rt;
+        text.as_slice(),
+        b"x.7.0 w.var n.1 n.1 x.7.0 n.1 x.7.0 su.v su.next ".as_slice()
+    );
+    Ok(())
+}
+
+// The labels of the proof that a pattern with a for x is the other.
+fn labels(alloc: Global, pat: &MPat, made: &MPat) -> Result<usize, AllocError> {
+    let a = MPat::constant(alloc, ConstNo(1))?;
+    let text = text_of(alloc, Work::Substituted(VarNo(0), &a, pat, made))?;
+    Ok(text.iter().filter(|byte| **byte == b' ').count())
+}
+
+// x stands at one leaf of a configuration of 127 nodes: each part beside the way there is left as it is in one step.
+#[test]
+fn substitutes_at_one_leaf(rt: HostRuntime) -> Result<(), Fail> {
+    let alloc = rt.alloc();
+    let mut made = MPat::constant(alloc, ConstNo(1))?;
+    let mut pat = MPat::var(alloc, VarNo(0))?;
+    let mut beside = made.share()?;
+    for _ in 0..6 {
+        pat = MPat::app(alloc, &pat, &beside)?;
+        made = MPat::app(alloc, &made, &beside)?;
+        beside = MPat::app(alloc, &beside, &beside)?;
+    }
+    assert_eq!(rt; labels(alloc, &pat, &made)?, 777);
+    Ok(())
+}
+
+// x stands at the end of a list of 100 items.
+#[test]
+fn substitutes_at_the_end_of_a_list(rt: HostRuntime) -> Result<(), Fail> {
+    let alloc = rt.alloc();
+    let mut made = MPat::constant(alloc, ConstNo(1))?;
+    let mut pat = MPat::var(alloc, VarNo(0))?;
+    let item = MPat::app(alloc, &MPat::constant(alloc, ConstNo(2))?, &made)?;
+    for _ in 0..100 {
+        pat = MPat::app(alloc, &item, &pat)?;
+        made = MPat::app(alloc, &item, &made)?;
+    }
+    assert_eq!(rt; labels(alloc, &pat, &made)?, 41903);
+    Ok(())
+}
+
+// x stands nowhere in the one part, and is bound in the other.
+#[test]
+fn proves_freshness_of_a_part_in_one_step(rt: HostRuntime) -> Result<(), Fail> {
+    let alloc = rt.alloc();
+    let a = MPat::constant(alloc, ConstNo(1))?;
+    let bound = MPat::all(alloc, VarNo(4), MSort(0), &a)?;
+    let pat = MPat::imp(alloc, &MPat::next(alloc, &a)?, &bound)?;
+    let text = text_of(alloc, Work::Fresh(VarNo(4), &pat))?;
+    assert_eq!(rt;
+        text.as_slice(),
+        b"n.1 w.next n.1 x.7.4 n.0 w.all x.7.4 n.1 w.next x.7.4 fr.d n.1 x.7.4 n.0 fr.allb fr.imp ".as_slice()
+    );
+    Ok(())
+}

@@ -1,0 +1,58 @@
+// One call of each function that allocates.
+ghost use Rattle.std.specs.Prelude.{◌≡◌, [], IfOk, Some};
+ghost use Rattle.rule_core.specs.ProgramView.{theory_of};
+ghost use Rattle.rule_core.specs.WellSorted.{IsWellSorted};
+ghost use Rattle.fun_eval.specs.Evaluable.{HasNumbers};
+ghost use Rattle.fun_eval.specs.TestPrograms.{HasIntegers};
+
+use fun_eval::{Engine, Unrecorded};
+use rewriter::{Next, Run};
+use rule_core::{Program, Signature, SortInfo, SortKind, Subsorts, Table};
+use std::alloc::{AllocError, Global};
+use std::test::Fail;
+use term_core::{RulePat, SortId, Value};
+
+const INT: SortId = SortId(0);
+
+// The sort of whole numbers, no symbol and no rule.
+fn integers(alloc: Global) -> Result<Option<Program>, AllocError>
+    ensures sorted { IfOk result (λ found. (p : _) → found ≡ Some p → IsWellSorted (theory_of p)) }
+    ensures numbers { IfOk result (λ found. (p : _) → found ≡ Some p → HasNumbers (theory_of p)) }
+    ensures integers { IfOk result (λ found. (p : _) → found ≡ Some p → HasIntegers p.sig) }
+    ensures rules { IfOk result (λ found. (p : _) → found ≡ Some p → p.rules.items ≡ []) }
+{
+    let mut sorts = Table::new(alloc);
+    let kind = SortKind::Int;
+    if !sorts.insert(String::from_str(alloc, "Int")?, SortInfo { kind })? {
+        return Ok(None);
+    }
+    Ok(Some(Program {
+        sig: Signature {
+            sorts,
+            symbols: Table::new(alloc),
+            subsorts: Subsorts::new(alloc),
+        },
+        top: None,
+        rules: Vec::new(alloc),
+        equations: Vec::new(alloc),
+    }))
+}
+
+// Without a rule a run is stuck at its start, again and again, and keeps its calls.
+#[test]
+fn is_stuck_without_a_rule(rt: HostRuntime) -> Result<(), Fail> {
+    let alloc = rt.alloc();
+    let Some(program) = integers(alloc)? else {
+        return Err(Fail::from("a sort twice"));
+    };
+    let engine = Engine::new(&program);
+    let five = RulePat::Value(INT, Value::Int(5));
+    let Ok((mut run, record)) = Run::new(alloc, &engine, &five, 3) else {
+        return Err(Fail::from("blocked"));
+    };
+    assert!(rt; matches!(run.step(alloc, &engine)?, Next::Stuck));
+    assert!(rt; matches!(run.step_as::<Unrecorded>(alloc, &engine)?, Next::Stuck));
+    assert!(rt; run.config().same(record.result()));
+    assert_eq!(rt; run.calls_left(), 3);
+    Ok(())
+}
