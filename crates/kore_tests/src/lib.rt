@@ -1,32 +1,32 @@
 //! Worked examples for the crates that read, check and print Kore: what no clause of theirs says.
 //!
-//! A check of a crate's tests proves the whole crate once more. So the tests of libraries stand here, by the name of the
-//! crate that they test, and call what that crate exports.
+//! A check of a crate's tests proves the whole crate once more. So the tests of libraries stand here, a module for
+//! each, and call what the library exports.
 #![tactic(auto)]
 
 #[cfg(test)]
-mod kore_ast;
+mod acceptance;
 #[cfg(test)]
-mod kore_axioms;
+mod ast;
 #[cfg(test)]
-mod kore_check;
+mod axioms;
 #[cfg(test)]
-mod kore_check_build;
+mod build;
 #[cfg(test)]
-mod kore_equations;
+mod check;
 #[cfg(test)]
-mod kore_lex;
+mod equations;
 #[cfg(test)]
-mod kore_print;
+mod lex;
 #[cfg(test)]
-mod kore_rules;
+mod print;
 #[cfg(test)]
-mod kore_shapes;
+mod shapes;
 #[cfg(test)]
-mod kore_show;
+mod show;
 #[cfg(test)]
-mod kore_sig_fault;
+mod signature_faults;
 #[cfg(test)]
-mod kore_sig_signature;
+mod signatures;
 #[cfg(test)]
-mod kore_text;
+mod text;

@@ -1,28 +1,28 @@
 //! Worked examples for the crates of patterns, theorems and databases: what no clause of theirs says.
 //!
-//! A check of a crate's tests proves the whole crate once more. So the tests of libraries stand here, by the name of the
-//! crate that they test, and call what that crate exports.
+//! A check of a crate's tests proves the whole crate once more. So the tests of libraries stand here, a module for
+//! each, and call what the library exports.
 #![tactic(auto)]
 
 #[cfg(test)]
-mod ml_derived;
+mod derived;
 #[cfg(test)]
-mod ml_image;
+mod entries;
 #[cfg(test)]
-mod ml_kernel;
+mod frames;
 #[cfg(test)]
-mod ml_pat;
+mod header;
 #[cfg(test)]
-mod ml_scope;
+mod images;
 #[cfg(test)]
-mod mm_frame;
+mod kernel;
 #[cfg(test)]
-mod mm_header;
+mod patterns;
 #[cfg(test)]
-mod mm_proof;
+mod render;
 #[cfg(test)]
-mod mm_render;
+mod scope;
 #[cfg(test)]
-mod mm_text;
+mod texts;
 #[cfg(test)]
-mod mm_verify;
+mod verdicts;

@@ -1,18 +1,18 @@
 //! Worked examples for the crates of terms, rules, runs and files: what no clause of theirs says.
 //!
-//! A check of a crate's tests proves the whole crate once more. So the tests of libraries stand here, by the name of the
-//! crate that they test, and call what that crate exports.
+//! A check of a crate's tests proves the whole crate once more. So the tests of libraries stand here, a module for
+//! each, and call what the library exports.
 #![tactic(auto)]
 
 #[cfg(test)]
-mod desk_io;
+mod desks;
 #[cfg(test)]
-mod fun_eval;
+mod evaluation;
 #[cfg(test)]
-mod hook_table;
+mod hooks;
 #[cfg(test)]
-mod rewriter;
+mod matching;
 #[cfg(test)]
-mod rule_core;
+mod rewriting;
 #[cfg(test)]
-mod term_core;
+mod terms;

@@ -4,7 +4,7 @@ ghost use Rattle.kore_text.specs.Trees.{pattern_trees};
 ghost use Rattle.kore_ast.specs.Plain.{plain_pattern};
 ghost use Rattle.kore_check.specs.Folds.{unfolded, all_unfolded, IsApplicative, AreApplicative};
 
-use crate::kore_check::small_signature;
+use crate::check::small_signature;
 use kore_ast::{Pat, PatForm, Sort, SortForm, Text};
 use kore_check::{Variables, build_pattern, check_pattern, note_pattern};
 use std::alloc::{AllocError, Global};

@@ -13,7 +13,7 @@ use Rattle.rule_core.specs.declared.rules.Rule.{Rule}
 use Rattle.fun_eval.specs.TestPrograms.{HasIntegers}
 use Rattle.fun_eval.proofs.Empty.{integer_value}
 use Rattle.rewriter.specs.Configurations.{IsStartOf}
-use Rattle.run_tests.proofs.rewriter.is_stuck_without_a_rule.Goals as goal
+use Rattle.run_tests.proofs.rewriting.is_stuck_without_a_rule.Goals as goal
 
 pub new-requires : goal.new-requires
 new-requires g c =

@@ -1,4 +1,4 @@
-use Rattle.run_tests.proofs.term_core.stands_for.Given as goal
+use Rattle.run_tests.proofs.terms.stands_for.Given as goal
 
 abbrev pub ghosts-counted : goal.ghosts-counted
 ghosts-counted a = record { name = a.blank.name; parts = a.blank.parts }

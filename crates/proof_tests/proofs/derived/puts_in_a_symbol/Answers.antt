@@ -2,7 +2,7 @@ use Rattle.std.proofs.Common.{◌≡◌, List, [], ◌∷◌, refl, sym, subst, 
 use Rattle.ml_pat.specs.Patterns.{Pattern, constant, imp, next, var, all, fun}
 use Rattle.ml_kernel.specs.Theorems.{conclusions}
 use Rattle.ml_derived.specs.Instances.{HasInstance}
-use Rattle.proof_tests.proofs.ml_derived.puts_in_a_symbol.Goals as goal
+use Rattle.proof_tests.proofs.derived.puts_in_a_symbol.Goals as goal
 
 has : (sentence : Pattern) (facts : List Pattern) → sentence ≡ all 4 9 (imp (var 4) (next (var 4))) → facts ≡ fun (constant 0) 9 ∷ [] → HasInstance sentence facts
 has sentence facts h i =

@@ -6,7 +6,7 @@ use Rattle.kore_check.specs.Folds.{unfolded, height, place}
 use Rattle.kore_check.specs.PatternFaults.{pattern_faults, all_faults, most_height}
 use Rattle.kore_check.proofs.BuildLaws.{parts_empty}
 use Rattle.kore_check.proofs.CheckLaws.{nothing_noted}
-use Rattle.kore_tests.proofs.kore_check_build.builds_a_pattern.Goals as goal
+use Rattle.kore_tests.proofs.build.builds_a_pattern.Goals as goal
 
 pub build_pattern-requires-clause-faultless : goal.build_pattern-requires-clause-faultless
 build_pattern-requires-clause-faultless g c =

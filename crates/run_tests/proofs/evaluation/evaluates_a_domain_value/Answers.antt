@@ -11,7 +11,7 @@ use Rattle.rule_core.specs.declared.rules.Program.{Program}
 use Rattle.fun_eval.specs.Evaluable.{IsEvaluable}
 use Rattle.fun_eval.specs.TestPrograms.{HasIntegers}
 use Rattle.fun_eval.proofs.Empty.{number_evaluable, integer_value}
-use Rattle.run_tests.proofs.fun_eval.evaluates_a_domain_value.Goals as goal
+use Rattle.run_tests.proofs.evaluation.evaluates_a_domain_value.Goals as goal
 
 pub eval-requires-clause-fits : goal.eval-requires-clause-fits
 eval-requires-clause-fits g c =
