@@ -1,5 +1,5 @@
--- The words of the command line: a command's name, and then what clap's definition of that command takes. The first of
--- the words stands where clap expects a program's name.
+-- The words of the command line: a command's name, and then what clap's definition of that command takes. The first
+-- of the words stands where clap expects a program's name.
 use Rattle.std.specs.Prelude.{ℕ, Bool, true, false, not, ◌&&◌, List, [], ◌∷◌, length, Option, Some, is_some}
 use Rattle.std.specs.Prelude.{if◌then◌else◌, codes, nat_le}
 use Rattle.std.specs.Option.{option_map_or}
@@ -33,6 +33,11 @@ run_app =
 abbrev pub verify_app : App
 verify_app = with_rule (bare_app (codes "verify")) (positional_rule (codes "file"))
 
+-- `drill N FILE`
+abbrev pub drill_app : App
+drill_app =
+    with_rule (with_rule (bare_app (codes "drill")) (positional_rule (codes "n"))) (positional_rule (codes "file"))
+
 -- the value that the words give an argument, where they give it one
 abbrev pub value_of : App → List Text → Text → Option Text
 value_of app words id = first_of id (matches_of app words)
@@ -55,6 +60,14 @@ most_calls = 10000000
 abbrev pub usual_calls : ℕ
 usual_calls = 1000000
 
+-- the greatest number of steps of a drill
+abbrev pub most_drilled : ℕ
+most_drilled = 1000
+
+-- a number of steps of a drill, which has one at least
+abbrev pub is_drill_number : Text → Bool
+is_drill_number word = is_number_to most_drilled word && nat_le 1 (digits_value 10 word)
+
 -- the first word is this one
 abbrev pub is_named : Text → List Text → Bool
 is_named name [] = false
@@ -70,9 +83,15 @@ is_run words = takes run_app words
 abbrev pub is_verify : List Text → Bool
 is_verify words = takes verify_app words && is_some (value_of verify_app words (codes "file"))
 
+abbrev pub is_drill : List Text → Bool
+is_drill words = takes drill_app words
+    && (option_map_or is_drill_number (value_of drill_app words (codes "n")) false
+    && is_some (value_of drill_app words (codes "file")))
+
 -- no command takes the words
 abbrev pub are_bad : List Text → Bool
 are_bad words =
     if is_named (codes "run") words then not (is_run words)
     else if is_named (codes "verify") words then not (is_verify words)
+    else if is_named (codes "drill") words then not (is_drill words)
     else true

@@ -1,12 +1,14 @@
 -- What good words ask for.
-use Rattle.std.specs.Prelude.{◌≡◌, List, true, Some, option_map, option_copied, codes}
+use Rattle.std.specs.Prelude.{◌≡◌, ◌≤◌, List, true, Some, option_map, option_copied, codes}
 use Rattle.std.specs.Option.{option_map_or}
 use Rattle.std.specs.Str.Parse.{digits_value}
 use Rattle.clap.specs.Walk.{Text}
 use Rattle.command_words.specs.declared.commands.RunWords.{RunWords}
+use Rattle.command_words.specs.declared.commands.DrillWords.{DrillWords}
 use Rattle.command_words.specs.declared.commands.Command.{Command}
 use Rattle.command_words.specs.declared.commands.Command.TheVariants as command
-use Rattle.command_words.specs.CommandLine.{run_app, verify_app, value_of, usual_calls, is_named}
+use Rattle.command_words.specs.CommandLine.{run_app, verify_app, drill_app, value_of, usual_calls, most_drilled}
+use Rattle.command_words.specs.CommandLine.{is_named}
 
 -- to run a term: the values of the arguments, and the usual number of calls where the words state none
 pub record GivesRun (words : List Text) (r : RunWords) : Type 0 where
@@ -22,6 +24,15 @@ pub record GivesFile (words : List Text) (file : Text) : Type 0 where
   pub named : is_named (codes "verify") words ≡ true
   pub file_is : value_of verify_app words (codes "file") ≡ Some file
 
+-- to drill the program: the number of steps, and the file for the proof
+pub record GivesDrill (words : List Text) (d : DrillWords) : Type 0 where
+  pub named : is_named (codes "drill") words ≡ true
+  pub steps : option_map (digits_value 10) (value_of drill_app words (codes "n")) ≡ Some d.steps
+  pub some_steps : 1 ≤ d.steps
+  pub few_steps : d.steps ≤ most_drilled
+  pub file : value_of drill_app words (codes "file") ≡ Some d.file.now
+
 abbrev pub Gives : List Text → Command → Type 0
 Gives words (command.Run r) = GivesRun words r
 Gives words (command.Verify file) = GivesFile words file.now
+Gives words (command.Drill d) = GivesDrill words d

@@ -1,15 +1,16 @@
 // What the words of the command line ask for.
-ghost use Rattle.std.specs.Prelude.{◌≡◌, map, IfOk, IfSome, IfNone, Err, true, false, string_bytes, option_copied};
-ghost use Rattle.std.specs.Prelude.{option_map, codes, Some};
+ghost use Rattle.std.specs.Prelude.{◌≡◌, ◌≤◌, map, IfOk, IfSome, IfNone, Err, true, false, codes};
+ghost use Rattle.std.specs.Prelude.{string_bytes, option_copied, option_map, Some};
 ghost use Rattle.std.specs.Option.{option_map_or};
 ghost use Rattle.std.specs.Str.Parse.{digits_value};
-ghost use Rattle.command_words.specs.CommandLine.{is_named, is_run, is_verify, are_bad, is_number_to};
-ghost use Rattle.command_words.specs.Commands.{Gives, GivesRun, GivesFile};
+ghost use Rattle.command_words.specs.CommandLine.{is_named, is_run, is_verify, is_drill, are_bad};
+ghost use Rattle.command_words.specs.CommandLine.{is_number_to, is_drill_number, most_drilled};
+ghost use Rattle.command_words.specs.Commands.{Gives, GivesRun, GivesFile, GivesDrill};
 ghost use Rattle.command_words.specs.Plain.{is_plain, IsReadBy};
 ghost use Rattle.clap.specs.Simple.{app_of};
 ghost use Rattle.clap.specs.Takes.{takes};
 
-use crate::definitions::{run_definition, verify_definition};
+use crate::definitions::{drill_definition, run_definition, verify_definition};
 use crate::numbers::number_to;
 use clap::ArgMatches;
 use clap::error::ErrorKind;
@@ -23,6 +24,8 @@ pub enum Command<'a> {
     Run(RunWords<'a>),
     /// To verify the database in the file of this name.
     Verify(&'a str),
+    /// To drill the program.
+    Drill(DrillWords<'a>),
 }
 
 /// What a call is to run.
@@ -38,6 +41,15 @@ pub struct RunWords<'a> {
     pub calls: u32,
     /// The name of the file for the proof, where one is wanted.
     pub proof: Option<&'a str>,
+}
+
+/// What a call is to drill.
+#[derive(Clone, Copy)]
+pub struct DrillWords<'a> {
+    /// The number of steps, 1 to 1,000.
+    pub steps: u32,
+    /// The name of the file for the proof.
+    pub file: &'a str,
 }
 
 /// Why the words were not read.
@@ -59,6 +71,9 @@ const MAX_CALLS: u32 = 10_000_000;
 
 /// The number of calls where the words state none.
 const USUAL_CALLS: u32 = 1_000_000;
+
+/// The greatest number of steps of a drill.
+const MAX_DRILLED: u32 = 1_000;
 
 impl From<AllocError> for WordsEnd {
     ghost use Rattle.command_words.specs.declared.commands.WordsEnd.TheVariants.{Memory};
@@ -85,6 +100,11 @@ pub fn read_words<'a>(alloc: Global, words: &'a [String]) -> Result<Command<'a>,
     } else if is_named("verify", words) {
         match verify_words(alloc, words) {
             Ok(file) => Ok(Command::Verify(file)),
+            Err(end) => Err(end),
+        }
+    } else if is_named("drill", words) {
+        match drill_words(alloc, words) {
+            Ok(drill) => Ok(Command::Drill(drill)),
             Err(end) => Err(end),
         }
     } else {
@@ -154,6 +174,40 @@ fn verify_words<'a>(alloc: Global, words: &'a [String]) -> Result<&'a str, Words
     }
 }
 
+// What a drill command asks for.
+fn drill_words<'a>(alloc: Global, words: &'a [String]) -> Result<DrillWords<'a>, WordsEnd>
+    requires { is_named (codes "drill") (map string_bytes words.now) ≡ true }
+    ensures good { IfOk result (λ d. (is_drill (map string_bytes words.entry.now) ≡ true)
+        × GivesDrill (map string_bytes words.entry.now) d) }
+    ensures bad { result ≡ Err WordsEnd.Bad → is_drill (map string_bytes words.entry.now) ≡ false }
+{
+    let command = drill_definition(alloc)?;
+    let matches = match matches_for(command, words) {
+        Ok(matches) => matches,
+        Err(end) => return Err(end),
+    };
+    let Some(steps) = steps_in(matches.get_str("n")) else {
+        return Err(WordsEnd::Bad);
+    };
+    match matches.get_str("file") {
+        Some(file) => Ok(DrillWords { steps, file }),
+        None => Err(WordsEnd::Bad),
+    }
+}
+
+// The number of steps of a drill that stands there; none where there is no word, or another one.
+fn steps_in(word: Option<&str>) -> Option<u32>
+    ensures number { IfSome result (λ n. option_map (digits_value 10) (option_copied word.entry) ≡ Some n) }
+    ensures bounds { IfSome result (λ n. (1 ≤ n) × (n ≤ most_drilled)) }
+    ensures good { IfSome result (λ n. option_map_or is_drill_number (option_copied word.entry) false ≡ true) }
+    ensures bad { IfNone result (option_map_or is_drill_number (option_copied word.entry) false ≡ false) }
+{
+    match number_in(MAX_DRILLED, word) {
+        Some(0) => None,
+        number => number,
+    }
+}
+
 // The number that stands there, no greater than this; none where there is no word, or another one.
 fn number_in(most: u32, word: Option<&str>) -> Option<u32>
     ensures number { IfSome result (λ n. option_map (digits_value 10) (option_copied word.entry) ≡ Some n) }
@@ -185,7 +239,8 @@ fn matches_for<'a>(
 ) -> Result<ArgMatches<'a>, WordsEnd>
     requires { is_plain (app_of command) ≡ true }
     ensures read { IfOk result (IsReadBy (app_of command.entry) (map string_bytes words.entry.now)) }
-    ensures bad { result ≡ Err WordsEnd.Bad → takes (app_of command.entry) (map string_bytes words.entry.now) ≡ false }
+    ensures bad { result ≡ Err WordsEnd.Bad →
+        takes (app_of command.entry) (map string_bytes words.entry.now) ≡ false }
 {
     match command.try_get_matches_from(words) {
         Ok(matches) => Ok(matches),

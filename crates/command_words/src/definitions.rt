@@ -3,6 +3,7 @@ ghost use Rattle.std.specs.Prelude.{◌≡◌, IfOk, codes, false};
 ghost use Rattle.clap.specs.Walk.{rule_of};
 ghost use Rattle.clap.specs.Simple.{app_of, with_rule};
 ghost use Rattle.command_words.specs.CommandLine.{positional_rule, option_rule, bare_app, run_app, verify_app};
+ghost use Rattle.command_words.specs.CommandLine.{drill_app};
 
 use clap::{Arg, ArgAction, Command};
 use std::alloc::{AllocError, Global};
@@ -27,6 +28,16 @@ pub(crate) fn verify_definition<'a>(alloc: Global) -> Result<Command<'a>, AllocE
     ensures { IfOk result (λ c. app_of c ≡ verify_app) }
 {
     with(bare(alloc, "verify"), positional(alloc, "file"))
+}
+
+// `drill N FILE`
+pub(crate) fn drill_definition<'a>(alloc: Global) -> Result<Command<'a>, AllocError>
+    ensures { IfOk result (λ c. app_of c ≡ drill_app) }
+{
+    with(
+        with(bare(alloc, "drill"), positional(alloc, "n"))?,
+        positional(alloc, "file"),
+    )
 }
 
 // A command without arguments, and without help.

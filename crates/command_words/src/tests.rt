@@ -26,7 +26,7 @@ fn reads_a_run_with_its_options_in_any_place(rt: HostRuntime) -> Result<(), Fail
             assert_eq!(rt; run.calls, 7);
             assert_eq!(rt; run.proof, Some("-x"));
         }
-        Ok(Command::Verify(_file)) => assert!(rt; false),
+        Ok(_other) => assert!(rt; false),
         Err(_end) => assert!(rt; false),
     }
     Ok(())
@@ -40,7 +40,7 @@ fn takes_a_million_calls_where_none_are_stated(rt: HostRuntime) -> Result<(), Fa
             assert_eq!(rt; run.calls, 1_000_000);
             assert!(rt; run.proof.is_none());
         }
-        Ok(Command::Verify(_file)) => assert!(rt; false),
+        Ok(_other) => assert!(rt; false),
         Err(_end) => assert!(rt; false),
     }
     Ok(())
@@ -66,6 +66,11 @@ fn refuses_bad_words(rt: HostRuntime) -> Result<(), Fail> {
         "verify",
         "verify a b",
         "verify -h",
+        "drill 5",
+        "drill 0 p.mm",
+        "drill 1001 p.mm",
+        "drill 000000001 p.mm",
+        "drill 5 --help",
     ] {
         let words = words_of(rt.alloc(), line)?;
         let is_bad = matches!(read_words(rt.alloc(), words.as_slice()), Err(WordsEnd::Bad));
@@ -79,7 +84,21 @@ fn reads_the_file_to_be_verified(rt: HostRuntime) -> Result<(), Fail> {
     let words = words_of(rt.alloc(), "verify -- --help")?;
     match read_words(rt.alloc(), words.as_slice()) {
         Ok(Command::Verify(file)) => assert_eq!(rt; file, "--help"),
-        Ok(Command::Run(_run)) => assert!(rt; false),
+        Ok(_other) => assert!(rt; false),
+        Err(_end) => assert!(rt; false),
+    }
+    Ok(())
+}
+
+#[test]
+fn reads_a_drill(rt: HostRuntime) -> Result<(), Fail> {
+    let words = words_of(rt.alloc(), "drill 007 p.mm")?;
+    match read_words(rt.alloc(), words.as_slice()) {
+        Ok(Command::Drill(drill)) => {
+            assert_eq!(rt; drill.steps, 7);
+            assert_eq!(rt; drill.file, "p.mm");
+        }
+        Ok(_other) => assert!(rt; false),
         Err(_end) => assert!(rt; false),
     }
     Ok(())
