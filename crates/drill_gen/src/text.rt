@@ -1,6 +1,7 @@
 // The two texts.
 ghost use Rattle.std.specs.Prelude.{◌≡◌, ◌≤◌, ◌++◌, IfOk, OnOk};
-ghost use Rattle.drill_gen.specs.Drill.{line, lines, first_lines, symbol_line, rule_line, drill_definition, drill_term};
+ghost use Rattle.drill_gen.specs.Drill.{line, lines, first_lines, symbol_line, rule_line};
+ghost use Rattle.drill_gen.specs.Drill.{drill_definition, drill_term};
 ghost use Rattle.drill_gen.specs.Texts.{texts};
 
 use itoa::Buffer;
