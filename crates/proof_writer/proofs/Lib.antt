@@ -1,3 +1,4 @@
+pub mod CountLaws
 pub mod PlainNameLaws
 pub mod ScopeLaws
 pub mod ValueBytes

@@ -11,37 +11,57 @@ use Rattle.ml_scope.specs.Scopes.{IsWithin}
 use Rattle.mm_claims.specs.Kept.{Kept, all_stated, header_kept}
 use Rattle.mm_claims.specs.Places.{IsStated, MayProve}
 use Rattle.mm_claims.specs.Blocks.{Claim, Stated}
-use Rattle.mm_claims.specs.Keeping.{axiom_at, with_last, with_stated}
+use Rattle.mm_claims.specs.Keeping.{Fits, axiom_at, with_last, with_stated}
 use Rattle.mm_claims.specs.LaterLaws.{LastIsStated, StatedStays}
 use Rattle.mm_justify.specs.ImageLaws.{SentenceIsOver}
 use Rattle.rule_core.specs.declared.rules.Program.{Program}
 use Rattle.prove_term.specs.Contexts.{Context, IsContext, new_context}
 use Rattle.proof_writer.specs.declared.writer.Writer.{Writer}
 use Rattle.proof_writer.specs.Writing.{HasWritten, HasWrittenAll, IsTextOf, Adds, Keeps, MayFollow}
+use Rattle.proof_writer.specs.WritingOn.{WritesOn}
 use Rattle.proof_writer.proofs.ScopeLaws.{scope_of, may_be_cited, may_prove, assumes_nothing, has_context, has_stated}
 
 pub on_one : {T E : Type 0} {P Q : Type 0} (r : Result T E) → (P → Q) → OnOk r P → OnOk r Q
 on_one (Ok x) f p = f p
 on_one (Err e) f p = tt
 
-pub on_two : {T E : Type 0} {P Q R : Type 0} (r : Result T E) → (P → Q → R) → OnOk r P → OnOk r Q → OnOk r R
-on_two (Ok x) f p q = f p q
-on_two (Err e) f p q = tt
-
-pub on_all : {T E : Type 0} {P Q R S : Type 0} (r : Result T E) → (P → Q → R → S) → OnOk r P → OnOk r Q → OnOk r R → OnOk r S
-on_all (Ok x) f p q r = f p q r
-on_all (Err e) f p q r = tt
-
 -- bytes that were appended one after another
-pub adds_then : (cx : Context) (a b c : Kept) (x y z : List ℕ) → Adds cx a b x y → Adds cx b c y z → Adds cx a c x z
+pub adds_then : (cx : Context) (a b c : Writer) (x y z : List ℕ) → Adds cx a b x y → Adds cx b c y z → Adds cx a c x z
 adds_then cx a b c x y z (m, is, f) (n, is', g) = (
   m ++ n,
   is' ∙ ap (λ (l : List ℕ). l ++ n) is ∙ append_assoc x m n,
   λ text t. subst (IsTextOf cx c) (append_assoc text m n) (g (text ++ m) (f text t)),
 )
 
-pub adds_none : (cx : Context) (a : Kept) (x : List ℕ) → Adds cx a a x x
+pub adds_none : (cx : Context) (a : Writer) (x : List ℕ) → Adds cx a a x x
 adds_none cx a x = ([], sym (append-nil x), λ text t. subst (IsTextOf cx a) (sym (append-nil text)) t)
+
+-- a text of what one writer wrote is one of another's that has the same counts and keeps the same
+pub adds_same : (cx : Context) (a b c : Writer) (x y : List ℕ) → c.renderer ≡ b.renderer → c.facts ≡ b.facts → c.statements ≡ b.statements → Adds cx a b x y → Adds cx a c x y
+adds_same cx a b c x y kept facts statements (m, is, f) = (
+  m,
+  is,
+  λ text t.
+      let h = f text t in
+      record {
+        fits = subst (λ (k : Kept). Fits cx.names k (text ++ m)) (sym kept) h.fits;
+        only = h.only;
+        counts = record { facts_are = facts ∙ h.counts.facts_are; statements_are = statements ∙ h.counts.statements_are };
+      },
+)
+
+-- ---- what calls write one after another
+
+pub writes_none : (cx : Context) (w : Writer) (x : List ℕ) → HasWritten w cx → w.renderer.named ≡ length cx.names → WritesOn cx w w x x
+writes_none cx w x written named = record { written = written; named = named; keeps = λ hs q h. h; text = adds_none cx w x }
+
+pub writes_then : (cx : Context) (a b c : Writer) (x y z : List ℕ) → WritesOn cx a b x y → WritesOn cx b c y z → WritesOn cx a c x z
+writes_then cx a b c x y z first next = record {
+  written = next.written;
+  named = next.named;
+  keeps = λ hs q h. next.keeps hs q (first.keeps hs q h);
+  text = adds_then cx a b c x y z first.text next.text;
+}
 
 -- what stands in a list stands at a place
 pub place_of : {A : Type 0} (xs : List A) (x : A) → Contains xs x → (i : ℕ) × (i < length xs) × (slice_get xs i ≡ Some x)

@@ -1,3 +1,5 @@
 -- Believed: what public clauses say, and believed definitions of other crates.
 pub mod PlainNames
 pub mod Writing
+-- Private: what clauses of private functions cite, and how private fields are seen.
+pub mod WritingOn

@@ -11,6 +11,7 @@ use Rattle.mm_claims.specs.Kept.{Kept, all_stated}
 use Rattle.mm_claims.specs.Keeping.{Fits}
 use Rattle.mm_claims.specs.Places.{IsStated}
 use Rattle.mm_justify.specs.Justifying.{HasOnlyAxiomsOf, JustifiesRun}
+use Rattle.mm_justify.specs.Counting.{HasCounts}
 use Rattle.prove_term.specs.Contexts.{Context, HasContext}
 use Rattle.proof_writer.specs.declared.writer.Made.{Made}
 use Rattle.proof_writer.specs.declared.writer.Writer.{Writer}
@@ -31,7 +32,8 @@ pub record HasWritten (w : Writer) (cx : Context) : Type 0 where
   pub named : w.renderer.named ≤ length cx.names
   pub few_axioms : w.axioms ≤ length cx.axioms
   pub few_lemmas : w.lemmas ≤ length cx.lemmas
-  pub axioms : (i : ℕ) (p : Pattern) → i < w.axioms → slice_get cx.axioms i ≡ Some p → IsStated w.renderer.stated [] p
+  pub axioms : (i : ℕ) (p : Pattern) → i < w.axioms → slice_get cx.axioms i ≡ Some p →
+      IsStated w.renderer.stated [] p
   pub lemmas : (i : ℕ) (t : Theorem) → i < w.lemmas → slice_get cx.lemmas i ≡ Some t →
       IsStated w.renderer.stated t.hypotheses t.conclusion
 
@@ -42,24 +44,28 @@ pub record HasWrittenAll (w : Writer) (cx : Context) : Type 0 where
   pub axioms : w.axioms ≡ length cx.axioms
   pub lemmas : w.lemmas ≡ length cx.lemmas
 
--- A text in which just this was written: it is valid so far, and it has only axioms of the program.
-pub record IsTextOf (cx : Context) (k : Kept) (bytes : List ℕ) : Type 0 where
-  pub fits : Fits cx.names k bytes
+-- A text in which just this was written: it is valid so far, it has only axioms of the program, and its facts and
+-- statements were counted.
+pub record IsTextOf (cx : Context) (w : Writer) (bytes : List ℕ) : Type 0 where
+  pub fits : Fits cx.names w.renderer bytes
   pub only : HasOnlyAxiomsOf (theory_of cx.program) bytes
+  pub counts : HasCounts w.facts w.statements bytes
 
 -- the bytes that were appended to a buffer are such a text
-abbrev pub Begins : Context → Kept → List ℕ → List ℕ → Type 0
-Begins cx k before after = (added : List ℕ) × (after ≡ before ++ added) × IsTextOf cx k added
+abbrev pub Begins : Context → Writer → List ℕ → List ℕ → Type 0
+Begins cx w before after = (added : List ℕ) × (after ≡ before ++ added) × IsTextOf cx w added
 
--- Bytes were appended to a buffer. Behind every text of what was written before they make one of what was written then.
-abbrev pub Adds : Context → Kept → Kept → List ℕ → List ℕ → Type 0
+-- Bytes were appended to a buffer. After every text of what was written before they make one of what was written
+-- then.
+abbrev pub Adds : Context → Writer → Writer → List ℕ → List ℕ → Type 0
 Adds cx old new before after =
     (added : List ℕ) × (after ≡ before ++ added) ×
     ((text : List ℕ) → IsTextOf cx old text → IsTextOf cx new (text ++ added))
 
 -- what may be cited may be cited still
 abbrev pub Keeps : Kept → Kept → Type 0
-Keeps old new = (hypotheses : List Pattern) (conclusion : Pattern) → IsStated (all_stated old) hypotheses conclusion →
+Keeps old new =
+    (hypotheses : List Pattern) (conclusion : Pattern) → IsStated (all_stated old) hypotheses conclusion →
     IsStated (all_stated new) hypotheses conclusion
 
 -- the scope has all that may be cited
@@ -77,7 +83,7 @@ HasNoVariables a = (x : ℕ) → StandsIn x a → ⊥
 
 -- Where the theorem says that the image of one pattern reaches that of another, the bytes that were appended make of
 -- every text one that justifies the run between the two.
-abbrev pub Concludes : Context → Kept → Theorem → List ℕ → List ℕ → Type 0
+abbrev pub Concludes : Context → Writer → Theorem → List ℕ → List ℕ → Type 0
 Concludes cx old t before after =
     (a b : RulePattern) (from to : Pattern) (added text : List ℕ) → HasNoVariables a → HasNoVariables b →
     image_of cx.program.sig cx.names a ≡ Some from → image_of cx.program.sig cx.names b ≡ Some to →

@@ -1,5 +1,7 @@
 // The writer.
 ghost use Rattle.std.specs.Prelude.{◌≡◌, ◌<◌, ◌+◌, IfOk, OnOk, length};
+ghost use Rattle.mm_justify.specs.Counting.{capped};
+ghost use Rattle.mm_justify.specs.CountingLaws.{is_fact_form};
 ghost use Rattle.mm_claims.specs.ClaimVariables.{claim_of};
 ghost use Rattle.mm_claims.specs.Keeping.{with_last, with_stated};
 ghost use Rattle.mm_claims.specs.Kept.{all_stated};
@@ -8,14 +10,18 @@ ghost use Rattle.proof_writer.specs.PlainNames.{HasPlainNames};
 ghost use Rattle.mm_claims.specs.Places.{IsStated, MayProve, StatesLemma};
 ghost use Rattle.proof_writer.specs.Writing.{Adds, Begins, Concludes, HasWritten, HasWrittenAll, Keeps, MayFollow};
 ghost use Rattle.proof_writer.specs.Writing.{context_of};
+ghost use Rattle.proof_writer.specs.WritingOn.{WritesOn};
 
 use ml_kernel::{AxiomNo, Theory, Thm};
-use ml_pat::Names;
+use ml_pat::{MForm, MPat, Names};
 use mm_claims::later_laws;
-use mm_justify::{image_laws, justifying_laws};
+use mm_justify::{counting_laws, image_laws, justifying_laws};
 use mm_render::Renderer;
 use rule_core::Program;
 use std::alloc::{AllocError, Global};
+
+// How many statements the header has.
+const HEADER_STATEMENTS: u64 = 88;
 
 /// What was made for the proof of a run: a program, and the names, the axioms and the lemmas.
 #[derive(Clone, Copy)]
@@ -30,7 +36,8 @@ pub struct Made<'a> {
     pub lemmas: &'a [Thm],
 }
 
-/// How much of what was made is written: what the renderer keeps of it, and how many of the axioms and of the lemmas.
+/// How much of what was made is written: what the renderer keeps of it, how many of the axioms and of the lemmas, and
+/// the counts of the text.
 #[derive(Drop)]
 pub struct Writer {
     /// What it keeps of the text.
@@ -39,21 +46,28 @@ pub struct Writer {
     pub axioms: u64,
     /// How many lemmas were stated.
     pub lemmas: u64,
+    /// How many statements the text has, 2^64 - 1 where it has more.
+    pub statements: u64,
+    /// How many of them are facts on built-ins, 2^64 - 1 where they are more.
+    pub facts: u64,
 }
 
 impl Writer {
     /// Appends the header. The error: out of memory; what was appended then is a part of it.
     pub fn begin(alloc: Global, program: &Program, to: &mut Vec<u8>) -> Result<Writer, AllocError>
         ensures written { IfOk result (λ w. HasWrittenAll w (new_context program.now)) }
-        ensures text { IfOk result (λ w. Begins (new_context program.now) w.renderer to.old.items to.new.items) }
+        ensures text { IfOk result (λ w. Begins (new_context program.now) w to.old.items to.new.items) }
     {
         justifying_laws();
+        counting_laws();
         let mut renderer = Renderer::new(alloc);
         renderer.begin(to)?;
         Ok(Writer {
             renderer,
             axioms: 0,
             lemmas: 0,
+            statements: HEADER_STATEMENTS,
+            facts: 0,
         })
     }
 
@@ -66,7 +80,7 @@ impl Writer {
         ensures all { OnOk result (HasWrittenAll self.new (context_of made.now)) }
         ensures keeps { OnOk result (Keeps self.old.renderer self.new.renderer) }
         ensures text { OnOk result
-            (Adds (context_of made.now) self.old.renderer self.new.renderer to.old.items to.new.items) }
+            (Adds (context_of made.now) self.old self.new to.old.items to.new.items) }
     {
         self.declare(made, to)?;
         self.write_axioms(made, to)?;
@@ -78,17 +92,17 @@ impl Writer {
         requires names { HasPlainNames made.now.program.now.sig }
         requires context { IsContext (context_of made.now) }
         requires written { HasWritten self.old (context_of made.now) }
-        ensures written { OnOk result (HasWritten self.new (context_of made.now)) }
-        ensures named { OnOk result (self.new.renderer.named ≡ length made.now.names.now) }
-        ensures keeps { OnOk result (Keeps self.old.renderer self.new.renderer) }
-        ensures text { OnOk result
-            (Adds (context_of made.now) self.old.renderer self.new.renderer to.old.items to.new.items) }
+        ensures writes { OnOk result
+            (WritesOn (context_of made.now) self.old self.new to.old.items to.new.items) }
     {
         justifying_laws();
+        counting_laws();
         made.names.tokens_differ();
-        // Its contract tells that there are fewer than 2^64.
-        let _count = made.names.count();
-        self.renderer.declare(made.names, to)
+        let count = made.names.count();
+        let before = self.renderer.declared();
+        self.renderer.declare(made.names, to)?;
+        self.statements = self.statements.saturating_add(count - before);
+        Ok(())
     }
 
     // States the axioms that are new.
@@ -96,12 +110,9 @@ impl Writer {
         requires context { IsContext (context_of made.now) }
         requires written { HasWritten self.old (context_of made.now) }
         requires named { self.old.renderer.named ≡ length made.now.names.now }
-        ensures written { OnOk result (HasWritten self.new (context_of made.now)) }
-        ensures named { OnOk result (self.new.renderer.named ≡ length made.now.names.now) }
+        ensures writes { OnOk result
+            (WritesOn (context_of made.now) self.old self.new to.old.items to.new.items) }
         ensures all { OnOk result (self.new.axioms ≡ length made.now.theory.now) }
-        ensures keeps { OnOk result (Keeps self.old.renderer self.new.renderer) }
-        ensures text { OnOk result
-            (Adds (context_of made.now) self.old.renderer self.new.renderer to.old.items to.new.items) }
     {
         for no in self.axioms..made.theory.len() {
             self.axiom(made, no, to)?;
@@ -116,21 +127,22 @@ impl Writer {
         requires next { self.old.axioms ≡ no }
         requires written { HasWritten self.old (context_of made.now) }
         requires named { self.old.renderer.named ≡ length made.now.names.now }
-        ensures written { OnOk result (HasWritten self.new (context_of made.now)) }
-        ensures named { OnOk result (self.new.renderer.named ≡ length made.now.names.now) }
+        ensures writes { OnOk result
+            (WritesOn (context_of made.now) self.old self.new to.old.items to.new.items) }
         ensures one { OnOk result (self.new.axioms ≡ no + 1) }
-        ensures keeps { OnOk result (Keeps self.old.renderer self.new.renderer) }
-        ensures text { OnOk result
-            (Adds (context_of made.now) self.old.renderer self.new.renderer to.old.items to.new.items) }
     {
         image_laws();
         justifying_laws();
+        counting_laws();
         later_laws();
         // Its contract tells that there are fewer than 2^64.
         let _count = made.theory.len();
         self.renderer
             .axiom(made.names, made.theory, AxiomNo(no), to)?;
         self.axioms = no + 1;
+        self.statements = self.statements.saturating_add(1);
+        let fact = is_fact(made.theory.at(AxiomNo(no)));
+        self.facts = self.facts.saturating_add(u64::from(fact));
         Ok(())
     }
 
@@ -140,10 +152,9 @@ impl Writer {
         requires written { HasWritten self.old (context_of made.now) }
         requires named { self.old.renderer.named ≡ length made.now.names.now }
         requires axioms { self.old.axioms ≡ length made.now.theory.now }
+        ensures writes { OnOk result
+            (WritesOn (context_of made.now) self.old self.new to.old.items to.new.items) }
         ensures all { OnOk result (HasWrittenAll self.new (context_of made.now)) }
-        ensures keeps { OnOk result (Keeps self.old.renderer self.new.renderer) }
-        ensures text { OnOk result
-            (Adds (context_of made.now) self.old.renderer self.new.renderer to.old.items to.new.items) }
     {
         for place in self.lemmas..made.lemmas.len() as u64 {
             self.lemma(made, place, to)?;
@@ -159,13 +170,10 @@ impl Writer {
         requires written { HasWritten self.old (context_of made.now) }
         requires named { self.old.renderer.named ≡ length made.now.names.now }
         requires axioms { self.old.axioms ≡ length made.now.theory.now }
-        ensures written { OnOk result (HasWritten self.new (context_of made.now)) }
-        ensures named { OnOk result (self.new.renderer.named ≡ length made.now.names.now) }
+        ensures writes { OnOk result
+            (WritesOn (context_of made.now) self.old self.new to.old.items to.new.items) }
         ensures axioms { OnOk result (self.new.axioms ≡ length made.now.theory.now) }
         ensures one { OnOk result (self.new.lemmas ≡ place + 1) }
-        ensures keeps { OnOk result (Keeps self.old.renderer self.new.renderer) }
-        ensures text { OnOk result
-            (Adds (context_of made.now) self.old.renderer self.new.renderer to.old.items to.new.items) }
     {
         image_laws();
         later_laws();
@@ -190,9 +198,9 @@ impl Writer {
         ensures stated { OnOk result
             (IsStated (all_stated self.new.renderer) thm.now.hypotheses thm.now.conclusion) }
         ensures text { OnOk result
-            (Adds (context_of made.now) self.old.renderer self.new.renderer to.old.items to.new.items) }
+            (Adds (context_of made.now) self.old self.new to.old.items to.new.items) }
         ensures concludes { OnOk result
-            (Concludes (context_of made.now) self.old.renderer thm.now to.old.items to.new.items) }
+            (Concludes (context_of made.now) self.old thm.now to.old.items to.new.items) }
     {
         justifying_laws();
         image_laws();
@@ -207,14 +215,18 @@ impl Writer {
         requires proved { MayProve made.now.names.now self.old.renderer thm.now }
         ensures kept { OnOk result (self.new ≡ record self.old {
           renderer = with_stated self.old.renderer (claim_of thm.now.hypotheses thm.now.conclusion);
+          statements = capped (self.old.statements + 1);
         }) }
         ensures keeps { OnOk result (Keeps self.old.renderer self.new.renderer) }
         ensures text { OnOk result
-            (Adds (context_of made.now) self.old.renderer self.new.renderer to.old.items to.new.items) }
+            (Adds (context_of made.now) self.old self.new to.old.items to.new.items) }
     {
         justifying_laws();
+        counting_laws();
         later_laws();
-        self.renderer.lemma(made.names, thm, to)
+        self.renderer.lemma(made.names, thm, to)?;
+        self.statements = self.statements.saturating_add(1);
+        Ok(())
     }
 
     // .. in the place of the last theorem of the run.
@@ -225,11 +237,22 @@ impl Writer {
             to.old.items to.new.items) }
         ensures kept { OnOk result (self.new ≡ record self.old {
           renderer = with_last self.old.renderer (claim_of thm.now.hypotheses thm.now.conclusion);
+          statements = capped (self.old.statements + 1);
         }) }
         ensures text { OnOk result
-            (Adds (context_of made.now) self.old.renderer self.new.renderer to.old.items to.new.items) }
+            (Adds (context_of made.now) self.old self.new to.old.items to.new.items) }
     {
         justifying_laws();
-        self.renderer.theorem(made.names, thm, to)
+        counting_laws();
+        self.renderer.theorem(made.names, thm, to)?;
+        self.statements = self.statements.saturating_add(1);
+        Ok(())
     }
+}
+
+// Whether a pattern says of one that it is an element of a sort, or of two that they are equal.
+fn is_fact(pattern: &MPat) -> bool
+    ensures { result ≡ is_fact_form pattern.now }
+{
+    matches!(pattern.form(), MForm::Equal(..) | MForm::Fun(..))
 }

@@ -7,7 +7,8 @@ use Rattle.proof_writer.proofs.WritingLaws.{nothing_written}
 use Rattle.proof_writer.proofs.writer.Writer.begin.Goals as goal
 
 pub returns-clause-written : goal.returns-clause-written
-returns-clause-written c = nothing_written c.args.program.now (record { renderer = c.begin.new.self; axioms = 0; lemmas = 0 }) c.in_ok-begin.ensures.kept refl refl
+returns-clause-written c =
+    nothing_written c.args.program.now (record { renderer = c.begin.new.self; axioms = 0; lemmas = 0; statements = 88; facts = 0 }) c.in_ok-begin.ensures.kept refl refl
 
 pub returns-clause-text : goal.returns-clause-text
 returns-clause-text c = (
@@ -16,5 +17,6 @@ returns-clause-text c = (
   record {
     fits = c.in_ok-begin.ensures.fits [] [] (subst (λ (k : Kept). Fits [] k []) (sym c.new-renderer.ensures) refl);
     only = c.justifying_laws.ensures.header (theory_of c.args.program.now);
+    counts = c.counting_laws.ensures.header;
   },
 )

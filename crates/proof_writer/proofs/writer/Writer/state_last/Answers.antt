@@ -1,19 +1,20 @@
 use Rattle.rule_core.specs.ProgramView.{theory_of}
-use Rattle.proof_writer.proofs.WritingLaws.{on_one}
+use Rattle.proof_writer.proofs.CountLaws.{more_statements}
 use Rattle.proof_writer.proofs.writer.Writer.state_last.Goals as goal
 
 pub returns-clause-text : goal.returns-clause-text
 returns-clause-text c =
     let w = c.args.self.now in
     let names = c.args.made.now.names.now in
-    on_one c.theorem.result
-    (λ states. (
+    let states = c.in_ok-theorem.ensures.states in (
       _,
       states.appended,
       λ text h. record {
         fits = c.justifying_laws.ensures.anywhere names w.renderer c.theorem.new.self c.args.thm.now c.args.to.now.items c.theorem.new.to.items text _ states states.appended c.requires.proved h.fits;
         only = c.justifying_laws.ensures.theorem (theory_of c.args.made.now.program.now) names w.renderer c.theorem.new.self c.args.thm.now c.args.to.now.items c.theorem.new.to.items text _ states states.appended
             c.requires.proved h.fits h.only;
+        counts = more_statements w.facts w.statements _ 1 text _ h.counts
+            (c.counting_laws.ensures.theorem names w.renderer c.theorem.new.self c.args.thm.now c.args.to.now.items c.theorem.new.to.items text _ states states.appended c.requires.proved h.fits)
+            c.saturating_add-self.ensures;
       },
-    ))
-    c.theorem.ensures.states
+    )

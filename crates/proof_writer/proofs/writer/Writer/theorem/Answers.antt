@@ -26,7 +26,8 @@ returns-clause-all c =
     (λ is.
     let kept = ap (λ (v : Writer). v.renderer) is in
     record {
-      written = written_more cx w new c.requires.all.written (ap (λ (k : Kept). k.begun) kept) (subst (λ (k : Kept). k.named ≤ length cx.names) (sym kept) c.requires.all.written.named)
+      written = written_more cx w new c.requires.all.written (ap (λ (k : Kept). k.begun) kept)
+          (subst (λ (k : Kept). k.named ≤ length cx.names) (sym kept) c.requires.all.written.named)
           (ap (λ (v : Writer). v.axioms) is) (ap (λ (v : Writer). v.lemmas) is) (λ hs q h. subst (λ (k : Kept). IsStated k.stated hs q) (sym kept) h);
       names = ap (λ (k : Kept). k.named) kept ∙ c.requires.all.names;
       axioms = ap (λ (v : Writer). v.axioms) is ∙ c.requires.all.axioms;
