@@ -10,10 +10,13 @@ use Rattle.prove_term.proofs.ContextLaws.{grown_none, grown_twice, image_grown, 
 use Rattle.prove_schema.proofs.ElementLaws.{pattern_grown, sort_grown}
 use Rattle.prove_fun.specs.KeptLemmas.{IsKeptIn}
 use Rattle.prove_fun.proofs.KeptLaws.{kept_grown}
+use Rattle.prove_step.specs.KeptSides.{AreSideLemmas}
 use Rattle.prove_step.specs.ProverView.{AreLemmas}
 use Rattle.prove_step.specs.RuleLemmas.{AreNumbers, SaysRuleSchema, SaysSchemaAt, IsLemmaOf, AreRuleLemmas}
+use Rattle.prove_step.specs.declared.side_lemmas.SideLemmas.{SideLemmas}
+use Rattle.prove_step.proofs.SideLaws.{side_lemmas_grown}
 
-pub ruleset growing = (grown_none, grown_twice, kept_grown)
+pub ruleset growing = (grown_none, grown_twice, kept_grown, side_lemmas_grown)
 
 pub numbers_grown : (old new : Context) (ss ns : List ℕ) → HasGrown old new → AreNumbers old.program.sig old.names ss ns → AreNumbers new.program.sig new.names ss ns
 numbers_grown old new [] [] g are = tt
@@ -49,12 +52,23 @@ rule_lemmas_grown : (old new : Context) (places : List (Option ℕ)) → HasGrow
 rule_lemmas_grown old new places g are i k there = lemma_of_grown old new i k g (are i k there)
 
 -- other places of equations may be kept then
-pub lemmas_after : (old new : Context) (places : List (Option ℕ)) (kept more : List ((ℕ × ℕ) × ℕ)) → HasGrown old new → AreLemmas old places kept → IsKeptIn new more → AreLemmas new places more
-lemmas_after old new places kept more g are is = record {
+pub lemmas_after : (old new : Context) (places : List (Option ℕ)) (kept more : List ((ℕ × ℕ) × ℕ)) (sides : SideLemmas) → HasGrown old new → AreLemmas old places kept sides → IsKeptIn new more → AreLemmas new places more sides
+lemmas_after old new places kept more sides g are is = record {
   room = are.room ∙ sym (ap (λ (p : Program). length p.rules.items) g.program);
   rules = rule_lemmas_grown old new places g are.rules;
   equations = is;
+  sides = side_lemmas_grown old new sides g are.sides;
 }
 
-pub lemmas_grown : (old new : Context) (places : List (Option ℕ)) (kept : List ((ℕ × ℕ) × ℕ)) → HasGrown old new → AreLemmas old places kept → AreLemmas new places kept
-lemmas_grown old new places kept g are = lemmas_after old new places kept kept g are (kept_grown old new kept g are.equations)
+-- .. and other lemmas for sides
+pub lemmas_turned : (old new : Context) (places : List (Option ℕ)) (kept more : List ((ℕ × ℕ) × ℕ)) (sides others : SideLemmas) → HasGrown old new → AreLemmas old places kept sides → IsKeptIn new more → AreSideLemmas new others
+    → AreLemmas new places more others
+lemmas_turned old new places kept more sides others g are is all = record {
+  room = are.room ∙ sym (ap (λ (p : Program). length p.rules.items) g.program);
+  rules = rule_lemmas_grown old new places g are.rules;
+  equations = is;
+  sides = all;
+}
+
+pub lemmas_grown : (old new : Context) (places : List (Option ℕ)) (kept : List ((ℕ × ℕ) × ℕ)) (sides : SideLemmas) → HasGrown old new → AreLemmas old places kept sides → AreLemmas new places kept sides
+lemmas_grown old new places kept sides g are = lemmas_after old new places kept kept sides g are (kept_grown old new kept g are.equations)

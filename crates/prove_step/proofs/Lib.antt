@@ -6,4 +6,6 @@ pub mod ApplyingLaws
 pub mod StepFacts
 pub mod ProverLaws
 pub mod MeetingLaws
+pub mod SideLaws
+pub mod TurningLaws
 pub mod NormalizingLaws

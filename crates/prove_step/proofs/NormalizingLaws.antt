@@ -1,20 +1,18 @@
 -- A step as it is written, and the same step between normal terms.
 use Rattle.std.proofs.Common.{◌≡◌, List, Option, Some, None, refl, sym, ◌∙◌, ap, subst}
 use Rattle.std.specs.Prelude.{IfSome}
-use Rattle.ml_pat.specs.Patterns.{Pattern, imp, equal, next, var}
-use Rattle.ml_pat.specs.Judgements.{substituted}
+use Rattle.ml_pat.specs.Patterns.{Pattern, imp, equal, next}
 use Rattle.ml_kernel.specs.Lemmas.{HasNoVariable, HasNoMeta}
 use Rattle.ml_kernel.specs.Theorems.{Theorem}
-use Rattle.ml_kernel.proofs.InstanceLaws.{substituted-without}
 use Rattle.ml_scope.specs.Scopes.{Scope, IsWithin}
-use Rattle.ml_derived.specs.Equalities.{CanCarry, IsCarried}
 use Rattle.term_core.specs.Terms.{Tree}
 use Rattle.term_core.specs.Patterns.{Pattern as RulePattern, instance_of, ground_pattern}
 use Rattle.term_core.specs.RulePatterns.{plain_pattern}
 use Rattle.rule_core.specs.Records.{StepRecord, result_of}
 use Rattle.rule_core.specs.Sorting.{IsTermOf}
-use Rattle.rule_core.specs.ProgramView.{rewrite_rule}
+use Rattle.rule_core.specs.ProgramView.{rewrite_rule, theory_of}
 use Rattle.rule_core.specs.declared.rules.Rule.{Rule}
+use Rattle.rule_core.specs.declared.rules.Program.{Program}
 use Rattle.rule_core.proofs.SortedInstances.{instance_is_sorted}
 use Rattle.ml_image.specs.Images.{image_of}
 use Rattle.ml_image.proofs.ImageLaws.{some_same}
@@ -26,58 +24,13 @@ use Rattle.prove_term.proofs.FillingLaws.{filled_written, written_there}
 use Rattle.prove_fun.specs.Valuing.{EqualsValue}
 use Rattle.prove_fun.proofs.Recording.{result_good}
 use Rattle.prove_step.specs.Applying.{SaysFilled, SaysFilledAt}
-use Rattle.prove_step.specs.Normalizing.{Turns, CanTurnLeft, CanTurnRight, TurnsLeft, TurnsRight, StaysTurned, SaysStepOf}
-use Rattle.prove_step.specs.Steps.{SaysStep}
+use Rattle.prove_step.specs.Normalizing.{SaysStepOf}
+use Rattle.prove_step.specs.Turning.{Turns, CanTurn, IsTurned, StaysTurned}
+use Rattle.prove_step.specs.Steps.{IsStepFrom, SaysStep}
+use Rattle.prove_step.specs.declared.side_lemmas.Side.TheVariants.{Left, Right}
 use Rattle.prove_schema.proofs.ElementLaws.{pattern_grown}
 use Rattle.prove_step.proofs.StepFacts.{StepFacts, facts_later, same_term}
 use Rattle.prove_step.proofs.StepLaws.{closed_term}
-
--- ---- contexts with a place
-
-pub at_left : (r u : Pattern) → HasNoVariable r → substituted (imp (var 0) (next r)) 0 u ≡ Some (imp u (next r))
-at_left r u closed = rw (substituted-without r 0 u closed) refl
-
-pub at_right : (p u : Pattern) → HasNoVariable p → substituted (imp p (next (var 0))) 0 u ≡ Some (imp p (next u))
-at_right p u closed = rw (substituted-without p 0 u closed) refl
-
-pub imp_parts : (p q r t : Pattern) → imp p q ≡ imp r t → (p ≡ r) × (q ≡ t)
-imp_parts p q r t e = (cc, cc)
-
-pub equal_parts : (p q r t : Pattern) → equal p q ≡ equal r t → (p ≡ r) × (q ≡ t)
-equal_parts p q r t e = (cc, cc)
-
-pub next_part : (p q : Pattern) → next p ≡ next q → p ≡ q
-next_part p q e = cc
-
--- what the rule that carries a step over asks for and gives, where the place is the left side
-pub carry_from : (e step : Theorem) (context before after : Pattern) → CanTurnLeft (Some e) step → step.conclusion ≡ imp before after → context ≡ imp (var 0) after → CanCarry e.conclusion context 0 step.conclusion
-carry_from e step context before after can says is =
-    let parts : (can.from ≡ before) × (next can.to ≡ after) = imp_parts can.from (next can.to) before after (sym can.says ∙ says) in
-    let whole : context ≡ imp (var 0) (next can.to) = is ∙ ap (imp (var 0)) (sym parts.1) in
-    let at : (u : Pattern) → substituted context 0 u ≡ Some (imp u (next can.to)) = λ u. ap (λ (q : Pattern). substituted q 0 u) whole ∙ at_left can.to u can.closed in
-    (can.from, (can.turned, (imp can.turned (next can.to), (can.turns, (at can.from ∙ ap (λ (q : Pattern). Some q) (sym can.says), at can.turned)))))
-
-pub carried_from : (e step t : Theorem) (context before after : Pattern) → CanTurnLeft (Some e) step → step.conclusion ≡ imp before after → context ≡ imp (var 0) after → IsCarried e.conclusion context 0 t.conclusion → TurnsLeft (Some e) step t
-carried_from e step t context before after can says is carried = λ p q r turns from.
-    let parts : (p ≡ before) × (next r ≡ after) = imp_parts p (next r) before after (sym from ∙ says) in
-    let to : can.to ≡ r = next_part can.to r (imp_parts can.from (next can.to) p (next r) (sym can.says ∙ from)).1 in
-    let whole : context ≡ imp (var 0) (next r) = is ∙ ap (imp (var 0)) (sym parts.1) in
-    some_same t.conclusion (imp q (next r)) (sym (carried p q turns) ∙ ap (λ (c : Pattern). substituted c 0 q) whole ∙ at_left r q (subst HasNoVariable to can.closed))
-
--- .. and where it is the right side
-pub carry_to : (e step : Theorem) (context before after : Pattern) → CanTurnRight (Some e) step → step.conclusion ≡ imp before after → context ≡ imp before (next (var 0)) → CanCarry e.conclusion context 0 step.conclusion
-carry_to e step context before after can says is =
-    let parts : (can.from ≡ before) × (next can.to ≡ after) = imp_parts can.from (next can.to) before after (sym can.says ∙ says) in
-    let whole : context ≡ imp can.from (next (var 0)) = is ∙ ap (λ (q : Pattern). imp q (next (var 0))) (sym parts.0) in
-    let at : (u : Pattern) → substituted context 0 u ≡ Some (imp can.from (next u)) = λ u. ap (λ (q : Pattern). substituted q 0 u) whole ∙ at_right can.from u can.closed in
-    (can.to, (can.turned, (imp can.from (next can.turned), (can.turns, (at can.to ∙ ap (λ (q : Pattern). Some q) (sym can.says), at can.turned)))))
-
-pub carried_to : (e step t : Theorem) (context before after : Pattern) → CanTurnRight (Some e) step → step.conclusion ≡ imp before after → context ≡ imp before (next (var 0)) → IsCarried e.conclusion context 0 t.conclusion → TurnsRight (Some e) step t
-carried_to e step t context before after can says is carried = λ p r q turns from.
-    let parts : (p ≡ before) × (next r ≡ after) = imp_parts p (next r) before after (sym from ∙ says) in
-    let same : can.from ≡ p = (imp_parts can.from (next can.to) p (next r) (sym can.says ∙ from)).0 in
-    let whole : context ≡ imp p (next (var 0)) = is ∙ ap (λ (c : Pattern). imp c (next (var 0))) (sym parts.0) in
-    some_same t.conclusion (imp p (next q)) (sym (carried r q turns) ∙ ap (λ (c : Pattern). substituted c 0 q) whole ∙ at_right p q (subst HasNoVariable same can.closed))
 
 -- ---- a side is turned into its normal form
 
@@ -144,16 +97,6 @@ turning old mid new step r left right written g k facts said turns_left turns_ri
       to_image = to.2;
     }
 
-pub can_turn_left : (cx : Context) (step : StepRecord) (r : Rule) (left right : Option Theorem) (written : Theorem) → Turning cx step r left right written → CanTurnLeft left written
-can_turn_left cx step r left right written w = record {
-  from = w.says.from;
-  turned = w.from;
-  to = w.says.to;
-  turns = w.from_turned;
-  says = w.says.says;
-  closed = w.says.no_variable.1;
-}
-
 -- no variable stands in what the sides are turned into
 from_closed : (cx : Context) (step : StepRecord) (r : Rule) (left right : Option Theorem) (written : Theorem) (w : Turning cx step r left right written) → HasNoVariable w.from × HasNoMeta w.from
 from_closed cx step r left right written w =
@@ -165,18 +108,28 @@ to_closed cx step r left right written w =
     let sorted : IsTermOf cx.program.sig (result_of step.right) w.facts.right.sort = (result_good cx.program step.theta (plain_pattern r.right) step.right w.facts.right).0 in
     closed_term cx.program.sig cx.names (result_of step.right) w.facts.right.sort w.to w.facts.ready.well_sorted.signature sorted w.to_image
 
-pub can_turn_right : (cx : Context) (step : StepRecord) (r : Rule) (left right : Option Theorem) (written t : Theorem) → Turning cx step r left right written → TurnsLeft left written t → CanTurnRight right t
+pub can_turn_left : (cx : Context) (step : StepRecord) (r : Rule) (left right : Option Theorem) (written : Theorem) → Turning cx step r left right written → CanTurn Left left written
+can_turn_left cx step r left right written w = record {
+  before = w.says.from;
+  after = w.from;
+  other = w.says.to;
+  turns = w.from_turned;
+  says = w.says.says;
+  closed = (w.says.no_variable.0, ((from_closed cx step r left right written w).0, (w.says.no_variable.1, tt)));
+}
+
+pub can_turn_right : (cx : Context) (step : StepRecord) (r : Rule) (left right : Option Theorem) (written t : Theorem) → Turning cx step r left right written → IsTurned Left left written t → CanTurn Right right t
 can_turn_right cx step r left right written t w turned = record {
-  from = w.from;
-  to = w.says.to;
-  turned = w.to;
+  before = w.says.to;
+  after = w.to;
+  other = w.from;
   turns = w.to_turned;
   says = turned w.says.from w.from w.says.to w.from_turned w.says.says;
-  closed = (from_closed cx step r left right written w).0;
+  closed = (w.says.no_variable.1, ((to_closed cx step r left right written w).0, ((from_closed cx step r left right written w).0, tt)));
 }
 
 -- the step between the normal terms
-pub step_turned : (cx : Context) (step : StepRecord) (r : Rule) (left right : Option Theorem) (written t u : Theorem) → Turning cx step r left right written → TurnsLeft left written t → TurnsRight right t u → SaysStepOf cx step u.conclusion
+pub step_turned : (cx : Context) (step : StepRecord) (r : Rule) (left right : Option Theorem) (written t u : Theorem) → Turning cx step r left right written → IsTurned Left left written t → IsTurned Right right t u → SaysStepOf cx step u.conclusion
 step_turned cx step r left right written t u w turned_left turned_right = λ a from.
     subst (λ (x : Tree). SaysStep cx x (result_of step.right) u.conclusion) (same_term cx.program step r a w.facts from) whole
   where
@@ -189,7 +142,7 @@ step_turned cx step r left right written t u w turned_left turned_right = λ a f
       from_image = w.from_image;
       to = w.to;
       to_image = w.to_image;
-      says = turned_right w.from w.says.to w.to w.to_turned middle;
+      says = turned_right w.says.to w.to w.from w.to_turned middle;
       no_variable = ((from_closed cx step r left right written w).0, (to_closed cx step r left right written w).0);
       no_meta = ((from_closed cx step r left right written w).1, (to_closed cx step r left right written w).1);
     }
@@ -200,9 +153,26 @@ within_there : (s : Scope) (cx : Context) (o : Option Theorem) → HasContext s 
 within_there s cx None has stays = tt
 within_there s cx (Some e) has stays = stays s has
 
-pub turned_stays : (old mid new : Context) (left right : Option Theorem) (written t u : Theorem) → HasGrown old mid → HasGrown mid new → StaysIn old written → IfSome left (StaysIn mid) → IfSome right (StaysIn new)
-    → StaysTurned left written t → StaysTurned right t u → StaysIn new u
-turned_stays old mid new left right written t u g k stays on_left on_right turned_left turned_right s has =
-    let before : HasContext s mid = has_before mid new s k has in
-    turned_right s (has.objects 0, tt) (within_there s new right has on_right)
-    (turned_left s (has.objects 0, tt) (within_there s mid left before on_left) (stays s (has_before old mid s g before)))
+-- the contexts are those in which the theorems were made, in turn
+pub turned_stays : (old mid new first last : Context) (left right : Option Theorem) (written t u : Theorem) → HasGrown old mid → HasGrown mid new → HasGrown new first → HasGrown first last → StaysIn old written → IfSome left (StaysIn mid) → IfSome right (StaysIn new)
+    → StaysTurned first left written t → StaysTurned last right t u → StaysIn last u
+turned_stays old mid new first last left right written t u g k l m stays on_left on_right turned_left turned_right s has =
+    let at_first : HasContext s first = has_before first last s m has in
+    let at_new : HasContext s new = has_before new first s l at_first in
+    let at_mid : HasContext s mid = has_before mid new s k at_new in
+    turned_right s has (within_there s new right at_new on_right)
+    (turned_left s at_first (within_there s mid left at_mid on_left) (stays s (has_before old mid s g at_mid)))
+
+-- .. and says the same in a context that has grown
+pub says_step_grown : (old new : Context) (step : StepRecord) (p : Pattern) → HasGrown old new → SaysStepOf old step p → SaysStepOf new step p
+says_step_grown old new step p g says = λ t from.
+    let s : SaysStep old t (result_of step.right) p = says t (subst (λ (program : Program). IsStepFrom (theory_of program) t step) g.program from) in
+    record {
+      from = s.from;
+      from_image = pattern_grown old new (ground_pattern t) s.from g s.from_image;
+      to = s.to;
+      to_image = pattern_grown old new (ground_pattern (result_of step.right)) s.to g s.to_image;
+      says = s.says;
+      no_variable = s.no_variable;
+      no_meta = s.no_meta;
+    }

@@ -5,4 +5,7 @@ pub mod RuleLemmas
 pub mod Applying
 pub mod Meeting
 pub mod Normalizing
+pub mod SideLemmas
+pub mod KeptSides
+pub mod Turning
 pub mod ProverView

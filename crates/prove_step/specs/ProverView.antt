@@ -3,16 +3,21 @@ use Rattle.std.specs.Prelude.{◌≡◌, ℕ, List, Option, length}
 use Rattle.prove_term.specs.Contexts.{Context}
 use Rattle.prove_fun.specs.KeptLemmas.{IsKeptIn}
 use Rattle.prove_step.specs.declared.prover.Prover.TheInside.{Inside}
+use Rattle.prove_step.specs.KeptSides.{AreSideLemmas}
 use Rattle.prove_step.specs.RuleLemmas.{AreRuleLemmas}
+use Rattle.prove_step.specs.declared.side_lemmas.SideLemmas.{SideLemmas}
 
 abbrev pub context_of : Inside → Context
 context_of a = a.cx
 
--- a place may be kept for each rule, and the lemma there is that of the rule; so are those that are kept for equations
-pub record AreLemmas (cx : Context) (places : List (Option ℕ)) (kept : List ((ℕ × ℕ) × ℕ)) : Type 0 where
+-- a place may be kept for each rule, and the lemma there is that of the rule; so are those that are kept for
+-- equations, and those for the sides of steps
+pub record AreLemmas (cx : Context) (places : List (Option ℕ)) (kept : List ((ℕ × ℕ) × ℕ)) (lemmas : SideLemmas) :
+    Type 0 where
   pub room : length places ≡ length cx.program.rules.items
   pub rules : AreRuleLemmas cx places
   pub equations : IsKeptIn cx kept
+  pub sides : AreSideLemmas cx lemmas
 
 abbrev pub HasLemmas : Inside → Type 0
-HasLemmas a = AreLemmas a.cx a.rules.items a.kept
+HasLemmas a = AreLemmas a.cx a.rules.items a.kept a.sides

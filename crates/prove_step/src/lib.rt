@@ -8,5 +8,7 @@ mod meeting;
 mod normalizing;
 mod prover;
 mod schemas;
+mod side_lemmas;
+mod turning;
 
 pub use prover::Prover;

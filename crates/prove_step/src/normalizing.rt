@@ -1,7 +1,5 @@
 // The step of a rule as it is written, carried to terms in which no two injections meet, and to the right side's value.
-ghost use Rattle.std.specs.Prelude.{◌∷◌, ℕ, List, [], IfOk, IfSome, Some};
-ghost use Rattle.ml_pat.specs.Patterns.{var};
-ghost use Rattle.ml_scope.specs.Scopes.{StaysWithin};
+ghost use Rattle.std.specs.Prelude.{ℕ, List, IfOk, IfSome};
 ghost use Rattle.term_core.specs.Patterns.{FitsWithin};
 ghost use Rattle.term_core.specs.RulePatterns.{plain_pattern};
 ghost use Rattle.rule_core.specs.Evaluation.{most_height};
@@ -13,21 +11,18 @@ ghost use Rattle.prove_term.specs.Contexts.{HasGrown, StaysIn};
 ghost use Rattle.prove_term.specs.EqualImages.{SaysEqualImages};
 ghost use Rattle.prove_fun.specs.KeptLemmas.{IsKeptIn};
 ghost use Rattle.prove_step.specs.Applying.{IsStepOf, SaysFilledAt};
-ghost use Rattle.prove_step.specs.Normalizing.{CanTurnLeft, CanTurnRight, SaysStepOf, StaysTurned};
-ghost use Rattle.prove_step.specs.Normalizing.{TurnsLeft, TurnsRight};
+ghost use Rattle.prove_step.specs.KeptSides.{AreSideLemmas};
+ghost use Rattle.prove_step.specs.Normalizing.{SaysStepOf};
 
 use crate::meeting::meet_in;
-use ml_derived::carry;
+use crate::side_lemmas::{Side, SideLemmas};
+use crate::turning::turned;
 use ml_kernel::Thm;
-use ml_pat::{MForm, MPat, VarNo};
 use prove_fun::{Kept, eval_eq};
 use prove_term::{Cx, inj_eq};
 use rule_core::StepRecord;
 use std::alloc::{AllocError, Global};
 use term_core::{RulePat, Subst};
-
-// The variable that marks the place in the contexts made here.
-const HOLE: VarNo = VarNo(0);
 
 // The step that was recorded, from the theorem that says it of the rule's sides with terms in the places of the
 // variables.
@@ -35,6 +30,7 @@ pub(crate) fn normalized(
     alloc: Global,
     cx: &mut Cx<'_>,
     kept: &mut Kept,
+    lemmas: &mut SideLemmas,
     step: &StepRecord,
     written: Thm,
 ) -> Result<Thm, AllocError>
@@ -42,16 +38,18 @@ pub(crate) fn normalized(
     requires says { SaysFilledAt cx.old step.now.rule step.now.subst written.conclusion }
     requires stays { StaysIn cx.old written }
     requires kept { IsKeptIn cx.old kept.old }
+    requires lemmas { AreSideLemmas cx.old lemmas.old }
     ensures says { IfOk result (λ thm. SaysStepOf cx.new (plain_step step.now) thm.conclusion) }
     ensures stays { IfOk result (StaysIn cx.new) }
     ensures grown { HasGrown cx.old cx.new }
     ensures kept { IsKeptIn cx.new kept.new }
+    ensures lemmas { AreSideLemmas cx.new lemmas.new }
 {
     let sides = &cx.program().rules[step.rule as usize];
     let left = compared(alloc, cx, &sides.left, &step.subst)?;
     let right = eval_eq(alloc, cx, kept, &sides.right, &step.subst, &step.right)?;
-    let from = left_turned(alloc, &left, written)?;
-    right_turned(alloc, &right, from)
+    let from = turned(alloc, cx, lemmas, Side::Left, &left, written)?;
+    turned(alloc, cx, lemmas, Side::Right, &right, from)
 }
 
 // That the image of what a side becomes as it is written equals that of its normal form; nothing is made where no two
@@ -75,55 +73,4 @@ fn compared(
         return Ok(None);
     }
     inj_eq(alloc, cx, side, subst)
-}
-
-// The step from what its left side is turned into.
-fn left_turned(alloc: Global, equality: &Option<Thm>, step: Thm) -> Result<Thm, AllocError>
-    requires { CanTurnLeft equality.now step }
-    ensures conclusion { IfOk result (TurnsLeft equality.now step) }
-    ensures stays { IfOk result (StaysTurned equality.now step) }
-{
-    match equality {
-        Some(e) => from_other(alloc, e, &step),
-        None => Ok(step),
-    }
-}
-
-// The step to what its right side is turned into.
-fn right_turned(alloc: Global, equality: &Option<Thm>, step: Thm) -> Result<Thm, AllocError>
-    requires { CanTurnRight equality.now step }
-    ensures conclusion { IfOk result (TurnsRight equality.now step) }
-    ensures stays { IfOk result (StaysTurned equality.now step) }
-{
-    match equality {
-        Some(e) => to_other(alloc, e, &step),
-        None => Ok(step),
-    }
-}
-
-// `q -> next r`, from `p = q` and `p -> next r`.
-fn from_other(alloc: Global, e: &Thm, step: &Thm) -> Result<Thm, AllocError>
-    requires { CanTurnLeft (Some e.now) step.now }
-    ensures conclusion { IfOk result (TurnsLeft (Some e.now) step.now) }
-    ensures stays { IfOk result (StaysWithin (var 0 ∷ []) (e.now ∷ step.now ∷ [])) }
-{
-    let MForm::Imp(_, after) = step.conclusion().form() else {
-        unreachable!()
-    };
-    let context = MPat::imp(alloc, &MPat::var(alloc, HOLE)?, after)?;
-    carry(alloc, e, &context, HOLE, step)
-}
-
-// `p -> next q`, from `r = q` and `p -> next r`.
-fn to_other(alloc: Global, e: &Thm, step: &Thm) -> Result<Thm, AllocError>
-    requires { CanTurnRight (Some e.now) step.now }
-    ensures conclusion { IfOk result (TurnsRight (Some e.now) step.now) }
-    ensures stays { IfOk result (StaysWithin (var 0 ∷ []) (e.now ∷ step.now ∷ [])) }
-{
-    let MForm::Imp(before, _) = step.conclusion().form() else {
-        unreachable!()
-    };
-    let place = MPat::next(alloc, &MPat::var(alloc, HOLE)?)?;
-    let context = MPat::imp(alloc, before, &place)?;
-    carry(alloc, e, &context, HOLE, step)
 }

@@ -21,6 +21,7 @@ use crate::applying::applied;
 use crate::conditions::condition_held;
 use crate::normalizing::normalized;
 use crate::schemas::rule_schema;
+use crate::side_lemmas::SideLemmas;
 use ml_kernel::{Lemma, Thm};
 use ml_pat::MPat;
 use prove_fun::{Kept, eval_eq};
@@ -39,6 +40,8 @@ pub struct Prover<'p> {
     rules: Vec<Option<usize>>,
     // The places of the lemmas of the equations that were used.
     kept: Kept,
+    // The lemmas by which a side of a step is turned into what it equals.
+    sides: SideLemmas,
 }
 
 impl<'p> Model for Prover<'p> {
@@ -68,6 +71,7 @@ impl<'p> Prover<'p> {
             cx: Cx::new(alloc, program),
             rules: no_lemmas(alloc, program.rules.len())?,
             kept: Kept::new(alloc),
+            sides: SideLemmas::none(),
         })
     }
 
@@ -140,7 +144,14 @@ impl<'p> Prover<'p> {
         let lemma = self.rule_lemma(alloc, step.rule)?;
         let condition = condition_held(alloc, &mut self.cx, &mut self.kept, step)?;
         let written = applied(alloc, &mut self.cx, &lemma, &step.subst, &condition)?;
-        normalized(alloc, &mut self.cx, &mut self.kept, step, written)
+        normalized(
+            alloc,
+            &mut self.cx,
+            &mut self.kept,
+            &mut self.sides,
+            step,
+            written,
+        )
     }
 
     // The lemma of a rule, which is made when it is first asked for.

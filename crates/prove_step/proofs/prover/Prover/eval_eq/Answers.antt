@@ -12,4 +12,4 @@ eval_eq-requires-clause-sorted c =
     (sym c.self.view_is) c.requires.sorted
 
 pub invariant_of-self : goal.invariant_of-self
-invariant_of-self c = lemmas_after c.self.inside.cx c.eval_eq.new.cx c.self.inside.rules.items c.self.inside.kept c.eval_eq.new.kept c.eval_eq.ensures.grown c.self.invariant c.eval_eq.ensures.kept
+invariant_of-self c = lemmas_after c.self.inside.cx c.eval_eq.new.cx c.self.inside.rules.items c.self.inside.kept c.eval_eq.new.kept c.self.inside.sides c.eval_eq.ensures.grown c.self.invariant c.eval_eq.ensures.kept

@@ -7,8 +7,9 @@ use Rattle.prove_term.proofs.ContextLaws.{grown_twice}
 use Rattle.prove_schema.proofs.ScopeLaws.{stays_no_hypotheses}
 use Rattle.prove_step.specs.Applying.{IsStepOf}
 use Rattle.prove_step.specs.RuleLemmas.{IsRuleLemma}
-use Rattle.prove_step.proofs.GrowthLaws.{lemmas_after, lemmas_grown}
+use Rattle.prove_step.proofs.GrowthLaws.{lemmas_after, lemmas_grown, lemmas_turned}
 use Rattle.prove_step.proofs.StepFacts.{step_image, step_later}
+use Rattle.prove_step.proofs.SideLaws.{side_lemmas_grown}
 use Rattle.prove_step.proofs.ProverLaws.{can_step_at, applied_sides, rule_lemma_later}
 use Rattle.prove_step.proofs.prover.Prover.step.Goals as goal
 
@@ -51,6 +52,11 @@ normalized-requires-clause-says c =
     (subst (λ (cx : Context). IsRuleLemma cx c.args.step.now.rule c.in_ok-lemma.lemma) (sym c.self.view_is) c.in_ok-lemma.ensures.lemma) in
     applied_sides c.condition_held.new.cx c.applied.new.cx (plain_step c.args.step.now) c.in_ok-lemma.lemma c.in_ok-condition.condition c.in_ok-written.written c.in_ok-written.ensures.grown later lemma c.in_ok-condition.ensures.says c.in_ok-written.ensures.says
 
+pub normalized-requires-clause-lemmas : goal.normalized-requires-clause-lemmas
+normalized-requires-clause-lemmas c =
+    side_lemmas_grown c.condition_held.new.cx c.applied.new.cx c.self.inside.sides c.applied.ensures.grown
+    (side_lemmas_grown c.self.inside.cx c.condition_held.new.cx c.self.inside.sides c.condition_held.ensures.grown c.self.invariant.sides)
+
 pub returns-clause-no_hypotheses : goal.returns-clause-no_hypotheses
 returns-clause-no_hypotheses c =
     if_ok (StaysIn c.normalized.new.cx) (λ (t : Theorem). t.hypotheses ≡ []) c.normalized.result
@@ -58,18 +64,18 @@ returns-clause-no_hypotheses c =
 
 pub invariant_of-self : goal.invariant_of-self
 invariant_of-self c =
-    lemmas_after c.self.inside.cx c.condition_held.new.cx c.self.inside.rules.items c.self.inside.kept c.condition_held.new.kept c.condition_held.ensures.grown c.self.invariant c.condition_held.ensures.kept
+    lemmas_after c.self.inside.cx c.condition_held.new.cx c.self.inside.rules.items c.self.inside.kept c.condition_held.new.kept c.self.inside.sides c.condition_held.ensures.grown c.self.invariant c.condition_held.ensures.kept
 
 pub invariant_of-self-in_err-written : goal.invariant_of-self-in_err-written
 invariant_of-self-in_err-written c =
-    lemmas_grown c.condition_held.new.cx c.applied.new.cx c.self.inside.rules.items c.condition_held.new.kept c.applied.ensures.grown
-    (lemmas_after c.self.inside.cx c.condition_held.new.cx c.self.inside.rules.items c.self.inside.kept c.condition_held.new.kept c.condition_held.ensures.grown c.self.invariant c.condition_held.ensures.kept)
+    lemmas_grown c.condition_held.new.cx c.applied.new.cx c.self.inside.rules.items c.condition_held.new.kept c.self.inside.sides c.applied.ensures.grown
+    (lemmas_after c.self.inside.cx c.condition_held.new.cx c.self.inside.rules.items c.self.inside.kept c.condition_held.new.kept c.self.inside.sides c.condition_held.ensures.grown c.self.invariant c.condition_held.ensures.kept)
 
 pub invariant_of-self-2 : goal.invariant_of-self-2
 invariant_of-self-2 c =
     let applied : HasGrown c.self.inside.cx c.applied.new.cx = grown_twice c.self.inside.cx c.condition_held.new.cx c.applied.new.cx c.condition_held.ensures.grown c.applied.ensures.grown in
-    lemmas_after c.self.inside.cx c.normalized.new.cx c.self.inside.rules.items c.self.inside.kept c.normalized.new.kept
-    (grown_twice c.self.inside.cx c.applied.new.cx c.normalized.new.cx applied c.normalized.ensures.grown) c.self.invariant c.normalized.ensures.kept
+    lemmas_turned c.self.inside.cx c.normalized.new.cx c.self.inside.rules.items c.self.inside.kept c.normalized.new.kept c.self.inside.sides c.normalized.new.lemmas
+    (grown_twice c.self.inside.cx c.applied.new.cx c.normalized.new.cx applied c.normalized.ensures.grown) c.self.invariant c.normalized.ensures.kept c.normalized.ensures.lemmas
 
 pub returns-in_err-written-clause-grown : goal.returns-in_err-written-clause-grown
 returns-in_err-written-clause-grown c =
