@@ -1,11 +1,13 @@
--- What stays true of what was written when a context grows, and of initial terms.
+-- What stays true of what was written when a context grows, and of terms without variables.
 use Rattle.std.proofs.Common.{◌≡◌, ℕ, ◌<◌, ◌≤◌, List, [], ◌∷◌, ◌++◌, Some, None, length, zero, suc, inl, inr, sym, subst, arith, length-append}
 use Rattle.std.specs.Prelude.{slice_get, Contains}
 use Rattle.std.proofs.lemmas.List.Elements.{Contains-append_left, Contains-append_right}
 use Rattle.ml_pat.specs.Patterns.{Pattern}
 use Rattle.ml_kernel.specs.Lemmas.{HasNoVariable}
 use Rattle.ml_kernel.specs.Theorems.{Theorem}
+use Rattle.term_core.specs.Terms.{Tree, Forest, leaf, node, inj, no_tree, more_trees}
 use Rattle.term_core.specs.Patterns.{Pattern as RulePattern, Patterns as RulePatterns, variable, domain_value, application, injection, call, no_pattern, more_patterns}
+use Rattle.term_core.specs.Patterns.{ground_pattern, ground_patterns}
 use Rattle.rule_core.specs.Matching.{StandsInSome}
 use Rattle.rule_core.specs.Sorting.{HasSort, HaveSorts}
 use Rattle.rule_core.specs.ProgramView.{theory_of}
@@ -14,10 +16,8 @@ use Rattle.rule_core.specs.declared.signature.SortRef.{SortRef}
 use Rattle.rule_core.specs.declared.rules.Program.{Program}
 use Rattle.ml_image.specs.Images.{image_of}
 use Rattle.ml_image.specs.HasImages.{HasImage, HaveImages}
-use Rattle.ml_image.specs.NamingLaws.{ImageStays}
-use Rattle.mm_claims.specs.Kept.{Kept}
 use Rattle.mm_claims.specs.Keeping.{Fits}
-use Rattle.mm_claims.specs.LaterLaws.{FitsLater}
+use Rattle.mm_claims.proofs.LaterLaws.{fits_later}
 use Rattle.mm_justify.specs.Justifying.{HasOnlyAxiomsOf}
 use Rattle.prove_term.specs.Contexts.{Context, HasGrown}
 use Rattle.prove_schema.specs.Schemas.{IsOpenFrom}
@@ -52,16 +52,12 @@ written_grown old new w h g =
       lemmas = λ i t few at. h.written.lemmas i t few (there_later old.lemmas g.lemmas new.lemmas i t g.more_lemmas (omega (arith, few, h.lemmas)) at);
     }
 
-pub text_grown : FitsLater → (old new : Context) (k : Kept) (text : List ℕ) → k.named ≤ length old.names → HasGrown old new → IsTextOf old k text → IsTextOf new k text
-text_grown later old new k text few g h = record {
-  fits = subst (λ (names : List (List ℕ)). Fits names k text) (sym g.names.all) (later old.names g.names.gained k text few h.fits);
+pub text_grown : (old new : Context) (w : Writer) (text : List ℕ) → w.renderer.named ≤ length old.names → HasGrown old new → IsTextOf old w text → IsTextOf new w text
+text_grown old new w text few g h = record {
+  fits = subst (λ (names : List (List ℕ)). Fits names w.renderer text) (sym g.names.all) (fits_later old.names g.names.gained w.renderer text few h.fits);
   only = subst (λ (p : Program). HasOnlyAxiomsOf (theory_of p) text) (sym g.program) h.only;
+  counts = h.counts;
 }
-
-pub image_grown : ImageStays → (old new : Context) (a : RulePattern) (p : Pattern) → HasGrown old new → image_of old.program.sig old.names a ≡ Some p → image_of new.program.sig new.names a ≡ Some p
-image_grown stays old new a p g h =
-    subst (λ (names : List (List ℕ)). image_of new.program.sig names a ≡ Some p) (sym g.names.all)
-    (subst (λ (q : Program). image_of q.sig (old.names ++ g.names.gained) a ≡ Some p) (sym g.program) (stays old.program.sig old.names g.names.gained a p h))
 
 pub lemma_grown : (old new : Context) (t : Theorem) → HasGrown old new → Contains old.lemmas t → Contains new.lemmas t
 lemma_grown old new t g there =
@@ -72,6 +68,19 @@ pub kept_lemma : (old new : Context) (t lemma : Theorem) → new ≡ record old 
 kept_lemma old new t lemma is same =
     subst (λ (cx : Context). Contains cx.lemmas lemma) (sym is)
     (Contains-append_right old.lemmas (t ∷ []) lemma (zero, omega arith, sym same))
+
+-- ---- terms without variables
+
+mutual
+  pub ground_has_none : (t : Tree) → HasNoVariables (ground_pattern t)
+  ground_has_none (leaf s v) x h = h
+  ground_has_none (node f ts) x h = ground_have_none ts x h
+  ground_has_none (inj a b t) x h = ground_has_none t x h
+
+  ground_have_none : (ts : Forest) (x : ℕ) → StandsInSome x (ground_patterns ts) → ⊥
+  ground_have_none no_tree x h = h
+  ground_have_none (more_trees t ts) x (inl h) = ground_has_none t x h
+  ground_have_none (more_trees t ts) x (inr h) = ground_have_none ts x h
 
 -- ---- initial terms
 

@@ -1,5 +1,6 @@
 pub mod ContextLaws
-pub mod FollowLaws
+pub mod GoingLaws
+pub mod ProofLaws
 pub mod WritingOn
 pub mod ReachLaws
 pub mod StartingLaws

@@ -10,7 +10,8 @@ use Rattle.mm_claims.specs.Kept.{Kept}
 use Rattle.mm_justify.specs.Justifying.{JustifiesRun}
 use Rattle.prove_term.specs.Contexts.{Context}
 use Rattle.proof_writer.specs.declared.writer.Made.{Made}
-use Rattle.proof_writer.specs.Writing.{context_of, Adds, Concludes, Keeps, MayFollow, IsTextOf}
+use Rattle.proof_writer.specs.declared.writer.Writer.{Writer}
+use Rattle.proof_writer.specs.Writing.{context_of, Adds, Concludes, Keeps, MayFollow}
 
 pub on_any : {T E : Type 0} {P : Type 0} (r : Result T E) → P → OnOk r P
 on_any (Ok x) p = p
@@ -40,15 +41,8 @@ added_same [] xs ys h = h
 added_same (b ∷ before) xs ys h = added_same before xs ys (tail_same b b (before ++ xs) (before ++ ys) h)
 
 -- what a theorem concludes after what was written before it
-pub concludes_after : (cx : Context) (a b c : Kept) (t : Theorem) (x y z : List ℕ) → Adds cx a b x y → Adds cx b c y z → Concludes cx b t y z → Concludes cx a t x z
+pub concludes_after : (cx : Context) (a b c : Writer) (t : Theorem) (x y z : List ℕ) → Adds cx a b x y → Adds cx b c y z → Concludes cx b t y z → Concludes cx a t x z
 concludes_after cx a b c t x y z (m, is, f) (n, is', g) concludes start end from to added text none none' image image' says whole h =
     let same : m ++ n ≡ added = added_same x (m ++ n) added (sym (append_assoc x m n) ∙ ap (λ (l : List ℕ). l ++ n) (sym is) ∙ sym is' ∙ whole) in
     subst (λ (l : List ℕ). JustifiesRun l (theory_of cx.program) start end) (append_assoc text m n ∙ ap (λ (l : List ℕ). text ++ l) same)
     (concludes start end from to n (text ++ m) none none' image image' says is' (f text h))
-
-pub adds_on : (cx : Context) (a b c : Kept) (x y z : List ℕ) → Adds cx a b x y → Adds cx b c y z → Adds cx a c x z
-adds_on cx a b c x y z (m, is, f) (n, is', g) = (
-  m ++ n,
-  is' ∙ ap (λ (l : List ℕ). l ++ n) is ∙ append_assoc x m n,
-  λ text t. subst (IsTextOf cx c) (append_assoc text m n) (g (text ++ m) (f text t)),
-)

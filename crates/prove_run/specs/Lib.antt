@@ -4,4 +4,5 @@ pub mod Proving
 -- Private: what clauses of private functions cite, and how private fields are seen.
 pub mod Reaching
 pub mod ReachLemma
+pub mod Going
 pub mod ProofView

@@ -19,6 +19,8 @@ run_proof p = record {
   made = p.reached;
   names = p.prover.names;
   kept = p.writer.renderer;
+  facts = p.writer.facts;
+  statements = p.writer.statements;
 }
 
 -- The program is well-sorted, its variables are bound, and its names can stand in a text; all that was made is written;

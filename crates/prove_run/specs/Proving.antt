@@ -11,15 +11,17 @@ use Rattle.rule_core.specs.declared.records.EvalRecord.{EvalRecord}
 use Rattle.rule_core.specs.declared.rules.Program.{Program}
 use Rattle.mm_claims.specs.Keeping.{Fits}
 use Rattle.mm_justify.specs.Justifying.{HasOnlyAxiomsOf, JustifiesRun}
+use Rattle.mm_justify.specs.Counting.{HasCounts}
 use Rattle.prove_step.specs.Steps.{IsStepFrom}
 use Rattle.prove_run.specs.RunProof.{RunProof, reached}
 
--- A text fits a proof: it is just what the proof keeps of it, it has only axioms of the program, and it justifies the
--- run from the start to the present configuration.
+-- A text fits a proof: it is just what the proof keeps of it, it has only axioms of the program, it justifies the run
+-- from the start to the present configuration, and the proof has its counts.
 pub record FitsProof (proof : RunProof) (text : List ℕ) : Type 0 where
   pub fits : Fits proof.names proof.kept text
   pub only : HasOnlyAxiomsOf (theory_of proof.program) text
   pub justifies : JustifiesRun text (theory_of proof.program) (plain_pattern proof.start) (reached proof)
+  pub counts : HasCounts proof.facts proof.statements text
 
 -- the value that a record tells, where there is one
 abbrev pub value_told : Option EvalRecord → Option Tree

@@ -33,15 +33,10 @@ pub record SaysReached (cx : Context) (start reached : RulePattern) (t : Theorem
   pub closed : HasNoVariable from × HasNoVariable to
   pub says : t.conclusion ≡ imp from (ev to)
 
--- The theorem that was stated last says that the image of the start reaches that of the present configuration.
+-- The theorem that was stated last assumes nothing and says that the image of the start, in which no variable stands,
+-- reaches that of the present configuration.
 pub record HasReached (cx : Context) (w : Writer) (last : Theorem) (start reached : RulePattern) : Type 0 where
-  pub from : Pattern
-  pub to : Pattern
-  pub from_image : image_of cx.program.sig cx.names start ≡ Some from
-  pub to_image : image_of cx.program.sig cx.names reached ≡ Some to
-  pub from_ground : HasNoVariables start
-  pub to_ground : HasNoVariables reached
-  pub closed : HasNoVariable from × HasNoVariable to
-  pub says : last.conclusion ≡ imp from (ev to)
+  pub says : SaysReached cx start reached last
+  pub ground : HasNoVariables start
   pub no_hypotheses : last.hypotheses ≡ []
   pub stated : IsStated (all_stated w.renderer) last.hypotheses last.conclusion

@@ -7,15 +7,17 @@ use Rattle.term_core.specs.declared.rule_patterns.RulePat.{RulePat}
 use Rattle.rule_core.specs.declared.rules.Program.{Program}
 use Rattle.mm_claims.specs.Kept.{Kept}
 
--- A proof that the start of a program's run reaches a configuration, with the names in its text and what is kept of the
--- text. `made` is that configuration: the value of the start, or what the last step made. A start without a value
--- reaches itself alone.
+-- A proof that the start of a program's run reaches a configuration, with the names in its text, what is kept of the
+-- text, and how many facts and statements it has. `made` is that configuration: the value of the start, or what the last
+-- step made. A start without a value reaches itself alone.
 pub record RunProof : Type 0 where
   pub program : Program
   pub start : RulePat
   pub made : Option Tree
   pub names : List (List ℕ)
   pub kept : Kept
+  pub facts : ℕ
+  pub statements : ℕ
 
 -- the present configuration, or the start where there is none
 abbrev pub configuration : Pattern → Option Tree → Pattern

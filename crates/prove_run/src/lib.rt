@@ -15,6 +15,7 @@
 #![tactic(auto)]
 
 mod further;
+mod going;
 mod proof;
 mod starting;
 

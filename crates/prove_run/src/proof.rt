@@ -14,11 +14,10 @@ ghost use Rattle.proof_writer.specs.Writing.{Adds, Concludes, HasWritten, HasWri
 ghost use Rattle.prove_run.specs.Proving.{Begins, CanStep, StepsTo, value_told};
 ghost use Rattle.prove_run.specs.ReachLemma.{IsReachLemma};
 
-use crate::further::{reach_further, reach_lemma};
+use crate::further::reach_lemma;
+use crate::going::goes_further;
 use crate::starting::start_reaches;
-use ml_image::{condition_laws, naming_laws};
 use ml_kernel::{Lemma, Thm};
-use mm_claims::later_laws;
 use mm_justify::image_laws;
 use proof_writer::{Made, Writer};
 use prove_step::Prover;
@@ -79,9 +78,6 @@ impl<'p> Proof<'p> {
         ensures { IfOk result (λ proof. Begins program.now start.now (value_told (option_copied value.entry)) proof
             to.old.items to.new.items) }
     {
-        condition_laws();
-        later_laws();
-        naming_laws();
         let mut prover = Prover::new(alloc, program)?;
         let mut writer = Writer::begin(alloc, program, to)?;
         let reach = keep_reach_lemma(alloc, &mut prover)?;
@@ -111,14 +107,9 @@ impl<'p> Proof<'p> {
         ensures { IfOk result (λ further.
             StepsTo self.entry further (result_of (plain_step step.now).right) to.old.items to.new.items) }
     {
-        image_laws();
-        later_laws();
-        naming_laws();
         let mut prover = self.prover;
         let mut writer = self.writer;
-        let moved = prover.step(alloc, step)?;
-        let sofar = Thm::use_lemma(alloc, &self.last, &[], &[])?;
-        let further = reach_further(alloc, &self.reach, &sofar, &moved)?;
+        let further = goes_further(alloc, &mut prover, &self.last, &self.reach, step)?;
         let last = state(&prover, &mut writer, further, to)?;
         let made = step.right.result().share()?;
         Ok(Proof {
@@ -129,6 +120,20 @@ impl<'p> Proof<'p> {
             last,
             reach: self.reach,
         })
+    }
+
+    /// How many facts on built-ins the text has, 2^64 - 1 where it has more.
+    pub fn facts(&self) -> u64
+        ensures { result ≡ self.now.facts }
+    {
+        self.writer.facts
+    }
+
+    /// How many `$a` and `$p` statements the text has, 2^64 - 1 where it has more.
+    pub fn statements(&self) -> u64
+        ensures { result ≡ self.now.statements }
+    {
+        self.writer.statements
     }
 }
 
@@ -170,8 +175,8 @@ fn state(
     ensures context { OnOk result (IsContext prover.now) }
     ensures all { OnOk result (HasWrittenAll writer.new prover.now) }
     ensures stated { OnOk result (IsStated (all_stated writer.new.renderer) thm.hypotheses thm.conclusion) }
-    ensures concludes { OnOk result (Concludes prover.now writer.old.renderer thm to.old.items to.new.items) }
-    ensures text { OnOk result (Adds prover.now writer.old.renderer writer.new.renderer to.old.items to.new.items) }
+    ensures concludes { OnOk result (Concludes prover.now writer.old thm to.old.items to.new.items) }
+    ensures text { OnOk result (Adds prover.now writer.old writer.new to.old.items to.new.items) }
 {
     image_laws();
     let cx = prover.cx();

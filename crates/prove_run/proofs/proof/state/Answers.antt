@@ -2,8 +2,8 @@ use Rattle.std.proofs.Common.{◌≡◌, ap, ◌∙◌, sym, subst}
 use Rattle.prove_term.specs.Contexts.{Context, IsContext}
 use Rattle.proof_writer.specs.Writing.{context_of, Adds, Concludes, MayFollow}
 use Rattle.proof_writer.specs.declared.writer.Made.{Made}
-use Rattle.proof_writer.proofs.WritingLaws.{theorem_assumes_nothing}
-use Rattle.prove_run.proofs.WritingOn.{on_any, same_context, follows_later, concludes_after, adds_on}
+use Rattle.proof_writer.proofs.WritingLaws.{theorem_assumes_nothing, adds_then}
+use Rattle.prove_run.proofs.WritingOn.{on_any, same_context, follows_later, concludes_after}
 use Rattle.prove_run.proofs.proof.state.Goals as goal
 
 pub write-requires-clause-context : goal.write-requires-clause-context
@@ -44,8 +44,8 @@ returns-clause-concludes c =
     let same : context_of made ≡ c.args.prover.now = same_context c.args.prover.now made (c.program.ensures ∙ ap (λ (x : Context). x.program) c.cx-cx.ensures) (c.names.ensures ∙ ap (λ (x : Context). x.names) c.cx-cx.ensures)
     (c.theory.ensures ∙ ap (λ (x : Context). x.axioms) c.cx-cx.ensures) (c.theorems.ensures ∙ ap (λ (x : Context). x.lemmas) c.cx-cx.ensures) in
     on_any c.close.result
-    (subst (λ (x : Context). Concludes x c.args.writer.now.renderer c.args.thm c.args.to.now.items c.theorem.new.to.items) same
-    (concludes_after (context_of made) c.args.writer.now.renderer c.write.new.self.renderer c.theorem.new.self.renderer c.args.thm c.args.to.now.items c.write.new.to.items c.theorem.new.to.items
+    (subst (λ (x : Context). Concludes x c.args.writer.now c.args.thm c.args.to.now.items c.theorem.new.to.items) same
+    (concludes_after (context_of made) c.args.writer.now c.write.new.self c.theorem.new.self c.args.thm c.args.to.now.items c.write.new.to.items c.theorem.new.to.items
     c.in_ok-write.ensures.text c.in_ok-theorem.ensures.text c.in_ok-theorem.ensures.concludes))
 
 pub returns-clause-text : goal.returns-clause-text
@@ -54,6 +54,6 @@ returns-clause-text c =
     let same : context_of made ≡ c.args.prover.now = same_context c.args.prover.now made (c.program.ensures ∙ ap (λ (x : Context). x.program) c.cx-cx.ensures) (c.names.ensures ∙ ap (λ (x : Context). x.names) c.cx-cx.ensures)
     (c.theory.ensures ∙ ap (λ (x : Context). x.axioms) c.cx-cx.ensures) (c.theorems.ensures ∙ ap (λ (x : Context). x.lemmas) c.cx-cx.ensures) in
     on_any c.close.result
-    (subst (λ (x : Context). Adds x c.args.writer.now.renderer c.theorem.new.self.renderer c.args.to.now.items c.theorem.new.to.items) same
-    (adds_on (context_of made) c.args.writer.now.renderer c.write.new.self.renderer c.theorem.new.self.renderer c.args.to.now.items c.write.new.to.items c.theorem.new.to.items
+    (subst (λ (x : Context). Adds x c.args.writer.now c.theorem.new.self c.args.to.now.items c.theorem.new.to.items) same
+    (adds_then (context_of made) c.args.writer.now c.write.new.self c.theorem.new.self c.args.to.now.items c.write.new.to.items c.theorem.new.to.items
     c.in_ok-write.ensures.text c.in_ok-theorem.ensures.text))

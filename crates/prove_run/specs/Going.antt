@@ -1,0 +1,35 @@
+-- How a run goes one step further, as theorems say it.
+use Rattle.std.specs.Prelude.{◌≡◌, [], Contains}
+use Rattle.term_core.specs.Terms.{Tree}
+use Rattle.term_core.specs.Patterns.{Pattern as RulePattern, ground_pattern}
+use Rattle.rule_core.specs.BoundVariables.{HasBoundVariables}
+use Rattle.rule_core.specs.ProgramView.{theory_of}
+use Rattle.rule_core.specs.Records.{StepRecord}
+use Rattle.rule_core.specs.WellSorted.{IsWellSorted}
+use Rattle.ml_kernel.specs.Theorems.{Theorem}
+use Rattle.ml_scope.specs.Scopes.{Scope, IsStatedIn, IsWithin}
+use Rattle.prove_term.specs.Contexts.{Context, HasContext, HasGrown}
+use Rattle.prove_step.specs.Steps.{IsStepFrom}
+use Rattle.prove_run.specs.Reaching.{SaysReached}
+use Rattle.prove_run.specs.ReachLemma.{IsReachLemma}
+
+-- The last theorem, which assumes nothing, says that a start reaches a term; the record tells a step from there; and
+-- the lemma by which a run goes further is one of the context's.
+pub record MayGoOn (cx : Context) (last reach : Theorem) (step : StepRecord) : Type 0 where
+  pub well_sorted : IsWellSorted (theory_of cx.program)
+  pub bound : HasBoundVariables cx.program
+  pub start : RulePattern
+  pub term : Tree
+  pub says : SaysReached cx start (ground_pattern term) last
+  pub no_hypotheses : last.hypotheses ≡ []
+  pub follows : IsStepFrom (theory_of cx.program) term step
+  pub is_reach : IsReachLemma reach
+  pub listed : Contains cx.lemmas reach
+
+-- The context has grown. Each start that reaches something by the last theorem reaches the term by this one, which
+-- stays in every scope that has the context and the last theorem as stated.
+pub record GoesOn (old new : Context) (last : Theorem) (u : Tree) (t : Theorem) : Type 0 where
+  pub grown : HasGrown old new
+  pub says : (start reached : RulePattern) → SaysReached old start reached last →
+      SaysReached new start (ground_pattern u) t
+  pub stays : (s : Scope) → HasContext s new → IsStatedIn s last.hypotheses last.conclusion → IsWithin s t
