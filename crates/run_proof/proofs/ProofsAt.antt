@@ -1,48 +1,38 @@
 -- A proof that has come as far as a run, with its text.
-use Rattle.std.proofs.Common.{◌≡◌, ◌≤◌, ℕ, true, List, [], ◌++◌, Option, Some, None, inl, inr, refl, sym, ◌∙◌, ap, subst}
+use Rattle.std.proofs.Common.{◌≡◌, ◌≤◌, ℕ, ◌+◌, ◌-◌, ◌^◌, min, true, List, [], ◌++◌, length, Option, Some, None, inl, inr, refl, sym, ◌∙◌, ap, subst, arith, length-append}
 use Rattle.std.specs.Prelude.{Result, Ok, Err, IfOk, OnOk, OnErr}
 use Rattle.std.proofs.lemmas.List.{append_assoc}
 use Rattle.term_core.specs.Terms.{Tree, height}
 use Rattle.term_core.specs.Patterns.{Pattern, ground_pattern}
 use Rattle.term_core.specs.RulePatterns.{plain_pattern}
-use Rattle.term_core.specs.declared.rule_patterns.RulePat.{RulePat}
 use Rattle.rule_core.specs.Theories.{RewriteTheory}
-use Rattle.rule_core.specs.Evaluation.{most_height, Evaluates, blocked}
-use Rattle.rule_core.specs.FirstRule.{most_nesting}
-use Rattle.rule_core.specs.RunView.{cause_of}
-use Rattle.rule_core.specs.declared.rules.Blocked.{Blocked}
+use Rattle.rule_core.specs.Evaluation.{most_height}
 use Rattle.rule_core.specs.ProgramView.{theory_of}
 use Rattle.rule_core.specs.Records.{StepRecord, RecordsStep}
 use Rattle.rule_core.specs.WellSorted.{IsStart}
 use Rattle.rule_core.specs.declared.rules.Program.{Program}
 use Rattle.mm_justify.specs.Justifying.{JustifiesRun}
+use Rattle.mm_justify.specs.Counting.{HasCounts, capped}
 use Rattle.prove_step.specs.Steps.{IsStepFrom}
 use Rattle.prove_run.specs.RunProof.{RunProof, configuration, reached}
-use Rattle.prove_run.specs.Proving.{Begins, CanStep, FitsProof, StepsTo}
+use Rattle.prove_run.specs.Proving.{CanStep, FitsProof, StepsTo}
 use Rattle.rule_core.specs.Runs.{Steps, next, Reaches}
 use Rattle.rewriter.specs.Configurations.{IsStartOf, RunState, IsConfiguration}
+use Rattle.run_proof.specs.declared.summaries.Summary.{Summary}
 use Rattle.run_proof.specs.declared.steps.ProvedSteps.{ProvedSteps}
+use Rattle.run_proof.specs.declared.steps.Left.{Left}
 use Rattle.run_proof.specs.declared.steps.Beginning.{Beginning}
 use Rattle.run_proof.specs.declared.steps.Beginning.TheVariants as beginning
 use Rattle.run_proof.specs.declared.steps.Going.{Going}
 use Rattle.run_proof.specs.declared.steps.Going.TheVariants as going
-use Rattle.run_proof.specs.ProvedSteps.{IsProofAt, IsProvedRun, BeginsAt, BeginsRun, IsUnstarted, GoesOn, IsFurther}
+use Rattle.run_proof.specs.ProvedSteps.{IsProofAt, IsProvedRun, IsLeftOf, JustifiesNoStep, BeginsAt, BeginsRun, GoesOn, IsFurther}
+use Rattle.run_proof.specs.HandedOn.{SumsUp}
 use Rattle.desk_io.specs.Told.{Told, TellsCreated, Writes, WritesFront}
 use Rattle.desk_io.proofs.Told.{Writes-nil, Writes-then}
 use Rattle.rule_core.specs.Runs.{Run, kept_by}
-use Rattle.run_proof.specs.WrittenProofs.{WritesFrontOfProof, WritesProof}
+use Rattle.run_proof.specs.WrittenProofs.{IsSummaryOf, WritesFrontOfProof, WritesProof}
 
--- a proof of no step has come as far as the value of the start, or where it has none as the start
-pub begun_at : (program : Program) (start : RulePat) (value : Option Tree) (proof : RunProof) (before text : List ℕ) → before ≡ [] → Begins program start value proof before text →
-    IsProofAt program (plain_pattern start) (configuration (plain_pattern start) value) proof text
-begun_at program start value proof before text none h = record {
-  same_program = h.same_program;
-  same_start = ap plain_pattern h.starts;
-  is_reached = ap (configuration (plain_pattern proof.start)) h.made ∙ ap (λ (r : RulePat). configuration (plain_pattern r) value) h.starts;
-  fits = subst (FitsProof proof) (sym (h.text.1 ∙ ap (λ (l : List ℕ). l ++ h.text.0) none)) h.text.2;
-}
-
--- so where the run begins
+-- a run begins where its proof does
 pub begins_run : (program : Program) (start : Pattern) (calls : ℕ) (run : RunState) (b : Beginning) → Reaches (theory_of program) start calls 0 run.config run.calls → IsConfiguration (theory_of program) run.config →
     BeginsAt program start run b → BeginsRun program start calls b
 begins_run program start calls run (beginning.Begun s) reached sorted h =
@@ -53,14 +43,7 @@ begins_run program start calls run (beginning.Begun s) reached sorted h =
         subst (λ (r : RunState). IsProofAt program start (ground_pattern r.config) s.proof s.text.items) same h.1,
       ),
     )
-begins_run program start calls run (beginning.Unstarted why text) reached sorted h = absurd h
-
--- .. and where the term has no value
-pub unstarted_run : (program : Program) (start : Pattern) (calls : ℕ) (why : Blocked) (b : Beginning) → Evaluates (theory_of program) most_nesting [] start calls (blocked (cause_of why)) → IsUnstarted program start why b →
-    BeginsRun program start calls b
-unstarted_run program start calls why (beginning.Begun s) ends h = absurd h
-unstarted_run program start calls why (beginning.Unstarted because text) ends h =
-    (subst (λ (x : Blocked). Evaluates (theory_of program) most_nesting [] start calls (blocked (cause_of x))) (sym h.0) ends, h.1)
+begins_run program start calls run (beginning.Unstarted why left) reached sorted h = absurd h
 
 -- ---- a step
 
@@ -116,6 +99,37 @@ justified program start at end proof text h last =
 pub start_of : (theory : RewriteTheory) (start : Pattern) → IsStart theory start → IsStartOf theory start
 start_of theory start h = (h.0, h.2, h.1)
 
+-- ---- the counts
+
+min-add : (n more most : ℕ) → min (min n most + more) most ≡ min (n + more) most
+min-add n more most = omega arith
+
+-- a sum that stays at its limit
+pub capped-add : (n more : ℕ) → capped (capped n + more) ≡ capped (n + more)
+capped-add n more = min-add n more (2 ^ 64 - 1)
+
+-- some more bytes were written, and counted
+pub counted_more : (written piece : List ℕ) (count more : ℕ) → count ≡ capped (length written) → more ≡ length piece → capped (count + more) ≡ capped (length (written ++ piece))
+counted_more written piece count more counted is =
+    ap (λ (n : ℕ). capped (n + more)) counted ∙ capped-add (length written) more ∙ ap (λ (n : ℕ). capped (length written + n)) is ∙ ap capped (sym (length-append written piece))
+
+-- the summary of a text, of which some was written before
+pub summed_up : (facts statements count : ℕ) (written text : List ℕ) (summary : Summary) → HasCounts facts statements (written ++ text) → count ≡ capped (length written) → SumsUp facts statements count text summary →
+    IsSummaryOf (written ++ text) summary
+summed_up facts statements count written text summary has counted sums = record {
+  counts = record { facts_are = sums.same_facts ∙ has.facts_are; statements_are = sums.same_statements ∙ has.statements_are };
+  bytes_are = sums.bytes_are ∙ counted_more written text count (length text) counted refl;
+}
+
+-- what is left of a proof has its counts
+pub left_sums : (proof : RunProof) (text : List ℕ) (left : Left) (count : ℕ) (summary : Summary) → IsLeftOf proof text left → SumsUp left.facts left.statements count left.text.items summary →
+    SumsUp proof.facts proof.statements count text summary
+left_sums proof text left count summary of sums = record {
+  same_facts = sums.same_facts ∙ of.same_facts;
+  same_statements = sums.same_statements ∙ of.same_statements;
+  bytes_are = sums.bytes_are ∙ ap (λ (l : List ℕ). capped (count + length l)) of.same_text;
+}
+
 -- ---- the text that was written
 
 pub on_err : {T E : Type 0} (r : Result T E) (P : Type 0) → P → OnErr r P
@@ -151,18 +165,46 @@ on_err_front (Err e) old mid new program start written bytes s first proved text
     (justified program start (ground_pattern s.run.config) (ground_pattern s.run.config) s.proof (written ++ s.text.items) proved.1 refl)
 
 -- all of the text was written, of which some was before
-pub all_written : (old mid new : Option Told) (program : Program) (start : Pattern) (run : Run) (written : List ℕ) (s : ProvedSteps) → Writes old mid written → Writes mid new s.text.items →
-    IsProvedRun program start written s → ground_pattern s.run.config ≡ kept_by start run → WritesProof old new (theory_of program) start run
-all_written old mid new program start run written s first rest proved kept =
-    (written ++ s.text.items, Writes-then old mid new written s.text.items first rest, justified program start (ground_pattern s.run.config) (kept_by start run) s.proof (written ++ s.text.items) proved.1 kept)
+pub all_written : (old mid new : Option Told) (program : Program) (start : Pattern) (run : Run) (written : List ℕ) (count : ℕ) (s : ProvedSteps) (summary : Summary) → Writes old mid written → Writes mid new s.text.items →
+    IsProvedRun program start written s → count ≡ capped (length written) → ground_pattern s.run.config ≡ kept_by start run → SumsUp s.proof.facts s.proof.statements count s.text.items summary →
+    WritesProof old new (theory_of program) start run summary
+all_written old mid new program start run written count s summary first rest proved counted kept sums = (
+  written ++ s.text.items,
+  Writes-then old mid new written s.text.items first rest,
+  justified program start (ground_pattern s.run.config) (kept_by start run) s.proof (written ++ s.text.items) proved.1 kept,
+  summed_up s.proof.facts s.proof.statements count written s.text.items summary proved.1.fits.counts counted sums,
+)
 
 -- so at the end of a run
-pub ended_proof : {T E : Type 0} (run_of : T → Run) (r : Result T E) (end : T) (old mid new : Option Told) (program : Program) (start : Pattern) (written bytes : List ℕ) (s : ProvedSteps) →
-    Writes old mid written → IsProvedRun program start written s → bytes ≡ s.text.items → ground_pattern s.run.config ≡ kept_by start (run_of end) → IfOk r (λ e. e ≡ end) →
-    OnOk r (Writes mid new bytes) → IfOk r (λ e. WritesProof old new (theory_of program) start (run_of e))
-ended_proof run_of (Err fault) end old mid new program start written bytes s first proved text kept is rest = tt
-ended_proof run_of (Ok e) end old mid new program start written bytes s first proved text kept is rest =
-    all_written old mid new program start (run_of e) written s first (subst (Writes mid new) text rest) proved (kept ∙ ap (λ x. kept_by start (run_of x)) (sym is))
+pub ended_proof : {T E : Type 0} (run_of : T → Run) (r : Result (T × Summary) E) (run : Run) (old mid new : Option Told) (program : Program) (start : Pattern) (written : List ℕ) (count : ℕ) (s : ProvedSteps) →
+    Writes old mid written → IsProvedRun program start written s → count ≡ capped (length written) → ground_pattern s.run.config ≡ kept_by start run → IfOk r (λ e. run_of e.0 ≡ run) →
+    IfOk r (λ e. SumsUp s.proof.facts s.proof.statements count s.text.items e.1) → OnOk r (Writes mid new s.text.items) →
+    IfOk r (λ e. WritesProof old new (theory_of program) start (run_of e.0) e.1)
+ended_proof run_of (Err fault) run old mid new program start written count s first proved counted kept is sums rest = tt
+ended_proof run_of (Ok e) run old mid new program start written count s first proved counted kept is sums rest =
+    all_written old mid new program start (run_of e.0) written count s e.1 first rest proved counted (kept ∙ ap (kept_by start) (sym is)) sums
+
+-- .. where this is left of it
+pub left_proof : {T E : Type 0} (run_of : T → Run) (r : Result (T × Summary) E) (end : T) (old mid new : Option Told) (program : Program) (start : Pattern) (written : List ℕ) (count : ℕ) (s : ProvedSteps) (left : Left) →
+    Writes old mid written → IsProvedRun program start written s → count ≡ capped (length written) → IsLeftOf s.proof s.text.items left → ground_pattern s.run.config ≡ kept_by start (run_of end) → IfOk r (λ e. e.0 ≡ end) →
+    IfOk r (λ e. SumsUp left.facts left.statements count left.text.items e.1) → OnOk r (Writes mid new left.text.items) →
+    IfOk r (λ e. WritesProof old new (theory_of program) start (run_of e.0) e.1)
+left_proof run_of (Err fault) end old mid new program start written count s left first proved counted of kept is sums rest = tt
+left_proof run_of (Ok e) end old mid new program start written count s left first proved counted of kept is sums rest =
+    all_written old mid new program start (run_of e.0) written count s e.1 first (subst (Writes mid new) of.same_text rest) proved counted (kept ∙ ap (λ x. kept_by start (run_of x)) (sym is))
+    (left_sums s.proof s.text.items left count e.1 of sums)
+
+-- .. and where the term has no value
+pub unstarted_proof : {T E : Type 0} (run_of : T → Run) (r : Result (T × Summary) E) (end : T) (old new : Option Told) (program : Program) (start : Pattern) (left : Left) →
+    JustifiesNoStep program start left → start ≡ kept_by start (run_of end) → IfOk r (λ e. e.0 ≡ end) → IfOk r (λ e. SumsUp left.facts left.statements 0 left.text.items e.1) → OnOk r (Writes old new left.text.items) →
+    IfOk r (λ e. WritesProof old new (theory_of program) start (run_of e.0) e.1)
+unstarted_proof run_of (Err fault) end old new program start left none kept is sums rest = tt
+unstarted_proof run_of (Ok e) end old new program start left none kept is sums rest = (
+  left.text.items,
+  rest,
+  subst (JustifiesRun left.text.items (theory_of program) start) (kept ∙ ap (λ x. kept_by start (run_of x)) (sym is)) none.justifies,
+  summed_up left.facts left.statements 0 [] left.text.items e.1 none.counts refl sums,
+)
 
 pub on_err_more : {T E : Type 0} (r : Result T E) (P Q : Type 0) → (P → Q) → OnErr r P → OnErr r Q
 on_err_more (Ok t) P Q f h = tt

@@ -13,11 +13,13 @@ use Rattle.rule_core.specs.WellSorted.{IsStart}
 use Rattle.rule_core.specs.declared.rules.Blocked.{Blocked}
 use Rattle.rule_core.specs.declared.rules.Program.{Program}
 use Rattle.mm_justify.specs.Justifying.{JustifiesRun}
+use Rattle.mm_justify.specs.Counting.{HasCounts}
 use Rattle.rewriter.specs.Configurations.{RunState, IsConfiguration}
 use Rattle.proof_writer.specs.PlainNames.{HasPlainNames}
 use Rattle.prove_run.specs.RunProof.{RunProof, reached}
 use Rattle.prove_run.specs.Proving.{FitsProof, StepsTo}
 use Rattle.run_proof.specs.declared.steps.ProvedSteps.{ProvedSteps}
+use Rattle.run_proof.specs.declared.steps.Left.{Left}
 use Rattle.run_proof.specs.declared.steps.Beginning.{Beginning}
 use Rattle.run_proof.specs.declared.steps.Beginning.TheVariants as beginning
 use Rattle.run_proof.specs.declared.steps.Going.{Going}
@@ -46,25 +48,36 @@ IsProvedRun program start written s =
 abbrev pub IsAtStep : Program → ProvedSteps → Type 0
 IsAtStep program s = (written : List ℕ) × IsProvedRun program (plain_pattern s.proof.start) written s
 
+-- this is left of a proof, and of its text
+pub record IsLeftOf (proof : RunProof) (text : List ℕ) (left : Left) : Type 0 where
+  pub same_text : left.text.items ≡ text
+  pub same_facts : left.facts ≡ proof.facts
+  pub same_statements : left.statements ≡ proof.statements
+
+-- the text that is left justifies the run of a term without a value, and these are its counts
+pub record JustifiesNoStep (program : Program) (start : Pattern) (left : Left) : Type 0 where
+  pub justifies : JustifiesRun left.text.items (theory_of program) start start
+  pub counts : HasCounts left.facts left.statements left.text.items
+
 -- the run of a term begins with its value, or the term has none
 abbrev pub BeginsRun : Program → Pattern → ℕ → Beginning → Type 0
 BeginsRun program start calls (beginning.Begun s) =
     Reaches (theory_of program) start calls 0 s.run.config s.run.calls × IsProvedRun program start [] s
-BeginsRun program start calls (beginning.Unstarted why text) =
+BeginsRun program start calls (beginning.Unstarted why left) =
     Evaluates (theory_of program) most_nesting [] start calls (blocked (cause_of why))
-    × JustifiesRun text.items (theory_of program) start start
+    × JustifiesNoStep program start left
 
 -- the proof has come as far as a run that has made no step
 abbrev pub BeginsAt : Program → Pattern → RunState → Beginning → Type 0
 BeginsAt program start run (beginning.Begun s) =
     (s.run ≡ run) × IsProofAt program start (ground_pattern run.config) s.proof s.text.items
-BeginsAt program start run (beginning.Unstarted why text) = ⊥
+BeginsAt program start run (beginning.Unstarted why left) = ⊥
 
 -- it has come as far as a term without a value
 abbrev pub IsUnstarted : Program → Pattern → Blocked → Beginning → Type 0
 IsUnstarted program start why (beginning.Begun s) = ⊥
-IsUnstarted program start why (beginning.Unstarted because text) =
-    (because ≡ why) × JustifiesRun text.items (theory_of program) start start
+IsUnstarted program start why (beginning.Unstarted because left) =
+    (because ≡ why) × JustifiesNoStep program start left
 
 -- the run and its proof have made a step, which is that of the definition; or there is none to be made
 abbrev pub GoesOn : Program → ProvedSteps → Going → Type 0
@@ -72,12 +85,12 @@ GoesOn program old (going.Further new) =
     Steps (theory_of program) old.run.config old.run.calls (next new.run.config new.run.calls)
     × ((start : Pattern) (written : List ℕ) → IsProvedRun program start written old →
     IsProvedRun program start written new)
-GoesOn program old (going.Stuck last text) =
+GoesOn program old (going.Stuck last left) =
     Steps (theory_of program) old.run.config old.run.calls stays × (last ≡ old.run.config)
-    × (text.items ≡ old.text.items)
-GoesOn program old (going.Blocked why last text) =
+    × IsLeftOf old.proof old.text.items left
+GoesOn program old (going.Blocked why last left) =
     Steps (theory_of program) old.run.config old.run.calls (stops (cause_of why)) × (last ≡ old.run.config)
-    × (text.items ≡ old.text.items)
+    × IsLeftOf old.proof old.text.items left
 
 -- a proof went on to the configuration of a run
 abbrev pub IsFurther : RunState → RunProof → List ℕ → Going → Type 0
@@ -87,14 +100,14 @@ IsFurther run proof text (going.Stuck last left) = ⊥
 IsFurther run proof text (going.Blocked why last left) = ⊥
 
 -- this is left of a run that is stuck
-abbrev pub IsStuckAt : Tree → List ℕ → Going → Type 0
-IsStuckAt config text (going.Further new) = ⊥
-IsStuckAt config text (going.Stuck last left) = (last ≡ config) × (left.items ≡ text)
-IsStuckAt config text (going.Blocked why last left) = ⊥
+abbrev pub IsStuckAt : Tree → RunProof → List ℕ → Going → Type 0
+IsStuckAt config proof text (going.Further new) = ⊥
+IsStuckAt config proof text (going.Stuck last left) = (last ≡ config) × IsLeftOf proof text left
+IsStuckAt config proof text (going.Blocked why last left) = ⊥
 
 -- .. and of one that is blocked
-abbrev pub IsBlockedAt : Blocked → Tree → List ℕ → Going → Type 0
-IsBlockedAt why config text (going.Further new) = ⊥
-IsBlockedAt why config text (going.Stuck last left) = ⊥
-IsBlockedAt why config text (going.Blocked because last left) =
-    (because ≡ why) × (last ≡ config) × (left.items ≡ text)
+abbrev pub IsBlockedAt : Blocked → Tree → RunProof → List ℕ → Going → Type 0
+IsBlockedAt why config proof text (going.Further new) = ⊥
+IsBlockedAt why config proof text (going.Stuck last left) = ⊥
+IsBlockedAt why config proof text (going.Blocked because last left) =
+    (because ≡ why) × (last ≡ config) × IsLeftOf proof text left

@@ -1,19 +1,29 @@
 -- What a proved run leaves in the created file of a desk.
-use Rattle.std.specs.Prelude.{◌≡◌, ℕ, List, [], ◌++◌, ◌⊎◌, Option}
+use Rattle.std.specs.Prelude.{◌≡◌, ℕ, List, [], ◌++◌, length, ◌⊎◌, Option}
 use Rattle.desk_io.specs.Told.{Told, Writes}
 use Rattle.term_core.specs.Patterns.{Pattern}
 use Rattle.rule_core.specs.Theories.{RewriteTheory}
 use Rattle.rule_core.specs.Runs.{Run, kept_by}
 use Rattle.mm_justify.specs.Justifying.{JustifiesRun}
+use Rattle.mm_justify.specs.Counting.{HasCounts, capped}
+use Rattle.run_proof.specs.declared.summaries.Summary.{Summary}
 
--- the created file grew by a database that justifies the run, from the initial term to what the run keeps
-abbrev pub WritesProof : Option Told → Option Told → RewriteTheory → Pattern → Run → Type 0
-WritesProof old new theory start run =
+-- the facts, the statements and the bytes of a database were counted
+pub record IsSummaryOf (bytes : List ℕ) (summary : Summary) : Type 0 where
+  pub counts : HasCounts summary.facts summary.statements bytes
+  pub bytes_are : summary.bytes ≡ capped (length bytes)
+
+-- the created file grew by a database that justifies the run, from the initial term to what the run keeps, and whose
+-- counts these are
+abbrev pub WritesProof : Option Told → Option Told → RewriteTheory → Pattern → Run → Summary → Type 0
+WritesProof old new theory start run summary =
     (text : List ℕ) × Writes old new text × JustifiesRun text theory start (kept_by start run)
+    × IsSummaryOf text summary
 
 -- the bytes are the front of a database that justifies the run from the initial term to some configuration
 abbrev pub IsFrontOfProof : RewriteTheory → Pattern → List ℕ → Type 0
-IsFrontOfProof theory start bytes = (end : Pattern) × ((rest : List ℕ) × JustifiesRun (bytes ++ rest) theory start end)
+IsFrontOfProof theory start bytes =
+    (end : Pattern) × ((rest : List ℕ) × JustifiesRun (bytes ++ rest) theory start end)
 
 -- the created file grew by these, or by nothing
 abbrev pub WritesFrontOfProof : Option Told → Option Told → RewriteTheory → Pattern → Type 0

@@ -11,6 +11,7 @@ ghost use Rattle.run_loop.specs.RunEnds.{plain_run, IsSortedEnd};
 ghost use Rattle.run_proof.specs.WrittenProofs.{WritesFrontOfProof, WritesProof};
 
 use crate::steps::{Beginning, Going, proved_beginning, proved_step};
+use crate::summaries::Summary;
 use crate::writing::{at_limit, ended, hand_on};
 use desk_io::{Desk, DeskFault};
 use fun_eval::Engine;
@@ -18,14 +19,14 @@ use run_loop::RunEnd;
 use std::alloc::Global;
 use term_core::RulePat;
 
-/// The run of an initial term, with at most `limit` steps and `calls` calls of functions. A Metamath database that
-/// justifies it, from the initial term to what the run keeps, is appended to the desk's created file as the run goes.
-/// The error: out of memory or a fault that the desk counted; then the front of such a database was appended, of a
-/// run that is maybe shorter, or nothing.
+/// The run of an initial term, with at most `limit` steps and `calls` calls of functions, and the counts of its
+/// proof. A Metamath database that justifies the run, from the initial term to what it keeps, is appended to the
+/// desk's created file as the run goes. The error: out of memory or a fault that the desk counted; then the front of
+/// such a database was appended, of a run that is maybe shorter, or nothing.
 ///
-/// The text of a step grows with the configurations that it speaks of, at most with the square of their sizes, and with
-/// the calls of functions that it makes. The text of one step and less than 64 KiB before it are held in memory, and
-/// the records of what the step evaluated.
+/// The text of a step grows with the configurations that it speaks of, at most with the square of their sizes, and
+/// with the calls of functions that it makes. The text of one step and less than 64 KiB before it are held in
+/// memory, and the records of what the step evaluated.
 pub fn proved_run<'p, D: Desk>(
     alloc: Global,
     desk: &mut D,
@@ -33,16 +34,16 @@ pub fn proved_run<'p, D: Desk>(
     start: &'p RulePat,
     limit: u32,
     calls: u32,
-) -> Result<RunEnd, DeskFault>
+) -> Result<(RunEnd, Summary), DeskFault>
     requires file { IsTrue (D.created desk.old) }
     requires start { IsStart (theory_of engine.now) (plain_pattern start.now) }
     requires bound { HasBoundVariables engine.now }
     requires names { HasPlainNames engine.now.sig }
     ensures run { IfOk result
-        (λ end. IsRunOf (theory_of engine.now) limit calls (plain_pattern start.now) (plain_run end)) }
-    ensures sorted { IfOk result (λ end. IsSortedEnd (theory_of engine.now) (plain_run end)) }
-    ensures justified { IfOk result (λ end. WritesProof (D.told desk.old) (D.told desk.new)
-        (theory_of engine.now) (plain_pattern start.now) (plain_run end)) }
+        (λ r. IsRunOf (theory_of engine.now) limit calls (plain_pattern start.now) (plain_run r.0)) }
+    ensures sorted { IfOk result (λ r. IsSortedEnd (theory_of engine.now) (plain_run r.0)) }
+    ensures justified { IfOk result (λ r. WritesProof (D.told desk.old) (D.told desk.new)
+        (theory_of engine.now) (plain_pattern start.now) (plain_run r.0) r.1) }
     ensures front { OnErr result (WritesFrontOfProof (D.told desk.old) (D.told desk.new)
         (theory_of engine.now) (plain_pattern start.now)) }
     ensures created { IsTrue (D.created desk.new) }
@@ -52,17 +53,21 @@ pub fn proved_run<'p, D: Desk>(
 {
     let mut steps = match proved_beginning(alloc, engine, start, calls)? {
         Beginning::Begun(steps) => steps,
-        Beginning::Unstarted(why, text) => return ended(desk, &text, RunEnd::Unstarted(why)),
+        Beginning::Unstarted(why, left) => return ended(desk, 0, &left, RunEnd::Unstarted(why)),
     };
+    let mut written = 0;
     for made in 0..limit {
         match proved_step(alloc, engine, steps)? {
             Going::Further(further) => steps = further,
-            Going::Stuck(last, text) => return ended(desk, &text, RunEnd::Stuck(made, last)),
-            Going::Blocked(why, last, text) => {
-                return ended(desk, &text, RunEnd::Blocked(made, why, last));
+            Going::Stuck(last, left) => {
+                return ended(desk, written, &left, RunEnd::Stuck(made, last));
+            }
+            Going::Blocked(why, last, left) => {
+                return ended(desk, written, &left, RunEnd::Blocked(made, why, last));
             }
         }
-        hand_on(desk, &mut steps.text)?;
+        let handed = hand_on(desk, &mut steps.text)?;
+        written = written.saturating_add(handed);
     }
-    at_limit(desk, limit, steps)
+    at_limit(desk, limit, written, steps)
 }

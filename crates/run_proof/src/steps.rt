@@ -6,7 +6,7 @@ ghost use Rattle.rule_core.specs.Records.{Records, result_of};
 ghost use Rattle.rule_core.specs.RecordView.{plain_record, plain_step};
 ghost use Rattle.prove_run.specs.Proving.{CanStep};
 ghost use Rattle.run_proof.specs.ProvedSteps.{BeginsAt, BeginsRun, IsReady, IsUnstarted};
-ghost use Rattle.run_proof.specs.ProvedSteps.{GoesOn, IsAtStep, IsBlockedAt, IsFurther, IsStuckAt};
+ghost use Rattle.run_proof.specs.ProvedSteps.{GoesOn, IsAtStep, IsBlockedAt, IsFurther, IsLeftOf, IsStuckAt};
 
 use fun_eval::{Engine, EvalEnd};
 use prove_run::Proof;
@@ -23,24 +23,45 @@ pub(crate) struct ProvedSteps<'p> {
     pub(crate) text: Vec<u8>,
 }
 
+/// What is left of a proof where it ends: what is not yet written of its text, and the counts of the whole text.
+#[derive(Drop)]
+pub(crate) struct Left {
+    pub(crate) text: Vec<u8>,
+    pub(crate) facts: u64,
+    pub(crate) statements: u64,
+}
+
+impl Left {
+    /// What is left of a proof, of whose text this is not yet written.
+    pub(crate) fn of(proof: &Proof<'_>, text: Vec<u8>) -> Left
+        ensures { IsLeftOf proof.now text.items result }
+    {
+        Left {
+            text,
+            facts: proof.facts(),
+            statements: proof.statements(),
+        }
+    }
+}
+
 /// What comes of an initial term.
 #[derive(Drop)]
 pub(crate) enum Beginning<'p> {
     /// Its run, of no step.
     Begun(ProvedSteps<'p>),
     /// It has no value.
-    Unstarted(Blocked, Vec<u8>),
+    Unstarted(Blocked, Left),
 }
 
-/// What comes of a step. Where none is made, the last configuration and what is not yet written are left.
+/// What comes of a step. Where none is made, the last configuration is left, and what is left of the proof.
 #[derive(Drop)]
 pub(crate) enum Going<'p> {
     /// The step was made.
     Further(ProvedSteps<'p>),
     /// No rule applies.
-    Stuck(Term, Vec<u8>),
+    Stuck(Term, Left),
     /// The next step is blocked.
-    Blocked(Blocked, Term, Vec<u8>),
+    Blocked(Blocked, Term, Left),
 }
 
 /// The run of an initial term as far as its value, with so many calls of functions. The error: out of memory.
@@ -91,8 +112,8 @@ fn unstarted<'p>(
     ensures { IfOk result (IsUnstarted engine.now (plain_pattern start.now) why) }
 {
     let mut text = Vec::new(alloc);
-    let _proof = Proof::begin(alloc, engine.program(), start, None, &mut text)?;
-    Ok(Beginning::Unstarted(why, text))
+    let proof = Proof::begin(alloc, engine.program(), start, None, &mut text)?;
+    Ok(Beginning::Unstarted(why, Left::of(&proof, text)))
 }
 
 /// The next step of a run, and its proof. The error: out of memory.
@@ -112,8 +133,8 @@ pub(crate) fn proved_step<'p>(
     let _high = run.config().height();
     match run.step(alloc, engine)? {
         Next::Made(step) => further(alloc, run, proof, &step, text),
-        Next::Stuck => stuck(&run, proof, text),
-        Next::Blocked(why) => blocked(why, &run, proof, text),
+        Next::Stuck => stuck(&run, &proof, text),
+        Next::Blocked(why) => blocked(why, &run, &proof, text),
     }
 }
 
@@ -139,20 +160,21 @@ fn further<'p>(
 }
 
 // A run that is stuck.
-fn stuck<'p>(run: &Run, _proof: Proof<'p>, text: Vec<u8>) -> Result<Going<'p>, AllocError>
-    ensures { IfOk result (IsStuckAt run.now.config text.items) }
+fn stuck<'p>(run: &Run, proof: &Proof<'p>, text: Vec<u8>) -> Result<Going<'p>, AllocError>
+    ensures { IfOk result (IsStuckAt run.now.config proof.now text.items) }
 {
-    Ok(Going::Stuck(run.config().share()?, text))
+    Ok(Going::Stuck(run.config().share()?, Left::of(proof, text)))
 }
 
 // A run that is blocked.
 fn blocked<'p>(
     why: Blocked,
     run: &Run,
-    _proof: Proof<'p>,
+    proof: &Proof<'p>,
     text: Vec<u8>,
 ) -> Result<Going<'p>, AllocError>
-    ensures { IfOk result (IsBlockedAt why run.now.config text.items) }
+    ensures { IfOk result (IsBlockedAt why run.now.config proof.now text.items) }
 {
-    Ok(Going::Blocked(why, run.config().share()?, text))
+    let last = run.config().share()?;
+    Ok(Going::Blocked(why, last, Left::of(proof, text)))
 }

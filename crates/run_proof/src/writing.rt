@@ -4,55 +4,72 @@ ghost use Rattle.desk_io.specs.Told.{Writes, WritesFront};
 ghost use Rattle.desk_io.specs.Counts.{Rose};
 ghost use Rattle.rule_core.specs.Runs as the_run;
 ghost use Rattle.run_loop.specs.RunEnds.{plain_run};
-ghost use Rattle.run_proof.specs.HandedOn.{WritesPiece};
+ghost use Rattle.run_proof.specs.HandedOn.{SumsUp, WritesPiece};
 
-use crate::steps::ProvedSteps;
+use crate::steps::{Left, ProvedSteps};
+use crate::summaries::Summary;
 use desk_io::{Desk, DeskFault, write_whole};
 use run_loop::RunEnd;
 
 /// A text of so many bytes or more is written before the next step.
 const PIECE: usize = 65_536;
 
-/// Writes the text where it is long, and empties it then.
-pub(crate) fn hand_on<D: Desk>(desk: &mut D, text: &mut Vec<u8>) -> Result<(), DeskFault>
+/// Writes the text where it is long, and empties it then. The answer: how many bytes were written.
+pub(crate) fn hand_on<D: Desk>(desk: &mut D, text: &mut Vec<u8>) -> Result<u64, DeskFault>
     requires file { IsTrue (D.created desk.old) }
-    ensures piece { OnOk result (WritesPiece (D.told desk.old) (D.told desk.new) text.old.items text.new.items) }
+    ensures piece { IfOk result (WritesPiece (D.told desk.old) (D.told desk.new) text.old.items text.new.items) }
     ensures front { OnErr result (WritesFront (D.told desk.old) (D.told desk.new) text.old.items) }
     ensures created { IsTrue (D.created desk.new) }
     ensures failed { IsErrOf result DeskFault.Failed → Rose (D.write_faults desk.old) (D.write_faults desk.new) }
     ensures counts { D.write_faults desk.old ≤ D.write_faults desk.new }
     ensures reads { D.read_faults desk.new ≡ D.read_faults desk.old }
 {
-    if text.len() >= PIECE {
-        write_whole(desk, text)?;
-        text.clear();
+    let length = text.len();
+    if length < PIECE {
+        return Ok(0);
     }
-    Ok(())
+    write_whole(desk, text)?;
+    text.clear();
+    Ok(length as u64)
 }
 
-/// Writes what is left of the text at the end of a run.
-pub(crate) fn ended<D: Desk>(desk: &mut D, text: &[u8], end: RunEnd) -> Result<RunEnd, DeskFault>
+/// Writes what is left of the text at the end of a run, after so many bytes of it.
+pub(crate) fn ended<D: Desk>(
+    desk: &mut D,
+    written: u64,
+    left: &Left,
+    end: RunEnd,
+) -> Result<(RunEnd, Summary), DeskFault>
     requires file { IsTrue (D.created desk.old) }
-    ensures end { IfOk result (λ e. e ≡ end) }
-    ensures text { OnOk result (Writes (D.told desk.old) (D.told desk.new) text.now) }
-    ensures front { OnErr result (WritesFront (D.told desk.old) (D.told desk.new) text.now) }
+    ensures end { IfOk result (λ r. r.0 ≡ end) }
+    ensures sums { IfOk result (λ r. SumsUp left.now.facts left.now.statements written left.now.text.items r.1) }
+    ensures text { OnOk result (Writes (D.told desk.old) (D.told desk.new) left.now.text.items) }
+    ensures front { OnErr result (WritesFront (D.told desk.old) (D.told desk.new) left.now.text.items) }
     ensures created { IsTrue (D.created desk.new) }
     ensures failed { IsErrOf result DeskFault.Failed → Rose (D.write_faults desk.old) (D.write_faults desk.new) }
     ensures counts { D.write_faults desk.old ≤ D.write_faults desk.new }
     ensures reads { D.read_faults desk.new ≡ D.read_faults desk.old }
 {
-    write_whole(desk, text)?;
-    Ok(end)
+    write_whole(desk, &left.text)?;
+    let summary = Summary {
+        facts: left.facts,
+        statements: left.statements,
+        bytes: written.saturating_add(left.text.len() as u64),
+    };
+    Ok((end, summary))
 }
 
 /// The same of a run that has reached its limit.
 pub(crate) fn at_limit<D: Desk>(
     desk: &mut D,
     limit: u32,
+    written: u64,
     steps: ProvedSteps<'_>,
-) -> Result<RunEnd, DeskFault>
+) -> Result<(RunEnd, Summary), DeskFault>
     requires file { IsTrue (D.created desk.old) }
-    ensures end { IfOk result (λ e. plain_run e ≡ the_run.limited limit steps.entry.run.config) }
+    ensures end { IfOk result (λ r. plain_run r.0 ≡ the_run.limited limit steps.entry.run.config) }
+    ensures sums { IfOk result (λ r.
+        SumsUp steps.entry.proof.facts steps.entry.proof.statements written steps.entry.text.items r.1) }
     ensures text { OnOk result (Writes (D.told desk.old) (D.told desk.new) steps.entry.text.items) }
     ensures front { OnErr result (WritesFront (D.told desk.old) (D.told desk.new) steps.entry.text.items) }
     ensures created { IsTrue (D.created desk.new) }
@@ -60,7 +77,8 @@ pub(crate) fn at_limit<D: Desk>(
     ensures counts { D.write_faults desk.old ≤ D.write_faults desk.new }
     ensures reads { D.read_faults desk.new ≡ D.read_faults desk.old }
 {
-    let ProvedSteps { run, text, .. } = steps;
+    let ProvedSteps { run, proof, text } = steps;
     let last = run.config().share()?;
-    ended(desk, &text, RunEnd::Limit(limit, last))
+    let left = Left::of(&proof, text);
+    ended(desk, written, &left, RunEnd::Limit(limit, last))
 }

@@ -9,7 +9,7 @@ use Rattle.rule_core.specs.Theories.{RewriteTheory}
 use Rattle.rule_core.specs.Runs.{Run, limited, IsRunOf, Steps, next, Reaches, after_step}
 use Rattle.run_loop.specs.RunEnds.{plain_run}
 use Rattle.run_proof.specs.WrittenProofs.{WritesFrontOfProof}
-use Rattle.run_proof.proofs.ProofsAt.{on_err, on_err_front, on_err_more, none_front, no_proof_written, front_of_proof, justified, ended_proof, handed_on}
+use Rattle.run_proof.proofs.ProofsAt.{on_err, on_err_front, on_err_more, none_front, no_proof_written, front_of_proof, justified, counted_more, ended_proof, left_proof, unstarted_proof, handed_on}
 use Rattle.run_proof.proofs.proved.proved_run.Goals as goal
 
 if_ok : {T E : Type 0} (r : Result T E) (P Q : T → Type 0) → ((t : T) → P t → Q t) → IfOk r P → IfOk r Q
@@ -28,13 +28,18 @@ returns-in_err-steps-clause-front g c =
     let told = g.D.Desk.told c.args.desk.now in
     on_err c.from_residual.result (WritesFrontOfProof told told (theory_of c.args.engine.now) (plain_pattern c.args.start.now)) (no_proof_written told (theory_of c.args.engine.now) (plain_pattern c.args.start.now) (rw c.requires.file at (g.met.D.Desk.tells_created c.args.desk.now)))
 
+pub returns-in-Unstarted-clause-justified : goal.returns-in-Unstarted-clause-justified
+returns-in-Unstarted-clause-justified g c =
+    let begun = rw c.in-Unstarted.is at c.in_ok-steps.ensures in
+    unstarted_proof plain_run c.ended.result _ (g.D.Desk.told c.args.desk.now) (g.D.Desk.told c.ended.new.desk) c.args.engine.now (plain_pattern c.args.start.now) c.in-Unstarted.left begun.1 refl c.ended.ensures.end c.ended.ensures.sums c.ended.ensures.text
+
 pub returns-in-Unstarted-clause-front : goal.returns-in-Unstarted-clause-front
 returns-in-Unstarted-clause-front g c =
     let begun = rw c.in-Unstarted.is at c.in_ok-steps.ensures in
     let new = g.D.Desk.told c.ended.new.desk in
-    on_err_more c.ended.result (WritesFront (g.D.Desk.told c.args.desk.now) new c.deref.result.now) (WritesFrontOfProof (g.D.Desk.told c.args.desk.now) new (theory_of c.args.engine.now) (plain_pattern c.args.start.now))
-    (λ front. front_of_proof (g.D.Desk.told c.args.desk.now) (g.D.Desk.told c.args.desk.now) new (theory_of c.args.engine.now) (plain_pattern c.args.start.now) (plain_pattern c.args.start.now) [] c.in-Unstarted.text.items (Writes-nil (g.D.Desk.told c.args.desk.now) (rw c.requires.file at (g.met.D.Desk.tells_created c.args.desk.now)))
-    (subst (WritesFront (g.D.Desk.told c.args.desk.now) new) c.deref.ensures.value front) begun.1) c.ended.ensures.front
+    on_err_more c.ended.result (WritesFront (g.D.Desk.told c.args.desk.now) new c.in-Unstarted.left.text.items) (WritesFrontOfProof (g.D.Desk.told c.args.desk.now) new (theory_of c.args.engine.now) (plain_pattern c.args.start.now))
+    (λ front. front_of_proof (g.D.Desk.told c.args.desk.now) (g.D.Desk.told c.args.desk.now) new (theory_of c.args.engine.now) (plain_pattern c.args.start.now) (plain_pattern c.args.start.now) [] c.in-Unstarted.left.text.items (Writes-nil (g.D.Desk.told c.args.desk.now) (rw c.requires.file at (g.met.D.Desk.tells_created c.args.desk.now)))
+    front begun.1.justifies) c.ended.ensures.front
 
 pub returns-in_err-further-clause-front : goal.returns-in_err-further-clause-front
 returns-in_err-further-clause-front g c =
@@ -51,14 +56,14 @@ loop-made-init g c =
       counts = omega arith;
       reads = refl;
       reached = begun.0;
-      written = ([], Writes-nil (g.D.Desk.told c.args.desk.now) (rw c.requires.file at (g.met.D.Desk.tells_created c.args.desk.now)), begun.1);
+      written = ([], Writes-nil (g.D.Desk.told c.args.desk.now) (rw c.requires.file at (g.met.D.Desk.tells_created c.args.desk.now)), begun.1, refl);
     }
 
 pub loop-made-preserved : goal.loop-made-preserved
 loop-made-preserved g c =
     let before = c.loop-made.invariant in
     let made = rw c.in-Further.is at c.in_ok-further.ensures in
-    let piece = c.in_ok-hand_on.ensures.piece in record {
+    let piece = c.in_ok-handed.ensures.piece in record {
       created = c.hand_on.ensures.created;
       counts = omega (arith, c.loop-made.invariant.counts, c.hand_on.ensures.counts);
       reads = c.hand_on.ensures.reads ∙ c.loop-made.invariant.reads;
@@ -68,6 +73,7 @@ loop-made-preserved g c =
         Writes-then (g.D.Desk.told c.args.desk.now) (g.D.Desk.told c.loop-made.desk) (g.D.Desk.told c.hand_on.new.desk) before.written.0 piece.0 before.written.1 piece.1,
         handed_on c.args.engine.now (plain_pattern c.args.start.now) before.written.0 piece.0 c.in-Further.further (record c.in-Further.further { text = c.hand_on.new.text }) refl refl piece.2
             (made.1 (plain_pattern c.args.start.now) before.written.0 before.written.2),
+        c.saturating_add-written.ensures ∙ counted_more before.written.0 piece.0 c.loop-made.written c.in_ok-handed.handed before.written.3 piece.3,
       );
     }
 
@@ -75,35 +81,35 @@ pub returns-in-Stuck-clause-justified : goal.returns-in-Stuck-clause-justified
 returns-in-Stuck-clause-justified g c =
     let going = rw c.in-Stuck.is at c.in_ok-further.ensures in
     let before = c.loop-made.invariant.written in
-    ended_proof plain_run c.ended-in-Stuck.result _ (g.D.Desk.told c.args.desk.now) (g.D.Desk.told c.loop-made.desk) (g.D.Desk.told c.ended-in-Stuck.new.desk) c.args.engine.now (plain_pattern c.args.start.now)
-    before.0 c.deref-in-Stuck.result.now c.loop-made.steps before.1 before.2 (c.deref-in-Stuck.ensures.value ∙ going.2) (ap ground_pattern (sym going.1)) c.ended-in-Stuck.ensures.end c.ended-in-Stuck.ensures.text
+    left_proof plain_run c.ended-in-Stuck.result _ (g.D.Desk.told c.args.desk.now) (g.D.Desk.told c.loop-made.desk) (g.D.Desk.told c.ended-in-Stuck.new.desk) c.args.engine.now (plain_pattern c.args.start.now)
+    before.0 c.loop-made.written c.loop-made.steps c.in-Stuck.left before.1 before.2 before.3 going.2 (ap ground_pattern (sym going.1)) c.ended-in-Stuck.ensures.end c.ended-in-Stuck.ensures.sums c.ended-in-Stuck.ensures.text
 
 pub returns-in-Stuck-clause-front : goal.returns-in-Stuck-clause-front
 returns-in-Stuck-clause-front g c =
     let going = rw c.in-Stuck.is at c.in_ok-further.ensures in
     let before = c.loop-made.invariant.written in
-    on_err_front c.ended-in-Stuck.result (g.D.Desk.told c.args.desk.now) (g.D.Desk.told c.loop-made.desk) (g.D.Desk.told c.ended-in-Stuck.new.desk) c.args.engine.now (plain_pattern c.args.start.now) before.0 c.deref-in-Stuck.result.now c.loop-made.steps before.1 before.2 (c.deref-in-Stuck.ensures.value ∙ going.2) c.ended-in-Stuck.ensures.front
+    on_err_front c.ended-in-Stuck.result (g.D.Desk.told c.args.desk.now) (g.D.Desk.told c.loop-made.desk) (g.D.Desk.told c.ended-in-Stuck.new.desk) c.args.engine.now (plain_pattern c.args.start.now) before.0 c.in-Stuck.left.text.items c.loop-made.steps before.1 before.2 going.2.same_text c.ended-in-Stuck.ensures.front
 
 pub returns-in-Blocked-clause-justified : goal.returns-in-Blocked-clause-justified
 returns-in-Blocked-clause-justified g c =
     let going = rw c.in-Blocked.is at c.in_ok-further.ensures in
     let before = c.loop-made.invariant.written in
-    ended_proof plain_run c.ended-in-Blocked.result _ (g.D.Desk.told c.args.desk.now) (g.D.Desk.told c.loop-made.desk) (g.D.Desk.told c.ended-in-Blocked.new.desk) c.args.engine.now (plain_pattern c.args.start.now)
-    before.0 c.deref-in-Blocked.result.now c.loop-made.steps before.1 before.2 (c.deref-in-Blocked.ensures.value ∙ going.2) (ap ground_pattern (sym going.1)) c.ended-in-Blocked.ensures.end c.ended-in-Blocked.ensures.text
+    left_proof plain_run c.ended-in-Blocked.result _ (g.D.Desk.told c.args.desk.now) (g.D.Desk.told c.loop-made.desk) (g.D.Desk.told c.ended-in-Blocked.new.desk) c.args.engine.now (plain_pattern c.args.start.now)
+    before.0 c.loop-made.written c.loop-made.steps c.in-Blocked.left before.1 before.2 before.3 going.2 (ap ground_pattern (sym going.1)) c.ended-in-Blocked.ensures.end c.ended-in-Blocked.ensures.sums c.ended-in-Blocked.ensures.text
 
 pub returns-in-Blocked-clause-front : goal.returns-in-Blocked-clause-front
 returns-in-Blocked-clause-front g c =
     let going = rw c.in-Blocked.is at c.in_ok-further.ensures in
     let before = c.loop-made.invariant.written in
-    on_err_front c.ended-in-Blocked.result (g.D.Desk.told c.args.desk.now) (g.D.Desk.told c.loop-made.desk) (g.D.Desk.told c.ended-in-Blocked.new.desk) c.args.engine.now (plain_pattern c.args.start.now) before.0 c.deref-in-Blocked.result.now c.loop-made.steps before.1 before.2 (c.deref-in-Blocked.ensures.value ∙ going.2) c.ended-in-Blocked.ensures.front
+    on_err_front c.ended-in-Blocked.result (g.D.Desk.told c.args.desk.now) (g.D.Desk.told c.loop-made.desk) (g.D.Desk.told c.ended-in-Blocked.new.desk) c.args.engine.now (plain_pattern c.args.start.now) before.0 c.in-Blocked.left.text.items c.loop-made.steps before.1 before.2 going.2.same_text c.ended-in-Blocked.ensures.front
 
-pub returns-in_err-hand_on-clause-front : goal.returns-in_err-hand_on-clause-front
-returns-in_err-hand_on-clause-front g c =
+pub returns-in_err-handed-clause-front : goal.returns-in_err-handed-clause-front
+returns-in_err-handed-clause-front g c =
     let before = c.loop-made.invariant.written in
     let made = rw c.in-Further.is at c.in_ok-further.ensures in
     let s = c.in-Further.further in
-    on_err c.from_residual-in_err-hand_on.result (WritesFrontOfProof (g.D.Desk.told c.args.desk.now) (g.D.Desk.told c.hand_on.new.desk) (theory_of c.args.engine.now) (plain_pattern c.args.start.now))
-    (front_of_proof (g.D.Desk.told c.args.desk.now) (g.D.Desk.told c.loop-made.desk) (g.D.Desk.told c.hand_on.new.desk) (theory_of c.args.engine.now) (plain_pattern c.args.start.now) (ground_pattern s.run.config) before.0 s.text.items before.1 c.in_err-hand_on.ensures.front
+    on_err c.from_residual-in_err-handed.result (WritesFrontOfProof (g.D.Desk.told c.args.desk.now) (g.D.Desk.told c.hand_on.new.desk) (theory_of c.args.engine.now) (plain_pattern c.args.start.now))
+    (front_of_proof (g.D.Desk.told c.args.desk.now) (g.D.Desk.told c.loop-made.desk) (g.D.Desk.told c.hand_on.new.desk) (theory_of c.args.engine.now) (plain_pattern c.args.start.now) (ground_pattern s.run.config) before.0 s.text.items before.1 c.in_err-handed.ensures.front
     (justified c.args.engine.now (plain_pattern c.args.start.now) (ground_pattern s.run.config) (ground_pattern s.run.config) s.proof (before.0 ++ s.text.items) (made.1 (plain_pattern c.args.start.now) before.0 before.2).1 refl))
 
 pub returns-clause-run : goal.returns-clause-run
@@ -116,8 +122,14 @@ returns-clause-run g c =
     let number : c.loop-made.made ≡ limit = omega arith in
     let reached : Reaches theory start calls limit run.config run.calls = subst (λ (n : ℕ). Reaches theory start calls n run.config run.calls) number c.loop-made.invariant.reached in
     let whole : IsRunOf theory limit calls start (limited limit run.config) = (run.calls, reached, refl) in
-    if_ok c.at_limit.result (λ r. plain_run r ≡ limited limit run.config) (λ r. IsRunOf theory limit calls start (plain_run r))
+    if_ok c.at_limit.result (λ r. plain_run r.0 ≡ limited limit run.config) (λ r. IsRunOf theory limit calls start (plain_run r.0))
     (λ r e. subst (λ (end : Run). IsRunOf theory limit calls start end) (sym e) whole) c.at_limit.ensures.end
+
+pub returns-clause-justified : goal.returns-clause-justified
+returns-clause-justified g c =
+    let before = c.loop-made.invariant.written in
+    ended_proof plain_run c.at_limit.result (limited c.args.limit c.loop-made.steps.run.config) (g.D.Desk.told c.args.desk.now) (g.D.Desk.told c.loop-made.desk) (g.D.Desk.told c.at_limit.new.desk) c.args.engine.now (plain_pattern c.args.start.now)
+    before.0 c.loop-made.written c.loop-made.steps before.1 before.2 before.3 refl c.at_limit.ensures.end c.at_limit.ensures.sums c.at_limit.ensures.text
 
 pub returns-clause-front : goal.returns-clause-front
 returns-clause-front g c =

@@ -1,9 +1,10 @@
-use Rattle.std.proofs.Common.{◌≡◌, ◌≤◌, ℕ, List}
+use Rattle.std.proofs.Common.{◌≡◌, ◌≤◌, ℕ, List, length}
 use Rattle.std.specs.Prelude.{IsTrue}
 use Rattle.desk_io.specs.Told.{Writes}
 use Rattle.term_core.specs.RulePatterns.{plain_pattern}
 use Rattle.rule_core.specs.ProgramView.{theory_of}
 use Rattle.rule_core.specs.Runs.{Reaches}
+use Rattle.mm_justify.specs.Counting.{capped}
 use Rattle.run_proof.specs.ProvedSteps.{IsProvedRun}
 use Rattle.run_proof.proofs.proved.proved_run.Given as goal
 
@@ -14,5 +15,5 @@ invariant-loop-made g l = record {
   reads : g.D.Desk.read_faults l.desk ≡ g.D.Desk.read_faults l.initial.desk;
   reached : Reaches (theory_of l.engine) (plain_pattern l.start) l.calls l.made l.steps.run.config l.steps.run.calls;
   written : (text : List ℕ) × Writes (g.D.Desk.told l.initial.desk) (g.D.Desk.told l.desk) text
-      × IsProvedRun l.engine (plain_pattern l.start) text l.steps;
+      × IsProvedRun l.engine (plain_pattern l.start) text l.steps × (l.written ≡ capped (length text));
 }
