@@ -1,25 +1,27 @@
 -- What is said of a call, by what came of it.
-use Rattle.std.proofs.Common.{◌≡◌, ◌≢◌, ℕ, ◌⊎◌, inl, inr, List, Option, Some, None, refl, sym, ◌∙◌, ap, subst, arith}
+use Rattle.std.proofs.Common.{◌≡◌, ℕ, ◌⊎◌, inl, inr, List, Option, Some, None, refl, ◌∙◌, ap, subst, arith}
 use Rattle.desk_io.specs.Told.{Told, KeepsFiles}
 use Rattle.desk_io.specs.Sent.{SameBytes}
-use Rattle.rule_core.specs.Runs.{Run, stuck, limited, stopped, unstarted, kept_by}
-use Rattle.kore_prove.specs.Words.{RunRequest, AreBad, IsRun, IsVerify, IsProofRun}
-use Rattle.kore_prove.specs.PrintedRun.{code_of, IsPrinted, PrintsRun}
-use Rattle.kore_prove.specs.ProvedRun.{HoldsProof, HasWantedProof, IsProved, ProvesRun, LeavesFront, KeepsOthers}
+use Rattle.rule_core.specs.Runs.{Run, stuck, limited, stopped, unstarted}
+use Rattle.kore_prove.specs.Words.{RunRequest, DrillRequest, AreBad, IsRun, IsVerify, IsDrill, IsNoVerify, IsNoDrill, IsProofFile}
+use Rattle.kore_prove.specs.PrintedRun.{code_of, IsCodeOfRun, IsPrinted}
+use Rattle.kore_prove.specs.ProvedRun.{HoldsProof, HasWantedProof, LeavesFront}
 use Rattle.kore_prove.specs.Verdicts.{PrintsVerdict}
+use Rattle.kore_prove.specs.DrilledRun.{IsDrilled, Drills, LeavesDrill, LeavesFrontOfDrill}
 use Rattle.kore_prove.specs.DatabaseVerdicts.{PrintsVerdictOn, verdict_code}
 use Rattle.kore_prove.specs.declared.verification.Verdict.{Verdict}
-use Rattle.kore_prove.specs.Reports.{Ending, out_of_memory, bad_words, end_code, Reports}
-use Rattle.kore_prove.specs.Causes.{Course, Call, VerifyCause, KeepsOutput, IsUnwritten, without_memory, with_bad_words, of_run, of_verify, run_done, verify_done}
-use Rattle.kore_prove.specs.Readiness.{Completes, CompletesVerdict}
-use Rattle.kore_prove.specs.Requests.{IsWanted}
-use Rattle.kore_prove.specs.RunsDone.{IsRunDone, IsRunEnded}
+use Rattle.kore_prove.specs.Reports.{Ending, out_of_memory, bad_words, Reports}
+use Rattle.kore_prove.specs.Causes.{Course, Call, VerifyCause, KeepsOutput, IsUnwritten, without_memory, with_bad_words, of_run, of_verify, of_drill, run_done, verify_done, drill_done}
+use Rattle.kore_prove.specs.Readiness.{CompletesDrill}
+use Rattle.kore_prove.specs.Requests.{IsWanted, IsDrillFile}
+use Rattle.kore_prove.specs.RunsDone.{IsRunDone, IsRunEnded, IsDrillDone, IsDrillEnded}
 use Rattle.kore_prove.specs.Calls.{IsAnswered}
-use Rattle.kore_prove.proofs.CommandWords.{one_request, run_good, verify_good, not_both}
-use Rattle.kore_prove.proofs.Completing.{run_ends_without_memory, verify_ends_without_memory, ready_run, ready_verify}
-use Rattle.kore_prove.proofs.Ending.{IsDoneCode, code_of_no_end, code_of_run, code_of_one, unwritten, files_at, same_files}
+use Rattle.kore_prove.proofs.CommandWords.{one_request, one_drill, run_good, verify_good, drill_good, not_both, run_no_drill, verify_no_drill, bad_no_drill}
+use Rattle.kore_prove.proofs.Completing.{run_ends_without_memory, verify_ends_without_memory, drill_ends_without_memory, ready_run, ready_verify}
+use Rattle.kore_prove.proofs.Ending.{code_of_no_end, code_of_run, code_of_one, unwritten, same_files}
 use Rattle.kore_prove.proofs.Verifying.{code_of_verdict, prints_verdict}
-use Rattle.kore_prove.proofs.FileProofs.{kept_others, fewer_others, kept_file}
+use Rattle.kore_prove.proofs.FileProofs.{some_same, kept_others, fewer_others, kept_file}
+use Rattle.kore_prove.proofs.Drills.{drilled_front}
 use Rattle.kore_prove.proofs.Performing.{left_front, proof_is_front}
 
 -- the code of a run is one of three
@@ -51,10 +53,20 @@ front_of_run asked c run done =
     let files = done.printed.of_files.files in
     left_front asked c.told c.told c.told' done.theory done.start files (same_files c.told) (proof_is_front asked.proof c.told c.told' done.theory done.start run done.proof)
 
--- words that ask for a run get no verdict, and the other way round
-no_verdict : (words : List (List ℕ)) (asked : RunRequest) (told : Option Told) (before after : Option (List ℕ)) (code : ℕ) → IsRun words asked → PrintsVerdict words told before after code
-no_verdict words asked None before after code command = tt
-no_verdict words asked (Some told) before after code command = λ file verify. absurd (not_both words asked file command verify)
+-- words that do not ask for a verdict get none
+no_verdict : (words : List (List ℕ)) (told : Option Told) (before after : Option (List ℕ)) (code : ℕ) → IsNoVerify words → PrintsVerdict words told before after code
+no_verdict words None before after code unasked = tt
+no_verdict words (Some told) before after code unasked = λ file verify. absurd (unasked file verify)
+
+-- words that do not ask for a drill get none
+no_drilled : (c : Call) (code : ℕ) → IsNoDrill c.words → Drills c.words c.course.told c.course.told' c.course.output c.course.output' code
+no_drilled c code unasked = λ _ asked command. absurd (unasked asked command)
+
+no_drill_front : (c : Call) → IsNoDrill c.words → LeavesFrontOfDrill c.words c.course.told c.course.told'
+no_drill_front c unasked = λ asked command. absurd (unasked asked command)
+
+no_drill_completed : (c : Call) (code : ℕ) → IsNoDrill c.words → CompletesDrill c.words c.course code
+no_drill_completed c code unasked = λ ready _ _. absurd (unasked ready.asked ready.command)
 
 pub run_answered : (c : Call) (code : ℕ) (asked : RunRequest) (run : Run) → IsRun c.words asked → IsRunDone asked c.course run → code ≡ code_of run → SameBytes c.errors c.errors' → IsAnswered c code
 run_answered c code asked run command done is silent =
@@ -73,12 +85,15 @@ run_answered c code asked run command done is silent =
           let same : asked.proof ≡ Some file = ap (λ (r : RunRequest). r.proof) (one_request c.words asked wanted.0 command wanted.1) ∙ wanted.2 in
           record { printed = printed; wanted = same; proof = wanted_proof asked.proof file c.course asked run done same });
       proof_front = λ asked' command'. same_front asked asked' c.course (one_request c.words asked asked' command command') (front_of_run asked c.course run done);
-      verdict = no_verdict c.words asked c.course.told c.course.output c.course.output' code command;
+      verdict = no_verdict c.words c.course.told c.course.output c.course.output' code (λ file verify. not_both c.words asked file command verify);
+      drilled = no_drilled c code (run_no_drill c.words asked command);
+      drill_front = no_drill_front c (run_no_drill c.words asked command);
       ends = inl (record { done = run_done command codes; silent = silent });
       complete = λ _ _. more_code code codes;
       complete_verdict = λ ready _ _. (let v = ready_verify c.words c.course.told ready in absurd (not_both c.words asked v.0 command v.1));
+      complete_drill = no_drill_completed c code (run_no_drill c.words asked command);
       bad_words = λ bad. absurd (run_good c.words asked command bad);
-      others = fewer_others (IsWanted asked) (IsProofRun c.words) c.course.told c.course.told' (λ file wanted. (asked, command, wanted)) done.others;
+      others = fewer_others (IsWanted asked) (IsProofFile c.words) c.course.told c.course.told' (λ file wanted. inl (asked, command, wanted)) done.others;
       files = run_writes code _ codes;
     }
 
@@ -87,17 +102,20 @@ run_ended c code asked e command ended said = record {
   printed_run = λ h. absurd (code_of_no_end e _ _ _ _ code said (code_of_run c.words code h));
   proved_run = λ h _ _. absurd (code_of_no_end e _ _ _ _ code said (code_of_run c.words code h));
   proof_front = λ asked' command'. same_front asked asked' c.course (one_request c.words asked asked' command command') ended.front;
-  verdict = no_verdict c.words asked c.course.told c.course.output c.course.output' code command;
+  verdict = no_verdict c.words c.course.told c.course.output c.course.output' code (λ file verify. not_both c.words asked file command verify);
+  drilled = no_drilled c code (run_no_drill c.words asked command);
+  drill_front = no_drill_front c (run_no_drill c.words asked command);
   ends = inr (record { end = e; cause = of_run command ended.cause; output = ended.output; said = said });
   complete = λ ready free. inr (inr (inr (code_of_one e _ _ _ _ code said (run_ends_without_memory c.words c.course.told asked c.course e refl ready command free ended.cause))));
   complete_verdict = λ ready _ _. (let v = ready_verify c.words c.course.told ready in absurd (not_both c.words asked v.0 command v.1));
+  complete_drill = no_drill_completed c code (run_no_drill c.words asked command);
   bad_words = λ bad. absurd (run_good c.words asked command bad);
-  others = fewer_others (IsWanted asked) (IsProofRun c.words) c.course.told c.course.told' (λ file wanted. (asked, command, wanted)) ended.others;
+  others = fewer_others (IsWanted asked) (IsProofFile c.words) c.course.told c.course.told' (λ file wanted. inl (asked, command, wanted)) ended.others;
   files = unwritten e _ _ _ _ code c.course.told c.course.told' said ended.files;
 }
 
 -- a verdict has not the code of a run
-verdict_no_run : (words : List (List ℕ)) (file : List ℕ) (v : Verdict) (code : ℕ) (P : Type 0) → IsVerify words file → code ≡ verdict_code v → (code ≡ 10) ⊎ (code ≡ 11) ⊎ ((code ≡ 0) × ((f : List ℕ) → IsVerify words f → ⊥)) → P
+verdict_no_run : (words : List (List ℕ)) (file : List ℕ) (v : Verdict) (code : ℕ) (P : Type 0) → IsVerify words file → code ≡ verdict_code v → IsCodeOfRun words code → P
 verdict_no_run words file v code P command is h = absurd (elim h [
   | inl ten ↦ elim (code_of_verdict v code is) [ inl zero ↦ omega (arith, ten, zero) | inr twelve ↦ omega (arith, ten, twelve) ]
   | inr (inl eleven) ↦ elim (code_of_verdict v code is) [ inl zero ↦ omega (arith, eleven, zero) | inr twelve ↦ omega (arith, eleven, twelve) ]
@@ -114,11 +132,14 @@ verify_answered c code file v command printed kept is silent = record {
   proved_run = λ h _ _. verdict_no_run c.words file v code _ command is h;
   proof_front = λ _ _ name _. inl (kept_file c.course.told c.course.told' name kept);
   verdict = prints_verdict c.words c.course.told c.course.output c.course.output' file v code command printed is;
+  drilled = no_drilled c code (verify_no_drill c.words file command);
+  drill_front = no_drill_front c (verify_no_drill c.words file command);
   ends = inl (record { done = verify_done command (code_of_verdict v code is); silent = silent });
   complete = λ ready _. (let r = ready_run c.words c.course.told ready in absurd (not_both c.words r.0 file r.1 command));
   complete_verdict = λ _ _ _. verdict_codes code (code_of_verdict v code is);
+  complete_drill = no_drill_completed c code (verify_no_drill c.words file command);
   bad_words = λ bad. absurd (verify_good c.words file command bad);
-  others = kept_others (IsProofRun c.words) c.course.told c.course.told' kept;
+  others = kept_others (IsProofFile c.words) c.course.told c.course.told' kept;
   files = λ _. kept;
 }
 
@@ -136,12 +157,59 @@ verify_ended c code file e command cause output kept said = record {
   proved_run = λ h _ _. absurd (code_of_no_end e _ _ _ _ code said (code_of_run c.words code h));
   proof_front = λ _ _ name _. inl (kept_file c.course.told c.course.told' name kept);
   verdict = ended_no_verdict c.words c.course.told c.course.output c.course.output' e _ _ _ _ code said;
+  drilled = no_drilled c code (verify_no_drill c.words file command);
+  drill_front = no_drill_front c (verify_no_drill c.words file command);
   ends = inr (record { end = e; cause = of_verify command cause; output = output; said = said });
   complete = λ ready _. (let r = ready_run c.words c.course.told ready in absurd (not_both c.words r.0 file r.1 command));
   complete_verdict = λ ready reads writes. inr (inr (code_of_one e _ _ _ _ code said (verify_ends_without_memory c.words c.course.told file c.course e refl ready command reads writes cause)));
+  complete_drill = no_drill_completed c code (verify_no_drill c.words file command);
   bad_words = λ bad. absurd (verify_good c.words file command bad);
-  others = kept_others (IsProofRun c.words) c.course.told c.course.told' kept;
+  others = kept_others (IsProofFile c.words) c.course.told c.course.told' kept;
   files = λ _. kept;
+}
+
+-- a drill has not the code of a run
+drill_no_run : (words : List (List ℕ)) (asked : DrillRequest) (code : ℕ) (P : Type 0) → IsDrill words asked → code ≡ 0 → IsCodeOfRun words code → P
+drill_no_run words asked code P command is (inl ten) = absurd (omega (arith, ten, is))
+drill_no_run words asked code P command is (inr (inl eleven)) = absurd (omega (arith, eleven, is))
+drill_no_run words asked code P command is (inr (inr zero)) = absurd (zero.2 asked command)
+
+same_drill : (asked asked' : DrillRequest) (c : Course) → asked ≡ asked' → LeavesDrill asked c.told c.told' → LeavesDrill asked' c.told c.told'
+same_drill asked asked' c same h = subst (λ (d : DrillRequest). LeavesDrill d c.told c.told') same h
+
+pub drill_answered : (c : Call) (code : ℕ) (asked : DrillRequest) → IsDrill c.words asked → IsDrillDone asked c.course → code ≡ 0 → SameBytes c.errors c.errors' → IsAnswered c code
+drill_answered c code asked command done is silent =
+    let made : IsDrilled asked c.course.told c.course.told' c.course.output c.course.output' = done.drilled in record {
+      printed_run = λ h. drill_no_run c.words asked code _ command is h;
+      proved_run = λ h _ _. drill_no_run c.words asked code _ command is h;
+      proof_front = λ run ran. absurd (run_no_drill c.words run ran asked command);
+      verdict = no_verdict c.words c.course.told c.course.output c.course.output' code (λ file verify. verify_no_drill c.words file verify asked command);
+      drilled = λ _ asked' command'. subst (λ (d : DrillRequest). IsDrilled d c.course.told c.course.told' c.course.output c.course.output') (one_drill c.words asked asked' command command') made;
+      drill_front = λ asked' command'. same_drill asked asked' c.course (one_drill c.words asked asked' command command') (drilled_front asked c.course.told c.course.told' c.course.output c.course.output' made);
+      ends = inl (record { done = drill_done command is; silent = silent });
+      complete = λ ready _. (let r = ready_run c.words c.course.told ready in absurd (run_no_drill c.words r.0 r.1 asked command));
+      complete_verdict = λ ready _ _. (let v = ready_verify c.words c.course.told ready in absurd (verify_no_drill c.words v.0 v.1 asked command));
+      complete_drill = λ _ _ _. inl is;
+      bad_words = λ bad. absurd (drill_good c.words asked command bad);
+      others = fewer_others (IsDrillFile asked) (IsProofFile c.words) c.course.told c.course.told' (λ file wanted. inr (asked, command, some_same asked.file file wanted)) done.others;
+      files = λ un. absurd (un.0 is);
+    }
+
+pub drill_ended : (c : Call) (code : ℕ) (asked : DrillRequest) (e : Ending) → IsDrill c.words asked → IsDrillEnded asked c.course e → Reports e c.errors c.errors' c.complaints c.complaints' code → IsAnswered c code
+drill_ended c code asked e command ended said = record {
+  printed_run = λ h. absurd (code_of_no_end e _ _ _ _ code said (code_of_run c.words code h));
+  proved_run = λ h _ _. absurd (code_of_no_end e _ _ _ _ code said (code_of_run c.words code h));
+  proof_front = λ run ran. absurd (run_no_drill c.words run ran asked command);
+  verdict = no_verdict c.words c.course.told c.course.output c.course.output' code (λ file verify. verify_no_drill c.words file verify asked command);
+  drilled = λ zero _ _. absurd (code_of_no_end e _ _ _ _ code said (inl zero));
+  drill_front = λ asked' command'. same_drill asked asked' c.course (one_drill c.words asked asked' command command') ended.front;
+  ends = inr (record { end = e; cause = of_drill command ended.cause; output = ended.output; said = said });
+  complete = λ ready _. (let r = ready_run c.words c.course.told ready in absurd (run_no_drill c.words r.0 r.1 asked command));
+  complete_verdict = λ ready _ _. (let v = ready_verify c.words c.course.told ready in absurd (verify_no_drill c.words v.0 v.1 asked command));
+  complete_drill = λ ready files writes. inr (code_of_one e _ _ _ _ code said (drill_ends_without_memory c.words asked c.course e ready command files writes ended.cause));
+  bad_words = λ bad. absurd (drill_good c.words asked command bad);
+  others = fewer_others (IsDrillFile asked) (IsProofFile c.words) c.course.told c.course.told' (λ file wanted. inr (asked, command, some_same asked.file file wanted)) ended.others;
+  files = unwritten e _ _ _ _ code c.course.told c.course.told' said ended.files;
 }
 
 bad_code : (code : ℕ) (before after : Option (List ℕ)) (old new : ℕ) → Reports bad_words before after old new code → (code ≡ 2) ⊎ (code ≡ 1)
@@ -154,11 +222,14 @@ bad_answered c code bad output kept said = record {
   proved_run = λ h _ _. absurd (code_of_no_end bad_words _ _ _ _ code said (code_of_run c.words code h));
   proof_front = λ _ _ name _. inl (kept_file c.course.told c.course.told' name kept);
   verdict = ended_no_verdict c.words c.course.told c.course.output c.course.output' bad_words _ _ _ _ code said;
+  drilled = no_drilled c code (bad_no_drill c.words bad);
+  drill_front = no_drill_front c (bad_no_drill c.words bad);
   ends = inr (record { end = bad_words; cause = with_bad_words bad; output = output; said = said });
   complete = λ ready _. (let r = ready_run c.words c.course.told ready in absurd (run_good c.words r.0 r.1 bad));
   complete_verdict = λ ready _ _. (let v = ready_verify c.words c.course.told ready in absurd (verify_good c.words v.0 v.1 bad));
+  complete_drill = no_drill_completed c code (bad_no_drill c.words bad);
   bad_words = λ _. bad_code code _ _ _ _ said;
-  others = kept_others (IsProofRun c.words) c.course.told c.course.told' kept;
+  others = kept_others (IsProofFile c.words) c.course.told c.course.told' kept;
   files = λ _. kept;
 }
 
@@ -169,10 +240,13 @@ memory_answered c code output kept said =
       proved_run = λ h _ _. absurd (code_of_no_end out_of_memory _ _ _ _ code said (code_of_run c.words code h));
       proof_front = λ _ _ name _. inl (kept_file c.course.told c.course.told' name kept);
       verdict = ended_no_verdict c.words c.course.told c.course.output c.course.output' out_of_memory _ _ _ _ code said;
+      drilled = λ zero _ _. absurd (code_of_no_end out_of_memory _ _ _ _ code said (inl zero));
+      drill_front = λ asked _. inl (kept_file c.course.told c.course.told' asked.file kept);
       ends = inr (record { end = out_of_memory; cause = without_memory; output = output; said = said });
       complete = λ _ _. inr (inr (inr one));
       complete_verdict = λ _ _ _. inr (inr one);
+      complete_drill = λ _ _ _. inr one;
       bad_words = λ _. inr one;
-      others = kept_others (IsProofRun c.words) c.course.told c.course.told' kept;
+      others = kept_others (IsProofFile c.words) c.course.told c.course.told' kept;
       files = λ _. kept;
     }

@@ -1,10 +1,10 @@
 -- Words ask for one thing.
-use Rattle.std.proofs.Common.{◌≡◌, ℕ, List, [], ◌∷◌, length, Bool, true, false, Option, Some, None, refl, sym, ◌∙◌, ap, subst, arith}
+use Rattle.std.proofs.Common.{◌≡◌, ℕ, List, [], ◌∷◌, length, Bool, true, false, Option, Some, refl, sym, ◌∙◌, ap, arith}
 use Rattle.std.proofs.lemmas.Slice.Eq.{bytes_eq-Decides}
 use Rattle.std.specs.Prelude.{codes}
 use Rattle.std.specs.Str.{bytes_eq}
 use Rattle.command_words.specs.CommandLine.{is_named}
-use Rattle.kore_prove.specs.Words.{RunRequest, AreBad, IsRun, IsVerify}
+use Rattle.kore_prove.specs.Words.{RunRequest, DrillRequest, AreBad, IsRun, IsVerify, IsDrill, IsNoDrill}
 
 some_same : {A : Type 0} (o : Option A) (a b : A) → o ≡ Some a → o ≡ Some b → a ≡ b
 some_same o a b h k = cc
@@ -28,23 +28,44 @@ one_request words a b h k =
 pub one_file : (words : List (List ℕ)) (a b : List ℕ) → IsVerify words a → IsVerify words b → a ≡ b
 one_file words a b h k = some_same _ _ _ h.file_is k.file_is
 
+pub one_drill : (words : List (List ℕ)) (a b : DrillRequest) → IsDrill words a → IsDrill words b → a ≡ b
+one_drill words a b h k =
+    let steps : a.steps ≡ b.steps = some_same _ _ _ h.steps_are k.steps_are in
+    let file : a.file ≡ b.file = some_same _ _ _ h.file_is k.file_is in
+    ap (λ (n : ℕ). record a { steps = n }) steps ∙ ap (λ (f : List ℕ). record b { file = f }) file
+
 pub run_good : (words : List (List ℕ)) (asked : RunRequest) → IsRun words asked → AreBad words → ⊥
 run_good words asked h bad = never _ h.good bad.bad
 
 pub verify_good : (words : List (List ℕ)) (file : List ℕ) → IsVerify words file → AreBad words → ⊥
 verify_good words file h bad = never _ h.good bad.bad
 
--- two words are not one
-both_names : (word : List ℕ) → bytes_eq word (codes "run") ≡ true → bytes_eq word (codes "verify") ≡ true → ⊥
-both_names word h k =
-    let one : word ≡ codes "run" = (bytes_eq-Decides word (codes "run")).0 h in
-    let other : word ≡ codes "verify" = (bytes_eq-Decides word (codes "verify")).0 k in
-    let same : codes "run" ≡ codes "verify" = sym one ∙ other in
-    let lengths : 3 ≡ 6 = ap length same in omega (arith, lengths)
+pub drill_good : (words : List (List ℕ)) (asked : DrillRequest) → IsDrill words asked → AreBad words → ⊥
+drill_good words asked h bad = never _ h.good bad.bad
 
-named_both : (words : List (List ℕ)) → is_named (codes "run") words ≡ true → is_named (codes "verify") words ≡ true → ⊥
-named_both [] h k = never false refl h
-named_both (word ∷ words) h k = both_names word h k
+-- names of two lengths are not one
+both_names : (a b word : List ℕ) → (length a ≡ length b → ⊥) → bytes_eq word a ≡ true → bytes_eq word b ≡ true → ⊥
+both_names a b word differ h k =
+    let one : word ≡ a = (bytes_eq-Decides word a).0 h in
+    let other : word ≡ b = (bytes_eq-Decides word b).0 k in
+    differ (ap length (sym one ∙ other))
+
+named_both : (a b : List ℕ) (words : List (List ℕ)) → (length a ≡ length b → ⊥) → is_named a words ≡ true → is_named b words ≡ true → ⊥
+named_both a b [] differ h k = never false refl h
+named_both a b (word ∷ words) differ h k = both_names a b word differ h k
 
 pub not_both : (words : List (List ℕ)) (asked : RunRequest) (file : List ℕ) → IsRun words asked → IsVerify words file → ⊥
-not_both words asked file h k = named_both words h.named k.named
+not_both words asked file h k =
+    named_both (codes "run") (codes "verify") words (λ same. (let lengths : 3 ≡ 6 = same in omega (arith, lengths))) h.named k.named
+
+-- words that ask for a run, or to verify, or that are bad, ask for no drill
+pub run_no_drill : (words : List (List ℕ)) (asked : RunRequest) → IsRun words asked → IsNoDrill words
+run_no_drill words asked h = λ drill k.
+    named_both (codes "run") (codes "drill") words (λ same. (let lengths : 3 ≡ 5 = same in omega (arith, lengths))) h.named k.named
+
+pub verify_no_drill : (words : List (List ℕ)) (file : List ℕ) → IsVerify words file → IsNoDrill words
+verify_no_drill words file h = λ drill k.
+    named_both (codes "verify") (codes "drill") words (λ same. (let lengths : 6 ≡ 5 = same in omega (arith, lengths))) h.named k.named
+
+pub bad_no_drill : (words : List (List ℕ)) → AreBad words → IsNoDrill words
+bad_no_drill words bad = λ drill k. drill_good words drill k bad

@@ -1,16 +1,16 @@
--- A call that can run, or verify, and that nothing hinders ends as out of memory, if it prints no run and no verdict.
-use Rattle.std.proofs.Common.{◌≡◌, ℕ, ◌⊎◌, inl, inr, List, Option, None, Some, refl, sym, subst}
+-- A call that can run, or verify, or drill, and that nothing hinders ends as out of memory, if it does not come to that.
+use Rattle.std.proofs.Common.{◌≡◌, ℕ, inl, inr, List, Option, None, Some, refl, subst}
 use Rattle.desk_io.specs.Told.{Told, Holds, Lacks, HoldsMore}
 use Rattle.desk_io.specs.Counts.{Rose}
 use Rattle.rule_core.specs.Theories.{RewriteTheory}
 use Rattle.kore_rules.specs.Acceptance.{IsAccepted, IsRefused, IsRefusedTerm}
-use Rattle.kore_prove.specs.Words.{RunRequest, IsRun, IsVerify}
+use Rattle.kore_prove.specs.Words.{RunRequest, DrillRequest, IsRun, IsVerify, IsDrill}
 use Rattle.kore_prove.specs.Limits.{HoldsWithin, definition_limit, term_limit, database_limit}
 use Rattle.kore_prove.specs.Files.{HoldsProgram}
 use Rattle.kore_prove.specs.Reports.{Ending, out_of_memory, bad_words, read_fault, write_fault, no_such_file, definition_refused, term_refused, too_large, end_code}
-use Rattle.kore_prove.specs.Causes.{Course, ReadCause, RunCause, VerifyCause, HoldsRefused, HoldsRefusedTerm}
-use Rattle.kore_prove.specs.Readiness.{CanRun, CanVerify, IsReady, IsReadyToVerify, IsFaultless, IsFaultlessTerm, IsUnhindered}
-use Rattle.kore_prove.proofs.CommandWords.{one_request, one_file}
+use Rattle.kore_prove.specs.Causes.{Course, ReadCause, RunCause, VerifyCause, DrillCause}
+use Rattle.kore_prove.specs.Readiness.{CanRun, CanVerify, CanDrill, IsReady, IsReadyToVerify, IsFaultless, IsFaultlessTerm, IsUnhindered}
+use Rattle.kore_prove.proofs.CommandWords.{one_request, one_file, one_drill}
 use Rattle.kore_prove.proofs.Ending.{one_content, not_lacking, not_more}
 
 -- the files that are asked for can be run
@@ -78,6 +78,20 @@ no_verify_cause words told r file c (too_large name) is command reads writes h =
 pub verify_ends_without_memory : (words : List (List ℕ)) (told : Option Told) (file : List ℕ) (c : Course) (e : Ending) → c.told ≡ told → IsReadyToVerify words told → IsVerify words file → (Rose c.reads c.reads' → ⊥) → (Rose c.writes c.writes' → ⊥) → VerifyCause file c e → end_code e ≡ 1
 verify_ends_without_memory words None file c e is ready command reads writes cause = absurd ready
 verify_ends_without_memory words (Some told) file c e is ready command reads writes cause = no_verify_cause words told ready file c e is command reads writes cause
+
+no_drill_cause : (words : List (List ℕ)) (r : CanDrill words) (c : Course) (e : Ending) → (Rose c.files c.files' → ⊥) → (Rose c.writes c.writes' → ⊥) → DrillCause r.asked.steps c e → end_code e ≡ 1
+no_drill_cause words r c out_of_memory files writes h = refl
+no_drill_cause words r c bad_words files writes h = absurd h
+no_drill_cause words r c read_fault files writes h = absurd h
+no_drill_cause words r c write_fault files writes h = absurd (elim h.0 [ inl out ↦ writes out | inr desk ↦ files desk ])
+no_drill_cause words r c (no_such_file name) files writes h = absurd h
+no_drill_cause words r c (definition_refused number byte) files writes h = absurd (r.faultless _ h)
+no_drill_cause words r c (term_refused number byte) files writes h = absurd (r.faultless_term h.theory h.top h.definition _ h.refused)
+no_drill_cause words r c (too_large name) files writes h = absurd h
+
+pub drill_ends_without_memory : (words : List (List ℕ)) (asked : DrillRequest) (c : Course) (e : Ending) → CanDrill words → IsDrill words asked → (Rose c.files c.files' → ⊥) → (Rose c.writes c.writes' → ⊥) → DrillCause asked.steps c e → end_code e ≡ 1
+drill_ends_without_memory words asked c e ready command files writes cause =
+    no_drill_cause words ready c e files writes (subst (λ (d : DrillRequest). DrillCause d.steps c e) (one_drill words asked ready.asked command ready.command) cause)
 
 -- words that can run, or verify, ask for that
 pub ready_run : (words : List (List ℕ)) (told : Option Told) → IsReady words told → (asked : RunRequest) × IsRun words asked

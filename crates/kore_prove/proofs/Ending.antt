@@ -1,5 +1,5 @@
 -- Ends of a call that prints no run, and their causes.
-use Rattle.std.proofs.Common.{◌≡◌, ℕ, ◌≤◌, ◌<◌, ◌⊎◌, inl, inr, List, [], length, Option, None, Some, refl, sym, ◌∙◌, ap, subst, arith}
+use Rattle.std.proofs.Common.{◌≡◌, ℕ, ◌≤◌, ◌⊎◌, inl, inr, List, [], length, Option, None, Some, refl, sym, ◌∙◌, ap, subst, arith}
 use Rattle.std.proofs.lemmas.List.{append-nil}
 use Rattle.desk_io.specs.Told.{Told, Holds, Lacks, HoldsMore, KeepsFiles, file_of}
 use Rattle.desk_io.specs.Sent.{SameBytes}

@@ -1,5 +1,5 @@
 -- The file of a proof, and what becomes of the other files.
-use Rattle.std.proofs.Common.{◌≡◌, ◌≢◌, ℕ, ◌⊎◌, inl, inr, List, [], ◌++◌, Option, Some, None, Result, Ok, Err, true, refl, sym, ◌∙◌, ap, subst}
+use Rattle.std.proofs.Common.{◌≡◌, ◌≢◌, ℕ, inl, inr, List, [], ◌++◌, Option, Some, None, Result, Ok, Err, true, refl, sym, ◌∙◌, ap, subst}
 use Rattle.std.specs.Prelude.{OnErr}
 use Rattle.std.proofs.lemmas.List.{append-nil}
 use Rattle.desk_io.specs.Told.{Told, KeepsFiles, Same, TellsCreated, Creates, Writes, Closes, PutsFile, file_of}
@@ -8,19 +8,16 @@ use Rattle.rule_core.specs.Theories.{RewriteTheory}
 use Rattle.rule_core.specs.Runs.{Run, kept_by}
 use Rattle.mm_justify.specs.Justifying.{JustifiesRun}
 use Rattle.run_proof.specs.WrittenProofs.{WritesProof, WritesFrontOfProof, IsFrontOfProof}
-use Rattle.kore_prove.specs.ProvedRun.{Tells, TellsNow, KeepsFile, KeepsOthers, HoldsProof, HoldsFront}
-use Rattle.kore_prove.specs.ProofFiles.{PutsCreated, PutsProof, PutsFront, MayHoldFront, KeepsOthersNow}
+use Rattle.run_proof.specs.declared.summaries.Summary.{Summary}
+use Rattle.kore_prove.specs.ProvedRun.{Tells, TellsNow, KeepsFile, KeepsOthers}
+use Rattle.kore_prove.specs.ProofFiles.{PutsCreated, PutsProof, PutsFront, HoldsCounted, MayHoldFront, KeepsOthersNow}
 
 -- what is said of an error
-pub on_err : {T E : Type 0} (r : Result T E) (P : Type 0) → P → OnErr r P
-on_err (Ok t) P h = tt
-on_err (Err e) P h = h
-
 pub on_err_more : {T E : Type 0} (r : Result T E) (P Q : Type 0) → (P → Q) → OnErr r P → OnErr r Q
 on_err_more (Ok t) P Q f h = tt
 on_err_more (Err e) P Q f h = f h
 
-some_same : {A : Type 0} (a b : A) → Some a ≡ Some b → a ≡ b
+pub some_same : {A : Type 0} (a b : A) → Some a ≡ Some b → a ≡ b
 some_same a b h = cc
 
 -- what keeps all files keeps the others, and of fewer files that are written more are kept
@@ -124,21 +121,25 @@ front_others (Some made) mid new theory start h k told = puts_others (Some made)
 pub proof_front : (theory : RewriteTheory) (start end : Pattern) (bytes : List ℕ) → JustifiesRun bytes theory start end → IsFrontOfProof theory start bytes
 proof_front theory start end bytes h = (end, ([], subst (λ (text : List ℕ). JustifiesRun text theory start end) (sym (append-nil bytes)) h))
 
-pub proof_written : (old new : Option Told) (theory : RewriteTheory) (start : Pattern) (run : Run) → WritesProof old new theory start run → WritesFrontOfProof old new theory start
-proof_written old new theory start run h = (h.0, h.1, inr (proof_front theory start (kept_by start run) h.0 h.2))
+pub proof_written : (old new : Option Told) (theory : RewriteTheory) (start : Pattern) (run : Run) (s : Summary) → WritesProof old new theory start run s → WritesFrontOfProof old new theory start
+proof_written old new theory start run s h = (h.0, h.1, inr (proof_front theory start (kept_by start run) h.0 h.2))
 
 -- a proof that was written, and closed
-pub proof_closed : (made mid new : Option Told) (theory : RewriteTheory) (start : Pattern) (run : Run) → WritesProof made mid theory start run → Closes mid new → PutsProof made new theory start run
-proof_closed made mid new theory start run h k = (h.0, written_closed made mid new h.0 h.1 k, h.2)
+pub proof_closed : (made mid new : Option Told) (theory : RewriteTheory) (start : Pattern) (run : Run) (s : Summary) → WritesProof made mid theory start run s → Closes mid new → PutsProof made new theory start run s
+proof_closed made mid new theory start run s h k = (h.0, written_closed made mid new h.0 h.1 k, h.2, h.3)
 
 -- the file that was created holds it
-pub created_proof : (old made new : Option Told) (file : List ℕ) (theory : RewriteTheory) (start : Pattern) (run : Run) → Creates old made file → PutsProof made new theory start run →
-    HoldsProof old new file theory start run
-created_proof old made new file theory start run h k = record {
-  bytes = k.0;
-  held = created_tells old made new file k.0 h k.1;
-  justifies = k.2;
+pub created_proof : (old made new : Option Told) (file : List ℕ) (theory : RewriteTheory) (start : Pattern) (run : Run) (s : Summary) → Creates old made file → PutsProof made new theory start run s →
+    HoldsCounted old new file theory start run s
+created_proof old made new file theory start run s h k = record {
+  proof = record { bytes = k.0; held = created_tells old made new file k.0 h k.1; justifies = k.2 };
+  counted = k.3;
 }
+
+-- .. and so the front of one
+pub counted_front : (told told' : Option Told) (file : List ℕ) (theory : RewriteTheory) (start : Pattern) (run : Run) (s : Summary) → HoldsCounted told told' file theory start run s → MayHoldFront told told' file theory start
+counted_front told told' file theory start run s h =
+    inr (record { bytes = h.proof.bytes; held = h.proof.held; front = inr (proof_front theory start (kept_by start run) h.proof.bytes h.proof.justifies) })
 
 -- .. or the front of one
 pub created_front : (old made new : Option Told) (file : List ℕ) (theory : RewriteTheory) (start : Pattern) → Creates old made file → PutsFront made new theory start → MayHoldFront old new file theory start

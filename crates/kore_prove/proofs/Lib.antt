@@ -7,3 +7,4 @@ pub mod Completing
 pub mod Answering
 pub mod Performing
 pub mod PlainNames
+pub mod Drills

@@ -1,6 +1,5 @@
 -- From the parts of a run command to what came of it.
-use Rattle.std.proofs.Common.{◌≡◌, ℕ, ◌+◌, ◌≤◌, ◌^◌, ◌⊎◌, inl, inr, List, [], length, map, Option, Some, None, Bool, true, false, IsSome, IsTrue, refl, sym, ◌∙◌, ap, subst, arith}
-use Rattle.std.proofs.lemmas.List.{length-map}
+use Rattle.std.proofs.Common.{◌≡◌, ℕ, ◌⊎◌, inl, inr, List, Option, Some, None, IsSome, refl, sym, subst}
 use Rattle.desk_io.specs.Told.{Told, KeepsFiles, Holds}
 use Rattle.desk_io.specs.Counts.{Rose}
 use Rattle.desk_io.specs.Sent.{Appends, AppendsFront}
@@ -10,26 +9,21 @@ use Rattle.term_core.specs.Patterns.{Pattern, ground_pattern}
 use Rattle.rule_core.specs.Theories.{RewriteTheory}
 use Rattle.rule_core.specs.Runs.{Run, stuck, limited, stopped, unstarted, kept_by}
 use Rattle.rule_core.specs.WellSorted.{IsSignature, IsStart}
-use Rattle.rewriter.specs.Configurations.{IsConfiguration, IsStartOf}
+use Rattle.rewriter.specs.Configurations.{IsStartOf}
 use Rattle.run_loop.specs.RunEnds.{IsSortedEnd}
-use Rattle.kore_show.specs.KorePatterns.{kore_pattern}
 use Rattle.kore_show.specs.ShownLaws.{SortedIsShown}
 use Rattle.run_lines.specs.Lines.{kept_pattern}
-use Rattle.kore_rules.specs.Acceptance.{IsAcceptedTerm}
 use Rattle.kore_prove.specs.Words.{RunRequest}
-use Rattle.kore_prove.specs.Limits.{HoldsWithin, term_limit}
-use Rattle.kore_prove.specs.Files.{HoldsProgram, HoldsStart, HoldsRun}
-use Rattle.kore_prove.specs.AcceptedRuns.{IsRunOfFiles}
-use Rattle.kore_prove.specs.PrintedRun.{PrintsLines}
-use Rattle.kore_prove.specs.ProvedRun.{Tells, TellsNow, HoldsProof, HasWantedProof, KeepsFile, HoldsFrontOfRun, LeavesFront, KeepsOthers}
+use Rattle.kore_prove.specs.Files.{HoldsStart, HoldsRun}
+use Rattle.kore_prove.specs.ProvedRun.{TellsNow, HasWantedProof, LeavesFront, KeepsOthers}
 use Rattle.kore_prove.specs.ProofFiles.{HasWantedFront}
 use Rattle.kore_prove.specs.Causes.{Course, HasRun, RunCause, ReadCause, Grows, KeepsOutput}
 use Rattle.kore_prove.specs.FileCauses.{KeepsFilesAt}
 use Rattle.kore_prove.specs.PlainEnds.{fault_end}
 use Rattle.kore_prove.specs.Reports.{Ending}
-use Rattle.kore_prove.specs.Requests.{IsWanted}
+use Rattle.kore_prove.specs.Requests.{bounds_of, IsWanted}
 use Rattle.kore_prove.specs.RunsDone.{HasLines, IsRunDone, IsRunEnded}
-use Rattle.kore_prove.proofs.Ending.{kept_output, files_at, same_grows}
+use Rattle.kore_prove.proofs.Ending.{kept_output, files_at}
 use Rattle.kore_prove.proofs.FileProofs.{kept_others, then_others, kept_file, then_file, proof_front}
 
 -- the initial term, as the rewriter asks for it
@@ -80,7 +74,7 @@ proof_is_front None told told' theory start run h = tt
 proof_is_front (Some file) told told' theory start run h = inr (record { bytes = h.bytes; held = h.held; front = inr (proof_front theory start (kept_by start run) h.bytes h.justifies) })
 
 -- the run was printed
-pub run_done : (asked : RunRequest) (c : Course) (read : Option Told) (theory : RewriteTheory) (start : Pattern) (run : Run) (lines : List ℕ) → HoldsRun asked c.told theory start → KeepsFiles c.told read → HasLines asked theory start run lines → HasWantedProof asked.proof read c.told' theory start run
+pub run_done : (asked : RunRequest) (c : Course) (read : Option Told) (theory : RewriteTheory) (start : Pattern) (run : Run) (lines : List ℕ) → HoldsRun asked c.told theory start → KeepsFiles c.told read → HasLines (bounds_of asked) theory start run lines → HasWantedProof asked.proof read c.told' theory start run
     → KeepsOthers (IsWanted asked) read c.told' → Appends c.output c.output' lines → IsRunDone asked c run
 run_done asked c read theory start run lines held kept h proof others grew = record {
   theory = theory;
@@ -110,11 +104,11 @@ fault_cause : (asked : RunRequest) (c : Course) (f : DeskFault) → HasRun asked
 fault_cause asked c fault.Failed run h = inr (refl, record { rose = h refl; accepted = run })
 fault_cause asked c fault.Memory run h = inl tt
 
-fault_output : (f : DeskFault) (before after : Option (List ℕ)) → Grows before after → KeepsOutput (fault_end f) before after
+pub fault_output : (f : DeskFault) (before after : Option (List ℕ)) → Grows before after → KeepsOutput (fault_end f) before after
 fault_output fault.Failed before after h = h
 fault_output fault.Memory before after h = h
 
-fault_files : (f : DeskFault) (old new : Option Told) → KeepsFilesAt (fault_end f) old new
+pub fault_files : (f : DeskFault) (old new : Option Told) → KeepsFilesAt (fault_end f) old new
 fault_files fault.Failed old new = tt
 fault_files fault.Memory old new = tt
 

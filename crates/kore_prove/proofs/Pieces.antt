@@ -10,13 +10,14 @@ use Rattle.desk_io.specs.Sent.{Appends, AppendsFront}
 abbrev pub joined : List (Bor (List ℕ)) → List ℕ
 joined pieces = flat_map (λ (piece : Bor (List ℕ)). piece.now) pieces
 
-Appends-then : (a b c : Option (List ℕ)) (xs ys zs : List ℕ) → zs ≡ xs ++ ys → Appends a b xs → Appends b c ys → Appends a c zs
+-- what was sent, and then more
+pub Appends-then : (a b c : Option (List ℕ)) (xs ys zs : List ℕ) → zs ≡ xs ++ ys → Appends a b xs → Appends b c ys → Appends a c zs
 Appends-then None b c xs ys zs e p q = tt
 Appends-then (Some old) b c xs ys zs e p q =
     let r : Appends (Some (old ++ xs)) c ys = rw p at q in
     r ∙ ap (λ (bytes : List ℕ). Some bytes) (append_assoc old xs ys ∙ ap (λ (bytes : List ℕ). old ++ bytes) (sym e))
 
-AppendsFront-after : (a b c : Option (List ℕ)) (xs ys rest zs : List ℕ) → zs ≡ xs ++ (ys ++ rest) → Appends a b xs → AppendsFront b c ys → AppendsFront a c zs
+pub AppendsFront-after : (a b c : Option (List ℕ)) (xs ys rest zs : List ℕ) → zs ≡ xs ++ (ys ++ rest) → Appends a b xs → AppendsFront b c ys → AppendsFront a c zs
 AppendsFront-after None b c xs ys rest zs e p q = tt
 AppendsFront-after (Some old) b c xs ys rest zs e p q =
     let r : AppendsFront (Some (old ++ xs)) c ys = rw p at q in (
@@ -25,6 +26,11 @@ AppendsFront-after (Some old) b c xs ys rest zs e p q =
       e ∙ ap (λ (bytes : List ℕ). xs ++ (bytes ++ rest)) r.2 ∙ ap (λ (bytes : List ℕ). xs ++ bytes) (append_assoc r.0 r.1 rest) ∙ sym (append_assoc xs r.0 (r.1 ++ rest)),
       r.3 ∙ ap (λ (bytes : List ℕ). Some bytes) (append_assoc old xs r.0),
     )
+
+-- the front of some bytes is one of these with more after them
+pub AppendsFront-more : (a b : Option (List ℕ)) (xs ys : List ℕ) → AppendsFront a b xs → AppendsFront a b (xs ++ ys)
+AppendsFront-more None b xs ys h = tt
+AppendsFront-more (Some old) b xs ys h = (h.0, h.1 ++ ys, ap (λ (bytes : List ℕ). bytes ++ ys) h.2 ∙ append_assoc h.0 h.1 ys, h.3)
 
 joined-take_more : (pieces : List (Bor (List ℕ))) (i : ℕ) (d : Bor (List ℕ)) (piece : List ℕ) → i < length pieces → piece ≡ (get_or pieces i d).now → joined (take (i + 1) pieces) ≡ joined (take i pieces) ++ piece
 joined-take_more pieces i d piece lt item =

@@ -1,4 +1,4 @@
--- The cause of each end of a call that prints no run and no verdict. Of a desk that tells nothing only its counts
+-- The cause of each end of a call that does not come to its lines. Of a desk that tells nothing only its counts
 -- speak.
 use Rattle.std.specs.Prelude.{◌≡◌, ◌≢◌, ℕ, ◌⊎◌, List, ◌++◌, Option, None, Some}
 use Rattle.desk_io.specs.Told.{Told, Lacks, HoldsMore}
@@ -7,10 +7,12 @@ use Rattle.desk_io.specs.Counts.{Rose}
 use Rattle.term_core.specs.Patterns.{Pattern}
 use Rattle.rule_core.specs.Theories.{RewriteTheory}
 use Rattle.kore_sig.specs.FirstFault.{Fault}
-use Rattle.kore_rules.specs.Acceptance.{IsRefused, IsRefusedTerm}
-use Rattle.kore_prove.specs.Words.{RunRequest, AreBad, IsRun, IsVerify}
+use Rattle.kore_rules.specs.Acceptance.{IsAccepted, IsRefused, IsRefusedTerm}
+use Rattle.drill_gen.specs.Drill.{drill_definition, drill_term}
+use Rattle.kore_prove.specs.Words.{RunRequest, DrillRequest, AreBad, IsRun, IsVerify, IsDrill}
 use Rattle.kore_prove.specs.Limits.{HoldsWithin, definition_limit, term_limit, database_limit}
 use Rattle.kore_prove.specs.Files.{HoldsProgram, HoldsRun}
+use Rattle.kore_prove.specs.DrillProgram.{IsDrillProgram}
 use Rattle.kore_prove.specs.Reports.{Ending, out_of_memory, bad_words, read_fault, write_fault, no_such_file}
 use Rattle.kore_prove.specs.Reports.{definition_refused, term_refused, too_large, Reports}
 
@@ -89,6 +91,30 @@ VerifyCause file c (definition_refused number byte) = ⊥
 VerifyCause file c (term_refused number byte) = ⊥
 VerifyCause file c (too_large name) = (name ≡ file) × HoldsMore c.told name database_limit
 
+-- the texts of a drill were accepted
+abbrev pub HasDrill : ℕ → Type 0
+HasDrill steps = (theory : RewriteTheory) × (start : Pattern) × IsDrillProgram steps theory start
+
+-- the term of a drill is refused so, as a term of its definition
+pub record IsDrillTermRefused (steps : ℕ) (f : Fault) : Type 0 where
+  pub theory : RewriteTheory
+  pub top : Option ℕ
+  pub definition : IsAccepted (drill_definition steps) theory top
+  pub refused : IsRefusedTerm theory.sig top drill_term f
+
+-- the end of a command that drills has its cause
+abbrev pub DrillCause : ℕ → Course → Ending → Type 0
+DrillCause steps c out_of_memory = Unit {0}
+DrillCause steps c bad_words = ⊥
+DrillCause steps c read_fault = ⊥
+DrillCause steps c write_fault = (Rose c.writes c.writes' ⊎ Rose c.files c.files') × HasDrill steps
+DrillCause steps c (no_such_file name) = ⊥
+DrillCause steps c (definition_refused number byte) =
+    IsRefused (drill_definition steps) (record { number = number; byte = byte })
+DrillCause steps c (term_refused number byte) =
+    IsDrillTermRefused steps (record { number = number; byte = byte })
+DrillCause steps c (too_large name) = ⊥
+
 -- what the output told grew by some bytes
 abbrev pub Grows : Option (List ℕ) → Option (List ℕ) → Type 0
 Grows None after = Unit {0}
@@ -118,17 +144,20 @@ pub record Call : Type 0 where
   pub errors : Option (List ℕ)
   pub errors' : Option (List ℕ)
 
--- why a call came to no run and no verdict; memory may be wanting before the words are read
+-- why a call did not come to its lines; memory may be wanting before the words are read
 pub data HasCause (c : Call) : Ending → Type 0 where
   without_memory : HasCause c out_of_memory
   with_bad_words : AreBad c.words → HasCause c bad_words
   of_run : {asked : RunRequest} {e : Ending} → IsRun c.words asked → RunCause asked c.course e → HasCause c e
   of_verify : {file : List ℕ} {e : Ending} → IsVerify c.words file → VerifyCause file c.course e → HasCause c e
+  of_drill : {asked : DrillRequest} {e : Ending} → IsDrill c.words asked → DrillCause asked.steps c.course e →
+      HasCause c e
 
 -- the words are a command, and the code says that it came to its lines on the output
 pub data IsDone (words : List (List ℕ)) (code : ℕ) : Type 0 where
   run_done : {asked : RunRequest} → IsRun words asked → (code ≡ 0) ⊎ (code ≡ 10) ⊎ (code ≡ 11) → IsDone words code
   verify_done : {file : List ℕ} → IsVerify words file → (code ≡ 0) ⊎ (code ≡ 12) → IsDone words code
+  drill_done : {asked : DrillRequest} → IsDrill words asked → code ≡ 0 → IsDone words code
 
 -- the call came to its lines, and said nothing on the error stream
 pub record EndsInLines (c : Call) (code : ℕ) : Type 0 where

@@ -5,6 +5,8 @@ pub mod Files
 pub mod AcceptedRuns
 pub mod PrintedRun
 pub mod ProvedRun
+pub mod DrillProgram
+pub mod DrilledRun
 pub mod Reports
 pub mod Causes
 pub mod Readiness

@@ -6,7 +6,7 @@ use Rattle.term_core.specs.Patterns.{Pattern}
 use Rattle.rule_core.specs.Theories.{RewriteTheory}
 use Rattle.rule_core.specs.Runs.{Run, stuck, limited, stopped, unstarted}
 use Rattle.run_lines.specs.Lines.{lines_of}
-use Rattle.kore_prove.specs.Words.{RunRequest, IsRun, IsNoVerify}
+use Rattle.kore_prove.specs.Words.{RunRequest, IsRun, IsNoVerify, IsNoDrill}
 use Rattle.kore_prove.specs.AcceptedRuns.{IsRunOfFiles}
 
 -- the exit code of a run
@@ -35,9 +35,9 @@ pub record IsPrinted (words : List (List ℕ)) (told : Option Told) (before afte
     pub printed : PrintsLines told asked before after theory start run
     pub code_is : code ≡ code_of run
 
--- the exit code is one of a run; where a database is verified, 0 is one too
+-- the exit code is one of a run; 0 is also that of a database that is valid, and of a drill
 abbrev pub IsCodeOfRun : List (List ℕ) → ℕ → Type 0
-IsCodeOfRun words code = (code ≡ 10) ⊎ (code ≡ 11) ⊎ ((code ≡ 0) × IsNoVerify words)
+IsCodeOfRun words code = (code ≡ 10) ⊎ (code ≡ 11) ⊎ ((code ≡ 0) × IsNoVerify words × IsNoDrill words)
 
 -- With the exit codes of a run a run was printed. Of an output that tells nothing the lines are not said, and of a desk
 -- that tells nothing not what its files hold.

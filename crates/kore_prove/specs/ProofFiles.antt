@@ -5,8 +5,9 @@ use Rattle.term_core.specs.Patterns.{Pattern}
 use Rattle.rule_core.specs.Theories.{RewriteTheory}
 use Rattle.rule_core.specs.Runs.{Run, kept_by}
 use Rattle.mm_justify.specs.Justifying.{JustifiesRun}
-use Rattle.run_proof.specs.WrittenProofs.{IsFrontOfProof}
-use Rattle.kore_prove.specs.ProvedRun.{KeepsFile, HoldsFront}
+use Rattle.run_proof.specs.WrittenProofs.{IsFrontOfProof, IsSummaryOf}
+use Rattle.run_proof.specs.declared.summaries.Summary.{Summary}
+use Rattle.kore_prove.specs.ProvedRun.{KeepsFile, HoldsProof, HoldsFront}
 
 -- the created file grew by these bytes and is created no longer, and the others are as before
 abbrev pub PutsCreated : Option Told → Option Told → List ℕ → Type 0
@@ -24,10 +25,17 @@ KeepsOthersNow (Some old) new =
     × ((name other : List ℕ) → old.created ≡ Some name → other ≢ name →
     file_of now.files other ≡ file_of old.files other)
 
--- the created file grew by a database that justifies the run, and is created no longer
-abbrev pub PutsProof : Option Told → Option Told → RewriteTheory → Pattern → Run → Type 0
-PutsProof old new theory start run =
+-- the created file grew by a database that justifies the run and has these counts, and is created no longer
+abbrev pub PutsProof : Option Told → Option Told → RewriteTheory → Pattern → Run → Summary → Type 0
+PutsProof old new theory start run summary =
     (text : List ℕ) × PutsCreated old new text × JustifiesRun text theory start (kept_by start run)
+    × IsSummaryOf text summary
+
+-- the file holds a database that justifies the run and has these counts
+pub record HoldsCounted (told told' : Option Told) (file : List ℕ) (theory : RewriteTheory) (start : Pattern)
+    (run : Run) (summary : Summary) : Type 0 where
+  pub proof : HoldsProof told told' file theory start run
+  pub counted : IsSummaryOf proof.bytes summary
 
 -- .. by the front of one, or by nothing
 abbrev pub PutsFront : Option Told → Option Told → RewriteTheory → Pattern → Type 0

@@ -1,4 +1,4 @@
--- Which calls come to a printed run or to a verdict, unless a fault is counted or memory is wanting.
+-- Which calls come to a printed run, to a verdict or to a drill, unless a fault is counted or memory is wanting.
 use Rattle.std.specs.Prelude.{◌≡◌, ◌⊎◌, ℕ, List, Option, Some, None}
 use Rattle.desk_io.specs.Told.{Told}
 use Rattle.desk_io.specs.Counts.{Rose}
@@ -6,7 +6,8 @@ use Rattle.rule_core.specs.Theories.{RewriteTheory}
 use Rattle.kore_sig.specs.FirstFault.{Fault}
 use Rattle.kore_rules.specs.Acceptance.{IsAccepted, IsRefused, IsRefusedTerm}
 use Rattle.kore_prove.specs.Limits.{HoldsWithin, definition_limit, term_limit, database_limit}
-use Rattle.kore_prove.specs.Words.{RunRequest, IsRun, IsVerify}
+use Rattle.drill_gen.specs.Drill.{drill_definition, drill_term}
+use Rattle.kore_prove.specs.Words.{RunRequest, DrillRequest, IsRun, IsVerify, IsDrill}
 use Rattle.kore_prove.specs.Causes.{Course}
 
 -- no first fault of a definition stands against the bytes
@@ -47,6 +48,14 @@ abbrev pub IsReadyToVerify : List (List ℕ) → Option Told → Type 0
 IsReadyToVerify words None = ⊥
 IsReadyToVerify words (Some told) = CanVerify words told
 
+-- the words ask for a drill, and no fault stands against its texts
+pub record CanDrill (words : List (List ℕ)) : Type 0 where
+  pub asked : DrillRequest
+  pub command : IsDrill words asked
+  pub faultless : IsFaultless (drill_definition asked.steps)
+  pub faultless_term : (theory : RewriteTheory) (top : Option ℕ) →
+      IsAccepted (drill_definition asked.steps) theory top → IsFaultlessTerm theory top drill_term
+
 -- no count of faults rose
 pub record IsUnhindered (c : Course) : Type 0 where
   pub reads : Rose c.reads c.reads' → ⊥
@@ -63,3 +72,8 @@ abbrev pub CompletesVerdict : List (List ℕ) → Course → ℕ → Type 0
 CompletesVerdict words c code =
     IsReadyToVerify words c.told → (Rose c.reads c.reads' → ⊥) → (Rose c.writes c.writes' → ⊥) →
     (code ≡ 0) ⊎ (code ≡ 12) ⊎ (code ≡ 1)
+
+-- .. and with a drill, where neither writing the file nor the output is hindered
+abbrev pub CompletesDrill : List (List ℕ) → Course → ℕ → Type 0
+CompletesDrill words c code =
+    CanDrill words → (Rose c.files c.files' → ⊥) → (Rose c.writes c.writes' → ⊥) → (code ≡ 0) ⊎ (code ≡ 1)

@@ -1,9 +1,12 @@
 -- The commands of the code as what they ask for.
-use Rattle.std.specs.Prelude.{◌≡◌, ℕ, List, Some, option_copied}
+use Rattle.std.specs.Prelude.{◌≡◌, ℕ, ◌≤◌, List, Some, option_copied}
+use Rattle.command_words.specs.CommandLine.{most_drilled}
 use Rattle.command_words.specs.declared.commands.RunWords.{RunWords}
+use Rattle.command_words.specs.declared.commands.DrillWords.{DrillWords}
 use Rattle.command_words.specs.declared.commands.Command.{Command}
 use Rattle.command_words.specs.declared.commands.Command.TheVariants as command
-use Rattle.kore_prove.specs.Words.{RunRequest, IsRun, IsVerify}
+use Rattle.kore_prove.specs.Words.{RunRequest, DrillRequest, IsRun, IsVerify, IsDrill}
+use Rattle.kore_prove.specs.declared.running.Bounds.{Bounds}
 
 -- the run that is asked for
 abbrev pub request : RunWords → RunRequest
@@ -15,11 +18,24 @@ request r = record {
   proof = option_copied r.proof;
 }
 
--- the words ask for this
+-- how far it may go
+abbrev pub bounds_of : RunRequest → Bounds
+bounds_of asked = record { limit = asked.limit; calls = asked.calls }
+
+-- the drill that is asked for
+abbrev pub drill_request : DrillWords → DrillRequest
+drill_request d = record { steps = d.steps; file = d.file.now }
+
+-- the words ask for this; a drill has few steps
 abbrev pub AsksFor : List (List ℕ) → Command → Type 0
 AsksFor words (command.Run r) = IsRun words (request r)
 AsksFor words (command.Verify file) = IsVerify words file.now
+AsksFor words (command.Drill d) = IsDrill words (drill_request d) × (d.steps ≤ most_drilled)
 
 -- the file is the one for the proof, where one is wanted
 abbrev pub IsWanted : RunRequest → List ℕ → Type 0
 IsWanted asked file = asked.proof ≡ Some file
+
+-- the file is the one for the proof of the drill
+abbrev pub IsDrillFile : DrillRequest → List ℕ → Type 0
+IsDrillFile asked file = Some asked.file ≡ Some file

@@ -4,7 +4,6 @@ use Rattle.rule_core.specs.ProgramView.{theory_of}
 use Rattle.rule_core.specs.WellSorted.{IsWellSorted, IsStart}
 use Rattle.rule_core.specs.BoundVariables.{HasBoundVariables}
 use Rattle.rule_core.specs.declared.rules.Program.{Program}
-use Rattle.term_core.specs.declared.rule_patterns.RulePat.{RulePat}
 use Rattle.fun_eval.specs.Evaluable.{HasNumbers}
 use Rattle.kore_sig.specs.Signatures.{IsNumbered}
 use Rattle.kore_rules.specs.Names.{HasIdentifierNames}

@@ -1,23 +1,24 @@
--- What the private functions answer that run a program, print and prove the run.
-use Rattle.std.specs.Prelude.{◌≡◌, ℕ, List, Option, Some}
-use Rattle.desk_io.specs.Told.{Told}
+-- What the private functions answer that run a program, print and prove the run, or that drill.
+use Rattle.std.specs.Prelude.{◌≡◌, ℕ, List, Some}
 use Rattle.term_core.specs.Patterns.{Pattern}
 use Rattle.rule_core.specs.Theories.{RewriteTheory}
 use Rattle.rule_core.specs.Runs.{Run, IsRunOf}
 use Rattle.run_lines.specs.Lines.{lines_of}
-use Rattle.kore_prove.specs.Words.{RunRequest}
-use Rattle.kore_prove.specs.Causes.{Course, RunCause, KeepsOutput}
+use Rattle.kore_prove.specs.Words.{RunRequest, DrillRequest}
+use Rattle.kore_prove.specs.Causes.{Course, RunCause, DrillCause, KeepsOutput}
 use Rattle.kore_prove.specs.FileCauses.{KeepsFilesAt}
 use Rattle.kore_prove.specs.PrintedRun.{PrintsLines}
 use Rattle.kore_prove.specs.ProvedRun.{HasWantedProof, LeavesFront, KeepsOthers}
+use Rattle.kore_prove.specs.DrilledRun.{IsDrilled, LeavesDrill}
 use Rattle.kore_prove.specs.Reports.{Ending}
-use Rattle.kore_prove.specs.Requests.{IsWanted}
+use Rattle.kore_prove.specs.declared.running.Bounds.{Bounds}
+use Rattle.kore_prove.specs.Requests.{IsWanted, IsDrillFile}
 
--- the lines are those of the run that is asked for
-pub record HasLines (asked : RunRequest) (theory : RewriteTheory) (start : Pattern) (run : Run) (lines : List ℕ) : Type 0
-  where
-    pub is_run : IsRunOf theory asked.limit asked.calls start run
-    pub lines_are : lines_of theory.sig start run ≡ Some lines
+-- the lines are those of the run within these bounds
+pub record HasLines (bounds : Bounds) (theory : RewriteTheory) (start : Pattern) (run : Run) (lines : List ℕ) :
+    Type 0 where
+  pub is_run : IsRunOf theory bounds.limit bounds.calls start run
+  pub lines_are : lines_of theory.sig start run ≡ Some lines
 
 -- the run was printed, and proved where that is wanted
 pub record IsRunDone (asked : RunRequest) (c : Course) (run : Run) : Type 0 where
@@ -33,4 +34,17 @@ pub record IsRunEnded (asked : RunRequest) (c : Course) (e : Ending) : Type 0 wh
   pub output : KeepsOutput e c.output c.output'
   pub front : LeavesFront asked c.told c.told'
   pub others : KeepsOthers (IsWanted asked) c.told c.told'
+  pub files : KeepsFilesAt e c.told c.told'
+
+-- the drill was made and printed
+pub record IsDrillDone (asked : DrillRequest) (c : Course) : Type 0 where
+  pub drilled : IsDrilled asked c.told c.told' c.output c.output'
+  pub others : KeepsOthers (IsDrillFile asked) c.told c.told'
+
+-- it was not
+pub record IsDrillEnded (asked : DrillRequest) (c : Course) (e : Ending) : Type 0 where
+  pub cause : DrillCause asked.steps c e
+  pub output : KeepsOutput e c.output c.output'
+  pub front : LeavesDrill asked c.told c.told'
+  pub others : KeepsOthers (IsDrillFile asked) c.told c.told'
   pub files : KeepsFilesAt e c.told c.told'

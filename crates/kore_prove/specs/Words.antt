@@ -1,8 +1,8 @@
 -- What the words of a call ask for, as clap's definitions of the commands take them.
-use Rattle.std.specs.Prelude.{◌≡◌, ℕ, List, true, false, Option, Some, option_map, codes}
+use Rattle.std.specs.Prelude.{◌≡◌, ℕ, ◌⊎◌, List, true, false, Option, Some, option_map, codes}
 use Rattle.std.specs.Option.{option_map_or}
 use Rattle.std.specs.Str.Parse.{digits_value}
-use Rattle.command_words.specs.CommandLine.{run_app, verify_app, value_of, usual_calls, is_named, are_bad}
+use Rattle.command_words.specs.CommandLine.{run_app, verify_app, drill_app, value_of, usual_calls, is_named, are_bad}
 
 -- a run that is asked for: the names of the files with the definition and the term, the greatest numbers of steps and
 -- of calls of functions, and the name of the file for the proof, where one is wanted
@@ -40,3 +40,24 @@ pub record IsVerify (words : List (List ℕ)) (file : List ℕ) : Type 0 where
 -- the words do not ask to verify a database
 abbrev pub IsNoVerify : List (List ℕ) → Type 0
 IsNoVerify words = (file : List ℕ) → IsVerify words file → ⊥
+
+-- a drill that is asked for: the number of its steps, and the name of the file for the proof
+pub record DrillRequest : Type 0 where
+  pub steps : ℕ
+  pub file : List ℕ
+
+-- the words are good, and ask for this drill
+pub record IsDrill (words : List (List ℕ)) (asked : DrillRequest) : Type 0 where
+  pub good : are_bad words ≡ false
+  pub named : is_named (codes "drill") words ≡ true
+  pub steps_are : option_map (digits_value 10) (value_of drill_app words (codes "n")) ≡ Some asked.steps
+  pub file_is : value_of drill_app words (codes "file") ≡ Some asked.file
+
+-- the words do not ask for a drill
+abbrev pub IsNoDrill : List (List ℕ) → Type 0
+IsNoDrill words = (asked : DrillRequest) → IsDrill words asked → ⊥
+
+-- the words are good, and name this file for the proof of a run or of a drill
+abbrev pub IsProofFile : List (List ℕ) → List ℕ → Type 0
+IsProofFile words file =
+    IsProofRun words file ⊎ ((asked : DrillRequest) × IsDrill words asked × (asked.file ≡ file))

@@ -1,22 +1,24 @@
-// The top call: words, files, the run and its lines, the verdict.
+// The top call: words, files, the run and its lines, the verdict, the drill.
 ghost use Rattle.std.specs.Prelude.{◌≡◌, ◌⊎◌, IsFalse, IfOk, IfErr, Err, map, string_bytes};
 ghost use Rattle.desk_io.specs.Told.{KeepsFiles};
 ghost use Rattle.run_loop.specs.RunEnds.{plain_run};
 ghost use Rattle.kore_prove.specs.Calls.{IsAnswered};
 ghost use Rattle.kore_prove.specs.Causes.{Ends, IsUnwritten};
-ghost use Rattle.kore_prove.specs.PlainEnds.{fault_end, plain_end};
+ghost use Rattle.kore_prove.specs.DrilledRun.{Drills, LeavesFrontOfDrill};
+ghost use Rattle.kore_prove.specs.PlainEnds.{plain_end};
 ghost use Rattle.kore_prove.specs.PrintedRun.{PrintsRun, code_of};
 ghost use Rattle.kore_prove.specs.ProvedRun.{ProvesRun, LeavesFrontOfRun, KeepsOthers};
-ghost use Rattle.kore_prove.specs.Readiness.{Completes, CompletesVerdict};
+ghost use Rattle.kore_prove.specs.Readiness.{Completes, CompletesVerdict, CompletesDrill};
 ghost use Rattle.kore_prove.specs.Reports.{Reports};
 ghost use Rattle.kore_prove.specs.Requests.{AsksFor, request};
 ghost use Rattle.kore_prove.specs.RunsDone.{IsRunDone, IsRunEnded};
 ghost use Rattle.kore_prove.specs.Verdicts.{PrintsVerdict};
-ghost use Rattle.kore_prove.specs.Words.{AreBad, IsProofRun};
+ghost use Rattle.kore_prove.specs.Words.{AreBad, IsProofFile};
 
+use crate::drilling::drill_command;
 use crate::proof_file::made_lines;
 use crate::reading::read_run;
-use crate::report::{End, send_report};
+use crate::report::{End, send_report, write_end};
 use crate::verification::verify_command;
 use command_words::{Command, RunWords, WordsEnd, read_words};
 use desk_io::{Desk, DeskFault, Sink, send_whole};
@@ -31,11 +33,12 @@ pub struct Status {
 
 /// Does what the words name: reads its files from the desk, runs the term, writes the proof of the run to its file
 /// where one is named, and prints the two lines of the run to `out`; or verifies the database and prints the line of
-/// the verdict. Where it does not come to that, `err` gets one line that says why, and the file of the proof is as
-/// before or holds the front of a proof.
+/// the verdict; or drills, which is to run a definition of its own, to write the proof to its file, and to print the
+/// two lines of the run and one of the counts of the file. Where it does not come to that, `err` gets one line that
+/// says why, and the file of the proof is as before or holds the front of a proof.
 ///
 /// The status has the exit code: 0 where the run is stuck, 10 where it reached its limit, 11 where it is blocked; 0
-/// where the database is valid, 12 where it is not; else that of the end (`Reports`).
+/// where the database is valid, 12 where it is not; 0 where it drilled; else that of the end (`Reports`).
 pub fn kore_main<D: Desk, O: Sink, E: Sink>(
     alloc: Global,
     words: &[String],
@@ -52,6 +55,10 @@ pub fn kore_main<D: Desk, O: Sink, E: Sink>(
     ensures proof_front { LeavesFrontOfRun (map string_bytes words.now) (D.told desk.old) (D.told desk.new) }
     ensures verdict { PrintsVerdict
         (map string_bytes words.now) (D.told desk.old) (O.bytes out.old) (O.bytes out.new) result.code }
+    ensures drilled { Drills
+        (map string_bytes words.now) (D.told desk.old) (D.told desk.new) (O.bytes out.old) (O.bytes out.new)
+        result.code }
+    ensures drill_front { LeavesFrontOfDrill (map string_bytes words.now) (D.told desk.old) (D.told desk.new) }
     ensures ends { Ends (record {
       words = map string_bytes words.now;
       course = record {
@@ -95,8 +102,20 @@ pub fn kore_main<D: Desk, O: Sink, E: Sink>(
       output = O.bytes out.old;
       output' = O.bytes out.new;
     }) result.code }
+    ensures complete_drill { CompletesDrill (map string_bytes words.now) (record {
+      told = D.told desk.old;
+      told' = D.told desk.new;
+      reads = D.read_faults desk.old;
+      reads' = D.read_faults desk.new;
+      files = D.write_faults desk.old;
+      files' = D.write_faults desk.new;
+      writes = O.faults out.old;
+      writes' = O.faults out.new;
+      output = O.bytes out.old;
+      output' = O.bytes out.new;
+    }) result.code }
     ensures bad_words { AreBad (map string_bytes words.now) → (result.code ≡ 2) ⊎ (result.code ≡ 1) }
-    ensures others { KeepsOthers (IsProofRun (map string_bytes words.now)) (D.told desk.old) (D.told desk.new) }
+    ensures others { KeepsOthers (IsProofFile (map string_bytes words.now)) (D.told desk.old) (D.told desk.new) }
     ensures files { IsUnwritten result.code → KeepsFiles (D.told desk.old) (D.told desk.new) }
     ensures created { D.created desk.new ≡ D.created desk.old }
 {
@@ -147,6 +166,10 @@ fn answered<D: Desk, O: Sink, E: Sink>(
                 },
                 Err(end) => report(err, &end),
             },
+            Command::Drill(asked) => match drill_command(alloc, &asked, desk, out) {
+                Ok(()) => Status { code: 0 },
+                Err(end) => report(err, &end),
+            },
         },
         Err(end) => match end {
             WordsEnd::Bad => report(err, &End::BadWords),
@@ -174,7 +197,7 @@ fn exit_code(end: &RunEnd) -> u8
     }
 }
 
-// Says on `err` why the call came to no run and no verdict. Where memory is wanting for that too, the status is that of
+// Says on `err` why the call did not come to its lines. Where memory is wanting for that too, the status is that of
 // running out of memory.
 fn report<E: Sink>(err: &mut E, end: &End) -> Status
     ensures { Reports (plain_end end.now)
@@ -234,15 +257,5 @@ fn run_command<'a, D: Desk, O: Sink>(
     match send_whole(out, &lines) {
         Ok(()) => Ok(end),
         Err(fault) => Err(write_end(fault)),
-    }
-}
-
-// The end of a call that could not write.
-fn write_end<'a>(fault: DeskFault) -> End<'a>
-    ensures { plain_end result ≡ fault_end fault }
-{
-    match fault {
-        DeskFault::Failed => End::WriteFault,
-        DeskFault::Memory => End::OutOfMemory,
     }
 }

@@ -4,14 +4,15 @@ ghost use Rattle.term_core.specs.RulePatterns.{plain_pattern};
 ghost use Rattle.rule_core.specs.ProgramView.{theory_of};
 ghost use Rattle.desk_io.specs.Counts.{Rose};
 ghost use Rattle.run_loop.specs.RunEnds.{plain_run};
-ghost use Rattle.kore_prove.specs.ProofFiles.{PutsProof, PutsFront, MayHoldFront, HasWantedFront, KeepsOthersNow};
-ghost use Rattle.kore_prove.specs.ProvedRun.{HoldsProof, HasWantedProof, KeepsOthers};
-ghost use Rattle.kore_prove.specs.Requests.{request, IsWanted};
+ghost use Rattle.kore_prove.specs.ProofFiles.{PutsProof, PutsFront, HoldsCounted, MayHoldFront, HasWantedFront};
+ghost use Rattle.kore_prove.specs.ProofFiles.{KeepsOthersNow};
+ghost use Rattle.kore_prove.specs.ProvedRun.{HasWantedProof, KeepsOthers};
+ghost use Rattle.kore_prove.specs.Requests.{request, bounds_of, IsWanted};
 ghost use Rattle.kore_prove.specs.Runnable.{IsRunnable};
 ghost use Rattle.kore_prove.specs.RunsDone.{HasLines};
 
 use crate::files::Accepted;
-use crate::running::{lines_of_run, proved_lines_of_run};
+use crate::running::{Bounds, Proved, lines_of_run, proved_lines_of_run};
 use command_words::RunWords;
 use desk_io::{Desk, DeskFault};
 use run_loop::RunEnd;
@@ -28,7 +29,7 @@ pub fn made_lines<D: Desk>(
 ) -> Result<(RunEnd, Vec<u8>), DeskFault>
     requires none_created { IsFalse (D.created desk.old) }
     requires runnable { IsRunnable accepted.now }
-    ensures run { IfOk result (λ r. HasLines (request asked.now)
+    ensures run { IfOk result (λ r. HasLines (bounds_of (request asked.now))
         (theory_of accepted.now.program) (plain_pattern accepted.now.start) (plain_run r.0) r.1.items) }
     ensures proof { IfOk result (λ r. HasWantedProof (request asked.now).proof (D.told desk.old) (D.told desk.new)
         (theory_of accepted.now.program) (plain_pattern accepted.now.start) (plain_run r.0)) }
@@ -39,29 +40,37 @@ pub fn made_lines<D: Desk>(
     ensures created { D.created desk.new ≡ D.created desk.old }
     ensures reads { D.read_faults desk.new ≡ D.read_faults desk.old }
 {
+    let bounds = Bounds {
+        limit: asked.limit,
+        calls: asked.calls,
+    };
     match asked.proof {
-        Some(file) => proved_lines(alloc, desk, accepted, asked, file),
-        None => match lines_of_run(alloc, accepted, asked) {
+        Some(file) => match proved_lines(alloc, desk, accepted, bounds, file) {
+            Ok(proved) => Ok((proved.end, proved.lines)),
+            Err(fault) => Err(fault),
+        },
+        None => match lines_of_run(alloc, accepted, bounds) {
             Ok(lines) => Ok(lines),
             Err(_) => Err(DeskFault::Memory),
         },
     }
 }
 
-// The same, with the proof of the run in the file of this name.
-fn proved_lines<D: Desk>(
+/// The run within these bounds, with its proof in the file of this name, which is created before it, written as it
+/// goes, and closed after it. The error is as above.
+pub fn proved_lines<D: Desk>(
     alloc: Global,
     desk: &mut D,
     accepted: &Accepted,
-    asked: &RunWords<'_>,
+    bounds: Bounds,
     file: &str,
-) -> Result<(RunEnd, Vec<u8>), DeskFault>
+) -> Result<Proved, DeskFault>
     requires none_created { IsFalse (D.created desk.old) }
     requires runnable { IsRunnable accepted.now }
-    ensures run { IfOk result (λ r. HasLines (request asked.now)
-        (theory_of accepted.now.program) (plain_pattern accepted.now.start) (plain_run r.0) r.1.items) }
-    ensures proof { IfOk result (λ r. HoldsProof (D.told desk.old) (D.told desk.new) file.now
-        (theory_of accepted.now.program) (plain_pattern accepted.now.start) (plain_run r.0)) }
+    ensures run { IfOk result (λ r. HasLines bounds
+        (theory_of accepted.now.program) (plain_pattern accepted.now.start) (plain_run r.end) r.lines.items) }
+    ensures proof { IfOk result (λ r. HoldsCounted (D.told desk.old) (D.told desk.new) file.now
+        (theory_of accepted.now.program) (plain_pattern accepted.now.start) (plain_run r.end) r.summary) }
     ensures front { OnErr result (MayHoldFront (D.told desk.old) (D.told desk.new) file.now
         (theory_of accepted.now.program) (plain_pattern accepted.now.start)) }
     ensures failed { IsErrOf result DeskFault.Failed → Rose (D.write_faults desk.old) (D.write_faults desk.new) }
@@ -70,7 +79,7 @@ fn proved_lines<D: Desk>(
     ensures reads { D.read_faults desk.new ≡ D.read_faults desk.old }
 {
     match desk.create_file(file) {
-        Ok(()) => proved_and_closed(alloc, desk, accepted, asked),
+        Ok(()) => proved_and_closed(alloc, desk, accepted, bounds),
         Err(fault) => Err(fault),
     }
 }
@@ -80,14 +89,14 @@ fn proved_and_closed<D: Desk>(
     alloc: Global,
     desk: &mut D,
     accepted: &Accepted,
-    asked: &RunWords<'_>,
-) -> Result<(RunEnd, Vec<u8>), DeskFault>
+    bounds: Bounds,
+) -> Result<Proved, DeskFault>
     requires file { IsTrue (D.created desk.old) }
     requires runnable { IsRunnable accepted.now }
-    ensures run { IfOk result (λ r. HasLines (request asked.now)
-        (theory_of accepted.now.program) (plain_pattern accepted.now.start) (plain_run r.0) r.1.items) }
+    ensures run { IfOk result (λ r. HasLines bounds
+        (theory_of accepted.now.program) (plain_pattern accepted.now.start) (plain_run r.end) r.lines.items) }
     ensures proof { IfOk result (λ r. PutsProof (D.told desk.old) (D.told desk.new)
-        (theory_of accepted.now.program) (plain_pattern accepted.now.start) (plain_run r.0)) }
+        (theory_of accepted.now.program) (plain_pattern accepted.now.start) (plain_run r.end) r.summary) }
     ensures front { OnErr result (PutsFront (D.told desk.old) (D.told desk.new)
         (theory_of accepted.now.program) (plain_pattern accepted.now.start)) }
     ensures files { KeepsOthersNow (D.told desk.old) (D.told desk.new) }
@@ -96,11 +105,11 @@ fn proved_and_closed<D: Desk>(
     ensures created { IsFalse (D.created desk.new) }
     ensures reads { D.read_faults desk.new ≡ D.read_faults desk.old }
 {
-    let proved = proved_lines_of_run(alloc, desk, accepted, asked);
+    let proved = proved_lines_of_run(alloc, desk, accepted, bounds);
     let closed = desk.close_file();
     match proved {
-        Ok(lines) => match closed {
-            Ok(()) => Ok(lines),
+        Ok(made) => match closed {
+            Ok(()) => Ok(made),
             Err(fault) => Err(fault),
         },
         Err(fault) => Err(fault),

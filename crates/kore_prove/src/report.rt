@@ -1,16 +1,16 @@
-// What the program says on the error stream where a call comes to no run and no verdict.
+// What the program says on the error stream where a call does not come to its lines.
 ghost use Rattle.std.specs.Prelude.{◌≡◌, ◌≤◌, ◌++◌, [], ◌∷◌, List, ℕ, OnOk, OnErr, IsErrOf};
 ghost use Rattle.std.specs.List.{flat_map};
 ghost use Rattle.std.specs.Borrow.{Bor};
 ghost use Rattle.desk_io.specs.Sent.{Appends, AppendsFront};
 ghost use Rattle.desk_io.specs.Counts.{Rose};
 ghost use Rattle.kore_prove.specs.Reports.{end_code, refusal, report_line};
-ghost use Rattle.kore_prove.specs.PlainEnds.{plain_end};
+ghost use Rattle.kore_prove.specs.PlainEnds.{fault_end, plain_end};
 
 use desk_io::{DeskFault, Sink, send_whole};
 use itoa::Buffer;
 
-/// Why a call came to no run and no verdict.
+/// Why a call did not come to its lines.
 #[derive(Clone, Copy, Debug, PartialEq, Eq)]
 pub enum End<'a> {
     /// Memory was wanting.
@@ -46,6 +46,16 @@ impl End<'_> {
             End::TermRefused(..) => 7,
             End::TooLarge(_) => 8,
         }
+    }
+}
+
+/// The end of a call that could not write.
+pub fn write_end<'a>(fault: DeskFault) -> End<'a>
+    ensures { plain_end result ≡ fault_end fault }
+{
+    match fault {
+        DeskFault::Failed => End::WriteFault,
+        DeskFault::Memory => End::OutOfMemory,
     }
 }
 

@@ -5,33 +5,51 @@ ghost use Rattle.rule_core.specs.ProgramView.{theory_of};
 ghost use Rattle.desk_io.specs.Counts.{Rose};
 ghost use Rattle.run_loop.specs.RunEnds.{plain_run};
 ghost use Rattle.run_proof.specs.WrittenProofs.{WritesProof, WritesFrontOfProof};
-ghost use Rattle.kore_prove.specs.Requests.{request};
 ghost use Rattle.kore_prove.specs.Runnable.{IsRunnable};
 ghost use Rattle.kore_prove.specs.RunsDone.{HasLines};
 
 use crate::files::Accepted;
-use command_words::RunWords;
 use desk_io::{Desk, DeskFault};
 use fun_eval::Engine;
 use kore_show::shown_laws;
 use run_lines::run_lines;
 use run_loop::{RunEnd, run};
-use run_proof::proved_run;
+use run_proof::{Summary, proved_run};
 use std::alloc::{AllocError, Global};
 
-/// How the run that is asked for ends, and its two lines. `AllocError` says that memory ran out.
+/// How far a run may go.
+#[derive(Clone, Copy)]
+pub struct Bounds {
+    /// The greatest number of steps.
+    pub limit: u32,
+    /// The greatest number of calls of functions.
+    pub calls: u32,
+}
+
+/// A run that was proved.
+#[derive(Drop)]
+pub struct Proved {
+    /// How it ends.
+    pub end: RunEnd,
+    /// Its two lines.
+    pub lines: Vec<u8>,
+    /// The counts of the database that proves it.
+    pub summary: Summary,
+}
+
+/// How the run within these bounds ends, and its two lines. `AllocError` says that memory ran out.
 pub fn lines_of_run(
     alloc: Global,
     accepted: &Accepted,
-    asked: &RunWords<'_>,
+    bounds: Bounds,
 ) -> Result<(RunEnd, Vec<u8>), AllocError>
     requires { IsRunnable accepted.now }
-    ensures { IfOk result (λ r. HasLines (request asked.now)
+    ensures { IfOk result (λ r. HasLines bounds
         (theory_of accepted.now.program) (plain_pattern accepted.now.start) (plain_run r.0) r.1.items) }
 {
     shown_laws();
     let engine = Engine::new(&accepted.program);
-    let end = run(alloc, &engine, &accepted.start, asked.limit, asked.calls)?;
+    let end = run(alloc, &engine, &accepted.start, bounds.limit, bounds.calls)?;
     let lines = run_lines(alloc, &accepted.program.sig, &accepted.start, &end)?;
     Ok((end, lines))
 }
@@ -42,14 +60,14 @@ pub fn proved_lines_of_run<D: Desk>(
     alloc: Global,
     desk: &mut D,
     accepted: &Accepted,
-    asked: &RunWords<'_>,
-) -> Result<(RunEnd, Vec<u8>), DeskFault>
+    bounds: Bounds,
+) -> Result<Proved, DeskFault>
     requires file { IsTrue (D.created desk.old) }
     requires runnable { IsRunnable accepted.now }
-    ensures run { IfOk result (λ r. HasLines (request asked.now)
-        (theory_of accepted.now.program) (plain_pattern accepted.now.start) (plain_run r.0) r.1.items) }
+    ensures run { IfOk result (λ r. HasLines bounds
+        (theory_of accepted.now.program) (plain_pattern accepted.now.start) (plain_run r.end) r.lines.items) }
     ensures justified { IfOk result (λ r. WritesProof (D.told desk.old) (D.told desk.new)
-        (theory_of accepted.now.program) (plain_pattern accepted.now.start) (plain_run r.0)) }
+        (theory_of accepted.now.program) (plain_pattern accepted.now.start) (plain_run r.end) r.summary) }
     ensures front { OnErr result (WritesFrontOfProof (D.told desk.old) (D.told desk.new)
         (theory_of accepted.now.program) (plain_pattern accepted.now.start)) }
     ensures created { IsTrue (D.created desk.new) }
@@ -59,14 +77,17 @@ pub fn proved_lines_of_run<D: Desk>(
 {
     shown_laws();
     let engine = Engine::new(&accepted.program);
-    let end = proved_run(
-        alloc,
-        desk,
-        &engine,
-        &accepted.start,
-        asked.limit,
-        asked.calls,
-    )?;
-    let lines = run_lines(alloc, &accepted.program.sig, &accepted.start, &end)?;
-    Ok((end, lines))
+    let start = &accepted.start;
+    let (end, summary) = match proved_run(alloc, desk, &engine, start, bounds.limit, bounds.calls) {
+        Ok(made) => made,
+        Err(fault) => return Err(fault),
+    };
+    match run_lines(alloc, &accepted.program.sig, start, &end) {
+        Ok(lines) => Ok(Proved {
+            end,
+            lines,
+            summary,
+        }),
+        Err(_) => Err(DeskFault::Memory),
+    }
 }

@@ -1,7 +1,6 @@
-use Rattle.std.proofs.Common.{◌≡◌, ℕ, refl, inl, inr, ap, ◌∙◌, subst}
+use Rattle.std.proofs.Common.{inl, inr, ap}
 use Rattle.std.specs.Prelude.{Err}
 use Rattle.desk_io.specs.declared.desk.DeskFault.{DeskFault}
-use Rattle.desk_io.specs.Counts.{Rose}
 use Rattle.term_core.specs.RulePatterns.{plain_pattern}
 use Rattle.rule_core.specs.ProgramView.{theory_of}
 use Rattle.run_loop.specs.RunEnds.{plain_run}

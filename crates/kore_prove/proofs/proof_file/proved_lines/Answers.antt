@@ -2,8 +2,7 @@ use Rattle.std.proofs.Common.{Result, Ok, Err, IfOk}
 use Rattle.term_core.specs.RulePatterns.{plain_pattern}
 use Rattle.rule_core.specs.ProgramView.{theory_of}
 use Rattle.run_loop.specs.RunEnds.{plain_run}
-use Rattle.kore_prove.specs.ProofFiles.{PutsProof, PutsFront, MayHoldFront}
-use Rattle.kore_prove.specs.ProvedRun.{HoldsProof}
+use Rattle.kore_prove.specs.ProofFiles.{PutsProof, PutsFront, HoldsCounted, MayHoldFront}
 use Rattle.kore_prove.proofs.FileProofs.{created_proof, created_front, created_others, on_err_more}
 use Rattle.kore_prove.proofs.proof_file.proved_lines.Goals as goal
 
@@ -18,8 +17,8 @@ returns-in-Ok-clause-proof g c =
     let new = g.D.Desk.told c.proved_and_closed.new.desk in
     let theory = theory_of c.args.accepted.now.program in
     let start = plain_pattern c.args.accepted.now.start in
-    if_ok c.proved_and_closed.result (λ r. PutsProof made new theory start (plain_run r.0)) (λ r. HoldsProof old new c.args.file.now theory start (plain_run r.0))
-    (λ r h. created_proof old made new c.args.file.now theory start (plain_run r.0) c.in-Ok.ensures.creates h) c.proved_and_closed.ensures.proof
+    if_ok c.proved_and_closed.result (λ r. PutsProof made new theory start (plain_run r.end) r.summary) (λ r. HoldsCounted old new c.args.file.now theory start (plain_run r.end) r.summary)
+    (λ r h. created_proof old made new c.args.file.now theory start (plain_run r.end) r.summary c.in-Ok.ensures.creates h) c.proved_and_closed.ensures.proof
 
 pub returns-in-Ok-clause-front : goal.returns-in-Ok-clause-front
 returns-in-Ok-clause-front g c =

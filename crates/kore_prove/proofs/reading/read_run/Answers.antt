@@ -4,7 +4,6 @@ use Rattle.kore_rules.specs.Acceptance.{IsRefusedTerm}
 use Rattle.kore_rules.specs.RefusedTexts.{top_of}
 use Rattle.kore_prove.specs.Requests.{request}
 use Rattle.kore_prove.proofs.Ending.{FileCause-kept}
-use Rattle.kore_prove.proofs.Performing.{start_kept}
 use Rattle.kore_prove.proofs.reading.read_run.Goals as goal
 
 pub returns-in-Err-clause-cause : goal.returns-in-Err-clause-cause

@@ -5,7 +5,7 @@ use Rattle.rule_core.specs.declared.rules.Program.{Program}
 use Rattle.run_loop.specs.RunEnds.{plain_run}
 use Rattle.run_proof.specs.WrittenProofs.{WritesFrontOfProof}
 use Rattle.proof_writer.specs.PlainNames.{HasPlainNames}
-use Rattle.kore_prove.proofs.FileProofs.{on_err, proof_written}
+use Rattle.kore_prove.proofs.FileProofs.{proof_written}
 use Rattle.kore_prove.proofs.PlainNames.{plain_names}
 use Rattle.kore_prove.proofs.running.proved_lines_of_run.Goals as goal
 
@@ -13,18 +13,17 @@ pub proved_run-requires-clause-names : goal.proved_run-requires-clause-names
 proved_run-requires-clause-names g c =
     subst (λ (p : Program). HasPlainNames p.sig) (sym c.new-engine.ensures) (plain_names c.args.accepted.now.program.sig c.requires.runnable.program.names)
 
-pub returns-in_err-end-clause-front : goal.returns-in_err-end-clause-front
-returns-in_err-end-clause-front g c =
+pub returns-in-Err-clause-front : goal.returns-in-Err-clause-front
+returns-in-Err-clause-front g c =
     let old = g.D.Desk.told c.args.desk.now in
     let new = g.D.Desk.told c.proved_run.new.desk in
     let start = plain_pattern c.args.accepted.now.start in
-    on_err c.from_residual.result (WritesFrontOfProof old new (theory_of c.args.accepted.now.program) start)
-    (subst (λ (p : Program). WritesFrontOfProof old new (theory_of p) start) c.new-engine.ensures c.in_err-end.ensures.front)
+    subst (λ (p : Program). WritesFrontOfProof old new (theory_of p) start) c.new-engine.ensures c.in-Err.ensures.front
 
-pub returns-in_err-lines-clause-front : goal.returns-in_err-lines-clause-front
-returns-in_err-lines-clause-front g c =
+pub returns-in-Err-run_lines-clause-front : goal.returns-in-Err-run_lines-clause-front
+returns-in-Err-run_lines-clause-front g c =
     let old = g.D.Desk.told c.args.desk.now in
     let new = g.D.Desk.told c.proved_run.new.desk in
     let start = plain_pattern c.args.accepted.now.start in
-    on_err c.from_residual-in_err-lines.result (WritesFrontOfProof old new (theory_of c.args.accepted.now.program) start)
-    (subst (λ (p : Program). WritesFrontOfProof old new (theory_of p) start) c.new-engine.ensures (proof_written old new (theory_of c.new-engine.result) start (plain_run c.in_ok-end.end) c.in_ok-end.ensures.justified))
+    subst (λ (p : Program). WritesFrontOfProof old new (theory_of p) start) c.new-engine.ensures
+    (proof_written old new (theory_of c.new-engine.result) start (plain_run c.in-Ok.made.0) c.in-Ok.made.1 c.in-Ok.ensures.justified)

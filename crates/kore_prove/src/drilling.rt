@@ -1,0 +1,170 @@
+// The drill: a definition and a term that the program makes itself, their run, its proof and the counts of that.
+ghost use Rattle.std.specs.Prelude.{◌≡◌, ◌≤◌, ◌++◌, ℕ, Option, IsFalse, IfOk, IfErr, OnOk, OnErr, IsErrOf};
+ghost use Rattle.command_words.specs.CommandLine.{most_drilled};
+ghost use Rattle.desk_io.specs.Sent.{Appends, AppendsFront};
+ghost use Rattle.desk_io.specs.Counts.{Rose};
+ghost use Rattle.drill_gen.specs.Drill.{drill_definition, drill_term};
+ghost use Rattle.kore_rules.specs.Acceptance.{IsAccepted, IsRefused, IsRefusedTerm};
+ghost use Rattle.kore_rules.specs.RefusedTexts.{RefusesFor};
+ghost use Rattle.rule_core.specs.ProgramView.{theory_of};
+ghost use Rattle.rule_core.specs.Theories.{RewriteTheory};
+ghost use Rattle.term_core.specs.RulePatterns.{plain_pattern};
+ghost use Rattle.kore_prove.specs.Causes.{Course, DrillCause};
+ghost use Rattle.kore_prove.specs.DrillProgram.{IsDrillProgram};
+ghost use Rattle.kore_prove.specs.DrilledRun.{counts_line};
+ghost use Rattle.kore_prove.specs.PlainEnds.{plain_end};
+ghost use Rattle.kore_prove.specs.Requests.{drill_request};
+ghost use Rattle.kore_prove.specs.Runnable.{IsRunnable};
+ghost use Rattle.kore_prove.specs.RunsDone.{IsDrillDone, IsDrillEnded};
+
+use crate::files::Accepted;
+use crate::proof_file::proved_lines;
+use crate::report::{End, send_pieces, write_end};
+use crate::running::Bounds;
+use command_words::DrillWords;
+use desk_io::{Desk, DeskFault, Sink, send_whole};
+use drill_gen::{drill, drill_laws};
+use itoa::Buffer;
+use kore_rules::{Refusal, accept, accept_term};
+use run_proof::Summary;
+use std::alloc::Global;
+
+/// The greatest number of calls of functions of a drill.
+const DRILL_CALLS: u32 = 10_000;
+
+/// Runs the definition and the term of the drill, with one step more for a limit than it has, writes the proof of
+/// the run to the file that is named, and prints the two lines of the run and the line of the counts of the file.
+pub fn drill_command<'a, D: Desk, O: Sink>(
+    alloc: Global,
+    asked: &DrillWords<'a>,
+    desk: &mut D,
+    out: &mut O,
+) -> Result<(), End<'a>>
+    requires none_created { IsFalse (D.created desk.old) }
+    requires few { asked.now.steps ≤ most_drilled }
+    ensures done { IfOk result (λ _. IsDrillDone (drill_request asked.now) (record {
+      told = D.told desk.old;
+      told' = D.told desk.new;
+      reads = D.read_faults desk.old;
+      reads' = D.read_faults desk.new;
+      files = D.write_faults desk.old;
+      files' = D.write_faults desk.new;
+      writes = O.faults out.old;
+      writes' = O.faults out.new;
+      output = O.bytes out.old;
+      output' = O.bytes out.new;
+    })) }
+    ensures ended { IfErr result (λ end. IsDrillEnded (drill_request asked.now) (record {
+      told = D.told desk.old;
+      told' = D.told desk.new;
+      reads = D.read_faults desk.old;
+      reads' = D.read_faults desk.new;
+      files = D.write_faults desk.old;
+      files' = D.write_faults desk.new;
+      writes = O.faults out.old;
+      writes' = O.faults out.new;
+      output = O.bytes out.old;
+      output' = O.bytes out.new;
+    }) (plain_end end)) }
+    ensures created { D.created desk.new ≡ D.created desk.old }
+{
+    let accepted = match accepted_drill(alloc, asked.steps) {
+        Ok(accepted) => accepted,
+        Err(end) => return Err(end),
+    };
+    let bounds = Bounds {
+        limit: asked.steps + 1,
+        calls: DRILL_CALLS,
+    };
+    let proved = match proved_lines(alloc, desk, &accepted, bounds, asked.file) {
+        Ok(proved) => proved,
+        Err(fault) => return Err(write_end(fault)),
+    };
+    match send_lines(out, &proved.lines, proved.summary) {
+        Ok(()) => Ok(()),
+        Err(fault) => Err(write_end(fault)),
+    }
+}
+
+// The program and the initial term of the drill.
+fn accepted_drill<'a>(alloc: Global, steps: u32) -> Result<Accepted, End<'a>>
+    requires { steps ≤ most_drilled }
+    ensures program { IfOk result (λ a. IsDrillProgram steps (theory_of a.program) (plain_pattern a.start)) }
+    ensures runnable { IfOk result IsRunnable }
+    ensures cause { IfErr result (λ end. (c : Course) → DrillCause steps c (plain_end end)) }
+{
+    drill_laws();
+    let texts = match drill(alloc, steps) {
+        Ok(texts) => texts,
+        Err(_) => return Err(End::OutOfMemory),
+    };
+    let program = match accept(alloc, &texts.definition) {
+        Ok(program) => program,
+        Err(refusal) => return Err(refused_definition(refusal)),
+    };
+    match accept_term(alloc, &program, &texts.term) {
+        Ok(start) => Ok(Accepted { program, start }),
+        Err(refusal) => Err(refused_term(refusal)),
+    }
+}
+
+// The end of a drill whose definition is not accepted.
+fn refused_definition<'a>(refusal: Refusal) -> End<'a>
+    ensures { (steps : ℕ) (c : Course) → RefusesFor (IsRefused (drill_definition steps)) refusal
+        → DrillCause steps c (plain_end result) }
+{
+    match refusal {
+        Refusal::Refused(number, byte) => End::DefinitionRefused(number, byte),
+        Refusal::Memory => End::OutOfMemory,
+    }
+}
+
+// The end of a drill whose term is not accepted.
+fn refused_term<'a>(refusal: Refusal) -> End<'a>
+    ensures { (steps : ℕ) (c : Course) (theory : RewriteTheory) (top : Option ℕ)
+        → IsAccepted (drill_definition steps) theory top
+        → RefusesFor (IsRefusedTerm theory.sig top drill_term) refusal → DrillCause steps c (plain_end result) }
+{
+    match refusal {
+        Refusal::Refused(number, byte) => End::TermRefused(number, byte),
+        Refusal::Memory => End::OutOfMemory,
+    }
+}
+
+// Sends the lines of a run and the line of the counts. After an error some bytes from their front are sent, maybe
+// none. It fails only where the sink counted a fault.
+fn send_lines<O: Sink>(out: &mut O, lines: &[u8], summary: Summary) -> Result<(), DeskFault>
+    ensures sent { OnOk result (Appends (O.bytes out.old) (O.bytes out.new)
+        (lines.now ++ counts_line summary.facts summary.statements summary.bytes)) }
+    ensures prefix { OnErr result (AppendsFront (O.bytes out.old) (O.bytes out.new)
+        (lines.now ++ counts_line summary.facts summary.statements summary.bytes)) }
+    ensures failed { IsErrOf result DeskFault.Failed → Rose (O.faults out.old) (O.faults out.new) }
+{
+    match send_whole(out, lines) {
+        Ok(()) => send_counts(out, summary),
+        Err(fault) => Err(fault),
+    }
+}
+
+// Sends the line of the counts, with the same errors.
+fn send_counts<O: Sink>(out: &mut O, summary: Summary) -> Result<(), DeskFault>
+    ensures sent { OnOk result (Appends
+        (O.bytes out.old) (O.bytes out.new) (counts_line summary.facts summary.statements summary.bytes)) }
+    ensures prefix { OnErr result (AppendsFront
+        (O.bytes out.old) (O.bytes out.new) (counts_line summary.facts summary.statements summary.bytes)) }
+    ensures failed { IsErrOf result DeskFault.Failed → Rose (O.faults out.old) (O.faults out.new) }
+{
+    let mut facts = Buffer::new();
+    let mut statements = Buffer::new();
+    let mut bytes = Buffer::new();
+    let pieces = [
+        "facts ",
+        facts.format(summary.facts),
+        " statements ",
+        statements.format(summary.statements),
+        " bytes ",
+        bytes.format(summary.bytes),
+        "\n",
+    ];
+    send_pieces(out, &pieces)
+}
