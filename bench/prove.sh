@@ -27,6 +27,19 @@ cat > "$work/turn.kore" << 'END'
 endmodule []
 END
 echo "t{}(n{}(p{}(),q{}()),n{}(q{}(),p{}()),n{}(p{}(),p{}()))" > "$work/turn.term"
+# A rule with a condition, a test and an addition of whole numbers.
+cat > "$work/count.kore" << 'END'
+[] module COUNT
+  hooked-sort SortInt{} [hook{}("INT.Int")]
+  hooked-sort SortBool{} [hook{}("BOOL.Bool")]
+  sort T{} []
+  hooked-symbol add{}(SortInt{},SortInt{}) : SortInt{} [function{}(),hook{}("INT.add")]
+  hooked-symbol lt{}(SortInt{},SortInt{}) : SortBool{} [function{}(),hook{}("INT.lt")]
+  symbol t{}(SortInt{}) : T{} [constructor{}()]
+  axiom{} \rewrites{T{}}(\and{T{}}(t{}(N:SortInt{}),\equals{SortBool{},T{}}(lt{}(N:SortInt{},\dv{SortInt{}}("1000000")),\dv{SortBool{}}("true"))),\and{T{}}(t{}(add{}(N:SortInt{},\dv{SortInt{}}("1"))),\top{T{}}())) []
+endmodule []
+END
+echo 't{}(\dv{SortInt{}}("0"))' > "$work/count.term"
 # Rules under which two injections meet in either side, on a configuration with a list of numbers, which stays: at once
 # below the root, and below five symbols. The third definition is the same without meeting injections.
 subsort() {
@@ -71,12 +84,18 @@ proved() {
 }
 checked() { check=$(seconds "$top/kore_prove" verify "$work/proof.mm"); }
 "$top/kore_prove" verify "$top/crates/print_header/stdout" > /dev/null
-for name in cycle turn; do
+for name in cycle turn count; do
     for steps in 1000 10000 100000; do
         proved "$name" "$steps"
         checked
         echo "$name, $steps steps: $run s with the proof, $bytes bytes ($((bytes / steps)) a step), verified in $check s"
     done
+done
+for steps in 100 1000; do
+    run=$(seconds "$top/kore_prove" drill "$steps" "$work/proof.mm")
+    bytes=$(wc -c < "$work/proof.mm")
+    checked
+    echo "drill $steps: $run s with the proof, $bytes bytes ($((bytes / steps)) a step), verified in $check s"
 done
 for length in 10 100 400; do
     part="e{}($(number 5),$(numbers "$length"))"
