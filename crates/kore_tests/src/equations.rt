@@ -93,7 +93,8 @@ fn readable_equations(rt: HostRuntime) -> Result<(), Fail> {
             (1, 1, 1, false),
         ),
         (
-            "\\implies{R}(\\and{R}(\\equals{B{},R}(is{}(X:S{}),\\dv{B{}}(\"true\")),\\and{R}(\\in{S{},R}(X0:S{},X:S{}), \
+            "\\implies{R}(\\and{R}(\\equals{B{},R}(is{}(X:S{}),\\dv{B{}}(\"true\")),\\and{R}(\\in{S{},R}(X0:S{},\
+            X:S{}), \
             \\and{R}(\\in{S{},R}(X1:S{},p{}(X:S{})),\\top{R}()))),\\equals{S{},R}(h{}(X0:S{},X1:S{}),a{}())) []",
             (2, 2, 1, true),
         ),
@@ -139,9 +140,12 @@ fn unreadable_equations(rt: HostRuntime) -> Result<(), Fail> {
         "\\implies{R}(\\equals{S{},R}(a{}(),\\dv{S{}}(\"true\")),\\equals{S{},R}(f{}(a{}()),a{}())) []",
         "\\implies{R}(\\equals{B{},R}(is{}(Y:S{}),\\dv{B{}}(\"true\")),\\equals{S{},R}(f{}(X:S{}),X:S{})) []",
         "\\implies{R}(\\and{R}(\\top{R}(),\\top{R}()),\\equals{S{},R}(f{}(a{}()),a{}())) []",
-        "\\implies{R}(\\and{R}(\\top{R}(),\\and{R}(\\in{S{},R}(X:S{},Y:S{}),Y:S{})),\\equals{S{},R}(f{}(X:S{}),Y:S{})) []",
-        "\\implies{R}(\\and{R}(\\top{R}(),\\and{R}(\\in{S{},R}(Z:S{},Y:S{}),\\top{R}())),\\equals{S{},R}(f{}(X:S{}),Y:S{})) []",
-        "\\implies{R}(\\and{R}(\\top{R}(),\\and{R}(\\in{S{},R}(X:S{},Y:S{}),\\top{R}())),\\equals{S{},R}(f{}(X:S{}),X:S{})) []",
+        "\\implies{R}(\\and{R}(\\top{R}(),\\and{R}(\\in{S{},R}(X:S{},Y:S{}),Y:S{})),\\equals{S{},\
+          R}(f{}(X:S{}),Y:S{})) []",
+        "\\implies{R}(\\and{R}(\\top{R}(),\\and{R}(\\in{S{},R}(Z:S{},Y:S{}),\\top{R}())),\\equals{S{},\
+          R}(f{}(X:S{}),Y:S{})) []",
+        "\\implies{R}(\\and{R}(\\top{R}(),\\and{R}(\\in{S{},R}(X:S{},Y:S{}),\\top{R}())),\\equals{S{},\
+          R}(f{}(X:S{}),X:S{})) []",
     ];
     for axiom in cases {
         if counts_in(rt.alloc(), axiom)?.is_some() {

@@ -28,7 +28,8 @@ pub(crate) fn alone(alloc: Global, symbol: SymId) -> RulePat
 
 // f(a, b).
 pub(crate) fn pair(alloc: Global) -> Result<RulePat, AllocError>
-    ensures { IfOk result (λ p. plain_pattern p ≡ application 0 (more_patterns (application 1 no_pattern) (more_patterns (application 2 no_pattern) no_pattern))) }
+    ensures { IfOk result (λ p. plain_pattern p ≡ application 0
+        (more_patterns (application 1 no_pattern) (more_patterns (application 2 no_pattern) no_pattern))) }
 {
     let args = vec![in alloc; alone(alloc, A), alone(alloc, B)]?;
     Ok(RulePat::Ctor(F, args))
@@ -36,7 +37,8 @@ pub(crate) fn pair(alloc: Global) -> Result<RulePat, AllocError>
 
 // f{S}(a).
 pub(crate) fn called(alloc: Global) -> Result<RulePat, AllocError>
-    ensures { IfOk result (λ p. plain_pattern p ≡ call 0 (0 ∷ []) (more_patterns (application 1 no_pattern) no_pattern)) }
+    ensures { IfOk result (λ p. plain_pattern p ≡ call 0 (0 ∷ [])
+        (more_patterns (application 1 no_pattern) no_pattern)) }
 {
     let sorts = vec![in alloc; S]?;
     let args = vec![in alloc; alone(alloc, A)]?;

@@ -25,7 +25,9 @@ fn declares_names(rt: HostRuntime) -> Result<(), Fail> {
     renderer.declare(&names, &mut text)?;
     assert_eq!(rt;
         text.as_slice(),
-        b"$c s:S $.\nn.0 $a #Sort s:S $.\n$c f:a $.\nn.1 $a #Pattern f:a $.\n$c f:f $.\nn.2 $a #Pattern f:f $.\n".as_slice()
+        b"$c s:S $.\nn.0 $a #Sort s:S $.\n$c f:a $.\nn.1 $a #Pattern f:a $.\n$c f:f $.\nn.2 $a #Pattern f:f \
+        $.\n"
+            .as_slice()
     );
     Ok(())
 }
@@ -94,13 +96,15 @@ fn proves_a_lemma(rt: HostRuntime) -> Result<(), Fail> {
     let text = stated(rt.alloc())?;
     assert_eq!(rt;
         text.as_slice(),
-        b"t.0 $a |- ( \\app f:f f:a ) $.\nt.1 $p |- ( \\ev ( \\app f:f f:a ) ) $= n.2 n.1 w.app n.2 n.1 w.app w.ev t.0 n.2 n.1 w.app ev.1 mp $.\n".as_slice()
+        b"t.0 $a |- ( \\app f:f f:a ) $.\nt.1 $p |- ( \\ev ( \\app f:f f:a ) ) $= n.2 n.1 w.app n.2 n.1 \
+        w.app w.ev t.0 n.2 n.1 w.app ev.1 mp $.\n"
+            .as_slice()
     );
     Ok(())
 }
 
-// Behind the header stand, byte for byte, the statements of `specs/RenderedCases`, of which the definitions say that they have
-// no fault.
+// After the header stand, byte for byte, the statements of `RenderedCases` of `mm_claims`, of which the definitions say
+// that they have no fault.
 #[test]
 fn writes_the_database_that_was_judged(rt: HostRuntime) -> Result<(), Fail> {
     let alloc = rt.alloc();
@@ -116,7 +120,10 @@ fn writes_the_database_that_was_judged(rt: HostRuntime) -> Result<(), Fail> {
     assert_eq!(rt;
         text.get(5968..),
         Some(
-            b"$c s:S $.\nn.0 $a #Sort s:S $.\n$c f:a $.\nn.1 $a #Pattern f:a $.\n$c f:f $.\nn.2 $a #Pattern f:f $.\nt.0 $a |- ( \\app f:f f:a ) $.\nt.1 $p |- ( \\ev ( \\app f:f f:a ) ) $= n.2 n.1 w.app n.2 n.1 w.app w.ev t.0 n.2 n.1 w.app ev.1 mp $.\n".as_slice()
+            b"$c s:S $.\nn.0 $a #Sort s:S $.\n$c f:a $.\nn.1 $a #Pattern f:a $.\n$c f:f $.\nn.2 $a #Pattern f:f \
+            $.\nt.0 $a |- ( \\app f:f f:a ) $.\nt.1 $p |- ( \\ev ( \\app f:f f:a ) ) $= n.2 n.1 w.app n.2 n.1 \
+            w.app w.ev t.0 n.2 n.1 w.app ev.1 mp $.\n"
+                .as_slice()
         )
     );
     Ok(())
@@ -140,8 +147,8 @@ fn states_an_axiom_with_a_variable(rt: HostRuntime) -> Result<(), Fail> {
     Ok(())
 }
 
-// Object variables stay apart from each other and from each pattern variable; pattern variables may stand for the same. A bound
-// variable is one of them, and each is typed once.
+// Object variables stay apart from each other and from each pattern variable; pattern variables may stand for the same.
+// A bound variable is one of them, and each is typed once.
 #[test]
 fn writes_which_variables_stay_apart(rt: HostRuntime) -> Result<(), Fail> {
     let alloc = rt.alloc();
@@ -154,7 +161,11 @@ fn writes_which_variables_stay_apart(rt: HostRuntime) -> Result<(), Fail> {
     renderer.lemma(&names, &lemma, &mut text)?;
     assert_eq!(rt;
         text.as_slice(),
-        b"${\n$v x:5 $.\nx.0.5 $f #Var x:5 $.\n$v x:2 $.\nx.0.2 $f #Var x:2 $.\n$v m:1 $.\nm.0.1 $f #Pattern m:1 $.\n$v m:0 $.\nm.0.0 $f #Pattern m:0 $.\n$d x:5 x:2 $.\n$d x:5 x:2 m:1 $.\n$d x:5 x:2 m:0 $.\nt.0 $p |- ( \\imp ( \\all x:5 s:S ( \\imp x:2 m:1 ) ) ( \\imp m:0 ( \\all x:5 s:S ( \\imp x:2 m:1 ) ) ) ) $= x.0.2 w.var m.0.1 w.imp x.0.5 n.0 w.all m.0.0 p.1 $.\n$}\n".as_slice()
+        b"${\n$v x:5 $.\nx.0.5 $f #Var x:5 $.\n$v x:2 $.\nx.0.2 $f #Var x:2 $.\n$v m:1 $.\nm.0.1 $f \
+        #Pattern m:1 $.\n$v m:0 $.\nm.0.0 $f #Pattern m:0 $.\n$d x:5 x:2 $.\n$d x:5 x:2 m:1 $.\n$d x:5 x:2 \
+        m:0 $.\nt.0 $p |- ( \\imp ( \\all x:5 s:S ( \\imp x:2 m:1 ) ) ( \\imp m:0 ( \\all x:5 s:S ( \\imp \
+        x:2 m:1 ) ) ) ) $= x.0.2 w.var m.0.1 w.imp x.0.5 n.0 w.all m.0.0 p.1 $.\n$}\n"
+            .as_slice()
     );
     Ok(())
 }

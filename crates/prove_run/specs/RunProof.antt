@@ -8,8 +8,8 @@ use Rattle.rule_core.specs.declared.rules.Program.{Program}
 use Rattle.mm_claims.specs.Kept.{Kept}
 
 -- A proof that the start of a program's run reaches a configuration, with the names in its text, what is kept of the
--- text, and how many facts and statements it has. `made` is that configuration: the value of the start, or what the last
--- step made. A start without a value reaches itself alone.
+-- text, and how many facts and statements it has. `made` is that configuration: the value of the start, or what the
+-- last step made. A start without a value reaches itself alone.
 pub record RunProof : Type 0 where
   pub program : Program
   pub start : RulePat

@@ -62,7 +62,8 @@ fn pair_pattern(alloc: Global) -> Result<RulePat, AllocError> {
     Ok(RulePat::Ctor(PAIR, args))
 }
 
-// With X for 5 and Y for inj{Int,Exp}(5), that pattern becomes pair(5, inj{Int,KItem}(5)); the pattern of this term stands for it alone.
+// With X for 5 and Y for inj{Int,Exp}(5), that pattern becomes pair(5, inj{Int,KItem}(5)); the pattern of this term
+// stands for it alone.
 #[test]
 fn makes_instances(rt: HostRuntime) -> Result<(), Fail> {
     let alloc = rt.alloc();
