@@ -1,4 +1,4 @@
--- Numbers of one to eight digits are read by `parse`.
+-- `parse` reads numbers of one to eight digits.
 use Rattle.std.proofs.Common.{◌≡◌, ◌<◌, ◌≤◌, ◌^◌, ◌&&◌, ℕ, Bool, true, false, List, [], ◌∷◌, length, Result, Ok, refl, ap, arith, nat_le}
 use Rattle.std.proofs.lemmas.Bool.{leb-true}
 use Rattle.std.specs.List.{list_all}

@@ -1,4 +1,4 @@
--- Where one part of a run command is bad, the command is.
+-- If one part of a run command is bad, the command is bad.
 use Rattle.std.proofs.Common.{◌≡◌, ◌&&◌, Bool, true, false, refl}
 
 pub no-first : (a b c d e : Bool) → b ≡ false → a && ((b && c) && (d && e)) ≡ false

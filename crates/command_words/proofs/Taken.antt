@@ -1,4 +1,4 @@
--- Words at which a plain command has no fault are taken by it.
+-- A plain command takes words that have no fault for it.
 use Rattle.std.proofs.Common.{◌≡◌, ◌+◌, ◌≤◌, ◌&&◌, ◌||◌, ◌==◌, ◌⊎◌, inl, inr, ℕ, zero, suc, Bool, true, false, not, List, [], ◌∷◌, length, min, drop, Option, Some, None, is_some, if◌then◌else◌, nat_le, nat_lt, refl, arith, find, codes, encode_utf8, slice_get}
 use Rattle.std.specs.List.{list_all, list_any}
 use Rattle.std.specs.Option.{option_map_or}
@@ -33,7 +33,7 @@ also : (a b : Bool) → a ≡ true → b ≡ true → a && b ≡ true
 also true b h k = k
 also false b h k = absurd (let wrong : ⊥ = cc in wrong)
 
--- a choice with a fault in the one branch goes to the other
+-- a choice with a fault in its first branch goes to the second branch
 is_else : (b : Bool) (k : ErrorKind) (ks other : Kinds) → (if b then k ∷ ks else other) ≡ [] → (b ≡ false) × (other ≡ [])
 is_else true k ks other e = absurd (let wrong : ⊥ = cc in wrong)
 is_else false k ks other e = (refl, e)
@@ -269,7 +269,7 @@ level-passes s names h words sub below defaults free e =
     (also (settle_passes s.rules s.args_override_self end) (list_all default_passes s.rules && is_valid s (finished s.rules end) sub) (settle-passes s.rules s.args_override_self end settling.0)
     (also (list_all default_passes s.rules) (is_valid s (finished s.rules end) sub) defaults (check-passes s (finished s.rules end) sub free last.1)))
 
--- nothing is entered where there is no subcommand
+-- no subcommand is entered if there is none
 none-entered : (a : App) (stop : Option (Text × List Text)) → a.subs ≡ [] → entered_passes a stop ≡ true
 none-entered a None e = refl
 none-entered a (Some p) e = by_subs a.subs e where
@@ -307,7 +307,7 @@ is-taken a words plain e =
     (left (list_all default_passes (built a).top.rules) (list_all (λ r. r.is_free) (built a).top.rules) both)
     (right (list_all default_passes (built a).top.rules) (list_all (λ r. r.is_free) (built a).top.rules) both) e)
 
--- a plain command is simple, and no argument has a rule on another
+-- a plain command is simple, and none of its arguments has a rule on another one
 pub plain-free : (a : App) → is_plain a ≡ true → is_simple_and_free a ≡ true
 plain-free a plain =
     left (is_simple_and_free a) (has_none (built a).subs && (list_all default_passes (built a).top.rules && list_all (λ r. r.is_free) (built a).top.rules)) plain

@@ -1,5 +1,5 @@
--- The words of the command line: a command's name, and then what clap's definition of that command takes. The first
--- of the words stands where clap expects a program's name.
+-- The words of the command line: the name of a command, then what clap's definition of that command
+-- takes. The first word is where clap expects the name of a program.
 use Rattle.std.specs.Prelude.{ℕ, Bool, true, false, not, ◌&&◌, List, [], ◌∷◌, length, Option, Some, is_some}
 use Rattle.std.specs.Prelude.{if◌then◌else◌, codes, nat_le}
 use Rattle.std.specs.Option.{option_map_or}
@@ -10,7 +10,7 @@ use Rattle.clap.specs.Simple.{App, new_rule, new_app, on_top, with_rule, matches
 use Rattle.clap.specs.Takes.{takes}
 use Rattle.clap.specs.declared.builder.action.ArgAction.TheVariants.{Set}
 
--- a word that no option precedes, and that has to be there
+-- a required word that no option precedes
 abbrev pub positional_rule : Text → Rule
 positional_rule id = record (new_rule id) { action = Some Set; required = true }
 
@@ -18,11 +18,11 @@ positional_rule id = record (new_rule id) { action = Some Set; required = true }
 abbrev pub option_rule : Text → Bool → Rule
 option_rule id is_required = record (new_rule id) { long = Some id; action = Some Set; required = is_required }
 
--- a command without arguments, and without help
+-- a command without arguments and without help
 abbrev pub bare_app : Text → App
 bare_app name = on_top (λ s. record s { disable_help_flag = true }) (new_app name)
 
--- `run DEF TERM --limit N`, with `--calls N` and `--proof FILE` where they are wanted
+-- `run DEF TERM --limit N`, with optional `--calls N` and `--proof FILE`
 abbrev pub run_app : App
 run_app =
     with_rule (with_rule (with_rule (with_rule (with_rule (bare_app (codes "run"))
@@ -38,7 +38,7 @@ abbrev pub drill_app : App
 drill_app =
     with_rule (with_rule (bare_app (codes "drill")) (positional_rule (codes "n"))) (positional_rule (codes "file"))
 
--- the value that the words give an argument, where they give it one
+-- the value that the words give to an argument, if they give it one
 abbrev pub value_of : App → List Text → Text → Option Text
 value_of app words id = first_of id (matches_of app words)
 
@@ -46,11 +46,12 @@ value_of app words id = first_of id (matches_of app words)
 abbrev pub is_number : Text → Bool
 is_number word = (nat_le 1 (length word) && nat_le (length word) 8) && all_ascii_digits word
 
--- .. of a number that is not greater than this one
+-- a number that is at most this one
 abbrev pub is_number_to : ℕ → Text → Bool
 is_number_to most word = is_number word && nat_le (digits_value 10 word) most
 
--- the greatest limit of steps, the greatest number of calls, and the number of calls where none is stated
+-- the greatest limit of steps, the greatest number of calls, and the number of calls if none is
+-- stated
 abbrev pub most_steps : ℕ
 most_steps = 1000000
 
@@ -64,7 +65,7 @@ usual_calls = 1000000
 abbrev pub most_drilled : ℕ
 most_drilled = 1000
 
--- a number of steps of a drill, which has one at least
+-- a number of steps of a drill, at least one
 abbrev pub is_drill_number : Text → Bool
 is_drill_number word = is_number_to most_drilled word && nat_le 1 (digits_value 10 word)
 

@@ -10,7 +10,7 @@ use Rattle.command_words.specs.declared.commands.Command.TheVariants as command
 use Rattle.command_words.specs.CommandLine.{run_app, verify_app, drill_app, value_of, usual_calls, most_drilled}
 use Rattle.command_words.specs.CommandLine.{is_named}
 
--- to run a term: the values of the arguments, and the usual number of calls where the words state none
+-- to run a term: the values of the arguments, and the usual number of calls if the words state none
 pub record GivesRun (words : List Text) (r : RunWords) : Type 0 where
   pub named : is_named (codes "run") words ≡ true
   pub definition : value_of run_app words (codes "def") ≡ Some r.definition.now

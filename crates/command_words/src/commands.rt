@@ -39,7 +39,7 @@ pub struct RunWords<'a> {
     pub limit: u32,
     /// The greatest number of calls of functions, at most 10,000,000.
     pub calls: u32,
-    /// The name of the file for the proof, where one is wanted.
+    /// The name of the file for the proof, if one is wanted.
     pub proof: Option<&'a str>,
 }
 
@@ -69,7 +69,7 @@ const MAX_STEPS: u32 = 1_000_000;
 /// The greatest number of calls that words may name.
 const MAX_CALLS: u32 = 10_000_000;
 
-/// The number of calls where the words state none.
+/// The number of calls if the words state none.
 const USUAL_CALLS: u32 = 1_000_000;
 
 /// The greatest number of steps of a drill.
@@ -85,8 +85,9 @@ impl From<AllocError> for WordsEnd {
     }
 }
 
-/// What the words ask for. `Bad` comes exactly where no command takes them, and `Memory` where memory ran out. What
-/// is answered borrows from the words.
+/// What the words ask for. The result borrows from the words.
+///
+/// Errors: `Bad` exactly when no command takes the words; `Memory` if memory ran out.
 pub fn read_words<'a>(alloc: Global, words: &'a [String]) -> Result<Command<'a>, WordsEnd>
     ensures good { IfOk result (λ c. (are_bad (map string_bytes words.entry.now) ≡ false)
         × Gives (map string_bytes words.entry.now) c) }
@@ -195,7 +196,7 @@ fn drill_words<'a>(alloc: Global, words: &'a [String]) -> Result<DrillWords<'a>,
     }
 }
 
-// The number of steps of a drill that stands there; none where there is no word, or another one.
+// The number of steps of a drill that the word states. `None` if there is no word or a bad one.
 fn steps_in(word: Option<&str>) -> Option<u32>
     ensures number { IfSome result (λ n. option_map (digits_value 10) (option_copied word.entry) ≡ Some n) }
     ensures bounds { IfSome result (λ n. (1 ≤ n) × (n ≤ most_drilled)) }
@@ -208,7 +209,7 @@ fn steps_in(word: Option<&str>) -> Option<u32>
     }
 }
 
-// The number that stands there, no greater than this; none where there is no word, or another one.
+// The number that the word states, at most `most`. `None` if there is no word or a bad one.
 fn number_in(most: u32, word: Option<&str>) -> Option<u32>
     ensures number { IfSome result (λ n. option_map (digits_value 10) (option_copied word.entry) ≡ Some n) }
     ensures good { IfSome result (λ n. option_map_or (is_number_to most) (option_copied word.entry) false ≡ true) }
@@ -220,7 +221,8 @@ fn number_in(most: u32, word: Option<&str>) -> Option<u32>
     }
 }
 
-// The same, and the usual number where there is no word.
+// The number that the word states, at most `most`, or `usual` if there is no word. `None` if the
+// word is bad.
 fn number_or(most: u32, word: Option<&str>, usual: u32) -> Option<u32>
     ensures number { IfSome result (λ n. n ≡ option_map_or (digits_value 10) (option_copied word.entry) usual) }
     ensures good { IfSome result (λ n. option_map_or (is_number_to most) (option_copied word.entry) true ≡ true) }
@@ -232,7 +234,8 @@ fn number_or(most: u32, word: Option<&str>, usual: u32) -> Option<u32>
     }
 }
 
-// What a command without subcommands makes of the words. `Bad` comes only where its definition does not take them.
+// Parses the words for a command without subcommands. `Bad` comes only if the command's definition
+// does not take them.
 fn matches_for<'a>(
     command: clap::Command<'a>,
     words: &'a [String],

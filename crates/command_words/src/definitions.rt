@@ -1,4 +1,4 @@
-// The commands as clap takes them.
+// The definitions of the commands, for clap.
 ghost use Rattle.std.specs.Prelude.{◌≡◌, IfOk, codes, false};
 ghost use Rattle.clap.specs.Walk.{rule_of};
 ghost use Rattle.clap.specs.Simple.{app_of, with_rule};
@@ -40,7 +40,7 @@ pub(crate) fn drill_definition<'a>(alloc: Global) -> Result<Command<'a>, AllocEr
     )
 }
 
-// A command without arguments, and without help.
+// A command without arguments and without help.
 fn bare<'a>(alloc: Global, name: &'a str) -> Command<'a>
     ensures { app_of result ≡ bare_app name.entry.now }
 {
@@ -55,7 +55,7 @@ fn with<'a>(command: Command<'a>, arg: Arg<'a>) -> Result<Command<'a>, AllocErro
     command.arg(arg)
 }
 
-// A word that no option precedes, and that has to be there.
+// A required word that no option precedes.
 fn positional<'a>(alloc: Global, id: &'a str) -> Arg<'a>
     ensures rule { rule_of result ≡ positional_rule id.entry.now }
     ensures local { result.global ≡ false }

@@ -1,8 +1,9 @@
 // The words of the command line, read by clap.
 //
-// `read_words` says what the words ask for, or that they are bad: exactly where no command takes them. A command
-// takes its words where clap's definition of it does and its numbers are good. The definitions stand in
-// specs/CommandLine.antt (which words are good) and specs/Commands.antt (what they ask for).
+// `read_words` returns what the words ask for. It returns that they are bad exactly when no command
+// takes them. A command takes words if clap's definition of it does and their numbers are good.
+// Which words are good is defined in specs/CommandLine.antt. What they ask for is defined in
+// specs/Commands.antt.
 #![tactic(auto)]
 
 mod commands;

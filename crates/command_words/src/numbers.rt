@@ -5,7 +5,7 @@ ghost use Rattle.std.specs.List.{list_all};
 ghost use Rattle.std.specs.Char.{is_ascii_digit};
 ghost use Rattle.command_words.specs.CommandLine.{is_number, is_number_to};
 
-// The number that a word writes, where it is one and no greater than this.
+// The number that a word states, if it is a number of at most `most`.
 pub(crate) fn number_to(most: u32, word: &str) -> Option<u32>
     ensures number { IfSome result (λ n. n ≡ digits_value 10 word.now) }
     ensures good { IfSome result (λ n. is_number_to most word.now ≡ true) }
@@ -27,7 +27,7 @@ fn is_number(word: &str) -> bool
     1 <= word.len() && word.len() <= 8 && has_only_digits(word)
 }
 
-// Whether all bytes of a word are digits.
+// Whether every byte of a word is a digit.
 fn has_only_digits(word: &str) -> bool
     ensures { result ≡ list_all is_ascii_digit word.now }
 {

@@ -1,9 +1,9 @@
-// Words that are good and words that are bad.
+// Good words and bad words.
 use crate::{Command, WordsEnd, read_words};
 use std::alloc::{AllocError, Global};
 use std::test::Fail;
 
-// The words of a line, apart by spaces.
+// The words of a line, separated by spaces.
 fn words_of(alloc: Global, line: &str) -> Result<Vec<String>, AllocError> {
     let mut words = Vec::new(alloc);
     for word in line.split(' ') {

@@ -1,4 +1,4 @@
--- A file in memory: where it stands, and reading on.
+-- A file in memory: its index, and reading on.
 use Rattle.std.proofs.Common.{◌≡◌, ℕ, zero, suc, ◌+◌, ◌-◌, ◌<◌, ◌≤◌, min, Bool, true, false, List, [], ◌∷◌, ◌++◌, length, take, drop, get_or, Option, Some, None, refl, sym, ◌∙◌, ap, arith, nat_eq, ◌≢◌, if◌then◌else◌, String, string_bytes, vec_len, length-drop, add-one}
 use Rattle.std.proofs.lemmas.List.{take-append-drop, take_rest, drop-drop, drop-take, length-take, get_or-map, length-map, nil_from_length, drop-append-le, take-append-le}
 use Rattle.std.specs.List.{position, position_from}
@@ -11,12 +11,12 @@ use Rattle.desk_io.specs.MemoryChanges.{without, grown}
 use Rattle.desk_io.specs.FirstFile.{same_name}
 use Rattle.desk_io.specs.declared.mem_desk.Place.{Place}
 
--- where the first file of that name stands, if there is one
+-- the index of the first file of that name, if there is one
 abbrev pub StandsAt : List (List ℕ × List ℕ) → List ℕ → Option ℕ → Type 0
 StandsAt files name None = file_of files name ≡ None
 StandsAt files name (Some i) = (i < length files) × (file_of files name ≡ Some (get_or files i ([], [])).1)
 
--- the same, where the files are numbered from `low` on
+-- the same, with the files numbered from `low`
 StandsFrom : List (List ℕ × List ℕ) → List ℕ → ℕ → Option ℕ → Type 0
 StandsFrom files name low None = file_of files name ≡ None
 StandsFrom files name low (Some i) = (k : ℕ) × (i ≡ low + k) × (k < length files) × (file_of files name ≡ Some (get_or files k ([], [])).1)
@@ -44,7 +44,7 @@ at_zero files name (Some i) h =
     let e : h.0 ≡ i = omega (arith, h.1) in
     (omega (arith, h.2), h.3 ∙ ap (λ k. Some (get_or files k ([], [])).1) e)
 
--- what the search for a name tells
+-- what the search for a name says
 pub stands_at : (files : List (String Global × Vec ℕ)) (name : List ℕ) (at : Option ℕ) → at ≡ position (λ (f : String Global × Vec ℕ). pointwise nat_eq (string_bytes f.0) name) files → StandsAt (named_bytes files) name at
 stands_at files name at found =
     let from : at ≡ position_from (λ (f : String Global × Vec ℕ). pointwise nat_eq (string_bytes f.0) name) 0 files = found ∙ position_from-zero (λ (f : String Global × Vec ℕ). pointwise nat_eq (string_bytes f.0) name) files in
@@ -67,7 +67,7 @@ unread_part-opened files i end file read h count =
     let long : end ≡ length content = omega (arith, count, ap length same) in
     ap (λ k. take (k - 0) content) long ∙ take_rest content 0
 
--- a read of n bytes from the place on
+-- a read of n bytes from the place
 pub unread_part-read : (files : List (List ℕ × List ℕ)) (reading : Option Place) (place : Place) (n most room : ℕ) (content buf : List ℕ) → reading ≡ Some place → content ≡ content_of files (Some place) → n ≡ min most (min (length (take (place.end - place.passed) (drop place.passed content))) room) → take n buf ≡ take n (take (place.end - place.passed) (drop place.passed content)) → unread_part files reading ≡ take n buf ++ take (place.end - (place.passed + n)) (drop (place.passed + n) (content_of files (Some place)))
 unread_part-read files reading place n most room content buf opened same count copied =
     let unread : List ℕ = take (place.end - place.passed) (drop place.passed content) in
@@ -77,11 +77,11 @@ unread_part-read files reading place n most room content buf opened same count c
     ap (λ k. drop n (take k (drop place.passed content))) as_sum ∙ drop-take n (place.end - (place.passed + n)) (drop place.passed content) ∙ ap (λ xs. take (place.end - (place.passed + n)) xs) (drop-drop n place.passed content) in
     rw (opened, ← same) (sym (take-append-drop n unread) ∙ ap (λ xs. xs ++ drop n unread) (sym copied) ∙ ap (λ xs. take n buf ++ xs) rest)
 
--- a read stays within what was there when the file was opened
+-- a read does not pass the end that the file had when it was opened
 pub passed-read : (place : Place) (n most room : ℕ) (content : List ℕ) → place.passed ≤ place.end → n ≡ min most (min (length (take (place.end - place.passed) (drop place.passed content))) room) → place.passed + n ≤ place.end
 passed-read place n most room content within count = omega (arith, within, count, length-take (place.end - place.passed) (drop place.passed content))
 
--- a read that passes nothing
+-- a read of no byte
 pub unread_part-end : (files : List (List ℕ × List ℕ)) (reading : Option Place) (place : Place) (n most room : ℕ) (content : List ℕ) → reading ≡ Some place → content ≡ content_of files (Some place) → n ≡ min most (min (length (take (place.end - place.passed) (drop place.passed content))) room) → 0 < most → 0 < room → n ≡ 0 → unread_part files reading ≡ []
 unread_part-end files reading place n most room content opened same count some space none =
     rw (opened, ← same) (nil_from_length (take (place.end - place.passed) (drop place.passed content)) (omega (arith, count, none, some, space)))
@@ -116,11 +116,11 @@ puts_empty files name = (rw (same_name name) refl, λ other differ. rw (other_na
 pub puts_grown : (name content bytes : List ℕ) (files : List (List ℕ × List ℕ)) → PutsFile ((name, content) ∷ files) ((name, content ++ bytes) ∷ files) name (content ++ bytes)
 puts_grown name content bytes files = (rw (same_name name) refl, λ other differ. rw (other_name name other differ) refl)
 
--- a file is created: it is the first
+-- a file is created and becomes the first one
 pub creates_first : (files files' : List (List ℕ × List ℕ)) (unread name : List ℕ) (created : Option (List ℕ)) → files' ≡ (name, []) ∷ without files name → Creates (Some (record { files = files; unread = unread; created = created })) (Some (record { files = files'; unread = []; created = created_name true files' })) name
 creates_first files files' unread name created e = rw e (_, puts_empty files name, refl)
 
--- some file is named where there is one
+-- the first file has a name, if there is one
 pub first_named : (files : Vec (String Global × Vec ℕ)) → 0 < vec_len files → 0 < length (named_bytes files.items)
 first_named files some = omega (arith, some, length-named files.items)
 
@@ -135,7 +135,7 @@ unread_part-grown : (file : List ℕ × List ℕ) (files : List (List ℕ × Lis
 unread_part-grown file files bytes None within ended = refl
 unread_part-grown file files bytes (Some place) within ended = grown_at file files bytes place.file place.passed place.end within ended
 
--- the created file is written: it is the first
+-- the created file, which is the first one, is written
 pub writes_first : (files files' : List (List ℕ × List ℕ)) (reading : Option Place) (created : Bool) (bytes : List ℕ) → created ≡ true → 0 < length files → files' ≡ grown files bytes → passed_of reading ≤ end_of reading → end_of reading ≤ length (content_of files reading)
     → Writes (Some (record { files = files; unread = unread_part files reading; created = created_name created files })) (Some (record { files = files'; unread = unread_part files' reading; created = created_name created files' })) bytes
 writes_first [] files' reading created bytes is some e within ended = absurd (omega (arith, some))
@@ -143,7 +143,7 @@ writes_first (file ∷ files) files' reading created bytes is some e within ende
     let told : List ℕ → Option Told = λ unread. Some (record { files = (file.0, file.1 ++ bytes) ∷ files; unread = unread; created = Some file.0 }) in
     rw (is, e) (file.0, file.1, _, refl, rw (same_name file.0) refl, puts_grown file.0 file.1 bytes files, ap told (unread_part-grown file files bytes reading within ended))
 
--- where the file of a name stands, so that the others are what is left without it
+-- the index of the file of a name, such that the others are what is left without it
 LeavesFrom : List (String Global × Vec ℕ) → List ℕ → ℕ → Option ℕ → Type 0
 LeavesFrom files name low None = without (named_bytes files) name ≡ named_bytes files
 LeavesFrom files name low (Some i) = (k : ℕ) × (i ≡ low + k) × (without (named_bytes files) name ≡ named_bytes (take k files ++ drop (suc k) files))
@@ -169,12 +169,12 @@ leaves_at files name at found =
     let from : at ≡ position_from (λ (f : String Global × Vec ℕ). pointwise nat_eq (string_bytes f.0) name) 0 files = found ∙ position_from-zero (λ (f : String Global × Vec ℕ). pointwise nat_eq (string_bytes f.0) name) files in
     rw from (leaves_from files name 0)
 
--- the files without the one of that name, where there is none
+-- the files without the one of that name, if there is none
 pub without-none : (files : List (String Global × Vec ℕ)) (name : List ℕ) → None ≡ position (λ (f : String Global × Vec ℕ). pointwise nat_eq (string_bytes f.0) name) files → without (named_bytes files) name ≡ named_bytes files
 unfolding LeavesFrom
 without-none files name found = leaves_at files name None found
 
--- the files without the one of that name, where it stands at an index
+-- the files without the one of that name, which is at an index
 pub without-some : (files : List (String Global × Vec ℕ)) (name : List ℕ) (i : ℕ) → Some i ≡ position (λ (f : String Global × Vec ℕ). pointwise nat_eq (string_bytes f.0) name) files → without (named_bytes files) name ≡ named_bytes (take i files ++ drop (suc i) files)
 unfolding LeavesFrom
 without-some files name i found =
@@ -182,11 +182,11 @@ without-some files name i found =
     let same : left.0 ≡ i = omega (arith, left.1) in
     left.2 ∙ ap (λ k. named_bytes (take k files ++ drop (suc k) files)) same
 
--- a file is put before the others, of which none has its name
+-- a file is put before the others, none of which has its name
 pub named_bytes-put : (files items : List (String Global × Vec ℕ)) (file : String Global × Vec ℕ) (name : List ℕ) → items ≡ file ∷ files → string_bytes file.0 ≡ name → file.1.items ≡ [] → without (named_bytes files) name ≡ named_bytes files → named_bytes items ≡ (name, []) ∷ without (named_bytes files) name
 named_bytes-put files items file name put named empty rest = rw (put, rest, named, empty) refl
 
--- a file is put before the others, and that of its name is removed
+-- a file is put before the others, and the old one of its name is removed
 pub named_bytes-replace : (files items left : List (String Global × Vec ℕ)) (file : String Global × Vec ℕ) (name : List ℕ) (at : ℕ) → items ≡ file ∷ files → left ≡ take (at + 1) items ++ drop (suc (at + 1)) items → string_bytes file.0 ≡ name → file.1.items ≡ []
     → without (named_bytes files) name ≡ named_bytes (take at files ++ drop (suc at) files) → named_bytes left ≡ (name, []) ∷ without (named_bytes files) name
 named_bytes-replace files items left file name at put removed named empty rest =

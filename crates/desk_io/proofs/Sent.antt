@@ -1,4 +1,4 @@
--- Writes in turn.
+-- Writes one after the other.
 use Rattle.std.proofs.Common.{◌≡◌, ℕ, ◌+◌, ◌-◌, ◌≤◌, List, [], ◌++◌, length, take, drop, Option, Some, None, sym, ◌∙◌, ap, append_assoc}
 use Rattle.std.proofs.lemmas.List.{append-nil, length-take-le, take-append-drop, take_rest}
 use Rattle.std.proofs.Math.Seq.{take-append-add}
@@ -20,7 +20,7 @@ take-add m n xs h =
     let whole : take m xs ++ drop m xs ≡ xs = take-append-drop m xs in
     ap (λ zs. take (m + n) zs) (sym whole) ∙ ap (λ k. take (k + n) (take m xs ++ drop m xs)) (sym e) ∙ take-append-add (take m xs) (drop m xs) n
 
--- a write of the bytes from `at` on, of which n were taken
+-- a write of the bytes from `at`, of which n were taken
 pub Appends-more : (a b c : Option (List ℕ)) (bytes : List ℕ) (at n : ℕ) → at ≤ length bytes → Appends a b (take at bytes) → Appends b c (take n (take (length bytes - at) (drop at bytes))) → Appends a c (take (at + n) bytes)
 Appends-more a b c bytes at n h p q =
     let r : Appends b c (take n (drop at bytes)) = rw (take_rest bytes at) at q in

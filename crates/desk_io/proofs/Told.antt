@@ -1,4 +1,4 @@
--- Calls on a desk in turn.
+-- Calls of a desk one after the other.
 use Rattle.std.proofs.Common.{◌≡◌, ℕ, ◌+◌, ◌-◌, true, List, [], ◌++◌, length, take, drop, Option, Some, None, refl, sym, ◌∙◌, ap, append_assoc}
 use Rattle.std.proofs.lemmas.List.{append-nil, take-append-drop, take_rest}
 use Rattle.std.proofs.Math.Seq.{take-add}
@@ -39,7 +39,7 @@ Writes-then (Some old) b c xs ys p q =
     let put : PutsFile p.2 r.2 p.0 (p.1 ++ (xs ++ ys)) = rw whole at named in
     (p.0, p.1, r.2, p.3, p.4, PutsFile-then old.files p.2 r.2 p.0 (p.1 ++ xs) (p.1 ++ (xs ++ ys)) p.5 put, r.6)
 
--- a write of the bytes from `at` on, of which n were taken
+-- a write of the bytes from `at`, of which n were taken
 pub Writes-more : (a b c : Option Told) (bytes : List ℕ) (at n : ℕ) → Writes a b (take at bytes) → Writes b c (take n (take (length bytes - at) (drop at bytes))) → Writes a c (take (at + n) bytes)
 Writes-more a b c bytes at n p q =
     let r : Writes b c (take n (drop at bytes)) = rw (take_rest bytes at) at q in

@@ -1,6 +1,6 @@
--- Counts of faults. A count stands still at its last value, 2^64 - 1.
+-- Counts of faults. A count stops at its last value, 2^64 - 1.
 use Rattle.std.specs.Prelude.{◌≡◌, ℕ, ◌-◌, ◌^◌, ◌<◌, ◌⊎◌}
 
--- a count rose from old to new, or stands at its last value
+-- a count rose from old to new, or is at its last value
 abbrev pub Rose : ℕ → ℕ → Type 0
 Rose old new = (old < new) ⊎ (new ≡ 2 ^ 64 - 1)

@@ -1,4 +1,4 @@
--- How a reading ends by a fault of the desk.
+-- How a reading ends after a fault of the desk.
 use Rattle.desk_io.specs.declared.desk.DeskFault.{DeskFault}
 use Rattle.desk_io.specs.declared.desk.DeskFault.TheVariants as fault
 use Rattle.desk_io.specs.declared.read.ReadEnd.{ReadEnd}

@@ -1,4 +1,5 @@
--- Why a desk whose created file stands first tells it: the law of every desk, at the desk in memory.
+-- If a file of a desk in memory is created, it is the first one, and the desk tells it. This is the
+-- law of every desk, for the desk in memory.
 use Rattle.std.specs.Prelude.{◌≡◌, ℕ, ◌<◌, Bool, true, false, List, [], ◌∷◌, length, Some, nat_eq, refl, IsTrue, String, string_bytes, vec_len}
 use Rattle.std.proofs.Common.{arith}
 use Rattle.std.specs.Cmp.Lexicographic.{pointwise, bytes_decides}
@@ -6,7 +7,7 @@ use Rattle.std.specs.Global.{Vec, Global}
 use Rattle.desk_io.specs.Told.{TellsCreated}
 use Rattle.desk_io.specs.Memory.{named_bytes, created_name}
 
--- a name is the same as itself
+-- a name is equal to itself
 pub same_name : (name : List ℕ) → pointwise nat_eq name name ≡ true
 same_name name = (bytes_decides name name).1 refl
 

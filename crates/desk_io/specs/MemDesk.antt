@@ -4,11 +4,11 @@ use Rattle.desk_io.specs.Told.{Told}
 use Rattle.desk_io.specs.Memory.{named_bytes, unread_part, created_name}
 use Rattle.desk_io.specs.declared.mem_desk.MemDesk.{MemDesk}
 
--- its files, each by the bytes of its name and its content
+-- its files, each as the bytes of its name and its content
 abbrev pub files_of : MemDesk → List (List ℕ × List ℕ)
 files_of desk = named_bytes desk.files.items
 
--- what is unread of the opened file
+-- the unread bytes of the opened file
 abbrev pub unread_of : MemDesk → List ℕ
 unread_of desk = unread_part (files_of desk) desk.reading
 

@@ -2,7 +2,7 @@
 use Rattle.std.specs.Prelude.{ℕ, List, Option, Some}
 use Rattle.desk_io.specs.declared.mem_sink.MemSink.{MemSink}
 
--- all that it has taken
+-- all bytes that it has taken
 abbrev pub bytes_of : MemSink → List ℕ
 bytes_of sink = sink.taken.items
 

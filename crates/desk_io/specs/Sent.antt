@@ -1,4 +1,5 @@
--- What a write does to the bytes that a sink tells. A clause on a sink that tells nothing says nothing.
+-- How a write changes the bytes that a sink tells. If a sink tells nothing, a clause on it says
+-- nothing.
 use Rattle.std.specs.Prelude.{◌≡◌, ℕ, List, ◌++◌, Option, Some, None}
 
 -- it tells the same as before
@@ -11,7 +12,7 @@ abbrev pub Appends : Option (List ℕ) → Option (List ℕ) → List ℕ → Ty
 Appends None new bytes = Unit {0}
 Appends (Some old) new bytes = new ≡ Some (old ++ bytes)
 
--- what it tells grew by some of these bytes, from their front
+-- what it tells grew by some of these bytes, taken from their front
 abbrev pub AppendsFront : Option (List ℕ) → Option (List ℕ) → List ℕ → Type 0
 AppendsFront None new bytes = Unit {0}
 AppendsFront (Some old) new bytes = (front : List ℕ) × (rest : List ℕ) × (bytes ≡ front ++ rest) × (new ≡ Some (old ++ front))

@@ -1,12 +1,12 @@
--- What a desk tells of itself, and what its calls do to that. A clause on a desk that tells nothing
--- says nothing.
+-- What a desk tells of itself, and how its calls change that. If a desk tells nothing, a clause on
+-- it says nothing.
 use Rattle.std.specs.Prelude.{◌≡◌, ◌≢◌, ℕ, ◌<◌, Bool, true, false, if◌then◌else◌, List, [], ◌∷◌, ◌++◌, length, drop, Option, Some, None, Result, Ok, Err, nat_eq}
 use Rattle.std.specs.Cmp.Lexicographic.{pointwise}
 use Rattle.desk_io.specs.declared.desk.DeskFault.{DeskFault}
 
--- the files, each by the bytes of its name and its content; what is unread of the opened file, which
--- is nothing where none is opened; and the name of the created file, where one is created, whose
--- bytes are those of the file of that name
+-- The files, each as the bytes of its name and its content. The unread bytes of the opened file:
+-- none if no file is open. The name of the created file, if one is created: it is the name of one
+-- of the files, by its bytes.
 pub record Told : Type 0 where
   pub files : List (List ℕ × List ℕ)
   pub unread : List ℕ
@@ -17,7 +17,7 @@ abbrev pub file_of : List (List ℕ × List ℕ) → List ℕ → Option (List �
 file_of [] name = None
 file_of (file ∷ files) name = if pointwise nat_eq file.0 name then Some file.1 else file_of files name
 
--- no two files have one name
+-- no two files have the same name
 abbrev pub NamesDiffer : List (List ℕ × List ℕ) → Type 0
 NamesDiffer [] = Unit {0}
 NamesDiffer (file ∷ files) = (file_of files file.0 ≡ None) × NamesDiffer files
@@ -27,20 +27,20 @@ abbrev pub Same : Option Told → Option Told → Type 0
 Same None new = Unit {0}
 Same (Some old) new = new ≡ Some old
 
--- it tells all as before but what is unread
+-- it tells the same as before, except for what is unread
 abbrev pub KeepsFiles : Option Told → Option Told → Type 0
 KeepsFiles None new = Unit {0}
 KeepsFiles (Some old) new = (unread : List ℕ) × (new ≡ Some (record old { unread = unread }))
 
--- what an answer to 'open the file of this name' says: true, and the whole file is unread; or false,
--- there is none, and nothing is unread; or a fault, and nothing is unread
+-- what a result of opening the file of this name says: with true, the whole file is unread; with
+-- false, there is no such file and nothing is unread; with a fault, nothing is unread
 abbrev pub Opens : Option Told → Option Told → List ℕ → Result Bool DeskFault → Type 0
 Opens None new name answer = Unit {0}
 Opens (Some old) new name (Ok true) = (content : List ℕ) × (file_of old.files name ≡ Some content) × (new ≡ Some (record old { unread = content }))
 Opens (Some old) new name (Ok false) = (file_of old.files name ≡ None) × (new ≡ Some (record old { unread = [] }))
 Opens (Some old) new name (Err fault) = new ≡ Some (record old { unread = [] })
 
--- these bytes were the first unread ones, and are unread no longer
+-- these bytes were the first unread ones, and have now been read
 abbrev pub Passed : Option Told → Option Told → List ℕ → Type 0
 Passed None new bytes = Unit {0}
 Passed (Some old) new bytes = (rest : List ℕ) × (old.unread ≡ bytes ++ rest) × (new ≡ Some (record old { unread = rest }))
@@ -70,17 +70,17 @@ abbrev pub Leaves : Option Told → Option Told → List ℕ → ℕ → Type 0
 Leaves None new name n = Unit {0}
 Leaves (Some old) new name n = (content : List ℕ) × (file_of old.files name ≡ Some content) × (new ≡ Some (record old { unread = drop n content }))
 
--- it tells a created file, by the name of a file that is there, exactly where one is created
+-- it tells a created file exactly when one is created, and this is the name of one of its files
 abbrev pub TellsCreated : Bool → Option Told → Type 0
 TellsCreated created None = Unit {0}
 TellsCreated false (Some told) = told.created ≡ None
 TellsCreated true (Some told) = (name : List ℕ) × (content : List ℕ) × (told.created ≡ Some name) × (file_of told.files name ≡ Some content)
 
--- the file of that name has this content now, and each other file is as before
+-- the file of that name has this content now, and every other file is as before
 abbrev pub PutsFile : List (List ℕ × List ℕ) → List (List ℕ × List ℕ) → List ℕ → List ℕ → Type 0
 PutsFile old new name content = (file_of new name ≡ Some content) × ((other : List ℕ) → other ≢ name → file_of new other ≡ file_of old other)
 
--- the file of that name is empty now and the created one, and nothing is unread
+-- the file of that name is now empty and the created one, and nothing is unread
 abbrev pub Creates : Option Told → Option Told → List ℕ → Type 0
 Creates None new name = Unit {0}
 Creates (Some old) new name = (files : List (List ℕ × List ℕ)) × PutsFile old.files files name [] × (new ≡ Some (record { files = files; unread = []; created = Some name }))
@@ -91,12 +91,12 @@ Writes None new bytes = Unit {0}
 Writes (Some old) new bytes = (name : List ℕ) × (content : List ℕ) × (files : List (List ℕ × List ℕ)) × (old.created ≡ Some name) × (file_of old.files name ≡ Some content)
     × PutsFile old.files files name (content ++ bytes) × (new ≡ Some (record old { files = files }))
 
--- the created file grew by some of these bytes, from their front
+-- the created file grew by some of these bytes, taken from their front
 abbrev pub WritesFront : Option Told → Option Told → List ℕ → Type 0
 WritesFront None new bytes = Unit {0}
 WritesFront (Some old) new bytes = (front : List ℕ) × (rest : List ℕ) × (bytes ≡ front ++ rest) × Writes (Some old) new front
 
--- no file is the created one any longer
+-- no file is the created one any more
 abbrev pub Closes : Option Told → Option Told → Type 0
 Closes None new = Unit {0}
 Closes (Some old) new = new ≡ Some (record old { created = None })

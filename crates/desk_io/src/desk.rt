@@ -6,7 +6,7 @@ ghost use Rattle.desk_io.specs.declared.desk.DeskFault.TheVariants.{Memory};
 
 use std::alloc::AllocError;
 
-/// Why a call on a desk or a sink did nothing.
+/// Why a call of a desk or a sink did nothing.
 #[derive(Clone, Copy, Debug, PartialEq, Eq)]
 pub enum DeskFault {
     /// The desk or the sink failed, and counted it.
@@ -24,23 +24,24 @@ impl From<AllocError> for DeskFault {
     }
 }
 
-/// A place with named files. One at a time is read, and one at a time is created and written. Each
-/// call leaves as it was all that its entry does not name.
+/// A place with named files. One file at a time is read, and one at a time is created and written.
+/// Each call changes only what its description names.
 pub trait Desk {
-    // Its files, what is unread of the opened one and the name of the created one, where it tells them.
+    // Its files, the unread bytes of the opened file and the name of the created one, if it tells
+    // them.
     ghost told: { Self → Option Told };
 
     // Whether a file is created.
     ghost created: { Self → Bool };
 
-    // How many faults `open_file` and `read` have had. It stands still at 2^64 - 1.
+    // How many faults `open_file` and `read` have had. It stops at 2^64 - 1.
     ghost read_faults: { Self → ℕ };
 
-    // How many faults `create_file`, `write` and `close_file` have had. It stands still at 2^64 - 1.
+    // How many faults `create_file`, `write` and `close_file` have had. It stops at 2^64 - 1.
     ghost write_faults: { Self → ℕ };
 
-    /// Opens the named file at its first byte, and answers whether there is such a file.
-    /// After `false` or a fault no file is open. The created file may be opened too.
+    /// Opens the named file at its first byte, and returns whether there is such a file. After
+    /// `false` or a fault no file is open. The created file may be opened too.
     fn open_file(&mut self, name: &str) -> Result<bool, DeskFault>
         ensures opens { Opens (told self.old) (told self.new) name.now result }
         ensures failed { IsErrOf result DeskFault.Failed → Rose (read_faults self.old) (read_faults self.new) }
@@ -48,8 +49,9 @@ pub trait Desk {
         ensures writes { write_faults self.new ≡ write_faults self.old }
         ensures created { created self.new ≡ created self.old };
 
-    /// Reads the next bytes of the opened file to the front of `buf`, and answers how many: 0 only
-    /// where none is left or no file is open. After a fault what is unread is as before.
+    /// Reads the next bytes of the opened file to the front of `buf`, and returns how many. It
+    /// returns 0 only if none is left or no file is open. After a fault the unread bytes are as
+    /// before.
     fn read(&mut self, buf: &mut [u8]) -> Result<usize, DeskFault>
         requires { 0 < length buf.old }
         ensures within { IfOk result (λ n. n ≤ length buf.new) }
@@ -61,8 +63,8 @@ pub trait Desk {
         ensures writes { write_faults self.new ≡ write_faults self.old }
         ensures created { created self.new ≡ created self.old };
 
-    /// Makes the named file empty, whether or not there was one, and makes it the created one. No file
-    /// is open then. After a fault no file is created, and all is as before.
+    /// Makes the named file empty, whether or not it existed, and makes it the created file. No
+    /// file is open afterwards. After a fault no file is created, and all is as before.
     fn create_file(&mut self, name: &str) -> Result<(), DeskFault>
         requires { IsFalse (created self.old) }
         ensures creates { OnOk result (Creates (told self.old) (told self.new) name.now) }
@@ -72,8 +74,8 @@ pub trait Desk {
         ensures counts { write_faults self.old ≤ write_faults self.new }
         ensures reads { read_faults self.new ≡ read_faults self.old };
 
-    /// Appends the first bytes of `piece` to the created file, and answers how many: 0 only where the
-    /// piece is empty. After a fault the file is as before.
+    /// Appends the first bytes of `piece` to the created file, and returns how many. It returns 0
+    /// only if the piece is empty. After a fault the file is as before.
     fn write(&mut self, piece: &[u8]) -> Result<usize, DeskFault>
         requires { IsTrue (created self.old) }
         ensures within { IfOk result (λ n. n ≤ length piece.now) }
@@ -85,8 +87,8 @@ pub trait Desk {
         ensures counts { write_faults self.old ≤ write_faults self.new }
         ensures reads { read_faults self.new ≡ read_faults self.old };
 
-    /// Ends the writing of the created file, which keeps its bytes. No file is created then, after a
-    /// fault neither.
+    /// Ends the writing of the created file, which keeps its bytes. No file is created afterwards,
+    /// even after a fault.
     fn close_file(&mut self) -> Result<(), DeskFault>
         requires { IsTrue (created self.old) }
         ensures closes { Closes (told self.old) (told self.new) }
@@ -95,6 +97,6 @@ pub trait Desk {
         ensures counts { write_faults self.old ≤ write_faults self.new }
         ensures reads { read_faults self.new ≡ read_faults self.old };
 
-    // Where it tells its files, the created one is among them.
+    // If it tells its files, the created one is among them.
     ghost tells_created: { (desk : Self) → TellsCreated (created desk) (told desk) };
 }

@@ -1,4 +1,4 @@
-// Counts of faults, and faults that are asked for.
+// Counts of faults, and faults that a test asks for.
 ghost use Rattle.std.specs.Prelude.{◌≡◌, ◌+◌, ◌-◌, ◌^◌, ◌≤◌, ◌↔◌, min, IsTrue, nat_eq};
 ghost use Rattle.std.specs.List.{list_any};
 ghost use Rattle.desk_io.specs.Counts.{Rose};
@@ -6,7 +6,7 @@ ghost use Rattle.desk_io.specs.Counts.{Rose};
 use crate::desk::DeskFault;
 use std::io::{self, ErrorKind};
 
-/// One more than `count`, which stands still at its last value.
+/// One more than `count`. At the last value, `count` itself.
 pub fn raised(count: u64) -> u64
     ensures rose { Rose count result }
     ensures counts { count ≤ result }
@@ -14,7 +14,7 @@ pub fn raised(count: u64) -> u64
     count.saturating_add(1)
 }
 
-/// The fault that an error of the system is. Each is counted, but for out of memory.
+/// The fault for an error of the system. It is counted, except if memory ran out.
 pub fn counted(error: &io::Error, faults: &mut u64) -> DeskFault
     ensures failed { result ≡ DeskFault.Failed → Rose faults.old faults.new }
     ensures counts { faults.old ≤ faults.new }
@@ -26,7 +26,7 @@ pub fn counted(error: &io::Error, faults: &mut u64) -> DeskFault
     DeskFault::Failed
 }
 
-/// Which calls of a desk or a sink in memory fail: those whose numbers, from 0, are listed.
+/// Which calls of a desk or a sink in memory fail: those whose numbers, counted from 0, are listed.
 #[derive(Drop)]
 pub struct FaultPlan {
     fail_at: Vec<u64>,
@@ -41,7 +41,7 @@ impl FaultPlan {
         FaultPlan { fail_at, calls: 0 }
     }
 
-    /// Counts a call, and answers whether it is to fail.
+    /// Counts a call, and returns whether it is to fail.
     pub fn is_to_fail(&mut self) -> bool
         ensures fails { result ≡ list_any (λ call. nat_eq call self.old.calls) self.old.fail_at.items }
         ensures calls { self.new.calls ≡ min (self.old.calls + 1) (2 ^ 64 - 1) }

@@ -1,15 +1,15 @@
 //! The edge of the program: files that are read or created, and streams that are written to.
 //!
-//! A desk and a sink are traits, so that a program is proved over whatever stands behind them.
-//! Where a desk tells its files, `read_file` gives the bytes of the named one, whole, or says
-//! why it does not, and `write_whole` appends all that it is given to the created one, or a part
-//! from the front and an error; where a sink tells its bytes, `send_whole` does so there. A fault is
-//! answered only where a count of that desk's or that sink's own faults rose: a desk has one for
-//! reading and one for writing.
+//! A desk and a sink are traits, so a program is proved for every implementation of them. If a desk
+//! tells its files, `read_file` returns all bytes of the named one or the reason why it does not.
+//! `write_whole` appends all that it is given to the created file, or a part from the front and
+//! returns an error. If a sink tells its bytes, `send_whole` does the same there. A fault is
+//! returned only if a count of faults of that desk or sink rose. A desk has one count for reading
+//! and one for writing.
 //!
-//! A desk and a sink in memory tell all, and fail as they are asked to. The real ones are the edge to
-//! the system, and count their faults. A real sink tells what its writer tells. A real desk tells no
-//! files; each of its reads and writes tells what std says of the open file.
+//! A desk and a sink in memory tell all, and fail when they are asked to. The real ones are the
+//! edge to the system, and count their faults. A real sink tells what its writer tells. A real desk
+//! tells no files, but each of its reads and writes tells what std says of the open file.
 #![tactic(auto)]
 
 mod desk;

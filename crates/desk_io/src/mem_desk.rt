@@ -11,8 +11,8 @@ use crate::desk::{Desk, DeskFault};
 use crate::faults::{FaultPlan, raised};
 use std::alloc::AllocError;
 
-/// How far a file is read: its place among the files, how many of its bytes are passed, and how many
-/// it had when it was opened.
+/// How far a file is read: its index among the files, how many of its bytes have been read, and how
+/// many it had when it was opened.
 #[derive(Clone, Copy)]
 struct Place {
     file: usize,
@@ -20,8 +20,8 @@ struct Place {
     end: usize,
 }
 
-/// A desk over files in memory, for tests. It tells its files, passes and takes a few bytes a call,
-/// and fails the calls that it is asked to fail. The created file stands first.
+/// A desk over files in memory, for tests. It tells its files, reads and writes a few bytes in each
+/// call, and fails the calls that it is asked to fail. The created file is the first one.
 #[derive(Drop)]
 pub struct MemDesk {
     files: Vec<(String, Vec<u8>)>,
@@ -41,9 +41,9 @@ pub struct MemDesk {
 impl MemDesk {
     ghost use Rattle.desk_io.specs.MemDesk.{files_of, unread_of};
 
-    /// A desk with these files, none of them open or created. A call of `read` passes at most `most`
-    /// bytes, and one of `write` takes at most as many. The calls whose numbers, from 0, are in
-    /// `fail_at` fail; the numbers stop at 2^64 - 1.
+    /// A desk with these files, none of them open or created. A call of `read` reads at most `most`
+    /// bytes, and a call of `write` takes at most `most`. The calls whose numbers, counted from 0,
+    /// are in `fail_at` fail. The numbers stop at 2^64 - 1.
     pub fn new(files: Vec<(String, Vec<u8>)>, most: usize, fail_at: Vec<u64>) -> MemDesk
         requires names { NamesDiffer (named_bytes files.items) }
         requires some { 0 < most }
@@ -163,7 +163,7 @@ impl Desk for MemDesk {
     }
 }
 
-/// Where the first file of that name stands.
+/// The index of the first file of that name.
 fn position_of(files: &[(String, Vec<u8>)], name: &str) -> Option<usize>
     ensures { result ≡ position (λ f. pointwise nat_eq (string_bytes f.0) name.now) files.now }
 {
@@ -171,7 +171,7 @@ fn position_of(files: &[(String, Vec<u8>)], name: &str) -> Option<usize>
 }
 
 /// Copies bytes from the front of `from` to the front of `to`, as many as both have, but at most
-/// `most`, and answers how many.
+/// `most`, and returns how many.
 fn pass(from: &[u8], to: &mut [u8], most: usize) -> usize
     ensures count { result ≡ min most (min (length from.now) (length to.old)) }
     ensures bytes { take result to.new ≡ take result from.now }
@@ -181,7 +181,7 @@ fn pass(from: &[u8], to: &mut [u8], most: usize) -> usize
     n
 }
 
-/// Puts an empty file of that name before the others, in place of the one that has the name.
+/// Puts an empty file of that name before the others. It replaces the file that has the name.
 fn put_empty(files: &mut Vec<(String, Vec<u8>)>, name: &str) -> Result<(), AllocError>
     ensures put { OnOk result (named_bytes files.new.items ≡ (name.now, []) ∷ without (named_bytes files.old.items) name.now) }
     ensures fault { OnErr result (files.new.items ≡ files.old.items) }

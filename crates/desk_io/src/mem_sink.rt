@@ -6,8 +6,8 @@ use crate::faults::{FaultPlan, raised};
 use crate::sink::Sink;
 use std::alloc::Global;
 
-/// A sink that keeps its bytes, for tests. It tells them, takes a few bytes a call, and fails the
-/// calls that it is asked to fail.
+/// A sink that keeps its bytes, for tests. It tells them, takes a few bytes in each call, and fails
+/// the calls that it is asked to fail.
 #[derive(Drop)]
 pub struct MemSink {
     taken: Vec<u8>,
@@ -20,8 +20,8 @@ pub struct MemSink {
 impl MemSink {
     ghost use Rattle.desk_io.specs.MemSink.{bytes_of};
 
-    /// An empty sink. A call of `write` takes at most `most` bytes. The calls whose numbers, from 0,
-    /// are in `fail_at` fail; the numbers stop at 2^64 - 1.
+    /// An empty sink. A call of `write` takes at most `most` bytes. The calls whose numbers,
+    /// counted from 0, are in `fail_at` fail. The numbers stop at 2^64 - 1.
     pub fn new(alloc: Global, most: usize, fail_at: Vec<u64>) -> MemSink
         requires { 0 < most }
         ensures bytes { bytes_of result ≡ [] }
@@ -35,7 +35,7 @@ impl MemSink {
         }
     }
 
-    /// All that it has taken.
+    /// All bytes that it has taken.
     pub fn bytes(&self) -> &[u8]
         ensures { result.now ≡ bytes_of self.now }
     {

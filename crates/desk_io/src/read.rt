@@ -1,4 +1,4 @@
-// Reading a file whole.
+// Reading a whole file.
 ghost use Rattle.std.specs.Prelude.{◌≡◌, ◌<◌, ◌≤◌, ◌+◌, ◌⊎◌, length, IfOk, IsOk, IsErrOf, vec_len};
 ghost use Rattle.desk_io.specs.Told.{KeepsFiles, Holds, Lacks, HoldsMore, Leaves, AtEnd};
 ghost use Rattle.desk_io.specs.ReadingOn.{Drains, PassedMany, PassedTo};
@@ -9,10 +9,10 @@ ghost use Rattle.desk_io.specs.declared.read.ReadEnd.TheVariants.{Memory};
 use crate::desk::{Desk, DeskFault};
 use std::alloc::{AllocError, Global};
 
-/// How many bytes one read asks for at most.
+/// The greatest number of bytes that one read asks for.
 const BUFFER: usize = 8192;
 
-/// Why a file was not read whole.
+/// Why a file was not read as a whole.
 #[derive(Clone, Copy, Debug, PartialEq, Eq)]
 pub enum ReadEnd {
     /// There is no file of that name.
@@ -36,7 +36,7 @@ impl From<AllocError> for ReadEnd {
     }
 }
 
-/// The end of a reading by the fault of the desk.
+/// The end of a reading after a fault of the desk.
 fn end_of(fault: DeskFault) -> ReadEnd
     ensures { result ≡ end_by fault }
 {
@@ -46,9 +46,9 @@ fn end_of(fault: DeskFault) -> ReadEnd
     }
 }
 
-/// The bytes of the named file, whole, where they are at most `limit`, which is at most 256 MiB.
-/// Takes at most one byte more than the limit from the desk, and leaves the desk's files as they
-/// were. `Memory` may come at any time; each other end has its cause below.
+/// All bytes of the named file, if they are at most `limit`, which is at most 256 MiB. Takes at
+/// most one byte more than the limit from the desk, and leaves the desk's files as they were.
+/// `Memory` may come at any time. Each other error has its cause below.
 pub fn read_file<D: Desk>(
     alloc: Global,
     desk: &mut D,
@@ -77,7 +77,7 @@ pub fn read_file<D: Desk>(
     }
 }
 
-/// All that is unread, where it is at most `limit` bytes.
+/// All unread bytes, if they are at most `limit`.
 fn read_rest<D: Desk>(alloc: Global, desk: &mut D, limit: usize) -> Result<Vec<u8>, ReadEnd>
     requires { limit ≤ 268435456 }
     ensures drained { IfOk result (λ v. Drains (D.told desk.old) (D.told desk.new) v.items) }
@@ -103,7 +103,7 @@ fn read_rest<D: Desk>(alloc: Global, desk: &mut D, limit: usize) -> Result<Vec<u
     Err(ReadEnd::TooLarge)
 }
 
-/// One read through `buffer`, whose bytes are appended to `bytes`. Answers how many there were.
+/// One read through `buffer`. Its bytes are appended to `bytes`. Returns how many there were.
 fn read_more<D: Desk>(
     desk: &mut D,
     buffer: &mut [u8],

@@ -10,11 +10,11 @@ use std::fs;
 use std::io::{self, ErrorKind};
 use std::rt::Files;
 
-/// The files of the system, under the runtime `R`. It tells no files. A read passes all that the open
-/// file gave, and a write appends to the created file all that it says (clauses `bytes`). A call that the system
-/// interrupts is a fault as any other: the program handles no signals. A write that takes nothing of
-/// some bytes is a fault. Each write is handed to the system at once, and closing adds no call that
-/// could fail.
+/// The files of the system, under the runtime `R`. It tells no files. A read returns all bytes that
+/// the open file gave. A write appends to the created file all bytes that it counts (clauses
+/// `bytes`). A call that the system interrupts is a fault like any other, because the program
+/// handles no signals. A write that takes none of some bytes is a fault. Each write goes to the
+/// system at once, and closing adds no call that could fail.
 #[derive(Drop)]
 pub struct RealDesk<R: Files> {
     files: R,
@@ -115,7 +115,8 @@ impl<R: Files> Desk for RealDesk<R> {
     }
 }
 
-/// Whether there is no such file: the name leads nowhere, or through something that is no folder.
+/// Whether there is no such file: the name leads nowhere, or through something that is not a
+/// folder.
 fn is_missing(error: &io::Error) -> bool {
     matches!(error.kind(), ErrorKind::NotFound | ErrorKind::NotADirectory)
 }

@@ -7,8 +7,8 @@ use crate::system::write_some;
 use std::io::Write;
 
 /// A writer that passes its bytes on at once, as standard output and the error stream do. It tells
-/// what the writer tells of its contents: of the system's streams that is nothing. A write that takes
-/// nothing of some bytes is a fault.
+/// what the writer tells of its contents. The system's streams tell nothing. A write that takes
+/// none of some bytes is a fault.
 #[derive(Drop)]
 pub struct RealSink<W: Write> {
     writer: W,

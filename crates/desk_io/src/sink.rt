@@ -5,16 +5,16 @@ ghost use Rattle.desk_io.specs.Counts.{Rose};
 
 use crate::desk::DeskFault;
 
-/// A stream that bytes are written to.
+/// A stream to which bytes are written.
 pub trait Sink {
-    // All that it has taken, where it tells that.
+    // All bytes that it has taken, if it tells them.
     ghost bytes: { Self → Option (List ℕ) };
 
-    // How many faults `write` has had. It stands still at 2^64 - 1.
+    // How many faults `write` has had. It stops at 2^64 - 1.
     ghost faults: { Self → ℕ };
 
-    /// Appends the first bytes of `piece`, and answers how many: 0 only where the piece is empty.
-    /// After a fault nothing is appended.
+    /// Appends the first bytes of `piece`, and returns how many. It returns 0 only if the piece is
+    /// empty. After a fault nothing is appended.
     fn write(&mut self, piece: &[u8]) -> Result<usize, DeskFault>
         ensures within { IfOk result (λ n. n ≤ length piece.now) }
         ensures some { IfOk result (λ n. 0 < length piece.now → 0 < n) }
@@ -25,7 +25,7 @@ pub trait Sink {
 }
 
 /// Appends all of `bytes`, in as many writes as the sink needs. After an error some bytes from the
-/// front of `bytes` are appended, maybe none.
+/// front of `bytes`, perhaps none, are appended.
 pub fn send_whole<S: Sink>(sink: &mut S, bytes: &[u8]) -> Result<(), DeskFault>
     ensures sent { OnOk result (Appends (S.bytes sink.old) (S.bytes sink.new) bytes.now) }
     ensures prefix { OnErr result (AppendsFront (S.bytes sink.old) (S.bytes sink.new) bytes.now) }

@@ -1,4 +1,4 @@
-// One read and one write of the system, whose bytes std's contracts tell.
+// One read and one write of the system. The contracts of std say which bytes they read or wrote.
 ghost use Rattle.std.specs.Prelude.{◌≡◌, ◌<◌, ◌≤◌, length, IfOk, IsErrOf};
 ghost use Rattle.std.specs.Io.KnownBytes.{ReadConsumes, WriteAppends};
 ghost use Rattle.desk_io.specs.Counts.{Rose};
@@ -7,8 +7,8 @@ use crate::desk::DeskFault;
 use crate::faults::{counted, raised};
 use std::io::{Read, Write};
 
-/// Reads the next bytes of a file to the front of `buf`, and answers how many: 0 only where none is
-/// left. After a fault none was read. A fault is counted, but for out of memory.
+/// Reads the next bytes of a file to the front of `buf`, and returns how many. It returns 0 only if
+/// none is left. After a fault none was read. A fault is counted, except if memory ran out.
 pub fn read_some<F: Read>(
     file: &mut F,
     buf: &mut [u8],
@@ -25,9 +25,9 @@ pub fn read_some<F: Read>(
     }
 }
 
-/// Writes the first bytes of `piece`, and answers how many: 0 only where the piece is empty, so that
-/// a write that takes nothing of some bytes is a fault. After a fault none was written. A fault is
-/// counted, but for out of memory.
+/// Writes the first bytes of `piece`, and returns how many. It returns 0 only if the piece is
+/// empty, because a write that takes none of some bytes is a fault. After a fault none was written.
+/// A fault is counted, except if memory ran out.
 pub fn write_some<W: Write>(
     writer: &mut W,
     piece: &[u8],

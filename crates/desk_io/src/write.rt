@@ -6,8 +6,8 @@ ghost use Rattle.desk_io.specs.Counts.{Rose};
 use crate::desk::{Desk, DeskFault};
 
 /// Appends all of `bytes` to the created file, in as many writes as the desk needs. After an error
-/// some bytes from the front of `bytes` are appended, maybe none. The other files, what is unread and
-/// which file is created stay as they were.
+/// some bytes from the front of `bytes`, perhaps none, are appended. The other files, the unread
+/// bytes and the choice of the created file stay as they were.
 pub fn write_whole<D: Desk>(desk: &mut D, bytes: &[u8]) -> Result<(), DeskFault>
     requires { IsTrue (D.created desk.old) }
     ensures written { OnOk result (Writes (D.told desk.old) (D.told desk.new) bytes.now) }

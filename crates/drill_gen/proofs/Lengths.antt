@@ -6,7 +6,7 @@ use Rattle.std.specs.Fmt.{decimal}
 use Rattle.drill_gen.specs.Drill.{joined, line, lines, first_lines, symbol_line, rule_line, symbol_lines, rule_lines}
 use Rattle.drill_gen.specs.DrillLaws.{IsShort}
 
--- the lengths of pieces, added
+-- the sum of the lengths of pieces
 abbrev lengths : List (List ℕ) → ℕ
 lengths [] = 0
 lengths (piece ∷ pieces) = length piece + lengths pieces

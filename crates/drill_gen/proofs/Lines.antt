@@ -14,7 +14,7 @@ lines-push [] t = append-nil (line (t ∷ []))
 lines-push (u ∷ ts) t =
     ap (λ (rest : List ℕ). line (u ∷ []) ++ rest) (lines-push ts t) ∙ sym (append_assoc (line (u ∷ [])) (lines ts) (line (t ∷ [])))
 
--- one more of the strings
+-- one more string
 one_more : (ps : List (Bor (List ℕ))) (i : ℕ) (d : Bor (List ℕ)) → i < length ps → texts (take (i + 1) ps) ≡ texts (take i ps) ++ (get_or ps i d).now ∷ []
 one_more ps i d lt =
     let now : Bor (List ℕ) → List ℕ = λ s. s.now in

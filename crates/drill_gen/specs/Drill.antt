@@ -1,5 +1,5 @@
--- The texts of a drill: a definition with a rule for each of its steps, all different, and the term that takes them
--- all. Each rule adds a number, under a condition.
+-- The texts of a drill: a definition with one rule for each of its steps, all different, and the
+-- term that takes all steps. Each rule adds a number, under a condition.
 use Rattle.std.specs.Prelude.{ℕ, zero, suc, ◌+◌, ◌++◌, List, [], ◌∷◌, codes}
 use Rattle.std.specs.Fmt.{decimal}
 
@@ -30,7 +30,7 @@ first_lines =
 abbrev pub symbol_line : ℕ → List ℕ
 symbol_line i = line (codes "symbol c" ∷ decimal i ∷ codes "{}() : SortC{} [constructor{}()]" ∷ [])
 
--- the rule from one step to the next: it adds the step's number, where the sum so far is not negative
+-- the rule from one step to the next: it adds the step's number if the sum so far is not negative
 abbrev pub rule_line : ℕ → List ℕ
 rule_line i =
     line (codes "axiom{} \\rewrites{SortS{}}(\\and{SortS{}}(st{}(c" ∷ decimal i
@@ -39,7 +39,7 @@ rule_line i =
     ∷ decimal (i + 1) ∷ codes "{}(),add{}(X:SortInt{},\\dv{SortInt{}}(\"" ∷ decimal i
     ∷ codes "\"))),\\top{SortS{}}())) []" ∷ [])
 
--- the symbols of the steps below n, and the rules from them
+-- the symbols of the steps below n, and the rules that start from them
 abbrev pub symbol_lines : ℕ → List ℕ
 symbol_lines zero = []
 symbol_lines (suc n) = symbol_lines n ++ symbol_line n
@@ -53,6 +53,6 @@ abbrev pub drill_definition : ℕ → List ℕ
 drill_definition n =
     first_lines ++ (symbol_lines (n + 1) ++ (rule_lines n ++ lines (codes "endmodule []" ∷ [])))
 
--- its term
+-- the term of a drill
 abbrev pub drill_term : List ℕ
 drill_term = lines (codes "st{}(c0{}(),\\dv{SortInt{}}(\"0\"))" ∷ [])

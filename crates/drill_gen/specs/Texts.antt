@@ -1,4 +1,4 @@
--- What strings are lent for.
+-- The values of borrowed strings.
 use Rattle.std.specs.Prelude.{ℕ, List, map}
 use Rattle.std.specs.Borrow.{Bor}
 

@@ -1,7 +1,7 @@
 // A law on the texts of a drill.
 ghost use Rattle.drill_gen.specs.DrillLaws.{DrillIsShort};
 
-/// The texts of a drill of at most a thousand steps have at most a MiB each.
+/// Each text of a drill of at most 1,000 steps has at most 1 MiB.
 pub fn drill_laws()
     ensures short { DrillIsShort }
 {}

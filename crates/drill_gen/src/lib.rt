@@ -1,6 +1,7 @@
-// The texts of a drill: a definition with as many rules as it is to take steps, and the term that takes them all.
+// The texts of a drill: a definition with as many rules as the run is to take steps, and the term
+// that takes all of them.
 //
-// `drill` gives both, as specs/Drill.antt has them. `drill_laws` says that they are short.
+// `drill` returns both, as defined in specs/Drill.antt. `drill_laws` says that they are short.
 #![tactic(auto)]
 
 mod laws;

@@ -12,12 +12,12 @@ use std::alloc::{AllocError, Global};
 pub struct DrillTexts {
     /// The definition.
     pub definition: Vec<u8>,
-    /// The term that is run by it.
+    /// The term that the definition runs.
     pub term: Vec<u8>,
 }
 
-/// The texts of a drill of so many steps, at most 1,000: a definition of some 400 bytes a step, and its term.
-/// `AllocError` says that memory ran out.
+/// The texts of a drill of `steps` steps, at most 1,000: a definition of about 400 bytes for each
+/// step, and its term. `AllocError`: out of memory.
 pub fn drill(alloc: Global, steps: u32) -> Result<DrillTexts, AllocError>
     requires { steps ≤ 1000 }
     ensures definition { IfOk result (λ made. made.definition.items ≡ drill_definition steps) }
@@ -37,7 +37,7 @@ pub fn drill(alloc: Global, steps: u32) -> Result<DrillTexts, AllocError>
     Ok(DrillTexts { definition, term })
 }
 
-// The declarations that each drill has.
+// The declarations that every drill has.
 fn push_first_lines(text: &mut Vec<u8>) -> Result<(), AllocError>
     ensures { OnOk result (text.new.items ≡ text.old.items ++ first_lines) }
 {

@@ -1,4 +1,4 @@
--- Equations of a function that is called, and evaluations that stop.
+-- The equations of a called function, and evaluations that stop.
 use Rattle.std.proofs.Common.{◌≡◌, ℕ, suc, zero, ◌<◌, ◌≤◌, List, [], ◌∷◌, length, map, get_or, Option, Some, None, refl, sym, ◌∙◌, ap, subst, arith}
 use Rattle.std.specs.Prelude.{Err, slice_get, IfSome}
 use Rattle.std.proofs.lemmas.List.{length-map}
@@ -34,7 +34,7 @@ use Rattle.fun_eval.specs.declared.answer.EvalEnd.TheVariants.{Blocked, Memory}
 use Rattle.fun_eval.proofs.Goings.{GoesOn, goes_on-stop}
 use Rattle.fun_eval.proofs.Trials.{TriedUpTo, stopped_at}
 
--- ---- where an argument stops, the node does
+-- ---- if an argument stops, the node stops
 
 pub arguments_stop : {R : Type 0} (tells : R → Record → Type 0) (all_tell : List R → RecordList → Type 0) (theory : RewriteTheory) (n m f c : ℕ) (theta : List (Option Tree)) (p : Pattern) (ps : Patterns) (e : EvalEnd) → HasHead theory p f ps → m ≡ suc n → AllGive all_tell theory n theta ps c (Err e) → Gives tells theory m theta p c (Err e)
 arguments_stop tells all_tell theory n m f c theta p ps (Blocked why) head more h =

@@ -1,4 +1,4 @@
--- What is answered, taken over from one clause to another.
+-- Moving a result from one clause to another.
 use Rattle.std.proofs.Common.{ℕ}
 use Rattle.std.specs.Prelude.{Result, Ok, Err}
 use Rattle.rule_core.specs.Evaluation.{Cause}
@@ -7,7 +7,7 @@ use Rattle.fun_eval.specs.Giving.{Comes}
 use Rattle.fun_eval.specs.declared.answer.EvalEnd.{EvalEnd}
 use Rattle.fun_eval.specs.declared.answer.EvalEnd.TheVariants.{Blocked, Memory}
 
--- an end without an answer is taken over where each cause is
+-- an error moves from one clause to another if each cause does
 pub comes_err : {A B : Type 0} (good : A → ℕ → Type 0) (bad : Cause → Type 0) (other : B → ℕ → Type 0) (worse : Cause → Type 0) (e : EvalEnd) → ((cause : Cause) → bad cause → worse cause) → Comes good bad (Err e) → Comes other worse (Err e)
 comes_err good bad other worse (Blocked why) over h = over (cause_of why) h
 comes_err good bad other worse Memory over h = tt

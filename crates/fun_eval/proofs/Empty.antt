@@ -63,7 +63,7 @@ has_numbers p symbols rules equations = record {
   equations = λ f. subst (λ (es : List (Vec Equation Global)). length (slice_index_or (function_equations es) f []) ≤ 2 ^ 32) (sym equations) (none_long f);
 }
 
--- a whole number in the range may be evaluated, where it is a value of the sort
+-- a whole number that is a value of the sort may be evaluated
 pub number_evaluable : (theory : RewriteTheory) (s : ℕ) (z : ℤ) (theta : List (Option Tree)) → HasValue theory.sig s (integer z) → theta ≡ [] → IsEvaluable theory theta (domain_value s (integer z))
 number_evaluable theory s z theta has none = (
   [],
@@ -78,7 +78,7 @@ number_evaluable theory s z theta has none = (
   unbound : (x : ℕ) (t : Tree) → binding [] x ≡ Some t → ⊥
   unbound x t e = cc
 
--- a whole number that is small enough is a value of the sort of whole numbers
+-- a whole number below 2^127 is a value of the sort of whole numbers
 pub integer_value : (sig : Signature) (n : ℕ) → n < 2 ^ 127 → HasIntegers sig → HasValue sig 0 (integer (pos n))
 integer_value sig n lt has =
     (has.0, has.1, has.2, subst (λ k. IsValueOf k (integer (pos n))) (sym has.3) (short_range (pos n) lt))

@@ -1,4 +1,4 @@
--- How the evaluation of patterns, and the trial of equations, go on.
+-- How the evaluation of patterns and the trial of equations continue.
 use Rattle.std.proofs.Common.{◌≡◌, ℕ, ◌+◌, ◌<◌, ◌≤◌, List, [], ◌∷◌, ◌++◌, length, get_or, drop, Option, refl, sym, ◌∙◌, ap, subst}
 use Rattle.std.proofs.lemmas.List.{drop_more, drop_all}
 use Rattle.term_core.specs.Terms.{Tree, no_tree, more_trees, forest}
@@ -9,7 +9,7 @@ use Rattle.term_core.specs.declared.rule_patterns.RulePat.{RulePat}
 use Rattle.rule_core.specs.Theories.{RewriteTheory}
 use Rattle.rule_core.specs.Evaluation.{Cause, value, blocked, AllEvaluated, values, stopped, Evaluates, EvaluateAll, none_left, first_blocked, later_blocked, one_more}
 
--- trees in front of what comes of the patterns after theirs
+-- trees put before the result of the later patterns
 abbrev pub in_front : Tree → AllEvaluated → AllEvaluated
 in_front t (values ts d) = values (more_trees t ts) d
 in_front t (stopped cause) = stopped cause
@@ -30,7 +30,7 @@ all_in_front-stopped : (ts : List Tree) (cause : Cause) → all_in_front ts (sto
 all_in_front-stopped [] cause = refl
 all_in_front-stopped (t ∷ ts) cause = ap (in_front t) (all_in_front-stopped ts cause)
 
--- what the patterns from i on come to, with so many calls left, tells what all come to
+-- with `left` calls left, the result of the patterns from i determines the result of all patterns
 abbrev pub GoesOn : RewriteTheory → ℕ → List (Option Tree) → List RulePat → ℕ → ℕ → List Tree → ℕ → Type 0
 GoesOn theory n theta pats c i ts left =
     (r : AllEvaluated) → EvaluateAll theory n theta (plain_patterns (drop i pats)) left r → EvaluateAll theory n theta (plain_patterns pats) c (all_in_front ts r)

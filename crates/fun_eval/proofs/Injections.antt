@@ -1,4 +1,4 @@
--- The search for the first symbol that injects.
+-- The search for the first injection symbol.
 use Rattle.std.proofs.Common.{◌≡◌, ◌≢◌, ℕ, zero, suc, ◌+◌, ◌<◌, ◌≤◌, ⊎_elim, List, [], ◌∷◌, length, Some, refl, sym, ◌∙◌, ap, subst, arith}
 use Rattle.std.specs.Prelude.{slice_get}
 use Rattle.std.proofs.lemmas.Option.{slice_get_within}
@@ -8,11 +8,11 @@ use Rattle.rule_core.specs.declared.signature.Signature.{Signature}
 use Rattle.rule_core.specs.declared.signature.SymInfo.{SymInfo}
 use Rattle.rule_core.specs.declared.signature.SymKind.TheVariants.{Injection}
 
--- none of the symbols before this number injects
+-- none of the symbols before this number is an injection symbol
 abbrev pub NoneInjects : Signature → ℕ → Type 0
 NoneInjects sig n = (g : ℕ) (info : SymInfo) → g < n → IsSymbol sig g info → info.kind ≢ Injection
 
--- a number below the count of symbols is that of one
+-- a number below the count of symbols is the number of a symbol
 pub symbol_within : (sig : Signature) (i : ℕ) → i < length sig.symbols → (info : SymInfo) × IsSymbol sig i info
 symbol_within sig i lt = let e = item sig.symbols i lt in (e.0.1, (e.0.0, e.1)) where
   item : (xs : List (List ℕ × SymInfo)) (k : ℕ) → k < length xs → (x : List ℕ × SymInfo) × (slice_get xs k ≡ Some x)

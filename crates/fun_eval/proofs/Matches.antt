@@ -1,4 +1,4 @@
--- A search for a matching substitution, on equations and terms of their arguments' sorts.
+-- The search for a matching substitution, for equations and terms of their arguments' sorts.
 use Rattle.std.proofs.Common.{rules, ◌≡◌, ℕ, suc, ◌<◌, List, [], ◌∷◌, length, Option, refl, sym, ◌∙◌, ap, subst, arith}
 use Rattle.std.specs.Prelude.{vec_len}
 use Rattle.std.proofs.lemmas.List.{length-map}
@@ -40,7 +40,7 @@ same_count sig variables sorts (p ∷ pats) (t ∷ terms) (r ∷ refs) h of = ap
 pub as_many : (sig : Signature) (e : Equation) (info : SymInfo) → IsEquationOf sig info (function_equation e) → (pats : List RulePat) (terms : List Tree) → pats ≡ e.args.items → AreTermsOf sig [] (forest terms) info.args.items → length pats ≡ length terms
 as_many sig e info fits pats terms is of = ap length is ∙ same_count sig (sorts_of e.vars.items) [] e.args.items terms info.args.items fits.arguments of
 
--- what the search finds is what the definition asks for
+-- the search finds what the definition requires
 pub equation_matches : (theory : RewriteTheory) (e : Equation) (ts : Forest) (pats : List RulePat) (n : ℕ) (found : Option (List (Option Tree))) → IsWellSorted theory → IsTriable theory (function_equation e) ts → pats ≡ e.args.items → n ≡ vec_len e.vars → FindsMatch theory.sig.subsorts n (plain_patterns pats) ts found → Matches theory (function_equation e) ts found
 equation_matches theory e ts pats n found good fits is many finds =
     let own : FindsMatch theory.sig.subsorts n (plain_patterns e.args.items) ts found = subst (λ (ps : List RulePat). FindsMatch theory.sig.subsorts n (plain_patterns ps) ts found) is finds in

@@ -1,4 +1,4 @@
--- Arguments of which one cannot match, and scalars among terms.
+-- Arguments one of which cannot match, and scalars among terms.
 use Rattle.std.proofs.Common.{◌≡◌, ℕ, suc, zero, ◌<◌, ◌≤◌, List, [], ◌∷◌, length, map, get_or, Option, Some, None, refl, sym, ◌∙◌, ap, subst, arith}
 use Rattle.std.specs.Prelude.{Bool, true, false, slice_get, option_map}
 use Rattle.term_core.specs.Terms.{integer, truth, Tree, leaf, node, inj, more_trees, forest}
@@ -19,7 +19,7 @@ pub cannot : (p : Pattern) (t : Tree) (answer : Bool) → MayMatch p t answer �
 cannot p t true h e = let no : ⊥ = cc in absurd no
 cannot p t false h e = h
 
--- patterns of which one cannot match have no instance that is these trees
+-- if one of the patterns cannot match its tree, the patterns have no instance that is these trees
 pub none_match : (pats : List RulePat) (terms : List Tree) (i : ℕ) (p : RulePat) (t : Tree) → p ≡ get_or pats i p → i < length pats → t ≡ get_or terms i t → i < length terms → CannotMatch (plain_pattern p) t → (theta : List (Option Tree)) → instances_of theta (plain_patterns pats) ≡ Some (forest terms) → ⊥
 none_match [] terms i p t e lt f lu h theta made = absurd (omega arith)
 none_match (q ∷ pats) [] i p t e lt f lu h theta made = absurd (omega arith)
@@ -103,7 +103,7 @@ two_scalars terms t u r s len e f is js = subst (λ ts. AreScalars ts (r ∷ (s 
 pub hook_kinds : (row : ℕ) (terms : List Tree) (rs : List Scalar) → AreHookArguments row (forest terms) → AreScalars terms rs → hook_arguments row ≡ Some (map kind_of rs)
 hook_kinds row terms rs h is = h.2 ∙ ap Some (same_kinds terms h.0 rs h.1 is)
 
--- a hook has one argument or two
+-- a hook has one or two arguments
 few_kinds : (op : Operation) → (1 ≤ length (argument_kinds op)) × (length (argument_kinds op) ≤ 2)
 few_kinds (on_integer f) = (omega arith, omega arith)
 few_kinds (on_integers f) = (omega arith, omega arith)

@@ -18,7 +18,8 @@ use Rattle.fun_eval.specs.declared.equations.Trial.TheVariants.{Unused}
 
 -- ---- one equation
 
--- what a test fails with less, it fails with the calls and the nesting that records are judged with
+-- a test that fails with fewer calls and less nesting also fails with the calls and the nesting of
+-- records
 failed_before : {theory : RewriteTheory} {f : ℕ} (theta : List (Option Tree)) (p : Option Pattern) (n c d m k : ℕ) → Tests theory n f theta p c (fails d) → n ≤ m → c ≤ k → (left : ℕ) × Tests theory m f theta p k (fails left)
 failed_before {theory} {f} theta p n c d m k test le few =
     let whole : c + (k - c) ≡ k = omega arith in
@@ -40,7 +41,7 @@ tests_fall no_condition = omega arith
 tests_fall (condition {e = value t d} e says) = says_at_most says (within_falls e)
 tests_fall (condition {e = blocked cause} e says_nothing) = tt
 
--- a trial leaves no more calls than there were
+-- after a trial, at most as many calls are left as before
 pub trial_falls : {R : Type 0} (tells : R → Record → Type 0) (theory : RewriteTheory) (n f : ℕ) (e : Equation) (ts : Forest) (c left : ℕ) → TrialSays tells theory n f e ts c Unused left → left ≤ c
 trial_falls tells theory n f e ts c left (inl never) = omega (arith, never.1)
 trial_falls tells theory n f e ts c left (inr failed) = tests_fall failed.2

@@ -1,4 +1,4 @@
--- What is known of the values of arguments, and what nodes make of them.
+-- What is known of the values of arguments, and how nodes are built from them.
 use Rattle.std.proofs.Common.{◌≡◌, ◌≢◌, ℕ, suc, ◌<◌, ◌≤◌, ⊎_elim, inl, inr, List, [], ◌∷◌, length, map, Option, Some, None, refl, sym, ◌∙◌, ap, subst, arith}
 use Rattle.std.specs.Prelude.{IsSome, Result, Ok, Err, slice_get, option_map}
 use Rattle.term_core.specs.Terms.{DomainValue, integer, truth, Tree, leaf, node, Forest, forest, height, injected}
@@ -94,7 +94,7 @@ no_result e = let no : ⊥ = cc in absurd no
 abbrev ScalarsOf : Operation → List DomainValue → Type 0
 ScalarsOf op vs = (ss : List Scalar) × (vs ≡ map scalar_value ss) × (argument_kinds op ≡ map kind_of ss)
 
--- where an operation has a value, its arguments are scalars of its kinds
+-- if an operation has a value, its arguments are scalars of its kinds
 scalars_of : (op : Operation) (vs : List DomainValue) (r : Result DomainValue NoValue) → operation_value op vs ≡ Some r → ScalarsOf op vs
 scalars_of (on_integer f) (integer x ∷ []) r e = (scalar.Int x ∷ [], refl, refl)
 scalars_of (on_integers f) (integer x ∷ (integer y ∷ [])) r e = (scalar.Int x ∷ (scalar.Int y ∷ []), refl, refl)
@@ -138,7 +138,7 @@ hooked theory f ts good may info i row k =
     let is : may.info ≡ info = at_info theory f ts may info i in
     subst (λ s. IsHooked theory f ts s row.0) is (hooked_own theory f ts good may row (ap (λ (s : SymInfo). s.kind) is ∙ k))
 
--- where none of the other kinds fits, the symbol is no function
+-- if no other kind fits, the symbol is not a function
 pub no_other_kind : (k : SymKind) → IsFunction k → k ≢ Closed → ((row : HookNo) → k ≢ Hooked row) → k ≢ Equations → ⊥
 no_other_kind Injection is a b e = is
 no_other_kind Ctor is a b e = is
@@ -248,7 +248,7 @@ injected_gives {R} tells theory n m f from to c d theta p below i e all recorded
     subst (λ k. Evaluates theory (suc n) theta (injection from to p) c (blocked k)) (sym w.0) here)
     h)
 
--- a condition or a right side takes one of the nesting
+-- a condition or a right side uses one level of nesting
 pub within_gives : {R : Type 0} (tells : R → Record → Type 0) (theory : RewriteTheory) (n m f c : ℕ) (theta : List (Option Tree)) (p : Pattern) → m ≡ suc n → (r : Result (Answer R × ℕ) EvalEnd) → Gives tells theory n theta p c r → GivesWithin tells theory m f theta p c r
 within_gives {R} tells theory n m f c theta p e r h =
     subst (λ j. GivesWithin tells theory j f theta p c r) (sym e) (comes_over

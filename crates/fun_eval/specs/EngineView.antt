@@ -1,4 +1,4 @@
--- The program that an engine lends, and what holds of each engine.
+-- The program that an engine borrows, and what holds of each engine.
 use Rattle.rule_core.specs.ProgramView.{theory_of}
 use Rattle.rule_core.specs.WellSorted.{IsWellSorted}
 use Rattle.rule_core.specs.declared.rules.Program.{Program}

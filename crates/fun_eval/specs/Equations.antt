@@ -1,4 +1,4 @@
--- What the private functions that try equations answer.
+-- What the private functions that try equations return.
 use Rattle.std.specs.Prelude.{◌≡◌, ◌⊎◌, ◌<◌, ℕ, List, [], Option, Some, None, slice_get, MatchOption, Result}
 use Rattle.term_core.specs.Terms.{Tree, Forest, forest}
 use Rattle.term_core.specs.Patterns.{Pattern}
@@ -28,7 +28,7 @@ pub record IsDefined (theory : RewriteTheory) (f : ℕ) (ts : Forest) : Type 0 w
   pub defined : info.kind ≡ Equations
   pub good : AreGoodTrees theory.sig [] ts info.args.items
 
--- the substitution that makes the equation's arguments the terms, where one does
+-- the substitution that makes the equation's arguments the terms, if there is one
 abbrev pub Matches : RewriteTheory → Equation → Forest → Option (List (Option Tree)) → Type 0
 Matches theory e ts found =
     MatchOption found (IsUnmatchedBy theory e ts) (MatchAll theory.sig e.variables e.arguments ts)
@@ -50,7 +50,7 @@ abbrev pub IsRecordedCondition : {R : Type 0} → (R → Record → Type 0) → 
 IsRecordedCondition tells theory theta p kept =
     (o : OptionalRecord) × TellsOption tells kept o × RecordsCondition theory theta p o
 
--- an equation is passed over, or it matches and its condition holds
+-- an equation is not used, or it matches and its condition holds
 abbrev pub TrialSays : {R : Type 0} → (R → Record → Type 0) → RewriteTheory → ℕ → ℕ → Equation → Forest → ℕ → Trial R
     → ℕ → Type 0
 TrialSays tells theory n f e ts c Unused left =
@@ -60,7 +60,7 @@ TrialSays tells theory n f e ts c (Used theta kept) left =
     MatchAll theory.sig e.variables e.arguments ts theta × Tests theory n f theta e.condition c (holds left)
     × IsRecordedCondition tells theory theta e.condition kept
 
--- .. or its condition is blocked
+-- the same, or the equation's condition is blocked
 abbrev pub Tries : {R : Type 0} → (R → Record → Type 0) → RewriteTheory → ℕ → ℕ → Equation → Forest → ℕ
     → Result (Trial R × ℕ) EvalEnd → Type 0
 Tries tells theory n f e ts c answer =
@@ -70,8 +70,8 @@ Tries tells theory n f e ts c answer =
     × Tests theory n f theta e.condition c (untested cause))
     answer
 
--- the equations of the function, tried at terms, come to this one, with this substitution: what its right side
--- evaluates to is the function's value
+-- trying the equations of the function at the terms ends at this equation, with this substitution;
+-- the value of the function is the value of the equation's right side
 pub record IsChosen (theory : RewriteTheory) (n f : ℕ) (ts : Forest) (c number : ℕ) (theta : List (Option Tree))
     (left : ℕ) : Type 0 where
   pub equation : Equation

@@ -1,4 +1,4 @@
--- What an evaluation asks for.
+-- What an evaluation requires.
 use Rattle.std.specs.Prelude.{ℕ, ◌≤◌, ◌^◌, List, length, Option}
 use Rattle.term_core.specs.Terms.{Tree}
 use Rattle.term_core.specs.Patterns.{Pattern}
@@ -6,13 +6,14 @@ use Rattle.rule_core.specs.Theories.{RewriteTheory, equations_of}
 use Rattle.rule_core.specs.Sorting.{HasSort}
 use Rattle.rule_core.specs.WellSorted.{Serves}
 
--- The pattern has a sort, where variables have some sorts, and the substitution gives those that stand in it normal
--- terms of their sorts, which are not too high.
+-- The pattern has a sort, for some sorts of the variables. The substitution gives each variable of
+-- the pattern a normal term of the variable's sort. These terms have at most the greatest height.
 abbrev pub IsEvaluable : RewriteTheory → List (Option Tree) → Pattern → Type 0
 IsEvaluable theory theta p =
     (variables : List ℕ) × (sort : ℕ) × HasSort theory.sig variables p sort × Serves theory.sig variables theta p
 
--- Symbols, rules and the equations of a function are so few that numbers of 32 bits tell them apart.
+-- There are at most 2^32 symbols, 2^32 rules, and 2^32 equations of each function, so 32-bit
+-- numbers identify them.
 pub record HasNumbers (theory : RewriteTheory) : Type 0 where
   pub symbols : length theory.sig.symbols ≤ 2 ^ 32
   pub rules : length theory.rules ≤ 2 ^ 32

@@ -1,4 +1,4 @@
--- What the private functions of evaluation answer.
+-- What the private functions of evaluation return.
 use Rattle.std.specs.Prelude.{◌≡◌, ◌<◌, ◌≤◌, ℕ, List, length, Option, Some, IsSome, Result, Ok, Err}
 use Rattle.term_core.specs.Terms.{DomainValue, Tree, leaf, node, Forest, forest, height, heights, injected, AreNormal}
 use Rattle.term_core.specs.Patterns.{Pattern, Patterns, call, binding}
@@ -24,7 +24,7 @@ use Rattle.fun_eval.specs.declared.answer.EvalEnd.{EvalEnd}
 use Rattle.fun_eval.specs.declared.answer.EvalEnd.TheVariants.{Blocked, Memory}
 use Rattle.fun_eval.specs.declared.answer.Answers.{Answers}
 
--- by cases on what was answered: something and the calls that are left, or a cause
+-- by cases on the result: a value and how many calls are left, or a cause
 abbrev pub Comes : {A : Type 0} → (A → ℕ → Type 0) → (Cause → Type 0) → Result (A × ℕ) EvalEnd → Type 0
 Comes good bad (Ok found) = good found.0 found.1
 Comes good bad (Err (Blocked why)) = bad (cause_of why)
@@ -40,7 +40,7 @@ Gives {R} tells theory n theta p c answer =
     (λ cause. Evaluates theory n theta p c (blocked cause))
     answer
 
--- .. where it takes one of the nesting, for an equation of this function
+-- the same for an equation of this function, whose evaluation uses one level of nesting
 abbrev pub GivesWithin : {R : Type 0} → (R → Record → Type 0) → RewriteTheory → ℕ → ℕ → List (Option Tree) → Pattern → ℕ
     → Result (Answer R × ℕ) EvalEnd → Type 0
 GivesWithin {R} tells theory n f theta p c answer =
@@ -50,7 +50,7 @@ GivesWithin {R} tells theory n f theta p c answer =
     (λ cause. EvaluatesIn theory n f theta p c (blocked cause))
     answer
 
--- what the recordings of patterns' values tell
+-- what the recordings of the values of patterns tell
 abbrev pub AreRecorded : (RecordList → Type 0) → RewriteTheory → List (Option Tree) → Patterns → Forest → Type 0
 AreRecorded tell theory theta ps ts =
     (rs : RecordList) × tell rs × RecordAll theory theta ps rs × (results_of rs ≡ ts)
@@ -65,8 +65,8 @@ AllGive {R} all_tell theory n theta ps c answer =
     (λ cause. EvaluateAll theory n theta ps c (stopped cause))
     answer
 
--- the substitution gives each variable of the patterns, and maybe others, a normal term of its sort, which is not too
--- high
+-- the substitution gives each variable of the patterns, and perhaps others, a normal term of its
+-- sort, of at most the greatest height
 pub record ServesAll (sig : Signature) (variables : List ℕ) (theta : List (Option Tree)) (ps : Patterns) : Type 0 where
   pub bound : (x : ℕ) → StandsInSome x ps → IsSome (binding theta x)
   pub sorted : RespectsSorts sig variables theta
@@ -78,7 +78,7 @@ AreEvaluable theory theta ps =
     (variables : List ℕ) × (sorts : List ℕ) × (refs : List SortRef) × HaveSorts theory.sig variables sorts ps refs
     × ServesAll theory.sig variables theta ps
 
--- the terms are normal, of these sorts, and not too high
+-- the terms are normal, of these sorts, and of at most the greatest height
 abbrev pub AreGoodTrees : Signature → List ℕ → Forest → List SortRef → Type 0
 AreGoodTrees sig sorts ts refs = AreTermsOf sig sorts ts refs × AreNormal ts × (heights ts ≤ most_height)
 
@@ -116,7 +116,7 @@ pub record AreArguments (theory : RewriteTheory) (f : ℕ) (ts : Forest) : Type 
   pub fits : IsEvaluable theory theta (call f sorts patterns)
   pub evaluated : EvaluateAll theory nesting theta patterns calls (values ts left)
 
--- the record of a call of this function, whose arguments have these
+-- the record of a call of this function whose arguments have these records
 abbrev pub IsCallRecord : RewriteTheory → ℕ → RecordList → Record → Type 0
 IsCallRecord theory f rs r =
     (theta : List (Option Tree)) (sorts : List ℕ) (ps : Patterns) → RecordAll theory theta ps rs →
@@ -139,7 +139,7 @@ Calls {R} tells all_tell theory n f args c answer =
     (λ cause. Applies theory n f (forest args.terms.items) c (blocked cause))
     answer
 
--- what a constructor makes of its arguments
+-- a constructor applied to the values of its arguments
 abbrev pub Constructs : {R : Type 0} → (R → Record → Type 0) → (List R → RecordList → Type 0) → ℕ → Answers R → ℕ
     → Result (Answer R × ℕ) EvalEnd → Type 0
 Constructs {R} tells all_tell f args c answer =
@@ -149,7 +149,7 @@ Constructs {R} tells all_tell f args c answer =
     (λ cause. (cause ≡ too_high f) × (most_height < height (node f (forest args.terms.items))))
     answer
 
--- .. and an injection of its argument
+-- an injection applied to the value of its argument
 abbrev pub InjectsTo : {R : Type 0} → (R → Record → Type 0) → ℕ → ℕ → ℕ → Answer R → ℕ → Result (Answer R × ℕ) EvalEnd
     → Type 0
 InjectsTo {R} tells f from to below c answer =
@@ -159,7 +159,7 @@ InjectsTo {R} tells f from to below c answer =
     (λ cause. (cause ≡ too_high f) × (most_height < height (injected from to below.term)))
     answer
 
--- what a hook gives at terms
+-- the value of a hook at terms
 abbrev pub HookGives : {R : Type 0} → (R → Record → Type 0) → (List R → RecordList → Type 0) → ℕ → ℕ → Answers R → ℕ
     → Result (Answer R × ℕ) EvalEnd → Type 0
 HookGives {R} tells all_tell row sort args c answer =

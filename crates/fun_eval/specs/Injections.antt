@@ -1,4 +1,4 @@
--- The injection symbol, where there is one.
+-- The injection symbol, if there is one.
 use Rattle.std.specs.Prelude.{◌≢◌, ℕ, Option, Some, None}
 use Rattle.term_core.specs.declared.ids.SymId.{SymId}
 use Rattle.rule_core.specs.Sorting.{IsSymbol}

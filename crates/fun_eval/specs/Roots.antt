@@ -1,4 +1,4 @@
--- What a look at the root of a term tells.
+-- What the root of a term says.
 use Rattle.std.specs.Prelude.{◌≡◌, ℕ, List, Some, Option, map, Result, Bool, true, false}
 use Rattle.term_core.specs.Terms.{Tree, leaf, DomainValue, Forest}
 use Rattle.term_core.specs.Patterns.{Pattern, instance_of}
@@ -17,17 +17,17 @@ IsScalar t = (sort : ℕ) × (s : Scalar) × (t ≡ leaf sort (scalar_value s))
 abbrev pub CannotMatch : Pattern → Tree → Type 0
 CannotMatch p t = (theta : List (Option Tree)) → instance_of theta p ≡ Some t → ⊥
 
--- the terms are arguments of the hook with this number, of its kinds
+-- the terms are arguments of the hook with this number, of the right kinds
 abbrev pub AreHookArguments : ℕ → Forest → Type 0
 AreHookArguments row ts =
     (ss : List Scalar) × AreValues ts (map scalar_value ss) × (hook_arguments row ≡ Some (map kind_of ss))
 
--- where it answers no, the pattern cannot become the term
+-- if the result is false, the pattern cannot become the term
 abbrev pub MayMatch : Pattern → Tree → Bool → Type 0
 MayMatch p t true = Unit {0}
 MayMatch p t false = CannotMatch p t
 
--- what the hook with this number answers at the terms
+-- the result of the hook with this number at the terms
 abbrev pub HookAnswersSo : ℕ → Forest → Result Scalar NoValue → Type 0
 HookAnswersSo row ts answer =
     (vs : List DomainValue) × AreValues ts vs × (hook_value row vs ≡ Some (plain_outcome answer))

@@ -1,4 +1,4 @@
-// What comes of an evaluation.
+// The results of an evaluation.
 ghost use Rattle.std.specs.Prelude.{◌≡◌};
 ghost use Rattle.fun_eval.specs.declared.answer.EvalEnd.TheVariants.{Memory};
 

@@ -21,8 +21,8 @@ use std::alloc::Global;
 use std::marker::Model;
 use term_core::{RulePat, Subst, SymId};
 
-/// The greatest nesting of an evaluation: that of a condition or a right side of a rewrite rule. With `MAX_HEIGHT` it
-/// bounds how deep an evaluation recurses.
+/// The greatest nesting of an evaluation. A condition or a right side of a rewrite rule has this
+/// nesting. With `MAX_HEIGHT` it bounds how deep an evaluation recurses.
 pub const MAX_NESTING: u32 = 2_000;
 
 /// How many calls of functions are left.
@@ -31,11 +31,12 @@ pub struct Budget {
     pub calls: u32,
 }
 
-/// An engine that evaluates patterns by the functions of a program. Contracts see it as the program.
+/// An engine that evaluates patterns by the functions of a program. Contracts see it as the
+/// program.
 #[derive(Drop)]
 pub struct Engine<'p> {
     program: &'p Program,
-    // The first symbol that injects, where one does.
+    // The first injection symbol, if there is one.
     injection: Option<SymId>,
 }
 
@@ -56,7 +57,8 @@ impl<'p> Model for Engine<'p> {
 }
 
 impl<'p> Engine<'p> {
-    /// The engine of a well-sorted program. It looks at the program's symbols once, up to the first that injects.
+    /// The engine of a well-sorted program. It looks once at the program's symbols, up to the first
+    /// injection symbol.
     pub fn new(program: &'p Program) -> Engine<'p>
         requires sorted { IsWellSorted (theory_of program.now) }
         requires numbers { HasNumbers (theory_of program.now) }
@@ -75,19 +77,22 @@ impl<'p> Engine<'p> {
         self.program
     }
 
-    // The symbol that a node of an injection has.
+    // The symbol of a node that is an injection.
     pub(crate) fn injection(&self) -> Option<SymId>
         ensures { Injects (theory_of self.now).sig result }
     {
         self.injection
     }
 
-    /// The value of a pattern under a substitution, as a record of its evaluation, which takes its calls from the
-    /// budget. `nest` is the nesting that is left. `Blocked` says why there is no value. After an error the budget is
-    /// as before.
+    /// The value of a pattern under a substitution, with a record of its evaluation. The evaluation
+    /// takes its calls from the budget. `nest` is the nesting that is left.
     ///
-    /// It recurses no deeper than the nesting and the height of terms. Its time is that of trying each equation of a
-    /// called function, one by one, at one look at each argument's root where that cannot match.
+    /// Errors: `Blocked` states why there is no value; `Memory` if memory ran out. After an error
+    /// the budget is as before.
+    ///
+    /// It recurses no deeper than the nesting and the height of terms. Its time is the time of
+    /// trying each equation of a called function, one by one. An equation that cannot match costs
+    /// one look at each argument's root.
     pub fn eval(
         &self,
         alloc: Global,
@@ -113,7 +118,7 @@ impl<'p> Engine<'p> {
         }
     }
 
-    /// The same with another recording: the value, and what is recorded of it.
+    /// The same with another recording: the value, and what is recorded of its evaluation.
     pub fn eval_as<R: Recording>(
         &self,
         alloc: Global,
@@ -143,7 +148,7 @@ impl<'p> Engine<'p> {
     }
 }
 
-// The first symbol of a program that injects.
+// The first injection symbol of a program.
 fn first_injection(program: &Program) -> Option<SymId>
     requires { HasNumbers (theory_of program.now) }
     ensures { Injects program.now.sig result }

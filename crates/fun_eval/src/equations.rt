@@ -11,16 +11,18 @@ use rule_core::{Equation, Program};
 use std::alloc::{AllocError, Global};
 use term_core::{Subst, SymId, Term};
 
-/// What comes of trying an equation or a rewrite rule at terms.
+/// The result of trying an equation or a rewrite rule at terms.
 #[derive(Drop)]
 pub enum Trial<R> {
-    /// It does not match them, or its condition fails.
+    /// It does not match the terms, or its condition fails.
     Unused,
-    /// It is used, with the substitution that makes it match, and what is recorded of its condition, where it has one.
+    /// It is used, with the substitution that makes it match, and what is recorded of its
+    /// condition, if it has one.
     Used(Subst, Option<R>),
 }
 
-// The equation that is used: its number among those of the function, and the same of it.
+// The equation that is used: its number among the function's equations, its substitution and what
+// is recorded of its condition.
 #[derive(Drop)]
 pub(crate) struct Choice<R> {
     pub(crate) number: u32,
@@ -28,7 +30,7 @@ pub(crate) struct Choice<R> {
     pub(crate) cond: Option<R>,
 }
 
-// The equations of a function, in the order of trial.
+// The equations of a function, in the order in which they are tried.
 pub(crate) fn equations_of(program: &Program, sym: SymId) -> &[Equation]
     requires { sym.0 < length (theory_of program.now).equations }
     ensures { map function_equation result.now ≡ equations_of (theory_of program.now) sym.0 }
@@ -36,7 +38,7 @@ pub(crate) fn equations_of(program: &Program, sym: SymId) -> &[Equation]
     &program.equations[sym.0 as usize]
 }
 
-// The substitution that makes the arguments of an equation the terms: none where no substitution does.
+// The substitution that makes the arguments of an equation the terms, if there is one.
 pub(crate) fn match_equation(
     alloc: Global,
     program: &Program,

@@ -1,6 +1,8 @@
-// The evaluation of a pattern: each function takes the calls that are left, and answers those that are left then.
+// The evaluation of a pattern. Each function takes the number of calls that are left, and returns
+// the number that are left afterwards.
 //
-// It recurses on the nesting: a node takes one, and so do a condition and a right side of an equation.
+// It recurses on the nesting: a node uses one level, and so does a condition or a right side of an
+// equation.
 ghost use Rattle.std.specs.Prelude.{◌≡◌, ◌≢◌, ◌≤◌, ℕ, List};
 ghost use Rattle.term_core.specs.Terms.{forest};
 ghost use Rattle.term_core.specs.Patterns.{variable, domain_value, application, injection, call};
@@ -159,7 +161,7 @@ fn evaluate_call<R: Recording>(
     }
 }
 
-// The values of some patterns, one after another.
+// The values of some patterns, in order.
 #[cycle(evaluation)]
 fn evaluate_all<R: Recording>(
     alloc: Global,
@@ -220,7 +222,7 @@ fn apply<R: Recording>(
     }
 }
 
-// The value that the first equation of a function that is used gives at terms.
+// The value of a function at terms, by the first of its equations that is used.
 #[cycle(evaluation)]
 fn apply_equations<R: Recording>(
     alloc: Global,

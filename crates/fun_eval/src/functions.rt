@@ -1,4 +1,4 @@
-// What constructors, injections and hooks make of their arguments' values.
+// The values of constructors, injections and hooks, from the values of their arguments.
 ghost use Rattle.std.specs.Prelude.{◌≡◌, [], IsSome, Some};
 ghost use Rattle.term_core.specs.Terms.{forest};
 ghost use Rattle.term_core.specs.Values.{scalar_value, value_of};
@@ -77,7 +77,8 @@ pub(crate) fn inject<R: Recording>(
     Ok((Answer { term, recorded }, left))
 }
 
-// What the hook of a function, whose values have this sort, gives at its arguments' values.
+// The value of a function's hook at the values of its arguments. `sort` is the sort of the
+// function.
 pub(crate) fn call_hook<R: Recording>(
     alloc: Global,
     sym: SymId,
@@ -105,7 +106,7 @@ fn hook_answer(hook: HookNo, terms: &[Term]) -> Result<Scalar, NoValue>
     requires { AreHookArguments hook.0 (forest terms.now) }
     ensures { HookAnswersSo hook.0 (forest terms.now) result }
 {
-    // A hook has one argument or two.
+    // A hook has one or two arguments.
     let first = scalar_of(&terms[0]);
     if terms.len() == 1 {
         return apply(hook, &[first]);

@@ -1,9 +1,10 @@
 // Evaluation of patterns under substitutions, by hooks and by equations.
 //
-// An `Engine` lends a well-sorted program. `Engine::eval` gives the value of a pattern exactly as `Evaluates` defines
-// it (specs/Evaluation.antt of `rule_core`), with a record that satisfies `Records`, and takes from the budget just the
-// calls that the evaluation takes; where there is none, it answers the cause. `Engine::eval_as` is the same for any
-// `Recording`: with `Unrecorded` nothing is kept but the value.
+// An `Engine` borrows a well-sorted program. `Engine::eval` returns the value of a pattern exactly
+// as `Evaluates` defines it (specs/Evaluation.antt of `rule_core`), with a record that satisfies
+// `Records`. It takes from the budget exactly the calls that the evaluation takes. If there is no
+// value, it returns the cause. `Engine::eval_as` is the same for any `Recording`. With
+// `Unrecorded`, only the value is kept.
 #![tactic(auto)]
 
 mod answer;

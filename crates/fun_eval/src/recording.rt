@@ -1,4 +1,4 @@
-// What is kept of an evaluation beside its value.
+// What is kept of an evaluation besides its value.
 ghost use Rattle.std.specs.Prelude.{◌≡◌, List, IfOk, OnOk, map, option_map};
 ghost use Rattle.rule_core.specs.Records.{Record, RecordList, OptionalRecord, no_record, more_records};
 ghost use Rattle.rule_core.specs.Records.{bound as bound_record, itself, made, by_hook as hook_record};
@@ -12,17 +12,17 @@ use rule_core::{EqRecord, EvalRecord};
 use std::alloc::{AllocError, Global};
 use term_core::{SortId, Subst, SymId, Term};
 
-/// What is recorded of an evaluation. It is made of the parts of a record as they come: what a node's arguments gave
-/// comes before the node. `EvalRecord` keeps all of them, `Unrecorded` nothing. The error of each call is want of
-/// memory.
+/// What is recorded of an evaluation. It is built from the parts of a record in their order: the
+/// parts for a node's arguments come before the node. `EvalRecord` keeps all parts, `Unrecorded`
+/// none. The error of each call is out of memory.
 pub trait Recording: Drop {
     // It tells this record, or nothing at all.
     ghost tells: { Self → Record → Type 0 };
 
-    // So do these, in order.
+    // They tell these records, in order, or nothing at all.
     ghost all_tell: { List Self → RecordList → Type 0 };
 
-    /// No record. It takes no memory.
+    /// An empty list of records. It takes no memory.
     fn none(alloc: Global) -> Vec<Self>
         ensures { all_tell result.items no_record };
 
@@ -35,16 +35,16 @@ pub trait Recording: Drop {
     fn bound(var: u32, term: &Term) -> Result<Self, AllocError>
         ensures { IfOk result (λ made_now. tells made_now (bound_record var term.now)) };
 
-    /// A domain value is itself.
+    /// A domain value has itself as its value.
     fn value(term: &Term) -> Result<Self, AllocError>
         ensures { IfOk result (λ made_now. tells made_now (itself term.now)) };
 
-    /// A constructor made the term of its arguments.
+    /// A constructor built the term from its arguments.
     fn ctor(sym: SymId, args: Vec<Self>, term: &Term) -> Result<Self, AllocError>
         ensures { IfOk result (λ made_now. (rs : RecordList) → all_tell args.items rs
             → tells made_now (made rs term.now)) };
 
-    /// The injection from a sort to another made the term.
+    /// The injection from one sort to another built the term.
     fn inj(
         alloc: Global,
         from: SortId,
@@ -55,7 +55,7 @@ pub trait Recording: Drop {
         ensures { IfOk result (λ made_now. (r : Record) → tells below r
             → tells made_now (made (more_records r no_record) term.now)) };
 
-    /// The hook of a function gave the term.
+    /// The term is the value of a function's hook.
     fn by_hook(sym: SymId, args: Vec<Self>, term: &Term) -> Result<Self, AllocError>
         ensures { IfOk result (λ made_now. (rs : RecordList) → all_tell args.items rs
             → tells made_now (hook_record rs term.now)) };
@@ -74,7 +74,7 @@ pub trait Recording: Drop {
             → TellsOption tells cond o → tells body r → tells made_now (equation_record rs equation subst o r)) };
 }
 
-/// Nothing is recorded, and no memory is taken for it.
+/// A recording that keeps nothing and takes no memory.
 #[derive(Clone, Copy, Drop)]
 pub struct Unrecorded;
 
@@ -211,7 +211,7 @@ impl Recording for EvalRecord {
     }
 }
 
-// The record of a condition, where it has one, in a box.
+// The record of a condition in a box, if there is a condition.
 fn boxed(alloc: Global, cond: Option<EvalRecord>) -> Result<Option<Box<EvalRecord>>, AllocError>
     ensures { IfOk result (λ kept. (o : OptionalRecord) → TellsOption (λ one r. plain_record one ≡ r) cond o
         → optional (option_map (λ (b : Box EvalRecord). plain_record b.value) kept) ≡ o) }

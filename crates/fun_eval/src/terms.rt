@@ -1,4 +1,4 @@
-// Looks at terms, and matching, where nobody counts the looks.
+// Looks at terms, and matching, without a count of the looks.
 ghost use Rattle.std.specs.Prelude.{◌≡◌, ◌<◌, ◌↔◌, length, IsTrue, IfOk, Some};
 ghost use Rattle.term_core.specs.Terms.{leaf, forest, no_tree, more_trees};
 ghost use Rattle.term_core.specs.Heads.{Shows};
@@ -17,7 +17,7 @@ use std::marker::Brand;
 use std::sync::ledger::{Blank, Ledger};
 use term_core::{RulePat, Scalar, Steps, Subst, Term, Value, View};
 
-// What stands at the root of a term.
+// What is at the root of a term.
 fn root(term: &Term) -> View<'_>
     ensures { Shows term.now result }
 {
@@ -41,7 +41,7 @@ pub fn is_true(term: &Term) -> bool
     matches!(root(term), View::Value(_, Value::Bool(true)))
 }
 
-// The whole number or the truth value that a term is.
+// The whole number or truth value in a term.
 pub(crate) fn scalar_of(term: &Term) -> Scalar
     requires { IsScalar term.now }
     ensures { (sort : _) × (term.now ≡ leaf sort (scalar_value result)) }
@@ -53,8 +53,8 @@ pub(crate) fn scalar_of(term: &Term) -> Scalar
     }
 }
 
-// Whether the root of a term is such that a pattern may become the term. It takes no memory, and looks at the root
-// alone.
+// Whether a pattern may become the term, by the term's root. It takes no memory, and looks only at
+// the root.
 fn may_match(pat: &RulePat, term: &Term) -> bool
     ensures { MayMatch (plain_pattern pat.now) term.now result }
 {
@@ -76,7 +76,8 @@ fn may_match(pat: &RulePat, term: &Term) -> bool
     }
 }
 
-/// As `find_match`, but a pattern whose root is another than the term's costs one look and no memory.
+/// The same as `find_match`, except that a pattern whose root differs from the term's costs one
+/// look and no memory.
 pub fn match_term(
     alloc: Global,
     pat: &RulePat,
@@ -115,7 +116,8 @@ fn counted_match<L: Ledger>(
     find_match(alloc, pat, vars, subsorts, term, &mut steps)
 }
 
-// As `find_match_all`, but where a root is another than that of its pattern, it takes no memory.
+// The same as `find_match_all`, except that it takes no memory if the root of a term differs from
+// its pattern's.
 pub(crate) fn match_terms(
     alloc: Global,
     pats: &[RulePat],

@@ -1,4 +1,4 @@
--- Bit operations of two's complement, by those of the binary digits of natural numbers.
+-- Bit operations in two's complement, by the ones on the binary digits of natural numbers.
 use Rattle.std.proofs.Common.{◌≡◌, ℕ, zero, suc, ◌+◌, ◌-◌, ◌*◌, ◌/◌, ◌%◌, ◌^◌, ◌<◌, refl, ◌∙◌, ap, arith, ℤ, pos, negsuc, FitsSigned, to_z, of_z}
 use Rattle.std.specs.Prelude.{bit_and, bit_or, bit_xor}
 use Rattle.std.specs.Int.{w128}
@@ -7,7 +7,7 @@ use Rattle.std.proofs.Math.Nat.{pow-suc}
 use Rattle.std.proofs.lemmas.Int.{to_z-of_z}
 use Rattle.term_core.specs.HookValues.{bitwise_and, bitwise_or, bitwise_xor}
 
--- The bits of a that b lacks are those that it shares with the complement of b.
+-- The bits of a that are not in b are the bits that a shares with the complement of b.
 and_not : (k a b : ℕ) → a < 2 ^ k → b < 2 ^ k → bit_and a (2 ^ k - 1 - b) + bit_and a b ≡ a
 and_not zero zero b x y = refl
 and_not zero (suc a) b x y = absurd (omega arith)

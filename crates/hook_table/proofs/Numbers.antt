@@ -13,7 +13,7 @@ mapped : {A B : Type 0} (f : A → B) (o : Option A) (b : B) → option_map f o 
 mapped f None b e = let no : ⊥ = cc in absurd no
 mapped f (Some a) b e = (a, refl)
 
--- what has arguments is one of the 31
+-- a number with arguments is one of the 31
 pub number-below : (n : ℕ) (kinds : List Kind) → hook_arguments n ≡ Some kinds → n < 31
 number-below n kinds e =
     let found = mapped (λ (h : Hook). argument_kinds h.operation) (slice_get hooks n) kinds e in
@@ -41,7 +41,7 @@ same_arguments (r ∷ rows) (h ∷ hs) zero e =
 same_arguments (r ∷ rows) (h ∷ hs) (suc n) e =
     let rest : map plain_row rows ≡ map signature hs = cc in same_arguments rows hs n rest
 
--- where a row is, its kinds are those of the hook
+-- the kinds of a row are the kinds of its hook
 pub arguments-of-row : (rows : List HookRow) (n : ℕ) (row : HookRow) → map plain_row rows ≡ map signature hooks → slice_get rows n ≡ Some row → hook_arguments n ≡ Some (map plain_kind row.args.now)
 arguments-of-row rows n row e is =
     sym (same_arguments rows hooks n e) ∙ ap (option_map (λ (r : HookRow). map plain_kind r.args.now)) is
@@ -52,7 +52,7 @@ no-row rows n e is =
 
 -- ---- names
 
--- the places of a name in rows that say what hooks do
+-- a name has the same index in the rows as among the hooks
 same_place : (name : List ℕ) (rows : List HookRow) (hs : List Hook) → map plain_row rows ≡ map signature hs → (position_or_len (λ (r : HookRow). bytes_eq r.name.now name) rows ≡ position_or_len (λ (h : Hook). bytes_eq h.name name) hs) × (length rows ≡ length hs)
 same_place name [] [] e = (refl, refl)
 same_place name [] (h ∷ hs) e = let no : ⊥ = cc in absurd no

@@ -1,4 +1,4 @@
--- Numbers in the range and out of it.
+-- Numbers inside and outside the range.
 use Rattle.std.proofs.Common.{◌≡◌, ℕ, zero, suc, ◌+◌, ◌-◌, ◌*◌, ◌/◌, ◌%◌, ◌^◌, ◌<◌, ◌≤◌, ◌≢◌, refl, sym, subst, ◌∙◌, ap, arith, ℤ, pos, negsuc, neg_ℤ, ◌*ℤ◌, FitsSigned, Some, None, Option, to_z, of_z}
 use Rattle.std.specs.Prelude.{unsigned_abs}
 use Rattle.std.specs.Int.{w128, int_div_euclid}
@@ -29,7 +29,7 @@ fits-factor (negsuc a) p q some f =
     let s = f.sfits in
     record { sfits = omega (arith, grows (suc a) p q some, mag-neg (suc a * p), mag-neg (suc a * (p * q))) }
 
--- a power of two that no number but 0 reaches the range by
+-- the product with a power of two greater than 2^127 is outside the range, except for 0
 pub too-far : (x : ℤ) (n : ℕ) → x ≢ pos 0 → 127 < n → FitsSigned w128 (x *ℤ pos (2 ^ n)) → ⊥
 too-far (pos zero) n other far f = other refl
 too-far (pos (suc a)) n other far f =
@@ -41,7 +41,7 @@ too-far (negsuc a) n other far f =
     let high : 2 ^ 128 ≤ 2 ^ n = pow_mono {i = 128} {j = n} far in
     omega (arith, mag-neg (suc a * 2 ^ n), grows-one a (2 ^ n))
 
--- a quotient by 2^127 or more, rounded down, is that by 2^127
+-- the quotient by 2^127 or more, rounded down, is the quotient by 2^127
 low-quotient : (a n : ℕ) → a < 2 ^ 127 → 127 ≤ n → a / 2 ^ n ≡ a / 2 ^ 127
 low-quotient a n x far =
     let high : 2 ^ 127 ≤ 2 ^ n = pow_mono {i = 127} {j = n} far in
@@ -65,7 +65,7 @@ abs-fits None (negsuc a) f h = h
 abs-fits (Some v) (pos a) f h = (record { sfits = f.sfits }, h.1)
 abs-fits (Some v) (negsuc a) f h = h
 
--- `checked_abs` gives the absolute value where that fits
+-- `checked_abs` returns the absolute value if it fits
 pub checked_abs-is : (v : Option ℤ) (x : ℤ) → FitsSigned w128 x → SomeIff v (FitsSigned w128 (neg_ℤ (to_z w128 (of_z w128 x)))) (pos (unsigned_abs (to_z w128 (of_z w128 x)))) → SomeIff v (FitsSigned w128 (pos (unsigned_abs x))) (pos (unsigned_abs x))
 checked_abs-is v x f h =
     let Given : ℤ → Type 0 = λ z. SomeIff v (FitsSigned w128 (neg_ℤ z)) (pos (unsigned_abs z)) in
@@ -80,13 +80,13 @@ times-times (pos a) p q = ap pos (mul_assoc a p q)
 times-times (negsuc a) p q =
     neg-times (suc a * p) q ∙ ap (λ (n : ℕ). neg_ℤ (pos n)) (mul_assoc (suc a) p q)
 
--- a product with a power of two, by two factors
+-- the product with a power of two is the product with two factors
 pub two-parts : (x : ℤ) (n m : ℕ) → m ≤ n → x *ℤ pos (2 ^ m) *ℤ pos (2 ^ (n - m)) ≡ x *ℤ pos (2 ^ n)
 two-parts x n m low =
     let whole : m + (n - m) ≡ n = omega arith in
     times-times x (2 ^ m) (2 ^ (n - m)) ∙ ap (λ (k : ℕ). x *ℤ pos k) (sym (pow-add 2 m (n - m)) ∙ ap (λ (k : ℕ). 2 ^ k) whole)
 
--- where one factor takes it out of the range, so do both
+-- if one factor takes it out of the range, the product with both is outside the range
 pub lacks-part : (x : ℤ) (n m : ℕ) → m ≤ n → (FitsSigned w128 (x *ℤ pos (2 ^ m)) → ⊥) → FitsSigned w128 (x *ℤ pos (2 ^ n)) → ⊥
 lacks-part x n m low out f =
     let whole : m + (n - m) ≡ n = omega arith in

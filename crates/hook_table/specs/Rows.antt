@@ -9,6 +9,6 @@ abbrev pub plain_kind : ScalarKind → Kind
 plain_kind Int = integers
 plain_kind Bool = truths
 
--- what a row says
+-- the contents of a row
 abbrev pub plain_row : HookRow → Signature
 plain_row row = record { name = row.name.now; arguments = map plain_kind row.args.now; result = plain_kind row.result }

@@ -1,4 +1,4 @@
--- The scalars of the code, their kinds, and what a call of a hook answers, as plain values.
+-- The scalars of the code, their kinds, and the results of hooks, as plain values.
 use Rattle.std.specs.Prelude.{Result}
 use Rattle.term_core.specs.Terms.{DomainValue}
 use Rattle.term_core.specs.Values.{scalar_value}

@@ -11,7 +11,7 @@ use crate::table::{ScalarKind, hook_rows};
 use crate::{integers, truths};
 use term_core::{HookNo, NoValue, Scalar};
 
-// Calls the function of the row that has the number of a hook.
+// Calls the function of the row whose number is the hook's.
 macro_rules! call_numbered {
     (($hook:expr, $args:expr) $($number:literal => $name:literal [$($kind:ident),*] -> $result:ident = $compute:path;)*) => {
         $(
@@ -22,7 +22,7 @@ macro_rules! call_numbered {
     };
 }
 
-// The call of one row's function, by the kinds of its arguments and of its value.
+// Calls the function of one row, by the kinds of its arguments and of its value.
 macro_rules! call_row {
     ($args:expr, $compute:path, [Int] -> Int) => {
         integer($compute(one_integer($args)))
@@ -44,8 +44,8 @@ macro_rules! call_row {
     }};
 }
 
-/// The value of a hook at its arguments, or the one reason why it has none. `fits` is the test of what it requires. It
-/// takes no memory.
+/// The value of a hook at its arguments, or the only reason why it has none. `fits` tests the
+/// requirement. It takes no memory.
 pub fn apply<const N: usize>(hook: HookNo, args: &[Scalar; N]) -> Result<Scalar, NoValue>
     requires { hook_arguments hook.0 ≡ Some (map kind_of args.now) }
     ensures { hook_value hook.0 (map scalar_value args.now) ≡ Some (plain_outcome result) }
@@ -54,7 +54,7 @@ pub fn apply<const N: usize>(hook: HookNo, args: &[Scalar; N]) -> Result<Scalar,
     unreachable!()
 }
 
-/// Whether a hook has arguments of the kinds of these, which is what `apply` requires.
+/// Whether a hook has arguments of the same kinds as these. `apply` requires this.
 pub fn fits(hook: HookNo, args: &[Scalar]) -> bool
     ensures { IsTrue result ↔ (hook_arguments hook.0 ≡ Some (map kind_of args.now)) }
 {
@@ -64,7 +64,7 @@ pub fn fits(hook: HookNo, args: &[Scalar]) -> bool
     }
 }
 
-// Whether scalars have these kinds, one by one.
+// Whether the scalars have these kinds, in order.
 fn are_of_kinds(args: &[Scalar], kinds: &[ScalarKind]) -> bool
     ensures { IsTrue result ↔ (map kind_of args.now ≡ map plain_kind kinds.now) }
 {
@@ -90,7 +90,7 @@ fn is_of_kind(arg: Scalar, kind: ScalarKind) -> bool
     }
 }
 
-// The whole number that the only argument is.
+// The only argument, as a whole number.
 fn one_integer(args: &[Scalar]) -> i128
     requires { map kind_of args.now ≡ whole ∷ [] }
     ensures { map scalar_value args.now ≡ whole_number result ∷ [] }
@@ -101,7 +101,7 @@ fn one_integer(args: &[Scalar]) -> i128
     }
 }
 
-// The whole numbers that the two arguments are.
+// The two arguments, as whole numbers.
 fn two_integers(args: &[Scalar]) -> (i128, i128)
     requires { map kind_of args.now ≡ whole ∷ (whole ∷ []) }
     ensures { map scalar_value args.now ≡ whole_number result.0 ∷ (whole_number result.1 ∷ []) }
@@ -112,7 +112,7 @@ fn two_integers(args: &[Scalar]) -> (i128, i128)
     }
 }
 
-// The truth value that the only argument is.
+// The only argument, as a truth value.
 fn one_truth(args: &[Scalar]) -> bool
     requires { map kind_of args.now ≡ logical ∷ [] }
     ensures { map scalar_value args.now ≡ truth result ∷ [] }
@@ -123,7 +123,7 @@ fn one_truth(args: &[Scalar]) -> bool
     }
 }
 
-// The truth values that the two arguments are.
+// The two arguments, as truth values.
 fn two_truths(args: &[Scalar]) -> (bool, bool)
     requires { map kind_of args.now ≡ logical ∷ (logical ∷ []) }
     ensures { map scalar_value args.now ≡ truth result.0 ∷ (truth result.1 ∷ []) }
@@ -134,7 +134,7 @@ fn two_truths(args: &[Scalar]) -> (bool, bool)
     }
 }
 
-// A whole number as the value.
+// A whole number, or the reason why there is none, as the result of a hook.
 fn integer(value: Result<i128, NoValue>) -> Result<Scalar, NoValue>
     ensures { plain_outcome result ≡ outcome whole_number value }
 {

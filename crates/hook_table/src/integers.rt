@@ -1,4 +1,4 @@
-// Hooks on whole numbers. Nothing wraps on the way to a value.
+// Hooks on whole numbers. No computation of a value wraps.
 ghost use Rattle.std.specs.Prelude.{◌≡◌, ◌<◌, ◌^◌, ℤ, pos, ◌+ℤ◌, ◌-ℤ◌, ◌*ℤ◌, FitsSigned, Ok, int_div, int_rem, int_lt, int_le, unsigned_abs, not as negation};
 ghost use Rattle.std.specs.Int.{w128, int_div_euclid, int_rem_euclid, int_min, int_max};
 ghost use Rattle.std.specs.Option.{SomeIff};
@@ -7,7 +7,7 @@ ghost use Rattle.term_core.specs.HookValues.{in_range, unless_zero, unless_negat
 
 use term_core::NoValue;
 
-// The value of a checked operation, which has none where the result does not fit.
+// The value of a checked operation. There is none if the result does not fit.
 fn ranged(value: Option<i128>) -> Result<i128, NoValue>
     ensures { (z : ℤ) → SomeIff value (FitsSigned w128 z) z → result ≡ in_range z }
 {
@@ -38,7 +38,7 @@ pub fn mul(x: i128, y: i128) -> Result<i128, NoValue>
     ranged(x.checked_mul(y))
 }
 
-// The quotient rounded to zero.
+// The quotient, rounded towards zero.
 pub fn tdiv(x: i128, y: i128) -> Result<i128, NoValue>
     ensures { result ≡ unless_zero y (in_range (int_div x y)) }
 {
@@ -48,7 +48,7 @@ pub fn tdiv(x: i128, y: i128) -> Result<i128, NoValue>
     ranged(x.checked_div(y))
 }
 
-// What that quotient leaves: it has the sign of x.
+// The remainder of that quotient. It has the sign of x.
 pub fn tmod(x: i128, y: i128) -> Result<i128, NoValue>
     ensures { result ≡ unless_zero y (Ok (int_rem x y)) }
 {
@@ -68,7 +68,7 @@ pub fn ediv(x: i128, y: i128) -> Result<i128, NoValue>
     ranged(x.checked_div_euclid(y))
 }
 
-// That remainder.
+// The remainder of that quotient.
 pub fn emod(x: i128, y: i128) -> Result<i128, NoValue>
     ensures { result ≡ unless_zero y (Ok (int_rem_euclid x y)) }
 {
@@ -78,14 +78,14 @@ pub fn emod(x: i128, y: i128) -> Result<i128, NoValue>
     Ok(x.wrapping_rem_euclid(y))
 }
 
-// Whether they are equal.
+// Whether x and y are equal.
 pub fn eq(x: i128, y: i128) -> bool
     ensures { result ≡ int_eq x y }
 {
     x == y
 }
 
-// Whether they differ.
+// Whether x and y differ.
 pub fn ne(x: i128, y: i128) -> bool
     ensures { result ≡ negation (int_eq x y) }
 {
@@ -120,14 +120,14 @@ pub fn ge(x: i128, y: i128) -> bool
     x >= y
 }
 
-// The smaller.
+// The smaller of x and y.
 pub fn min(x: i128, y: i128) -> Result<i128, NoValue>
     ensures { result ≡ Ok (int_min x y) }
 {
     Ok(x.min(y))
 }
 
-// The greater.
+// The greater of x and y.
 pub fn max(x: i128, y: i128) -> Result<i128, NoValue>
     ensures { result ≡ Ok (int_max x y) }
 {
@@ -141,28 +141,28 @@ pub fn abs(x: i128) -> Result<i128, NoValue>
     ranged(x.checked_abs())
 }
 
-// The bits of both.
+// The bits that are set in both.
 pub fn and(x: i128, y: i128) -> Result<i128, NoValue>
     ensures { result ≡ Ok (bitwise_and x y) }
 {
     Ok(x & y)
 }
 
-// The bits of either.
+// The bits that are set in at least one.
 pub fn or(x: i128, y: i128) -> Result<i128, NoValue>
     ensures { result ≡ Ok (bitwise_or x y) }
 {
     Ok(x | y)
 }
 
-// The bits of one of them.
+// The bits that are set in exactly one.
 pub fn xor(x: i128, y: i128) -> Result<i128, NoValue>
     ensures { result ≡ Ok (bitwise_xor x y) }
 {
     Ok(x ^ y)
 }
 
-// Each bit turned.
+// Every bit inverted.
 pub fn not(x: i128) -> Result<i128, NoValue>
     ensures { result ≡ Ok (complement x) }
 {
@@ -179,8 +179,8 @@ pub fn shl(x: i128, y: i128) -> Result<i128, NoValue>
     ranged(shifted(x, y.unsigned_abs()))
 }
 
-// The product with a power of two, where it fits. A power past 2^127 takes no number but 0 into the range; a lower one
-// is made of two factors that fit.
+// The product with a power of two, if it fits. With a power greater than 2^127 only the product of
+// 0 fits. A smaller power is split into two factors that fit.
 fn shifted(x: i128, by: u128) -> Option<i128>
     ensures { SomeIff result (FitsSigned w128 (x *ℤ pos (2 ^ by))) (x *ℤ pos (2 ^ by)) }
 {
@@ -195,7 +195,7 @@ fn shifted(x: i128, by: u128) -> Option<i128>
     part.checked_mul(power_of_two(by as u32 - half))
 }
 
-// 2 to a power that fits.
+// 2 to the power of `exponent`, which fits.
 fn power_of_two(exponent: u32) -> i128
     requires { exponent < 127 }
     ensures { result ≡ pos (2 ^ exponent) }
@@ -213,7 +213,7 @@ pub fn shr(x: i128, y: i128) -> Result<i128, NoValue>
     Ok(halved(x, y.unsigned_abs()))
 }
 
-// That quotient. By a power past 2^127 it is the one by 2^127.
+// The same quotient. For a power greater than 2^127 it is the same as for 2^127.
 fn halved(x: i128, times: u128) -> i128
     ensures { result ≡ int_div_euclid x (pos (2 ^ times)) }
 {

@@ -1,9 +1,10 @@
 // The hooks on whole numbers and truth values: a table, and one call.
 //
-// `HOOKS` has the 31 rows of the definition (specs/HookValues.antt of `term_core`) in its order, which `hook_rows`
-// says; no two have one name. `find` gives the number of a name, and none exactly where no row has it. `apply` gives
-// the value of the definition, or the one reason why there is none; `fits` is the test of what it requires. The
-// definition speaks of the whole numbers of mathematics: so nothing wraps on the way to a value. No call takes memory.
+// `HOOKS` has the 31 rows of the definition (specs/HookValues.antt of `term_core`), in its order,
+// as `hook_rows` says. No two rows have the same name. `find` returns the number of a name, and
+// `None` exactly when no row has the name. `apply` returns the value of the definition, or the only
+// reason why there is none. `fits` tests what `apply` requires. The definition is about the whole
+// numbers of mathematics, so no computation of a value wraps. No call takes memory.
 #![tactic(auto)]
 
 mod calls;

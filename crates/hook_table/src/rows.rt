@@ -1,7 +1,7 @@
-// The rows of the table, each once.
+// The rows of the table. Each row is written only here.
 
-// Hands the rows to a macro: the number of each, its name, the kinds of its arguments and of its value, and the
-// function that computes the value.
+// Passes the rows to a macro: the number of each, its name, the kinds of its arguments and of its
+// value, and the function that computes the value.
 macro_rules! table_rows {
     ($with:ident!($($given:tt)*)) => {
         $with! {

@@ -35,10 +35,10 @@ macro_rules! row_table {
     };
 }
 
-/// The hooks, in order. The number of a hook is its place here.
+/// The hooks, in order. The number of a hook is its index here.
 pub const HOOKS: [HookRow; 31] = table_rows!(row_table!());
 
-/// The rows of `HOOKS`: those of the definition, in its order.
+/// The rows of `HOOKS`. They are the rows of the definition, in its order.
 pub fn hook_rows() -> &'static [HookRow]
     ensures rows { map plain_row result.now ≡ map signature hooks }
     ensures names { NamesDiffer }
@@ -46,7 +46,8 @@ pub fn hook_rows() -> &'static [HookRow]
     &HOOKS
 }
 
-/// The number of the hook with this name: none exactly where no row has the name. It takes no memory.
+/// The number of the hook with this name. `None` exactly when no row has the name. It takes no
+/// memory.
 pub fn find(name: &[u8]) -> Option<HookNo>
     ensures { option_map (λ h. h.0) result ≡ hook_number name.now }
 {
@@ -56,7 +57,7 @@ pub fn find(name: &[u8]) -> Option<HookNo>
     }
 }
 
-// The place of the first row with this name.
+// The index of the first row with this name.
 fn named_place(rows: &[HookRow], name: &[u8]) -> Option<usize>
     ensures { result ≡ position (λ (row : HookRow). bytes_eq row.name.now name.now) rows.now }
 {

@@ -1,4 +1,4 @@
--- The text of a character inside a string: it is one unit there, and stands for the character.
+-- The text of a character inside a string is one unit there, and denotes the character.
 use Rattle.std.proofs.Common.{◌≡◌, ◌<◌, ◌+◌, ◌*◌, ◌/◌, ◌%◌, ℕ, zero, suc, Bool, true, false, List, [], ◌∷◌, ◌++◌, length, refl, ap, sym, ◌∙◌, subst, arith, append_assoc, ◌==◌, ◌&&◌, nat_le, nat_lt, if◌then◌else◌, Option, Some}
 use Rattle.std.proofs.lemmas.Bool.Decides.{nat_tests}
 use Rattle.std.proofs.lemmas.List.{length-append}
@@ -13,7 +13,7 @@ use Rattle.kore_lex.specs.Value.{plain}
 use Rattle.kore_lex.proofs.Runs.{further-none, further-sum}
 use Rattle.kore_print.specs.TokenText.{hexadecimal, numbered_text, character_text}
 
--- 16 to this power
+-- 16 to the power of k
 abbrev sixteens : ℕ → ℕ
 sixteens zero = 1
 sixteens (suc k) = 16 * sixteens k
@@ -21,7 +21,7 @@ sixteens (suc k) = 16 * sixteens k
 digit-back : (d : ℕ) → d < 16 → hex_digit (digit_char d) ≡ Some d
 digit-back d h = grind (arith, nat_tests)
 
--- the digits of a number read as the number
+-- the digits of a number are read as the number
 hex-read : (k j c : ℕ) (r : List ℕ) → c < sixteens k → hex_number (k + j) 0 (hexadecimal k c ++ r) ≡ hex_number j c r
 unfolding hex_number
 hex-read zero j c r h =
@@ -40,7 +40,7 @@ hex-read (suc k) j c r h =
     ∙ ap (λ (o : Option ℕ). bind o (λ x. hex_number j (16 * (c / 16) + x) r)) (digit-back (c % 16) m)
     ∙ ap (λ (n : ℕ). hex_number j n r) n
 
--- bytes of ASCII that are neither a quote nor a backslash
+-- ASCII bytes that are neither a quote nor a backslash
 abbrev AllPlain : List ℕ → Type 0
 AllPlain [] = Unit {0}
 AllPlain (c ∷ cs) = ((c == 34) ≡ false) × ((c == 92) ≡ false) × (c < 128) × AllPlain cs
@@ -84,7 +84,7 @@ plain-ascii : (ds : List ℕ) → AllPlain ds → IsAscii ds
 plain-ascii [] h = IsAscii-nil
 plain-ascii (d ∷ ds) h = IsAscii-cons d ds h.2 (plain-ascii ds h.3)
 
--- the text is one unit of a string, which stands for the character
+-- the text is one unit of a string, and denotes the character
 pub record Stands (c : ℕ) (w : List ℕ) : Type 0 where
   pub quoted : (r : List ℕ) → quote_len 0 (w ++ r) ≡ further (length w) (quote_len 0 r)
   pub good : (r : List ℕ) → bad_at 0 (w ++ r) ≡ further (length w) (bad_at 0 r)
@@ -159,7 +159,7 @@ stands-by-number c s =
     (λ h. stands-numbered 117 4 c (omega arith) (λ r. refl) (below c 65536 h) s)
     (λ h. stands-numbered 85 8 c (omega arith) (λ r. refl) (scalar-small c s) s))
 
--- each character's text stands for it
+-- the text of each character denotes the character
 pub stands : (c : ℕ) → scalar c ≡ true → Stands c (character_text c)
 unfolding character_text escape
 stands c s =

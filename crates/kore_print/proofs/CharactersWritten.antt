@@ -4,7 +4,7 @@ use Rattle.std.proofs.lemmas.Str.{chars_past_char, chars-nil}
 use Rattle.std.specs.Char.{encode_utf8}
 use Rattle.kore_print.specs.TokenText.{character_text, characters_text}
 
--- a character was added, and the whole is as before what is written and what is left
+-- a character was added, and what is written and what is left together are as before
 pub character_added : (c : ℕ) (old new left rest whole : List ℕ) → IsUtf8 left → left ≡ encode_utf8 c ++ rest → new ≡ old ++ character_text c
     → old ++ (characters_text (chars left) ++ (34 ∷ [])) ≡ whole → new ++ (characters_text (chars rest) ++ (34 ∷ [])) ≡ whole
 character_added c old new left rest whole u s h w =

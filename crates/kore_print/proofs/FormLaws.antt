@@ -1,4 +1,4 @@
--- What is written for each form of a sort and of a pattern is written for it.
+-- What is written for each form of a sort or a pattern is its spelling.
 use Rattle.std.proofs.Common.{◌≡◌, ℕ, Bool, false, List, [], ◌∷◌, ◌++◌, map, Some, refl, ap, sym, ◌∙◌, subst, Vec, Global}
 use Rattle.std.specs.Global.{Box}
 use Rattle.kore_text.specs.declared.names.Op.{Op}
@@ -20,7 +20,7 @@ use Rattle.kore_print.specs.CanonicalText.{text_of}
 use Rattle.kore_print.specs.Writing.{Writes, spell_in_parentheses, spell_head}
 use Rattle.kore_print.proofs.Written.{part_first, part_last, spell_sorts_trees, spell_patterns_trees}
 
--- what has the text of a tree is written for each value that is the tree
+-- If the text of a tree was written, it was written for each value that is the tree.
 
 sort-is : (s : Sort) (f : SortForm) (t : SortTree) → s.form ≡ f → plain_sort (record { at = s.at; form = f }) ≡ t → t ≡ plain_sort s
 sort-is s f t h e = sym (ap (λ (f : SortForm). plain_sort (record { at = s.at; form = f })) h ∙ e)
@@ -38,7 +38,7 @@ same-sort-text : (spell : Spelling) (s : SortTree) (t : SortTree) (old new : Lis
 same-sort-text spell s t old new same is h =
     λ k. h k ∙ ap (λ (x : List ℕ). old ++ x) (same k ∙ ap (λ (u : SortTree). text_of (spell_sort u k)) is)
 
--- a token's text was added, and then the rest
+-- the text of a token was added, and then the rest
 pub token_first : (t : Token) (part : List ℕ) (f : Spelling) (old mid new : List ℕ) → part ≡ token_text t → mid ≡ old ++ part → Writes f mid new → Writes (λ k. any t ∷ f k) old new
 token_first t part f old mid new p m w =
     λ k. part_first (token_text t) old mid new (text_of (f k)) (text_of k) (m ∙ ap (λ (x : List ℕ). old ++ x) p) (w k)
@@ -98,7 +98,7 @@ written_connective p o ss ps xs ys old mid new h x y v w =
     (pattern-is p (form.Built o ss ps) t h (plain-pattern-Built p.at o ss ps))
     (λ k. w k ∙ v (spell_in_parentheses (map plain_pattern ys) k))
 
--- what a binder binds, and its body, in parentheses
+-- the variable and the body of a binder, in parentheses
 abbrev bound : PatternTree → PatternTree → Spelling
 bound x q k = any (mark 40) ∷ spell_pattern false x (any (mark 44) ∷ spell_pattern false q (any (mark 41) ∷ k))
 

@@ -1,7 +1,7 @@
--- What a string's text stands for.
+-- What the text of a string denotes.
 pub mod CharacterLaws
 pub mod StringTexts
--- The tokens of the text of a spelling.
+-- The tokens in the text of a spelling.
 pub mod TokenPieces
 pub mod SpelledStreams
 pub mod PartedPatterns

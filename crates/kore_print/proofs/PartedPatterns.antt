@@ -1,11 +1,11 @@
--- In the spelling of a pattern each token may stand in front of what follows it.
+-- In the spelling of a pattern, each token may be followed by what follows it.
 use Rattle.std.proofs.Common.{◌≡◌, ℕ, Bool, true, false, List, [], ◌∷◌, refl, ◌==◌}
 use Rattle.kore_text.specs.Trees.{SortTree, sort_parameter, sort_applied, SortTrees, no_sorts, sort_then, PatternTree, element_variable, set_variable, string, symbol_applied, connected, binding, domain_value, folded, PatternTrees, no_patterns, pattern_then}
 use Rattle.kore_text.specs.TokenStream.{mark}
 use Rattle.kore_text.specs.Grammar.{Want, Spelling, listed, more_listed, spell_sort, spell_sorts, spell_pattern, spell_patterns}
 use Rattle.kore_print.proofs.SpelledStreams.{is_marked, is_named, Suits, Parted}
 
--- it parts its tokens, where no token but a mark follows
+-- a spelling parts its tokens if only a mark follows it
 abbrev Parts : Spelling → Type 0
 Parts f = (k : List Want) → is_marked k ≡ true → Parted k → Parted (f k)
 

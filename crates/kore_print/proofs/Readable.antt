@@ -1,4 +1,4 @@
--- Only what can be read is spelled by a text.
+-- A text spells only patterns that can be read.
 use Rattle.std.proofs.Common.{◌≡◌, ◌≤◌, ℕ, Bool, false, ◌==◌, ◌&&◌, List, [], ◌∷◌, Some, refl, ap, sym, ◌∙◌, subst}
 use Rattle.kore_text.specs.declared.names.Op.{Op}
 use Rattle.kore_text.specs.declared.names.Built.TheVariants.{Connective, Binding, Value, Fold}
@@ -11,7 +11,7 @@ use Rattle.kore_print.specs.PrintLaws.{ReadIsReadable, IsReadable, CanStand, IsT
 use Rattle.kore_print.proofs.TextualStreams.{AllTextual, tokens-textual}
 use Rattle.kore_print.proofs.Unplacing.{sorts-counted, patterns-counted, variable-kept, foldable-kept}
 
--- the same wishes at any places
+-- the same wants, at any places
 abbrev bare : List Want → List Want
 bare [] = []
 bare (given b ∷ ws) = given b ∷ bare ws
@@ -94,7 +94,7 @@ from-bare (given b ∷ ws) n h = (h.0, from-bare ws n h.1)
 from-bare (placed p t ∷ ws) n h = (h.0, h.1, from-bare ws (opened t n) h.2)
 from-bare (any t ∷ ws) n h = (h.0, h.1, from-bare ws (opened t n) h.2)
 
--- a token of the text is one that can stand in it
+-- a token of the text can occur in a text
 taken-one : (t u : Token) (n : ℕ) (s : Stream) (R : ℕ → Type 0) → u ≡ t → IsTextual u → opened u n ≤ 500 → IsShallow (opened u n) s
     → (IsShallow (opened t n) s → R (opened t n)) → IsTextual t × (opened t n ≤ 500) × R (opened t n)
 taken-one t u n s R e x o d go =
@@ -112,7 +112,7 @@ taken-stand (any t ∷ ws) n (fault y) e h d x = absurd h
 taken-stand (any t ∷ ws) n (token u q s) e h d x =
     taken-one t u n s (λ m. CanStand m ws) h.0 x.0 d.0 d.1 (λ c. taken-stand ws (opened t n) s e h.1 c x.1)
 
--- whether it can be read is no matter of places
+-- whether a pattern can be read does not depend on places
 readable-same : (p q : PatternTree) → unplaced q ≡ unplaced p → IsReadable q → IsReadable p
 readable-same p q h r =
     let e : bare (spell_pattern false q []) ≡ bare (spell_pattern false p []) =

@@ -1,5 +1,5 @@
--- The wished tokens of a pattern's spelling, wherever they stand, spell the pattern with the places
--- at which they stand.
+-- The wanted tokens of a pattern's spelling, wherever they are, spell the pattern with the places
+-- of these tokens.
 use Rattle.std.proofs.Common.{◌≡◌, ℕ, Bool, ◌+◌, ◌==◌, ◌&&◌, IsTrue, List, [], ◌∷◌, length, Some, refl, ap, ◌∙◌}
 use Rattle.kore_text.specs.declared.names.Op.{Op}
 use Rattle.kore_text.specs.declared.names.Binder.{Binder}
@@ -13,7 +13,7 @@ use Rattle.kore_print.specs.PrintLaws.{CanStand}
 use Rattle.kore_print.proofs.SpelledStreams.{stream_of}
 use Rattle.kore_print.proofs.Unplacing.{sort-counts, pattern-counts, variables, foldables}
 
--- the conditions among the wishes hold
+-- the conditions among the wants hold
 abbrev pub Holds : List Want → Type 0
 Holds [] = Unit {0}
 Holds (given b ∷ ws) = IsTrue b × Holds ws
@@ -26,7 +26,7 @@ stand-holds (given b ∷ ws) n h = (h.0, stand-holds ws n h.1)
 stand-holds (placed p t ∷ ws) n h = stand-holds ws _ h.2
 stand-holds (any t ∷ ws) n h = stand-holds ws _ h.2
 
--- the wishes of a thing, from a place on and in front of others, spell it with other places
+-- the wants of a tree, from a place and before other wants, spell the tree with other places
 pub record Settled {T : Type 0} (spell : T → Spelling) (bare : T → T) (x : T) (k : List Want) (at : ℕ) : Type 0 where
   pub to : T
   pub same : bare to ≡ bare x

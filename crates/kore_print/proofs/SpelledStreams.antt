@@ -1,4 +1,4 @@
--- The tokens of a text that is made of wishes: the wished tokens, each at its place.
+-- The tokens of a text that consists of wanted tokens: these tokens, each at its place.
 use Rattle.std.proofs.Common.{◌≡◌, ◌+◌, ℕ, Bool, true, false, List, [], ◌∷◌, ◌++◌, length, drop, refl, ap, ◌∙◌, arith, ◌==◌, ◌&&◌, ◌||◌, not, Some, None}
 use Rattle.std.proofs.lemmas.Bool.Decides.{nat_tests}
 use Rattle.kore_lex.specs.Pieces.{piece, is_letter, is_word, is_mark}
@@ -14,14 +14,14 @@ use Rattle.kore_print.specs.PrintLaws.{CanStand, IsTextual}
 use Rattle.kore_lex.proofs.WholePieces.{begins_word, begins_equals}
 use Rattle.kore_print.proofs.TokenPieces.{IsApart, token-cut, behind-token}
 
--- the wished tokens from a place on, each after the text of those in front of it
+-- the wanted tokens from a place, each after the text of the tokens before it
 abbrev pub stream_of : ℕ → List Want → Stream
 stream_of at [] = end at
 stream_of at (given b ∷ ws) = stream_of at ws
 stream_of at (placed p t ∷ ws) = token t at (stream_of (at + length (token_text t)) ws)
 stream_of at (any t ∷ ws) = token t at (stream_of (at + length (token_text t)) ws)
 
--- no token but a mark is wished next
+-- the next want is a mark, or there is none
 abbrev pub is_marked : List Want → Bool
 is_marked [] = true
 is_marked (given b ∷ ws) = is_marked ws
@@ -29,14 +29,14 @@ is_marked (placed p (mark c) ∷ ws) = true
 is_marked (any (mark c) ∷ ws) = true
 is_marked _ = false
 
--- an identifier is wished next
+-- the next want is an identifier
 abbrev pub is_named : List Want → Bool
 is_named (given b ∷ ws) = is_named ws
 is_named (placed p (identifier n) ∷ ws) = true
 is_named (any (identifier n) ∷ ws) = true
 is_named _ = false
 
--- the wishes may follow the token
+-- the wants may follow the token
 abbrev pub Suits : Token → List Want → Type 0
 Suits (identifier n) ws = is_marked ws ≡ true
 Suits (set_identifier n) ws = is_marked ws ≡ true
@@ -46,7 +46,7 @@ Suits (string_token t) ws = Unit {0}
 Suits (mark c) ws = (not (c == 58) || is_named ws) ≡ true
 Suits assign ws = Unit {0}
 
--- each token may stand in front of what follows it
+-- each token may be followed by what follows it
 abbrev pub Parted : List Want → Type 0
 Parted [] = Unit {0}
 Parted (given b ∷ ws) = Parted ws
@@ -119,7 +119,7 @@ one-token t ws whole n at x h s d go =
     let i : ℕ = at + length (token_text t) in
     token-cut t (text_of ws) whole at x (suits-apart t ws n s h) d ∙ ap (token t at) (go i (behind-token t (text_of ws) whole at d))
 
--- the text of wishes has the wished tokens
+-- the text of wants has the wanted tokens
 pub spelled-stream : (ws : List Want) (whole : List ℕ) (n at : ℕ) → CanStand n ws → Parted ws → drop at whole ≡ text_of ws
     → named whole (lexed at (text_of ws)) ≡ stream_of at ws
 spelled-stream [] whole n at h s d = nothing-left whole at
@@ -133,7 +133,7 @@ pub tokens-spelled : (ws : List Want) (n : ℕ) → CanStand n ws → Parted ws 
 unfolding tokens_of
 tokens-spelled ws n h s = spelled-stream ws (text_of ws) n 0 h s refl
 
--- few brackets are open among them
+-- few brackets are open in these tokens
 pub spelled-shallow : (ws : List Want) (n at : ℕ) → CanStand n ws → IsShallow n (stream_of at ws)
 spelled-shallow [] n at h = tt
 spelled-shallow (given b ∷ ws) n at h = spelled-shallow ws n at h.1

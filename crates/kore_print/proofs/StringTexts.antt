@@ -1,4 +1,4 @@
--- The text of a string: it is one token of Kore text, and its value is the string.
+-- The text of a string is one token of Kore text, and the value of this token is the string.
 use Rattle.std.proofs.Common.{◌≡◌, ◌+◌, ◌-◌, ℕ, true, List, [], ◌∷◌, ◌++◌, length, take, refl, ap, sym, ◌∙◌, arith, append_assoc, None, chars, encode_utf8_all}
 use Rattle.std.proofs.lemmas.List.{length-append}
 use Rattle.std.proofs.Math.Seq.{take-append_seam}
@@ -51,7 +51,7 @@ all-ascii (c ∷ cs) s =
     let u : Stands c (character_text c) = stands c p.0 in
     IsAscii-append (character_text c) (characters_text cs) u.ascii (all-ascii cs p.1)
 
--- a quote, characters that stand for a text, and a quote, in front of anything
+-- a quote, the texts of characters, and a quote, before anything
 closed-piece : (cs r : List ℕ) → scalars cs ≡ true → piece (34 ∷ (characters_text cs ++ (34 ∷ r))) ≡ whole Text (length (characters_text cs) + 2)
 unfolding quote_len
 closed-piece cs r s =
@@ -62,7 +62,7 @@ closed-piece cs r s =
 length-quoted : (w : List ℕ) → length (34 ∷ (w ++ (34 ∷ []))) ≡ length w + 2
 length-quoted w = let e : length (w ++ (34 ∷ [])) ≡ length w + 1 = length-append w (34 ∷ []) in omega (arith, e)
 
--- the text of a string is cut off whole
+-- the text of a string is cut off as one piece
 pub text-piece : (t r : List ℕ) → IsUtf8 t → piece (string_text t ++ r) ≡ whole Text (length (string_text t))
 text-piece t r u =
     let cs : List ℕ = chars t in
@@ -71,7 +71,7 @@ text-piece t r u =
     ap (λ (bs : List ℕ). piece (34 ∷ bs)) (append_assoc w (34 ∷ []) r)
     ∙ closed-piece cs r s ∙ ap (whole Text) (sym (length-quoted w))
 
--- .. and stands for it
+-- the text of a string denotes the string
 pub text-value : (t : List ℕ) → IsUtf8 t → value (string_text t) ≡ t
 text-value t u =
     let cs : List ℕ = chars t in

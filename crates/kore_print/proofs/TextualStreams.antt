@@ -1,4 +1,4 @@
--- The tokens of a text can stand in a text.
+-- The tokens of a text can occur in a text.
 use Rattle.std.proofs.Common.{◌≡◌, ◌≢◌, ◌-◌, ℕ, true, List, [], ◌∷◌, take, drop, refl, sym, subst}
 use Rattle.kore_lex.specs.declared.lexer.TokenKind.{TokenKind}
 use Rattle.kore_lex.specs.declared.lexer.TokenKind.TheVariants as kind
@@ -11,7 +11,7 @@ use Rattle.kore_text.specs.TokenStream.{Stream, end, fault, token, token_of, nam
 use Rattle.kore_print.specs.PrintLaws.{IsTextual}
 use Rattle.kore_print.proofs.TokenPieces.{named-token}
 
--- each token can stand in a text
+-- each token can occur in a text
 abbrev pub AllTextual : Stream → Type 0
 AllTextual (end e) = Unit {0}
 AllTextual (fault e) = Unit {0}

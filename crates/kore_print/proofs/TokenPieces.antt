@@ -1,4 +1,4 @@
--- Each token's canonical text is cut off as that token, in front of what it is apart from.
+-- The canonical text of a token is cut off as that token if what follows may follow it.
 use Rattle.std.proofs.Common.{◌≡◌, ◌≢◌, ◌+◌, ◌-◌, ℕ, Bool, true, false, List, [], ◌∷◌, ◌++◌, length, take, drop, refl, ap, sym, ◌∙◌, arith, ◌==◌, ◌&&◌, if◌then◌else◌, Some, None}
 use Rattle.std.proofs.lemmas.List.{drop-drop}
 use Rattle.std.proofs.Math.Seq.{take-append_seam, drop-append_seam}
@@ -103,7 +103,7 @@ kind_of (string_token t) = kind.Text
 kind_of (mark c) = kind.Punct c
 kind_of assign = kind.Assign
 
--- a token's text is cut off whole
+-- the text of a token is cut off as one piece
 token-piece : (t : Token) (r : List ℕ) → IsTextual t → IsApart t r → piece (token_text t ++ r) ≡ whole (kind_of t) (length (token_text t))
 token-piece (identifier n) r h a = name-piece n r h a
 token-piece (set_identifier n) r h a = set-piece n r h a
@@ -113,7 +113,7 @@ token-piece (string_token t) r h a = text-piece t r h
 token-piece (mark c) r h a = mark-piece c r h a
 token-piece assign r h a = assign-piece r
 
--- .. and is the text of that token
+-- the text of a token is read as that token
 token-back : (t : Token) (r : List ℕ) → IsTextual t → IsApart t r → token_of (kind_of t) (token_text t) ≡ t
 token-back (identifier n) r h a = refl
 token-back (set_identifier n) r h a = refl
@@ -141,7 +141,7 @@ kind-no-end (string_token t) = λ e. cc
 kind-no-end (mark c) = λ e. cc
 kind-no-end assign = λ e. cc
 
--- a token's text at a place of a text is that token there, and then what follows
+-- if the text of a token is at a place of a text, that token is there, followed by the rest
 pub token-cut : (t : Token) (r whole : List ℕ) (at : ℕ) → IsTextual t → IsApart t r → drop at whole ≡ token_text t ++ r
     → named_stream whole (lexed at (token_text t ++ r)) ≡ token t at (named_stream whole (lexed (at + length (token_text t)) r))
 token-cut t r whole at h a d =
@@ -155,7 +155,7 @@ token-cut t r whole at h a d =
     ∙ named-token whole (kind_of t) at (at + n) (lexed (at + n) r) (kind-no-end t)
     ∙ ap (λ (u : Token). token u at (named_stream whole (lexed (at + n) r))) (ap (token_of (kind_of t)) b ∙ token-back t r h a)
 
--- what follows it stands after it
+-- the rest is after the token
 pub behind-token : (t : Token) (r whole : List ℕ) (at : ℕ) → drop at whole ≡ token_text t ++ r → drop (at + length (token_text t)) whole ≡ r
 behind-token t r whole at d =
     sym (drop-drop (length (token_text t)) at whole) ∙ ap (drop (length (token_text t))) d ∙ drop-append_seam (token_text t) r

@@ -1,4 +1,4 @@
--- What a tree has without its places.
+-- What does not depend on the places of a tree.
 use Rattle.std.proofs.Common.{◌≡◌, suc, Bool, true, false, ◌&&◌, refl, ap, sym, ◌∙◌}
 use Rattle.kore_text.specs.Trees.{SortTrees, no_sorts, sort_then, sort_count, PatternTree, element_variable, set_variable, string, symbol_applied, connected, binding, domain_value, folded, PatternTrees, no_patterns, pattern_then, pattern_count}
 use Rattle.kore_text.specs.Grammar.{is_variable, is_foldable, is_associative, is_some}
@@ -44,7 +44,7 @@ foldable-kept (binding at o ss x p) = refl
 foldable-kept (domain_value at s t place) = refl
 foldable-kept (folded at left p) = refl
 
--- where two trees are the same but for places, these are the same
+-- Two trees that differ only in places have the same properties.
 
 pub sort-counts : (a b : SortTrees) → unplaced_sorts a ≡ unplaced_sorts b → sort_count a ≡ sort_count b
 sort-counts a b h = sym (sorts-counted a) ∙ ap sort_count h ∙ sorts-counted b

@@ -7,15 +7,15 @@ use Rattle.kore_text.specs.Grammar.{Want, Spelling, listed, more_listed, spell_s
 use Rattle.kore_print.specs.CanonicalText.{text_of}
 use Rattle.kore_print.specs.Writing.{Writes, comma_after, listed_after}
 
--- a part was added, and then the rest, in front of what follows
+-- a part was added, and then the rest, before what follows
 pub part_first : (part old mid new rest last : List ℕ) → mid ≡ old ++ part → new ++ last ≡ mid ++ rest → new ++ last ≡ old ++ (part ++ rest)
 part_first part old mid new rest last h g = g ∙ ap (λ (t : List ℕ). t ++ rest) h ∙ append_assoc old part rest
 
--- a part was added last
+-- the last part was added
 pub part_last : (part old new last : List ℕ) → new ≡ old ++ part → new ++ last ≡ old ++ (part ++ last)
 part_last part old new last h = ap (λ (t : List ℕ). t ++ last) h ∙ append_assoc old part last
 
--- what follows from a result where it is there
+-- what follows from a successful result
 pub on_ok : {E : Type 0} (r : Result (Unit {0}) E) (P Q : Type 0) → OnOk r P → (P → Q) → OnOk r Q
 on_ok (Ok u) P Q h go = go h
 on_ok (Err e) P Q h go = tt
@@ -43,7 +43,7 @@ item-more f fs (suc i) close k = refl
 after-some : (i : ℕ) (fs : List Spelling) (close : ℕ) (k : List Want) → text_of (listed_after (i + 1) fs close k) ≡ text_of (more_listed fs close k)
 after-some i fs close k = let e : i + 1 ≡ suc i = omega arith in ap (λ (n : ℕ). text_of (listed_after n fs close k)) e
 
--- an item was added after its comma, and the list is as before what is written and what is left
+-- an item was added after its comma, and what is written and what is left together are as before
 pub item_written : {T : Type 0} (spell : T → Spelling) (xs : List T) (x : T) (i close : ℕ) (old comma new : List ℕ)
     → drop i xs ≡ x ∷ drop (i + 1) xs → comma ≡ old ++ comma_after i → Writes (spell x) comma new
     → (k : List Want) → new ++ text_of (listed_after (i + 1) (map spell (drop (i + 1) xs)) close k) ≡ old ++ text_of (listed_after i (map spell (drop i xs)) close k)

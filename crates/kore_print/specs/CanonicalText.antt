@@ -1,5 +1,5 @@
--- The canonical text of a pattern: the tokens of its spelling, each in its canonical text, with
--- nothing between two of them.
+-- The canonical text of a pattern: the canonical texts of the tokens of its spelling, with nothing
+-- between two of them.
 use Rattle.std.specs.Prelude.{ℕ, false, List, [], ◌∷◌, ◌++◌}
 use Rattle.kore_text.specs.Trees.{PatternTree}
 use Rattle.kore_text.specs.Grammar.{Want, placed, any, given, spell_pattern}

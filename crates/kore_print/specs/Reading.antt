@@ -1,4 +1,4 @@
--- Which texts read as a pattern, but for places.
+-- Which texts read as a pattern, except for places.
 use Rattle.std.specs.Prelude.{◌≡◌, ℕ, List}
 use Rattle.kore_text.specs.Trees.{SortTree, sort_parameter, sort_applied, SortTrees, no_sorts, sort_then, PatternTree, element_variable, set_variable, string, symbol_applied, connected, binding, domain_value, folded, PatternTrees, no_patterns, pattern_then}
 use Rattle.kore_ast.specs.KoreText.{ReadsPattern}
@@ -28,6 +28,6 @@ abbrev mutual
   unplaced_patterns no_patterns = no_patterns
   unplaced_patterns (pattern_then p ps) = pattern_then (unplaced p) (unplaced_patterns ps)
 
--- the bytes spell this pattern, but for places
+-- the bytes spell this pattern, except for places
 abbrev pub ReadsAs : List ℕ → PatternTree → Type 0
 ReadsAs bytes p = (q : PatternTree) × (unplaced q ≡ unplaced p) × ReadsPattern bytes q

@@ -10,12 +10,12 @@ use Rattle.kore_text.specs.declared.names.Built.{Built}
 use Rattle.kore_text.specs.declared.names.Built.TheVariants.{Connective, Binding, Value, Fold}
 use Rattle.kore_text.specs.TokenStream.{Token, identifier, set_identifier, builtin, string_token, mark, assign}
 
--- so many of the number's last hexadecimal digits, in lower case
+-- the last hexadecimal digits of a number, in lower case; the first argument is how many
 abbrev pub hexadecimal : ℕ → ℕ → List ℕ
 hexadecimal zero n = []
 hexadecimal (suc k) n = hexadecimal k (n / 16) ++ (digit_char (n % 16) ∷ [])
 
--- a character by its number, in as few digits as there may be
+-- the escape of a character by its number, in 2, 4 or 8 hexadecimal digits, as few as possible
 abbrev pub numbered_text : ℕ → List ℕ
 numbered_text c =
     if nat_lt c 256 then codes "\\x" ++ hexadecimal 2 c
@@ -40,7 +40,7 @@ abbrev pub characters_text : List ℕ → List ℕ
 characters_text [] = []
 characters_text (c ∷ cs) = character_text c ++ characters_text cs
 
--- a string with its quotes
+-- a string in its quotes
 abbrev pub string_text : List ℕ → List ℕ
 string_text t = 34 ∷ (characters_text (chars t) ++ (34 ∷ []))
 
@@ -65,7 +65,7 @@ binder_name binder.Forall = codes "forall"
 binder_name binder.Mu = codes "mu"
 binder_name binder.Nu = codes "nu"
 
--- the name of a built-in thing, after its backslash
+-- the name of a built-in, without its backslash
 abbrev pub built_name : Built → List ℕ
 built_name (Connective o) = op_name o
 built_name (Binding o) = binder_name o
@@ -73,7 +73,7 @@ built_name Value = codes "dv"
 built_name (Fold true) = codes "left-assoc"
 built_name (Fold false) = codes "right-assoc"
 
--- a token; a built-in name that stands for nothing has no text
+-- the text of a token; a built-in token without a built-in has no text
 abbrev pub token_text : Token → List ℕ
 token_text (identifier n) = n
 token_text (set_identifier n) = 64 ∷ n

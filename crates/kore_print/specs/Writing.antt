@@ -1,20 +1,20 @@
--- What the private functions say of the text that they write: cited by their clauses alone.
+-- What the private functions say of the text that they write. Only their clauses cite it.
 use Rattle.std.specs.Prelude.{◌≡◌, ℕ, zero, suc, false, List, [], ◌∷◌, ◌++◌, map}
 use Rattle.kore_text.specs.TokenStream.{Token, mark}
 use Rattle.kore_text.specs.Trees.{SortTree, PatternTree}
 use Rattle.kore_text.specs.Grammar.{Want, any, Spelling, listed, more_listed, spell_sort, spell_pattern}
 use Rattle.kore_print.specs.CanonicalText.{text_of}
 
--- what is spelled so was added, whatever follows it
+-- what `spell` spells was added, whatever follows it
 abbrev pub Writes : Spelling → List ℕ → List ℕ → Type 0
 Writes spell old new = (k : List Want) → new ++ text_of k ≡ old ++ text_of (spell k)
 
--- what stands in front of an item that comes after so many others
+-- what is before an item that comes after n others
 abbrev pub comma_after : ℕ → List ℕ
 comma_after zero = []
 comma_after (suc i) = 44 ∷ []
 
--- what is left of a list, after so many items
+-- the rest of a list after n items
 abbrev pub listed_after : ℕ → List Spelling → ℕ → Spelling
 listed_after zero fs close = listed fs close
 listed_after (suc i) fs close = more_listed fs close

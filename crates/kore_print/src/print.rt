@@ -14,9 +14,9 @@ use kore_ast::{Binder, Op, Pat, PatForm, Sort, SortForm, Text};
 use kore_text::Built;
 use std::alloc::{AllocError, Global};
 
-/// The canonical text of a pattern. It takes a time linear in the text. Nothing recurses but for
-/// the nesting of the pattern and of its sorts, which is at most 500 in what can be read; lists are
-/// gone through in loops.
+/// The canonical text of a pattern. `AllocError`: out of memory. The time is linear in the length
+/// of the text. The recursion is only as deep as the nesting of the pattern and of its sorts, which
+/// is at most 500 in a pattern that can be read. Lists are written by loops.
 pub fn print_pattern(alloc: Global, pat: &Pat) -> Result<String, AllocError>
     ensures { IfOk result (λ text. string_bytes text ≡ canonical_text (plain_pattern pat.now)) }
 {
@@ -145,7 +145,7 @@ fn push_sorts(text: &mut String, sorts: &[Sort]) -> Result<(), AllocError>
     text.push_str("}")
 }
 
-/// Adds what stands in front of an item that comes after so many others.
+/// Adds what is before an item that comes after `others` others.
 fn push_comma(text: &mut String, others: usize) -> Result<(), AllocError>
     ensures { OnOk result (string_bytes text.new ≡ string_bytes text.old ++ comma_after others) }
 {
@@ -163,7 +163,7 @@ fn push_name(text: &mut String, built: Built) -> Result<(), AllocError>
     text.push_str(name_of(built))
 }
 
-/// The name of a built-in thing.
+/// The name of a built-in.
 fn name_of(built: Built) -> &'static str
     ensures { result.now ≡ built_name built }
 {

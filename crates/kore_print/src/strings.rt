@@ -6,7 +6,7 @@ ghost use Rattle.kore_print.specs.TokenText.{hexadecimal, numbered_text, charact
 
 use std::alloc::AllocError;
 
-/// Adds a string of this content, with its quotes.
+/// Adds the string with this content, in its quotes.
 pub(crate) fn push_string(text: &mut String, content: &str) -> Result<(), AllocError>
     ensures { OnOk result (string_bytes text.new ≡ string_bytes text.old ++ string_text content.now) }
 {
@@ -17,14 +17,14 @@ pub(crate) fn push_string(text: &mut String, content: &str) -> Result<(), AllocE
     text.push_str("\"")
 }
 
-/// Whether the character is one from the space to the tilde.
+/// Whether the character is in the range from the space to the tilde.
 fn is_printable(character: char) -> bool
     ensures { result ≡ (nat_le 32 character && nat_le character 126) }
 {
     ' ' <= character && character <= '~'
 }
 
-/// Adds a character as it stands inside a string.
+/// Adds a character as it is written inside a string.
 #[tactic(auto, unfolding(crate::specs::TokenText::character_text))]
 fn push_character(text: &mut String, character: char) -> Result<(), AllocError>
     ensures { OnOk result (string_bytes text.new ≡ string_bytes text.old ++ character_text character) }
@@ -41,7 +41,7 @@ fn push_character(text: &mut String, character: char) -> Result<(), AllocError>
     }
 }
 
-/// Adds an escape by the number of a character.
+/// Adds the escape of a character by its number.
 fn push_numbered(text: &mut String, number: u32) -> Result<(), AllocError>
     ensures { OnOk result (string_bytes text.new ≡ string_bytes text.old ++ numbered_text number) }
 {
@@ -57,7 +57,7 @@ fn push_numbered(text: &mut String, number: u32) -> Result<(), AllocError>
     }
 }
 
-/// Adds so many of the last hexadecimal digits of a number.
+/// Adds the last `digits` hexadecimal digits of a number.
 fn push_hexadecimal(text: &mut String, digits: usize, number: u32) -> Result<(), AllocError>
     ensures { OnOk result (string_bytes text.new ≡ string_bytes text.old ++ hexadecimal digits number) }
 {

@@ -1,4 +1,4 @@
--- What is said of a call, by what came of it.
+-- What holds of a call, for each of its results.
 use Rattle.std.proofs.Common.{◌≡◌, ℕ, ◌⊎◌, inl, inr, List, Option, Some, None, refl, ◌∙◌, ap, subst, arith}
 use Rattle.desk_io.specs.Told.{Told, KeepsFiles}
 use Rattle.desk_io.specs.Sent.{SameBytes}
@@ -24,7 +24,7 @@ use Rattle.kore_prove.proofs.FileProofs.{some_same, kept_others, fewer_others, k
 use Rattle.kore_prove.proofs.Drills.{drilled_front}
 use Rattle.kore_prove.proofs.Performing.{left_front, proof_is_front}
 
--- the code of a run is one of three
+-- the code of a run is one of three codes
 run_code : (run : Run) (code : ℕ) → code ≡ code_of run → (code ≡ 0) ⊎ (code ≡ 10) ⊎ (code ≡ 11)
 run_code (stuck n t) code is = inl is
 run_code (limited n t) code is = inr (inl is)
@@ -44,7 +44,7 @@ more_code code (inr (inr h)) = inr (inr (inl h))
 wanted_proof : (proof : Option (List ℕ)) (file : List ℕ) (c : Course) (asked : RunRequest) (run : Run) (done : IsRunDone asked c run) → asked.proof ≡ Some file → HoldsProof c.told c.told' file done.theory done.start run
 wanted_proof proof file c asked run done is = subst (λ (p : Option (List ℕ)). HasWantedProof p c.told c.told' done.theory done.start run) is done.proof
 
--- a proof that was left is the front of one, by whatever reading of the words
+-- a file that holds the front of a proof holds it for every reading of the words
 same_front : (asked asked' : RunRequest) (c : Course) → asked ≡ asked' → LeavesFront asked c.told c.told' → LeavesFront asked' c.told c.told'
 same_front asked asked' c same h = subst (λ (r : RunRequest). LeavesFront r c.told c.told') same h
 
@@ -53,12 +53,12 @@ front_of_run asked c run done =
     let files = done.printed.of_files.files in
     left_front asked c.told c.told c.told' done.theory done.start files (same_files c.told) (proof_is_front asked.proof c.told c.told' done.theory done.start run done.proof)
 
--- words that do not ask for a verdict get none
+-- words that do not ask for a verdict get no verdict
 no_verdict : (words : List (List ℕ)) (told : Option Told) (before after : Option (List ℕ)) (code : ℕ) → IsNoVerify words → PrintsVerdict words told before after code
 no_verdict words None before after code unasked = tt
 no_verdict words (Some told) before after code unasked = λ file verify. absurd (unasked file verify)
 
--- words that do not ask for a drill get none
+-- words that do not ask for a drill get no drill
 no_drilled : (c : Call) (code : ℕ) → IsNoDrill c.words → Drills c.words c.course.told c.course.told' c.course.output c.course.output' code
 no_drilled c code unasked = λ _ asked command. absurd (unasked asked command)
 
@@ -114,7 +114,7 @@ run_ended c code asked e command ended said = record {
   files = unwritten e _ _ _ _ code c.course.told c.course.told' said ended.files;
 }
 
--- a verdict has not the code of a run
+-- the code of a verdict is not the code of a run
 verdict_no_run : (words : List (List ℕ)) (file : List ℕ) (v : Verdict) (code : ℕ) (P : Type 0) → IsVerify words file → code ≡ verdict_code v → IsCodeOfRun words code → P
 verdict_no_run words file v code P command is h = absurd (elim h [
   | inl ten ↦ elim (code_of_verdict v code is) [ inl zero ↦ omega (arith, ten, zero) | inr twelve ↦ omega (arith, ten, twelve) ]
@@ -143,7 +143,7 @@ verify_answered c code file v command printed kept is silent = record {
   files = λ _. kept;
 }
 
--- an end has not the code of a verdict
+-- the code of an end is not the code of a verdict
 ended_no_verdict : (words : List (List ℕ)) (told : Option Told) (output output' : Option (List ℕ)) (e : Ending) (before after : Option (List ℕ)) (old new code : ℕ) → Reports e before after old new code → PrintsVerdict words told output output' code
 ended_no_verdict words None output output' e before after old new code said = tt
 ended_no_verdict words (Some told) output output' e before after old new code said = λ file verify. (
@@ -168,7 +168,7 @@ verify_ended c code file e command cause output kept said = record {
   files = λ _. kept;
 }
 
--- a drill has not the code of a run
+-- the code of a drill is not the code of a run
 drill_no_run : (words : List (List ℕ)) (asked : DrillRequest) (code : ℕ) (P : Type 0) → IsDrill words asked → code ≡ 0 → IsCodeOfRun words code → P
 drill_no_run words asked code P command is (inl ten) = absurd (omega (arith, ten, is))
 drill_no_run words asked code P command is (inr (inl eleven)) = absurd (omega (arith, eleven, is))

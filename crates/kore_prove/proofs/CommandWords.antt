@@ -1,4 +1,4 @@
--- Words ask for one thing.
+-- Words ask for only one thing.
 use Rattle.std.proofs.Common.{◌≡◌, ℕ, List, [], ◌∷◌, length, Bool, true, false, Option, Some, refl, sym, ◌∙◌, ap, arith}
 use Rattle.std.proofs.lemmas.Slice.Eq.{bytes_eq-Decides}
 use Rattle.std.specs.Prelude.{codes}
@@ -43,7 +43,7 @@ verify_good words file h bad = never _ h.good bad.bad
 pub drill_good : (words : List (List ℕ)) (asked : DrillRequest) → IsDrill words asked → AreBad words → ⊥
 drill_good words asked h bad = never _ h.good bad.bad
 
--- names of two lengths are not one
+-- names of different lengths are different
 both_names : (a b word : List ℕ) → (length a ≡ length b → ⊥) → bytes_eq word a ≡ true → bytes_eq word b ≡ true → ⊥
 both_names a b word differ h k =
     let one : word ≡ a = (bytes_eq-Decides word a).0 h in
@@ -58,7 +58,7 @@ pub not_both : (words : List (List ℕ)) (asked : RunRequest) (file : List ℕ) 
 not_both words asked file h k =
     named_both (codes "run") (codes "verify") words (λ same. (let lengths : 3 ≡ 6 = same in omega (arith, lengths))) h.named k.named
 
--- words that ask for a run, or to verify, or that are bad, ask for no drill
+-- words that ask for a run or a verification, or that are bad, do not ask for a drill
 pub run_no_drill : (words : List (List ℕ)) (asked : RunRequest) → IsRun words asked → IsNoDrill words
 run_no_drill words asked h = λ drill k.
     named_both (codes "run") (codes "drill") words (λ same. (let lengths : 3 ≡ 5 = same in omega (arith, lengths))) h.named k.named

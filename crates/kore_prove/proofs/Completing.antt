@@ -1,4 +1,5 @@
--- A call that can run, or verify, or drill, and that nothing hinders ends as out of memory, if it does not come to that.
+-- If a call can run, verify or drill, and no fault is counted, it does so or ends because memory
+-- ran out.
 use Rattle.std.proofs.Common.{◌≡◌, ℕ, inl, inr, List, Option, None, Some, refl, subst}
 use Rattle.desk_io.specs.Told.{Told, Holds, Lacks, HoldsMore}
 use Rattle.desk_io.specs.Counts.{Rose}
@@ -13,7 +14,7 @@ use Rattle.kore_prove.specs.Readiness.{CanRun, CanVerify, CanDrill, IsReady, IsR
 use Rattle.kore_prove.proofs.CommandWords.{one_request, one_file, one_drill}
 use Rattle.kore_prove.proofs.Ending.{one_content, not_lacking, not_more}
 
--- the files that are asked for can be run
+-- the files of the request can be run
 record StandsFor (told : Told) (asked : RunRequest) : Type 0 where
   definition : List ℕ
   definition_held : HoldsWithin (Some told) asked.definition definition_limit definition
@@ -34,7 +35,7 @@ stands words told r asked command =
     } in
     subst (StandsFor told) (one_request words r.asked asked r.command command) own
 
--- the definition that stands is the one that is held
+-- a definition that was read from the file is this one
 held_accepted : (told : Told) (asked : RunRequest) (s : StandsFor told asked) (theory : RewriteTheory) (top : Option ℕ) → HoldsProgram (Some told) asked.definition theory top → IsAccepted s.definition theory top
 held_accepted told asked s theory top h =
     subst (λ (bytes : List ℕ). IsAccepted bytes theory top) (one_content told asked.definition h.bytes s.definition h.held.0 s.definition_held.0) h.accepted
@@ -53,7 +54,7 @@ no_read_cause told asked s reads reads' (term_refused number byte) free h =
 no_read_cause told asked s reads reads' (too_large name) free (inl h) = absurd (not_more told asked.definition name s.definition definition_limit h.0 s.definition_held.0 s.definition_held.1 h.1)
 no_read_cause told asked s reads reads' (too_large name) free (inr h) = absurd (not_more told asked.term name s.term term_limit h.0 s.term_held.0 s.term_held.1 h.2)
 
--- such a call has no end but running out of memory
+-- such a call can end only because memory ran out
 no_cause : (words : List (List ℕ)) (told : Told) (r : CanRun words told) (asked : RunRequest) (c : Course) (e : Ending) → c.told ≡ Some told → IsRun words asked → IsUnhindered c → RunCause asked c e → end_code e ≡ 1
 no_cause words told r asked c e is command free (inl h) =
     no_read_cause told asked (stands words told r asked command) c.reads c.reads' e free.reads (subst (λ (o : Option Told). ReadCause asked o c.reads c.reads' e) is h)
@@ -93,7 +94,7 @@ pub drill_ends_without_memory : (words : List (List ℕ)) (asked : DrillRequest)
 drill_ends_without_memory words asked c e ready command files writes cause =
     no_drill_cause words ready c e files writes (subst (λ (d : DrillRequest). DrillCause d.steps c e) (one_drill words asked ready.asked command ready.command) cause)
 
--- words that can run, or verify, ask for that
+-- words that can run or verify ask for that
 pub ready_run : (words : List (List ℕ)) (told : Option Told) → IsReady words told → (asked : RunRequest) × IsRun words asked
 ready_run words None ready = absurd ready
 ready_run words (Some told) ready = (ready.asked, ready.command)

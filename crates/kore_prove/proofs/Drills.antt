@@ -1,4 +1,4 @@
--- From the parts of a drill to what came of it.
+-- From the parts of a drill to its result.
 use Rattle.std.proofs.Common.{◌≡◌, ℕ, ◌+◌, ◌≤◌, ◌<◌, ◌^◌, arith, ◌⊎◌, inl, inr, List, ◌++◌, Option, refl, sym, ◌∙◌, ap, subst}
 use Rattle.desk_io.specs.Told.{Told, KeepsFiles}
 use Rattle.desk_io.specs.Counts.{Rose}
@@ -27,11 +27,11 @@ use Rattle.kore_prove.proofs.Ending.{same_files, kept_output, files_at}
 use Rattle.kore_prove.proofs.FileProofs.{kept_file, kept_others, proof_front}
 use Rattle.kore_prove.proofs.Performing.{fault_output, fault_files}
 
--- a MiB is less than what a text may have
+-- 1 MiB is less than the greatest length of a text
 pub few_bytes : (n : ℕ) → n ≤ 2 ^ 20 → n < 2 ^ 32
 few_bytes n h = omega (arith, h)
 
--- the texts of a drill that were accepted
+-- the texts of a drill were accepted
 pub texts_accepted : (steps : ℕ) (definition term : List ℕ) (theory : RewriteTheory) (top : Option ℕ) (start : Pattern) → definition ≡ drill_definition steps → term ≡ drill_term → IsAccepted definition theory top
     → IsAcceptedTerm theory.sig top term start → IsDrillProgram steps theory start
 texts_accepted steps definition term theory top start is is_term accepted accepted_term = record {
@@ -40,7 +40,7 @@ texts_accepted steps definition term theory top start is is_term accepted accept
   term = subst (λ (bytes : List ℕ). IsAcceptedTerm theory.sig top bytes start) is_term accepted_term;
 }
 
--- the line of the counts is that of the database
+-- the line of the counts is the one of the database
 counts_are : (database : List ℕ) (s : Summary) → IsSummaryOf database s → counts_line s.facts s.statements s.bytes ≡ counts_line_of database
 counts_are database s h =
     ap (λ (n : ℕ). counts_line n s.statements s.bytes) h.counts.facts_are
@@ -66,7 +66,7 @@ drill_made asked c theory start run lines s program h held others grew = record 
   others = others;
 }
 
--- its texts were not accepted
+-- the texts of a drill were not accepted
 pub texts_ended : (asked : DrillRequest) (c : Course) (e : Ending) → c.output' ≡ c.output → c.told' ≡ c.told → DrillCause asked.steps c e → IsDrillEnded asked c e
 texts_ended asked c e output told cause =
     let kept : KeepsFiles c.told c.told' = subst (λ (o : Option Told). KeepsFiles c.told o) (sym told) (same_files c.told) in record {
@@ -77,7 +77,7 @@ texts_ended asked c e output told cause =
       files = files_at e c.told c.told' kept;
     }
 
--- it was not written
+-- the drill was not written
 unwritten_cause : (steps : ℕ) (c : Course) (f : DeskFault) → HasDrill steps → (f ≡ fault.Failed → Rose c.writes c.writes' ⊎ Rose c.files c.files') → DrillCause steps c (fault_end f)
 unwritten_cause steps c fault.Failed drill rose = (rose refl, drill)
 unwritten_cause steps c fault.Memory drill rose = tt
@@ -97,7 +97,7 @@ drill_unwritten asked c e f theory start is program front others rose grows =
       files = fault_files f c.told c.told';
     })
 
--- the file of a drill that was made holds the front of a proof
+-- after a drill its file holds the front of a proof
 pub drilled_front : (asked : DrillRequest) (told told' : Option Told) (before after : Option (List ℕ)) → IsDrilled asked told told' before after → LeavesDrill asked told told'
 drilled_front asked told told' before after d = inr (record {
   theory = d.theory;

@@ -25,11 +25,11 @@ pub same_files : (told : Option Told) → KeepsFiles told told
 same_files None = tt
 same_files (Some told) = (told.unread, refl)
 
--- the exit codes of calls that come to their lines
+-- the exit codes of calls that print their lines
 abbrev pub IsDoneCode : ℕ → Type 0
 IsDoneCode code = (code ≡ 0) ⊎ (code ≡ 10) ⊎ (code ≡ 11) ⊎ (code ≡ 12)
 
--- no end has one
+-- no end has such a code
 no_done_code : (e : Ending) (code : ℕ) → code ≡ end_code e → IsDoneCode code → ⊥
 no_done_code out_of_memory code is h = grind arith
 no_done_code bad_words code is h = grind arith
@@ -49,12 +49,12 @@ code_of_run words code (inl ten) = inr (inl ten)
 code_of_run words code (inr (inl eleven)) = inr (inr (inl eleven))
 code_of_run words code (inr (inr zero)) = inl zero.0
 
--- a call that reports an end has its code, or that of running out of memory
+-- a call that reports an end has the end's code, or the code of out of memory
 pub code_of_one : (e : Ending) (before after : Option (List ℕ)) (old new code : ℕ) → Reports e before after old new code → end_code e ≡ 1 → code ≡ 1
 code_of_one e before after old new code (inl said) one = said.0 ∙ one
 code_of_one e before after old new code (inr cut) one = cut.0
 
--- what one desk told holds of an earlier one whose files it kept
+-- if a desk kept its files, what it tells of a file held before too
 pub kept_holds : (told told' : Option Told) (name bytes : List ℕ) → KeepsFiles told told' → Holds told' name bytes → Holds told name bytes
 kept_holds None told' name bytes kept h = tt
 kept_holds (Some told) told' name bytes kept h = let P : Option Told → Type 0 = λ o. Holds o name bytes in subst P kept.1 h
@@ -69,7 +69,7 @@ kept_more (Some told) told' name limit kept h = let P : Option Told → Type 0 =
     let q : HoldsMore (Some (record told { unread = kept.0 })) name limit = subst P kept.1 h in
     (q.0, q.1, q.2)
 
--- the cause of an end at the second file, seen from before the first was read
+-- the cause of an end at the second file, for the desk before the first file was read
 pub FileCause-kept : (IsWhy : List ℕ → Fault → Type 0) (told told' : Option Told) (name : List ℕ) (limit a b c : ℕ) (end : FileEnd) → KeepsFiles told told' → a ≤ b → FileCause IsWhy told' name limit b c end → FileCause IsWhy told name limit a c end
 FileCause-kept IsWhy told told' name limit a b c (file.Unread read.NoFile) kept le h = kept_lacks told told' name kept h
 FileCause-kept IsWhy told told' name limit a b c (file.Unread read.Failed) kept le h = Rose-later a b c le h
@@ -85,7 +85,7 @@ kept_then (Some old) between new h k =
     let q : KeepsFiles (Some (record old { unread = h.0 })) new = subst P h.1 k in
     (q.0, q.1)
 
--- what is as before is kept at each end
+-- an unchanged output is kept at each end
 pub same_grows : (bytes : Option (List ℕ)) → Grows bytes bytes
 same_grows None = tt
 same_grows (Some bytes) = ([], ap (λ (bs : List ℕ). Some bs) (sym (append-nil bytes)))
@@ -110,7 +110,7 @@ files_at (definition_refused number byte) old new h = h
 files_at (term_refused number byte) old new h = h
 files_at (too_large name) old new h = h
 
--- an end that writes no file keeps them all
+-- an end that writes no file keeps all files
 no_file : (e : Ending) (code : ℕ) (old new : Option Told) → code ≡ end_code e → IsUnwritten code → KeepsFilesAt e old new → KeepsFiles old new
 no_file out_of_memory code old new is un h = absurd (un.1 is)
 no_file bad_words code old new is un h = h

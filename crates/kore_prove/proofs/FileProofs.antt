@@ -1,4 +1,4 @@
--- The file of a proof, and what becomes of the other files.
+-- The file of a proof, and how the other files change.
 use Rattle.std.proofs.Common.{◌≡◌, ◌≢◌, ℕ, inl, inr, List, [], ◌++◌, Option, Some, None, Result, Ok, Err, true, refl, sym, ◌∙◌, ap, subst}
 use Rattle.std.specs.Prelude.{OnErr}
 use Rattle.std.proofs.lemmas.List.{append-nil}
@@ -12,7 +12,7 @@ use Rattle.run_proof.specs.declared.summaries.Summary.{Summary}
 use Rattle.kore_prove.specs.ProvedRun.{Tells, TellsNow, KeepsFile, KeepsOthers}
 use Rattle.kore_prove.specs.ProofFiles.{PutsCreated, PutsProof, PutsFront, HoldsCounted, MayHoldFront, KeepsOthersNow}
 
--- what is said of an error
+-- what holds after an error
 pub on_err_more : {T E : Type 0} (r : Result T E) (P Q : Type 0) → (P → Q) → OnErr r P → OnErr r Q
 on_err_more (Ok t) P Q f h = tt
 on_err_more (Err e) P Q f h = f h
@@ -20,7 +20,7 @@ on_err_more (Err e) P Q f h = f h
 pub some_same : {A : Type 0} (a b : A) → Some a ≡ Some b → a ≡ b
 some_same a b h = cc
 
--- what keeps all files keeps the others, and of fewer files that are written more are kept
+-- if all files are kept, the others are kept; if fewer files are written, more files are kept
 pub kept_others : (W : List ℕ → Type 0) (old new : Option Told) → KeepsFiles old new → KeepsOthers W old new
 kept_others W None new h = tt
 kept_others W (Some old) new h = (record old { unread = h.0 }, h.1, λ name other. refl)
@@ -36,7 +36,7 @@ then_others W (Some old) between new kept h =
     let q : KeepsOthers W (Some (record old { unread = kept.0 })) new = subst P kept.1 h in
     (q.0, q.1, q.2)
 
--- .. and each of them
+-- if all files are kept, each file is kept
 pub kept_file : (old new : Option Told) (file : List ℕ) → KeepsFiles old new → KeepsFile old new file
 kept_file None new file h = tt
 kept_file (Some old) new file h = (record old { unread = h.0 }, h.1, refl)
@@ -54,7 +54,7 @@ same_file (Some old) new file h = (old, h, refl)
 
 -- The created file of a desk, from its creation to its end.
 
--- the file that was created, written and closed holds what was written
+-- a file that was created, written and closed holds what was written
 pub created_tells : (old made new : Option Told) (name bytes : List ℕ) → Creates old made name → PutsCreated made new bytes → TellsNow old new name bytes
 created_tells None made new name bytes h k = tt
 created_tells (Some old) made new name bytes h k =
@@ -84,7 +84,7 @@ pub closed_others : (made new : Option Told) → Closes made new → KeepsOthers
 closed_others None new h = tt
 closed_others (Some made) new h = (record made { created = None }, h, λ name other is differs. refl)
 
--- what was written and closed
+-- the bytes that were written before the file was closed
 pub written_closed : (made mid new : Option Told) (bytes : List ℕ) → Writes made mid bytes → Closes mid new → PutsCreated made new bytes
 written_closed None mid new bytes h k = tt
 written_closed (Some made) mid new bytes h k =
@@ -109,7 +109,7 @@ puts_others (Some made) new name bytes told h = (
       (h.2 created told.1 is held).1 other differs),
 )
 
--- the front of a proof that was written, and closed
+-- the front of a proof was written, and the file was closed
 pub front_closed : (made mid new : Option Told) (theory : RewriteTheory) (start : Pattern) → WritesFrontOfProof made mid theory start → Closes mid new → PutsFront made new theory start
 front_closed made mid new theory start h k = (h.0, written_closed made mid new h.0 h.1 k, h.2)
 
@@ -117,18 +117,18 @@ pub front_others : (made mid new : Option Told) (theory : RewriteTheory) (start 
 front_others None mid new theory start h k told = tt
 front_others (Some made) mid new theory start h k told = puts_others (Some made) new told.0 h.0 told (written_closed (Some made) mid new h.0 h.1 k)
 
--- a proof is the front of one
+-- a whole proof is a front of itself
 pub proof_front : (theory : RewriteTheory) (start end : Pattern) (bytes : List ℕ) → JustifiesRun bytes theory start end → IsFrontOfProof theory start bytes
 proof_front theory start end bytes h = (end, ([], subst (λ (text : List ℕ). JustifiesRun text theory start end) (sym (append-nil bytes)) h))
 
 pub proof_written : (old new : Option Told) (theory : RewriteTheory) (start : Pattern) (run : Run) (s : Summary) → WritesProof old new theory start run s → WritesFrontOfProof old new theory start
 proof_written old new theory start run s h = (h.0, h.1, inr (proof_front theory start (kept_by start run) h.0 h.2))
 
--- a proof that was written, and closed
+-- a proof was written, and the file was closed
 pub proof_closed : (made mid new : Option Told) (theory : RewriteTheory) (start : Pattern) (run : Run) (s : Summary) → WritesProof made mid theory start run s → Closes mid new → PutsProof made new theory start run s
 proof_closed made mid new theory start run s h k = (h.0, written_closed made mid new h.0 h.1 k, h.2, h.3)
 
--- the file that was created holds it
+-- the created file holds the proof
 pub created_proof : (old made new : Option Told) (file : List ℕ) (theory : RewriteTheory) (start : Pattern) (run : Run) (s : Summary) → Creates old made file → PutsProof made new theory start run s →
     HoldsCounted old new file theory start run s
 created_proof old made new file theory start run s h k = record {
@@ -136,15 +136,15 @@ created_proof old made new file theory start run s h k = record {
   counted = k.3;
 }
 
--- .. and so the front of one
+-- a file that holds a proof holds the front of one
 pub counted_front : (told told' : Option Told) (file : List ℕ) (theory : RewriteTheory) (start : Pattern) (run : Run) (s : Summary) → HoldsCounted told told' file theory start run s → MayHoldFront told told' file theory start
 counted_front told told' file theory start run s h =
     inr (record { bytes = h.proof.bytes; held = h.proof.held; front = inr (proof_front theory start (kept_by start run) h.proof.bytes h.proof.justifies) })
 
--- .. or the front of one
+-- the created file holds the front of a proof
 pub created_front : (old made new : Option Told) (file : List ℕ) (theory : RewriteTheory) (start : Pattern) → Creates old made file → PutsFront made new theory start → MayHoldFront old new file theory start
 created_front old made new file theory start h k = inr (record { bytes = k.0; held = created_tells old made new file k.0 h k.1; front = k.2 })
 
--- .. where none was created, the file is as before
+-- if no file was created, the file is as before
 pub not_created : (old new : Option Told) (file : List ℕ) (theory : RewriteTheory) (start : Pattern) → Same old new → MayHoldFront old new file theory start
 not_created old new file theory start h = inl (same_file old new file h)

@@ -1,4 +1,4 @@
--- From the parts of a run command to what came of it.
+-- From the parts of a run command to its result.
 use Rattle.std.proofs.Common.{◌≡◌, ℕ, ◌⊎◌, inl, inr, List, Option, Some, None, IsSome, refl, sym, subst}
 use Rattle.desk_io.specs.Told.{Told, KeepsFiles, Holds}
 use Rattle.desk_io.specs.Counts.{Rose}
@@ -26,7 +26,7 @@ use Rattle.kore_prove.specs.RunsDone.{HasLines, IsRunDone, IsRunEnded}
 use Rattle.kore_prove.proofs.Ending.{kept_output, files_at}
 use Rattle.kore_prove.proofs.FileProofs.{kept_others, then_others, kept_file, then_file, proof_front}
 
--- the initial term, as the rewriter asks for it
+-- the initial term meets the requirement of the rewriter
 pub start_of : (theory : RewriteTheory) (start : Pattern) → IsStart theory start → IsStartOf theory start
 start_of theory start h = (h.0, h.2, h.1)
 
@@ -37,7 +37,7 @@ kept_shown law theory start (limited n t) sig is h = law theory.sig (ground_patt
 kept_shown law theory start (stopped n cause t) sig is h = law theory.sig (ground_pattern t) h.0 sig h.2
 kept_shown law theory start (unstarted cause) sig is h = law theory.sig start is.0 sig is.1
 
--- the term that the second file holds, as the first desk tells it
+-- the term in the second file, as the first desk tells it
 pub start_kept : (told read : Option Told) (name : List ℕ) (theory : RewriteTheory) (top : Option ℕ) (start : Pattern) → KeepsFiles told read → HoldsStart read name theory top start → HoldsStart told name theory top start
 start_kept None read name theory top start kept s = record { bytes = s.bytes; held = (tt, s.held.1); accepted = s.accepted }
 start_kept (Some told) read name theory top start kept s =
@@ -54,7 +54,7 @@ proof_kept None told read told' theory start run kept h = tt
 proof_kept (Some file) told read told' theory start run kept h =
     record { bytes = h.bytes; held = told_now told read told' file h.bytes kept h.held; justifies = h.justifies }
 
--- the front of a proof, seen from before the files were read
+-- the front of a proof, for the desk before the files were read
 pub left_front : (asked : RunRequest) (told read told' : Option Told) (theory : RewriteTheory) (start : Pattern) → HoldsRun asked told theory start → KeepsFiles told read → HasWantedFront asked.proof read told' theory start → LeavesFront asked told told'
 left_front asked told read told' theory start held kept h = λ file wanted. (
     let front : HasWantedFront (Some file) read told' theory start = subst (λ (p : Option (List ℕ)). HasWantedFront p read told' theory start) wanted h in
@@ -68,7 +68,7 @@ left_front asked told read told' theory start held kept h = λ file wanted. (
       })
     ])
 
--- a proof is the front of one
+-- a whole proof is a front of itself
 pub proof_is_front : (proof : Option (List ℕ)) (told told' : Option Told) (theory : RewriteTheory) (start : Pattern) (run : Run) → HasWantedProof proof told told' theory start run → HasWantedFront proof told told' theory start
 proof_is_front None told told' theory start run h = tt
 proof_is_front (Some file) told told' theory start run h = inr (record { bytes = h.bytes; held = h.held; front = inr (proof_front theory start (kept_by start run) h.bytes h.justifies) })
@@ -89,7 +89,7 @@ run_done asked c read theory start run lines held kept h proof others grew = rec
   others = then_others (IsWanted asked) c.told read c.told' kept others;
 }
 
--- the files gave no run
+-- the files do not give a run
 pub read_ended : (asked : RunRequest) (c : Course) (e : Ending) (bytes : Option (List ℕ)) → c.output ≡ bytes → c.output' ≡ bytes → ReadCause asked c.told c.reads c.reads' e → KeepsFiles c.told c.told' → IsRunEnded asked c e
 read_ended asked c e bytes before after cause kept = record {
   cause = inl cause;
@@ -123,11 +123,11 @@ write_ended asked c e f read theory start is held kept front others rose grows =
       files = fault_files f c.told c.told';
     })
 
--- a count of faults in writing, seen from before the files were read
+-- a count of faults in writing, compared with the count before the files were read
 pub rose_files : (a b c : ℕ) → b ≡ a → Rose b c → Rose a c
 rose_files a b c same rose = subst (λ (n : ℕ). Rose n c) same rose
 
--- an output that got a part grew by it
+-- an output that got the front of some bytes grew
 pub part_grows : (before after : Option (List ℕ)) (bytes : List ℕ) → AppendsFront before after bytes → Grows before after
 part_grows None after bytes h = tt
 part_grows (Some before) after bytes h = (h.0, h.3)

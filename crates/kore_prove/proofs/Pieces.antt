@@ -6,11 +6,11 @@ use Rattle.std.proofs.lemmas.List.{take_more, take-append-drop, append-nil}
 use Rattle.std.proofs.lemmas.List.Concat.{flat_map-append}
 use Rattle.desk_io.specs.Sent.{Appends, AppendsFront}
 
--- the pieces, joined
+-- the concatenation of the pieces
 abbrev pub joined : List (Bor (List ℕ)) → List ℕ
 joined pieces = flat_map (λ (piece : Bor (List ℕ)). piece.now) pieces
 
--- what was sent, and then more
+-- some bytes were sent, and then more
 pub Appends-then : (a b c : Option (List ℕ)) (xs ys zs : List ℕ) → zs ≡ xs ++ ys → Appends a b xs → Appends b c ys → Appends a c zs
 Appends-then None b c xs ys zs e p q = tt
 Appends-then (Some old) b c xs ys zs e p q =
@@ -27,7 +27,7 @@ AppendsFront-after (Some old) b c xs ys rest zs e p q =
       r.3 ∙ ap (λ (bytes : List ℕ). Some bytes) (append_assoc old xs r.0),
     )
 
--- the front of some bytes is one of these with more after them
+-- the front of some bytes is also a front of those bytes with more after them
 pub AppendsFront-more : (a b : Option (List ℕ)) (xs ys : List ℕ) → AppendsFront a b xs → AppendsFront a b (xs ++ ys)
 AppendsFront-more None b xs ys h = tt
 AppendsFront-more (Some old) b xs ys h = (h.0, h.1 ++ ys, ap (λ (bytes : List ℕ). bytes ++ ys) h.2 ∙ append_assoc h.0 h.1 ys, h.3)
@@ -36,12 +36,12 @@ joined-take_more : (pieces : List (Bor (List ℕ))) (i : ℕ) (d : Bor (List ℕ
 joined-take_more pieces i d piece lt item =
     ap joined (take_more pieces i d lt) ∙ flat_map-append (λ (p : Bor (List ℕ)). p.now) (take i pieces) (get_or pieces i d ∷ []) ∙ ap (λ (bytes : List ℕ). joined (take i pieces) ++ bytes) (append-nil (get_or pieces i d).now ∙ sym item)
 
--- the pieces up to one were sent, and then that one
+-- the pieces before this one were sent, and then this one
 pub piece_sent : (a b c : Option (List ℕ)) (pieces : List (Bor (List ℕ))) (i : ℕ) (d : Bor (List ℕ)) (piece : List ℕ) → i < length pieces → piece ≡ (get_or pieces i d).now → Appends a b (joined (take i pieces)) → Appends b c piece → Appends a c (joined (take (i + 1) pieces))
 piece_sent a b c pieces i d piece lt item before now =
     Appends-then a b c (joined (take i pieces)) piece (joined (take (i + 1) pieces)) (joined-take_more pieces i d piece lt item) before now
 
--- the pieces up to one were sent, and then the front of that one
+-- the pieces before this one were sent, and then the front of this one
 pub piece_begun : (a b c : Option (List ℕ)) (pieces : List (Bor (List ℕ))) (i : ℕ) (d : Bor (List ℕ)) (piece : List ℕ) → i < length pieces → piece ≡ (get_or pieces i d).now → Appends a b (joined (take i pieces)) → AppendsFront b c piece → AppendsFront a c (joined pieces)
 piece_begun a b c pieces i d piece lt item before now =
     let whole : joined pieces ≡ joined (take (i + 1) pieces) ++ joined (drop (i + 1) pieces) = ap joined (sym (take-append-drop (i + 1) pieces)) ∙ flat_map-append (λ (p : Bor (List ℕ)). p.now) (take (i + 1) pieces) (drop (i + 1) pieces) in

@@ -1,4 +1,4 @@
--- Names that are identifiers may stand in the tokens of a database.
+-- Names that are identifiers may occur in the tokens of a database.
 use Rattle.std.proofs.Common.{◌≡◌, ℕ, true, refl, List, [], ◌∷◌, All, Option, Some, None, slice_get, subst, arith}
 use Rattle.std.specs.Prelude.{option_map}
 use Rattle.std.proofs.lemmas.List.Elements.{All-get_or}

@@ -16,7 +16,7 @@ use Rattle.kore_prove.specs.Verdicts.{SaysValid, SaysInvalid, PrintsVerdict, val
 use Rattle.kore_prove.proofs.CommandWords.{one_file}
 use Rattle.mm_database.specs.ComputedFault.{first_fault}
 
--- bytes with a first fault are no valid database
+-- bytes with a first fault are not a valid database
 pub invalid_by : (bytes : List ℕ) (f : MmFault) → IsFirstFault bytes f → IsInvalidBy bytes f
 invalid_by bytes f first = record {
   not_valid = λ valid. (
@@ -26,7 +26,7 @@ invalid_by bytes f first = record {
   first = first;
 }
 
--- the verdict on the file, printed
+-- the verdict on the file was printed
 pub prints_verdict_on : (told : Option Told) (file : List ℕ) (before after : Option (List ℕ)) (v : Verdict) → HoldsDatabase told file v → Appends before after (verdict_line v) → PrintsVerdictOn file told before after v
 prints_verdict_on None file before after v h line = tt
 prints_verdict_on (Some told) file before after (verdict.Valid report) h line = record {

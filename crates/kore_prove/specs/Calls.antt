@@ -1,4 +1,4 @@
--- What a call of the program does, in one fact.
+-- All that a call of the program does, as one fact.
 use Rattle.std.specs.Prelude.{◌≡◌, ℕ, ◌⊎◌}
 use Rattle.desk_io.specs.Told.{KeepsFiles}
 use Rattle.kore_prove.specs.Words.{AreBad, IsProofFile}
@@ -9,7 +9,7 @@ use Rattle.kore_prove.specs.DrilledRun.{Drills, LeavesFrontOfDrill}
 use Rattle.kore_prove.specs.Causes.{Call, Ends, IsUnwritten}
 use Rattle.kore_prove.specs.Readiness.{Completes, CompletesVerdict, CompletesDrill}
 
--- a call with this exit code does what the clauses of `kore_main` of the same names say
+-- a call with this exit code does what the clauses of `kore_main` with the same names say
 pub record IsAnswered (c : Call) (code : ℕ) : Type 0 where
   pub printed_run : PrintsRun c.words c.course.told c.course.output c.course.output' code
   pub proved_run : ProvesRun c.words c.course.told c.course.told' c.course.output c.course.output' code

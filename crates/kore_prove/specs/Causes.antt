@@ -1,5 +1,5 @@
--- The cause of each end of a call that does not come to its lines. Of a desk that tells nothing only its counts
--- speak.
+-- The cause of each end of a call that did not print its lines. For a desk that tells nothing, only
+-- its counts say something.
 use Rattle.std.specs.Prelude.{◌≡◌, ◌≢◌, ℕ, ◌⊎◌, List, ◌++◌, Option, None, Some}
 use Rattle.desk_io.specs.Told.{Told, Lacks, HoldsMore}
 use Rattle.desk_io.specs.Sent.{SameBytes}
@@ -20,17 +20,17 @@ use Rattle.kore_prove.specs.Reports.{definition_refused, term_refused, too_large
 abbrev pub HasProgram : RunRequest → Option Told → Type 0
 HasProgram asked told = (theory : RewriteTheory) × (top : Option ℕ) × HoldsProgram told asked.definition theory top
 
--- both files were
+-- both files were read and accepted
 abbrev pub HasRun : RunRequest → Option Told → Type 0
 HasRun asked told = (theory : RewriteTheory) × (start : Pattern) × HoldsRun asked told theory start
 
--- the file with the definition holds what is refused so
+-- the file of the definition holds bytes that are refused with this fault
 pub record HoldsRefused (asked : RunRequest) (told : Option Told) (f : Fault) : Type 0 where
   pub bytes : List ℕ
   pub held : HoldsWithin told asked.definition definition_limit bytes
   pub refused : IsRefused bytes f
 
--- the file with the term holds what is refused so, as a term of the definition
+-- the file of the term holds bytes that are refused with this fault, as a term of the definition
 pub record HoldsRefusedTerm (asked : RunRequest) (told : Option Told) (f : Fault) : Type 0 where
   pub theory : RewriteTheory
   pub top : Option ℕ
@@ -39,8 +39,8 @@ pub record HoldsRefusedTerm (asked : RunRequest) (told : Option Told) (f : Fault
   pub held : HoldsWithin told asked.term term_limit bytes
   pub refused : IsRefusedTerm theory.sig top bytes f
 
--- The end of a command that runs has its cause in the files that are read. The term is answered where the definition
--- was accepted.
+-- Each end of a run command has its cause in the files that are read. The file of the term is read
+-- only if the definition was accepted.
 abbrev pub ReadCause : RunRequest → Option Told → ℕ → ℕ → Ending → Type 0
 ReadCause asked told reads reads' out_of_memory = Unit {0}
 ReadCause asked told reads reads' bad_words = ⊥
@@ -56,8 +56,8 @@ ReadCause asked told reads reads' (too_large name) =
     ((name ≡ asked.definition) × HoldsMore told name definition_limit)
     ⊎ ((name ≡ asked.term) × HasProgram asked told × HoldsMore told name term_limit)
 
--- What is known of a desk and an output: what they told before and after, and the counts of their faults, in reading,
--- in writing files and in writing the output.
+-- What is known of a desk and an output: what they told before and after, and their counts of
+-- faults before and after: in reading, in writing files and in writing the output.
 pub record Course : Type 0 where
   pub told : Option Told
   pub told' : Option Told
@@ -70,16 +70,16 @@ pub record Course : Type 0 where
   pub output : Option (List ℕ)
   pub output' : Option (List ℕ)
 
--- what could not be written has its cause in a count, and both files were accepted
+-- a write failed because a count of faults rose, and both files were accepted
 pub record WriteCause (asked : RunRequest) (c : Course) : Type 0 where
   pub rose : Rose c.writes c.writes' ⊎ Rose c.files c.files'
   pub accepted : HasRun asked c.told
 
--- the end of a command that runs has its cause
+-- each end of a run command has its cause
 abbrev pub RunCause : RunRequest → Course → Ending → Type 0
 RunCause asked c e = ReadCause asked c.told c.reads c.reads' e ⊎ ((e ≡ write_fault) × WriteCause asked c)
 
--- the end of a command that verifies has its cause
+-- each end of a verify command has its cause
 abbrev pub VerifyCause : List ℕ → Course → Ending → Type 0
 VerifyCause file c out_of_memory = Unit {0}
 VerifyCause file c bad_words = ⊥
@@ -95,14 +95,14 @@ VerifyCause file c (too_large name) = (name ≡ file) × HoldsMore c.told name d
 abbrev pub HasDrill : ℕ → Type 0
 HasDrill steps = (theory : RewriteTheory) × (start : Pattern) × IsDrillProgram steps theory start
 
--- the term of a drill is refused so, as a term of its definition
+-- the term of a drill is refused with this fault, as a term of its definition
 pub record IsDrillTermRefused (steps : ℕ) (f : Fault) : Type 0 where
   pub theory : RewriteTheory
   pub top : Option ℕ
   pub definition : IsAccepted (drill_definition steps) theory top
   pub refused : IsRefusedTerm theory.sig top drill_term f
 
--- the end of a command that drills has its cause
+-- each end of a drill command has its cause
 abbrev pub DrillCause : ℕ → Course → Ending → Type 0
 DrillCause steps c out_of_memory = Unit {0}
 DrillCause steps c bad_words = ⊥
@@ -115,12 +115,12 @@ DrillCause steps c (term_refused number byte) =
     IsDrillTermRefused steps (record { number = number; byte = byte })
 DrillCause steps c (too_large name) = ⊥
 
--- what the output told grew by some bytes
+-- what the output tells grew by some bytes
 abbrev pub Grows : Option (List ℕ) → Option (List ℕ) → Type 0
 Grows None after = Unit {0}
 Grows (Some before) after = (more : List ℕ) × (after ≡ Some (before ++ more))
 
--- The output is as before, but where it could not be written or memory ran out: then it may have got a part.
+-- The output is as before. If it could not be written or memory ran out, it may have got a part.
 abbrev pub KeepsOutput : Ending → Option (List ℕ) → Option (List ℕ) → Type 0
 KeepsOutput out_of_memory before after = Grows before after
 KeepsOutput bad_words before after = SameBytes before after
@@ -131,11 +131,12 @@ KeepsOutput (definition_refused number byte) before after = SameBytes before aft
 KeepsOutput (term_refused number byte) before after = SameBytes before after
 KeepsOutput (too_large name) before after = SameBytes before after
 
--- the exit codes of calls that write no file
+-- the exit codes with which no file is written
 abbrev pub IsUnwritten : ℕ → Type 0
 IsUnwritten code = (code ≢ 0) × (code ≢ 1) × (code ≢ 4) × (code ≢ 10) × (code ≢ 11)
 
--- What is known of a call: its words; what the desk and the output told and counted; and what the error stream did.
+-- What is known of a call: its words; what the desk and the output told and counted; what the error
+-- stream told and counted.
 pub record Call : Type 0 where
   pub words : List (List ℕ)
   pub course : Course
@@ -144,7 +145,7 @@ pub record Call : Type 0 where
   pub errors : Option (List ℕ)
   pub errors' : Option (List ℕ)
 
--- why a call did not come to its lines; memory may be wanting before the words are read
+-- why a call did not print its lines; memory may run out before the words are read
 pub data HasCause (c : Call) : Ending → Type 0 where
   without_memory : HasCause c out_of_memory
   with_bad_words : AreBad c.words → HasCause c bad_words
@@ -153,18 +154,18 @@ pub data HasCause (c : Call) : Ending → Type 0 where
   of_drill : {asked : DrillRequest} {e : Ending} → IsDrill c.words asked → DrillCause asked.steps c.course e →
       HasCause c e
 
--- the words are a command, and the code says that it came to its lines on the output
+-- the words are a command, and the code says that the call printed its lines
 pub data IsDone (words : List (List ℕ)) (code : ℕ) : Type 0 where
   run_done : {asked : RunRequest} → IsRun words asked → (code ≡ 0) ⊎ (code ≡ 10) ⊎ (code ≡ 11) → IsDone words code
   verify_done : {file : List ℕ} → IsVerify words file → (code ≡ 0) ⊎ (code ≡ 12) → IsDone words code
   drill_done : {asked : DrillRequest} → IsDrill words asked → code ≡ 0 → IsDone words code
 
--- the call came to its lines, and said nothing on the error stream
+-- the call printed its lines, and wrote nothing to the error stream
 pub record EndsInLines (c : Call) (code : ℕ) : Type 0 where
   pub done : IsDone c.words code
   pub silent : SameBytes c.errors c.errors'
 
--- it came to another end, by a cause, kept the output, and said why
+-- the call had another end, with a cause, kept the output, and reported the reason
 pub record EndsOtherwise (c : Call) (code : ℕ) : Type 0 where
   pub end : Ending
   pub cause : HasCause c end

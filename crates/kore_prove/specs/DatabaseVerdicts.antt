@@ -9,12 +9,12 @@ use Rattle.kore_prove.specs.declared.verification.Verdict.TheVariants as verdict
 use Rattle.kore_prove.specs.Limits.{HoldsWithin, database_limit}
 use Rattle.kore_prove.specs.Verdicts.{valid_line, invalid_line, SaysValid, SaysInvalid}
 
--- the bytes are no valid database, and this is their first fault
+-- the bytes are not a valid database, and this is their first fault
 pub record IsInvalidBy (bytes : List ℕ) (fault : MmFault) : Type 0 where
   pub not_valid : IsValid bytes → ⊥
   pub first : IsFirstFault bytes fault
 
--- the verdict is that on these bytes
+-- the verdict is the one on these bytes
 abbrev pub IsVerdictOn : List ℕ → Verdict → Type 0
 IsVerdictOn bytes (verdict.Valid report) =
     IsValid bytes × (report.axioms ≡ axiom_count bytes) × (report.theorems ≡ theorem_count bytes)
@@ -29,7 +29,7 @@ abbrev pub verdict_code : Verdict → ℕ
 verdict_code (verdict.Valid report) = 0
 verdict_code (verdict.Invalid fault) = 12
 
--- the verdict is that on the file of that name
+-- the verdict is the one on the file of that name
 abbrev pub HoldsDatabase : Option Told → List ℕ → Verdict → Type 0
 HoldsDatabase told name v = (bytes : List ℕ) × HoldsWithin told name database_limit bytes × IsVerdictOn bytes v
 

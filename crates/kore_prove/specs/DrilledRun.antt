@@ -1,4 +1,5 @@
--- What a drill prints and leaves: the run of its own definition, with the proof of that run in its file.
+-- What a drill prints and writes: the run of its own definition, and the proof of that run in its
+-- file.
 use Rattle.std.specs.Prelude.{◌≡◌, ℕ, ◌+◌, ◌⊎◌, List, [], ◌∷◌, ◌++◌, length, Option, Some, codes, decimal}
 use Rattle.desk_io.specs.Told.{Told}
 use Rattle.desk_io.specs.Sent.{Appends}
@@ -11,7 +12,7 @@ use Rattle.kore_prove.specs.Words.{DrillRequest, IsDrill}
 use Rattle.kore_prove.specs.DrillProgram.{IsDrillProgram}
 use Rattle.kore_prove.specs.ProvedRun.{HoldsProof, HoldsFront, KeepsFile}
 
--- the greatest number of calls of functions of a drill
+-- the greatest number of calls of functions in a drill
 abbrev pub drill_calls : ℕ
 drill_calls = 10000
 
@@ -21,13 +22,14 @@ counts_line facts statements bytes =
     codes "facts " ++ (decimal facts ++ (codes " statements " ++ (decimal statements
     ++ (codes " bytes " ++ (decimal bytes ++ 10 ∷ [])))))
 
--- .. with the counts of a database
+-- the same line, with the counts of a database
 abbrev pub counts_line_of : List ℕ → List ℕ
 counts_line_of database =
     counts_line (capped (facts_in database)) (capped (statements_in database)) (capped (length database))
 
--- The file holds a database that justifies the run of the drill's program, whose limit is one more than its steps;
--- and the output grew by the two lines of the run and the line of the counts of the database.
+-- The file holds a database that justifies the run of the drill's program. The limit of this run is
+-- one more than the drill's steps. The output grew by the two lines of the run and the line of the
+-- counts of the database.
 pub record IsDrilled (asked : DrillRequest) (told told' : Option Told) (before after : Option (List ℕ)) :
     Type 0 where
   pub theory : RewriteTheory
@@ -40,12 +42,13 @@ pub record IsDrilled (asked : DrillRequest) (told told' : Option Told) (before a
   pub lines_are : lines_of theory.sig start run ≡ Some lines
   pub grew : Appends before after (lines ++ counts_line_of proof.bytes)
 
--- where the words ask for a drill, the exit code 0 says that it was made
+-- if the words ask for a drill, the exit code 0 says that it was made
 abbrev pub Drills : List (List ℕ) → Option Told → Option Told → Option (List ℕ) → Option (List ℕ) → ℕ → Type 0
 Drills words told told' before after code =
     code ≡ 0 → (asked : DrillRequest) → IsDrill words asked → IsDrilled asked told told' before after
 
--- the file of a drill holds nothing, or the front of a database that justifies a run of the drill's program
+-- the file of a drill is empty, or holds the front of a database that justifies a run of the
+-- drill's program
 pub record HoldsFrontOfDrill (asked : DrillRequest) (told told' : Option Told) : Type 0 where
   pub theory : RewriteTheory
   pub start : Pattern
@@ -56,6 +59,6 @@ pub record HoldsFrontOfDrill (asked : DrillRequest) (told told' : Option Told) :
 abbrev pub LeavesDrill : DrillRequest → Option Told → Option Told → Type 0
 LeavesDrill asked told told' = KeepsFile told told' asked.file ⊎ HoldsFrontOfDrill asked told told'
 
--- where the words ask for a drill, whatever its exit code
+-- the same if the words ask for a drill, for every exit code
 abbrev pub LeavesFrontOfDrill : List (List ℕ) → Option Told → Option Told → Type 0
 LeavesFrontOfDrill words told told' = (asked : DrillRequest) → IsDrill words asked → LeavesDrill asked told told'

@@ -1,8 +1,8 @@
--- How many bytes a file may have, and what a file holds within such a limit.
+-- The limits on the bytes of a file, and what a file holds within such a limit.
 use Rattle.std.specs.Prelude.{ℕ, ◌≤◌, List, length, Option}
 use Rattle.desk_io.specs.Told.{Told, Holds}
 
--- the greatest numbers of bytes of a definition, of a term and of a database
+-- the greatest numbers of bytes of a definition, a term and a database
 abbrev pub definition_limit : ℕ
 definition_limit = 33554432
 
@@ -12,6 +12,6 @@ term_limit = 1048576
 abbrev pub database_limit : ℕ
 database_limit = 268435456
 
--- the file of that name holds these bytes, which are no more than the limit
+-- the file of that name holds these bytes, and they are within the limit
 abbrev pub HoldsWithin : Option Told → List ℕ → ℕ → List ℕ → Type 0
 HoldsWithin told name limit bytes = Holds told name bytes × (length bytes ≤ limit)

@@ -1,4 +1,4 @@
--- What an end of the code means.
+-- What the ends of the code mean.
 use Rattle.desk_io.specs.declared.desk.DeskFault.{DeskFault}
 use Rattle.desk_io.specs.declared.desk.DeskFault.TheVariants as fault
 use Rattle.kore_prove.specs.declared.report.End.{End}
@@ -6,7 +6,7 @@ use Rattle.kore_prove.specs.declared.report.End.TheVariants as end
 use Rattle.kore_prove.specs.Reports.{Ending, out_of_memory, bad_words, read_fault, write_fault, no_such_file}
 use Rattle.kore_prove.specs.Reports.{definition_refused, term_refused, too_large}
 
--- the end, in the words of the definitions
+-- the end in the terms of the definitions
 abbrev pub plain_end : End → Ending
 plain_end end.OutOfMemory = out_of_memory
 plain_end end.BadWords = bad_words
@@ -17,7 +17,7 @@ plain_end (end.DefinitionRefused number byte) = definition_refused number byte
 plain_end (end.TermRefused number byte) = term_refused number byte
 plain_end (end.TooLarge name) = too_large name.now
 
--- the end of a call that could not write
+-- the end of a call after a fault in writing
 abbrev pub fault_end : DeskFault → Ending
 fault_end fault.Failed = write_fault
 fault_end fault.Memory = out_of_memory

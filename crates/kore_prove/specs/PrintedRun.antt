@@ -1,4 +1,4 @@
--- What a call printed: the lines of the run that the files and the words give.
+-- What a call printed: the lines of the run for the files and the words.
 use Rattle.std.specs.Prelude.{◌≡◌, ℕ, List, Option, Some, ◌⊎◌}
 use Rattle.desk_io.specs.Told.{Told}
 use Rattle.desk_io.specs.Sent.{Appends}
@@ -16,7 +16,7 @@ code_of (limited n t) = 10
 code_of (stopped n cause t) = 11
 code_of (unstarted cause) = 11
 
--- the output grew by the two lines of the run that the files give
+-- the output grew by the two lines of the run for the files
 pub record PrintsLines (told : Option Told) (asked : RunRequest) (before after : Option (List ℕ)) (theory : RewriteTheory)
     (start : Pattern) (run : Run) : Type 0 where
   pub of_files : IsRunOfFiles told asked theory start run
@@ -24,7 +24,7 @@ pub record PrintsLines (told : Option Told) (asked : RunRequest) (before after :
   pub lines_are : lines_of theory.sig start run ≡ Some lines
   pub grew : Appends before after lines
 
--- the words ask for a run, which was printed so, and the code is that of its end
+-- the words ask for a run, its lines were printed, and the code is the one of its end
 pub record IsPrinted (words : List (List ℕ)) (told : Option Told) (before after : Option (List ℕ)) (code : ℕ) : Type 0
   where
     pub asked : RunRequest
@@ -35,11 +35,11 @@ pub record IsPrinted (words : List (List ℕ)) (told : Option Told) (before afte
     pub printed : PrintsLines told asked before after theory start run
     pub code_is : code ≡ code_of run
 
--- the exit code is one of a run; 0 is also that of a database that is valid, and of a drill
+-- the exit code is one of a run; 0 is also the code of a valid database and of a drill
 abbrev pub IsCodeOfRun : List (List ℕ) → ℕ → Type 0
 IsCodeOfRun words code = (code ≡ 10) ⊎ (code ≡ 11) ⊎ ((code ≡ 0) × IsNoVerify words × IsNoDrill words)
 
--- With the exit codes of a run a run was printed. Of an output that tells nothing the lines are not said, and of a desk
--- that tells nothing not what its files hold.
+-- With the exit code of a run, a run was printed. If the output tells nothing, nothing is said of
+-- the lines. If the desk tells nothing, nothing is said of the contents of its files.
 abbrev pub PrintsRun : List (List ℕ) → Option Told → Option (List ℕ) → Option (List ℕ) → ℕ → Type 0
 PrintsRun words told before after code = IsCodeOfRun words code → IsPrinted words told before after code

@@ -1,4 +1,4 @@
--- The created file of a desk, as it is written and closed.
+-- The created file of a desk, after it was written and closed.
 use Rattle.std.specs.Prelude.{◌≡◌, ◌≢◌, ℕ, ◌⊎◌, List, [], ◌++◌, Option, Some, None}
 use Rattle.desk_io.specs.Told.{Told, PutsFile, file_of}
 use Rattle.term_core.specs.Patterns.{Pattern}
@@ -9,7 +9,7 @@ use Rattle.run_proof.specs.WrittenProofs.{IsFrontOfProof, IsSummaryOf}
 use Rattle.run_proof.specs.declared.summaries.Summary.{Summary}
 use Rattle.kore_prove.specs.ProvedRun.{KeepsFile, HoldsProof, HoldsFront}
 
--- the created file grew by these bytes and is created no longer, and the others are as before
+-- the created file grew by these bytes and is no longer created, and the others are as before
 abbrev pub PutsCreated : Option Told → Option Told → List ℕ → Type 0
 PutsCreated None new bytes = Unit {0}
 PutsCreated (Some old) new bytes =
@@ -17,7 +17,7 @@ PutsCreated (Some old) new bytes =
     × ((name content : List ℕ) → old.created ≡ Some name → file_of old.files name ≡ Some content →
     PutsFile old.files now.files name (content ++ bytes))
 
--- each file but the created one is as before
+-- each file except the created one is as before
 abbrev pub KeepsOthersNow : Option Told → Option Told → Type 0
 KeepsOthersNow None new = Unit {0}
 KeepsOthersNow (Some old) new =
@@ -25,7 +25,8 @@ KeepsOthersNow (Some old) new =
     × ((name other : List ℕ) → old.created ≡ Some name → other ≢ name →
     file_of now.files other ≡ file_of old.files other)
 
--- the created file grew by a database that justifies the run and has these counts, and is created no longer
+-- the created file grew by a database that justifies the run and has these counts, and is no longer
+-- created
 abbrev pub PutsProof : Option Told → Option Told → RewriteTheory → Pattern → Run → Summary → Type 0
 PutsProof old new theory start run summary =
     (text : List ℕ) × PutsCreated old new text × JustifiesRun text theory start (kept_by start run)
@@ -37,7 +38,7 @@ pub record HoldsCounted (told told' : Option Told) (file : List ℕ) (theory : R
   pub proof : HoldsProof told told' file theory start run
   pub counted : IsSummaryOf proof.bytes summary
 
--- .. by the front of one, or by nothing
+-- the created file grew by the front of such a database, or by nothing, and is no longer created
 abbrev pub PutsFront : Option Told → Option Told → RewriteTheory → Pattern → Type 0
 PutsFront old new theory start =
     (bytes : List ℕ) × PutsCreated old new bytes × ((bytes ≡ []) ⊎ IsFrontOfProof theory start bytes)
@@ -46,7 +47,7 @@ PutsFront old new theory start =
 abbrev pub MayHoldFront : Option Told → Option Told → List ℕ → RewriteTheory → Pattern → Type 0
 MayHoldFront told told' file theory start = KeepsFile told told' file ⊎ HoldsFront told told' file theory start
 
--- .. where a proof is wanted
+-- the same, if a proof is wanted
 abbrev pub HasWantedFront : Option (List ℕ) → Option Told → Option Told → RewriteTheory → Pattern → Type 0
 HasWantedFront None told told' theory start = Unit {0}
 HasWantedFront (Some file) told told' theory start = MayHoldFront told told' file theory start

@@ -1,4 +1,4 @@
--- What the file of a proof holds: a database that justifies the run that was printed, or the front of one.
+-- What the file of a proof holds: a database that justifies the printed run, or the front of one.
 use Rattle.std.specs.Prelude.{◌≡◌, ℕ, ◌⊎◌, List, [], Option, Some, None}
 use Rattle.desk_io.specs.Told.{Told, file_of}
 use Rattle.term_core.specs.Patterns.{Pattern}
@@ -10,12 +10,12 @@ use Rattle.kore_prove.specs.Words.{RunRequest, IsRun, IsProofRun}
 use Rattle.kore_prove.specs.Files.{HoldsRun}
 use Rattle.kore_prove.specs.PrintedRun.{IsCodeOfRun, IsPrinted}
 
--- the desk tells a file of that name, with this content
+-- the desk tells a file of that name with this content
 abbrev pub Tells : Option Told → List ℕ → List ℕ → Type 0
 Tells None file bytes = ⊥
 Tells (Some told) file bytes = file_of told.files file ≡ Some bytes
 
--- .. where it told its files before
+-- the same, if the desk told its files before
 abbrev pub TellsNow : Option Told → Option Told → List ℕ → List ℕ → Type 0
 TellsNow None told' file bytes = Unit {0}
 TellsNow (Some told) told' file bytes = Tells told' file bytes
@@ -27,31 +27,32 @@ pub record HoldsProof (told told' : Option Told) (file : List ℕ) (theory : Rew
   pub held : TellsNow told told' file bytes
   pub justifies : JustifiesRun bytes theory start (kept_by start run)
 
--- where a proof is wanted, its file holds one
+-- if a proof is wanted, its file holds one
 abbrev pub HasWantedProof : Option (List ℕ) → Option Told → Option Told → RewriteTheory → Pattern → Run → Type 0
 HasWantedProof None told told' theory start run = Unit {0}
 HasWantedProof (Some file) told told' theory start run = HoldsProof told told' file theory start run
 
--- the run that was printed is proved in this file, which the words name
+-- the printed run is proved in this file, which the words name
 pub record IsProved (words : List (List ℕ)) (told told' : Option Told) (before after : Option (List ℕ)) (code : ℕ)
     (file : List ℕ) : Type 0 where
   pub printed : IsPrinted words told before after code
   pub wanted : printed.asked.proof ≡ Some file
   pub proof : HoldsProof told told' file printed.theory printed.start printed.run
 
--- with the exit codes of a run, where the words name a file for its proof, the run is proved there
+-- if the exit code is one of a run and the words name a file for its proof, the run is proved there
 abbrev pub ProvesRun : List (List ℕ) → Option Told → Option Told → Option (List ℕ) → Option (List ℕ) → ℕ → Type 0
 ProvesRun words told told' before after code =
     IsCodeOfRun words code → (file : List ℕ) → IsProofRun words file → IsProved words told told' before after code file
 
--- the file holds nothing, or the front of a database that justifies a run from the initial term to some configuration
+-- the file is empty, or holds the front of a database that justifies a run from the initial term to
+-- some configuration
 pub record HoldsFront (told told' : Option Told) (file : List ℕ) (theory : RewriteTheory) (start : Pattern) :
     Type 0 where
   pub bytes : List ℕ
   pub held : TellsNow told told' file bytes
   pub front : (bytes ≡ []) ⊎ IsFrontOfProof theory start bytes
 
--- .. of the program and the initial term that the files give
+-- the same, for the program and the initial term of the files
 pub record HoldsFrontOfRun (asked : RunRequest) (told told' : Option Told) (file : List ℕ) : Type 0 where
   pub theory : RewriteTheory
   pub start : Pattern
@@ -64,12 +65,12 @@ KeepsFile None new file = Unit {0}
 KeepsFile (Some old) new file =
     (now : Told) × (new ≡ Some now) × (file_of now.files file ≡ file_of old.files file)
 
--- where a proof is wanted, its file is as before, or it was created and holds the front of one
+-- if a proof is wanted, its file is as before, or it was created and holds the front of one
 abbrev pub LeavesFront : RunRequest → Option Told → Option Told → Type 0
 LeavesFront asked told told' =
     (file : List ℕ) → asked.proof ≡ Some file → KeepsFile told told' file ⊎ HoldsFrontOfRun asked told told' file
 
--- where the words ask for a run, whatever its exit code
+-- the same if the words ask for a run, for every exit code
 abbrev pub LeavesFrontOfRun : List (List ℕ) → Option Told → Option Told → Type 0
 LeavesFrontOfRun words told told' = (asked : RunRequest) → IsRun words asked → LeavesFront asked told told'
 

@@ -1,4 +1,4 @@
--- Which calls come to a printed run, to a verdict or to a drill, unless a fault is counted or memory is wanting.
+-- Which calls print a run, a verdict or a drill, unless a fault is counted or memory runs out.
 use Rattle.std.specs.Prelude.{◌≡◌, ◌⊎◌, ℕ, List, Option, Some, None}
 use Rattle.desk_io.specs.Told.{Told}
 use Rattle.desk_io.specs.Counts.{Rose}
@@ -10,16 +10,17 @@ use Rattle.drill_gen.specs.Drill.{drill_definition, drill_term}
 use Rattle.kore_prove.specs.Words.{RunRequest, DrillRequest, IsRun, IsVerify, IsDrill}
 use Rattle.kore_prove.specs.Causes.{Course}
 
--- no first fault of a definition stands against the bytes
+-- the bytes have no first fault of a definition
 abbrev pub IsFaultless : List ℕ → Type 0
 IsFaultless bytes = (f : Fault) → IsRefused bytes f → ⊥
 
--- .. nor one of a term, where the definition means this program
+-- the bytes have no first fault of a term of this program
 abbrev pub IsFaultlessTerm : RewriteTheory → Option ℕ → List ℕ → Type 0
 IsFaultlessTerm theory top bytes = (f : Fault) → IsRefusedTerm theory.sig top bytes f → ⊥
 
--- The words ask for a run. Both files are there, within their limits; no fault stands against the one as a definition,
--- nor, of each program that this means, against the other as a term.
+-- The words ask for a run. Both files exist and are within their limits. The file of the definition
+-- has no fault. The file of the term has no fault as a term of any program that the definition
+-- means.
 pub record CanRun (words : List (List ℕ)) (told : Told) : Type 0 where
   pub asked : RunRequest
   pub command : IsRun words asked
@@ -36,7 +37,7 @@ abbrev pub IsReady : List (List ℕ) → Option Told → Type 0
 IsReady words None = ⊥
 IsReady words (Some told) = CanRun words told
 
--- the words ask to verify a file, which is there, within its limit
+-- the words ask to verify a file, which exists and is within its limit
 pub record CanVerify (words : List (List ℕ)) (told : Told) : Type 0 where
   pub file : List ℕ
   pub command : IsVerify words file
@@ -48,7 +49,7 @@ abbrev pub IsReadyToVerify : List (List ℕ) → Option Told → Type 0
 IsReadyToVerify words None = ⊥
 IsReadyToVerify words (Some told) = CanVerify words told
 
--- the words ask for a drill, and no fault stands against its texts
+-- the words ask for a drill, and its texts have no fault
 pub record CanDrill (words : List (List ℕ)) : Type 0 where
   pub asked : DrillRequest
   pub command : IsDrill words asked
@@ -62,18 +63,18 @@ pub record IsUnhindered (c : Course) : Type 0 where
   pub files : Rose c.files c.files' → ⊥
   pub writes : Rose c.writes c.writes' → ⊥
 
--- where the words can run and nothing hinders, the call comes to a printed run, or memory ran out
+-- if the words can run and no fault is counted, the call prints a run or memory ran out
 abbrev pub Completes : List (List ℕ) → Course → ℕ → Type 0
 Completes words c code =
     IsReady words c.told → IsUnhindered c → (code ≡ 0) ⊎ (code ≡ 10) ⊎ (code ≡ 11) ⊎ (code ≡ 1)
 
--- .. and so with a verdict, where neither reading nor the output is hindered
+-- the same for a verdict, if no fault in reading or in writing the output is counted
 abbrev pub CompletesVerdict : List (List ℕ) → Course → ℕ → Type 0
 CompletesVerdict words c code =
     IsReadyToVerify words c.told → (Rose c.reads c.reads' → ⊥) → (Rose c.writes c.writes' → ⊥) →
     (code ≡ 0) ⊎ (code ≡ 12) ⊎ (code ≡ 1)
 
--- .. and with a drill, where neither writing the file nor the output is hindered
+-- the same for a drill, if no fault in writing the file or the output is counted
 abbrev pub CompletesDrill : List (List ℕ) → Course → ℕ → Type 0
 CompletesDrill words c code =
     CanDrill words → (Rose c.files c.files' → ⊥) → (Rose c.writes c.writes' → ⊥) → (code ≡ 0) ⊎ (code ≡ 1)

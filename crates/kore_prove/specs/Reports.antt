@@ -1,9 +1,11 @@
--- How a call ends that prints no run: its exit code, and the line on the error stream that says why.
+-- How a call that prints no run ends: its exit code, and the line on the error stream that states
+-- the reason.
 use Rattle.std.specs.Prelude.{◌≡◌, ℕ, ◌⊎◌, List, [], ◌∷◌, ◌++◌, Option, codes, decimal}
 use Rattle.desk_io.specs.Sent.{Appends, AppendsFront}
 use Rattle.desk_io.specs.Counts.{Rose}
 
--- why a call ended; the names are those of files, the numbers those of a refusal and of the byte that it is at
+-- why a call ended; the names are names of files; the numbers are the number of a refusal and the
+-- byte at which it is
 pub data Ending : Type 0 where
   out_of_memory : Ending
   bad_words : Ending
@@ -25,11 +27,11 @@ end_code (definition_refused number byte) = 6
 end_code (term_refused number byte) = 7
 end_code (too_large name) = 8
 
--- the number of a refusal, and the byte that it is at
+-- the number of a refusal, and the byte at which it is
 abbrev pub refusal : ℕ → ℕ → List ℕ
 refusal number byte = codes " refused " ++ (decimal number ++ (codes " at " ++ decimal byte))
 
--- why the call ended, in words
+-- the reason in words
 abbrev pub reason : Ending → List ℕ
 reason out_of_memory = codes "out of memory"
 reason bad_words = codes "bad words"
@@ -40,16 +42,16 @@ reason (definition_refused number byte) = codes "definition" ++ refusal number b
 reason (term_refused number byte) = codes "term" ++ refusal number byte
 reason (too_large name) = codes "too large " ++ name
 
--- the line, ended by a newline
+-- the line, followed by a newline
 abbrev pub report_line : Ending → List ℕ
 report_line e = codes "kore_prove: " ++ (reason e ++ 10 ∷ [])
 
--- the stream got the line, whole, or a part from its front where its count of faults rose
+-- the stream got the whole line, or a part from its front and its count of faults rose
 abbrev pub SaysLine : Ending → Option (List ℕ) → Option (List ℕ) → ℕ → ℕ → Type 0
 SaysLine e before after old new = Appends before after (report_line e) ⊎ (AppendsFront before after (report_line e) × Rose old new)
 
--- The code is that of the end and the stream got its line; or memory ran out for that, the code is that of want of
--- memory, and the stream got a part of the line from its front.
+-- The code is the one of the end and the stream got its line. Or memory ran out in writing it: then
+-- the code is 1, out of memory, and the stream got a part of the line from its front.
 abbrev pub Reports : Ending → Option (List ℕ) → Option (List ℕ) → ℕ → ℕ → ℕ → Type 0
 Reports e before after old new code =
     ((code ≡ end_code e) × SaysLine e before after old new) ⊎ ((code ≡ 1) × AppendsFront before after (report_line e))

@@ -1,4 +1,4 @@
--- The commands of the code as what they ask for.
+-- What the commands of the code ask for.
 use Rattle.std.specs.Prelude.{◌≡◌, ℕ, ◌≤◌, List, Some, option_copied}
 use Rattle.command_words.specs.CommandLine.{most_drilled}
 use Rattle.command_words.specs.declared.commands.RunWords.{RunWords}
@@ -8,7 +8,7 @@ use Rattle.command_words.specs.declared.commands.Command.TheVariants as command
 use Rattle.kore_prove.specs.Words.{RunRequest, DrillRequest, IsRun, IsVerify, IsDrill}
 use Rattle.kore_prove.specs.declared.running.Bounds.{Bounds}
 
--- the run that is asked for
+-- the run of the request
 abbrev pub request : RunWords → RunRequest
 request r = record {
   definition = r.definition.now;
@@ -18,21 +18,21 @@ request r = record {
   proof = option_copied r.proof;
 }
 
--- how far it may go
+-- how far the run may go
 abbrev pub bounds_of : RunRequest → Bounds
 bounds_of asked = record { limit = asked.limit; calls = asked.calls }
 
--- the drill that is asked for
+-- the drill of the request
 abbrev pub drill_request : DrillWords → DrillRequest
 drill_request d = record { steps = d.steps; file = d.file.now }
 
--- the words ask for this; a drill has few steps
+-- the words ask for this; the steps of a drill are within its limit
 abbrev pub AsksFor : List (List ℕ) → Command → Type 0
 AsksFor words (command.Run r) = IsRun words (request r)
 AsksFor words (command.Verify file) = IsVerify words file.now
 AsksFor words (command.Drill d) = IsDrill words (drill_request d) × (d.steps ≤ most_drilled)
 
--- the file is the one for the proof, where one is wanted
+-- the file is the one for the proof, which is wanted
 abbrev pub IsWanted : RunRequest → List ℕ → Type 0
 IsWanted asked file = asked.proof ≡ Some file
 

@@ -19,7 +19,7 @@ pub record IsProgram (program : Program) : Type 0 where
   pub top : IsSortOfRules (theory_of program) (top_of program)
   pub names : HasIdentifierNames program.sig
 
--- .. and of a term of it
+-- what is known of an accepted program and its accepted term
 pub record IsRunnable (a : Accepted) : Type 0 where
   pub program : IsProgram a.program
   pub start : IsStart (theory_of a.program) (plain_pattern a.start)

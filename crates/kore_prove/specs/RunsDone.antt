@@ -1,4 +1,4 @@
--- What the private functions answer that run a program, print and prove the run, or that drill.
+-- What the private functions return that run a program, print and prove the run, or drill.
 use Rattle.std.specs.Prelude.{◌≡◌, ℕ, List, Some}
 use Rattle.term_core.specs.Patterns.{Pattern}
 use Rattle.rule_core.specs.Theories.{RewriteTheory}
@@ -14,13 +14,13 @@ use Rattle.kore_prove.specs.Reports.{Ending}
 use Rattle.kore_prove.specs.declared.running.Bounds.{Bounds}
 use Rattle.kore_prove.specs.Requests.{IsWanted, IsDrillFile}
 
--- the lines are those of the run within these bounds
+-- the lines are the lines of the run within these bounds
 pub record HasLines (bounds : Bounds) (theory : RewriteTheory) (start : Pattern) (run : Run) (lines : List ℕ) :
     Type 0 where
   pub is_run : IsRunOf theory bounds.limit bounds.calls start run
   pub lines_are : lines_of theory.sig start run ≡ Some lines
 
--- the run was printed, and proved where that is wanted
+-- the run was printed, and proved if that is wanted
 pub record IsRunDone (asked : RunRequest) (c : Course) (run : Run) : Type 0 where
   pub theory : RewriteTheory
   pub start : Pattern
@@ -41,7 +41,7 @@ pub record IsDrillDone (asked : DrillRequest) (c : Course) : Type 0 where
   pub drilled : IsDrilled asked c.told c.told' c.output c.output'
   pub others : KeepsOthers (IsDrillFile asked) c.told c.told'
 
--- it was not
+-- the drill was not made
 pub record IsDrillEnded (asked : DrillRequest) (c : Course) (e : Ending) : Type 0 where
   pub cause : DrillCause asked.steps c e
   pub output : KeepsOutput e c.output c.output'

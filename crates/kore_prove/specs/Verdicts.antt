@@ -8,16 +8,16 @@ use Rattle.desk_io.specs.Sent.{Appends}
 use Rattle.kore_prove.specs.Limits.{database_limit}
 use Rattle.kore_prove.specs.Words.{IsVerify}
 
--- `valid A P`, ended by a newline
+-- `valid A P`, followed by a newline
 abbrev pub valid_line : ℕ → ℕ → List ℕ
 valid_line axioms theorems = codes "valid " ++ (decimal axioms ++ (codes " " ++ (decimal theorems ++ 10 ∷ [])))
 
--- `invalid K at B`, ended by a newline
+-- `invalid K at B`, followed by a newline
 abbrev pub invalid_line : ℕ → ℕ → List ℕ
 invalid_line kind byte = codes "invalid " ++ (decimal kind ++ (codes " at " ++ (decimal byte ++ 10 ∷ [])))
 
--- the file is a valid database within the limit, and the output grew by the line of its numbers of `$a` and of `$p`
--- statements
+-- the file is a valid database within the limit, and the output grew by the line with its numbers
+-- of `$a` and of `$p` statements
 pub record SaysValid (told : Told) (file : List ℕ) (before after : Option (List ℕ)) : Type 0 where
   pub bytes : List ℕ
   pub held : file_of told.files file ≡ Some bytes
@@ -25,8 +25,8 @@ pub record SaysValid (told : Told) (file : List ℕ) (before after : Option (Lis
   pub valid : IsValid bytes
   pub line : Appends before after (valid_line (axiom_count bytes) (theorem_count bytes))
 
--- the file is within the limit and no valid database, and the output grew by the line of the kind and the byte of its
--- first fault
+-- the file is within the limit and not a valid database, and the output grew by the line with the
+-- kind and the byte of its first fault
 pub record SaysInvalid (told : Told) (file : List ℕ) (before after : Option (List ℕ)) : Type 0 where
   pub bytes : List ℕ
   pub held : file_of told.files file ≡ Some bytes
@@ -36,8 +36,8 @@ pub record SaysInvalid (told : Told) (file : List ℕ) (before after : Option (L
   pub first : IsFirstFault bytes fault
   pub line : Appends before after (invalid_line fault.kind fault.at)
 
--- Where the words ask to verify a database, the exit code 0 says that it is valid, and 12 that it is none,
--- each with its line on the output. Of a desk that tells nothing nothing is said.
+-- If the words ask to verify a database, the exit code 0 says that it is valid, and 12 that it is
+-- not. In both cases the output has its line. If the desk tells nothing, nothing is said.
 abbrev pub PrintsVerdict : List (List ℕ) → Option Told → Option (List ℕ) → Option (List ℕ) → ℕ → Type 0
 PrintsVerdict words None before after code = Unit {0}
 PrintsVerdict words (Some told) before after code =

@@ -4,8 +4,9 @@ use Rattle.std.specs.Option.{option_map_or}
 use Rattle.std.specs.Str.Parse.{digits_value}
 use Rattle.command_words.specs.CommandLine.{run_app, verify_app, drill_app, value_of, usual_calls, is_named, are_bad}
 
--- a run that is asked for: the names of the files with the definition and the term, the greatest numbers of steps and
--- of calls of functions, and the name of the file for the proof, where one is wanted
+-- a request for a run: the names of the files with the definition and the term, the greatest
+-- numbers of steps and of calls of functions, and the name of the file for the proof, if one is
+-- wanted
 pub record RunRequest : Type 0 where
   pub definition : List ℕ
   pub term : List ℕ
@@ -17,7 +18,7 @@ pub record RunRequest : Type 0 where
 pub record AreBad (words : List (List ℕ)) : Type 0 where
   pub bad : are_bad words ≡ true
 
--- the words are good, and ask for this run; where they state no number of calls, it is the usual one
+-- the words are good, and ask for this run; if they state no number of calls, it is the usual one
 pub record IsRun (words : List (List ℕ)) (asked : RunRequest) : Type 0 where
   pub good : are_bad words ≡ false
   pub named : is_named (codes "run") words ≡ true
@@ -41,7 +42,7 @@ pub record IsVerify (words : List (List ℕ)) (file : List ℕ) : Type 0 where
 abbrev pub IsNoVerify : List (List ℕ) → Type 0
 IsNoVerify words = (file : List ℕ) → IsVerify words file → ⊥
 
--- a drill that is asked for: the number of its steps, and the name of the file for the proof
+-- a request for a drill: the number of its steps, and the name of the file for the proof
 pub record DrillRequest : Type 0 where
   pub steps : ℕ
   pub file : List ℕ

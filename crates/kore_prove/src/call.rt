@@ -31,14 +31,16 @@ pub struct Status {
     pub code: u8,
 }
 
-/// Does what the words name: reads its files from the desk, runs the term, writes the proof of the run to its file
-/// where one is named, and prints the two lines of the run to `out`; or verifies the database and prints the line of
-/// the verdict; or drills, which is to run a definition of its own, to write the proof to its file, and to print the
-/// two lines of the run and one of the counts of the file. Where it does not come to that, `err` gets one line that
-/// says why, and the file of the proof is as before or holds the front of a proof.
+/// Does what the words ask for. A run reads its files from the desk, runs the term, writes the
+/// proof of the run to its file if one is named, and prints the two lines of the run to `out`. A
+/// verification prints the line of the verdict on the database. A drill runs a definition of its
+/// own, writes the proof to its file, and prints the two lines of the run and one line with the
+/// counts of the file. If the call does not print these lines, `err` gets one line that states the
+/// reason, and the file of the proof is as before or holds the front of a proof.
 ///
-/// The status has the exit code: 0 where the run is stuck, 10 where it reached its limit, 11 where it is blocked; 0
-/// where the database is valid, 12 where it is not; 0 where it drilled; else that of the end (`Reports`).
+/// The status has the exit code. A run: 0 if it is stuck, 10 if it reached its limit, 11 if it is
+/// blocked. A verification: 0 if the database is valid, 12 if it is not. A drill: 0. Any other end:
+/// its code (`Reports`).
 pub fn kore_main<D: Desk, O: Sink, E: Sink>(
     alloc: Global,
     words: &[String],
@@ -122,7 +124,7 @@ pub fn kore_main<D: Desk, O: Sink, E: Sink>(
     answered(alloc, words, desk, out, err)
 }
 
-// The call, and all that its contract says in one fact.
+// The call, with all that its contract says as one fact.
 fn answered<D: Desk, O: Sink, E: Sink>(
     alloc: Global,
     words: &[String],
@@ -197,8 +199,8 @@ fn exit_code(end: &RunEnd) -> u8
     }
 }
 
-// Says on `err` why the call did not come to its lines. Where memory is wanting for that too, the status is that of
-// running out of memory.
+// Reports on `err` why the call did not print its lines. If memory runs out in this too, the status
+// is the one for out of memory.
 fn report<E: Sink>(err: &mut E, end: &End) -> Status
     ensures { Reports (plain_end end.now)
         (E.bytes err.old) (E.bytes err.new) (E.faults err.old) (E.faults err.new) result.code }
@@ -211,8 +213,8 @@ fn report<E: Sink>(err: &mut E, end: &End) -> Status
     }
 }
 
-// Runs the term of the one file by the definition of the other, writes the proof of the run where one is wanted, and
-// prints the lines of the run.
+// Runs the term of one file by the definition of the other file, writes the proof of the run if one
+// is wanted, and prints the lines of the run.
 fn run_command<'a, D: Desk, O: Sink>(
     alloc: Global,
     asked: &RunWords<'a>,

@@ -15,7 +15,8 @@ const TWO_STEPS: Case<'static> = Case {
     ..BASE
 };
 
-/// The lines of a drill tell its run and what its file has; the file is a valid proof, and the same each time.
+/// The lines of a drill state its run and the counts of its file. The file is a valid proof, and
+/// the same each time.
 #[test]
 fn a_drill_leaves_its_proof(rt: HostRuntime) -> Result<(), Fail> {
     let alloc = rt.alloc();

@@ -1,4 +1,5 @@
-// The drill: a definition and a term that the program makes itself, their run, its proof and the counts of that.
+// The drill: a definition and a term that the program makes itself, their run, its proof and the
+// counts of the proof.
 ghost use Rattle.std.specs.Prelude.{◌≡◌, ◌≤◌, ◌++◌, ℕ, Option, IsFalse, IfOk, IfErr, OnOk, OnErr, IsErrOf};
 ghost use Rattle.command_words.specs.CommandLine.{most_drilled};
 ghost use Rattle.desk_io.specs.Sent.{Appends, AppendsFront};
@@ -29,11 +30,12 @@ use kore_rules::{Refusal, accept, accept_term};
 use run_proof::Summary;
 use std::alloc::Global;
 
-/// The greatest number of calls of functions of a drill.
+/// The greatest number of calls of functions in a drill.
 const DRILL_CALLS: u32 = 10_000;
 
-/// Runs the definition and the term of the drill, with one step more for a limit than it has, writes the proof of
-/// the run to the file that is named, and prints the two lines of the run and the line of the counts of the file.
+/// Runs the definition and the term of the drill. The limit of the run is one more than the drill's
+/// steps. Writes the proof of the run to the named file, and prints the two lines of the run and
+/// the line with the counts of the file.
 pub fn drill_command<'a, D: Desk, O: Sink>(
     alloc: Global,
     asked: &DrillWords<'a>,
@@ -131,8 +133,8 @@ fn refused_term<'a>(refusal: Refusal) -> End<'a>
     }
 }
 
-// Sends the lines of a run and the line of the counts. After an error some bytes from their front are sent, maybe
-// none. It fails only where the sink counted a fault.
+// Sends the lines of a run and the line of the counts. After an error some bytes from their front,
+// perhaps none, are sent. It fails with `Failed` only if the sink counted a fault.
 fn send_lines<O: Sink>(out: &mut O, lines: &[u8], summary: Summary) -> Result<(), DeskFault>
     ensures sent { OnOk result (Appends (O.bytes out.old) (O.bytes out.new)
         (lines.now ++ counts_line summary.facts summary.statements summary.bytes)) }

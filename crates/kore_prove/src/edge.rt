@@ -8,7 +8,7 @@ use desk_io::{Desk, Sink};
 use std::alloc::Global;
 use std::process::ExitCode;
 
-/// What a call stands on: the desk with its files, the output, and the error stream.
+/// What a call works on: the desk with its files, the output, and the error stream.
 #[derive(Drop)]
 pub struct Edge<D: Desk, O: Sink, E: Sink> {
     pub desk: D,
@@ -16,7 +16,8 @@ pub struct Edge<D: Desk, O: Sink, E: Sink> {
     pub err: E,
 }
 
-/// Does what the words name on this edge, as `kore_main` says, and gives the exit code of its status.
+/// Does what the words ask for on this edge, as `kore_main` states, and returns the exit code of
+/// its status.
 pub fn exit_of_call<D: Desk, O: Sink, E: Sink>(
     alloc: Global,
     words: &[String],

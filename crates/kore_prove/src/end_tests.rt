@@ -5,11 +5,12 @@ use std::test::Fail;
 /// A database with two `$a` and one `$p` statement.
 const VALID: &str = "$c t $. $v x $. fx $f t x $. ax $a t x $. ay $a t t $. p $p t x $= fx ax $. ";
 
-/// The same, whose proof leaves a step too much. Its `$p` statement begins at byte 55.
+/// The same with an invalid proof, which leaves one step too many. Its `$p` statement begins at
+/// byte 55.
 const INVALID: &str =
     "$c t $. $v x $. fx $f t x $. ax $a t x $. ay $a t t $. p $p t x $= fx fx ax $. ";
 
-/// The word `verify` and a file, which is the valid database.
+/// The word `verify` and a file that is the valid database.
 const VERIFIES: Case<'static> = Case {
     words: &["verify", "d.kore"],
     definition: VALID,
@@ -110,7 +111,7 @@ const ENDS: [Case<'static>; 14] = [
     },
 ];
 
-/// Each end has its code, what it prints, and the line that it says.
+/// Each end has its code, its lines on the output, and its line on the error stream.
 #[test]
 fn each_end_has_its_code_and_lines(rt: HostRuntime) -> Result<(), Fail> {
     assert_eq!(rt; first_failing(rt.alloc(), &ENDS)?, None);

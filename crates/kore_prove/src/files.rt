@@ -22,23 +22,23 @@ const DEFINITION_LIMIT: usize = 33_554_432;
 /// The greatest number of bytes of a term.
 const TERM_LIMIT: usize = 1_048_576;
 
-/// Why a file gave no program or no start of a run.
+/// Why a file has no program or no initial term of a run.
 #[derive(Drop)]
 pub enum FileEnd {
-    /// The file was not read whole.
+    /// The file was not read as a whole.
     Unread(ReadEnd),
-    /// What it holds was refused.
+    /// Its bytes were refused.
     Refused(Refusal),
 }
 
-/// A definition that was accepted, and a term of it.
+/// An accepted definition and an accepted term of it.
 #[derive(Drop)]
 pub struct Accepted {
     pub program: Program,
     pub start: RulePat,
 }
 
-/// The program that the file of that name holds.
+/// The program in the file of that name.
 pub fn read_program<D: Desk>(alloc: Global, desk: &mut D, name: &str) -> Result<Program, FileEnd>
     ensures found { IfOk result (λ p. HoldsProgram (D.told desk.old) name.now (theory_of p) (top_of p)) }
     ensures program { IfOk result IsProgram }
@@ -58,7 +58,7 @@ pub fn read_program<D: Desk>(alloc: Global, desk: &mut D, name: &str) -> Result<
     }
 }
 
-/// The initial term of a run of the program that the file of that name holds.
+/// The initial term, in the file of that name, of a run of the program.
 pub fn read_start<D: Desk>(
     alloc: Global,
     desk: &mut D,

@@ -1,4 +1,4 @@
-// Terms and configurations as high as they may be.
+// Terms and configurations of the greatest height.
 use crate::test_calls::{BASE, Case, call};
 use crate::test_definitions::{HIGHER, WITH_SUCCESSOR};
 use std::alloc::{AllocError, Global};
@@ -8,7 +8,7 @@ const LIMIT_20: &[&str] = &["run", "d.kore", "t.kore", "--limit", "20"];
 
 const LIMIT_1000: &[&str] = &["run", "d.kore", "t.kore", "--limit", "1000"];
 
-/// Each step makes the configuration higher, up to 500, and a configuration of that height is printed.
+/// Each step makes the configuration higher, up to 500. A configuration of that height is printed.
 #[test]
 fn a_run_ends_where_no_height_is_left(rt: HostRuntime) -> Result<(), Fail> {
     let alloc = rt.alloc();
@@ -52,7 +52,7 @@ fn a_term_may_open_as_many_brackets_as_are_read(rt: HostRuntime) -> Result<(), F
     Ok(())
 }
 
-/// `s{}(` so many times round `a{}()`, between two texts.
+/// `s{}(` nested `count` times around `a{}()`, between two texts.
 pub(crate) fn nested(
     alloc: Global,
     before: &str,

@@ -1,4 +1,4 @@
-// The lines of a run and, where one is wanted, the file of its proof.
+// The lines of a run and, if one is wanted, the file of its proof.
 ghost use Rattle.std.specs.Prelude.{◌≡◌, ◌≤◌, Some, IsTrue, IsFalse, IfOk, OnErr, IsErrOf};
 ghost use Rattle.term_core.specs.RulePatterns.{plain_pattern};
 ghost use Rattle.rule_core.specs.ProgramView.{theory_of};
@@ -18,9 +18,11 @@ use desk_io::{Desk, DeskFault};
 use run_loop::RunEnd;
 use std::alloc::Global;
 
-/// How the run that is asked for ends, and its two lines. Where a file for the proof is named, it is created before the
-/// run, written as the run goes, and closed after it. The error: out of memory or a fault that the desk counted; then
-/// the file is as before, or holds the front of a proof.
+/// How the requested run ends, and its two lines. If a file for the proof is named, it is created
+/// before the run, written during the run, and closed after it.
+///
+/// Errors: out of memory, or a fault that the desk counted. After an error the file is as before or
+/// holds the front of a proof.
 pub fn made_lines<D: Desk>(
     alloc: Global,
     desk: &mut D,
@@ -56,8 +58,8 @@ pub fn made_lines<D: Desk>(
     }
 }
 
-/// The run within these bounds, with its proof in the file of this name, which is created before it, written as it
-/// goes, and closed after it. The error is as above.
+/// The run within these bounds, with its proof in the file of this name. The file is created before
+/// the run, written during the run, and closed after it. The errors are the ones of `made_lines`.
 pub fn proved_lines<D: Desk>(
     alloc: Global,
     desk: &mut D,
@@ -84,7 +86,7 @@ pub fn proved_lines<D: Desk>(
     }
 }
 
-// The same, in the created file, which is closed then, after a fault too.
+// The same, with the proof in the created file. The file is closed afterwards, even after a fault.
 fn proved_and_closed<D: Desk>(
     alloc: Global,
     desk: &mut D,

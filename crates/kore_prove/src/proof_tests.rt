@@ -1,4 +1,4 @@
-// Runs that leave their proofs.
+// Runs that write their proofs.
 use crate::height_tests::nested;
 use crate::test_calls::{BASE, Case, PROVES, call};
 use crate::test_definitions::*;
@@ -69,7 +69,7 @@ const CONSTRUCTED: [(Case<'static>, &str); 7] = [
     ),
 ];
 
-/// Runs whose values are computed, by hooks and by equations, with the same.
+/// Runs whose values are computed by hooks and equations, and what the last theorem of each states.
 const COMPUTED: [(Case<'static>, &str); 9] = [
     (
         Case {
@@ -188,21 +188,21 @@ fn a_run_by_a_rule_with_a_variable_leaves_its_proof(rt: HostRuntime) -> Result<(
     Ok(())
 }
 
-/// The proof of a run is valid, and ends with what was run.
+/// The proof of a run is valid, and its last theorem states the run.
 #[test]
 fn a_run_leaves_its_proof(rt: HostRuntime) -> Result<(), Fail> {
     assert_eq!(rt; first_unproved(rt.alloc(), &CONSTRUCTED)?, None);
     Ok(())
 }
 
-/// The same, with conditions, functions and hooks, and as kompile writes it.
+/// The same with conditions, functions and hooks, and with a definition as kompile writes it.
 #[test]
 fn a_run_that_computes_leaves_its_proof(rt: HostRuntime) -> Result<(), Fail> {
     assert_eq!(rt; first_unproved(rt.alloc(), &COMPUTED)?, None);
     Ok(())
 }
 
-/// The number of the first case of which something else comes, or no valid proof that ends so.
+/// The number of the first case with another result, or without a valid proof of what it states.
 fn first_unproved(alloc: Global, cases: &[(Case<'_>, &str)]) -> Result<Option<usize>, AllocError> {
     for (number, (case, stated)) in cases.iter().enumerate() {
         let (desk, holds) = call(alloc, case)?;
@@ -214,8 +214,8 @@ fn first_unproved(alloc: Global, cases: &[(Case<'_>, &str)]) -> Result<Option<us
     Ok(None)
 }
 
-/// What the last `$p` statement of a database states: a `p` and its symbols. Each piece between two `$` begins with the
-/// letter of its keyword.
+/// What the last `$p` statement of a database states: a `p` and its symbols. Each piece between two
+/// `$` begins with the letter of its keyword.
 fn last_stated(database: &[u8]) -> Option<&str> {
     let Ok(text) = str::from_utf8(database) else {
         return None;

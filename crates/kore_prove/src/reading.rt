@@ -1,4 +1,4 @@
-// What a run stands on: the definition and the term, accepted.
+// What a run needs: the accepted definition and the accepted term.
 ghost use Rattle.std.specs.Prelude.{◌≡◌, ℕ, Option, IfOk, IfErr};
 ghost use Rattle.desk_io.specs.Told.{Told, KeepsFiles};
 ghost use Rattle.term_core.specs.RulePatterns.{plain_pattern};
@@ -21,7 +21,7 @@ use desk_io::{Desk, ReadEnd};
 use kore_rules::Refusal;
 use std::alloc::Global;
 
-/// The program and the initial term that the files of a run hold, the definition first.
+/// The program and the initial term in the files of a run. The definition is read first.
 pub fn read_run<'a, D: Desk>(
     alloc: Global,
     desk: &mut D,

@@ -1,4 +1,4 @@
-// What the program says on the error stream where a call does not come to its lines.
+// What the program writes to the error stream if a call does not print its lines.
 ghost use Rattle.std.specs.Prelude.{◌≡◌, ◌≤◌, ◌++◌, [], ◌∷◌, List, ℕ, OnOk, OnErr, IsErrOf};
 ghost use Rattle.std.specs.List.{flat_map};
 ghost use Rattle.std.specs.Borrow.{Bor};
@@ -10,10 +10,10 @@ ghost use Rattle.kore_prove.specs.PlainEnds.{fault_end, plain_end};
 use desk_io::{DeskFault, Sink, send_whole};
 use itoa::Buffer;
 
-/// Why a call did not come to its lines.
+/// Why a call did not print its lines.
 #[derive(Clone, Copy, Debug, PartialEq, Eq)]
 pub enum End<'a> {
-    /// Memory was wanting.
+    /// Memory ran out.
     OutOfMemory,
     /// The words are no command.
     BadWords,
@@ -23,9 +23,9 @@ pub enum End<'a> {
     WriteFault,
     /// There is no file of this name.
     NoSuchFile(&'a str),
-    /// The definition was refused: the number of the refusal, and the byte that it is at.
+    /// The definition was refused: the number of the refusal, and the byte at which it is.
     DefinitionRefused(u8, u32),
-    /// The term was refused: the number of the refusal, and the byte that it is at.
+    /// The term was refused: the number of the refusal, and the byte at which it is.
     TermRefused(u8, u32),
     /// The file of this name has more bytes than its limit.
     TooLarge(&'a str),
@@ -49,7 +49,7 @@ impl End<'_> {
     }
 }
 
-/// The end of a call that could not write.
+/// The end of a call after a fault in writing.
 pub fn write_end<'a>(fault: DeskFault) -> End<'a>
     ensures { plain_end result ≡ fault_end fault }
 {
@@ -59,8 +59,8 @@ pub fn write_end<'a>(fault: DeskFault) -> End<'a>
     }
 }
 
-/// Sends the one line that says why a call ended. After an error some bytes from its front are
-/// sent, maybe none. It fails only where the sink counted a fault.
+/// Sends the line that states why a call ended. After an error some bytes from its front, perhaps
+/// none, are sent. It fails with `Failed` only if the sink counted a fault.
 pub fn send_report<E: Sink>(err: &mut E, end: &End<'_>) -> Result<(), DeskFault>
     ensures sent { OnOk result (Appends (E.bytes err.old) (E.bytes err.new) (report_line (plain_end end.now))) }
     ensures prefix { OnErr result
@@ -82,7 +82,7 @@ pub fn send_report<E: Sink>(err: &mut E, end: &End<'_>) -> Result<(), DeskFault>
     }
 }
 
-/// Sends what was refused, the number of the refusal and the byte that it is at.
+/// Sends what was refused, the number of the refusal and the byte at which it is.
 fn send_refusal<E: Sink>(err: &mut E, what: &str, number: u8, byte: u32) -> Result<(), DeskFault>
     ensures sent { OnOk result
         (Appends (E.bytes err.old) (E.bytes err.new) (what.now ++ refusal number byte ++ 10 ∷ [])) }
@@ -104,7 +104,8 @@ fn send_refusal<E: Sink>(err: &mut E, what: &str, number: u8, byte: u32) -> Resu
     send_pieces(err, &pieces)
 }
 
-/// Sends pieces one after the other. After an error some bytes from their front are sent, maybe none.
+/// Sends pieces one after the other. After an error some bytes from their front, perhaps none, are
+/// sent.
 pub fn send_pieces<E: Sink>(err: &mut E, pieces: &[&str]) -> Result<(), DeskFault>
     ensures sent { OnOk result (Appends
         (E.bytes err.old) (E.bytes err.new) (flat_map (λ (p : Bor (List ℕ)). p.now) pieces.now)) }

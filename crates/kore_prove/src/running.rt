@@ -1,4 +1,4 @@
-// The run that is asked for, its lines, and its proof.
+// The requested run, its lines, and its proof.
 ghost use Rattle.std.specs.Prelude.{◌≡◌, ◌≤◌, IsTrue, IfOk, OnErr, IsErrOf};
 ghost use Rattle.term_core.specs.RulePatterns.{plain_pattern};
 ghost use Rattle.rule_core.specs.ProgramView.{theory_of};
@@ -26,7 +26,7 @@ pub struct Bounds {
     pub calls: u32,
 }
 
-/// A run that was proved.
+/// A proved run.
 #[derive(Drop)]
 pub struct Proved {
     /// How it ends.
@@ -37,7 +37,7 @@ pub struct Proved {
     pub summary: Summary,
 }
 
-/// How the run within these bounds ends, and its two lines. `AllocError` says that memory ran out.
+/// How the run within these bounds ends, and its two lines. `AllocError`: out of memory.
 pub fn lines_of_run(
     alloc: Global,
     accepted: &Accepted,
@@ -54,8 +54,10 @@ pub fn lines_of_run(
     Ok((end, lines))
 }
 
-/// The same; a database that justifies the run is appended to the created file as it goes. The error: out of memory
-/// or a fault that the desk counted; then the front of such a database was appended, or nothing.
+/// The same. A database that justifies the run is appended to the created file during the run.
+///
+/// Errors: out of memory, or a fault that the desk counted. After an error the front of such a
+/// database, perhaps nothing, was appended.
 pub fn proved_lines_of_run<D: Desk>(
     alloc: Global,
     desk: &mut D,

@@ -6,8 +6,8 @@ use crate::test_definitions::TWO_STEPS;
 use desk_io::{Desk, MemDesk, MemSink};
 use std::alloc::{AllocError, Global};
 
-/// Words, the files `d.kore` and `t.kore`, the calls of the desk and of the streams that fail, and what must come of
-/// them.
+/// The words, the files `d.kore` and `t.kore`, the calls of the desk and of the streams that fail,
+/// and the expected result.
 #[derive(Clone, Copy)]
 pub(crate) struct Case<'t> {
     pub(crate) words: &'static [&'static str],
@@ -21,7 +21,8 @@ pub(crate) struct Case<'t> {
     pub(crate) err: &'static str,
 }
 
-/// A run of two steps at most five, which is stuck, and says nothing as yet.
+/// A run of at most five steps, which gets stuck after two. The expected lines are left to each
+/// test.
 pub(crate) const BASE: Case<'static> = Case {
     words: &["run", "d.kore", "t.kore", "--limit", "5"],
     definition: TWO_STEPS,
@@ -34,14 +35,14 @@ pub(crate) const BASE: Case<'static> = Case {
     err: "",
 };
 
-/// A run of two steps that is proved in `p.mm`.
+/// A run of two steps whose proof goes to `p.mm`.
 pub(crate) const PROVES: Case<'static> = Case {
     words: &["run", "d.kore", "t.kore", "--limit=5", "--proof=p.mm"],
     out: "stuck 2\nc{}()\n",
     ..BASE
 };
 
-/// The number of the first case of which something else comes.
+/// The number of the first case with another result than expected.
 pub(crate) fn first_failing(
     alloc: Global,
     cases: &[Case<'_>],
@@ -55,7 +56,7 @@ pub(crate) fn first_failing(
     Ok(None)
 }
 
-/// The desk after the call, and whether just that came of it.
+/// The desk after the call, and whether the result is exactly the expected one.
 pub(crate) fn call(alloc: Global, case: &Case<'_>) -> Result<(MemDesk, bool), AllocError> {
     let words = words_of(alloc, case.words)?;
     let mut desk = two_files(alloc, case.definition, case.term, case.desk_fails)?;
@@ -68,7 +69,7 @@ pub(crate) fn call(alloc: Global, case: &Case<'_>) -> Result<(MemDesk, bool), Al
     Ok((desk, holds))
 }
 
-/// The words as the program is given them.
+/// The words as the program gets them.
 fn words_of(alloc: Global, given: &[&str]) -> Result<Vec<String>, AllocError> {
     let mut words = Vec::new(alloc);
     for word in given {
@@ -77,7 +78,8 @@ fn words_of(alloc: Global, given: &[&str]) -> Result<Vec<String>, AllocError> {
     Ok(words)
 }
 
-/// A desk with a definition and a term, which passes at most 5,000 bytes a call and fails the calls with these numbers.
+/// A desk with a definition and a term. It reads at most 5,000 bytes in each call, and fails the
+/// calls with these numbers.
 fn two_files(
     alloc: Global,
     definition: &str,

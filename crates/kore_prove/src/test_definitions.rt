@@ -1,4 +1,4 @@
-// Definitions that tests run.
+// Definitions that the tests run.
 
 pub(crate) const TWO_STEPS: &str = r#"[]
 module A

@@ -21,12 +21,12 @@ use std::alloc::{AllocError, Global};
 /// The greatest number of bytes of a database.
 const DATABASE_LIMIT: usize = 268_435_456;
 
-/// What a database is found to be.
+/// The verdict on a database.
 #[derive(Clone, Copy)]
 pub enum Verdict {
-    /// Valid, with so many `$a` and `$p` statements.
+    /// Valid, with these numbers of `$a` and `$p` statements.
     Valid(Report),
-    /// Invalid, by this first fault.
+    /// Invalid, with this first fault.
     Invalid(MmFault),
 }
 
@@ -109,7 +109,7 @@ fn verdict_on(alloc: Global, bytes: &[u8]) -> Result<Verdict, AllocError>
     }
 }
 
-/// The end of a call whose file was not read.
+/// The end of a call whose file was not read as a whole.
 fn unread_end(end: ReadEnd, name: &str) -> End<'_>
     ensures cause { (c : Course) → UnreadCause c.told name.now database_limit c.reads c.reads' end
         → VerifyCause name.now c (plain_end result) }
@@ -123,8 +123,8 @@ fn unread_end(end: ReadEnd, name: &str) -> End<'_>
     }
 }
 
-/// Sends the line of a verdict. After an error some bytes from its front are sent, maybe none. It
-/// fails only where the sink counted a fault.
+/// Sends the line of a verdict. After an error some bytes from its front, perhaps none, are sent.
+/// It fails with `Failed` only if the sink counted a fault.
 fn send_verdict<O: Sink>(out: &mut O, verdict: &Verdict) -> Result<(), DeskFault>
     ensures sent { OnOk result (Appends (O.bytes out.old) (O.bytes out.new) (verdict_line verdict.now)) }
     ensures prefix { OnErr result

@@ -23,7 +23,7 @@ both_sorts None others h = absurd (let no : ⊥ = cc in no)
 both_sorts (Some s) None h = absurd (let no : ⊥ = cc in no)
 both_sorts (Some s) (Some ss) h = (refl, refl)
 
--- one of the patterns has a Kore pattern where all have
+-- if all patterns have Kore patterns, one of them has
 pub item-shown : (sig : Signature) (ps : List RulePat) (i : ℕ) (p : RulePat) → p ≡ get_or ps i p → i < length ps → IsSome (kore_patterns sig (plain_patterns ps)) → IsSome (kore_pattern sig (plain_pattern p))
 item-shown sig [] i p e lt h = absurd (omega arith)
 item-shown sig (q ∷ ps) zero p e lt h =
@@ -32,7 +32,7 @@ item-shown sig (q ∷ ps) zero p e lt h =
 item-shown sig (q ∷ ps) (suc i) p e lt h =
     item-shown sig ps i p e (omega arith) (both_there (kore_pattern sig (plain_pattern q)) (kore_patterns sig (plain_patterns ps)) h).1
 
--- one of the sorts is declared where all are
+-- if all sorts are declared, one of them is
 pub item-sort : (sig : Signature) (ss : List SortId) (i : ℕ) (s : SortId) → s ≡ get_or ss i s → i < length ss → IsSome (kore_sorts sig (sort_numbers ss)) → IsSome (kore_sort sig s.0)
 item-sort sig [] i s e lt h = absurd (omega arith)
 item-sort sig (q ∷ ss) zero s e lt h =
@@ -40,7 +40,7 @@ item-sort sig (q ∷ ss) zero s e lt h =
 item-sort sig (q ∷ ss) (suc i) s e lt h =
     item-sort sig ss i s e (omega arith) (both_sorts (kore_sort sig q.0) (kore_sorts sig (sort_numbers ss)) h).1
 
--- the Kore patterns of patterns, one by one, are those of all
+-- the Kore patterns of the single patterns are the Kore patterns of all
 pub each-shown : (sig : Signature) (ps : List RulePat) (ts : List PatternTree) → map (λ (p : RulePat). kore_pattern sig (plain_pattern p)) ps ≡ map (λ (t : PatternTree). Some t) ts → kore_patterns sig (plain_patterns ps) ≡ Some (pattern_trees ts)
 each-shown sig [] [] e = refl
 each-shown sig [] (t ∷ ts) e = absurd (let no : ⊥ = cc in no)
@@ -59,7 +59,7 @@ each-sort sig (s ∷ ss) (t ∷ ts) e =
     let others : map (λ (q : SortId). kore_sort sig q.0) ss ≡ map (λ (u : SortTree). Some u) ts = cc in
     rw (first, each-sort sig ss ts others) refl
 
--- .. with one more
+-- the same, with one more pattern
 pub push-shown : (sig : Signature) (ps : List RulePat) (i : ℕ) (p : RulePat) (all new : List Pat) (made : Pat) → p ≡ get_or ps i p → i < length ps → new ≡ all ++ made ∷ []
     → map (λ (q : RulePat). kore_pattern sig (plain_pattern q)) (take i ps) ≡ map (λ (t : PatternTree). Some t) (map kore_tree all) → kore_pattern sig (plain_pattern p) ≡ Some (kore_tree made)
     → map (λ (q : RulePat). kore_pattern sig (plain_pattern q)) (take (i + 1) ps) ≡ map (λ (t : PatternTree). Some t) (map kore_tree new)

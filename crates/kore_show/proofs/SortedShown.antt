@@ -44,11 +44,11 @@ sorts-there sig [] h = refl
 sorts-there sig (s ∷ ss) h =
     with_sort-there (kore_sort sig s) (kore_sorts sig ss) (sort-there sig s h.0) (sorts-there sig ss h.1)
 
--- the sorts of a pair are declared
+-- the two sorts of a subsort pair are declared
 pair-there : (sig : Signature) → IsSignature sig → (a b : ℕ) → Contains sig.subsorts (a, b) → (a < length sig.sorts) × (b < length sig.sorts)
 pair-there sig well a b at = All-contains (IsPair sig) sig.subsorts (a, b) well.pairs at
 
--- both sorts of a chain are declared
+-- the two sorts at the ends of a chain are declared
 below-there : (sig : Signature) → IsSignature sig → (a b : ℕ) → IsBelow sig.subsorts a b → (a < length sig.sorts) × (b < length sig.sorts)
 below-there sig well a b (by_pair at) = pair-there sig well a b at
 below-there sig well a c (by_chain {b = b} at rest) = ((pair-there sig well a b at).0, (below-there sig well b c rest).1)

@@ -1,5 +1,5 @@
--- The Kore pattern that a pattern of a rule is, by the names that its signature declares (Kore language document,
--- "Patterns"). It stands in no text, and so each place is 0.
+-- The Kore pattern of a pattern of a rule, with the names that its signature declares (Kore
+-- language document, "Patterns"). It does not come from a text, so each place is 0.
 use Rattle.std.specs.Prelude.{ℕ, List, [], ◌∷◌, Bool, true, false, Option, Some, None, option_map, slice_get, codes}
 use Rattle.std.specs.Prelude.{if◌then◌else◌}
 use Rattle.std.specs.Fmt.{signed_decimal}
@@ -14,11 +14,12 @@ use Rattle.kore_text.specs.Trees.{SortTree, sort_applied, no_sorts, sort_trees, 
 use Rattle.kore_text.specs.Trees.{symbol_applied, no_patterns, pattern_then}
 use Rattle.kore_text.specs.Trees as tree
 
--- the name under a number
+-- the name with this number
 abbrev pub declared_name : {V : Type 0} → List (List ℕ × V) → ℕ → Option (List ℕ)
 declared_name {V} entries n = option_map (λ e. e.0) (slice_get entries n)
 
--- the text of a domain value in canonical form: an integer in decimal digits, a truth value by its name
+-- the text of a domain value in canonical form: an integer in decimal digits, a truth value by its
+-- name
 abbrev pub value_text : DomainValue → List ℕ
 value_text (integer n) = signed_decimal n
 value_text (truth true) = codes "true"
@@ -70,7 +71,8 @@ in_front None ps = None
 in_front (Some p) None = None
 in_front (Some p) (Some ps) = Some (pattern_then p ps)
 
--- The Kore pattern: there is none where a variable stands in the pattern, or a sort or a symbol is not declared.
+-- The Kore pattern. There is none if the pattern has a variable, or a sort or symbol that is not
+-- declared.
 abbrev mutual
   pub kore_pattern : Signature → Pattern → Option PatternTree
   kore_pattern sig (variable x) = None

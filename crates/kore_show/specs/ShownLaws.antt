@@ -1,4 +1,4 @@
--- Laws on the Kore patterns of patterns of rules.
+-- A law on the Kore patterns of patterns of rules.
 use Rattle.std.specs.Prelude.{ℕ, [], IsSome}
 use Rattle.term_core.specs.Patterns.{Pattern}
 use Rattle.rule_core.specs.declared.signature.Signature.{Signature}

@@ -1,8 +1,9 @@
-// The Kore pattern that a pattern of a rule without variables is.
+// The Kore pattern of a pattern of a rule without variables.
 //
-// `shown` gives it, by the names that the signature declares: symbols and sorts by their names, values by their text in
-// canonical form, an injection by the injection symbol's name. The definition stands in specs/KorePatterns.antt;
-// `shown_laws` says that each well-sorted pattern without variables has one.
+// `shown` returns it, with the names that the signature declares. Symbols and sorts are written by
+// their names, values by their text in canonical form, and an injection by the name of the
+// injection symbol. The definition is in specs/KorePatterns.antt. `shown_laws` says that each
+// well-sorted pattern without variables has a Kore pattern.
 #![tactic(auto)]
 
 mod laws;

@@ -1,4 +1,4 @@
-// Sorts, symbols and values by their names.
+// The names of sorts and symbols, and the texts of values.
 ghost use Rattle.std.specs.Prelude.{◌≡◌, ℕ, List, IsSome, IfOk, IfSome, IfNone, None, Some, map, slice_get};
 ghost use Rattle.kore_ast.specs.Plain.{plain_sort};
 ghost use Rattle.term_core.specs.Values.{value_of};
@@ -13,7 +13,7 @@ use rule_core::{Signature, SymInfo, SymKind, Table};
 use std::alloc::{AllocError, Global};
 use term_core::{SortId, Value};
 
-// The number of the injection symbol, where there is one. It looks at each symbol up to that one.
+// The number of the injection symbol, if there is one. It looks at each symbol up to that one.
 pub(crate) fn injection_symbol(symbols: &Table<SymInfo>) -> Option<usize>
     ensures found { IfSome result (λ n. declared_name symbols.now n ≡ injection_name symbols.now) }
     ensures none { IfNone result (injection_name symbols.now ≡ None) }
@@ -26,7 +26,7 @@ pub(crate) fn injection_symbol(symbols: &Table<SymInfo>) -> Option<usize>
     None
 }
 
-// Whether the symbol with this number is of the kind of the injection symbol.
+// Whether the symbol with this number is an injection symbol.
 fn injects(symbols: &Table<SymInfo>, n: usize) -> bool
     ensures { (name : List ℕ) (info : SymInfo) → slice_get symbols.now n ≡ Some (name, info) → result
         ≡ injects info.kind }
@@ -37,7 +37,7 @@ fn injects(symbols: &Table<SymInfo>, n: usize) -> bool
     }
 }
 
-// The name under this number.
+// The name with this number.
 pub(crate) fn name_of<V: Drop>(
     alloc: Global,
     table: &Table<V>,

@@ -12,12 +12,12 @@ use rule_core::Signature;
 use std::alloc::{AllocError, Global};
 use term_core::RulePat;
 
-/// The Kore pattern that a pattern without variables is, by the names of the signature, with 0 for each place. The
-/// pattern is one that has such a pattern, as each has that is well-sorted and without variables (`shown_laws`).
-/// `AllocError` says that memory ran out.
+/// The Kore pattern of a pattern without variables, with the names of the signature, and with 0 for
+/// each place. The pattern must have a Kore pattern. Every well-sorted pattern without variables
+/// has one (`shown_laws`). `AllocError`: out of memory.
 ///
-/// It takes a time linear in the pattern and its names, and one pass over the symbols to find the injection symbol. It
-/// recurses as deep as the pattern is.
+/// The time is linear in the pattern and its names, plus one pass over the symbols to find the
+/// injection symbol. The recursion is as deep as the pattern.
 pub fn shown(alloc: Global, sig: &Signature, pat: &RulePat) -> Result<Pat, AllocError>
     requires { IsSome (kore_pattern sig.now (plain_pattern pat.now)) }
     ensures { IfOk result (λ p. kore_pattern sig.now (plain_pattern pat.now) ≡ Some (kore_tree p)) }
@@ -26,7 +26,8 @@ pub fn shown(alloc: Global, sig: &Signature, pat: &RulePat) -> Result<Pat, Alloc
     shown_at(alloc, sig, injection, pat)
 }
 
-// The Kore pattern of a pattern, by its head; `injection` is the number of the injection symbol.
+// The Kore pattern of a pattern, by cases on its head. `injection` is the number of the injection
+// symbol.
 #[cycle(shown)]
 fn shown_at(
     alloc: Global,

@@ -1,4 +1,4 @@
--- Records of steps, from what is recorded of their evaluations.
+-- Records of steps, built from what is recorded of their evaluations.
 use Rattle.std.proofs.Common.{◌≡◌, ℕ, ◌<◌, Option, Some, None, sym, ◌∙◌, ap, subst}
 use Rattle.std.specs.Prelude.{slice_get, option_map}
 use Rattle.term_core.specs.Terms.{Tree}

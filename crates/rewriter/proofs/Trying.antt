@@ -1,4 +1,4 @@
--- How rules are tried, one by one, and what a step comes to.
+-- How rules are tried one by one, and the result of a step.
 use Rattle.std.proofs.Common.{rules, ◌≡◌, ℕ, suc, zero, ◌+◌, ◌-◌, ◌<◌, ◌≤◌, ⊎_elim, inl, inr, List, [], ◌∷◌, length, drop, Option, Some, None, refl, sym, ◌∙◌, ap, subst, arith}
 use Rattle.std.specs.Prelude.{Err, slice_get, IfSome, MatchOption, vec_len}
 use Rattle.std.proofs.lemmas.List.{drop_all, length-map}
@@ -218,7 +218,7 @@ step_made tells theory t u c number left rest theta cond rule recorded good is l
       (is.0, is.1, fine.0),
     )
 
--- the number of the chosen rule is that of one
+-- the number of the chosen rule is the number of a rule
 pub chosen_within : (p q : Program) (t : Tree) (c number left : ℕ) (theta : List (Option Tree)) → q ≡ p → IsChosen (theory_of p) t c number theta left → number < length q.rules.items
 chosen_within p q t c number left theta same picked =
     let within : number < length (rewrite_rules p.rules.items) = slice_get_within (rewrite_rules p.rules.items) number picked.rule picked.there in

@@ -1,4 +1,4 @@
--- What the private functions that try rules answer.
+-- What the private functions that try rules return.
 use Rattle.std.specs.Prelude.{◌≡◌, ◌⊎◌, ◌<◌, ◌≤◌, ℕ, List, Option, Some, None, slice_get, Result}
 use Rattle.term_core.specs.Terms.{Tree}
 use Rattle.term_core.specs.Patterns.{Pattern}
@@ -26,7 +26,7 @@ abbrev pub IsRecordedCondition : {R : Type 0} → (R → Record → Type 0) → 
 IsRecordedCondition tells theory theta p kept =
     (o : OptionalRecord) × TellsOption tells kept o × RecordsCondition theory theta p o
 
--- a rule is passed over, or it matches and its condition holds
+-- a rule is not used, or it matches and its condition holds
 abbrev pub RuleSays : {R : Type 0} → (R → Record → Type 0) → RewriteTheory → RewriteRule → Tree → ℕ → Trial R → ℕ
     → Type 0
 RuleSays tells theory rule t c Unused left =
@@ -36,7 +36,7 @@ RuleSays tells theory rule t c (Used theta kept) left =
     Matches theory rule t theta × Meets theory theta rule.condition c (holds left)
     × IsRecordedCondition tells theory theta rule.condition kept
 
--- .. or its condition is blocked
+-- the same, or the rule's condition is blocked
 abbrev pub TriesRule : {R : Type 0} → (R → Record → Type 0) → RewriteTheory → RewriteRule → Tree → ℕ
     → Result (Trial R × ℕ) EvalEnd → Type 0
 TriesRule tells theory rule t c answer =
@@ -46,7 +46,7 @@ TriesRule tells theory rule t c answer =
     × Meets theory theta rule.condition c (untested cause))
     answer
 
--- the rule with this number applies with this substitution, and no earlier one
+-- the rule with this number applies with this substitution, and no earlier rule applies
 pub record IsChosen (theory : RewriteTheory) (t : Tree) (c number : ℕ) (theta : List (Option Tree)) (left : ℕ) : Type 0
   where
     pub rule : RewriteRule

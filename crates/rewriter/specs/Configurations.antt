@@ -1,4 +1,4 @@
--- What a run keeps, and what it asks for.
+-- What a run keeps, and what it requires.
 use Rattle.std.specs.Prelude.{ℕ, [], All}
 use Rattle.term_core.specs.Terms.{Tree}
 use Rattle.term_core.specs.Patterns.{Pattern}
@@ -11,10 +11,10 @@ pub record RunState : Type 0 where
   pub config : Tree
   pub calls : ℕ
 
--- The initial term has a sort, that of the rules where there are any, and no variable.
+-- the initial term has a sort, which is the sort of the rules if there are any, and no variable
 abbrev pub IsStartOf : RewriteTheory → Pattern → Type 0
 IsStartOf theory start = (sort : ℕ) × All (IsRuleOf theory.sig sort) theory.rules × HasSort theory.sig [] start sort
 
--- .. so has each configuration
+-- a configuration has such a sort too
 abbrev pub IsConfiguration : RewriteTheory → Tree → Type 0
 IsConfiguration theory t = (sort : ℕ) × All (IsRuleOf theory.sig sort) theory.rules × IsTermOf theory.sig t sort

@@ -1,4 +1,4 @@
--- What a step of a run answers.
+-- What a step of a run returns.
 use Rattle.std.specs.Prelude.{◌≡◌}
 use Rattle.term_core.specs.Terms.{Tree}
 use Rattle.rule_core.specs.Theories.{RewriteTheory}
@@ -13,20 +13,21 @@ use Rattle.rewriter.specs.declared.run.Next.{Next}
 use Rattle.rewriter.specs.declared.run.Next.TheVariants as answer
 use Rattle.rewriter.specs.declared.step.Made.{Made}
 
--- The step is that of the definition: to the new state, or to none, and then the state is as before.
+-- The step is the one of the definition. It leads to the new state, or to none, and then the state
+-- is as before.
 abbrev pub TakesStep : {S : Type 0} → RewriteTheory → RunState → RunState → Next S → Type 0
 TakesStep theory old new (answer.Made s) = Steps theory old.config old.calls (next new.config new.calls)
 TakesStep theory old new answer.Stuck = Steps theory old.config old.calls stays × (new ≡ old)
 TakesStep theory old new (answer.Blocked why) = Steps theory old.config old.calls (stops (cause_of why)) × (new ≡ old)
 
--- the record of a step that was made follows the step from the one term to the other
+-- the record of the step follows the step from one term to the other
 abbrev pub RecordsNext : RewriteTheory → Tree → Tree → Next code.StepRecord → Type 0
 RecordsNext theory t u (answer.Made s) =
     RecordsStep theory t (plain_step s) × (result_of (plain_step s).right ≡ u)
 RecordsNext theory t u answer.Stuck = Unit {0}
 RecordsNext theory t u (answer.Blocked why) = Unit {0}
 
--- what is recorded of a step tells such a record
+-- the recording of a step tells such a record
 pub record TellsStep {R : Type 0} (tells : R → Record → Type 0) (theory : RewriteTheory) (t u : Tree) (made : Made R) :
     Type 0 where
   pub step : StepRecord

@@ -1,4 +1,4 @@
--- What the private function that makes a step answers.
+-- What the private function that makes a step returns.
 use Rattle.std.specs.Prelude.{ℕ, Option, Some, None, Result, Ok, Err}
 use Rattle.term_core.specs.Terms.{Tree}
 use Rattle.rule_core.specs.Theories.{RewriteTheory}
@@ -11,7 +11,7 @@ use Rattle.rewriter.specs.Configurations.{IsConfiguration}
 use Rattle.rewriter.specs.NextSteps.{TellsStep}
 use Rattle.rewriter.specs.declared.step.Further.{Further}
 
--- the step from a configuration, with so many calls left
+-- the step from a configuration, with c calls left
 abbrev pub Advances : {R : Type 0} → (R → Record → Type 0) → RewriteTheory → Tree → ℕ
     → Result (Option (Further R)) EvalEnd → Type 0
 Advances tells theory t c (Ok None) = Steps theory t c stays

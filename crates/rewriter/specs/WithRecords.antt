@@ -6,7 +6,7 @@ use Rattle.rewriter.specs.declared.run.Next.{Next}
 use Rattle.rewriter.specs.declared.run.Next.TheVariants as answer
 use Rattle.rewriter.specs.declared.step.Made.{Made}
 
--- the same answer, with the records of the evaluations as they are
+-- the same result, with the records of the evaluations as they are
 abbrev pub IsWithRecord : Next (Made EvalRecord) → Next StepRecord → Type 0
 IsWithRecord (answer.Made s) other = other
     ≡ answer.Made (record { rule = s.rule; subst = s.subst; cond = s.cond; right = s.right })

@@ -1,4 +1,4 @@
-// The trial of the rules, one by one in their order.
+// Trying the rules, one by one in their order.
 ghost use Rattle.std.specs.Prelude.{◌≡◌};
 ghost use Rattle.rule_core.specs.ProgramView.{theory_of, rewrite_rule};
 ghost use Rattle.rewriter.specs.Configurations.{IsConfiguration};
@@ -9,8 +9,8 @@ use rule_core::Rule;
 use std::alloc::Global;
 use term_core::{Subst, Term};
 
-// The rule that is used: its number, the substitution that makes its left side the term, and what is recorded of its
-// condition, where it has one.
+// The rule that is used: its number, the substitution that makes its left side the term, and what
+// is recorded of its condition, if it has one.
 #[derive(Drop)]
 pub(crate) struct Choice<R> {
     pub(crate) number: u32,
@@ -18,7 +18,7 @@ pub(crate) struct Choice<R> {
     pub(crate) cond: Option<R>,
 }
 
-// The first rule that is used at a term, and the calls that are left then.
+// The first rule that is used at a term, and how many calls are left after the trials.
 pub(crate) fn choose_rule<R: Recording>(
     alloc: Global,
     engine: &Engine<'_>,
@@ -70,7 +70,7 @@ fn try_rule<R: Recording>(
     let Some(cond) = &rule.cond else {
         return Ok((Trial::Used(subst, None), calls));
     };
-    // Its height is at most the greatest.
+    // The height of the term is at most the greatest height.
     let _high = term.height();
     let mut budget = Budget { calls };
     match engine.eval_as::<R>(alloc, cond, &subst, &mut budget, MAX_NESTING) {

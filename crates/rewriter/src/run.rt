@@ -20,7 +20,7 @@ use std::alloc::{AllocError, Global};
 use std::marker::Model;
 use term_core::{RulePat, Subst, Term};
 
-/// The last configuration of a run, and the calls of functions that are left.
+/// The last configuration of a run, and how many calls of functions are left.
 #[derive(Drop)]
 pub struct Run {
     config: Term,
@@ -38,20 +38,21 @@ impl Model for Run {
     ghost view = { λ r. record { config = r.config; calls = r.calls } };
 }
 
-/// What comes of a step.
+/// The result of a step.
 #[derive(Drop)]
 pub enum Next<S> {
     /// The step was made.
     Made(S),
     /// No rule applies.
     Stuck,
-    /// A condition that was reached, or the right side, has no value.
+    /// The condition of a rule that was tried, or the right side, has no value.
     Blocked(Blocked),
 }
 
 impl Run {
-    /// The run of an initial term, with so many calls of functions, and the record of the term's evaluation. Where
-    /// there are rules, the term has their sort. `Blocked` says why it has no value: its run is blocked at 0.
+    /// The run of an initial term, with at most this many calls of functions, and the record of the
+    /// term's evaluation. If there are rules, the term has their sort. `Blocked` states why the
+    /// term has no value: its run is blocked at step 0.
     pub fn new(
         alloc: Global,
         engine: &Engine<'_>,
@@ -117,10 +118,11 @@ impl Run {
         self.calls
     }
 
-    /// One step, by the engine that the run was made with. After `Stuck`, `Blocked` or an error the run is as before,
-    /// and the same comes again. `AllocError` says that memory ran out.
+    /// One step, by the engine with which the run was made. After `Stuck`, `Blocked` or an error
+    /// the run is as before, and a further call returns the same. `AllocError`: out of memory.
     ///
-    /// Rules are tried one by one: one whose root is another than the configuration's costs one look.
+    /// Rules are tried one by one. A rule whose root differs from the configuration's root costs
+    /// one look.
     pub fn step(
         &mut self,
         alloc: Global,
@@ -167,7 +169,7 @@ impl Run {
     }
 }
 
-// The record of a step that was made, with those of its evaluations.
+// The record of a step, with the records of its evaluations.
 fn with_record(next: Next<Made<EvalRecord>>) -> Next<StepRecord>
     ensures { IsWithRecord next result }
 {

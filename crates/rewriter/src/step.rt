@@ -9,20 +9,20 @@ use fun_eval::{Answer, Budget, Engine, EvalEnd, MAX_NESTING, Recording};
 use std::alloc::Global;
 use term_core::{Subst, Term};
 
-/// A step that was made, as a `StepRecord`, with what is recorded of its evaluations.
+/// A step, like a `StepRecord`, with what is recorded of its evaluations.
 #[derive(Drop)]
 pub struct Made<R> {
     /// The number of the rule.
     pub rule: u32,
-    /// What makes the rule's left side the term.
+    /// The substitution that makes the rule's left side the term.
     pub subst: Subst,
-    /// What is recorded of its condition, where it has one.
+    /// What is recorded of its condition, if it has one.
     pub cond: Option<R>,
     /// What is recorded of its right side.
     pub right: R,
 }
 
-// A step that was made, the next configuration, and the calls that are left.
+// A step, the next configuration, and how many calls are left.
 #[derive(Drop)]
 pub(crate) struct Further<R> {
     pub(crate) made: Made<R>,
@@ -30,7 +30,7 @@ pub(crate) struct Further<R> {
     pub(crate) calls: u32,
 }
 
-// The step from a configuration, where a rule applies.
+// The step from a configuration, if a rule applies.
 pub(crate) fn advance<R: Recording>(
     alloc: Global,
     engine: &Engine<'_>,
@@ -53,7 +53,7 @@ pub(crate) fn advance<R: Recording>(
         cond,
     } = chosen;
     let rules = &engine.program().rules;
-    // Its height is at most the greatest.
+    // The height of the configuration is at most the greatest height.
     let _high = config.height();
     let mut budget = Budget { calls: left };
     match engine.eval_as::<R>(

@@ -1,4 +1,4 @@
--- The names of the rows of the code's table are those of the hooks.
+-- The names of the rows of the code's table are the names of the hooks.
 use Rattle.std.proofs.Common.{◌≡◌, ℕ, ◌<◌, ◌≤◌, List, [], length, get_or, map, Option, Some, None, sym, ◌∙◌, ap}
 use Rattle.std.specs.Prelude.{option_map, unwrap_or, slice_get}
 use Rattle.std.proofs.lemmas.Option.{slice_get-map, slice_get-get_or, slice_get_past}

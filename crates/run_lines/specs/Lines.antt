@@ -26,7 +26,7 @@ cause_word (no_call_left f) = codes "Calls"
 cause_word (too_high f) = codes "Height"
 cause_word (too_nested f) = codes "Nest"
 
--- .. and the name of the hook or of the symbol at which it has none
+-- the name of the hook or of the symbol at which the evaluation has no value
 abbrev pub cause_name : Signature → Cause → List ℕ
 cause_name sig (no_value row why) = hook_name row
 cause_name sig (closed f) = symbol_name sig f
@@ -40,21 +40,23 @@ abbrev pub blocked_line : Signature → ℕ → Cause → List ℕ
 blocked_line sig n cause =
     codes "blocked " ++ (decimal n ++ (codes " " ++ (cause_word cause ++ (codes " " ++ cause_name sig cause))))
 
--- `stuck N`, `limit N` or `blocked N CAUSE NAME`; a run that does not start is blocked after no step
+-- `stuck N`, `limit N` or `blocked N CAUSE NAME`; a run that does not start is blocked after 0
+-- steps
 abbrev pub end_line : Signature → Run → List ℕ
 end_line sig (stuck n t) = codes "stuck " ++ decimal n
 end_line sig (limited n t) = codes "limit " ++ decimal n
 end_line sig (stopped n cause t) = blocked_line sig n cause
 end_line sig (unstarted cause) = blocked_line sig 0 cause
 
--- the Kore pattern of what the run keeps: of the last configuration, or of the initial term as it was read
+-- the Kore pattern of what the run keeps: the last configuration, or the initial term as it was
+-- read
 abbrev pub kept_pattern : Signature → Pattern → Run → Option PatternTree
 kept_pattern sig start run = kore_pattern sig (kept_by start run)
 
--- a line and the canonical text of a pattern, each ended by a newline
+-- a line and the canonical text of a pattern, each followed by a newline
 abbrev pub two_lines : List ℕ → PatternTree → List ℕ
 two_lines line p = line ++ (10 ∷ (canonical_text p ++ (10 ∷ [])))
 
--- the two lines of a run, where what it keeps has a Kore pattern
+-- the two lines of a run, if what it keeps has a Kore pattern
 abbrev pub lines_of : Signature → Pattern → Run → Option (List ℕ)
 lines_of sig start run = option_map (two_lines (end_line sig run)) (kept_pattern sig start run)

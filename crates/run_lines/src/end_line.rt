@@ -46,7 +46,8 @@ fn blocked(alloc: Global, sig: &Signature, steps: u32, why: Blocked) -> Result<V
     Ok(line)
 }
 
-// Why an evaluation has no value, in a word, and the name of the hook or of the symbol at which it has none.
+// Why an evaluation has no value, as a word, and the name of the hook or symbol at which it has
+// none.
 fn cause_and_name<'s>(sig: &'s Signature, why: Blocked) -> (&'static str, &'s str)
     ensures { IsNamedCause sig.now why result.0.now result.1.now }
 {

@@ -1,7 +1,7 @@
 // The two lines that a run is printed as.
 //
-// `run_lines` gives the line of its end, `stuck N`, `limit N` or `blocked N CAUSE NAME`, and the line of what it keeps, in
-// canonical text. The definition stands in specs/Lines.antt.
+// `run_lines` returns the line of the run's end (`stuck N`, `limit N` or `blocked N CAUSE NAME`)
+// and the line of what the run keeps, in canonical text. They are defined in specs/Lines.antt.
 #![tactic(auto)]
 
 mod end_line;

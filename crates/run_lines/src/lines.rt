@@ -16,12 +16,12 @@ use run_loop::RunEnd;
 use std::alloc::{AllocError, Global};
 use term_core::{RulePat, Term, pattern_of};
 
-/// The two lines of the run of an initial term that ended so, by the names of the signature. What the run keeps is a
-/// pattern that has a Kore pattern, as each has that is well-sorted and without variables (`shown_laws` of `kore_show`).
-/// `AllocError` says that memory ran out.
+/// The two lines of a run of an initial term that ended with this end, with the names of the
+/// signature. What the run keeps must have a Kore pattern. Every well-sorted pattern without
+/// variables has one (`shown_laws` of `kore_show`). `AllocError`: out of memory.
 ///
-/// It takes a time linear in what is printed, and one pass over the symbols. Of the last configuration two copies are
-/// made, one after the other.
+/// The time is linear in the length of the output, plus one pass over the symbols. Two copies of
+/// the last configuration are made, one after the other.
 pub fn run_lines(
     alloc: Global,
     sig: &Signature,

@@ -2,7 +2,8 @@
 use rule_core::Blocked;
 use term_core::Term;
 
-/// How a run ends, after how many steps, and its last configuration. Contracts see it as the `plain_run`.
+/// How a run ends, after how many steps, and its last configuration. Contracts see it as
+/// `plain_run`.
 #[derive(Drop)]
 pub enum RunEnd {
     /// No rule applies to this configuration.

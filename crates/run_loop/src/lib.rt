@@ -1,8 +1,8 @@
 // The whole run of a term, from its evaluation to its end.
 //
-// `run` goes by the steps of `rewriter` until no rule applies, an evaluation is blocked or the limit of steps is reached.
-// Its answer is the run of the definition (specs/Runs.antt of `rule_core`), with the last configuration. Of the
-// configurations only the present one is kept, and nothing is recorded.
+// `run` takes steps of `rewriter` until no rule applies, an evaluation is blocked or the limit of
+// steps is reached. It returns the run of the definition (specs/Runs.antt of `rule_core`), with the
+// last configuration. Only the present configuration is kept, and nothing is recorded.
 #![tactic(auto)]
 
 mod ends;

@@ -12,10 +12,10 @@ use rewriter::{Next, Run};
 use std::alloc::{AllocError, Global};
 use term_core::RulePat;
 
-/// The run of an initial term, with so many steps and so many calls of functions at most. Where there are rules, the
-/// term has their sort. `AllocError` says that memory ran out.
+/// The run of an initial term, with at most this many steps and this many calls of functions. If
+/// there are rules, the term has their sort. `AllocError`: out of memory.
 ///
-/// A step costs what `Run::step_as` says. Memory does not grow with the number of steps.
+/// The cost of a step is stated at `Run::step_as`. Memory does not grow with the number of steps.
 pub fn run(
     alloc: Global,
     engine: &Engine<'_>,

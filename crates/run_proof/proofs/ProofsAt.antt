@@ -1,4 +1,4 @@
--- A proof that has come as far as a run, with its text.
+-- A proof that has reached the configuration of a run, with its text.
 use Rattle.std.proofs.Common.{◌≡◌, ◌≤◌, ℕ, ◌+◌, ◌-◌, ◌^◌, min, true, List, [], ◌++◌, length, Option, Some, None, inl, inr, refl, sym, ◌∙◌, ap, subst, arith, length-append}
 use Rattle.std.specs.Prelude.{Result, Ok, Err, IfOk, OnOk, OnErr}
 use Rattle.std.proofs.lemmas.List.{append_assoc}
@@ -32,7 +32,7 @@ use Rattle.desk_io.proofs.Told.{Writes-nil, Writes-then}
 use Rattle.rule_core.specs.Runs.{Run, kept_by}
 use Rattle.run_proof.specs.WrittenProofs.{IsSummaryOf, WritesFrontOfProof, WritesProof}
 
--- a run begins where its proof does
+-- a run begins where its proof begins
 pub begins_run : (program : Program) (start : Pattern) (calls : ℕ) (run : RunState) (b : Beginning) → Reaches (theory_of program) start calls 0 run.config run.calls → IsConfiguration (theory_of program) run.config →
     BeginsAt program start run b → BeginsRun program start calls b
 begins_run program start calls run (beginning.Begun s) reached sorted h =
@@ -71,7 +71,7 @@ goes_on program start proof further written before after t u h by = record {
   fits = subst (FitsProof further) (append_assoc written before by.text.0 ∙ ap (λ (l : List ℕ). written ++ l) (sym by.text.1)) (by.text.2 (written ++ before) h.fits);
 }
 
--- where the step is that of the definition
+-- the step is the one of the definition
 pub goes_further : (program : Program) (old : ProvedSteps) (run : RunState) (g : Going) → Steps (theory_of program) old.run.config old.run.calls (next run.config run.calls) →
     IsConfiguration (theory_of program) run.config → IsFurther run old.proof old.text.items g → GoesOn program old g
 goes_further program old run (going.Further new) step sorted h =
@@ -86,7 +86,7 @@ goes_further program old run (going.Further new) step sorted h =
 goes_further program old run (going.Stuck last left) step sorted h = absurd h
 goes_further program old run (going.Blocked why last left) step sorted h = absurd h
 
--- so the text justifies the run so far
+-- the text justifies the run so far
 pub justified : (program : Program) (start at end : Pattern) (proof : RunProof) (text : List ℕ) → IsProofAt program start at proof text → at ≡ end →
     JustifiesRun text (theory_of program) start end
 justified program start at end proof text h last =
@@ -95,7 +95,7 @@ justified program start at end proof text h last =
     let two : JustifiesRun text (theory_of program) start (reached proof) = subst (λ (p : Pattern). JustifiesRun text (theory_of program) p (reached proof)) h.same_start one in
     subst (λ (p : Pattern). JustifiesRun text (theory_of program) start p) (h.is_reached ∙ last) two
 
--- the initial term, as the rewriter asks for it
+-- the initial term meets the requirement of the rewriter
 pub start_of : (theory : RewriteTheory) (start : Pattern) → IsStart theory start → IsStartOf theory start
 start_of theory start h = (h.0, h.2, h.1)
 
@@ -108,12 +108,12 @@ min-add n more most = omega arith
 pub capped-add : (n more : ℕ) → capped (capped n + more) ≡ capped (n + more)
 capped-add n more = min-add n more (2 ^ 64 - 1)
 
--- some more bytes were written, and counted
+-- more bytes were written and counted
 pub counted_more : (written piece : List ℕ) (count more : ℕ) → count ≡ capped (length written) → more ≡ length piece → capped (count + more) ≡ capped (length (written ++ piece))
 counted_more written piece count more counted is =
     ap (λ (n : ℕ). capped (n + more)) counted ∙ capped-add (length written) more ∙ ap (λ (n : ℕ). capped (length written + n)) is ∙ ap capped (sym (length-append written piece))
 
--- the summary of a text, of which some was written before
+-- the summary of a text of which some bytes were written before
 pub summed_up : (facts statements count : ℕ) (written text : List ℕ) (summary : Summary) → HasCounts facts statements (written ++ text) → count ≡ capped (length written) → SumsUp facts statements count text summary →
     IsSummaryOf (written ++ text) summary
 summed_up facts statements count written text summary has counted sums = record {
@@ -121,7 +121,7 @@ summed_up facts statements count written text summary has counted sums = record 
   bytes_are = sums.bytes_are ∙ counted_more written text count (length text) counted refl;
 }
 
--- what is left of a proof has its counts
+-- what is left of a proof has the counts of the proof
 pub left_sums : (proof : RunProof) (text : List ℕ) (left : Left) (count : ℕ) (summary : Summary) → IsLeftOf proof text left → SumsUp left.facts left.statements count left.text.items summary →
     SumsUp proof.facts proof.statements count text summary
 left_sums proof text left count summary of sums = record {
@@ -136,16 +136,17 @@ pub on_err : {T E : Type 0} (r : Result T E) (P : Type 0) → P → OnErr r P
 on_err (Ok t) P h = tt
 on_err (Err e) P h = h
 
--- nothing was written of some bytes
+-- none of some bytes was written
 pub none_front : (told : Option Told) (bytes : List ℕ) → TellsCreated true told → WritesFront told told bytes
 none_front None bytes h = tt
 none_front (Some told) bytes h = ([], bytes, refl, Writes-nil (Some told) h)
 
--- .. and so nothing of a proof
+-- nothing of a proof was written
 pub no_proof_written : (told : Option Told) (theory : RewriteTheory) (start : Pattern) → TellsCreated true told → WritesFrontOfProof told told theory start
 no_proof_written told theory start h = ([], Writes-nil told h, inl refl)
 
--- the front of a text was written, of which some was before; the whole justifies the run
+-- some bytes of a text were written before, and then a front of the rest; the whole text justifies
+-- the run
 pub front_of_proof : (old mid new : Option Told) (theory : RewriteTheory) (start end : Pattern) (written text : List ℕ) → Writes old mid written → WritesFront mid new text → JustifiesRun (written ++ text) theory start end →
     WritesFrontOfProof old new theory start
 front_of_proof None mid new theory start end written text first front whole = ([], tt, inl refl)
@@ -156,7 +157,7 @@ front_of_proof (Some old) (Some mid) new theory start end written text first (fr
   inr (end, (rest, subst (λ (l : List ℕ). JustifiesRun l theory start end) (ap (λ (l : List ℕ). written ++ l) is ∙ sym (append_assoc written front rest)) whole)),
 )
 
--- at an error after what was written before
+-- the same for an error, after some bytes were written before
 pub on_err_front : {T E : Type 0} (r : Result T E) (old mid new : Option Told) (program : Program) (start : Pattern) (written bytes : List ℕ) (s : ProvedSteps) → Writes old mid written → IsProvedRun program start written s →
     bytes ≡ s.text.items → OnErr r (WritesFront mid new bytes) → OnErr r (WritesFrontOfProof old new (theory_of program) start)
 on_err_front (Ok t) old mid new program start written bytes s first proved text front = tt
@@ -164,7 +165,7 @@ on_err_front (Err e) old mid new program start written bytes s first proved text
     front_of_proof old mid new (theory_of program) start (ground_pattern s.run.config) written s.text.items first (subst (WritesFront mid new) text front)
     (justified program start (ground_pattern s.run.config) (ground_pattern s.run.config) s.proof (written ++ s.text.items) proved.1 refl)
 
--- all of the text was written, of which some was before
+-- some bytes of a text were written before, and then all of the rest
 pub all_written : (old mid new : Option Told) (program : Program) (start : Pattern) (run : Run) (written : List ℕ) (count : ℕ) (s : ProvedSteps) (summary : Summary) → Writes old mid written → Writes mid new s.text.items →
     IsProvedRun program start written s → count ≡ capped (length written) → ground_pattern s.run.config ≡ kept_by start run → SumsUp s.proof.facts s.proof.statements count s.text.items summary →
     WritesProof old new (theory_of program) start run summary
@@ -175,7 +176,7 @@ all_written old mid new program start run written count s summary first rest pro
   summed_up s.proof.facts s.proof.statements count written s.text.items summary proved.1.fits.counts counted sums,
 )
 
--- so at the end of a run
+-- the same at the end of a run
 pub ended_proof : {T E : Type 0} (run_of : T → Run) (r : Result (T × Summary) E) (run : Run) (old mid new : Option Told) (program : Program) (start : Pattern) (written : List ℕ) (count : ℕ) (s : ProvedSteps) →
     Writes old mid written → IsProvedRun program start written s → count ≡ capped (length written) → ground_pattern s.run.config ≡ kept_by start run → IfOk r (λ e. run_of e.0 ≡ run) →
     IfOk r (λ e. SumsUp s.proof.facts s.proof.statements count s.text.items e.1) → OnOk r (Writes mid new s.text.items) →
@@ -184,7 +185,7 @@ ended_proof run_of (Err fault) run old mid new program start written count s fir
 ended_proof run_of (Ok e) run old mid new program start written count s first proved counted kept is sums rest =
     all_written old mid new program start (run_of e.0) written count s e.1 first rest proved counted (kept ∙ ap (kept_by start) (sym is)) sums
 
--- .. where this is left of it
+-- the same at the end of a run with this rest of its proof
 pub left_proof : {T E : Type 0} (run_of : T → Run) (r : Result (T × Summary) E) (end : T) (old mid new : Option Told) (program : Program) (start : Pattern) (written : List ℕ) (count : ℕ) (s : ProvedSteps) (left : Left) →
     Writes old mid written → IsProvedRun program start written s → count ≡ capped (length written) → IsLeftOf s.proof s.text.items left → ground_pattern s.run.config ≡ kept_by start (run_of end) → IfOk r (λ e. e.0 ≡ end) →
     IfOk r (λ e. SumsUp left.facts left.statements count left.text.items e.1) → OnOk r (Writes mid new left.text.items) →
@@ -194,7 +195,7 @@ left_proof run_of (Ok e) end old mid new program start written count s left firs
     all_written old mid new program start (run_of e.0) written count s e.1 first (subst (Writes mid new) of.same_text rest) proved counted (kept ∙ ap (λ x. kept_by start (run_of x)) (sym is))
     (left_sums s.proof s.text.items left count e.1 of sums)
 
--- .. and where the term has no value
+-- the same for a term without a value
 pub unstarted_proof : {T E : Type 0} (run_of : T → Run) (r : Result (T × Summary) E) (end : T) (old new : Option Told) (program : Program) (start : Pattern) (left : Left) →
     JustifiesNoStep program start left → start ≡ kept_by start (run_of end) → IfOk r (λ e. e.0 ≡ end) → IfOk r (λ e. SumsUp left.facts left.statements 0 left.text.items e.1) → OnOk r (Writes old new left.text.items) →
     IfOk r (λ e. WritesProof old new (theory_of program) start (run_of e.0) e.1)
@@ -210,7 +211,7 @@ pub on_err_more : {T E : Type 0} (r : Result T E) (P Q : Type 0) → (P → Q) �
 on_err_more (Ok t) P Q f h = tt
 on_err_more (Err e) P Q f h = f h
 
--- some bytes of the text were written, and are not to be written any longer
+-- some bytes of the text were written, and no longer have to be written
 pub handed_on : (program : Program) (start : Pattern) (written piece : List ℕ) (old new : ProvedSteps) → new.run ≡ old.run → new.proof ≡ old.proof →
     old.text.items ≡ piece ++ new.text.items → IsProvedRun program start written old → IsProvedRun program start (written ++ piece) new
 handed_on program start written piece old new run proof text h =

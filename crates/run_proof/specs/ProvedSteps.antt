@@ -1,4 +1,4 @@
--- A run and its proof, step by step: cited by the clauses of private functions alone.
+-- A run and its proof, step by step. Only clauses of private functions cite it.
 use Rattle.std.specs.Prelude.{◌≡◌, ℕ, List, [], ◌++◌}
 use Rattle.term_core.specs.Terms.{Tree}
 use Rattle.term_core.specs.Patterns.{Pattern, ground_pattern}
@@ -25,41 +25,42 @@ use Rattle.run_proof.specs.declared.steps.Beginning.TheVariants as beginning
 use Rattle.run_proof.specs.declared.steps.Going.{Going}
 use Rattle.run_proof.specs.declared.steps.Going.TheVariants as going
 
--- the program and the initial term are such that the run can be proved
+-- the run of this initial term by this program can be proved
 pub record IsReady (program : Program) (start : Pattern) : Type 0 where
   pub bound : HasBoundVariables program
   pub plain : HasPlainNames program.sig
   pub is_start : IsStart (theory_of program) start
 
--- a proof of this program from this start has come to a configuration, and the text fits it
+-- a proof for this program and this start has reached a configuration, and the text fits it
 pub record IsProofAt (program : Program) (start at : Pattern) (proof : RunProof) (text : List ℕ) : Type 0 where
   pub same_program : proof.program ≡ program
   pub same_start : plain_pattern proof.start ≡ start
   pub is_reached : reached proof ≡ at
   pub fits : FitsProof proof text
 
--- the proof has come as far as the run of a program from some start; its text is what was written and what is not yet
+-- the proof has reached the same configuration as the run of a program from some start; its text is
+-- what has been written and what has not
 abbrev pub IsProvedRun : Program → Pattern → List ℕ → ProvedSteps → Type 0
 IsProvedRun program start written s =
     IsConfiguration (theory_of program) s.run.config
     × IsProofAt program start (ground_pattern s.run.config) s.proof (written ++ s.text.items)
 
--- .. from its own start
+-- the same, from the proof's own start
 abbrev pub IsAtStep : Program → ProvedSteps → Type 0
 IsAtStep program s = (written : List ℕ) × IsProvedRun program (plain_pattern s.proof.start) written s
 
--- this is left of a proof, and of its text
+-- what is left of a proof and of its text
 pub record IsLeftOf (proof : RunProof) (text : List ℕ) (left : Left) : Type 0 where
   pub same_text : left.text.items ≡ text
   pub same_facts : left.facts ≡ proof.facts
   pub same_statements : left.statements ≡ proof.statements
 
--- the text that is left justifies the run of a term without a value, and these are its counts
+-- the text that is left justifies the run of a term without a value, and it has these counts
 pub record JustifiesNoStep (program : Program) (start : Pattern) (left : Left) : Type 0 where
   pub justifies : JustifiesRun left.text.items (theory_of program) start start
   pub counts : HasCounts left.facts left.statements left.text.items
 
--- the run of a term begins with its value, or the term has none
+-- the run of a term begins with the term's value, or the term has no value
 abbrev pub BeginsRun : Program → Pattern → ℕ → Beginning → Type 0
 BeginsRun program start calls (beginning.Begun s) =
     Reaches (theory_of program) start calls 0 s.run.config s.run.calls × IsProvedRun program start [] s
@@ -67,19 +68,20 @@ BeginsRun program start calls (beginning.Unstarted why left) =
     Evaluates (theory_of program) most_nesting [] start calls (blocked (cause_of why))
     × JustifiesNoStep program start left
 
--- the proof has come as far as a run that has made no step
+-- the proof has reached the configuration of a run without steps
 abbrev pub BeginsAt : Program → Pattern → RunState → Beginning → Type 0
 BeginsAt program start run (beginning.Begun s) =
     (s.run ≡ run) × IsProofAt program start (ground_pattern run.config) s.proof s.text.items
 BeginsAt program start run (beginning.Unstarted why left) = ⊥
 
--- it has come as far as a term without a value
+-- the term has no value, and the proof states its run
 abbrev pub IsUnstarted : Program → Pattern → Blocked → Beginning → Type 0
 IsUnstarted program start why (beginning.Begun s) = ⊥
 IsUnstarted program start why (beginning.Unstarted because left) =
     (because ≡ why) × JustifiesNoStep program start left
 
--- the run and its proof have made a step, which is that of the definition; or there is none to be made
+-- the run and its proof have made a step, which is the step of the definition; or no step can be
+-- made
 abbrev pub GoesOn : Program → ProvedSteps → Going → Type 0
 GoesOn program old (going.Further new) =
     Steps (theory_of program) old.run.config old.run.calls (next new.run.config new.run.calls)
@@ -92,20 +94,20 @@ GoesOn program old (going.Blocked why last left) =
     Steps (theory_of program) old.run.config old.run.calls (stops (cause_of why)) × (last ≡ old.run.config)
     × IsLeftOf old.proof old.text.items left
 
--- a proof went on to the configuration of a run
+-- a proof was continued to the configuration of a run
 abbrev pub IsFurther : RunState → RunProof → List ℕ → Going → Type 0
 IsFurther run proof text (going.Further new) =
     (new.run ≡ run) × StepsTo proof new.proof run.config text new.text.items
 IsFurther run proof text (going.Stuck last left) = ⊥
 IsFurther run proof text (going.Blocked why last left) = ⊥
 
--- this is left of a run that is stuck
+-- what is left of a run that is stuck
 abbrev pub IsStuckAt : Tree → RunProof → List ℕ → Going → Type 0
 IsStuckAt config proof text (going.Further new) = ⊥
 IsStuckAt config proof text (going.Stuck last left) = (last ≡ config) × IsLeftOf proof text left
 IsStuckAt config proof text (going.Blocked why last left) = ⊥
 
--- .. and of one that is blocked
+-- what is left of a run that is blocked
 abbrev pub IsBlockedAt : Blocked → Tree → RunProof → List ℕ → Going → Type 0
 IsBlockedAt why config proof text (going.Further new) = ⊥
 IsBlockedAt why config proof text (going.Stuck last left) = ⊥

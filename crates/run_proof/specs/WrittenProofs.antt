@@ -1,4 +1,4 @@
--- What a proved run leaves in the created file of a desk.
+-- What a proved run writes to the created file of a desk.
 use Rattle.std.specs.Prelude.{◌≡◌, ℕ, List, [], ◌++◌, length, ◌⊎◌, Option}
 use Rattle.desk_io.specs.Told.{Told, Writes}
 use Rattle.term_core.specs.Patterns.{Pattern}
@@ -8,24 +8,25 @@ use Rattle.mm_justify.specs.Justifying.{JustifiesRun}
 use Rattle.mm_justify.specs.Counting.{HasCounts, capped}
 use Rattle.run_proof.specs.declared.summaries.Summary.{Summary}
 
--- the facts, the statements and the bytes of a database were counted
+-- these are the numbers of facts, statements and bytes of a database
 pub record IsSummaryOf (bytes : List ℕ) (summary : Summary) : Type 0 where
   pub counts : HasCounts summary.facts summary.statements bytes
   pub bytes_are : summary.bytes ≡ capped (length bytes)
 
--- the created file grew by a database that justifies the run, from the initial term to what the run keeps, and whose
--- counts these are
+-- the created file grew by a database that justifies the run, from the initial term to what the run
+-- keeps, and that has these counts
 abbrev pub WritesProof : Option Told → Option Told → RewriteTheory → Pattern → Run → Summary → Type 0
 WritesProof old new theory start run summary =
     (text : List ℕ) × Writes old new text × JustifiesRun text theory start (kept_by start run)
     × IsSummaryOf text summary
 
--- the bytes are the front of a database that justifies the run from the initial term to some configuration
+-- the bytes are the front of a database that justifies a run from the initial term to some
+-- configuration
 abbrev pub IsFrontOfProof : RewriteTheory → Pattern → List ℕ → Type 0
 IsFrontOfProof theory start bytes =
     (end : Pattern) × ((rest : List ℕ) × JustifiesRun (bytes ++ rest) theory start end)
 
--- the created file grew by these, or by nothing
+-- the created file grew by such bytes, or by nothing
 abbrev pub WritesFrontOfProof : Option Told → Option Told → RewriteTheory → Pattern → Type 0
 WritesFrontOfProof old new theory start =
     (bytes : List ℕ) × Writes old new bytes × ((bytes ≡ []) ⊎ IsFrontOfProof theory start bytes)

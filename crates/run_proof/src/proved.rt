@@ -1,4 +1,4 @@
-// The loop of a run that is proved as it goes.
+// The loop of a run that is proved step by step.
 ghost use Rattle.std.specs.Prelude.{◌≡◌, ◌≤◌, IsTrue, IfOk, OnErr, IsErrOf};
 ghost use Rattle.term_core.specs.RulePatterns.{plain_pattern};
 ghost use Rattle.rule_core.specs.BoundVariables.{HasBoundVariables};
@@ -19,14 +19,16 @@ use run_loop::RunEnd;
 use std::alloc::Global;
 use term_core::RulePat;
 
-/// The run of an initial term, with at most `limit` steps and `calls` calls of functions, and the counts of its
-/// proof. A Metamath database that justifies the run, from the initial term to what it keeps, is appended to the
-/// desk's created file as the run goes. The error: out of memory or a fault that the desk counted; then the front of
-/// such a database was appended, of a run that is maybe shorter, or nothing.
+/// The run of an initial term, with at most `limit` steps and `calls` calls of functions, and the
+/// counts of its proof. A Metamath database that justifies the run, from the initial term to what
+/// it keeps, is appended to the desk's created file during the run.
 ///
-/// The text of a step grows with the configurations that it speaks of, at most with the square of their sizes, and
-/// with the calls of functions that it makes. The text of one step and less than 64 KiB before it are held in
-/// memory, and the records of what the step evaluated.
+/// Errors: out of memory, or a fault that the desk counted. After an error the front of such a
+/// database, perhaps of a shorter run, or nothing was appended.
+///
+/// The text of a step grows with the configurations that it names, at most with the square of their
+/// sizes, and with the calls of functions that it makes. Memory holds the text of one step, less
+/// than 64 KiB of text before it, and the records of what the step evaluated.
 pub fn proved_run<'p, D: Desk>(
     alloc: Global,
     desk: &mut D,

@@ -15,7 +15,7 @@ use rule_core::{Blocked, EvalRecord, StepRecord};
 use std::alloc::{AllocError, Global};
 use term_core::{RulePat, Term};
 
-/// A run, the proof of its steps, and what is not yet written of the proof's text.
+/// A run, the proof of its steps, and the part of the proof's text that is not yet written.
 #[derive(Drop)]
 pub(crate) struct ProvedSteps<'p> {
     pub(crate) run: Run,
@@ -23,7 +23,8 @@ pub(crate) struct ProvedSteps<'p> {
     pub(crate) text: Vec<u8>,
 }
 
-/// What is left of a proof where it ends: what is not yet written of its text, and the counts of the whole text.
+/// What is left at the end of a proof: the part of its text that is not yet written, and the counts
+/// of the whole text.
 #[derive(Drop)]
 pub(crate) struct Left {
     pub(crate) text: Vec<u8>,
@@ -32,7 +33,7 @@ pub(crate) struct Left {
 }
 
 impl Left {
-    /// What is left of a proof, of whose text this is not yet written.
+    /// What is left of a proof if `text` is the part that is not yet written.
     pub(crate) fn of(proof: &Proof<'_>, text: Vec<u8>) -> Left
         ensures { IsLeftOf proof.now text.items result }
     {
@@ -44,16 +45,17 @@ impl Left {
     }
 }
 
-/// What comes of an initial term.
+/// The result of beginning the run of an initial term.
 #[derive(Drop)]
 pub(crate) enum Beginning<'p> {
-    /// Its run, of no step.
+    /// Its run, without steps.
     Begun(ProvedSteps<'p>),
-    /// It has no value.
+    /// The term has no value.
     Unstarted(Blocked, Left),
 }
 
-/// What comes of a step. Where none is made, the last configuration is left, and what is left of the proof.
+/// The result of a step. If no step is made, the last configuration and the rest of the proof are
+/// left.
 #[derive(Drop)]
 pub(crate) enum Going<'p> {
     /// The step was made.
@@ -64,7 +66,8 @@ pub(crate) enum Going<'p> {
     Blocked(Blocked, Term, Left),
 }
 
-/// The run of an initial term as far as its value, with so many calls of functions. The error: out of memory.
+/// The run of an initial term up to its value, with at most this many calls of functions.
+/// `AllocError`: out of memory.
 pub(crate) fn proved_beginning<'p>(
     alloc: Global,
     engine: &Engine<'p>,
@@ -83,7 +86,7 @@ pub(crate) fn proved_beginning<'p>(
     }
 }
 
-// A run that has come to the value of its initial term, as the record of its evaluation tells.
+// A run that has reached the value of its initial term, proved from the record of its evaluation.
 fn begun<'p>(
     alloc: Global,
     engine: &Engine<'p>,
@@ -101,7 +104,7 @@ fn begun<'p>(
     Ok(Beginning::Begun(ProvedSteps { run, proof, text }))
 }
 
-// A run of a term that has no value.
+// The run of a term that has no value.
 fn unstarted<'p>(
     alloc: Global,
     engine: &Engine<'p>,
@@ -116,7 +119,7 @@ fn unstarted<'p>(
     Ok(Beginning::Unstarted(why, Left::of(&proof, text)))
 }
 
-/// The next step of a run, and its proof. The error: out of memory.
+/// The next step of a run, and its proof. `AllocError`: out of memory.
 pub(crate) fn proved_step<'p>(
     alloc: Global,
     engine: &Engine<'p>,

@@ -1,12 +1,12 @@
-// What is counted of the database that proves a run.
+// The counts of the database that proves a run.
 
-/// How many facts, statements and bytes a database has. Each stays at 2^64 - 1 once it is there.
+/// How many facts, statements and bytes a database has. Each count stops at 2^64 - 1.
 #[derive(Clone, Copy)]
 pub struct Summary {
-    /// Its `$a` that are true facts on built-ins.
+    /// How many of its `$a` statements are true facts on built-ins.
     pub facts: u64,
-    /// Its `$a` and `$p`.
+    /// How many `$a` and `$p` statements it has.
     pub statements: u64,
-    /// Its bytes.
+    /// How many bytes it has.
     pub bytes: u64,
 }

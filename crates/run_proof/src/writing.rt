@@ -11,10 +11,10 @@ use crate::summaries::Summary;
 use desk_io::{Desk, DeskFault, write_whole};
 use run_loop::RunEnd;
 
-/// A text of so many bytes or more is written before the next step.
+/// A text of at least this many bytes is written before the next step.
 const PIECE: usize = 65_536;
 
-/// Writes the text where it is long, and empties it then. The answer: how many bytes were written.
+/// Writes the text if it is long, and then empties it. Returns how many bytes were written.
 pub(crate) fn hand_on<D: Desk>(desk: &mut D, text: &mut Vec<u8>) -> Result<u64, DeskFault>
     requires file { IsTrue (D.created desk.old) }
     ensures piece { IfOk result (WritesPiece (D.told desk.old) (D.told desk.new) text.old.items text.new.items) }
@@ -33,7 +33,7 @@ pub(crate) fn hand_on<D: Desk>(desk: &mut D, text: &mut Vec<u8>) -> Result<u64, 
     Ok(length as u64)
 }
 
-/// Writes what is left of the text at the end of a run, after so many bytes of it.
+/// Writes what is left of the text at the end of a run. `written` bytes were written before.
 pub(crate) fn ended<D: Desk>(
     desk: &mut D,
     written: u64,
@@ -59,7 +59,7 @@ pub(crate) fn ended<D: Desk>(
     Ok((end, summary))
 }
 
-/// The same of a run that has reached its limit.
+/// The same for a run that has reached its limit.
 pub(crate) fn at_limit<D: Desk>(
     desk: &mut D,
     limit: u32,

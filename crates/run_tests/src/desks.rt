@@ -1,4 +1,4 @@
-// Worked examples: what the clauses leave to the desks and sinks themselves.
+// Worked examples of what the contracts leave open for desks and sinks.
 ghost use Rattle.std.specs.Prelude.{◌<◌, IfOk, IsFalse, OnOk};
 
 use desk_io::*;
@@ -17,7 +17,7 @@ fn small_desk(alloc: Global, most: usize, fail_at: Vec<u64>) -> Result<MemDesk, 
     Ok(MemDesk::new(files, most, fail_at))
 }
 
-/// Creates a file of these bytes and closes it, where no call fails.
+/// Creates a file with these bytes and closes it, if no call fails.
 fn write_file<D: Desk>(desk: &mut D, name: &str, bytes: &[u8]) -> Result<(), DeskFault>
     requires { IsFalse (D.created desk.old) }
     ensures { OnOk result (IsFalse (D.created desk.new)) }
@@ -53,7 +53,7 @@ fn reads_whole_files_in_pieces_of_any_size(rt: HostRuntime) -> Result<(), Fail> 
 #[test]
 fn a_desk_in_memory_fails_where_it_is_asked_to(rt: HostRuntime) -> Result<(), Fail> {
     let alloc = rt.alloc();
-    // An open, two reads of three and two bytes, and one that finds the end.
+    // An open, reads of three and of two bytes, and a read that finds the end.
     for call in 0..6 {
         let mut desk = small_desk(alloc, 3, vec![in alloc; call]?)?;
         match read_file(alloc, &mut desk, "a", 5) {

@@ -13,7 +13,7 @@ use term_core::{RulePat, SortId, Subst, Value};
 
 const INT: SortId = SortId(0);
 
-// The sort of whole numbers, and no symbol.
+// A program with the sort of whole numbers and no symbol.
 fn integers(alloc: Global) -> Result<Option<Program>, AllocError>
     ensures sorted { IfOk result (λ found. (p : _) → found ≡ Some p → IsWellSorted (theory_of p)) }
     ensures numbers { IfOk result (λ found. (p : _) → found ≡ Some p → HasNumbers (theory_of p)) }
@@ -36,7 +36,8 @@ fn integers(alloc: Global) -> Result<Option<Program>, AllocError>
     }))
 }
 
-// A domain value is itself, takes no call and no nesting, with a record and without one.
+// A domain value has itself as its value, and uses no call and no nesting, with or without a
+// record.
 #[test]
 fn evaluates_a_domain_value(rt: HostRuntime) -> Result<(), Fail> {
     let alloc = rt.alloc();

@@ -7,7 +7,8 @@ const MIN: i128 = i128::MIN;
 
 const MAX: i128 = i128::MAX;
 
-// What the hook with a name gives at its arguments, and nothing where it is no hook or they are not of its kinds.
+// The result of the hook with this name at these arguments. `None` if there is no such hook or the
+// arguments do not fit it.
 fn value_at<const N: usize>(name: &str, args: &[Scalar; N]) -> Option<Result<Scalar, NoValue>> {
     let hook = find(name.as_bytes())?;
     if fits(hook, args) {
@@ -21,7 +22,7 @@ fn at_integers(name: &str, x: i128, y: i128) -> Option<Result<Scalar, NoValue>> 
     value_at(name, &[Scalar::Int(x), Scalar::Int(y)])
 }
 
-// Sums, differences and products that are in the range and one past its ends.
+// Sums, differences and products in the range and one past its ends.
 #[test]
 fn computes_at_the_ends(rt: HostRuntime) -> Result<(), Fail> {
     for (name, x, y, value) in [
@@ -45,7 +46,7 @@ fn computes_at_the_ends(rt: HostRuntime) -> Result<(), Fail> {
     Ok(())
 }
 
-// The quotient rounded to zero and what it leaves, and Euclid's: -7 = -2 * 3 - 1 = -3 * 3 + 2.
+// The quotient rounded towards zero and its remainder, and Euclid's: -7 = -2 * 3 - 1 = -3 * 3 + 2.
 #[test]
 fn divides(rt: HostRuntime) -> Result<(), Fail> {
     for (name, x, y, value) in [
@@ -74,8 +75,8 @@ fn divides(rt: HostRuntime) -> Result<(), Fail> {
     Ok(())
 }
 
-// Bit operations of two's complement, where -4 ends in the bits 1100 and 6 in 0110, and shifts: a number far past the
-// width too.
+// Bit operations in two's complement (-4 ends in the bits 1100, and 6 in 0110), and shifts,
+// including shifts far past the width.
 #[test]
 fn works_on_bits(rt: HostRuntime) -> Result<(), Fail> {
     for (name, x, y, value) in [
@@ -115,7 +116,7 @@ fn works_on_bits(rt: HostRuntime) -> Result<(), Fail> {
     Ok(())
 }
 
-// What each comparison says of a lesser, an equal and a greater first number.
+// Each comparison of a first number that is less than, equal to or greater than the second.
 #[test]
 fn compares(rt: HostRuntime) -> Result<(), Fail> {
     for (name, less, equal, greater) in [
@@ -137,7 +138,7 @@ fn compares(rt: HostRuntime) -> Result<(), Fail> {
     Ok(())
 }
 
-// The connectives, by their values where both hold, the first alone, the second alone, and none.
+// The connectives, with their values if both hold, only the first, only the second, and neither.
 #[test]
 fn connects(rt: HostRuntime) -> Result<(), Fail> {
     for (name, values) in [
@@ -165,8 +166,8 @@ fn connects(rt: HostRuntime) -> Result<(), Fail> {
     Ok(())
 }
 
-// Names that differ from a row's in a letter's case, in length or by what is around them are no hook's; arguments of
-// another kind or number do not fit.
+// A name that differs from a row's in the case of a letter, in length or by characters around it is
+// not the name of a hook. Arguments of another kind or number do not fit.
 #[test]
 fn refuses_what_is_no_row(rt: HostRuntime) -> Result<(), Fail> {
     for (name, number) in [

@@ -1,7 +1,7 @@
 //! Worked examples for the crates of terms, rules, runs and files: what no clause of theirs says.
 //!
-//! A check of a crate's tests proves the whole crate once more. So the tests of libraries stand here, a module for
-//! each, and call what the library exports.
+//! A check of a crate's tests proves the whole crate once more. So the tests of libraries are here,
+//! with a module for each, and call what the library exports.
 #![tactic(auto)]
 
 #[cfg(test)]

@@ -1,4 +1,4 @@
-// Worked examples, and one happy call of each function that allocates.
+// Worked examples, and one successful call of each function that allocates.
 ghost use Rattle.std.specs.Prelude.{◌≡◌, ◌<◌, IfOk};
 ghost use Rattle.rule_core.specs.RuleVariables.{MatchesByOwnVariables};
 
@@ -14,7 +14,7 @@ use term_core::{MAX_HEIGHT, RulePat, SortId, Steps, SymId, Term, Value};
 
 const INT: SortId = SortId(0);
 
-// Names come in another order than that of their text, one of them twice, and one is empty.
+// The names come in an order that is not alphabetical. One name comes twice, and one is empty.
 #[test]
 fn numbers_names_as_they_come(rt: HostRuntime) -> Result<(), Fail> {
     let alloc = rt.alloc();
@@ -62,7 +62,8 @@ fn number_rule(alloc: Global, at: u32, left: i128, right: i128) -> Rule
     }
 }
 
-// The rules 5 => 6 and 5 => 7 have one left side: the earlier is found, or the later where the trial starts after it.
+// The rules 5 => 6 and 5 => 7 have the same left side. The earlier rule is found, or the later one
+// if the trial starts after the earlier.
 #[test]
 fn finds_the_first_rule_from_a_place_on(rt: HostRuntime) -> Result<(), Fail> {
     let alloc = rt.alloc();
@@ -108,7 +109,7 @@ fn same_pair_rule(alloc: Global) -> Result<Rule, AllocError>
     })
 }
 
-// pair(inj{Exp,KItem}(a), inj{Exp,KItem}(b)), of two values.
+// `pair(inj{Exp,KItem}(a), inj{Exp,KItem}(b))`, for two values.
 fn pair_of(alloc: Global, a: i128, b: i128) -> Result<Option<Term>, AllocError> {
     let mut args = Vec::with_capacity(alloc, 2)?;
     for n in [a, b] {
@@ -124,7 +125,7 @@ fn pair_of(alloc: Global, a: i128, b: i128) -> Result<Option<Term>, AllocError> 
     Term::ctor(alloc, PAIR, args).map(Some)
 }
 
-// A variable that stands twice matches the same term twice, and no two different ones.
+// A variable that occurs twice matches the same term twice, and not two different terms.
 #[test]
 fn matches_a_repeated_variable(rt: HostRuntime) -> Result<(), Fail> {
     let alloc = rt.alloc();
@@ -161,7 +162,8 @@ fn injection_rule(alloc: Global) -> Result<Rule, AllocError>
     })
 }
 
-// With Int below Exp, `inj{Exp,KItem}(X)` matches inj{Int,KItem}(5), with X for inj{Int,Exp}(5); without, it does not.
+// If Int is below Exp, `inj{Exp,KItem}(X)` matches `inj{Int,KItem}(5)`, with `inj{Int,Exp}(5)` for
+// X. Otherwise it does not.
 #[test]
 fn matches_an_injection_of_a_lower_sort(rt: HostRuntime) -> Result<(), Fail> {
     let alloc = rt.alloc();
@@ -178,7 +180,7 @@ fn matches_an_injection_of_a_lower_sort(rt: HostRuntime) -> Result<(), Fail> {
     Ok(())
 }
 
-// The arguments `X, 5` match the terms 7 and 5, with X for 7.
+// The arguments `X, 5` match the terms 7 and 5, with 7 for X.
 fn matches_arguments<L: Ledger>(alloc: Global, blank: Blank) -> Result<bool, AllocError>
     requires name { blank.name ≡ L.name }
     requires parts { blank.parts ≡ L.parts }
@@ -206,7 +208,8 @@ fn matches_the_arguments_of_a_function(rt: HostRuntime) -> Result<(), Fail> {
     Ok(())
 }
 
-// The signature of `hooked-sort Int` with the hook INT.Int, `sort Exp` and the constructor `num(Int) : Exp`.
+// The signature of `hooked-sort Int` with the hook INT.Int, `sort Exp` and the constructor
+// `num(Int) : Exp`.
 fn small_signature(alloc: Global) -> Result<Signature, AllocError> {
     let mut sorts = Table::new(alloc);
     sorts.insert(
@@ -238,7 +241,7 @@ fn small_signature(alloc: Global) -> Result<Signature, AllocError> {
     })
 }
 
-// Sorts and symbols are numbered apart, and the sorts of a symbol are numbers of sorts.
+// Sorts and symbols are numbered separately, and the sorts of a symbol are given by their numbers.
 #[test]
 fn makes_a_signature(rt: HostRuntime) -> Result<(), Fail> {
     let alloc = rt.alloc();
@@ -257,7 +260,7 @@ fn makes_a_signature(rt: HostRuntime) -> Result<(), Fail> {
     Ok(())
 }
 
-// A function may be commutative, a constructor may not.
+// A function may be commutative, but a constructor may not.
 #[test]
 fn looks_for_constructors_that_are_commutative(rt: HostRuntime) -> Result<(), Fail> {
     let alloc = rt.alloc();
@@ -281,7 +284,7 @@ fn looks_for_constructors_that_are_commutative(rt: HostRuntime) -> Result<(), Fa
     Ok(())
 }
 
-// The ends of a chain are in order without a pair of their own, and no pair closes the chain.
+// The ends of a chain are in order without a pair of their own, and no pair closes a cycle.
 #[test]
 fn sorts_stand_in_chains(rt: HostRuntime) -> Result<(), Fail> {
     let alloc = rt.alloc();

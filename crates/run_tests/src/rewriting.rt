@@ -14,7 +14,7 @@ use term_core::{RulePat, SortId, Value};
 
 const INT: SortId = SortId(0);
 
-// The sort of whole numbers, no symbol and no rule.
+// A program with the sort of whole numbers, no symbol and no rule.
 fn integers(alloc: Global) -> Result<Option<Program>, AllocError>
     ensures sorted { IfOk result (λ found. (p : _) → found ≡ Some p → IsWellSorted (theory_of p)) }
     ensures numbers { IfOk result (λ found. (p : _) → found ≡ Some p → HasNumbers (theory_of p)) }
@@ -38,7 +38,7 @@ fn integers(alloc: Global) -> Result<Option<Program>, AllocError>
     }))
 }
 
-// Without a rule a run is stuck at its start, again and again, and keeps its calls.
+// Without a rule, a run is stuck at its start, each time that it is asked, and keeps its calls.
 #[test]
 fn is_stuck_without_a_rule(rt: HostRuntime) -> Result<(), Fail> {
     let alloc = rt.alloc();

@@ -1,4 +1,4 @@
-// Worked examples, and one happy call of each function that allocates.
+// Worked examples, and one successful call of each function that allocates.
 ghost use Rattle.std.specs.Prelude.{◌≡◌, ◌<◌};
 
 use std::alloc::{AllocError, Global};
@@ -38,7 +38,8 @@ fn joins_injections(rt: HostRuntime) -> Result<(), Fail> {
     Ok(())
 }
 
-// A shared term is its source, with its text, and differs from one with another text.
+// A shared term is equal to its source, including its text. It differs from a term with another
+// text.
 #[test]
 fn shares_terms(rt: HostRuntime) -> Result<(), Fail> {
     let alloc = rt.alloc();
@@ -62,8 +63,8 @@ fn pair_pattern(alloc: Global) -> Result<RulePat, AllocError> {
     Ok(RulePat::Ctor(PAIR, args))
 }
 
-// With X for 5 and Y for inj{Int,Exp}(5), that pattern becomes pair(5, inj{Int,KItem}(5)); the pattern of this term
-// stands for it alone.
+// With 5 for X and `inj{Int,Exp}(5)` for Y, that pattern becomes `pair(5, inj{Int,KItem}(5))`. The
+// pattern of this term stands only for this term.
 #[test]
 fn makes_instances(rt: HostRuntime) -> Result<(), Fail> {
     let alloc = rt.alloc();
