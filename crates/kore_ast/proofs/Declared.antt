@@ -14,7 +14,7 @@ use Rattle.kore_ast.proofs.Steps.{any-step, placed-step, given-step, end-step}
 use Rattle.kore_ast.proofs.Lists.{Begins}
 use Rattle.kore_ast.proofs.Sequences.{Follows, No, follows-end}
 
--- a token and the stream after it
+-- a token, and the stream after it
 pub any-to : (t : Token) (k : List Want) (s s1 e : Stream) → s1 ≡ after s → Has (any t ∷ k) s e → (seen s ≡ Some t) × Has k s1 e
 any-to t k s s1 e p h = let x = any-step t k s e h in (x.0, subst (λ u. Has k u e) (sym p) x.1)
 
@@ -22,7 +22,7 @@ pub placed-to : (p : ℕ) (t : Token) (k : List Want) (s s1 e : Stream) → s1 �
     → (seen s ≡ Some t) × (p ≡ place s) × Has k s1 e
 placed-to p t k s s1 e q h = let x = placed-step p t k s e h in (x.0, x.1, subst (λ u. Has k u e) (sym q) x.2)
 
--- a name that was read
+-- the name that was read is the name of the identifier
 pub named : (m n : List ℕ) (s : Stream) → n ≡ name_of (seen s) → seen s ≡ Some (identifier m) → m ≡ n
 named m n s e h = sym (ap name_of h) ∙ sym e
 
@@ -89,7 +89,7 @@ begins-word (alias_declaration d) k s e h = ap keyword_of (placed-step d.at (ide
 begins-word (axiom_declaration d) k s e h = ap keyword_of (placed-step d.at (identifier (codes "axiom")) _ s e h).0
 begins-word (claim_declaration d) k s e h = ap keyword_of (placed-step d.at (identifier (codes "claim")) _ s e h).0
 
--- a declaration by its keyword
+-- the kind of a declaration follows from its keyword
 
 by-import : (t : Declaration) → declared t ≡ key.Import → (d : ImportDeclaration) × (t ≡ import_declaration d)
 by-import (import_declaration d) e = (d, refl)
@@ -208,7 +208,7 @@ symbol-read b at n ns xs z ps s s1 s2 s3 s4 r hd e1 p1 e2 p2 j l i = record {
       );
 }
 
--- no opening brace begins a pattern
+-- no pattern begins with an opening brace
 pub apart-pattern : (b : Bool) (p : PatternTree) (k : List Want) (e : Stream) → Apart (spell_pattern b p k) e
 apart-pattern b (element_variable p n s) k e = refl
 apart-pattern b (set_variable p n s) k e = refl
@@ -310,7 +310,7 @@ alias-read at n ns xs z ln ls vs q ps s s1 s2 s3 s4 s5 s6 s7 s8 s9 s10 s11 s12 r
       );
 }
 
--- no opening brace begins a declaration
+-- no declaration begins with an opening brace
 pub apart-declarations : (us : List Declaration) (k : List Want) (e : Stream) → Apart k e → Apart (in_order (map spell_declaration us) k) e
 apart-declarations [] k e a = a
 apart-declarations (import_declaration d ∷ us) k e a = refl
@@ -324,7 +324,7 @@ pub apart-modules : (us : List ModuleTree) (k : List Want) (e : Stream) → Apar
 apart-modules [] k e a = a
 apart-modules (m ∷ us) k e a = refl
 
--- the wishes after the declarations of a module
+-- the requirements after the declarations of a module
 abbrev pub ending : List Want → List Want
 ending k = any (identifier (codes "endmodule")) ∷ k
 

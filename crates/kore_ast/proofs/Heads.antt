@@ -1,4 +1,4 @@
--- What comes next, and that names are text.
+-- What comes next, and that names are UTF-8.
 use Rattle.std.proofs.Common.{◌≡◌, ◌<◌, ℕ, true, List, [], ◌∷◌, drop, refl, sym, arith}
 use Rattle.std.proofs.lemmas.Str.{IsUtf8-from_ascii, is_utf8-from_IsUtf8}
 use Rattle.std.proofs.lemmas.Str.Ascii.{IsAscii-nil, IsAscii-cons}
@@ -34,12 +34,12 @@ name-ascii : (cs : List ℕ) → IsName cs → IsAscii cs
 name-ascii [] h = absurd h
 name-ascii (c ∷ cs) h = IsAscii-cons c cs (letter-ascii c h.0) (words-ascii cs h.1)
 
--- an identifier is text
+-- an identifier is UTF-8
 name-text : (bs : List ℕ) → IsToken Ident bs → is_utf8 bs ≡ true
 name-text [] h = absurd h
 name-text (c ∷ cs) h = is_utf8-from_IsUtf8 _ (IsUtf8-from_ascii (c ∷ cs) (name-ascii (c ∷ cs) h))
 
--- .. and that of a set variable after its first byte
+-- the identifier of a set variable is UTF-8 after its first byte
 set-text : (bs : List ℕ) → IsToken SetIdent bs → is_utf8 (drop 1 bs) ≡ true
 set-text [] h = absurd h
 set-text (c ∷ cs) h = is_utf8-from_IsUtf8 _ (IsUtf8-from_ascii cs (name-ascii cs h.1))

@@ -1,4 +1,4 @@
--- Laws of what is read.
+-- Laws on what is read.
 pub mod Heads
 pub mod Steps
 pub mod Lists

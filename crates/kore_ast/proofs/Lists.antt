@@ -1,4 +1,4 @@
--- A list that is read item by item.
+-- Reading a list item by item.
 use Rattle.std.proofs.Common.{◌≡◌, ℕ, Bool, true, false, not, ◌||◌, ◌==◌, List, [], ◌∷◌, ◌++◌, map, length, Some, refl, ap, sym, ◌∙◌, subst, append_assoc, arith, Vec, Global, vec_len, if◌then◌else◌, rules}
 use Rattle.std.proofs.lemmas.List.{append-nil, map-append}
 use Rattle.kore_text.specs.TokenStream.{mark, Stream}
@@ -12,7 +12,7 @@ abbrev pub is_empty : {T : Type 0} → List T → Bool
 is_empty [] = true
 is_empty (x ∷ xs) = false
 
--- what is to come where these items are done
+-- what comes next after these items
 abbrev pub go_on : {T : Type 0} → (T → Spelling) → ℕ → List T → List T → Spelling
 go_on spell close [] rest k = listed (map spell rest) close k
 go_on spell close (d ∷ ds) rest k = more_listed (map spell rest) close k
@@ -39,7 +39,7 @@ closed close k s e n h =
     let x = any-step (mark close) k s e h in
     let z : false ≡ true = sym n ∙ ap (is_over close) x.0 ∙ same-byte close in let y : ⊥ = cc in y
 
--- where another item comes, the list goes on with one
+-- if another item comes, the rest of the list begins with an item
 from-next : {T : Type 0} (spell : T → Spelling) (close : ℕ) (done rest : List T) (s e : Stream) (k : List Want)
     → is_over close (seen s) ≡ false → Has (go_on spell close done rest k) s e
     → (u : T) × (us : List T) × ((rest ≡ u ∷ us) × Has (spell u (more_listed (map spell us) close k)) (if is_empty done then s else after s) e)
@@ -70,7 +70,7 @@ keeps-more {T} spell close done t s mid last a h n i = record {
       );
 }
 
--- a thing of the kind begins where a list is not over
+-- if a thing of this kind begins here, the list is not over
 pub record Begins {T : Type 0} (spell : T → Spelling) (close : ℕ) : Type 0 where
   pub open_at : (u : T) (k : List Want) (s e : Stream) → Has (spell u k) s e → is_over close (seen s) ≡ false
 
@@ -96,7 +96,7 @@ keeps-end spell close done s mid b n h o = record {
       (c.1.0 ∙ ap (λ xs. done ++ xs) x.0 ∙ append-nil done, x.1);
 }
 
--- what a closing mark is not
+-- a closing mark is neither an opening brace nor a comma
 pub record Closing (c : ℕ) : Type 0 where
   pub apart : is_mark 123 (mark c) ≡ false
   pub comma : is_over c (Some (mark 44)) ≡ false
@@ -120,7 +120,7 @@ empty-list : {X T : Type 0} (f : X → T) (xs : List X) (n : ℕ) (b : Bool) →
 empty-list f [] n b h e = e ∙ ap (λ m. m == 0) (sym h)
 empty-list f (x ∷ xs) n b h e = e ∙ not_zero n (λ z. omega (arith, h, z))
 
--- a vector without items
+-- the tree list of a vector without items is empty
 pub empty-vec : {X T : Type 0} (f : X → T) (v : Vec X Global) (b : Bool) → b ≡ (vec_len v == 0) → b ≡ is_empty (map f v.items)
 empty-vec f v b e = empty-list f v.items v.len b (sym v.ok.0) e
 

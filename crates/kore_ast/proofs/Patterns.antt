@@ -1,4 +1,4 @@
--- What is read at a pattern, by its head.
+-- What is read at a pattern, by its first token.
 use Rattle.std.proofs.Common.{◌≡◌, ◌==◌, ℕ, Bool, true, false, ◌&&◌, List, [], ◌∷◌, map, Some, refl, ap, sym, ◌∙◌, subst}
 use Rattle.kore_text.specs.declared.names.Op.{Op}
 use Rattle.kore_text.specs.declared.names.Binder.{Binder}
@@ -26,14 +26,14 @@ pattern_trees-listed (pattern_then p ps) = ap (pattern_then p) (pattern_trees-li
 pub spell_patterns-listed : (b : Bool) (ps : PatternTrees) → spell_patterns b ps ≡ map (spell_pattern b) (listed_patterns ps)
 spell_patterns-listed b ps = ap (spell_patterns b) (pattern_trees-listed ps) ∙ spell_patterns-trees b (listed_patterns ps)
 
--- patterns in parentheses as children of a tree
+-- patterns in parentheses as the children of a tree
 pub patterns-exact : (b : Bool) (xs : List PatternTree) (s r : Stream) → Reads (spell_list (spell_pattern b) 41) xs s r
     → (ps : PatternTrees) (k : List Want) (e : Stream) → Apart k e → Has (listed (spell_patterns b ps) 41 k) s e → (ps ≡ pattern_trees xs) × Has k r e
 patterns-exact b xs s r h ps k e a g =
     let x = h.exact (listed_patterns ps) k e a (subst (λ fs. Has (listed fs 41 k) s e) (spell_patterns-listed b ps) g) in
     (pattern_trees-listed ps ∙ ap pattern_trees x.0, x.1)
 
--- what stands after a binder
+-- what follows the name of a binder
 abbrev behind-binder : Bool → SortTrees → PatternTree → PatternTree → Spelling
 behind-binder b ss x q k =
     any (mark 123) ∷ listed (spell_sorts ss) 125 (any (mark 40) ∷ spell_pattern b x (any (mark 44) ∷ spell_pattern b q (any (mark 41) ∷ k)))
@@ -84,11 +84,11 @@ no-mark close (binding p o ss x q) = refl
 no-mark close (domain_value p s t q) = refl
 no-mark close (folded p l q) = refl
 
--- no list is over where a pattern begins
+-- if a pattern begins here, the list is not over
 pub begins-pattern : (b : Bool) (close : ℕ) → Begins (spell_pattern b) close
 begins-pattern b close = record { open_at = λ t k s e h. ap (is_over close) (begins-with b t k s e h) ∙ no-mark close t }
 
--- a pattern by its head
+-- the form of a pattern follows from its first token
 by-set : (t : PatternTree) → head_of_tree t ≡ head.SetName → (p : ℕ) × (n : List ℕ) × (s : SortTree) × (t ≡ set_variable p n s)
 by-set (element_variable p n s) e = absurd (let z : ⊥ = cc in z)
 by-set (set_variable p n s) e = (p, n, s, refl)
@@ -207,7 +207,7 @@ symbol-go b xs ys s r1 r hd m i j (domain_value p x n q) k e a h =
 symbol-go b xs ys s r1 r hd m i j (folded p l q) k e a h =
     let z : head_of_tree (folded p l q) ≡ head.Name = begins-head b (folded p l q) k s e head.Name hd h in absurd (let y' : ⊥ = cc in y')
 
--- a pattern of a known form
+-- the spelling of equal patterns is the same
 form : (b : Bool) (t u : PatternTree) (k : List Want) (s e : Stream) → t ≡ u → Has (spell_pattern b t k) s e → Has (spell_pattern b u k) s e
 form b t u k s e f h = subst (λ v. Has (spell_pattern b v k) s e) f h
 
@@ -329,7 +329,7 @@ fold-go b l x s r hd i t k e a h =
     let m4 = any-step (mark 41) k r e z.1 in
     (f.2 ∙ ap (λ v. folded v l q) u.1 ∙ ap (folded (place s) l) z.0, m4.1)
 
--- The same in the words of the reader's calls.
+-- The same, stated with the calls of the reader.
 pub element-read : (at : ℕ) (n : List ℕ) (x : SortTree) (s s1 s2 r : Stream) → head_of (seen s) ≡ head.Name → at ≡ place s → n ≡ name_of (seen s)
     → s1 ≡ after s → has_mark 58 (seen s1) ≡ true → s2 ≡ after s1 → Reads spell_sort x s2 r
     → (b : Bool) → Reads (spell_pattern b) (element_variable at n x) s r

@@ -1,4 +1,4 @@
--- The tree of what is made, form by form.
+-- The tree of a value that was built, form by form.
 use Rattle.std.proofs.Common.{◌≡◌, ℕ, Bool, List, map, ap, sym, ◌∙◌, Vec, Global}
 use Rattle.std.specs.Global.{Box}
 use Rattle.kore_text.specs.declared.names.Op.{Op}

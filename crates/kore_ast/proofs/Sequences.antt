@@ -6,12 +6,12 @@ use Rattle.kore_text.specs.Grammar.{Want, Spelling, in_order}
 use Rattle.kore_text.specs.Apart.{Apart}
 use Rattle.kore_ast.specs.Reading.{Has, Reads}
 
--- these things of a sequence were read, in front of these wishes
+-- these things of a sequence were read; the requirements `k` follow the sequence
 pub record Follows {T : Type 0} (spell : T → Spelling) (done : List T) (k : List Want) (e s r : Stream) : Type 0 where
   pub complete : (all : List T) → Has (in_order (map spell all) k) s e
       → (rest : List T) × ((all ≡ done ++ rest) × Has (in_order (map spell rest) k) r e)
 
--- nothing of the kind is spelled there
+-- no thing of this kind is spelled here
 abbrev pub No : {T : Type 0} → (T → Spelling) → Stream → Type 0
 No {T} spell s = (u : T) (k : List Want) (e : Stream) → Has (spell u k) s e → ⊥
 

@@ -24,7 +24,7 @@ listed-sort_trees (s ∷ ss) = ap (λ xs. s ∷ xs) (listed-sort_trees ss)
 pub spell_sorts-listed : (ss : SortTrees) → spell_sorts ss ≡ map spell_sort (listed_sorts ss)
 spell_sorts-listed ss = ap spell_sorts (sort_trees-listed ss) ∙ spell_sorts-trees (listed_sorts ss)
 
--- sorts in braces as children of a tree
+-- sorts in braces as the children of a tree
 pub sorts-exact : (xs : List SortTree) (s r : Stream) → Reads (spell_list spell_sort 125) xs s r
     → (ss : SortTrees) (k : List Want) (e : Stream) → Apart k e → Has (listed (spell_sorts ss) 125 k) s e → (ss ≡ sort_trees xs) × Has k r e
 sorts-exact xs s r h ss k e a g =

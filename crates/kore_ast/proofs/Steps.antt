@@ -1,4 +1,4 @@
--- One token that is taken.
+-- Taking one token.
 use Rattle.std.proofs.Common.{◌≡◌, ◌≤◌, ◌-◌, ℕ, Bool, true, false, List, [], ◌∷◌, Some, refl, ap, sym, ◌∙◌, subst, arith, IsTrue, Bor, not, if◌then◌else◌}
 use Rattle.kore_text.specs.TokenStream.{Token, Stream, end, fault, token, token_of}
 use Rattle.kore_text.specs.Left.{size as count}
@@ -70,7 +70,7 @@ count_comma first c s = pick (is_over c (seen s)) first where
   pick false true = omega arith
   pick false false = omega (arith, count_after s)
 
--- what begins a pattern is a token
+-- a token that begins a pattern exists
 pub headed : (s : Stream) (h : Head) → head_of (seen s) ≡ h → (head.Nothing ≡ h → ⊥) → 1 ≤ count s
 headed (end e) h e' n = absurd (n e')
 headed (fault e) h e' n = absurd (n e')
@@ -87,7 +87,7 @@ pub not-false : (b c : Bool) → c ≡ not b → c ≡ false → b ≡ true
 not-false true c e h = refl
 not-false false c e h = let z : true ≡ false = sym e ∙ h in absurd (let y : ⊥ = cc in y)
 
--- what begins a declaration is a token
+-- a token that begins a declaration exists
 pub keyed : (s : Stream) → is_declared (keyword_of (seen s)) ≡ true → 1 ≤ count s
 keyed (end e) h = let z : false ≡ true = h in absurd (let y : ⊥ = cc in y)
 keyed (fault e) h = let z : false ≡ true = h in absurd (let y : ⊥ = cc in y)

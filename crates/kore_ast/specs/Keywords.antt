@@ -1,4 +1,4 @@
--- Which declaration a word begins: cited by the clauses of private functions alone.
+-- Which declaration a word begins. Only the clauses of private functions cite this.
 use Rattle.std.specs.Prelude.{ℕ, true, false, List, codes, if◌then◌else◌}
 use Rattle.std.specs.Str.{bytes_eq}
 use Rattle.kore_ast.specs.declared.reader.Keyword.{Keyword}

@@ -1,6 +1,6 @@
--- Which tree the bytes of a Kore text spell: the tokens spell the tree by the grammar, up to the end,
--- each place in the tree is the byte of its first token, and at most 500 brackets `(` and `{` are
--- open at once. Where they spell none, the first fault of the text is told.
+-- Which tree the bytes of a Kore text spell. The tokens spell the tree by the grammar, up to the
+-- end. Each place in the tree is the byte of its first token. At most 500 brackets `(` and `{` are
+-- open at once. If the bytes spell no tree, the first fault of the text is reported.
 use Rattle.std.specs.Prelude.{ℕ, List, [], false, Result, Ok, Err, Some}
 use Rattle.kore_text.specs.TokenStream.{end, tokens_of, Stream}
 use Rattle.kore_text.specs.Trees.{PatternTree, DefinitionTree}
@@ -18,7 +18,7 @@ ReadsPattern bytes p = IsShallow 0 (tokens_of bytes) × ((e : ℕ) × Takes (spe
 abbrev pub ReadsDefinition : List ℕ → DefinitionTree → Type 0
 ReadsDefinition bytes d = IsShallow 0 (tokens_of bytes) × ((e : ℕ) × Takes (spell_definition d []) (tokens_of bytes) (end e))
 
--- the fault that is told is the first of the text; nothing is said where memory ran out
+-- the reported fault is the first fault of the text; nothing is claimed if memory ran out
 abbrev pub IsFault : (Stream → Type 0) → List ℕ → ReadFault → Type 0
 IsFault L bytes (read_fault.Lex at) = IsFirstFault L 0 (tokens_of bytes) (Some (text_fault.Lex at))
 IsFault L bytes (read_fault.Syntax at) = IsFirstFault L 0 (tokens_of bytes) (Some (text_fault.Syntax at))

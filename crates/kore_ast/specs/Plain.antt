@@ -1,4 +1,4 @@
--- The tree that a value of the program's types is, without memory.
+-- The tree of a value of the program's types. It says nothing of memory.
 use Rattle.std.specs.Prelude.{ℕ, map}
 use Rattle.kore_text.specs.Trees.{SortTree, sort_parameter, sort_applied, sort_trees, PatternTree, element_variable, set_variable, string, symbol_applied, connected, binding, domain_value, folded, pattern_trees, ImportDeclaration, SortDeclaration, SymbolDeclaration, AliasDeclaration, AxiomDeclaration, Declaration, import_declaration, sort_declaration, symbol_declaration, alias_declaration, axiom_declaration, claim_declaration, ModuleTree, DefinitionTree}
 use Rattle.kore_ast.specs.declared.tree.Sort.{Sort}
@@ -19,7 +19,7 @@ use Rattle.kore_ast.specs.declared.tree.Decl.TheVariants as decl
 use Rattle.kore_ast.specs.declared.tree.Module.{Module}
 use Rattle.kore_ast.specs.declared.tree.Definition.{Definition}
 
--- a form means a tree once its place is known
+-- the tree of a form whose first token is at byte `at`
 abbrev pub sort_form_step : SortForm-F (ℕ → SortTree) SortTree → ℕ → SortTree
 sort_form_step (sort_layer.Param n) at = sort_parameter at n
 sort_form_step (sort_layer.App n ss) at = sort_applied at n (sort_trees ss.items)

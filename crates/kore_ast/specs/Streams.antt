@@ -1,4 +1,4 @@
--- What stands at the head of the tokens that are left: cited by the clauses of private functions alone.
+-- The first of the tokens that are left. Only the clauses of private functions cite this.
 use Rattle.std.specs.Prelude.{ℕ, Bool, true, false, ◌||◌, Option, Some, None, List, []}
 use Rattle.kore_text.specs.declared.names.Built.{Built}
 use Rattle.kore_text.specs.TokenStream.{Token, identifier, set_identifier, builtin, string_token, Stream, end, fault, token}
@@ -15,33 +15,33 @@ after (end e) = end e
 after (fault e) = fault e
 after (token t p s) = s
 
--- the byte at which the first token stands, or the end
+-- the byte at which the first token begins, or the byte of the end or of the fault
 abbrev pub place : Stream → ℕ
 place (end e) = e
 place (fault e) = e
 place (token t p s) = p
 
--- the first token
+-- the first token, if there is one
 abbrev pub seen : Stream → Option Token
 seen (end e) = None
 seen (fault e) = None
 seen (token t p s) = Some t
 
--- it is this mark
+-- the token is this mark
 abbrev pub has_mark : ℕ → Option Token → Bool
 has_mark c None = false
 has_mark c (Some t) = is_mark c t
 
--- there is none
+-- there is no token
 abbrev pub is_done : Option Token → Bool
 is_done None = true
 is_done (Some t) = false
 
--- no item of a list with this closing mark comes
+-- a list with this closing mark has no further item: the mark comes next, or there is no token
 abbrev pub is_over : ℕ → Option Token → Bool
 is_over c t = is_done t || has_mark c t
 
--- its name, and none where it is no identifier
+-- the name of an identifier; empty for any other token
 abbrev pub name_of : Option Token → List ℕ
 name_of (Some (identifier n)) = n
 name_of _ = []
@@ -50,7 +50,7 @@ abbrev pub set_name_of : Option Token → List ℕ
 set_name_of (Some (set_identifier n)) = n
 set_name_of _ = []
 
--- its text, and none where it is no string
+-- the text of a string; empty for any other token
 abbrev pub text_of : Option Token → List ℕ
 text_of (Some (string_token t)) = t
 text_of _ = []
@@ -59,7 +59,7 @@ abbrev pub built_head : Option Built → Head
 built_head (Some b) = head.Builtin b
 built_head None = head.Nothing
 
--- what it begins
+-- the kind of pattern that the token begins
 abbrev pub head_of : Option Token → Head
 head_of (Some (identifier n)) = head.Name
 head_of (Some (set_identifier n)) = head.SetName
@@ -67,24 +67,24 @@ head_of (Some (string_token t)) = head.Text
 head_of (Some (builtin b)) = built_head b
 head_of _ = head.Nothing
 
--- what is a string, or begins no pattern
+-- the token is a string or begins no pattern
 abbrev pub is_textual : Head → Bool
 is_textual head.Text = true
 is_textual head.Nothing = true
 is_textual _ = false
 
--- which declaration it begins
+-- the kind of declaration that the token begins
 abbrev pub keyword_of : Option Token → Keyword
 keyword_of (Some (identifier n)) = keyword_at n
 keyword_of _ = keyword.Nothing
 
--- it begins a claim, or no declaration
+-- the token begins a claim or no declaration
 abbrev pub is_claimed : Keyword → Bool
 is_claimed keyword.Claim = true
 is_claimed keyword.Nothing = true
 is_claimed _ = false
 
--- it begins a declaration
+-- the token begins a declaration
 abbrev pub is_declared : Keyword → Bool
 is_declared keyword.Nothing = false
 is_declared _ = true

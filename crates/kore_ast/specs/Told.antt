@@ -1,4 +1,4 @@
--- The fault of a text as the reader tells it.
+-- The fault of a text as the reader reports it.
 use Rattle.kore_text.specs.declared.faults.TextFault.{TextFault}
 use Rattle.kore_text.specs.declared.faults.TextFault.TheVariants as text_fault
 use Rattle.kore_ast.specs.declared.tree.ReadFault.{ReadFault}

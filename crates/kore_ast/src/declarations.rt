@@ -173,7 +173,7 @@ impl<'a> Reader<'a> {
         }
     }
 
-    /// Whether a declaration comes.
+    /// Whether the next token begins a declaration.
     #[tactic(auto, using(crate::proofs::Steps::keyed))]
     fn has_declaration(&self) -> bool
         ensures same { result ≡ is_declared (keyword_of (seen (left self.now))) }
@@ -185,7 +185,7 @@ impl<'a> Reader<'a> {
         }
     }
 
-    /// Declarations up to and with the word that ends their module.
+    /// Declarations, up to and including the word that ends their module.
     fn body(&mut self) -> Result<Vec<Decl>, AllocError>
         ensures exact { IfOk result (λ x. Reads spell_body (map plain_declaration x.items) (left self.old) (left self.new)) }
         ensures shorter { OnOk result (size self.new ≤ size self.old - 1) }

@@ -1,10 +1,10 @@
-// Trees of Kore text, and their reader, for the whole grammar.
+// The trees of Kore text, and a reader for the whole grammar.
 //
-// `read_definition` and `read_pattern` answer the tree that the bytes spell by the grammar of the
-// Kore language document, or the first fault. The tokens, the spelling of each tree and the first
-// fault are defined in `kore_text`; `Plain` gives the trees without memory, `KoreText` says which
-// tree bytes spell, and `Told` how a fault is told. The other modules of `specs/` have what only
-// private functions cite.
+// `read_definition` and `read_pattern` return the tree that the bytes spell by the grammar of the
+// Kore language document, or the first fault. `kore_text` defines the tokens, the spelling of each
+// tree and the first fault. `Plain` gives the tree of a value, without memory. `KoreText` says
+// which tree bytes spell, and `Told` says how a fault is reported. Only private functions cite the
+// other modules of `specs/`.
 #![tactic(auto)]
 
 mod declarations;

@@ -10,9 +10,11 @@ use crate::tree::{Definition, Pat, ReadFault};
 use kore_text::{definition_fault, pattern_fault};
 use std::alloc::Global;
 
-/// The definition that the bytes (fewer than 2^32) spell, read to their end, or their first fault.
-/// Time is linear in the bytes; nothing recurses but for the nesting of brackets, of which at most
-/// 500 are open at once.
+/// Reads a definition. The bytes (fewer than 2^32) are read to their end. Returns the definition
+/// that they spell. Errors: the first fault of the text, or out of memory.
+///
+/// Time is linear in how many bytes there are. The recursion is only as deep as the brackets are
+/// nested: at most 500 are open at once.
 pub fn read_definition(alloc: Global, bytes: &[u8]) -> Result<Definition, ReadFault>
     requires { length bytes.now < 2 ^ 32 }
     ensures found { IfOk result (λ d. ReadsDefinition bytes.now (plain_definition d)) }
@@ -25,9 +27,11 @@ pub fn read_definition(alloc: Global, bytes: &[u8]) -> Result<Definition, ReadFa
     }
 }
 
-/// The pattern that the bytes (fewer than 2^32) spell, read to their end, or their first fault. Time
-/// is linear in the bytes; nothing recurses but for the nesting of brackets, of which at most 500
-/// are open at once.
+/// Reads a pattern. The bytes (fewer than 2^32) are read to their end. Returns the pattern that
+/// they spell. Errors: the first fault of the text, or out of memory.
+///
+/// Time is linear in how many bytes there are. The recursion is only as deep as the brackets are
+/// nested: at most 500 are open at once.
 pub fn read_pattern(alloc: Global, bytes: &[u8]) -> Result<Pat, ReadFault>
     requires { length bytes.now < 2 ^ 32 }
     ensures found { IfOk result (λ p. ReadsPattern bytes.now (plain_pattern p)) }

@@ -1,5 +1,5 @@
-// The reader of tokens: what is left of a text, from a token on. It reads texts of which it is known
-// that they are good, so it looks at a token only where more than one can come.
+// The reader of tokens: what is left of a text. It reads only texts that are known to have no
+// fault. So it looks at a token only if more than one token is possible there.
 
 ghost use Rattle.std.specs.Prelude.{◌≡◌, true, false, ◌<◌, ◌≤◌, ◌-◌, IsTrue, ◌^◌, length, not, IfOk, OnOk, drop};
 ghost use Rattle.std.specs.Str.{is_utf8};
@@ -13,7 +13,7 @@ use kore_lex::{TokenKind, text_value};
 use kore_text::{Built, Next, Tokens};
 use std::alloc::{AllocError, Global};
 
-/// A text from a token, or the end, on.
+/// What is left of a text: the next token, or the end, and the tokens after it.
 #[derive(Drop)]
 pub(crate) struct Reader<'a> {
     pub(crate) alloc: Global,
@@ -24,18 +24,18 @@ pub(crate) struct Reader<'a> {
     ghost strings: { IsString (string_bytes_of next) },
 }
 
-/// What begins a pattern.
+/// The kind of pattern that a token begins.
 #[derive(Clone, Copy)]
 pub(crate) enum Head {
     Name,
     SetName,
     Text,
     Builtin(Built),
-    /// No pattern; it never stands where a pattern is to come in a good text.
+    /// No pattern. In a faultless text this never occurs where a pattern is expected.
     Nothing,
 }
 
-/// What begins a declaration; `Sort` and `Symbol` with whether it is hooked.
+/// The kind of declaration that a word begins. `Sort` and `Symbol` say whether it is hooked.
 #[derive(Clone, Copy)]
 pub(crate) enum Keyword {
     Import,
@@ -52,7 +52,7 @@ impl<'a> Reader<'a> {
     ghost use Rattle.kore_ast.specs.Reading.{left, size, behind_comma};
     ghost use Rattle.kore_ast.specs.Streams.{after, place, seen, has_mark, is_done, is_over, name_of, set_name_of, text_of, head_of, keyword_of};
 
-    /// The whole text.
+    /// A reader of the whole text.
     #[tactic(auto, using(crate::proofs::Heads::comes_first, crate::proofs::Heads::comes_name, crate::proofs::Heads::comes_set_name, crate::proofs::Heads::comes_string))]
     pub(crate) fn new(alloc: Global, text: &'a [u8]) -> Reader<'a>
         requires { length text.now < 2 ^ 32 }
@@ -90,7 +90,7 @@ impl<'a> Reader<'a> {
         }
     }
 
-    /// What the next token begins.
+    /// The kind of pattern that the next token begins.
     pub(crate) fn head(&self) -> Head
         ensures { result ≡ head_of (seen (left self.now)) }
     {
@@ -106,7 +106,7 @@ impl<'a> Reader<'a> {
         }
     }
 
-    /// Which declaration the next token begins.
+    /// The kind of declaration that the next token begins.
     pub(crate) fn keyword(&self) -> Keyword
         ensures { result ≡ keyword_of (seen (left self.now)) }
     {
@@ -116,7 +116,7 @@ impl<'a> Reader<'a> {
         }
     }
 
-    /// The byte at which the next token stands, or the end.
+    /// The byte at which the next token begins, or the byte of the end.
     fn place(&self) -> u32
         ensures { result ≡ place (left self.now) }
     {
@@ -127,7 +127,7 @@ impl<'a> Reader<'a> {
         }
     }
 
-    /// Goes on after the next token.
+    /// Moves on to what follows the next token.
     #[tactic(auto, using(crate::proofs::Heads::comes_first, crate::proofs::Heads::comes_name, crate::proofs::Heads::comes_set_name, crate::proofs::Heads::comes_string))]
     fn advance(&mut self)
         requires { is_done (seen (left self.old)) ≡ false }
@@ -136,7 +136,7 @@ impl<'a> Reader<'a> {
         self.next = self.tokens.next();
     }
 
-    /// Takes the next token; answers its place.
+    /// Takes the next token and returns its place.
     #[tactic(auto, using(crate::proofs::Steps::after_done, crate::proofs::Steps::count_after))]
     pub(crate) fn pass(&mut self) -> u32
         ensures at { result ≡ place (left self.old) }
@@ -151,7 +151,7 @@ impl<'a> Reader<'a> {
         at
     }
 
-    /// The name of the next token, where it is an identifier.
+    /// The name of the next token, if it is an identifier.
     fn own_name(&self) -> Result<Text, AllocError>
         ensures { IfOk result (λ n. n ≡ name_of (seen (left self.now))) }
     {
@@ -161,7 +161,7 @@ impl<'a> Reader<'a> {
         }
     }
 
-    /// The name of the next token after `@`, where it is the identifier of a set variable.
+    /// The name after `@` of the next token, if it is the identifier of a set variable.
     fn own_set_name(&self) -> Result<Text, AllocError>
         ensures { IfOk result (λ n. n ≡ set_name_of (seen (left self.now))) }
     {
@@ -173,7 +173,7 @@ impl<'a> Reader<'a> {
         }
     }
 
-    /// The text of the next token, where it is a string.
+    /// The text of the next token, if it is a string.
     fn own_text(&self) -> Result<Text, AllocError>
         ensures { IfOk result (λ t. t ≡ text_of (seen (left self.now))) }
     {
@@ -185,7 +185,7 @@ impl<'a> Reader<'a> {
         }
     }
 
-    /// Takes an identifier: its place and its name.
+    /// Takes an identifier and returns its place and its name.
     pub(crate) fn name(&mut self) -> Result<(u32, Text), AllocError>
         ensures read { IfOk result (λ x. (x.0 ≡ place (left self.old)) × (x.1 ≡ name_of (seen (left self.old)))) }
         ensures rest { OnOk result (left self.new ≡ after (left self.old)) }
@@ -195,7 +195,7 @@ impl<'a> Reader<'a> {
         Ok((self.pass(), name))
     }
 
-    /// Takes the identifier of a set variable: its place and its name after `@`.
+    /// Takes the identifier of a set variable and returns its place and its name after `@`.
     pub(crate) fn set_name(&mut self) -> Result<(u32, Text), AllocError>
         ensures read { IfOk result (λ x. (x.0 ≡ place (left self.old)) × (x.1 ≡ set_name_of (seen (left self.old)))) }
         ensures rest { OnOk result (left self.new ≡ after (left self.old)) }
@@ -205,7 +205,7 @@ impl<'a> Reader<'a> {
         Ok((self.pass(), name))
     }
 
-    /// Takes a string: its place and its text.
+    /// Takes a string and returns its place and its text.
     pub(crate) fn string(&mut self) -> Result<(u32, Text), AllocError>
         ensures read { IfOk result (λ x. (x.0 ≡ place (left self.old)) × (x.1 ≡ text_of (seen (left self.old)))) }
         ensures rest { OnOk result (left self.new ≡ after (left self.old)) }
@@ -222,8 +222,8 @@ impl<'a> Reader<'a> {
         self.is_done() || self.has_mark(close)
     }
 
-    /// Whether another item of a list comes: the first, or one after a comma, which is taken.
-    /// None comes at the closing mark, which is taken too.
+    /// Whether a list has another item. It takes the comma before each item but the first. If there
+    /// is no other item, it takes the closing mark.
     pub(crate) fn another(&mut self, first: bool, close: u8) -> bool
         ensures comes { result ≡ not (is_over close (seen (left self.old))) }
         ensures rest { left self.new ≡ behind_comma first close (left self.old) }
@@ -249,7 +249,7 @@ fn behind_first(bytes: &[u8]) -> &[u8]
     if bytes.is_empty() { bytes } else { &bytes[1..] }
 }
 
-/// Which declaration this word begins.
+/// The kind of declaration that this word begins.
 fn keyword_at(word: &[u8]) -> Keyword
     ensures { result ≡ keyword_at word.now }
 {

@@ -1,5 +1,5 @@
-// Reading sorts and patterns. Nothing recurses but for their nesting, and each level stands behind
-// a bracket that was counted.
+// Reading sorts and patterns. The recursion is only as deep as they are nested. Each level is
+// inside a bracket that was counted.
 
 ghost use Rattle.std.specs.Prelude.{◌≡◌, ◌≤◌, ◌<◌, ◌-◌, Bool, true, map, IfOk, OnOk, Some};
 ghost use Rattle.kore_ast.specs.Plain.{plain_sort, plain_pattern};
@@ -36,7 +36,7 @@ impl<'a> Reader<'a> {
         })
     }
 
-    /// Sorts from after their opening bracket up to and with the closing mark.
+    /// Sorts, from the token after their opening bracket up to and including the closing mark.
     #[cycle(sorts)]
     pub(crate) fn sorts(&mut self, close: u8) -> Result<Vec<Sort>, AllocError>
         requires { is_closing close ≡ true }
@@ -68,7 +68,7 @@ impl<'a> Reader<'a> {
         }
     }
 
-    /// An element variable, or a symbol applied.
+    /// An element variable, or the application of a symbol.
     #[cycle(patterns)]
     fn named(&mut self) -> Result<Pat, AllocError>
         requires { head_of (seen (left self.old)) ≡ heads.Name }
@@ -202,7 +202,7 @@ impl<'a> Reader<'a> {
         })
     }
 
-    /// Patterns from after their opening bracket up to and with the closing mark.
+    /// Patterns, from the token after their opening bracket up to and including the closing mark.
     #[cycle(patterns)]
     pub(crate) fn patterns(&mut self, close: u8) -> Result<Vec<Pat>, AllocError>
         requires { is_closing close ≡ true }

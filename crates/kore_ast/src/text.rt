@@ -1,4 +1,4 @@
-// The type of names and texts in trees.
+// The type of the names and texts in trees.
 
 ghost use Rattle.std.specs.Prelude.{◌≡◌, true, List, ℕ, IfOk, string_bytes};
 ghost use Rattle.std.specs.Str.{is_utf8};
@@ -6,7 +6,7 @@ ghost use Rattle.std.specs.Str.{is_utf8};
 use std::alloc::{AllocError, Global};
 use std::marker::Model;
 
-/// A name or a text of a tree. A contract sees the list of its bytes.
+/// A name or a text in a tree. A contract sees the list of its bytes.
 #[derive(Drop)]
 pub struct Text {
     inner: String,
@@ -19,21 +19,21 @@ impl Model for Text {
 }
 
 impl Text {
-    /// The text that the string holds; takes no memory.
+    /// The text of the string. Allocates nothing.
     pub fn new(inner: String) -> Text
         ensures { result ≡ string_bytes inner }
     {
         Text { inner }
     }
 
-    /// The text, lent for reading.
+    /// The text, borrowed.
     pub fn as_str(&self) -> &str
         ensures { result.now ≡ self.now }
     {
         self.inner.as_str()
     }
 
-    /// The text of these bytes.
+    /// The text of these bytes. Fails only if memory runs out.
     pub(crate) fn of_bytes(alloc: Global, bytes: &[u8]) -> Result<Text, AllocError>
         requires { is_utf8 bytes.now ≡ true }
         ensures same { IfOk result (λ t. t ≡ bytes.now) }

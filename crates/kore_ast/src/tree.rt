@@ -1,5 +1,4 @@
-// The trees of Kore text. Each `at` is the byte at which the first token of the thing stands,
-// counted from 0.
+// The trees of Kore text. Each `at` is the byte at which the first token begins, counted from 0.
 
 ghost use Rattle.std.specs.Prelude.{◌≡◌};
 ghost use Rattle.kore_ast.specs.declared.tree.ReadFault.TheVariants.{Memory};
@@ -8,7 +7,8 @@ use crate::text::Text;
 use kore_text::{Binder, Op, TextFault};
 use std::alloc::{AllocError, AllocFailed};
 
-/// A definition: its attributes, and its modules in the order of the text, the main one last.
+/// A definition: its attributes, and its modules in the order of the text. The main module is the
+/// last.
 #[derive(Drop)]
 pub struct Definition {
     pub attrs: Vec<Pat>,
@@ -43,7 +43,7 @@ pub struct ImportDecl {
     pub attrs: Vec<Pat>,
 }
 
-/// The declaration of a sort; `hooked` where the keyword is `hooked-sort`.
+/// The declaration of a sort. `hooked` is true if the keyword is `hooked-sort`.
 #[derive(Drop)]
 pub struct SortDecl {
     pub at: u32,
@@ -53,7 +53,7 @@ pub struct SortDecl {
     pub attrs: Vec<Pat>,
 }
 
-/// The declaration of a symbol; `hooked` where the keyword is `hooked-symbol`.
+/// The declaration of a symbol. `hooked` is true if the keyword is `hooked-symbol`.
 #[derive(Drop)]
 pub struct SymbolDecl {
     pub at: u32,
@@ -65,7 +65,7 @@ pub struct SymbolDecl {
     pub attrs: Vec<Pat>,
 }
 
-/// The declaration of an alias: that of its symbol, its variables and its body.
+/// The declaration of an alias: the declaration of its symbol, its variables and its body.
 #[derive(Drop)]
 pub struct AliasDecl {
     pub at: u32,
@@ -123,7 +123,7 @@ pub enum PatForm {
     Elem(Text, Sort),
     /// A set variable of a sort.
     SetVar(Text, Sort),
-    /// A string, as attributes have it.
+    /// A string. It occurs in attributes.
     Text(Text),
     /// A symbol with its sort arguments, applied to patterns.
     App(Text, Vec<Sort>, Vec<Pat>),
@@ -131,7 +131,7 @@ pub enum PatForm {
     Built(Op, Vec<Sort>, Vec<Pat>),
     /// A binder with its sorts, its variable and its body.
     Bound(Binder, Vec<Sort>, Box<Pat>, Box<Pat>),
-    /// A domain value: its sort, its text and the byte at which its string stands.
+    /// A domain value: its sort, its text and the byte at which its string begins.
     Value(Sort, Text, u32),
     /// A fold of an application, from the left (`true`) or from the right (`false`).
     Fold(bool, Box<Pat>),
@@ -140,13 +140,13 @@ pub enum PatForm {
 /// Why a text was not read.
 #[derive(Drop, Debug)]
 pub enum ReadFault {
-    /// What is no token, at its byte.
+    /// Something is no token; the fault is at this byte.
     Lex(u32),
-    /// The token that fits no case of the grammar, or the end.
+    /// The token at this byte fits no case of the grammar, or the text ends here too soon.
     Syntax(u32),
-    /// The bracket that opens the 501st level.
+    /// The bracket at this byte opens the 501st level.
     Deep(u32),
-    /// Memory was wanting.
+    /// Out of memory.
     Memory,
 }
 

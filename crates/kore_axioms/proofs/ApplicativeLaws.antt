@@ -1,4 +1,5 @@
--- A pattern without other forms and binders is made of variables, applications, domain values and folds.
+-- A pattern without other forms and binders is made of variables, applications, domain values and
+-- folds.
 use Rattle.std.proofs.Common.{◌≡◌, ℕ, Bool, true, false, ◌||◌, ◌&&◌, List, refl, sym}
 use Rattle.std.specs.Prelude.{not}
 use Rattle.std.proofs.lemmas.Bool.{false≢true}
@@ -67,7 +68,7 @@ mutual
   fold_applicative left (domain_value at s text byte) h b = absurd (false≢true (sym h))
   fold_applicative left (folded at other p) h b = absurd (false≢true (sym h))
 
--- ---- `\and` and other forms apart
+-- ---- `\and`, and the other forms
 
 exhausted : (a x : Bool) → (a && not x) ≡ false → (a && x) ≡ false → (a && true) ≡ false
 exhausted a true h k = k

@@ -1,4 +1,4 @@
--- Where an axiom has no binder, its parts have none.
+-- If an axiom has no binder, its parts have none.
 use Rattle.std.proofs.Common.{◌≡◌, Bool, true, false, ◌&&◌, List, [], ◌∷◌, Option, Some, None, cond, refl, sym, subst}
 use Rattle.std.proofs.lemmas.Bool.{false≢true}
 use Rattle.kore_text.specs.Trees.{SortTree, listed_sorts, PatternTree, element_variable, set_variable, string, symbol_applied, connected, binding, domain_value, folded, PatternTrees, no_patterns, pattern_then, listed_patterns}
@@ -15,7 +15,7 @@ use Rattle.kore_axioms.proofs.ApplicativeLaws.{neither}
 abbrev pub NoneBinds : Option PatternTree → Type 0
 NoneBinds o = (p : PatternTree) → o ≡ Some p → has_binder p ≡ false
 
--- each of the patterns has none
+-- no pattern of the list has a binder
 abbrev pub AllBindNone : List PatternTree → Type 0
 AllBindNone [] = Unit {0}
 AllBindNone (p ∷ ps) = (has_binder p ≡ false) × AllBindNone ps
@@ -120,7 +120,7 @@ found_binds_none (beside p r) h = λ q e. subst (λ (x : PatternTree). has_binde
 found_binds_none without h = λ q e. absurd (let never : ⊥ = cc in never)
 found_binds_none misshapen h = λ q e. absurd (let never : ⊥ = cc in never)
 
--- ---- what a condition tests
+-- ---- the pattern that a condition tests
 
 abbrev ConditionBindsNone : Condition → Type 0
 ConditionBindsNone always = Unit {0}
@@ -184,7 +184,7 @@ tested_binds always h = λ q e. absurd (let never : ⊥ = cc in never)
 tested_binds (tests t b) h = λ q e. subst (λ (x : PatternTree). has_binder x ≡ false) (let same : b ≡ q = cc in same) h
 tested_binds ill h = λ q e. absurd (let never : ⊥ = cc in never)
 
--- what a condition tests over sorts of truth values
+-- the pattern that a condition over sorts of truth values tests
 pub test_binds_none : (sig : Signature) (s : SortTree) (o : Option PatternTree) → NoneBinds o → NoneBinds (tested (over_bool sig (given_condition s o)))
 test_binds_none sig s o none = tested_binds _ (over_binds sig _ (given_binds s o none))
 

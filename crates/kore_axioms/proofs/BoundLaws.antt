@@ -1,4 +1,5 @@
--- A pattern has only variables of others exactly where numbering it adds no variable.
+-- A pattern has only variables of given patterns if and only if numbering its variables adds no
+-- variable.
 use Rattle.std.proofs.Common.{◌≡◌, ◌<◌, ◌≤◌, ℕ, ◌+◌, Bool, true, false, ◌&&◌, ◌||◌, List, [], ◌∷◌, ◌++◌, drop, length, Option, Some, None, refl, ap, sym, ◌∙◌, subst, arith, inl, inr, ⊎_elim, cond}
 use Rattle.std.specs.Prelude.{◌⊎◌, is_some, ◌==◌}
 use Rattle.std.specs.List.{list_any, position_from}
@@ -24,7 +25,7 @@ use Rattle.kore_axioms.specs.Uses.{stands_in, stands_in_some, is_bound_by, are_b
 
 -- ---- sorts
 
--- sorts that are written alike have one number
+-- sorts that are written the same have the same number
 pub same_number : (sorts : List (List ℕ × SortInfo)) (s t : SortTree) → same_sort s t ≡ true → sort_number sorts s ≡ sort_number sorts t
 same_number sorts (sort_parameter at n) (sort_parameter place m) h = refl
 same_number sorts (sort_parameter at n) (sort_applied place m ts) h = absurd (false≢true h)
@@ -35,7 +36,7 @@ same_number sorts (sort_applied at n no_sorts) (sort_applied place m (sort_then 
 same_number sorts (sort_applied at n (sort_then s ss)) (sort_applied place m no_sorts) h = absurd (false≢true (both_true _ _ h).1)
 same_number sorts (sort_applied at n (sort_then s ss)) (sort_applied place m (sort_then t ts)) h = refl
 
--- a place is none before the first that is looked at
+-- a position is not before the first one that is tested
 not_before : {K : Type 0} (test : K → Bool) (i : ℕ) (xs : List K) (k : ℕ) → position_from test i xs ≡ Some k → i ≤ k
 not_before test i [] k e = absurd (let never : ⊥ = cc in never)
 not_before test i (x ∷ xs) k e = by_case (test x) e (not_before test (i + 1) xs k) where
@@ -46,7 +47,7 @@ not_before test i (x ∷ xs) k e = by_case (test x) e (not_before test (i + 1) x
 abbrev named : List ℕ → List ℕ × SortInfo → Bool
 named n e = bytes_eq n e.0
 
--- one number has one name
+-- a number belongs to only one name
 one_name : (es : List (List ℕ × SortInfo)) (i k : ℕ) (n m : List ℕ) → position_from (named n) i es ≡ Some k → position_from (named m) i es ≡ Some k → n ≡ m
 one_name [] i k n m a b = absurd (let never : ⊥ = cc in never)
 one_name (e ∷ es) i k n m a b = by_case (bytes_eq n e.0) (bytes_eq m e.0) refl refl a b (one_name es (i + 1) k n m) where
@@ -60,7 +61,7 @@ one_name (e ∷ es) i k n m a b = by_case (bytes_eq n e.0) (bytes_eq m e.0) refl
       absurd (let same : i ≡ k = cc in let far : i + 1 ≤ k = not_before (named n) (i + 1) es k x in omega (arith, same, far))
   by_case false false f g x y later = later x y
 
--- declared sorts of one number are written alike
+-- declared sorts of the same number are written the same
 same_written : (sorts : List (List ℕ × SortInfo)) (s t : SortTree) (k : ℕ) → sort_number sorts s ≡ Some k → sort_number sorts t ≡ Some k → same_sort s t ≡ true
 same_written sorts (sort_parameter at n) t k a b = absurd (let never : ⊥ = cc in never)
 same_written sorts (sort_applied at n (sort_then s ss)) t k a b = absurd (let never : ⊥ = cc in never)
@@ -88,11 +89,11 @@ some_place test i (x ∷ xs) = by_case (test x) (some_place test (i + 1) xs) whe
 numbered : (vars : List (List ℕ × ℕ)) (name : List ℕ) (s : ℕ) → is_some (variable_number vars name s) ≡ has vars name s
 numbered vars name s = some_place (is_one name s) 0 vars
 
--- a variable that is there changes nothing
+-- a variable that is in the list adds nothing
 unchanged : (vars : List (List ℕ × ℕ)) (name : List ℕ) (s : ℕ) → has vars name s ≡ true → with_variable vars name (Some s) ≡ vars
 unchanged vars name s h = rw (numbered vars name s ∙ h) refl
 
--- .. and any other one is added
+-- a variable that is not in the list is added
 changed : (vars : List (List ℕ × ℕ)) (name : List ℕ) (s : ℕ) → has vars name s ≡ false → with_variable vars name (Some s) ≡ vars ++ (name, s) ∷ []
 changed vars name s h = rw (numbered vars name s ∙ h) refl
 
@@ -106,7 +107,7 @@ true_or false b h = h
 itself : (name : List ℕ) (s : ℕ) → is_one name s (name, s) ≡ true
 itself name s = true_both _ _ ((bytes_eq-Decides name name).1 refl) (eq-eqb s s refl)
 
--- it is there afterwards
+-- after that, the variable is in the list
 added : (vars : List (List ℕ × ℕ)) (name : List ℕ) (s : ℕ) → has (with_variable vars name (Some s)) name s ≡ true
 added vars name s = by_case (has vars name s) refl where
   by_case : (b : Bool) → has vars name s ≡ b → has (with_variable vars name (Some s)) name s ≡ true
@@ -141,7 +142,7 @@ either : {P : Type 0} (a b : Bool) → (a || b) ≡ true → (a ≡ true → P) 
 either true b h f g = f refl
 either false b h f g = g h
 
--- what stands in a pattern is numbered
+-- a variable that occurs in a pattern is numbered
 mutual
   covers : (sig : Signature) (vars : List (List ℕ × ℕ)) (q : Unfolded) (name : List ℕ) (t : SortTree) (s : ℕ) → stands_in name t q ≡ true → sort_number sig.sorts t ≡ Some s → has (with_variables sig vars q) name s ≡ true
   covers sig vars (named_variable at n u) name t s h e =
@@ -161,7 +162,7 @@ mutual
       (λ here. all_kept sig (with_variables sig vars q) qs name s (covers sig vars q name t s here e))
       (λ later. all_cover sig (with_variables sig vars q) qs name t s later e)
 
--- what is numbered and was not before stands in the pattern
+-- a variable that is numbered and was not before occurs in the pattern
 abbrev StandsAs : Signature → List ℕ → ℕ → (SortTree → Bool) → Type 0
 StandsAs sig name s stands = (t : SortTree) × (stands t ≡ true) × (sort_number sig.sorts t ≡ Some s)
 
@@ -199,7 +200,7 @@ mutual
       (λ found. inr (found.0, true_or (stands_in name found.0 q) _ found.1, found.2))
       (all_only sig (with_variables sig vars q) qs name s h)
 
--- a variable stands in a pattern however its sort is written
+-- a variable occurs in a pattern with any way to write its sort
 mutual
   written_so : (sig : Signature) (q : Unfolded) (name : List ℕ) (t u : SortTree) (s : ℕ) → sort_number sig.sorts t ≡ Some s → sort_number sig.sorts u ≡ Some s → stands_in name t q ≡ true → stands_in name u q ≡ true
   written_so sig (named_variable at n v) name t u s e f h =
@@ -216,9 +217,9 @@ mutual
       (λ here. or_true _ _ (written_so sig q name t u s e f here))
       (λ later. true_or (stands_in name u q) _ (all_written_so sig qs name t u s e f later))
 
--- ---- patterns over these
+-- ---- patterns over given patterns
 
--- the variables of these patterns
+-- the variables of the given patterns
 abbrev of : Signature → Unfoldeds → List (List ℕ × ℕ)
 of sig qs = with_all_variables sig [] qs
 
@@ -226,7 +227,7 @@ standing : (sig : Signature) (qs : Unfoldeds) (n : List ℕ) (t : SortTree) (o :
 standing sig qs n t None e h = refl
 standing sig qs n t (Some s) e h = unchanged (of sig qs) n s (all_cover sig [] qs n t s h e)
 
--- a pattern of bound variables adds none
+-- a pattern whose variables are bound adds none
 mutual
   pub bound_same : (sig : Signature) (qs : Unfoldeds) (p : Unfolded) → is_bound_by qs p ≡ true → with_variables sig (of sig qs) p ≡ of sig qs
   bound_same sig qs (named_variable at n t) h = standing sig qs n t (sort_number sig.sorts t) refl h
@@ -240,7 +241,7 @@ mutual
       let both = both_true _ _ h in
       ap (λ (vs : List (List ℕ × ℕ)). with_all_variables sig vs ps) (bound_same sig qs p both.0) ∙ all_bound_same sig qs ps both.1
 
--- numbering takes no variable away
+-- numbering removes no variable
 grown : (vars : List (List ℕ × ℕ)) (n : List ℕ) (o : Option ℕ) → length vars ≤ length (with_variable vars n o)
 grown vars n None = omega arith
 grown vars n (Some s) = by_case (has vars n s) refl where
@@ -286,7 +287,7 @@ more_by sig qs p ps true e h here later =
 more_by sig qs p ps false e h here later =
     omega (arith, here e, all_not_less sig (with_variables sig (of sig qs) p) ps)
 
--- .. and a pattern with any other variable, which is of a declared sort, adds one
+-- a pattern with an unbound variable of a declared sort adds one
 mutual
   pub unbound_more : (sig : Signature) (qs : Unfoldeds) (p : Unfolded) → pattern_faults sig p ≡ [] → is_bound_by qs p ≡ false → length (of sig qs) < length (with_variables sig (of sig qs) p)
   unbound_more sig qs (named_variable at n t) clear h = missing sig qs n t (sort_number sig.sorts t) refl clear h

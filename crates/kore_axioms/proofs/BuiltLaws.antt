@@ -1,4 +1,4 @@
--- Whether the variables of a rule are bound, by how many there are.
+-- How many variables there are decides whether the variables of a rule are bound.
 use Rattle.std.proofs.Common.{◌≡◌, ◌<◌, ◌≤◌, ℕ, Bool, true, false, ◌&&◌, List, [], length, nat_eq, Option, Some, None, refl, ap, sym, ◌∙◌, arith}
 use Rattle.std.proofs.lemmas.Bool.{eqb-true, eq-eqb, false≢true}
 use Rattle.kore_text.specs.Trees.{PatternTree}
@@ -18,7 +18,7 @@ Clear sig test = (p : PatternTree) → test ≡ Some p → pattern_faults sig (u
 abbrev of : Signature → Unfoldeds → List (List ℕ × ℕ)
 of sig qs = with_all_variables sig [] qs
 
--- what is bound adds nothing
+-- a pattern whose variables are bound adds none
 bound_some : (sig : Signature) (qs : Unfoldeds) (test : Option PatternTree) → is_bound qs test ≡ true → with_some_variables sig (of sig qs) test ≡ of sig qs
 bound_some sig qs None h = refl
 bound_some sig qs (Some p) h = bound_same sig qs (unfolded p) h
@@ -27,7 +27,7 @@ unbound_some : (sig : Signature) (qs : Unfoldeds) (test : Option PatternTree) �
 unbound_some sig qs None clear h = absurd (false≢true (sym h))
 unbound_some sig qs (Some p) clear h = unbound_more sig qs (unfolded p) (clear p refl) h
 
--- all variables of a rule after those of its left side
+-- all variables of a rule; those of its left side come first
 abbrev all_of : Signature → Unfoldeds → Option PatternTree → PatternTree → List (List ℕ × ℕ)
 all_of sig qs test right = with_variables sig (with_some_variables sig (of sig qs) test) (unfolded right)
 
@@ -56,7 +56,7 @@ bound_counted sig qs test right clear fine = by_case (is_bound qs test) (is_boun
       let more : length (with_some_variables sig (of sig qs) test) ≤ length (all_of sig qs test right) = not_less sig (with_some_variables sig (of sig qs) test) (unfolded right) in
       differ _ _ (omega (arith, longer, more)) ∙ sym (ap (λ (x : Bool). x && is_bound_by qs (unfolded right)) h)
 
--- where none was added, the variables are those of the left side all along
+-- if no variable was added, the variables are always those of the left side
 pub bound_all : (sig : Signature) (qs : Unfoldeds) (test : Option PatternTree) (right : PatternTree) → Clear sig test → pattern_faults sig (unfolded right) ≡ []
     → nat_eq (length (all_of sig qs test right)) (length (of sig qs)) ≡ true → (with_some_variables sig (of sig qs) test ≡ of sig qs) × (all_of sig qs test right ≡ of sig qs)
 bound_all sig qs test right clear fine e =

@@ -1,4 +1,4 @@
--- The number that a short text of digits is read as.
+-- The number of a short text of digits.
 use Rattle.std.proofs.Common.{◌≡◌, ◌<◌, ◌≤◌, ◌^◌, ℕ, true, List, [], ◌∷◌, length, Some, refl, ◌∙◌, ap, arith, rules}
 use Rattle.std.specs.Prelude.{Result, Ok, Err}
 use Rattle.std.specs.Str.{all_ascii_digits}

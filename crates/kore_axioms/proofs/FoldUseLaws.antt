@@ -21,7 +21,7 @@ or_false : (b : Bool) → (b || false) ≡ b
 or_false true = refl
 or_false false = refl
 
--- a symbol over two patterns, and more
+-- the test of a symbol over two patterns and the test of the rest, as one disjunction
 twice : (t p q r : Bool) → ((t || (p || (q || false))) || r) ≡ (t || (p || (q || r)))
 twice true p q r = refl
 twice false true q r = refl
@@ -67,7 +67,7 @@ only_uses test at [] = refl
 only_uses test at (p ∷ []) = sym (or_false (has_symbol test (unfolded p)))
 only_uses test at (p ∷ (q ∷ ps)) = refl
 
--- .. of a pattern of the program that is a fold's application
+-- the symbols of the fold of an application
 pub folded_uses : (test : List ℕ → Bool) (left : Bool) (p : Pat) (n : List ℕ) (ss : Vec Sort Global) (args : Vec Pat Global) → p.form ≡ form.App n ss args
     → has_symbol test (inner_fold left (plain_pattern p)) ≡ ((are_two (map plain_pattern args.items) && test n) || have_symbol test (all_unfolded (pattern_trees (map plain_pattern args.items))))
 folded_uses test left p n ss args h =

@@ -10,7 +10,7 @@ use Rattle.kore_check.proofs.NotedLaws.{left, noted-append, noted-first, first-o
 use Rattle.kore_axioms.specs.Noting.{kept_fault, after}
 use Rattle.kore_axioms.specs.RuleFaults.{is_empty}
 
--- what the sort check says of what it notes
+-- what the check of sorts says about the faults that it notes
 abbrev pub Notes : List Fault → Option PatternFault → Option PatternFault → Type 0
 Notes faults first second = (before : List Fault) → IsFirstOf before first → IsFirstOf (before ++ faults) second
 
@@ -24,7 +24,7 @@ pub noted_both : (fs gs : List Fault) (first second third : Option PatternFault)
 noted_both fs gs first second third one two =
     two ∙ ap (λ (o : Option Fault). noted leads_by_byte o gs) one ∙ sym (noted-append (kept_fault first) fs gs)
 
--- what is kept where nothing was noted before
+-- what is kept if nothing was noted before
 pub all_noted : (fs : List Fault) (r : Option PatternFault) → kept_fault r ≡ after None fs → IsFirstOf fs r
 all_noted fs r e = subst (λ (o : Option Fault). IsFirstBy ByByte (Contains fs) o) (sym e) (noted-first fs)
 
@@ -32,12 +32,12 @@ nothing_kept : (fs : List Fault) (o : Option Fault) → o ≡ noted leads_by_byt
 nothing_kept [] o e = ap is_none e
 nothing_kept (f ∷ fs) o e = let l = left f fs in ap is_none (e ∙ l.is)
 
--- nothing is kept just where there is nothing
+-- nothing is kept if and only if there is no fault
 pub none_kept : (fs : List Fault) (r : Option PatternFault) → kept_fault r ≡ after None fs → is_none r ≡ is_empty fs
 none_kept fs None e = nothing_kept fs None e
 none_kept fs (Some f) e = nothing_kept fs (Some (plain_fault f)) e
 
--- an answer that says so
+-- the returned value says so
 pub none_seen : (fs : List Fault) (r : Option PatternFault) (b : Bool) → kept_fault r ≡ after None fs → is_some r ≡ not b → b ≡ is_empty fs
 none_seen fs None false e h = absurd (false≢true h)
 none_seen fs None true e h = none_kept fs None e

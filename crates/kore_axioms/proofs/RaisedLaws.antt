@@ -12,7 +12,7 @@ raised_append at [] us = refl
 raised_append at (t ∷ ts) us =
     ap (λ (fs : List Fault). when t.0 t.1 at ++ fs) (raised_append at ts us) ∙ sym (append_assoc (when t.0 t.1 at) (raised at ts) (raised at us))
 
--- one test more
+-- one more test
 pub first_raised_more : (at : ℕ) (ts : List (Bool × ℕ)) (t : Bool × ℕ) (r : Option Fault) → r ≡ first_by_number (raised at ts)
     → noted leads_by_number r (when t.0 t.1 at) ≡ first_by_number (raised at (ts ++ t ∷ []))
 first_raised_more at ts t r e =

@@ -1,4 +1,4 @@
--- What follows for the parts of a rewrite rule whose form and sorts have no fault.
+-- Laws on the parts of a rewrite rule whose form and sorts have no fault.
 use Rattle.std.proofs.Common.{◌≡◌, ℕ, Bool, true, false, ◌&&◌, ◌||◌, List, [], ◌++◌, Option, Some, None, refl, ap, sym, ◌∙◌, subst}
 use Rattle.std.specs.Prelude.{not, if◌then◌else◌}
 use Rattle.std.proofs.lemmas.Bool.{false≢true}
@@ -22,12 +22,12 @@ use Rattle.kore_axioms.specs.BuiltRules.{IsFine}
 use Rattle.kore_axioms.proofs.BinderLaws.{PartsBindNone, parts_bind_none}
 use Rattle.kore_axioms.proofs.BoundLaws.{no_faults}
 
--- a test that raises nothing fails
+-- a test that raises no fault does not hold
 pub not_raised : (t : Bool) (number at : ℕ) (rest : List Fault) → when t number at ++ rest ≡ [] → (t ≡ false) × (rest ≡ [])
 not_raised true number at rest h = absurd (let never : ⊥ = cc in never)
 not_raised false number at rest h = (refl, h)
 
--- a form without faults
+-- the form has no fault
 pub record IsWellFormed (a : AxiomDeclaration) (w : RuleParts) : Type 0 where
   pub form : has_bad_form w ≡ false
   pub binder : has_binder a.pattern ≡ false
@@ -46,18 +46,18 @@ well_formed a w h =
     let condition = neither (is_without w.before) (is_ill w.condition) four.0 in
     record { form = one.0; binder = two.0; after = three.0; before = condition.0; condition = condition.1; conjunction = five.0 }
 
--- a side that is there
+-- the side has a pattern
 side_there : (s : Side) → is_misshapen s ≡ false → is_without s ≡ false → (p : PatternTree) × (main_part s ≡ Some p)
 side_there (alone p) h k = (p, refl)
 side_there (beside p q) h k = (q, refl)
 side_there without h k = absurd (false≢true (sym k))
 side_there misshapen h k = absurd (false≢true (sym h))
 
--- what holds of the pattern, where there is one, holds of this
+-- what holds of an optional pattern holds of the pattern in it
 pub held : (test : PatternTree → Bool) (o : Option PatternTree) (p : PatternTree) → o ≡ Some p → holds_of test o ≡ false → test p ≡ false
 held test o p e h = sym (ap (holds_of test) e) ∙ h
 
--- a pattern at its sort
+-- a pattern that has no fault at its sort
 clear_at : (sig : Signature) (wanted : Option ℕ) (o : Option PatternTree) (p : PatternTree) → o ≡ Some p → side_faults sig wanted o ≡ [] → pattern_faults sig (unfolded p) ≡ []
 clear_at sig wanted o p e h =
     let here : side_faults sig wanted (Some p) ≡ [] = sym (ap (side_faults sig wanted) e) ∙ h in
@@ -120,7 +120,7 @@ of_pattern sig a (Some v) w e = ap (λ (x : Rewriting). Some x) (let same : v �
 pub class_rewrites : (sig : Signature) (a : AxiomDeclaration) (w : Rewriting) → class_of sig a ≡ rewrites w → rewriting a.pattern ≡ Some w
 class_rewrites sig a w e = of_pattern sig a (rewriting a.pattern) w (class_ordered _ _ w (class_refused _ 21 _ w (class_refused _ 20 _ w e)))
 
--- so a rule without faults of form and sorts is fine
+-- a rule whose form and sorts have no fault is fine
 pub fine_rule : (sig : Signature) (a : AxiomDeclaration) (v : Rewriting) → class_of sig a ≡ rewrites v → form_faults a (rule_parts sig v) ≡ [] → sorted_faults sig v.sort (rule_parts sig v) ≡ [] → IsFine sig (rule_parts sig v)
 fine_rule sig a v class form sorts =
     fine sig a v.sort (rule_parts sig v) form sorts (parts_bind_none sig a.pattern v (class_rewrites sig a v class) (well_formed a (rule_parts sig v) form).binder)

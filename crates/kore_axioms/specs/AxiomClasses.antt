@@ -1,4 +1,5 @@
--- What an axiom of a module that counts is read as: the first class that fits.
+-- What an axiom is read as: the first class that fits. The axiom is in a module that counts: the
+-- main module, or a module that it reaches by imports.
 use Rattle.std.specs.Prelude.{ℕ, List, Bool, true, false, not, ◌||◌, ◌&&◌, Option, Some, None, is_none, is_some}
 use Rattle.std.specs.Prelude.{if◌then◌else◌, codes}
 use Rattle.std.specs.List.{list_any}
@@ -12,8 +13,8 @@ use Rattle.kore_check.specs.PatternSorts.{symbol_named}
 use Rattle.kore_shapes.specs.Shapes.{Rewriting, rewriting}
 use Rattle.kore_shapes.specs.Statements.{Statement, statement}
 
--- An axiom is refused with this number; it says that sorts are below others; it is a rewrite rule; it is an equation of
--- a function; or it is passed over.
+-- The classes: the axiom is refused with this number; it says that sorts are below others; it is a
+-- rewrite rule; it is an equation of a function; or it is passed over.
 pub data AxiomClass : Type 0 where
   refused : ℕ → AxiomClass
   orders_sorts : AxiomClass
@@ -21,7 +22,7 @@ pub data AxiomClass : Type 0 where
   equates : Statement → AxiomClass
   passed_over : AxiomClass
 
--- a function without sort parameters
+-- the kind is that of a function that has neither a hook nor sort parameters
 abbrev pub is_defined_kind : SymKind → Bool
 is_defined_kind Injection = false
 is_defined_kind Ctor = false
@@ -30,7 +31,7 @@ is_defined_kind (Hooked row) = false
 is_defined_kind Closed = false
 is_defined_kind NoKind = false
 
--- a function without a hook and without sort parameters, as the declarations give it
+-- the symbol is declared as a function without a hook and without sort parameters
 abbrev pub takes_equations : Option SymInfo → Bool
 takes_equations None = false
 takes_equations (Some info) = is_defined_kind info.kind && is_none info.hook
@@ -39,7 +40,7 @@ takes_equations (Some info) = is_defined_kind info.kind && is_none info.hook
 abbrev pub is_no_equation : List PatternTree → Bool
 is_no_equation attributes = has_attribute (codes "simplification") attributes || is_said_ac attributes
 
--- it is an equation of its function, or passed over
+-- an equation of the function, if the function takes equations; any other axiom is passed over
 abbrev pub class_of_statement : Signature → List PatternTree → Option Statement → AxiomClass
 class_of_statement sig attributes None = passed_over
 class_of_statement sig attributes (Some e) =

@@ -1,4 +1,4 @@
--- What is built of a rewrite rule without faults of its form and its sorts.
+-- What is built of a rewrite rule whose form and sorts have no fault.
 use Rattle.std.specs.Prelude.{◌≡◌, ◌&&◌, true, [], Option, Some, option_map, Contains}
 use Rattle.kore_text.specs.Trees.{SortTree, PatternTree, AxiomDeclaration}
 use Rattle.term_core.specs.RulePatterns.{plain_pattern}
@@ -14,12 +14,13 @@ use Rattle.kore_axioms.specs.RuleForms.{form_faults}
 use Rattle.kore_axioms.specs.RuleFaults.{sorted_faults, listed, is_bound}
 use Rattle.kore_axioms.specs.declared.rules.RulePatterns.{RulePatterns}
 
--- the first fault of the form, or else of the sorts
+-- the first fault of the form, or, if the form has none, the first fault of the sorts
 abbrev pub FirstOfShape : Signature → AxiomDeclaration → SortTree → RuleParts → Option Fault → Type 0
 FirstOfShape sig a s w r
     = Then (IsFirstBy ByNumber (Contains (form_faults a w))) (IsFirstBy ByByte (Contains (sorted_faults sig s w))) r
 
--- the patterns of a rule without such faults are there, and made of the forms that rule patterns have
+-- the rule has both sides, and its patterns have no fault and only the forms that rule patterns may
+-- have
 pub record IsFine (sig : Signature) (w : RuleParts) : Type 0 where
   pub left : PatternTree
   pub is_left : left_of w ≡ Some left
@@ -32,8 +33,8 @@ pub record IsFine (sig : Signature) (w : RuleParts) : Type 0 where
   pub test_form : (p : PatternTree) → tested w.condition ≡ Some p → IsApplicative (unfolded p)
   pub test_clear : (p : PatternTree) → tested w.condition ≡ Some p → pattern_faults sig (unfolded p) ≡ []
 
--- The patterns are built of the sides and of what the condition tests. Where all variables are bound, they mean these
--- with the variables of the left side.
+-- The patterns are built of the two sides and of the tested pattern of the condition. If all
+-- variables are bound, the built patterns mean these, with the variables of the left side.
 pub record IsBuiltOf (sig : Signature) (w : RuleParts) (made : RulePatterns) : Type 0 where
   pub left : PatternTree
   pub is_left : left_of w ≡ Some left

@@ -1,4 +1,4 @@
--- The class of an axiom that the program's borrowed class is.
+-- The class that a borrowed class of the program stands for.
 use Rattle.kore_shapes.specs.Views.{plain_rewriting}
 use Rattle.kore_shapes.specs.StatementViews.{plain_statement}
 use Rattle.kore_axioms.specs.AxiomClasses.{AxiomClass as ClassOfTree, refused, orders_sorts, rewrites, equates}

@@ -1,4 +1,4 @@
--- Conditions over sorts of truth values.
+-- Conditions that test a pattern of a sort of truth values.
 use Rattle.std.specs.Prelude.{Bool, true, false, if◌then◌else◌, Option, Some, None}
 use Rattle.std.specs.Option.{option_and_then}
 use Rattle.kore_text.specs.Trees.{SortTree, PatternTree}
@@ -23,13 +23,13 @@ is_some_bool (Some kind) = is_bool_kind kind
 abbrev pub is_bool : Signature → SortTree → Bool
 is_bool sig s = is_some_bool (option_and_then (sort_kind sig) (sort_number sig.sorts s))
 
--- the condition, which is ill where what it tests is over another sort than one of truth values
+-- the condition; it is ill if the pattern that it tests is not of a sort of truth values
 abbrev pub over_bool : Signature → Condition → Condition
 over_bool sig always = always
 over_bool sig (tests t b) = if is_bool sig t then tests t b else ill
 over_bool sig ill = ill
 
--- what a condition tests
+-- the pattern that a condition tests, if it tests one
 abbrev pub tested : Condition → Option PatternTree
 tested always = None
 tested (tests t b) = Some b

@@ -1,4 +1,4 @@
--- Of how many patterns a fold is.
+-- How many patterns a fold combines: whether there are two or more.
 use Rattle.std.specs.Prelude.{Bool, true, false, List, [], ◌∷◌}
 use Rattle.kore_text.specs.Trees.{PatternTree}
 

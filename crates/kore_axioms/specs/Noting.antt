@@ -1,4 +1,4 @@
--- What is kept of the faults of patterns that were noted: the first of them.
+-- Of the faults of patterns that were noted, only the first is kept.
 use Rattle.std.specs.Prelude.{ℕ, List, Option, option_map}
 use Rattle.kore_sig.specs.FirstFault.{Fault}
 use Rattle.kore_sig.specs.Noted.{noted, leads_by_byte}

@@ -1,30 +1,31 @@
--- The priority of a rule or an equation (K framework, attribute `priority`): a smaller number is tried first.
+-- The priority of a rule or an equation (K framework, attribute `priority`). The rule with the
+-- smaller number is tried first.
 use Rattle.std.specs.Prelude.{ℕ, List, Bool, ◌&&◌, length, Option, Some, None, if◌then◌else◌, codes, nat_le, is_some}
 use Rattle.std.specs.Prelude.{is_none}
 use Rattle.kore_text.specs.Trees.{PatternTree}
 use Rattle.kore_sig.specs.Attributes.{has_attribute, first_of_name, text_of}
 use Rattle.kore_check.specs.ValueTexts.{number_of_digits}
 
--- the number that a text of one to nine digits is
+-- the number of a text of one to nine digits; none for any other text
 abbrev pub short_number : Option (List ℕ) → Option ℕ
 short_number None = None
 short_number (Some text) = if nat_le (length text) 9 then number_of_digits text else None
 
--- .. of the attribute's only argument
+-- the number of an attribute whose only argument is a text of one to nine digits
 abbrev pub stated_number : Option PatternTree → Option ℕ
 stated_number None = None
 stated_number (Some attribute) = short_number (text_of attribute)
 
--- the attribute that states a priority; of several the first counts
+-- the attribute that states a priority; if there are several, the first one
 abbrev pub stated_priority : List PatternTree → Option PatternTree
 stated_priority attributes = first_of_name (codes "priority") attributes
 
--- a priority is stated, and not by one text of one to nine digits
+-- the attributes state a priority, but not by one text of one to nine digits
 abbrev pub has_bad_priority : List PatternTree → Bool
 has_bad_priority attributes =
     is_some (stated_priority attributes) && is_none (stated_number (stated_priority attributes))
 
--- the number, or else that of a rule without one: 200 for a last resort, 50 for any other
+-- the stated number; if none is stated, 200 for a last resort (`owise`) and 50 for any other rule
 abbrev pub number_or : Option ℕ → Bool → ℕ
 number_or None owise = if owise then 200 else 50
 number_or (Some n) owise = n

@@ -1,8 +1,8 @@
--- Faults at one byte, by their tests.
+-- Faults at one byte, each with its test.
 use Rattle.std.specs.Prelude.{ℕ, Bool, List, [], ◌∷◌, ◌++◌}
 use Rattle.kore_sig.specs.FirstFault.{Fault, when}
 
--- the faults of these numbers whose tests hold
+-- the faults at this byte whose tests hold, each by its number
 abbrev pub raised : ℕ → List (Bool × ℕ) → List Fault
 raised at [] = []
 raised at (t ∷ tests) = when t.0 t.1 at ++ raised at tests

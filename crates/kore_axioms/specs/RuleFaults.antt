@@ -1,5 +1,5 @@
--- The first fault of a rewrite rule: of its form, or else of its sorts, or else of how its sides use symbols and
--- variables.
+-- The first fault of a rewrite rule. The form is tested first, then the sorts, then how its sides
+-- use symbols and variables.
 use Rattle.std.specs.Prelude.{ℕ, List, [], ◌∷◌, ◌++◌, Bool, false, true, not, ◌&&◌, Option, Some, None, Contains}
 use Rattle.kore_text.specs.Trees.{SortTree, listed_sorts, PatternTree, element_variable, set_variable, string}
 use Rattle.kore_text.specs.Trees.{symbol_applied, connected, binding, domain_value, folded, AxiomDeclaration}
@@ -17,35 +17,36 @@ use Rattle.kore_axioms.specs.RuleForms.{holds_of, form_faults}
 use Rattle.kore_axioms.specs.Uses.{has_symbol, is_bound_by, is_plain_function, is_ac_symbol}
 use Rattle.kore_axioms.specs.Raised.{raised}
 
--- there is none
+-- there is no fault
 abbrev pub is_empty : List Fault → Bool
 is_empty [] = true
 is_empty (f ∷ fs) = false
 
 -- ---- the sorts
 
--- the faults of a pattern that is to have this sort
+-- the faults of a pattern that should have this sort
 abbrev pub faults_at_sort : Signature → Option ℕ → Unfolded → List Fault
 faults_at_sort sig wanted p = all_faults sig p ++ clash_faults (place p) (sort_of sig p) wanted
 
--- .. where there is one
+-- the faults of a side that should have this sort; none if there is no pattern
 abbrev pub side_faults : Signature → Option ℕ → Option PatternTree → List Fault
 side_faults sig wanted None = []
 side_faults sig wanted (Some p) = faults_at_sort sig wanted (unfolded p)
 
--- of the pattern that a condition tests, which is to have the sort of truth values that stands there
+-- the faults of the pattern that a condition tests; it should have the sort of truth values that
+-- the condition names
 abbrev pub condition_faults : Signature → Condition → List Fault
 condition_faults sig always = []
 condition_faults sig (tests s b) = faults_at_sort sig (sort_number sig.sorts s) (unfolded b)
 condition_faults sig ill = []
 
--- of the only sort of a connective at this byte, which is to be the sort of the rule
+-- the faults of the only sort of a connective at this byte; it should be the sort of the rule
 abbrev pub only_sort_faults : Signature → Option ℕ → ℕ → List SortTree → List Fault
 only_sort_faults sig wanted at [] = []
 only_sort_faults sig wanted at (t ∷ []) = sort_faults sig t ++ clash_faults at (sort_number sig.sorts t) wanted
 only_sort_faults sig wanted at (t ∷ (u ∷ ts)) = []
 
--- of the `\top{T}()` beside a right side
+-- the faults of the sort of the `\top{T}()` next to a right side
 abbrev pub top_faults : Signature → Option ℕ → PatternTree → List Fault
 top_faults sig wanted (element_variable at n s) = []
 top_faults sig wanted (set_variable at n s) = []
@@ -60,7 +61,8 @@ abbrev pub found_top_faults : Signature → Option ℕ → Option PatternTree �
 found_top_faults sig wanted None = []
 found_top_faults sig wanted (Some p) = top_faults sig wanted p
 
--- the sorts: those of the sort S, of both sides and of the condition
+-- the faults of the sorts: those of the sort S, of both sides, of the condition and of the
+-- `\top{T}()`
 abbrev pub sorted_faults : Signature → SortTree → RuleParts → List Fault
 sorted_faults sig s w =
     sort_faults sig s
@@ -71,23 +73,26 @@ sorted_faults sig s w =
 
 -- ---- the uses
 
--- a pattern with its folds read as a list, where there is one
+-- a list of the pattern with its folds read; empty if there is no pattern
 abbrev pub listed : Option PatternTree → Unfoldeds
 listed None = no_more
 listed (Some p) = and_more (unfolded p) no_more
 
--- each variable of the pattern, where there is one, stands in one of these
+-- each variable of the pattern occurs in one of these; true if there is no pattern
 abbrev pub is_bound : Unfoldeds → Option PatternTree → Bool
 is_bound qs None = true
 is_bound qs (Some p) = is_bound_by qs (unfolded p)
 
--- the sort of the first rule, where there is one before, is written otherwise
+-- there is a first rule, and its sort is written differently
 abbrev pub differs_from : Option SortTree → SortTree → Bool
 differs_from None s = false
 differs_from (Some first) s = not (same_sort first s)
 
--- The uses, at the axiom: 12, a function that is not AC stands in the left side; 14, an AC symbol does; 18, a variable
--- of the condition or of the right side does not; 19, the sort is not that of the first rule.
+-- The faults of the uses, all at the axiom.
+-- 12: a function that is not AC occurs in the left side.
+-- 14: an AC symbol occurs in the left side.
+-- 18: a variable of the condition or of the right side does not occur in the left side.
+-- 19: the sort is not that of the first rule.
 abbrev pub use_tests : Signature → Option SortTree → SortTree → RuleParts → List (Bool × ℕ)
 use_tests sig first s w =
     (holds_of (λ (p : PatternTree). has_symbol (is_plain_function sig) (unfolded p)) (left_of w), 12)
@@ -100,7 +105,7 @@ use_faults sig first at s w = raised at (use_tests sig first s w)
 
 -- ---- the first
 
--- the first fault of a rule, where the first rule has this sort
+-- the first fault of a rule; `first` is the sort of the first rule, if there is one before this
 abbrev pub FirstOfParts : Signature → Option SortTree → AxiomDeclaration → SortTree → RuleParts → Option Fault → Type 0
 FirstOfParts sig first a s w r =
     Then (IsFirstBy ByNumber (Contains (form_faults a w)))

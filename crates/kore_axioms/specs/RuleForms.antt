@@ -1,4 +1,4 @@
--- What is wrong with the form of a rewrite rule.
+-- The faults of the form of a rewrite rule.
 use Rattle.std.specs.Prelude.{ℕ, List, [], ◌∷◌, Bool, true, false, ◌||◌, Option, Some, None}
 use Rattle.kore_text.specs.Trees.{PatternTree, AxiomDeclaration}
 use Rattle.kore_sig.specs.FirstFault.{Fault}
@@ -9,7 +9,7 @@ use Rattle.kore_axioms.specs.RuleParts.{RuleParts, left_of, right_of}
 use Rattle.kore_axioms.specs.Priorities.{has_bad_priority}
 use Rattle.kore_axioms.specs.Raised.{raised}
 
--- the test holds of the pattern, where there is one
+-- there is a pattern, and the test holds of it
 abbrev pub holds_of : (PatternTree → Bool) → Option PatternTree → Bool
 holds_of test None = false
 holds_of test (Some p) = test p
@@ -26,17 +26,21 @@ is_without (beside p q) = false
 is_without without = true
 is_without misshapen = false
 
--- a side is an `\and` of another sort or number, or has a form that no rule has; an `\and` in the left side is a fault
--- of its own
+-- a side is an `\and` of another sort or of another number of patterns, or a side or the tested
+-- pattern contains a form that no rule has; an `\and` inside the left side is a separate fault
 abbrev pub has_bad_form : RuleParts → Bool
 has_bad_form w =
     (is_misshapen w.before || is_misshapen w.after)
     || (holds_of (has_form others) (left_of w)
     || (holds_of (has_form all_forms) (tested w.condition) || holds_of (has_form all_forms) (right_of w)))
 
--- The form, at the axiom: 13, a side has a bad form; 15, a binder or a set variable stands somewhere; 16, what stands
--- beside the right side is no `\top`; 17, the condition is missing or of another form; 22, an `\and` stands in the left
--- side; 23, the priority is no number.
+-- The faults of the form, all at the axiom.
+-- 13: a side or the tested pattern has a bad form.
+-- 15: a binder or a set variable occurs somewhere.
+-- 16: the right side is an `\and` without `\top`.
+-- 17: the left side is an `\and` without a condition, or the condition has another form.
+-- 22: an `\and` occurs inside the left side.
+-- 23: the priority is no number of one to nine digits.
 abbrev pub form_tests : AxiomDeclaration → RuleParts → List (Bool × ℕ)
 form_tests a w =
     (has_bad_form w, 13)

@@ -6,7 +6,7 @@ use Rattle.kore_shapes.specs.Shapes.{Rewriting, Side, side, found_part, main_par
 use Rattle.kore_shapes.specs.Shapes.{given_condition}
 use Rattle.kore_axioms.specs.Conditions.{over_bool}
 
--- both sides, and the condition that stands beside the left one
+-- both sides, and the condition next to the left one
 pub record RuleParts : Type 0 where
   pub before : Side
   pub after : Side
@@ -19,7 +19,7 @@ rule_parts sig w = record {
   condition = over_bool sig (given_condition w.sort (found_part (side heads_condition w.sort w.before)));
 }
 
--- the left and the right side proper, where they are there
+-- the left and the right side without what is next to them, if they have the form of a side
 abbrev pub left_of : RuleParts → Option PatternTree
 left_of w = main_part w.before
 

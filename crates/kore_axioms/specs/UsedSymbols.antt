@@ -1,4 +1,4 @@
--- Which symbols are looked for.
+-- The test for each of the two kinds of symbols.
 use Rattle.std.specs.Prelude.{ℕ, Bool, List}
 use Rattle.rule_core.specs.declared.signature.Signature.{Signature}
 use Rattle.kore_axioms.specs.declared.uses.Symbols.{Symbols}

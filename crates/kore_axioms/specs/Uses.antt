@@ -1,4 +1,4 @@
--- Which symbols and variables a pattern uses, once its folds are read.
+-- Which symbols and variables a pattern uses, after its folds are read.
 use Rattle.std.specs.Prelude.{ℕ, List, Bool, true, false, not, ◌||◌, ◌&&◌, Option, Some, None}
 use Rattle.std.specs.Str.{bytes_eq}
 use Rattle.kore_text.specs.Trees.{SortTree}
@@ -11,7 +11,7 @@ use Rattle.kore_check.specs.Folds.{no_more, and_more}
 use Rattle.kore_check.specs.PatternSorts.{symbol_named}
 use Rattle.kore_shapes.specs.SameSorts.{same_sort}
 
--- a symbol that passes the test stands in the pattern
+-- a symbol that passes the test occurs in the pattern
 abbrev mutual
   pub has_symbol : (List ℕ → Bool) → Unfolded → Bool
   has_symbol test (named_variable at name s) = false
@@ -23,7 +23,8 @@ abbrev mutual
   have_symbol test no_more = false
   have_symbol test (and_more p ps) = has_symbol test p || have_symbol test ps
 
--- a variable of this name and sort stands in one of the patterns
+-- a variable of this name and sort occurs in the pattern, or (`stands_in_some`) in one of the
+-- patterns
 abbrev mutual
   pub stands_in : List ℕ → SortTree → Unfolded → Bool
   stands_in name s (named_variable at n t) = bytes_eq name n && same_sort s t
@@ -35,7 +36,8 @@ abbrev mutual
   stands_in_some name s no_more = false
   stands_in_some name s (and_more p ps) = stands_in name s p || stands_in_some name s ps
 
--- each variable of the pattern stands in one of these
+-- each variable of the pattern, or (`are_bound_by`) of the patterns, occurs in one of the patterns
+-- `qs`
 abbrev mutual
   pub is_bound_by : Unfoldeds → Unfolded → Bool
   is_bound_by qs (named_variable at name s) = stands_in_some name s qs
@@ -55,7 +57,7 @@ is_function_kind (Hooked row) = true
 is_function_kind Closed = true
 is_function_kind NoKind = false
 
--- a function that is not said to be associative, commutative or the like
+-- a function that is not AC
 abbrev pub is_plain_function_with : Option SymInfo → Bool
 is_plain_function_with None = false
 is_plain_function_with (Some info) = is_function_kind info.kind && not info.ac
@@ -63,7 +65,7 @@ is_plain_function_with (Some info) = is_function_kind info.kind && not info.ac
 abbrev pub is_plain_function : Signature → List ℕ → Bool
 is_plain_function sig name = is_plain_function_with (symbol_named sig name)
 
--- a symbol that is said to be so
+-- a symbol that is AC: associative, commutative or idempotent, or with a unit
 abbrev pub is_ac_with : Option SymInfo → Bool
 is_ac_with None = false
 is_ac_with (Some info) = info.ac

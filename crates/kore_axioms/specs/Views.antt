@@ -1,4 +1,5 @@
--- The parts of trees that the program's borrowed parts are, and the numbers of faults at an axiom.
+-- The parts of trees that borrowed parts of the program stand for, and the numbers of faults at an
+-- axiom.
 use Rattle.std.specs.Prelude.{ℕ, Bool}
 use Rattle.kore_sig.specs.FirstFault.{Fault}
 use Rattle.kore_shapes.specs.Views.{plain_side, plain_condition}
@@ -30,7 +31,7 @@ fault_number fault.Overload = 21
 fault_number fault.AsPattern = 22
 fault_number fault.BadPriority = 23
 
--- the fault where it stands
+-- the fault at this byte
 abbrev pub fault_at : ℕ → AxiomFault → Fault
 fault_at at f = record { number = fault_number f; byte = at }
 

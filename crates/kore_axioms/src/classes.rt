@@ -29,11 +29,11 @@ pub enum AxiomClass<'a> {
     Rewrites(Rewriting<'a>),
     /// It is an equation of a function.
     Equates(Statement<'a>),
-    /// It is read as text only.
+    /// It is passed over: only its text is read.
     PassedOver,
 }
 
-/// The first class that fits.
+/// What an axiom is read as: the first class that fits.
 pub fn class_of<'a>(sig: &Signature, decl: &'a AxiomDecl) -> AxiomClass<'a>
     ensures { plain_class result ≡ the_class sig.now (plain_axiom_decl decl.now) }
 {
@@ -60,7 +60,8 @@ fn class_of_pattern<'a>(sig: &Signature, decl: &'a AxiomDecl) -> AxiomClass<'a>
     }
 }
 
-/// An equation of its function, where it has one that takes equations.
+/// The class of an axiom that is no rewrite rule. It is an equation if it states one of a function
+/// that takes equations. Otherwise it is passed over.
 fn class_of_statement<'a>(
     sig: &Signature,
     attrs: &[Pat],
@@ -94,7 +95,7 @@ fn is_said_ac(attrs: &[Pat]) -> bool
         || has_attribute(attrs, "idem")
 }
 
-/// The declared symbol with this name.
+/// The declared symbol of this name. Returns none if no symbol of this name is declared.
 pub(crate) fn symbol_of<'a>(sig: &'a Signature, name: &Text) -> Option<&'a SymInfo>
     ensures { option_copied result ≡ symbol_named sig.now name.now }
 {

@@ -5,22 +5,24 @@ ghost use Rattle.kore_sig.specs.Noted.{noted, leads_by_number, first_by_number};
 ghost use Rattle.kore_axioms.specs.Raised.{raised};
 ghost use Rattle.kore_axioms.specs.Views.{fault_number as the_number, fault_at, plain_test};
 
-/// What is wrong with an axiom as a whole; it stands at the axiom's keyword. As a number each is that of its refusal.
+/// What is wrong with an axiom as a whole. Its place is the keyword of the axiom. The value of each
+/// variant is the number of the refusal.
 #[derive(Clone, Copy, PartialEq, Eq, Debug)]
 pub enum AxiomFault {
     /// The left side has a function that is not AC.
     LeftFunction = 12,
-    /// A side has a pattern of another form than a variable, an application, a domain value or a fold.
+    /// A side or the tested pattern contains a form other than a variable, an application, a domain
+    /// value or a fold.
     Form = 13,
     /// The left side has an AC symbol.
     AcSymbol = 14,
     /// The axiom has a quantifier, `\mu`, `\nu` or a set variable.
     Binder = 15,
-    /// What stands beside the right side is no `\top`.
+    /// The right side is an `\and` without `\top`.
     Ensures = 16,
-    /// The condition is missing, or of another form.
+    /// The left side is an `\and` without a condition, or the condition has another form.
     Condition = 17,
-    /// A variable of the condition or of the right side is not in the left side.
+    /// A variable of the condition or of the right side does not occur in the left side.
     Unbound = 18,
     /// The sort is not that of the first rewrite rule.
     TopSort = 19,
@@ -28,7 +30,7 @@ pub enum AxiomFault {
     Anywhere = 20,
     /// It has the attribute `overload` or `symbol-overload`.
     Overload = 21,
-    /// An `\and` stands inside the left side.
+    /// An `\and` occurs inside the left side.
     AsPattern = 22,
     /// The priority is no text of one to nine digits.
     BadPriority = 23,
@@ -45,7 +47,7 @@ impl AxiomFault {
     }
 }
 
-/// Of the faults whose tests hold the one with the smallest number.
+/// The fault with the smallest number among those whose tests hold. Returns none if no test holds.
 pub(crate) fn first_raised(tests: &[(bool, AxiomFault)]) -> Option<AxiomFault>
     ensures { (at : ℕ) → option_map (fault_at at) result ≡ first_by_number (raised at (map plain_test tests.now)) }
 {

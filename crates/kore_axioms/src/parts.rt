@@ -1,4 +1,4 @@
-// The parts of a rewrite rule, and what is wrong with its form.
+// The parts of a rewrite rule, and the faults of its form.
 ghost use Rattle.std.specs.Prelude.{◌≡◌, ℕ, map, option_map};
 ghost use Rattle.kore_ast.specs.Plain.{plain_sort, plain_pattern, plain_axiom_decl};
 ghost use Rattle.kore_sig.specs.Noted.{first_by_number};
@@ -22,7 +22,7 @@ use kore_shapes::{
 use kore_sig::sort_number;
 use rule_core::{Signature, SortKind};
 
-/// Both sides of a rewrite rule, and the condition that stands beside the left one.
+/// Both sides of a rewrite rule, and the condition next to the left one.
 #[derive(Clone, Copy)]
 pub struct RuleParts<'a> {
     /// The left side.
@@ -33,7 +33,8 @@ pub struct RuleParts<'a> {
     pub condition: Condition<'a>,
 }
 
-/// The parts of a rewrite rule. What a condition tests is to have a declared sort of truth values.
+/// The parts of a rewrite rule. The condition is ill if the pattern that it tests is not of a
+/// declared sort of truth values.
 pub fn rule_parts<'a>(sig: &Signature, rewriting: Rewriting<'a>) -> RuleParts<'a>
     ensures { plain_rule_parts result ≡ the_parts sig.now (plain_rewriting rewriting.entry) }
 {
@@ -47,7 +48,7 @@ pub fn rule_parts<'a>(sig: &Signature, rewriting: Rewriting<'a>) -> RuleParts<'a
     }
 }
 
-/// The condition, which is ill where what it tests is over another sort than one of truth values.
+/// The condition. It is ill if the pattern that it tests is not of a declared sort of truth values.
 pub fn over_bool<'a>(sig: &Signature, condition: Condition<'a>) -> Condition<'a>
     ensures { plain_condition result ≡ the_over_bool sig.now (plain_condition condition.entry) }
 {
@@ -70,7 +71,7 @@ fn is_bool(sig: &Signature, sort: &Sort) -> bool
     }
 }
 
-/// What a condition tests.
+/// The pattern that a condition tests. Returns none if it tests none.
 pub fn tested(condition: Condition<'_>) -> Option<&Pat>
     ensures { option_map pattern_at result ≡ the_tested (plain_condition condition.entry) }
 {
@@ -80,14 +81,14 @@ pub fn tested(condition: Condition<'_>) -> Option<&Pat>
     }
 }
 
-/// Whether a condition is of none of the forms that conditions have.
+/// Whether a condition has none of the forms of a condition.
 pub fn is_ill(condition: Condition<'_>) -> bool
     ensures { result ≡ is_an_ill (plain_condition condition.entry) }
 {
     matches!(condition, Condition::Ill)
 }
 
-/// The first fault of the form of a rewrite rule.
+/// The first fault of the form of a rewrite rule, by number. Returns none if the form has no fault.
 pub(crate) fn form_fault(decl: &AxiomDecl, parts: RuleParts<'_>) -> Option<AxiomFault>
     ensures { option_map (fault_at decl.now.at) result
         ≡ first_by_number (form_faults (plain_axiom_decl decl.now) (plain_rule_parts parts.entry)) }
@@ -106,7 +107,8 @@ pub(crate) fn form_fault(decl: &AxiomDecl, parts: RuleParts<'_>) -> Option<Axiom
     ])
 }
 
-/// Whether a side is an `\and` of another sort or number, or has a form that no rule has.
+/// Whether a side is an `\and` of another sort or of another number of patterns, or a side or the
+/// tested pattern contains a form that no rule has.
 fn has_bad_form(parts: RuleParts<'_>) -> bool
     ensures { result ≡ has_a_bad_form (plain_rule_parts parts.entry) }
 {
@@ -117,7 +119,7 @@ fn has_bad_form(parts: RuleParts<'_>) -> bool
         || stands_in(parts.after.main(), SoughtForms::All)
 }
 
-/// Whether one of these forms stands in the pattern, where there is one.
+/// Whether there is a pattern and one of these forms occurs in it.
 fn stands_in(pat: Option<&Pat>, sought: SoughtForms) -> bool
     ensures { result ≡ holds_of (has_one (sought_forms sought)) (option_map pattern_at pat.entry) }
 {

@@ -10,8 +10,8 @@ ghost use Rattle.kore_axioms.specs.Priorities.{priority_of as the_priority};
 use kore_ast::{Pat, Text};
 use kore_sig::{first_of_name, has_attribute, text_of};
 
-/// Whether the attributes state a priority by something else than one text of one to nine digits. Of several attributes
-/// of that name the first counts.
+/// Whether the attributes state a priority, but not by one text of one to nine digits. If several
+/// attributes have that name, the first one counts.
 pub fn has_bad_priority(attrs: &[Pat]) -> bool
     ensures { result ≡ is_bad (map plain_pattern attrs.now) }
 {
@@ -21,8 +21,8 @@ pub fn has_bad_priority(attrs: &[Pat]) -> bool
     }
 }
 
-/// The priority: the stated one, or else 200 with the attribute `owise` and 50 without it. A rule with a smaller number
-/// is tried first.
+/// The priority. If none is stated, it is 200 with the attribute `owise` and 50 without it. A rule
+/// with a smaller number is tried first.
 pub fn priority_of(attrs: &[Pat]) -> u32
     ensures { result ≡ the_priority (map plain_pattern attrs.now) }
 {
@@ -38,7 +38,8 @@ pub fn priority_of(attrs: &[Pat]) -> u32
     }
 }
 
-/// The number of an attribute whose only argument is a text of one to nine digits.
+/// The number of an attribute whose only argument is a text of one to nine digits. Returns none for
+/// any other attribute.
 fn stated_number(attr: &Pat) -> Option<u32>
     ensures { result ≡ the_stated_number (Some (plain_pattern attr.now)) }
 {
@@ -46,7 +47,7 @@ fn stated_number(attr: &Pat) -> Option<u32>
     short_number(text)
 }
 
-// The greatest number of digits: so many fit 32 bits.
+// The greatest number of digits of a priority. A number of nine digits fits 32 bits.
 const MAX_DIGITS: usize = 9;
 
 fn short_number(text: &Text) -> Option<u32>

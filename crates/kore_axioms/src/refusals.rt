@@ -8,10 +8,10 @@ use thiserror::Error;
 /// Why a definition or a term is refused.
 #[derive(Debug, Drop, Error)]
 pub enum Refusal {
-    /// The number of the refusal and the byte of the text at which it stands.
+    /// The number of the refusal, and the byte of the text that it is about.
     #[error("refused {0} at {1}")]
     Refused(u8, u32),
-    /// Memory was wanting.
+    /// Out of memory.
     #[error("out of memory")]
     Memory,
 }

@@ -1,4 +1,4 @@
-// Rewrite rules: the first fault of one, or what it means.
+// Rewrite rules: what a rule means, or its first fault.
 ghost use Rattle.std.specs.Prelude.{◌≡◌, ◌&&◌, [], ℕ, None, map, option_map, IfOk, OnOk, IfErr, IfSome};
 ghost use Rattle.kore_ast.specs.Plain.{plain_sort, plain_axiom_decl};
 ghost use Rattle.term_core.specs.RulePatterns.{plain_pattern};
@@ -36,8 +36,9 @@ use rule_core::{Rule, Signature, VarInfo};
 use std::alloc::{AllocError, Global};
 use term_core::RulePat;
 
-/// The first fault of how the sides of a rewrite rule use symbols and variables, where it is known whether all its
-/// variables are bound, and where the first rule has this sort.
+/// The first fault of how the sides of a rewrite rule use symbols and variables. `first` is the
+/// sort of the first rule, if there is one before this. `bound` says whether all variables of the
+/// rule occur in its left side.
 fn use_fault(
     sig: &Signature,
     first: Option<&Sort>,
@@ -65,7 +66,7 @@ fn use_fault(
     ])
 }
 
-/// Whether one of these symbols stands in the pattern, where there is one.
+/// Whether there is a pattern and one of these symbols occurs in it.
 fn uses(sig: &Signature, pat: Option<&Pat>, which: Symbols) -> bool
     ensures { result ≡ holds_of (λ p. has_one (is_used which sig.now) (unfolded p)) (option_map pattern_at pat.entry) }
 {
@@ -75,7 +76,7 @@ fn uses(sig: &Signature, pat: Option<&Pat>, which: Symbols) -> bool
     }
 }
 
-/// Whether the sort of the first rule, where there is one, is written otherwise.
+/// Whether there is a first rule and its sort is written differently.
 fn differs_from(first: Option<&Sort>, sort: &Sort) -> bool
     ensures { result ≡ does_differ (option_map (λ s. plain_sort s.now) first.entry) (plain_sort sort.now) }
 {
@@ -85,7 +86,8 @@ fn differs_from(first: Option<&Sort>, sort: &Sort) -> bool
     }
 }
 
-/// The patterns of a rewrite rule with their variables, and whether the left side has all of these.
+/// The patterns of a rewrite rule with their variables. `bound` says whether the left side has all
+/// of these.
 #[derive(Drop)]
 struct RulePatterns {
     left: RulePat,
@@ -95,9 +97,13 @@ struct RulePatterns {
     bound: bool,
 }
 
-/// The rewrite rule that an axiom of this shape means, or its first fault, where the first rule of the definition has
-/// this sort: of its form, or else of its sorts, or else of its uses. A rule's variables are those of its left side, in
-/// the order of their first occurrence. It goes through the axiom a few times, with a look-up for each sort and symbol.
+/// The rewrite rule that an axiom of this shape means. `first` is the sort of the first rule of the
+/// definition, if there is one before this. The variables of the rule are those of its left side,
+/// in the order of their first occurrence.
+///
+/// Errors: the first fault of the form, or else of the sorts, or else of the uses of symbols and
+/// variables; or out of memory. It goes through the axiom a few times, with a look-up for each sort
+/// and symbol.
 pub fn checked_rule(
     alloc: Global,
     sig: &Signature,
@@ -135,7 +141,8 @@ pub fn checked_rule(
     })
 }
 
-/// The first fault of the form of a rewrite rule, or else of its sorts.
+/// Returns an error if the form or the sorts of a rewrite rule have a fault: the first fault of the
+/// form, or else of the sorts.
 fn check_shape(
     sig: &Signature,
     decl: &AxiomDecl,
@@ -158,7 +165,7 @@ fn check_shape(
     Ok(())
 }
 
-/// What the patterns of a rewrite rule mean, whose form and sorts have no fault.
+/// What the patterns of a rewrite rule mean. Its form and its sorts have no fault.
 fn rule_patterns(
     alloc: Global,
     sig: &Signature,
@@ -187,7 +194,8 @@ fn rule_patterns(
     })
 }
 
-/// What the pattern means that a condition tests, where there is one. Its variables stand after those that were there.
+/// What the tested pattern of a condition means, if there is one. Its new variables are appended to
+/// `vars`. Fails only if memory runs out.
 pub fn built_condition(
     alloc: Global,
     sig: &Signature,

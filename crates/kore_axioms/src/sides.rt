@@ -1,4 +1,5 @@
-// The sorts of a rewrite rule: of its sides, of its condition, and of the sort that it names.
+// The faults of the sorts of a rewrite rule: of its sides, of its condition, and of the sort that
+// it names.
 ghost use Rattle.std.specs.Prelude.{◌≡◌, ◌++◌, List, map, option_map};
 ghost use Rattle.kore_ast.specs.Plain.{plain_sort, plain_pattern};
 ghost use Rattle.kore_sig.specs.FirstFault.{Fault};
@@ -21,8 +22,9 @@ use kore_sig::sort_number;
 use rule_core::Signature;
 use term_core::SortId;
 
-/// The first fault of the sorts of a rewrite rule over this sort: the first by byte, and of those at one byte the one
-/// with the smallest number. It goes through the rule once.
+/// The first fault of the sorts of a rewrite rule over this sort. The first is the one at the
+/// smallest byte; at one byte it is the one with the smallest number. It goes through the rule
+/// once.
 pub(crate) fn sort_fault(sig: &Signature, sort: &Sort, parts: RuleParts<'_>) -> Option<PatternFault>
     requires { IsNumbered sig.now }
     ensures { IsFirstOf (sorted_faults sig.now (plain_sort sort.now) (plain_rule_parts parts.entry)) result }
@@ -36,7 +38,7 @@ pub(crate) fn sort_fault(sig: &Signature, sort: &Sort, parts: RuleParts<'_>) -> 
     first
 }
 
-/// Notes the faults of a pattern that is to have this sort.
+/// Notes the faults of a pattern that should have this sort.
 fn note_at_sort(
     sig: &Signature,
     pat: &Pat,
@@ -51,8 +53,8 @@ fn note_at_sort(
     note_clash(pat.at, own, wanted, first);
 }
 
-/// Whether a pattern that is to have this sort has no fault. It goes through the pattern once, with a look-up for each
-/// sort and symbol.
+/// Whether a pattern that should have this sort has no fault. It goes through the pattern once,
+/// with a look-up for each sort and symbol.
 pub fn is_faultless(sig: &Signature, pat: &Pat, wanted: Option<SortId>) -> bool
     requires { IsNumbered sig.now }
     ensures { result
@@ -63,7 +65,7 @@ pub fn is_faultless(sig: &Signature, pat: &Pat, wanted: Option<SortId>) -> bool
     first.is_none()
 }
 
-/// Whether the pattern that a condition tests has no fault.
+/// Whether the pattern that a condition tests has no fault. True if it tests none.
 pub fn is_faultless_condition(sig: &Signature, condition: Condition<'_>) -> bool
     requires { IsNumbered sig.now }
     ensures { result ≡ is_empty (condition_faults sig.now (plain_condition condition.entry)) }
@@ -73,7 +75,7 @@ pub fn is_faultless_condition(sig: &Signature, condition: Condition<'_>) -> bool
     first.is_none()
 }
 
-/// .. where there is one.
+/// Notes the faults of a side that should have this sort, if there is a pattern.
 fn note_side(
     sig: &Signature,
     pat: Option<&Pat>,
@@ -90,7 +92,7 @@ fn note_side(
     }
 }
 
-/// .. of the pattern that a condition tests.
+/// Notes the faults of the pattern that a condition tests.
 fn note_condition(sig: &Signature, condition: Condition<'_>, first: &mut Option<PatternFault>)
     requires { IsNumbered sig.now }
     ensures { kept_fault first.new ≡ after first.old (condition_faults sig.now (plain_condition condition.entry)) }
@@ -101,7 +103,7 @@ fn note_condition(sig: &Signature, condition: Condition<'_>, first: &mut Option<
     }
 }
 
-/// The number of a declared sort; none of any other sort.
+/// The number of a declared sort. Returns none for any other sort.
 fn sort_id(sig: &Signature, sort: &Sort) -> Option<SortId>
     requires { IsNumbered sig.now }
     ensures { option_map sort_of_id result ≡ the_number sig.now.sorts (plain_sort sort.now) }
@@ -110,7 +112,7 @@ fn sort_id(sig: &Signature, sort: &Sort) -> Option<SortId>
     Some(SortId(number as u32))
 }
 
-/// .. of the `\top{T}()` beside a right side, where there is one.
+/// Notes the faults of the sort of the `\top{T}()` next to a right side, if there is one.
 fn note_found_top(
     sig: &Signature,
     top: Option<&Pat>,
@@ -155,7 +157,7 @@ fn note_only_sort(
     }
 }
 
-/// Notes that a sort is not declared, or is another one than the one that is wanted at this byte.
+/// Notes that a sort is not declared, or that it is not the wanted sort at this byte.
 fn note_sort_at(
     sig: &Signature,
     sort: &Sort,
@@ -172,7 +174,7 @@ fn note_sort_at(
     note_clash(at, own, wanted, first);
 }
 
-/// Notes that a sort is not declared. It answers the number of a declared one.
+/// Notes that a sort is not declared. Returns the number of a declared sort.
 fn noted_sort(sig: &Signature, sort: &Sort, first: &mut Option<PatternFault>) -> Option<SortId>
     requires { IsNumbered sig.now }
     ensures sort { option_map sort_of_id result ≡ the_number sig.now.sorts (plain_sort sort.now) }

@@ -22,8 +22,8 @@ pub enum Symbols {
     Ac,
 }
 
-/// Whether one of these symbols stands in the pattern. Folds are read: the symbol of a fold of one argument is not
-/// looked at. It goes through the pattern once, with a look-up for each symbol.
+/// Whether one of these symbols occurs in the pattern. Folds are read, so the symbol of a fold of
+/// one argument is ignored. It goes through the pattern once, with a look-up for each symbol.
 #[cycle(symbol)]
 pub fn has_symbol(pat: &Pat, sig: &Signature, which: Symbols) -> bool
     ensures { result ≡ has_one (is_used which sig.now) (unfolded (plain_pattern pat.now)) }
@@ -50,7 +50,7 @@ fn have_symbol(pats: &[Pat], sig: &Signature, which: Symbols) -> bool
     false
 }
 
-/// .. in the fold of this pattern.
+/// Whether one of these symbols occurs in the fold of this pattern.
 #[cycle(symbol)]
 fn fold_has_symbol(pat: &Pat, sig: &Signature, which: Symbols) -> bool
     ensures { (left : Bool) → result ≡ has_one (is_used which sig.now) (inner_fold left (plain_pattern pat.now)) }
@@ -65,7 +65,8 @@ fn fold_has_symbol(pat: &Pat, sig: &Signature, which: Symbols) -> bool
     }
 }
 
-/// Whether the symbol of a fold of these patterns is one of these symbols and stands in what the fold stands for.
+/// Whether the symbol of a fold of these patterns is one of these symbols and occurs in what the
+/// fold stands for.
 fn is_among_folded(sig: &Signature, name: &Text, args: &[Pat], which: Symbols) -> bool
     ensures { result ≡ (there_are_two (map plain_pattern args.now) && is_used which sig.now name.now) }
 {
@@ -85,7 +86,7 @@ fn are_two(pats: &[Pat]) -> bool
     matches!(pats, [_, _, ..])
 }
 
-/// Whether the symbol with this name is one of these.
+/// Whether the symbol of this name is one of these.
 fn is_among(sig: &Signature, name: &Text, which: Symbols) -> bool
     ensures { result ≡ is_used which sig.now name.now }
 {

@@ -1,4 +1,4 @@
--- Patterns at the places of a symbol's arguments.
+-- Patterns as the arguments of a symbol.
 use Rattle.std.proofs.Common.{◌≡◌, ◌<◌, ℕ, ◌+◌, Bool, true, false, ◌&&◌, List, [], length, map, drop, get_or, Option, ap, sym, ◌∙◌}
 use Rattle.std.proofs.lemmas.Bool.{false≢true}
 use Rattle.kore_text.specs.Trees.{PatternTree}

@@ -1,4 +1,4 @@
--- Where an axiom has no binder, the parts of its equation have none.
+-- If an axiom has no binder, the parts of its equation have none.
 use Rattle.std.proofs.Common.{◌≡◌, ℕ, Bool, true, false, ◌&&◌, List, [], ◌∷◌, Option, Some, None, cond, refl, subst}
 use Rattle.std.specs.Prelude.{option_map}
 use Rattle.std.specs.Option.{option_and_then}
@@ -14,7 +14,7 @@ use Rattle.kore_axioms.proofs.BinderLaws.{NoneBinds, AllBindNone, each_binds_non
 abbrev BothBindNone : PatternTree × PatternTree → Type 0
 BothBindNone both = (has_binder both.0 ≡ false) × (has_binder both.1 ≡ false)
 
--- what is there, where something is mapped
+-- if a mapped option has a value, the option has one
 mapped_there : {X Y : Type 0} (f : X → Y) (o : Option X) (y : Y) → option_map f o ≡ Some y → (x : X) × (o ≡ Some x) × (f x ≡ y)
 mapped_there f None y e = absurd (let never : ⊥ = cc in never)
 mapped_there f (Some x) y e = (x, refl, (let same : f x ≡ y = cc in same))

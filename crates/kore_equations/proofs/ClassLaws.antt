@@ -1,4 +1,4 @@
--- What follows for an axiom of the class of equations.
+-- Laws on an axiom of the class of equations.
 use Rattle.std.proofs.Common.{◌≡◌, ℕ, Bool, true, false, ◌&&◌, List, Option, Some, None, cond, refl, ap, sym, ◌∙◌, subst}
 use Rattle.std.specs.Prelude.{not, if◌then◌else◌}
 use Rattle.rule_core.proofs.Belows.{both_true}
@@ -44,7 +44,7 @@ takes_some : (o : Option SymInfo) → takes_equations o ≡ true → (info : Sym
 takes_some None h = absurd (let never : ⊥ = cc in never)
 takes_some (Some info) h = (info, refl)
 
--- its function is declared
+-- the function of an equation is declared
 pub function_declared : (sig : Signature) (a : AxiomDeclaration) (e : Statement) → class_of sig a ≡ equates e → (info : SymInfo) × (symbol_named sig e.function ≡ Some info)
 function_declared sig a e h = takes_some (symbol_named sig e.function) (class_equates sig a e h).takes
 
@@ -56,14 +56,14 @@ no_entry sig f info (Some n) e h = (n, e, sym (ap (option_and_then (symbol_info 
 pub entry_named : (sig : Signature) (f : List ℕ) (info : SymInfo) → symbol_named sig f ≡ Some info → (n : ℕ) × (number_of sig.symbols f ≡ Some n) × (symbol_info sig n ≡ Some info)
 entry_named sig f info h = no_entry sig f info (number_of sig.symbols f) refl h
 
--- .. and so has the function of an equation
+-- the function of an equation has a number
 pub number_there : (sig : Signature) (a : AxiomDeclaration) (e : Statement) → class_of sig a ≡ equates e → number_of sig.symbols e.function ≡ None → ⊥
 number_there sig a e class none =
     let declared = function_declared sig a e class in
     let entry = entry_named sig e.function declared.0 declared.1 in
     let both : None ≡ Some entry.0 = sym none ∙ entry.1 in let never : ⊥ = cc in never
 
--- .. and a declaration
+-- the function of an equation has a declaration
 pub declaration_there : (sig : Signature) (a : AxiomDeclaration) (e : Statement) (n : ℕ) → class_of sig a ≡ equates e → number_of sig.symbols e.function ≡ Some n → symbol_info sig n ≡ None → ⊥
 declaration_there sig a e n class is none =
     let declared = function_declared sig a e class in

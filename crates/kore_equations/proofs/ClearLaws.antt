@@ -1,4 +1,4 @@
--- A readable equation is one that is clear and whose variables are bound.
+-- An equation is readable if and only if it is clear and its variables are bound.
 use Rattle.std.proofs.Common.{◌≡◌, ◌<◌, ◌≤◌, ℕ, ◌+◌, Bool, true, false, ◌&&◌, ◌||◌, List, [], ◌∷◌, ◌++◌, Option, Some, None, cond, refl, ap, sym, ◌∙◌, subst, arith}
 use Rattle.std.specs.Prelude.{not, nat_lt, nat_le, drop, codes}
 use Rattle.std.specs.Option.{option_and_then}
@@ -45,7 +45,7 @@ and_assoc : (a b c : Bool) → ((a && b) && c) ≡ (a && (b && c))
 and_assoc true b c = refl
 and_assoc false b c = refl
 
--- patterns that are not too high
+-- patterns that are not too high are faultless if and only if they have no fault as arguments
 pub faultless_same : (sig : Signature) (refs : List SortRef) (us : Unfoldeds) → heights us ≤ 500 → each_faultless sig refs us ≡ is_empty (argument_faults sig [] refs us)
 faultless_same sig refs no_more le = refl
 faultless_same sig refs (and_more u us) le =
@@ -214,7 +214,7 @@ readable_is sig a info e q r =
       uses.1,
     )
 
--- an equation that is not clear, or has unbound variables, is not readable
+-- an equation that is not clear, or has an unbound variable, is not readable
 pub none_unreadable : (sig : Signature) (a : AxiomDeclaration) (info : SymInfo) (e : Statement) → clear_parts sig a info e ≡ None → (q : EquationParts) → IsReadable sig a info e q → ⊥
 none_unreadable sig a info e h q r =
     let both : None ≡ Some q = sym h ∙ (readable_is sig a info e q r).0 in let never : ⊥ = cc in never

@@ -1,4 +1,4 @@
--- What follows for the patterns of an equation that is clear, and what is made of them.
+-- Laws on the patterns of an equation that is clear, and on what is built of them.
 use Rattle.std.proofs.Common.{◌≡◌, ℕ, Bool, true, false, List, [], ◌∷◌, map, Option, Some, refl, ap, sym, ◌∙◌, subst}
 use Rattle.std.specs.Prelude.{not, drop, length, option_map}
 use Rattle.std.specs.List.{list_any}
@@ -37,7 +37,7 @@ use Rattle.kore_equations.proofs.BinderLaws.{statement_binds_none, equation_bind
 use Rattle.kore_equations.proofs.ClassLaws.{class_equates}
 use Rattle.kore_equations.proofs.ClearLaws.{empty_is, clear_is, is_readable}
 
--- a pattern that is clear at a sort
+-- a pattern that has no fault at its sort
 fine_at : (sig : Signature) (wanted : Option ℕ) (p : PatternTree) → is_empty (faults_at_sort sig wanted (unfolded p)) ≡ true → has_form all_forms p ≡ false → has_binder p ≡ false → IsFine sig (unfolded p)
 fine_at sig wanted p clear form binder = record {
   form = applicative p form binder;
@@ -82,7 +82,7 @@ sorts_named : (vars : List VarInfo) → sorts_of vars ≡ map (λ (v : List ℕ 
 sorts_named [] = refl
 sorts_named (v ∷ vars) = ap (λ (ss : List ℕ). v.sort.0 ∷ ss) (sorts_named vars)
 
--- what is built of bound parts is the equation that the axiom means
+-- the patterns that are built of bound parts are the equation that the axiom means
 pub equation_meant : (sig : Signature) (a : AxiomDeclaration) (info : SymInfo) (e : Statement) (q : EquationParts) (made : EquationPatterns) (n : ℕ) → class_of sig a ≡ equates e → symbol_named sig e.function ≡ Some info → clear_parts sig a info e ≡ Some q
     → IsBuiltOf sig (condition_of_equation sig e q) q made → made.bound ≡ true → n ≡ length q.parameters
     → IsEquationOf sig e.function a (record { parameters = n; arguments = plain_patterns made.args.items; condition = option_map plain_pattern made.cond; right = plain_pattern made.right; variables = sorts_of made.vars.items; priority = priority_of a.attributes; place = a.at })

@@ -1,4 +1,4 @@
--- What patterns mean where there are more variables.
+-- What patterns mean with more variables.
 use Rattle.std.proofs.Common.{◌≡◌, ◌<◌, ◌≤◌, ℕ, ◌+◌, List, [], ◌∷◌, ◌++◌, length, map, drop, get_or, append_assoc, ap, sym, ◌∙◌, subst}
 use Rattle.std.proofs.lemmas.List.{append-nil, drop_all}
 use Rattle.kore_text.specs.Trees.{PatternTree}
@@ -50,7 +50,7 @@ next_variables f sig xs i x old new whole lt item is known =
     ap (λ (vs : List (List ℕ × ℕ)). with_all_variables sig vs (all_read (map f (drop (i + 1) xs)))) is
     ∙ ap (λ (ys : List _). with_all_variables sig old (all_read (map f ys))) (sym (drop-item xs i x lt item)) ∙ known
 
--- the patterns that were built mean those so far, whatever the others mean
+-- the patterns that were built mean the patterns so far, with any meaning of the others
 abbrev pub MeanBefore : {X : Type 0} → (X → PatternTree) → Signature → List (List ℕ × ℕ) → List X → ℕ → List Pattern → Type 0
 MeanBefore f sig vars xs i made =
     (more : List (List ℕ × ℕ)) (qs : List Pattern) → Extends vars more → AllMean sig more (all_read (map f (drop i xs))) (patterns qs) → AllMean sig more (all_read (map f xs)) (patterns (made ++ qs))

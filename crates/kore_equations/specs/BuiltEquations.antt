@@ -1,4 +1,4 @@
--- What is built of the patterns of an equation without faults of its form and its sorts.
+-- What is built of the patterns of an equation whose form and sorts have no fault.
 use Rattle.std.specs.Prelude.{◌≡◌, ◌&&◌, true, [], Some, option_map}
 use Rattle.kore_text.specs.Trees.{PatternTree}
 use Rattle.term_core.specs.RulePatterns.{plain_pattern}
@@ -15,7 +15,8 @@ use Rattle.kore_axioms.specs.RuleFaults.{is_bound}
 use Rattle.kore_equations.specs.ReadableEquations.{all_read}
 use Rattle.kore_equations.specs.declared.patterns.EquationPatterns.{EquationPatterns}
 
--- a pattern has no fault, but maybe that of its height, and is made of the forms that rule patterns have
+-- a pattern has only the forms that rule patterns may have, and no fault except perhaps of its
+-- height
 pub record IsFine (sig : Signature) (u : Unfolded) : Type 0 where
   pub form : IsApplicative u
   pub clear : pattern_faults sig u ≡ []
@@ -24,14 +25,14 @@ abbrev pub AreFine : Signature → Unfoldeds → Type 0
 AreFine sig no_more = Unit {0}
 AreFine sig (and_more u us) = IsFine sig u × AreFine sig us
 
--- the patterns of an equation under this condition are so
+-- the patterns, the condition and the right side of an equation are so
 pub record IsFineEquation (sig : Signature) (c : Condition) (q : EquationParts) : Type 0 where
   pub patterns : AreFine sig (all_read q.patterns)
   pub test : (p : PatternTree) → tested c ≡ Some p → IsFine sig (unfolded p)
   pub right : IsFine sig (unfolded q.right)
 
--- The patterns are built of the parts, under this condition. Where all variables are bound, they mean these with the
--- variables of the patterns that the arguments match.
+-- The patterns are built of the parts, under this condition. If all variables are bound, the built
+-- patterns mean these parts, with the variables of the patterns that the arguments match.
 pub record IsBuiltOf (sig : Signature) (c : Condition) (q : EquationParts) (made : EquationPatterns) : Type 0 where
   pub bound : made.bound
       ≡ (is_bound (all_read q.patterns) (tested c) && is_bound (all_read q.patterns) (Some q.right))

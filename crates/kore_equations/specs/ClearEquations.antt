@@ -1,4 +1,4 @@
--- All that a readable equation is, but that its variables are bound.
+-- What makes an equation readable, except that its variables are bound.
 use Rattle.std.specs.Prelude.{◌+◌, List, [], Bool, true, not, ◌&&◌, drop, Option, Some, None, codes, nat_le}
 use Rattle.std.specs.Prelude.{if◌then◌else◌}
 use Rattle.kore_text.specs.Trees.{AxiomDeclaration}
@@ -17,7 +17,8 @@ use Rattle.kore_axioms.specs.RuleFaults.{is_empty, faults_at_sort, condition_fau
 use Rattle.kore_axioms.specs.Uses.{have_symbol, is_plain_function, is_ac_symbol}
 use Rattle.kore_equations.specs.ReadableEquations.{all_read, condition_of_equation, fits_function, has_good_form}
 
--- each pattern has no fault and is not too high, where they stand at these places of a symbol without sort parameters
+-- each pattern has no fault and is not too high, and has the sort of its place; the places are
+-- those of a symbol without sort parameters
 abbrev pub each_faultless : Signature → List SortRef → Unfoldeds → Bool
 each_faultless sig refs no_more = true
 each_faultless sig refs (and_more p ps) =
@@ -42,7 +43,7 @@ is_clear sig a info e q =
     && (has_good_form sig a e q
     && (are_parts_sorted sig info (condition_of_equation sig e q) q && has_good_symbols sig info q))
 
--- the parts, where they are clear
+-- the parts, if they are clear
 abbrev pub clear_of : Signature → AxiomDeclaration → SymInfo → Statement → Option EquationParts → Option EquationParts
 clear_of sig a info e None = None
 clear_of sig a info e (Some q) = if is_clear sig a info e q then Some q else None

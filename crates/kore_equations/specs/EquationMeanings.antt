@@ -15,8 +15,8 @@ use Rattle.kore_axioms.specs.AxiomMeanings.{MeansTest}
 use Rattle.kore_axioms.specs.Priorities.{priority_of}
 use Rattle.kore_equations.specs.ReadableEquations.{IsReadable, condition_of_equation, all_read}
 
--- The axiom is this equation of the function with this name. Its variables are those of the patterns that the arguments
--- match, in the order of their first occurrence.
+-- The axiom is this equation of the function of this name. Its variables are those of the patterns
+-- that the arguments match, in the order of their first occurrence.
 pub record IsEquationOf (sig : Signature) (f : List ℕ) (a : AxiomDeclaration) (e : Equation) : Type 0 where
   pub stated : Statement
   pub class : class_of sig a ≡ equates stated
@@ -35,7 +35,7 @@ pub record IsEquationOf (sig : Signature) (f : List ℕ) (a : AxiomDeclaration) 
   pub priority : e.priority ≡ priority_of a.attributes
   pub place : e.place ≡ a.at
 
--- an equation of the function with this name is not readable
+-- the axiom states an equation of the function of this name, and it is not readable
 pub record IsUnreadable (sig : Signature) (f : List ℕ) (a : AxiomDeclaration) : Type 0 where
   pub stated : Statement
   pub class : class_of sig a ≡ equates stated

@@ -1,5 +1,6 @@
--- Which equations are readable. One that is not closes its function; it is no fault of the definition, so it matters
--- only whether it has a fault, and not which is the first.
+-- Which equations are readable. An equation that is not readable closes its function. This is no
+-- fault of the definition, so it only matters whether the equation has a fault, not which fault is
+-- the first.
 use Rattle.std.specs.Prelude.{◌≡◌, ◌==◌, ◌+◌, ℕ, List, [], ◌++◌, Bool, true, false, not, ◌||◌, ◌&&◌, Option, Some}
 use Rattle.std.specs.Prelude.{None, is_some, length, codes, nat_le}
 use Rattle.std.specs.List.{list_any}
@@ -32,18 +33,19 @@ condition_of_equation sig e q = over_bool sig (given_condition e.over q.conditio
 
 -- ---- its function
 
--- the sort that an equation is over: a sort parameter of the axiom, or a declared sort
+-- an equation may be over this sort: a sort parameter of the axiom, or a declared sort
 abbrev pub is_sort_over : Signature → List (List ℕ) → SortTree → Bool
 is_sort_over sig params (sort_parameter at name) = list_any (bytes_eq name) params
 is_sort_over sig params (sort_applied at name ss) = is_some (sort_number sig.sorts (sort_applied at name ss))
 
--- the sorts are declared, and the same
+-- both sorts are declared, and they are the same
 abbrev pub is_one_sort : Option ℕ → Option ℕ → Bool
 is_one_sort None s = false
 is_one_sort (Some n) None = false
 is_one_sort (Some n) (Some m) = n == m
 
--- it is over a sort, of its function's result sort, and has as many patterns as its function has arguments
+-- the equation is over such a sort, has its function's result sort, and has as many patterns as its
+-- function has arguments
 abbrev pub fits_function : Signature → AxiomDeclaration → SymInfo → Statement → EquationParts → Bool
 fits_function sig a info e q =
     is_sort_over sig a.params e.over
@@ -52,13 +54,14 @@ fits_function sig a info e q =
 
 -- ---- its form
 
--- a pattern has a form that none of an equation has
+-- a pattern contains a form that no equation may have
 abbrev pub has_other_form : Signature → Statement → EquationParts → Bool
 has_other_form sig e q =
     list_any (has_form all_forms) q.patterns
     || (holds_of (has_form all_forms) (tested (condition_of_equation sig e q)) || has_form all_forms q.right)
 
--- it has no such form, no binder, a condition of the form that conditions have, and no bad priority
+-- the equation has no such form and no binder, its condition has the form of a condition, and its
+-- priority is not bad
 abbrev pub has_good_form : Signature → AxiomDeclaration → Statement → EquationParts → Bool
 has_good_form sig a e q =
     not (has_other_form sig e q)
@@ -67,8 +70,8 @@ has_good_form sig a e q =
 
 -- ---- its sorts
 
--- the faults of the variables of its left side and of the patterns, which are to have the sorts of the function's
--- arguments, of the condition, and of the right side
+-- the faults of the variables of the left side and of the patterns, which should have the sorts of
+-- the function's arguments; of the condition; and of the right side
 abbrev pub equation_faults : Signature → SymInfo → Statement → EquationParts → List Fault
 equation_faults sig info e q =
     argument_faults sig [] info.args.items (all_read q.parameters)
@@ -76,15 +79,15 @@ equation_faults sig info e q =
     ++ (condition_faults sig (condition_of_equation sig e q)
     ++ faults_at_sort sig (sort_at [] info.result) (unfolded q.right)))
 
--- there is none, and the function at the patterns is not too high
+-- the sorts have no fault, and the function applied to the patterns is not too high
 abbrev pub is_sorted : Signature → SymInfo → Statement → EquationParts → Bool
 is_sorted sig info e q =
     is_empty (equation_faults sig info e q) && nat_le (heights (all_read q.patterns) + 1) most_height
 
 -- ---- its uses
 
--- the patterns use no function and no AC symbol, the function is not AC, and the patterns have each variable of the
--- condition and of the right side
+-- the patterns use no function and no AC symbol, the function is not AC, and each variable of the
+-- condition and of the right side occurs in the patterns
 abbrev pub has_good_uses : Signature → SymInfo → Statement → EquationParts → Bool
 has_good_uses sig info e q =
     not (have_symbol (is_plain_function sig) (all_read q.patterns))
@@ -94,8 +97,8 @@ has_good_uses sig info e q =
 
 -- ---- the equation
 
--- The equation of the function with this declaration has one of the two forms, with these parts, none of which has a
--- fault, and is no last resort.
+-- The equation of the function with this declaration has one of the two forms, with these parts.
+-- The parts have no fault, and the equation is no last resort (`owise`).
 pub record IsReadable (sig : Signature) (a : AxiomDeclaration) (info : SymInfo) (e : Statement) (q : EquationParts) :
     Type 0 where
   pub no_last_resort : has_attribute (codes "owise") a.attributes ≡ false

@@ -1,4 +1,5 @@
--- The law of readings: no axiom is an equation of a function and an unreadable one of it.
+-- The law of readings: no axiom is both an equation and an unreadable equation of the same
+-- function.
 use Rattle.std.specs.Prelude.{ℕ, List}
 use Rattle.kore_text.specs.Trees.{AxiomDeclaration}
 use Rattle.rule_core.specs.Rules.{Equation}

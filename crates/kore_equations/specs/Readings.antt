@@ -12,7 +12,7 @@ abbrev pub function_of : Reading → ℕ
 function_of (reading.Equation e) = e.fun.0
 function_of (reading.Unreadable f) = f.0
 
--- the axiom is that equation of the function with this name, or no readable one
+-- the axiom is this equation of the function of this name, or states one that is not readable
 abbrev pub IsReadAs : Signature → List ℕ → AxiomDeclaration → Reading → Type 0
 IsReadAs sig f a (reading.Equation e) = IsEquationOf sig f a (function_equation e)
 IsReadAs sig f a (reading.Unreadable g) = IsUnreadable sig f a

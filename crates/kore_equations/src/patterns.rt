@@ -17,7 +17,8 @@ use rule_core::{Signature, VarInfo};
 use std::alloc::{AllocError, Global};
 use term_core::RulePat;
 
-/// The patterns of an equation with their variables, and whether those of its arguments have all of these.
+/// The patterns of an equation with their variables. `bound` says whether the patterns of its
+/// arguments have all of these.
 #[derive(Drop)]
 pub(crate) struct EquationPatterns {
     pub(crate) args: Vec<RulePat>,
@@ -27,7 +28,7 @@ pub(crate) struct EquationPatterns {
     pub(crate) bound: bool,
 }
 
-/// What the patterns of an equation under this condition mean, which have no fault.
+/// What the patterns of an equation under this condition mean. The patterns have no fault.
 pub(crate) fn equation_patterns(
     alloc: Global,
     sig: &Signature,
@@ -54,7 +55,7 @@ pub(crate) fn equation_patterns(
     })
 }
 
-/// What patterns without faults mean. Their variables stand after those that were there.
+/// What these patterns mean. They have no fault. Their new variables are appended to `vars`.
 fn built_patterns(
     alloc: Global,
     sig: &Signature,

@@ -1,4 +1,4 @@
-// Whether an equation is readable, but for its variables.
+// Whether an equation is readable, except that its variables need not be bound.
 ghost use Rattle.std.specs.Prelude.{◌≡◌, ◌||◌, [], map, option_map, IfOk};
 ghost use Rattle.std.specs.List.{list_any};
 ghost use Rattle.std.specs.Str.{bytes_eq};
@@ -32,7 +32,8 @@ use kore_sig::{has_attribute, sort_number};
 use rule_core::{Signature, SymInfo};
 use std::alloc::{AllocError, Global};
 
-/// The parts of an equation that is readable if its variables are bound; none of any other one.
+/// The parts of an equation that is readable if its variables are bound. Returns none for any other
+/// equation.
 pub(crate) fn clear_parts<'a>(
     alloc: Global,
     sig: &Signature,
@@ -57,7 +58,8 @@ pub(crate) fn clear_parts<'a>(
     }
 }
 
-/// Whether parts fit their function, and have a good form, no fault of their sorts, and no symbol that none may have.
+/// Whether parts fit their function, have a good form, have no fault of their sorts, and have no
+/// symbol that is not allowed in them.
 fn is_clear<'a>(
     sig: &Signature,
     decl: &AxiomDecl,
@@ -86,8 +88,8 @@ pub(crate) fn condition_of<'a>(
     over_bool(sig, given_condition(parts.condition, stated.over))
 }
 
-/// Whether an equation is over a sort, of its function's result sort, and has as many patterns as its function has
-/// arguments.
+/// Whether an equation is over a sort that it may be over, has its function's result sort, and has
+/// as many patterns as its function has arguments.
 fn fits_function(
     sig: &Signature,
     decl: &AxiomDecl,
@@ -143,8 +145,8 @@ fn number_of_result(symbol: &SymInfo) -> Option<usize>
     Some(sort.0 as usize)
 }
 
-/// Whether an equation has no form that no equation has, no binder, a condition of the form that conditions have, and
-/// no bad priority.
+/// Whether an equation has no form that no equation may have, no binder, a condition of the form of
+/// a condition, and no bad priority.
 fn has_good_form(
     sig: &Signature,
     decl: &AxiomDecl,
@@ -191,7 +193,8 @@ fn have_form(pats: &[&Pat]) -> bool
     false
 }
 
-/// Whether the patterns of the arguments have no function and no AC symbol, and the function is not AC.
+/// Whether the patterns of the arguments have no function and no AC symbol, and the function is not
+/// AC.
 fn has_good_symbols(sig: &Signature, symbol: &SymInfo, parts: &EquationParts<'_>) -> bool
     ensures { result ≡ are_good sig.now symbol.now (plain_parts parts.now) }
 {
@@ -200,7 +203,7 @@ fn has_good_symbols(sig: &Signature, symbol: &SymInfo, parts: &EquationParts<'_>
         && !have_symbol(&parts.patterns, sig, Symbols::Ac)
 }
 
-/// Whether one of these symbols stands in one of the patterns.
+/// Whether one of these symbols occurs in one of the patterns.
 fn have_symbol(pats: &[&Pat], sig: &Signature, which: Symbols) -> bool
     ensures { result ≡ have_one (is_used which sig.now) (all_unfolded (pattern_trees (map pattern_at pats.now))) }
 {

@@ -24,16 +24,19 @@ use term_core::SymId;
 pub enum Reading {
     /// The equation.
     Equation(Equation),
-    /// No equation, since it is not readable: nothing gives the values of this function.
+    /// An equation that is not readable. Nothing gives the values of its function.
     Unreadable(SymId),
 }
 
-/// The equation that an axiom of this statement means, or that it is not readable. Its variables are those of the
-/// patterns that the arguments match, in the order of their first occurrence. As many parameters as 32 bits do not
-/// count are taken for out of memory, which they would not fit into.
+/// Reads an axiom that states this equation. Returns the equation that the axiom means, or says
+/// that it is not readable. The variables of the equation are those of the patterns that the
+/// arguments match, in the order of their first occurrence.
 ///
-/// It goes through the axiom a few times, with a look-up for each sort, symbol and variable; where it has the form that
-/// kompile writes, also once for each argument of its function.
+/// Error: out of memory. This is also the error if there are 2^32 parameters or more, since they
+/// would not fit into memory.
+///
+/// It goes through the axiom a few times, with a look-up for each sort, symbol and variable. If the
+/// equation has kompile's form, it also goes through it once for each argument of its function.
 pub fn read_equation(
     alloc: Global,
     sig: &Signature,
@@ -60,7 +63,7 @@ pub fn read_equation(
     }
 }
 
-/// The equation of this function that an axiom means; none where it is not readable.
+/// The equation of this function that an axiom means. Returns none if it is not readable.
 fn meant_equation(
     alloc: Global,
     sig: &Signature,
@@ -96,7 +99,7 @@ fn meant_equation(
     }))
 }
 
-/// A number of 32 bits.
+/// The number in 32 bits. Returns an error if it does not fit.
 fn as_number(number: usize) -> Result<u32, AllocError>
     ensures { IfOk result (λ n. n ≡ number) }
 {

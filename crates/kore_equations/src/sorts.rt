@@ -1,4 +1,4 @@
-// The sorts of an equation.
+// The faults of the sorts of an equation.
 ghost use Rattle.std.specs.Prelude.{◌≡◌, ◌+◌, [], drop, map, option_map, nat_le};
 ghost use Rattle.kore_ast.specs.Plain.{plain_pattern};
 ghost use Rattle.rule_core.specs.Sorting.{sort_at as the_sort_at};
@@ -18,8 +18,8 @@ use kore_shapes::{Condition, EquationParts};
 use rule_core::{Signature, SortRef, SymInfo};
 use term_core::{MAX_HEIGHT, SortId};
 
-/// Whether the parts of an equation under this condition have no fault of their sorts, and its function at the patterns
-/// is not too high.
+/// Whether the parts of an equation under this condition have no fault of their sorts, and its
+/// function applied to the patterns is not too high.
 pub(crate) fn is_sorted(
     sig: &Signature,
     symbol: &SymInfo,
@@ -36,14 +36,14 @@ pub(crate) fn is_sorted(
         && is_faultless(sig, parts.right, result_sort(symbol))
 }
 
-/// Whether a symbol at these patterns is not too high.
+/// Whether a symbol applied to these patterns is not too high.
 fn is_low(pats: &[&Pat]) -> bool
     ensures { result ≡ nat_le (heights (all_read (map pattern_at pats.now)) + 1) most_height }
 {
     highest(pats) < MAX_HEIGHT
 }
 
-/// The greatest height of patterns, 0 where there is none, or 501 where it is greater.
+/// The greatest height of the patterns: 0 if there are none, and 501 if it is greater than 500.
 fn highest(pats: &[&Pat]) -> u32
     ensures { result ≡ cut (heights (all_read (map pattern_at pats.now))) }
 {
@@ -54,7 +54,7 @@ fn highest(pats: &[&Pat]) -> u32
     highest
 }
 
-/// Whether variables have no fault at the places of a symbol's arguments.
+/// Whether variables have no fault as the arguments of a symbol with these places.
 fn are_parameters(sig: &Signature, pats: &[Pat], places: &[SortRef]) -> bool
     requires { IsNumbered sig.now }
     ensures { result ≡ each_faultless sig.now places.now (all_read (map plain_pattern pats.now)) }
@@ -67,7 +67,7 @@ fn are_parameters(sig: &Signature, pats: &[Pat], places: &[SortRef]) -> bool
     true
 }
 
-/// Whether patterns have no fault at the places of a symbol's arguments.
+/// Whether patterns have no fault as the arguments of a symbol with these places.
 fn are_arguments(sig: &Signature, pats: &[&Pat], places: &[SortRef]) -> bool
     requires { IsNumbered sig.now }
     ensures { result ≡ each_faultless sig.now places.now (all_read (map pattern_at pats.now)) }
@@ -80,7 +80,8 @@ fn are_arguments(sig: &Signature, pats: &[&Pat], places: &[SortRef]) -> bool
     true
 }
 
-/// The sort that a place of a symbol without sort parameters wants, where there is such a place.
+/// The sort that a place of a symbol without sort parameters wants. Returns none if there is no
+/// such place.
 fn wanted(places: &[SortRef], i: usize) -> Option<SortId>
     ensures { (sig : Signature) → option_map (λ s. s.0) result ≡ first_wanted sig [] (drop i places.now) }
 {

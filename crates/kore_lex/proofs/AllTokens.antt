@@ -23,7 +23,7 @@ use Rattle.kore_lex.proofs.Longest.{piece-longest}
 use Rattle.kore_lex.proofs.StringLaws.{string-alone, string-inside}
 use Rattle.kore_lex.proofs.ValueLaws.{escape-took, escape-there, run-took, run-utf8}
 
--- an escape stands for a character
+-- the value of an escape is a Unicode scalar value
 
 if-scalar : (b : Bool) (n : ℕ) → scalar n ≡ b → IfSome (if b then Some n else None) (λ m. scalar m ≡ true)
 if-scalar true n h = h
@@ -58,7 +58,7 @@ escape-scalar (c ∷ cs) =
     (escape-if (c == 117) _ _ (numbered-scalar 4 (hex_number 4 0 cs) (number-scalar 4 0 cs))
     (escape-if (c == 85) _ None (numbered-scalar 8 (hex_number 8 0 cs) (number-scalar 8 0 cs)) tt))))))))
 
--- what stands inside a string stands for UTF-8
+-- the text of the bytes inside a string is UTF-8
 
 taken-utf8 : (bs t : List ℕ) (n : ℕ) → Took bs [] t n → IsUtf8 t → IsUtf8 (plain 0 (drop n bs)) → IsUtf8 (plain 0 bs)
 taken-utf8 bs t n k u v = subst (λ (x : List ℕ). IsUtf8 x) k.grown (IsUtf8-append t (plain 0 (drop n bs)) u v)
@@ -96,13 +96,13 @@ string-utf8 bs h =
     let i : (2 ≤ length bs) × IsInner inner = string-inside bs h in
     plain-utf8 (length inner) inner (omega arith) i.1
 
--- tokens
+-- tokens of a text
 
--- the bytes are a token of the kind, and a whole string where that is the kind
+-- the bytes are a token of the kind, and if the kind is `Text` they are a whole string
 abbrev pub IsRead : TokenKind → List ℕ → Type 0
 IsRead k bs = IsToken k bs × (k ≡ Text → IsString bs)
 
--- the bytes of each token of the stream are one
+-- each token of the stream is such a token
 abbrev pub AllRead : List ℕ → Stream → Type 0
 AllRead text (end e) = Unit {0}
 AllRead text (fault e) = Unit {0}
@@ -138,6 +138,6 @@ all-behind : (m at : ℕ) (text : List ℕ) → length (drop at text) ≤ m → 
 all-behind zero at text l = from-piece at text (λ n lo hi. absurd (omega arith))
 all-behind (suc m) at text l = from-piece at text (λ n lo hi. further-on m at n text l lo hi (λ h. all-behind m (at + n) text h))
 
--- each token of a text is one
+-- each token of a text is such a token
 pub all-read : (text : List ℕ) → AllRead text (lexed 0 text)
 all-read text = all-behind (length text) 0 text (omega arith)

@@ -17,7 +17,7 @@ use Rattle.kore_lex.specs.TokenLaws.{IsBlank, white, line_comment, block_comment
 use Rattle.kore_lex.proofs.Lexing.{Within, piece-within, quote-within, lexed-is}
 use Rattle.kore_lex.proofs.Longest.{letter-space, piece-to, piece-longest, quote-on, same-byte}
 
--- where a token starts, the piece at the head is no fault
+-- if a token starts at the head, the piece there is no fault
 
 named-good : (k : TokenKind) (i n : ℕ) (cs : List ℕ) → IsName (take i cs) → named k cs ≡ Bad n → ⊥
 named-good k zero n cs h e = h
@@ -80,7 +80,7 @@ token-good (Punct d) (suc i) n (c ∷ cs) l h e = mark-good c n cs h.1 e
 token-good Assign (suc i) n (c ∷ cs) l h e = colon-good n cs (subst (λ (c : ℕ). piece (c ∷ cs) ≡ Bad n) h.0 e)
 token-good End (suc i) n (c ∷ cs) l h e = h
 
--- white space and comments are the pieces that are gaps
+-- white space and comments are exactly the pieces that are gaps
 
 blank-gap : (n : ℕ) (bs : List ℕ) → IsBlank n bs → piece bs ≡ Gap n
 unfolding piece
@@ -139,7 +139,7 @@ gap-blank n (c ∷ cs) e =
     (piece-to (is_mark c) (Whole (Punct c) 1) (Bad 0) r G (λ h e. absurd (let z : ⊥ = cc in z)) (λ e. absurd (let z : ⊥ = cc in z)))))))))
     e
 
--- the byte of a fault
+-- the byte of a fault is at the head, or at a bad escape
 
 abbrev Placed : ℕ → List ℕ → Type 0
 Placed n bs = (n ≡ 0) ⊎ HasBadEscape n bs
@@ -219,7 +219,7 @@ bad-fault n bs e = record {
   place = placed-once n bs e (piece-place n bs e);
 }
 
--- something stands at the head where there are bytes
+-- if there are bytes, there is a piece at the head
 
 abbrev IsSome : Piece → Type 0
 IsSome Nothing = ⊥
@@ -268,7 +268,7 @@ nothing-empty : (bs : List ℕ) → piece bs ≡ Nothing → bs ≡ []
 nothing-empty [] e = refl
 nothing-empty (c ∷ cs) e = absurd (subst IsSome e (piece-some c cs))
 
--- the cover
+-- the tokens of a text cover it
 
 wider : (m at : ℕ) (bs : List ℕ) (s : Stream) → m ≤ length bs → IsBlank m bs → Covers (at + m) (drop m bs) s → Covers at bs s
 wider m at bs (end e) l b h =

@@ -1,4 +1,4 @@
--- The tokens of a text are tokens, and no more than its bytes.
+-- The bytes of each token are a token of its kind, and there are no more tokens than bytes.
 use Rattle.std.proofs.Common.{◌≡◌, ◌≤◌, ◌+◌, ◌-◌, ℕ, zero, suc, List, length, take, drop, refl, sym, subst, arith}
 use Rattle.std.proofs.lemmas.List.{drop-drop}
 use Rattle.kore_lex.specs.declared.piece.Piece.{Piece}

@@ -1,4 +1,4 @@
--- Escapes: their numbers digit by digit, and what they take of the bytes.
+-- Escapes: their numbers digit by digit, and how many bytes they take.
 use Rattle.std.proofs.Common.{◌≡◌, ◌≤◌, ◌<◌, ◌+◌, ◌*◌, ◌-◌, ℕ, zero, suc, Bool, true, false, List, [], ◌∷◌, length, drop, get_or, refl, ap, sym, ◌∙◌, arith, length-drop, ◌==◌, if◌then◌else◌, Option, Some, None}
 use Rattle.std.proofs.lemmas.List.{drop-drop}
 use Rattle.std.proofs.lemmas.Bool.Decides.{nat_tests}
@@ -52,7 +52,7 @@ hex-above (suc k) n [] h = refl
 hex-above (suc k) n (c ∷ cs) h =
     bind-none (hex_digit c) (λ d. hex_number k (16 * n + d) cs) (λ d. hex-above k (16 * n + d) cs (omega arith))
 
--- the number is read from a place on, where r is what the whole gives
+-- the number is read from digit `i` on, and `r` is the result for the whole
 
 pub past-is : (k n i : ℕ) (bs : List ℕ) (r : Option ℕ) → i < k → length bs ≤ i → hex_number (k - i) n (drop i bs) ≡ r → None ≡ r
 past-is k n i bs r l h e =
@@ -87,7 +87,7 @@ end-is k n i bs r x l e s =
 pub digit-small : (c d : ℕ) → Some d ≡ hex_digit c → d < 16
 digit-small c d h = grind (arith, nat_tests)
 
--- so many bytes at the head, all of ASCII
+-- there are at least as many bytes as the first argument says, and that many at the head are ASCII
 abbrev pub Ascii : ℕ → List ℕ → Type 0
 Ascii zero bs = Unit {0}
 Ascii (suc n) [] = ⊥
@@ -107,7 +107,7 @@ ascii-utf8 (suc n) (c ∷ cs) h u =
 hex-ascii : (c d : ℕ) → hex_digit c ≡ Some d → c < 128
 hex-ascii c d h = grind (arith, nat_tests)
 
--- what stands at the head inside a string
+-- the unit at the head inside a string
 
 unit-cons : (c : ℕ) (cs : List ℕ) (b : Bool) (x : Option Escape) (k : ℕ)
     → Some k ≡ (if b then on_escape None (λ n. Some (n + 1)) x else Some 1)

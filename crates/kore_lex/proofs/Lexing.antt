@@ -1,4 +1,4 @@
--- The law of `lexed`: the piece at the head, and the stream of what is after it.
+-- The law of `lexed`: the piece at the head, and then the stream of the bytes after it.
 use Rattle.std.proofs.Common.{◌≡◌, ◌≤◌, ◌+◌, ◌-◌, ℕ, zero, suc, Bool, true, false, List, [], ◌∷◌, length, take, drop, refl, ap, sym, ◌∙◌, subst, if◌then◌else◌, not, ◌==◌, arith, length-drop, Option, Some, None, Ok, Result}
 use Rattle.std.specs.Option.{IfSome}
 use Rattle.std.specs.Str.{is_utf8}
@@ -16,7 +16,7 @@ use Rattle.kore_lex.specs.Escapes.{further, escape, on_escape, bad_at}
 use Rattle.kore_lex.specs.Pieces.{is_space, is_letter, is_word, is_mark, word_len, line_len, ends_block, block_len, passed, quote_len, block, comment, by_escapes, body_piece, by_end, string, named, colon, piece}
 use Rattle.kore_lex.specs.Lexed.{Stream, end, fault, token, onward, lexed_by, lexed}
 
--- a piece takes a byte at least, and no more than there are
+-- a piece has at least one byte, and no more bytes than there are
 abbrev pub Within : Piece → ℕ → Type 0
 Within Nothing n = Unit {0}
 Within (Gap m) n = (1 ≤ m) × (m ≤ n)
@@ -139,7 +139,7 @@ onward-same f g at bs (Gap n) w h = h n w.0 w.1
 onward-same f g at bs (Whole k n) w h = ap (token k at (at + n)) (h n w.0 w.1)
 onward-same f g at bs (Bad n) w h = refl
 
--- a count that is enough makes no difference
+-- any two bounds on the count of pieces that are large enough give the same stream
 lexed_by-same : (m n at : ℕ) (bs : List ℕ) → length bs ≤ m → length bs ≤ n → lexed_by m at bs ≡ lexed_by n at bs
 unfolding lexed_by piece
 lexed_by-same zero zero at bs a b = refl
@@ -159,7 +159,7 @@ lexed-is at (c ∷ cs) =
     (λ k lo hi. lexed_by-same (length cs) (length (drop k (c ∷ cs))) (at + k) (drop k (c ∷ cs))
     (omega (arith, length-drop k (c ∷ cs))) (omega arith))
 
--- one step of the lexer, by what stands at its place
+-- one step of the lexer, by the piece at its place
 
 lexed-at : (at : ℕ) (text : List ℕ) (p : Piece) → p ≡ piece (drop at text) → lexed at (drop at text) ≡ onward lexed at (drop at text) p
 lexed-at at text p h = lexed-is at (drop at text) ∙ ap (onward lexed at (drop at text)) (sym h)

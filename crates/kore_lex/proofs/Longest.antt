@@ -1,4 +1,4 @@
--- Each token is the longest that stands at its place.
+-- Each token is the longest at its place.
 use Rattle.std.proofs.Common.{◌≡◌, ◌≤◌, ◌+◌, ◌-◌, ℕ, zero, suc, Bool, true, false, List, [], ◌∷◌, length, take, drop, refl, ap, sym, ◌∙◌, subst, arith, cond, ◌==◌, if◌then◌else◌, Option, Some, None}
 use Rattle.std.specs.Option.{IfSome}
 use Rattle.std.specs.Str.{is_utf8}
@@ -18,7 +18,7 @@ use Rattle.kore_lex.specs.declared.lexer.Token.{Token}
 use Rattle.kore_lex.proofs.StringLaws.{no-block, quote-take}
 use Rattle.kore_lex.proofs.Lexing.{quote-within, Within, piece-within}
 
--- a longer token of each kind
+-- no prefix that is a token is longer than the piece, kind by kind
 
 word-if : (c i : ℕ) (cs : List ℕ) (b : Bool) → b ≡ true → i ≤ length (take_while is_word cs)
     → suc i ≤ length (cond b (c ∷ take_while is_word cs) [])
@@ -58,7 +58,7 @@ further-out : (i : ℕ) (x : Option ℕ) → further 1 x ≡ Some (suc i) → x 
 further-out i None h = absurd (let z : ⊥ = cc in z)
 further-out i (Some j) h = let q : 1 + j ≡ suc i = cc in ap Some (let z : j ≡ i = omega arith in z)
 
--- the quote that ends the first bytes ends all of them
+-- a quote that ends the string in a prefix ends it in all the bytes
 quote-on-if : (c i : ℕ) (cs : List ℕ) (b : Bool) → i ≤ length cs
     → (quote_len (passed c) (take i cs) ≡ Some i → quote_len (passed c) cs ≡ Some i)
     → (if b then Some 1 else further 1 (quote_len (passed c) (take i cs))) ≡ Some (suc i)
@@ -125,7 +125,7 @@ no-longer Assign k (suc i) n (c ∷ cs) e l h =
     let p : piece (58 ∷ cs) ≡ Whole k n = subst (λ c. piece (c ∷ cs) ≡ Whole k n) h.0 e in assign-long i n cs k p h.1 (omega arith)
 no-longer End k (suc i) n (c ∷ cs) e l h = absurd h
 
--- what the lexer takes is a token
+-- the piece that the lexer takes is a token
 
 pub piece-to : (b : Bool) (p q r : Piece) (G : Type 0) → (b ≡ true → p ≡ r → G) → (q ≡ r → G) → (if b then p else q) ≡ r → G
 piece-to true p q r G h k e = h refl e
@@ -144,7 +144,7 @@ word-take [] = tt
 word-take (c ∷ cs) =
     subst (λ ws. AllWord (take (length ws) (c ∷ cs))) (sym (take_while-cons is_word c cs)) (word-take-if c cs (is_word c) refl (word-take cs))
 
--- a token of another kind and length, where these are the same
+-- equal kinds and equal lengths may replace each other
 moved : (j k : TokenKind) (m n : ℕ) (bs : List ℕ) → j ≡ k → m ≡ n → IsToken j (take m bs) → IsToken k (take n bs)
 moved j k m n bs a b h = subst (λ k. IsToken k (take n bs)) a (subst (λ n. IsToken j (take n bs)) b h)
 
@@ -244,7 +244,7 @@ is-token-of (c ∷ cs) k n e =
 pub piece-longest : (bs : List ℕ) (k : TokenKind) (n : ℕ) → piece bs ≡ Whole k n → IsLongest k n bs
 piece-longest bs k n e = (is-token-of bs k n e, λ j m l h. no-longer j k m n bs e l h)
 
--- the token that the lexer answers
+-- the token that the lexer returns is the longest
 pub token-longest : (k : TokenKind) (at n : ℕ) (text whole : List ℕ) (t : Token) → Whole k n ≡ piece (drop at text) → text ≡ whole
     → t.kind ≡ k → t.from ≡ at → t.to ≡ at + n → IsLongest t.kind (t.to - t.from) (drop t.from whole)
 token-longest k at n text whole t p w a b c =

@@ -1,4 +1,5 @@
--- Whole strings: their quotes and inner part, and that a string does not depend on what follows it.
+-- Whole strings: their quotes and the bytes between them. A string does not depend on what follows
+-- it.
 use Rattle.std.proofs.Common.{◌≡◌, ◌≤◌, ◌+◌, ◌-◌, ℕ, zero, suc, Bool, true, false, List, [], ◌∷◌, length, take, drop, refl, ap, sym, ◌∙◌, subst, arith, ◌==◌, if◌then◌else◌, Option, Some, None}
 use Rattle.std.specs.Option.{IfSome}
 use Rattle.std.specs.Str.{is_utf8}
@@ -15,7 +16,7 @@ use Rattle.kore_lex.specs.Pieces.{is_space, is_letter, is_mark, word_len, line_l
 use Rattle.kore_lex.specs.Value.{IsString}
 use Rattle.kore_lex.proofs.Lexing.{quote-within}
 
--- a whole string has quotes and an inner part
+-- a whole string has two quotes and the bytes between them
 
 piece-if : (b : Bool) (p q : Piece) (n : ℕ) (G : Type 0) → (p ≡ Whole Text n → G) → (q ≡ Whole Text n → G) → (if b then p else q) ≡ Whole Text n → G
 piece-if true p q n G h k e = h e
@@ -146,7 +147,7 @@ string-alone (c ∷ cs) n e =
     let g : piece (34 ∷ take m.0 cs) ≡ Whole Text (suc (length (take m.0 cs))) = m.1.2 ∙ ap (Whole Text) (m.1.0 ∙ ap (λ i. suc i) (sym l)) in
     subst (λ i. IsString (take i (c ∷ cs))) (sym m.1.0) (subst (λ c. IsString (c ∷ take m.0 cs)) (sym q.0) g)
 
--- the bytes of a string that the lexer answers
+-- the bytes of a string token that the lexer returns are a whole string
 pub token-string : (k : TokenKind) (at n : ℕ) (text whole : List ℕ) (t : Token) → Whole k n ≡ piece (drop at text) → text ≡ whole
     → t.kind ≡ k → t.from ≡ at → t.to ≡ at + n → t.kind ≡ Text → IsString (take (t.to - t.from) (drop t.from whole))
 token-string k at n text whole t p w a b c d =

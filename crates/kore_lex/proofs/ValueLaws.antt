@@ -1,4 +1,4 @@
--- The inner part of a string: what its escapes and its runs of plain bytes stand for.
+-- The bytes between the quotes of a string: what escapes and runs of other bytes stand for.
 use Rattle.std.proofs.Common.{◌≡◌, ◌≤◌, ◌<◌, ◌+◌, ◌*◌, ℕ, zero, suc, Bool, true, false, List, [], ◌∷◌, ◌++◌, length, take, drop, get_or, refl, ap, sym, ◌∙◌, subst, arith, append_assoc, ◌==◌, if◌then◌else◌, not, Option, Some, None, cond}
 use Rattle.std.proofs.lemmas.List.{append-nil}
 use Rattle.std.proofs.lemmas.List.Sums.{take_while-cons}
@@ -16,7 +16,7 @@ use Rattle.kore_lex.specs.Steps.{run_len, Took, unit_len}
 use Rattle.kore_lex.proofs.Runs.{drop-past}
 use Rattle.kore_lex.proofs.EscapeLaws.{unit-bad, none-bad}
 
--- so many bytes at the head, all of ASCII
+-- there are at least as many bytes as the first argument says, and that many at the head are ASCII
 abbrev pub Ascii : ℕ → List ℕ → Type 0
 Ascii zero bs = Unit {0}
 Ascii (suc n) [] = ⊥
@@ -133,12 +133,13 @@ pub escape-there : (bs : List ℕ) → 0 < length bs → get_or bs 0 0 ≡ 92 �
 escape-there [] l b h g = omega arith
 escape-there (c ∷ cs) l b h g = let e = none-bad (c ∷ cs) l (unit-no c cs b g) in let f = h.escapes in cc
 
--- a run of plain bytes at the head
+-- a run of bytes without a backslash at the head
 
 abbrev is_plain : ℕ → Bool
 is_plain c = not (c == 92)
 
--- so many bytes at the head, none of them a backslash
+-- there are at least as many bytes as the first argument says, and that many at the head are no
+-- backslash
 abbrev Plain : ℕ → List ℕ → Type 0
 Plain zero bs = Unit {0}
 Plain (suc n) [] = ⊥
@@ -157,7 +158,7 @@ bad-run (suc n) [] h e = absurd h
 bad-run (suc n) (c ∷ cs) h e =
     bad-run n cs h.1 (further-no 1 (bad_at 0 cs) (sym (rw h.0 refl) ∙ e))
 
--- the first backslash, or the end, is so many bytes on
+-- the first backslash, or the end, comes after `n` bytes
 pub record Run (n : ℕ) (bs : List ℕ) : Type 0 where
   pub plain : Plain n bs
   pub within : n ≤ length bs
@@ -204,7 +205,7 @@ run-took bs old new l b h n =
       grown = ap (λ t. t ++ plain 0 (drop m bs)) n ∙ append_assoc old (take m bs) _ ∙ ap (λ t. old ++ t) (sym (plain-run m bs r.plain));
     }
 
--- nothing is left
+-- at the end of the bytes nothing is left to append
 pub plain-past : (t : List ℕ) (at : ℕ) (bs : List ℕ) → length bs ≤ at → t ≡ t ++ plain 0 (drop at bs)
 unfolding plain
 plain-past t at bs h = sym (ap (λ l. t ++ plain 0 l) (drop-past at bs h) ∙ append-nil t)

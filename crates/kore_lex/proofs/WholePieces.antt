@@ -1,4 +1,4 @@
--- Texts that are cut off whole as one token, for proofs on texts that are written token by token.
+-- Texts that are one whole token, for proofs on texts that are written token by token.
 use Rattle.std.proofs.Common.{◌≡◌, ◌+◌, ◌-◌, ℕ, suc, Bool, true, false, List, [], ◌∷◌, ◌++◌, length, take, drop, refl, ap, sym, ◌∙◌, arith, ◌==◌, ◌&&◌, if◌then◌else◌, Some, None}
 use Rattle.std.proofs.lemmas.Bool.Decides.{nat_tests}
 use Rattle.std.proofs.lemmas.List.Sums.{take_while-cons}
@@ -14,15 +14,15 @@ use Rattle.kore_lex.specs.Lexed.{token, lexed, onward}
 use Rattle.kore_lex.specs.Tokens.{IsName, AllWord}
 use Rattle.kore_lex.proofs.Lexing.{lexed-is}
 
--- a token of so many bytes
+-- a token of `n` bytes
 abbrev pub whole : TokenKind → ℕ → Piece
 whole k n = Whole k n
 
--- what is after it is cut on
+-- after a whole token the rest is cut
 pub lexed-whole : (k : TokenKind) (n at : ℕ) (bs : List ℕ) → piece bs ≡ whole k n → lexed at bs ≡ token k at (at + n) (lexed (at + n) (drop n bs))
 lexed-whole k n at bs h = lexed-is at bs ∙ ap (onward lexed at bs) h
 
--- the bytes begin with one that goes on a name, and with `=`
+-- the bytes begin with a byte that may continue a name, or (`begins_equals`) with `=`
 abbrev pub begins_word : List ℕ → Bool
 begins_word [] = false
 begins_word (c ∷ cs) = is_word c

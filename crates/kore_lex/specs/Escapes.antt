@@ -16,13 +16,14 @@ abbrev pub bind : Option ℕ → (ℕ → Option ℕ) → Option ℕ
 bind None f = None
 bind (Some n) f = f n
 
--- the scalar value of Unicode of which so many digits are still to come, after digits that give n
+-- the Unicode scalar value of a hexadecimal number; the first argument is how many digits are still
+-- to come, and `n` is the value of the digits before them
 unfoldable pub hex_number : ℕ → ℕ → List ℕ → Option ℕ
 hex_number zero n bs = if scalar n then Some n else None
 hex_number (suc k) n [] = None
 hex_number (suc k) n (c ∷ cs) = bind (hex_digit c) (λ d. hex_number k (16 * n + d) cs)
 
--- an escape by a number, after its letter
+-- an escape by a number of `k` digits, after its letter
 abbrev pub by_number : ℕ → Option ℕ → Option Escape
 by_number k None = None
 by_number k (Some c) = Some (record { character = c; len = k + 1 })
@@ -33,7 +34,7 @@ numbered k bs = by_number k (hex_number k 0 bs)
 abbrev pub single : ℕ → Option Escape
 single c = Some (record { character = c; len = 1 })
 
--- the escape that begins here, after a backslash: n r t f " \ x u U
+-- the escape at the head, after its backslash: its letter is n r t f " \ x u or U
 unfoldable pub escape : List ℕ → Option Escape
 escape [] = None
 escape (c ∷ cs) =
@@ -48,25 +49,25 @@ escape (c ∷ cs) =
     else (if c == 85 then numbered 8 cs
     else None))))))))
 
--- so many bytes further on
+-- the number increased by `n`, if there is one
 abbrev pub further : ℕ → Option ℕ → Option ℕ
 further n None = None
 further n (Some m) = Some (n + m)
 
--- what is found at a backslash, by the escape that begins after it
+-- the result at a backslash: `bad` if no escape begins after it, else `more` of the escape's length
 abbrev pub on_escape : {T : Type 0} → T → (ℕ → T) → Option Escape → T
 on_escape bad more None = bad
 on_escape bad more (Some e) = more e.len
 
--- the bytes before the first backslash that begins no escape, where so many bytes at the head
--- belong to an escape that has begun
+-- how many bytes there are before the first backslash that begins no escape; the first argument is
+-- how many bytes at the head belong to an escape that has begun
 unfoldable pub bad_at : ℕ → List ℕ → Option ℕ
 bad_at n [] = None
 bad_at (suc n) (c ∷ cs) = further 1 (bad_at n cs)
 bad_at zero (c ∷ cs) =
     if c == 92 then on_escape (Some 0) (λ n. further 1 (bad_at n cs)) (escape cs) else further 1 (bad_at 0 cs)
 
--- the bytes may stand between quotes: UTF-8, and each backslash begins an escape
+-- the bytes may be between quotes: they are UTF-8, and each backslash begins an escape
 pub record IsInner (bs : List ℕ) : Type 0 where
   pub utf8 : IsUtf8 bs
   pub escapes : bad_at 0 bs ≡ None

@@ -1,4 +1,5 @@
--- The tokens of a text: from each place on, what stands at the head is cut off.
+-- The tokens of a text. At each place the piece at the head is cut off, and the rest is cut in the
+-- same way.
 use Rattle.std.specs.Prelude.{ℕ, ◌+◌, zero, suc, List, length, drop, Result, Ok, Err}
 use Rattle.kore_lex.specs.declared.lexer.TokenKind.{TokenKind}
 use Rattle.kore_lex.specs.declared.lexer.TokenKind.TheVariants.{End}
@@ -8,26 +9,26 @@ use Rattle.kore_lex.specs.declared.piece.Piece.{Piece}
 use Rattle.kore_lex.specs.declared.piece.Piece.TheVariants.{Nothing, Gap, Whole, Bad}
 use Rattle.kore_lex.specs.Pieces.{piece}
 
--- tokens in order, each with its first byte and the byte after it, and then the end of the text
--- or the byte of a fault
+-- tokens in order, each with its first byte and the byte after it; then the end of the text or the
+-- byte of a fault
 pub data Stream : Type 0 where
   end : ℕ → Stream
   fault : ℕ → Stream
   token : TokenKind → ℕ → ℕ → Stream → Stream
 
--- the stream of bytes that begin with this piece, the rest by `more`
+-- the stream of bytes at place `at` that begin with this piece; `more` is the stream of the rest
 abbrev pub onward : (ℕ → List ℕ → Stream) → ℕ → List ℕ → Piece → Stream
 onward more at bs Nothing = end at
 onward more at bs (Gap n) = more (at + n) (drop n bs)
 onward more at bs (Whole k n) = token k at (at + n) (more (at + n) (drop n bs))
 onward more at bs (Bad n) = fault (at + n)
 
--- at most so many pieces of bytes that begin at a place
+-- the stream of bytes at place `at`, cut into at most as many pieces as the first argument says
 unfoldable pub lexed_by : ℕ → ℕ → List ℕ → Stream
 lexed_by zero at bs = end at
 lexed_by (suc n) at bs = onward (lexed_by n) at bs (piece bs)
 
--- the tokens of bytes that begin at a place: they have no more pieces than bytes
+-- the tokens of bytes at place `at`; there are no more pieces than bytes
 unfoldable pub lexed : ℕ → List ℕ → Stream
 lexed at bs = lexed_by (length bs) at bs
 
@@ -37,13 +38,13 @@ head (end n) = Ok (record { kind = End; from = n; to = n })
 head (fault n) = Err (record { at = n })
 head (token k from to s) = Ok (record { kind = k; from = from; to = to })
 
--- what comes after the first token; the end and a fault stay
+-- the stream after the first token; an end or a fault stays
 abbrev pub tail : Stream → Stream
 tail (end n) = end n
 tail (fault n) = fault n
 tail (token k from to s) = s
 
--- a text, and the byte up to which its tokens are taken
+-- a text, and the byte up to which its tokens were taken
 pub record Unread : Type 0 where
   pub text : List ℕ
   pub at : ℕ

@@ -1,5 +1,5 @@
--- What stands at the head of the bytes of a Kore text: white space, a comment, a token, or what
--- begins none (Kore language document, lexical structure). Each token is the longest that stands
+-- What is at the head of the bytes of a Kore text: white space, a comment, a token, or something
+-- that begins none of these (Kore language document, lexical structure). Each token is the longest
 -- at its place.
 use Rattle.std.specs.Prelude.{ℕ, zero, suc, ◌+◌, ◌-◌, Bool, not, ◌||◌, ◌&&◌, List, [], ◌∷◌, length, take, take_while, nat_le, ◌==◌, if◌then◌else◌, Option, Some, None}
 use Rattle.std.specs.Str.{is_utf8}
@@ -13,49 +13,50 @@ use Rattle.kore_lex.specs.declared.piece.Piece.TheVariants.{Nothing, Gap, Whole,
 abbrev pub is_space : ℕ → Bool
 is_space c = (c == 32) || (c == 9) || (c == 13) || (c == 10)
 
--- a letter of ASCII
+-- an ASCII letter
 abbrev pub is_letter : ℕ → Bool
 is_letter c = (nat_le 65 c && nat_le c 90) || (nat_le 97 c && nat_le c 122)
 
--- what a name has after its first letter: letters, digits, `'` and `-`
+-- a byte that may follow the first letter of a name: a letter, a digit, `'` or `-`
 abbrev pub is_word : ℕ → Bool
 is_word c = is_letter c || (nat_le 48 c && nat_le c 57) || (c == 39) || (c == 45)
 
--- { } ( ) [ ] , :
+-- one of { } ( ) [ ] , :
 abbrev pub is_mark : ℕ → Bool
 is_mark c =
     (c == 123) || (c == 125) || (c == 40) || (c == 41) || (c == 91) || (c == 93) || (c == 44) || (c == 58)
 
--- the bytes of the word that goes on here
+-- how many bytes of a name there are at the head, after its first letter
 abbrev pub word_len : List ℕ → ℕ
 word_len bs = length (take_while is_word bs)
 
--- the bytes up to the end of the line, LF, or of the text
+-- how many bytes there are before the end of the line (LF) or of the text
 abbrev pub line_len : List ℕ → ℕ
 line_len bs = length (take_while (λ c. not (c == 10)) bs)
 
--- `*/`
+-- the two bytes are `*/`
 abbrev pub ends_block : ℕ → ℕ → Bool
 ends_block c d = (c == 42) && (d == 47)
 
--- the bytes up to and with the first `*/`
+-- how many bytes there are up to and including the first `*/`
 unfoldable pub block_len : List ℕ → Option ℕ
 block_len [] = None
 block_len (c ∷ []) = None
 block_len (c ∷ d ∷ rest) = if ends_block c d then Some 2 else further 1 (block_len (d ∷ rest))
 
--- the bytes that stand together with this one in a string: one after a backslash
+-- how many bytes after this one belong to it in a string: one after a backslash, else none
 abbrev pub passed : ℕ → ℕ
 passed c = if c == 92 then 1 else 0
 
--- the bytes up to and with the quote that ends a string, where so many bytes at the head stand
--- after a backslash
+-- how many bytes there are up to and including the quote that ends a string; the first argument is
+-- how many bytes at the head follow a backslash
 unfoldable pub quote_len : ℕ → List ℕ → Option ℕ
 quote_len n [] = None
 quote_len (suc n) (c ∷ cs) = further 1 (quote_len n cs)
 quote_len zero (c ∷ cs) = if c == 34 then Some 1 else further 1 (quote_len (passed c) cs)
 
--- after a slash: `//` up to the end of the line, `/*` up to and with the first `*/` after it
+-- after a slash: `//` up to the end of the line, or `/*` up to and including the first `*/` after
+-- it
 abbrev pub block : Option ℕ → Piece
 block None = Bad 0
 block (Some n) = Gap (n + 2)
@@ -65,8 +66,8 @@ comment [] = Bad 0
 comment (c ∷ cs) =
     if c == 47 then Gap (line_len cs + 2) else (if c == 42 then block (block_len cs) else Bad 0)
 
--- a string by what stands between its quotes: bytes that are no UTF-8 are a fault at the opening
--- quote, and a bad escape one at its backslash
+-- a string, by the bytes between its quotes. If they are not UTF-8, the fault is at the opening
+-- quote. If an escape is bad, the fault is at its backslash.
 abbrev pub by_escapes : List ℕ → Option ℕ → Piece
 by_escapes body None = Whole Text (length body + 2)
 by_escapes body (Some n) = Bad (n + 1)
@@ -74,7 +75,7 @@ by_escapes body (Some n) = Bad (n + 1)
 abbrev pub body_piece : List ℕ → Piece
 body_piece body = if is_utf8 body then by_escapes body (bad_at 0 body) else Bad 0
 
--- after the opening quote
+-- a string, after its opening quote
 abbrev pub by_end : List ℕ → Option ℕ → Piece
 by_end bs None = Bad 0
 by_end bs (Some n) = body_piece (take (n - 1) bs)
@@ -82,7 +83,7 @@ by_end bs (Some n) = body_piece (take (n - 1) bs)
 abbrev pub string : List ℕ → Piece
 string bs = by_end bs (quote_len 0 bs)
 
--- a name of this kind, after its first byte, `@` or `\`
+-- a name of this kind, after its first byte `@` or `\`
 abbrev pub named : TokenKind → List ℕ → Piece
 named k [] = Bad 0
 named k (c ∷ cs) = if is_letter c then Whole k (word_len cs + 2) else Bad 0
@@ -92,7 +93,7 @@ abbrev pub colon : List ℕ → Piece
 colon [] = Whole (Punct 58) 1
 colon (c ∷ cs) = if c == 61 then Whole Assign 2 else Whole (Punct 58) 1
 
--- by the first byte, of / " @ \ :
+-- the piece at the head, by its first byte
 unfoldable pub piece : List ℕ → Piece
 piece [] = Nothing
 piece (c ∷ cs) =

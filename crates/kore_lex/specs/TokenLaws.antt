@@ -7,7 +7,7 @@ use Rattle.kore_lex.specs.Pieces.{is_space, line_len, block_len, quote_len}
 use Rattle.kore_lex.specs.Lexed.{Stream, end, fault, token, lexed}
 use Rattle.kore_lex.specs.Tokens.{IsToken, IsLongest}
 
--- the bytes of each token are one of its kind
+-- the bytes of each token of the stream are one token of its kind
 abbrev pub AreTokens : List ℕ → Stream → Type 0
 AreTokens text (end n) = Unit {0}
 AreTokens text (fault n) = Unit {0}
@@ -18,7 +18,7 @@ token_count (end n) = 0
 token_count (fault n) = 0
 token_count (token k from to s) = token_count s + 1
 
--- so they are in each text
+-- in each text, the bytes of each token are one token of its kind
 abbrev pub EachIsToken : Type 0
 EachIsToken = (text : List ℕ) → AreTokens text (lexed 0 text)
 
@@ -26,14 +26,14 @@ EachIsToken = (text : List ℕ) → AreTokens text (lexed 0 text)
 abbrev pub TokensAreFew : Type 0
 TokensAreFew = (text : List ℕ) → token_count (lexed 0 text) ≤ length text
 
--- so many bytes at the head are a byte of white space or a comment: `//` up to the end of the
--- line, or `/*` up to and with the first `*/` after it
+-- the given count of bytes at the head is one byte of white space or one comment: `//` up to the
+-- end of the line, or `/*` up to and including the first `*/` after it
 pub data IsBlank : ℕ → List ℕ → Type 0 where
   white : (c : ℕ) (cs : List ℕ) → is_space c ≡ true → IsBlank 1 (c ∷ cs)
   line_comment : (cs : List ℕ) → IsBlank (line_len cs + 2) (47 ∷ 47 ∷ cs)
   block_comment : (n : ℕ) (cs : List ℕ) → block_len cs ≡ Some n → IsBlank (n + 2) (47 ∷ 42 ∷ cs)
 
--- so many bytes at the head are white space and comments, one after the other
+-- the given count of bytes at the head is a sequence of white space and comments
 pub data IsGap : ℕ → List ℕ → Type 0 where
   nothing : (bs : List ℕ) → IsGap 0 bs
   blank_then : (m n : ℕ) (bs : List ℕ) → IsBlank m bs → IsGap n (drop m bs) → IsGap (m + n) bs
@@ -42,22 +42,23 @@ pub data IsGap : ℕ → List ℕ → Type 0 where
 abbrev pub NoToken : List ℕ → Type 0
 NoToken bs = (k : TokenKind) (n : ℕ) → n ≤ length bs → IsToken k (take n bs) → ⊥
 
--- a string begins here that has its end and is UTF-8, and its first backslash that begins no
--- escape stands so many bytes on
+-- a string begins at the head. It has an end and is UTF-8. Its first backslash that begins no
+-- escape comes after the given count of bytes.
 pub data HasBadEscape : ℕ → List ℕ → Type 0 where
   bad_escape : (i m : ℕ) (cs : List ℕ) → quote_len 0 cs ≡ Some (m + 1) → IsUtf8 (take m cs) → bad_at 0 (take m cs) ≡ Some i
       → HasBadEscape (i + 1) (34 ∷ cs)
 
--- a fault so many bytes on: no token starts at the head, and neither white space nor a comment;
--- the fault is told at the head itself, but in such a string at that backslash
+-- a fault that is reported `n` bytes after the head. The head begins no token, no white space and
+-- no comment. If it begins a string as in `HasBadEscape`, the fault is at the backslash of the bad
+-- escape. If not, the fault is at the head, so `n` is 0.
 pub record IsFault (n : ℕ) (bs : List ℕ) : Type 0 where
   pub some : bs ≢ []
   pub no_token : NoToken bs
   pub no_blank : (m : ℕ) → IsBlank m bs → ⊥
   pub place : ((n ≡ 0) × ((m : ℕ) → HasBadEscape m bs → ⊥)) ⊎ HasBadEscape n bs
 
--- bytes that begin at a place are white space, comments and these tokens in order, each the
--- longest at its place, and nothing else, up to their end or to a fault
+-- the bytes at place `at` are white space, comments and the tokens of the stream, in order, and
+-- nothing else, up to their end or to a fault. Each token is the longest at its place.
 abbrev pub Covers : ℕ → List ℕ → Stream → Type 0
 Covers at bs (end e) = IsGap (length bs) bs × (e ≡ at + length bs)
 Covers at bs (fault e) = (m n : ℕ) × IsGap m bs × IsFault n (drop m bs) × (e ≡ at + m + n)
@@ -69,13 +70,13 @@ Covers at bs (token k from to s) =
 abbrev pub TokensCover : Type 0
 TokensCover = (text : List ℕ) → Covers 0 text (lexed 0 text)
 
--- the byte of the fault at which the tokens end
+-- the byte of the fault at which the stream ends, if it ends at a fault
 abbrev pub fault_of : Stream → Option ℕ
 fault_of (end n) = None
 fault_of (fault n) = Some n
 fault_of (token k from to s) = fault_of s
 
--- at a fault no token starts: the byte that it names is the place, or lies in the string that
--- begins there
+-- no token starts at a fault. The byte that the fault names is that place, or a byte inside the
+-- string that begins there.
 abbrev pub NoTokenAtFault : Type 0
 NoTokenAtFault = (text : List ℕ) (e : ℕ) → fault_of (lexed 0 text) ≡ Some e → (at n : ℕ) × IsFault n (drop at text) × (e ≡ at + n)

@@ -1,22 +1,22 @@
--- Tokens as a reader knows them: which bytes as a whole are a token of a kind, and that a token is
--- the longest that stands at its place (Kore language document, lexical structure).
+-- Which bytes as a whole are a token of a kind, and that a token is the longest at its place (Kore
+-- language document, lexical structure).
 use Rattle.std.specs.Prelude.{◌≡◌, ◌≤◌, ◌-◌, ℕ, true, List, [], ◌∷◌, length, take, Some}
 use Rattle.kore_lex.specs.declared.lexer.TokenKind.{TokenKind}
 use Rattle.kore_lex.specs.declared.lexer.TokenKind.TheVariants.{Ident, SetIdent, Builtin, Text, Punct, Assign, End}
 use Rattle.kore_lex.specs.Pieces.{is_letter, is_word, is_mark, quote_len}
 use Rattle.kore_lex.specs.Escapes.{IsInner}
 
--- letters, digits, `'` and `-`
+-- each byte is a letter, a digit, `'` or `-`
 abbrev pub AllWord : List ℕ → Type 0
 AllWord [] = Unit {0}
 AllWord (c ∷ cs) = (is_word c ≡ true) × AllWord cs
 
--- an identifier: a letter, and then those
+-- an identifier: a letter, and then letters, digits, `'` and `-`
 abbrev pub IsName : List ℕ → Type 0
 IsName [] = ⊥
 IsName (c ∷ cs) = (is_letter c ≡ true) × AllWord cs
 
--- the bytes are one token of the kind; in a string the quote that ends it is the last byte
+-- the bytes are one token of the kind; in a string, the quote that ends it is the last byte
 abbrev pub IsToken : TokenKind → List ℕ → Type 0
 IsToken k [] = ⊥
 IsToken Ident (c ∷ cs) = IsName (c ∷ cs)
@@ -27,6 +27,6 @@ IsToken (Punct d) (c ∷ cs) = (c ≡ d) × (is_mark c ≡ true) × (cs ≡ [])
 IsToken Assign (c ∷ cs) = (c ≡ 58) × (cs ≡ 61 ∷ [])
 IsToken End (c ∷ cs) = ⊥
 
--- so many bytes at the head are a token of the kind, and no more bytes are a token of any kind
+-- the first `n` bytes are a token of the kind `k`, and no longer prefix is a token of any kind
 abbrev pub IsLongest : TokenKind → ℕ → List ℕ → Type 0
 IsLongest k n bs = IsToken k (take n bs) × ((j : TokenKind) (m : ℕ) → m ≤ length bs → IsToken j (take m bs) → m ≤ n)

@@ -16,8 +16,9 @@ abbrev pub unescaped : (ℕ → List ℕ) → Option Escape → List ℕ
 unescaped more None = more 0
 unescaped more (Some e) = encode_utf8 e.character ++ more e.len
 
--- the text of the bytes between the quotes, where so many bytes at the head belong to an escape
--- that has been read: each escape is its character in UTF-8, and each other byte is itself
+-- the text of the bytes between the quotes: each escape becomes its character in UTF-8, and each
+-- other byte stays. The first argument is how many bytes at the head belong to an escape that has
+-- been read.
 unfoldable pub plain : ℕ → List ℕ → List ℕ
 plain n [] = []
 plain (suc n) (c ∷ cs) = plain n cs

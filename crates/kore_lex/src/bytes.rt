@@ -10,7 +10,7 @@ pub(crate) fn is_space(byte: u8) -> bool
     byte == b' ' || byte == b'\t' || byte == b'\r' || byte == b'\n'
 }
 
-/// A letter of ASCII.
+/// An ASCII letter.
 pub(crate) fn is_letter(byte: u8) -> bool
     ensures { result ≡ is_letter byte }
 {
@@ -54,14 +54,14 @@ pub(crate) fn first(bytes: &[u8], len: usize) -> &[u8]
     &bytes[..len]
 }
 
-/// The bytes of the word that goes on at the head.
+/// How many bytes of a name there are at the head, after its first letter.
 pub(crate) fn word_len(bytes: &[u8]) -> usize
     ensures { result ≡ word_len bytes.now }
 {
     bytes.iter().take_while(|byte| is_word(**byte)).count()
 }
 
-/// The bytes up to the end of the line, without it.
+/// How many bytes there are before the end of the line.
 pub(crate) fn line_len(bytes: &[u8]) -> usize
     ensures { result ≡ line_len bytes.now }
 {

@@ -6,7 +6,7 @@ ghost use Rattle.kore_lex.specs.Steps.{unit_len};
 
 use crate::bytes::behind;
 
-/// The greatest scalar value of Unicode.
+/// The greatest Unicode scalar value.
 const LAST_CHAR: u32 = 0x10_FFFF;
 
 /// An escape, without its backslash.
@@ -14,7 +14,7 @@ const LAST_CHAR: u32 = 0x10_FFFF;
 pub(crate) struct Escape {
     /// The character that it stands for.
     pub(crate) character: char,
-    /// Its bytes after the backslash.
+    /// How many bytes it has after the backslash.
     pub(crate) len: usize,
 }
 
@@ -33,7 +33,7 @@ fn hex_digit(byte: u8) -> Option<u32>
     }
 }
 
-/// The character whose number stands at the head in so many hexadecimal digits.
+/// The character whose number is the first `digits` hexadecimal digits.
 fn hex_number(digits: usize, bytes: &[u8]) -> Option<char>
     ensures value { result ≡ hex_number digits 0 bytes.now }
     ensures within { OnSome result (digits ≤ length bytes.now) }
@@ -48,7 +48,7 @@ fn hex_number(digits: usize, bytes: &[u8]) -> Option<char>
     char::from_u32(number)
 }
 
-/// The escape by a number of so many digits, after its letter.
+/// The escape by a number of `digits` hexadecimal digits, after its letter.
 fn numbered(digits: usize, bytes: &[u8]) -> Option<Escape>
     requires { digits < 2 ^ 32 }
     ensures value { result ≡ numbered digits bytes.now }
@@ -63,14 +63,14 @@ fn numbered(digits: usize, bytes: &[u8]) -> Option<Escape>
     }
 }
 
-/// The escape of one letter.
+/// The escape of one letter, which stands for this character.
 fn single(character: char) -> Option<Escape>
     ensures { result ≡ single character }
 {
     Some(Escape { character, len: 1 })
 }
 
-/// The escape that begins here, after a backslash.
+/// The escape at the head, after its backslash.
 #[tactic(auto, unfolding(crate::specs::Escapes::escape))]
 pub(crate) fn escape_at(bytes: &[u8]) -> Option<Escape>
     ensures value { result ≡ escape bytes.now }
@@ -93,8 +93,8 @@ pub(crate) fn escape_at(bytes: &[u8]) -> Option<Escape>
     }
 }
 
-/// The bytes of what stands at the head of a string's inner part: a byte or an escape; nothing
-/// where a backslash begins no escape.
+/// How many bytes the unit at the head has inside a string. A unit is a byte, or an escape with its
+/// backslash. There is none at a backslash that begins no escape.
 fn unit_len(bytes: &[u8]) -> Option<usize>
     requires some { 0 < length bytes.now }
     requires small { length bytes.now < 2 ^ 32 }
@@ -110,7 +110,7 @@ fn unit_len(bytes: &[u8]) -> Option<usize>
     }
 }
 
-/// The byte of the first backslash that begins no escape.
+/// How many bytes there are before the first backslash that begins no escape, if there is one.
 pub(crate) fn bad_at(body: &[u8]) -> Option<usize>
     requires { length body.now < 2 ^ 32 }
     ensures value { result ≡ bad_at 0 body.now }

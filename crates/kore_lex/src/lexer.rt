@@ -1,4 +1,4 @@
-// The lexer: the tokens of a text, one after the other.
+// The lexer: it takes the tokens of a text one after the other.
 
 ghost use Rattle.std.specs.Prelude.{◌≡◌, ◌≢◌, ◌≤◌, ◌<◌, ◌+◌, ◌-◌, ◌^◌, length, take, drop, IfOk};
 ghost use Rattle.kore_lex.specs.Lexed.{left, head, tail};
@@ -29,8 +29,8 @@ pub enum TokenKind {
     End,
 }
 
-/// A token and where it stands: the byte of its first byte, and the byte after its last. At the
-/// end both are the length of the text.
+/// A token and its place: its first byte, and the byte after its last. For `End` both are the
+/// length of the text.
 #[derive(Clone, Copy, PartialEq, Eq)]
 pub struct Token {
     pub kind: TokenKind,
@@ -38,15 +38,17 @@ pub struct Token {
     pub to: u32,
 }
 
-/// What is no token: the byte at which no token starts, the first byte of a comment or string
-/// without an end, or of a string with bytes that are no UTF-8, or, in any other string, the
-/// first backslash that begins no escape.
+/// The place of something that is no token. It is one of these:
+/// - a byte at which no token, white space or comment starts,
+/// - the first byte of a comment or string without an end,
+/// - the first byte of a string that is not UTF-8,
+/// - in any other string, the first backslash that begins no escape.
 #[derive(Clone, Copy, PartialEq, Eq)]
 pub struct LexFault {
     pub at: u32,
 }
 
-/// A text of which some tokens are taken. A contract sees the text and the byte up to which it is
+/// A text of which some tokens were taken. A contract sees the text and the byte up to which it was
 /// taken.
 #[derive(Drop)]
 pub struct Lexer<'a> {
@@ -66,7 +68,7 @@ impl<'a> Model for Lexer<'a> {
 }
 
 impl<'a> Lexer<'a> {
-    /// The whole text, of fewer than 2^32 bytes.
+    /// A lexer of the whole text, which has fewer than 2^32 bytes.
     pub fn new(text: &'a [u8]) -> Lexer<'a>
         requires { length text.now < 2 ^ 32 }
         ensures text { result.text ≡ text.now }
@@ -75,7 +77,7 @@ impl<'a> Lexer<'a> {
         Lexer { text, at: 0 }
     }
 
-    /// Another lexer of the text, which goes on from the same place by itself.
+    /// Another lexer of the same text, at the same place. The two are independent.
     pub fn fork(&self) -> Lexer<'a>
         ensures { result ≡ self.now }
     {
@@ -85,8 +87,10 @@ impl<'a> Lexer<'a> {
         }
     }
 
-    /// Takes the next token. At the end and at a fault nothing is taken, so the same answer comes
-    /// again. Takes no memory; the whole text is read in a time linear in its length.
+    /// Takes the next token and returns it. Error: the fault, if no token starts here.
+    ///
+    /// At the end and at a fault no token is taken, so the next call returns the same. It allocates
+    /// nothing. Reading the whole text takes time linear in its length.
     pub fn next(&mut self) -> Result<Token, LexFault>
         ensures token { result ≡ head (left self.old) }
         ensures rest { left self.new ≡ tail (left self.old) }
@@ -114,7 +118,7 @@ impl<'a> Lexer<'a> {
     }
 }
 
-/// The token of so many bytes that stands at this byte.
+/// The token of `len` bytes whose first byte is `from`.
 fn token_at(kind: TokenKind, from: usize, len: usize) -> Token
     requires { from + len < 2 ^ 32 }
     ensures kind { result.kind ≡ kind }

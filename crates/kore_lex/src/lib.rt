@@ -1,10 +1,10 @@
 // The tokens of Kore text.
 //
-// `Lexer` cuts bytes into the tokens of the Kore language document, and `text_value` gives the
-// text that a string token stands for. The definitions stand in `specs/`: `Escapes` and `Pieces`
-// say what stands at the head of bytes, `Lexed` gives the tokens of a text, `Tokens` says which
-// bytes are a token, and `Value` is the text of a string. `TokenLaws` has laws on these, which are
-// the contract of `token_laws`. `Steps` has what only private functions cite.
+// `Lexer` cuts bytes into the tokens of the Kore language document. `text_value` returns the text
+// that a string token stands for. The definitions are in `specs/`. `Escapes` and `Pieces` say what
+// is at the head of bytes. `Lexed` gives the tokens of a text, `Tokens` says which bytes are a
+// token, and `Value` is the text of a string. `TokenLaws` has laws on these; they are the contract
+// of `token_laws`. Only private functions cite `Steps`.
 #![tactic(auto)]
 
 mod bytes;

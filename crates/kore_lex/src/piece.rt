@@ -1,4 +1,5 @@
-// What stands at the head of bytes: white space, a comment, a token, or what begins none.
+// What is at the head of bytes: white space, a comment, a token, or something that begins none of
+// these.
 
 ghost use Rattle.std.specs.Prelude.{◌≡◌, ◌<◌, ◌^◌, ◌+◌, ◌≤◌, length, IfSome};
 ghost use Rattle.kore_lex.specs.Pieces.{ends_block, block_len, passed, quote_len, body_piece, comment, string, named, colon, piece};
@@ -7,27 +8,27 @@ use crate::bytes::{behind, first, is_letter, is_mark, is_space, line_len, word_l
 use crate::escape::bad_at;
 use crate::lexer::TokenKind;
 
-/// What stands at the head of bytes.
+/// What is at the head of bytes.
 #[derive(Clone, Copy)]
 pub(crate) enum Piece {
     /// There are no bytes.
     Nothing,
-    /// White space or a comment, of so many bytes.
+    /// White space or a comment of this many bytes.
     Gap(usize),
-    /// A token of so many bytes.
+    /// A token of this kind and of this many bytes.
     Whole(TokenKind, usize),
-    /// A fault, so many bytes on.
+    /// A fault, this many bytes after the head.
     Bad(usize),
 }
 
-/// Whether these two bytes end a block comment.
+/// Whether these two bytes are `*/`, the end of a block comment.
 fn ends_block(first: u8, second: u8) -> bool
     ensures { result ≡ ends_block first second }
 {
     first == b'*' && second == b'/'
 }
 
-/// The bytes up to and with the first `*/`.
+/// How many bytes there are up to and including the first `*/`.
 fn block_len(bytes: &[u8]) -> Option<usize>
     requires { length bytes.now < 2 ^ 32 }
     ensures value { result ≡ block_len bytes.now }
@@ -43,14 +44,14 @@ fn block_len(bytes: &[u8]) -> Option<usize>
     None
 }
 
-/// The bytes that stand together with this one in a string: one after a backslash.
+/// How many bytes after this one belong to it in a string: one after a backslash, else none.
 fn passed(byte: u8) -> usize
     ensures { result ≡ passed byte }
 {
     if byte == b'\\' { 1 } else { 0 }
 }
 
-/// The bytes up to and with the quote that ends a string.
+/// How many bytes there are up to and including the quote that ends a string.
 fn quote_len(bytes: &[u8]) -> Option<usize>
     requires { length bytes.now < 2 ^ 32 }
     ensures value { result ≡ quote_len 0 bytes.now }
@@ -66,7 +67,7 @@ fn quote_len(bytes: &[u8]) -> Option<usize>
     None
 }
 
-/// Behind a slash.
+/// The piece that a slash begins, by the bytes after the slash.
 fn comment(bytes: &[u8]) -> Piece
     requires { length bytes.now < 2 ^ 32 }
     ensures { result ≡ comment bytes.now }
@@ -84,7 +85,7 @@ fn comment(bytes: &[u8]) -> Piece
     }
 }
 
-/// A string of which this stands between the quotes.
+/// The piece of a string with these bytes between its quotes.
 fn body_piece(body: &[u8]) -> Piece
     requires { length body.now < 2 ^ 32 }
     ensures { result ≡ body_piece body.now }
@@ -98,7 +99,7 @@ fn body_piece(body: &[u8]) -> Piece
     }
 }
 
-/// Behind a quote.
+/// The piece that a quote begins, by the bytes after the quote.
 fn string(bytes: &[u8]) -> Piece
     requires { length bytes.now < 2 ^ 32 }
     ensures { result ≡ string bytes.now }
@@ -109,7 +110,7 @@ fn string(bytes: &[u8]) -> Piece
     }
 }
 
-/// A name of this kind, after its first byte.
+/// The piece of a name of this kind, by the bytes after its first byte `@` or `\`.
 fn named(kind: TokenKind, bytes: &[u8]) -> Piece
     requires { length bytes.now < 2 ^ 32 }
     ensures { result ≡ named kind bytes.now }
@@ -120,7 +121,7 @@ fn named(kind: TokenKind, bytes: &[u8]) -> Piece
     Piece::Whole(kind, word_len(behind(bytes, 1)) + 2)
 }
 
-/// Behind a colon.
+/// The piece that a colon begins, by the bytes after the colon.
 fn colon(bytes: &[u8]) -> Piece
     ensures { result ≡ colon bytes.now }
 {
@@ -131,7 +132,7 @@ fn colon(bytes: &[u8]) -> Piece
     }
 }
 
-/// What stands at the head of these bytes.
+/// The piece at the head of these bytes.
 #[tactic(auto, unfolding(crate::specs::Pieces::piece))]
 pub(crate) fn piece_at(bytes: &[u8]) -> Piece
     requires { length bytes.now < 2 ^ 32 }

@@ -9,8 +9,8 @@ use crate::bytes::{behind, first};
 use crate::escape::escape_at;
 use std::alloc::{AllocError, Global};
 
-/// The text of a whole string token, without its quotes: each escape is its character. It takes
-/// a time linear in the length of the token.
+/// The text of a whole string token, without its quotes. Each escape becomes its character. Fails
+/// only if memory runs out. Time is linear in the length of the token.
 pub fn text_value(alloc: Global, token: &[u8]) -> Result<String, AllocError>
     requires whole { IsString token.now }
     ensures { IfOk result (λ text. string_bytes text ≡ value token.now) }
@@ -24,7 +24,7 @@ pub fn text_value(alloc: Global, token: &[u8]) -> Result<String, AllocError>
     Ok(text)
 }
 
-/// What stands between the quotes.
+/// The bytes between the quotes.
 fn inner(token: &[u8]) -> &[u8]
     requires { IsString token.now }
     ensures bytes { result.now ≡ take (length token.now - 2) (drop 1 token.now) }
@@ -33,15 +33,15 @@ fn inner(token: &[u8]) -> &[u8]
     first(behind(token, 1), token.len() - 2)
 }
 
-/// The bytes before the first backslash.
+/// How many bytes there are before the first backslash.
 fn run_len(bytes: &[u8]) -> usize
     ensures { result ≡ run_len bytes.now }
 {
     bytes.iter().take_while(|byte| **byte != b'\\').count()
 }
 
-/// Appends what the head stands for, up to the next backslash or one escape, and answers its
-/// bytes.
+/// Appends what the bytes at the head stand for: one escape, or the bytes up to the next backslash.
+/// Returns how many bytes it took.
 fn take_some(text: &mut String, bytes: &[u8]) -> Result<usize, AllocError>
     requires some { 0 < length bytes.now }
     requires inner { IsInner bytes.now }
@@ -54,7 +54,7 @@ fn take_some(text: &mut String, bytes: &[u8]) -> Result<usize, AllocError>
     }
 }
 
-/// Appends the character of the escape at the head.
+/// Appends the character of the escape at the head. Returns how many bytes the escape has.
 fn take_escape(text: &mut String, bytes: &[u8]) -> Result<usize, AllocError>
     requires some { 0 < length bytes.now }
     requires begins { slice_index bytes.now 0 ≡ 92 }
@@ -70,7 +70,7 @@ fn take_escape(text: &mut String, bytes: &[u8]) -> Result<usize, AllocError>
     }
 }
 
-/// Appends the bytes before the first backslash.
+/// Appends the bytes before the first backslash. Returns how many they are.
 fn take_run(text: &mut String, bytes: &[u8]) -> Result<usize, AllocError>
     requires some { 0 < length bytes.now }
     requires begins { slice_index bytes.now 0 ≢ 92 }

@@ -1,4 +1,4 @@
--- Laws of the guard of kompile's form.
+-- Laws on the guard of kompile's form.
 use Rattle.std.proofs.Common.{◌≡◌, List, [], ◌∷◌, ◌++◌, refl, ap, sym, ◌∙◌}
 use Rattle.std.specs.Prelude.{Option, Some, None, option_map}
 use Rattle.std.specs.Option.{option_and_then}
@@ -18,7 +18,7 @@ in_front : (ys : List PatternTree) (p : PatternTree) (o : Option (List PatternTr
 in_front ys p None = refl
 in_front ys p (Some ps) = ap Some (append_assoc ys (p ∷ []) ps)
 
--- one entry more after patterns that are found
+-- one more entry after the patterns that were found
 pub members-next : (ys : List PatternTree) (r : SortTree) (x : PatternTree) (xs : List PatternTree) (g p rest : PatternTree) → entry r x g ≡ Some (p, rest)
     → option_map (λ (ps : List PatternTree). (ys ++ p ∷ []) ++ ps) (members r xs rest) ≡ option_map (λ (ps : List PatternTree). ys ++ ps) (members r (x ∷ xs) g)
 members-next ys r x xs g p rest found =

@@ -1,4 +1,4 @@
--- Laws of sorts that are written alike.
+-- Laws on sorts that are written the same.
 use Rattle.std.proofs.Common.{◌≡◌, suc, Bool, true, false, ◌&&◌, List, [], ◌∷◌, length, refl, ap, ◌∙◌}
 use Rattle.kore_text.specs.Trees.{SortTree, sort_trees}
 use Rattle.kore_shapes.specs.SameSorts.{same_sort, same_sorts}
@@ -7,7 +7,7 @@ and_false : (a : Bool) → (a && false) ≡ false
 and_false true = refl
 and_false false = refl
 
--- lists of different lengths are not written alike
+-- lists of different lengths are not written the same
 pub other_lengths : (ss ts : List SortTree) → (length ss ≡ length ts → ⊥) → same_sorts (sort_trees ss) (sort_trees ts) ≡ false
 other_lengths [] [] differ = absurd (differ refl)
 other_lengths [] (t ∷ ts) differ = refl

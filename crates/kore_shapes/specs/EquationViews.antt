@@ -1,4 +1,4 @@
--- Patterns that are borrowed one by one.
+-- The list of patterns that are borrowed one by one.
 use Rattle.std.specs.Prelude.{List, map}
 use Rattle.std.specs.Borrow.{Bor}
 use Rattle.std.specs.Global.{Vec}

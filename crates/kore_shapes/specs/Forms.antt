@@ -1,5 +1,5 @@
--- Which forms stand in a pattern once its folds are read: a fold of one argument is that argument, and its head is
--- not looked at.
+-- Which forms occur in a pattern after its folds are read. A fold of one argument is that argument,
+-- and its head is ignored.
 use Rattle.std.specs.Prelude.{ℕ, List, [], ◌∷◌, Bool, true, false, not, ◌||◌, ◌&&◌}
 use Rattle.kore_text.specs.Trees.{PatternTree, element_variable, set_variable, string, symbol_applied, connected}
 use Rattle.kore_text.specs.Trees.{binding, domain_value, folded, PatternTrees, no_patterns, pattern_then}
@@ -12,37 +12,37 @@ abbrev pub is_and : Op → Bool
 is_and And = true
 is_and op = false
 
--- Which forms are looked for: `\and`; all others than that of a variable, an application, a domain value, a fold or a
--- binder; or all of these.
+-- Which forms are sought: `\and`; all forms other than `\and`, a variable, an application, a domain
+-- value, a fold and a binder; or both.
 pub data Sought : Type 0 where
   conjunctions : Sought
   others : Sought
   all_forms : Sought
 
--- the connective is one of these forms
+-- the connective is one of the sought forms
 abbrev pub covers : Sought → Op → Bool
 covers conjunctions op = is_and op
 covers others op = not (is_and op)
 covers all_forms op = true
 
--- a string is one, and so is a fold of what cannot be folded
+-- strings, and folds of something that cannot be folded, are among the sought forms
 abbrev pub covers_others : Sought → Bool
 covers_others conjunctions = false
 covers_others others = true
 covers_others all_forms = true
 
--- there is one pattern
+-- there is exactly one pattern
 abbrev pub is_one : List PatternTree → Bool
 is_one [] = false
 is_one (p ∷ []) = true
 is_one (p ∷ (q ∷ ps)) = false
 
--- there is none
+-- there is no pattern
 abbrev pub is_none : List PatternTree → Bool
 is_none [] = true
 is_none (p ∷ ps) = false
 
--- one of these forms stands in the pattern
+-- one of the sought forms occurs in the pattern, or (`have_form`) in one of the patterns
 abbrev mutual
   pub has_form : Sought → PatternTree → Bool
   has_form sought (element_variable at n s) = false
@@ -58,7 +58,8 @@ abbrev mutual
   have_form sought no_patterns = false
   have_form sought (pattern_then p ps) = has_form sought p || have_form sought ps
 
-  -- .. in the fold of this pattern, which is an application or a connective with an argument
+  -- one of the sought forms occurs in the fold of this pattern; a fold can be of an application, or
+  -- of a connective, with an argument
   pub fold_has_form : Sought → PatternTree → Bool
   fold_has_form sought (element_variable at n s) = covers_others sought
   fold_has_form sought (set_variable at n s) = covers_others sought
@@ -71,7 +72,8 @@ abbrev mutual
   fold_has_form sought (domain_value at s text place) = covers_others sought
   fold_has_form sought (folded at left p) = covers_others sought
 
--- a quantifier, `\mu`, `\nu` or a set variable stands in the pattern
+-- a quantifier, `\mu`, `\nu` or a set variable occurs in the pattern, or (`have_binder`) in one of
+-- the patterns
 abbrev mutual
   pub has_binder : PatternTree → Bool
   has_binder (element_variable at n s) = false

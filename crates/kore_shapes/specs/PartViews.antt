@@ -1,4 +1,4 @@
--- The parts of an equation that the program's borrowed parts are.
+-- The parts of an equation that borrowed parts of the program stand for.
 use Rattle.std.specs.Prelude.{map, option_map}
 use Rattle.kore_ast.specs.Plain.{plain_pattern}
 use Rattle.kore_shapes.specs.declared.equations.EquationParts.{EquationParts}

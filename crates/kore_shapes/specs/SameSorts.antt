@@ -1,4 +1,4 @@
--- Sorts and variables that are written alike. Places in the text are left aside.
+-- Sorts and variables that are written the same. Places in the text are ignored.
 use Rattle.std.specs.Prelude.{ℕ, List, Bool, true, false, ◌&&◌}
 use Rattle.std.specs.Str.{bytes_eq}
 use Rattle.kore_text.specs.Trees.{SortTree, sort_parameter, sort_applied, SortTrees, no_sorts, sort_then, PatternTree}

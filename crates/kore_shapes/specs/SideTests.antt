@@ -1,4 +1,4 @@
--- What is looked for beside a side of a rule.
+-- The test for what is next to a side of a rule.
 use Rattle.std.specs.Prelude.{Bool}
 use Rattle.kore_text.specs.Trees.{PatternTree}
 use Rattle.kore_shapes.specs.declared.shapes.Companion.{Companion}

@@ -1,4 +1,4 @@
--- Which forms are looked for.
+-- Which forms are sought.
 use Rattle.kore_shapes.specs.declared.forms.SoughtForms.{SoughtForms}
 use Rattle.kore_shapes.specs.declared.forms.SoughtForms.TheVariants as forms
 use Rattle.kore_shapes.specs.Forms.{Sought, conjunctions, others, all_forms}

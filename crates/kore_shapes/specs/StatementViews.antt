@@ -1,4 +1,4 @@
--- The parts of trees that the program's borrowed parts of equations are.
+-- The parts of trees that borrowed parts of equations of the program stand for.
 use Rattle.std.specs.Prelude.{ℕ, List, map, option_map}
 use Rattle.std.specs.Borrow.{Bor}
 use Rattle.kore_text.specs.Trees.{PatternTree}

@@ -1,5 +1,5 @@
--- How kompile writes the equations of functions: `\equals{S,R}(f{}(..),d)`, alone or after a guard in an
--- `\implies{R}(g,..)`.
+-- How kompile writes the equations of functions: `\equals{S,R}(f{}(..),d)`, alone or after a guard
+-- in `\implies{R}(g,..)`.
 use Rattle.std.specs.Prelude.{ℕ, List, [], ◌∷◌, if◌then◌else◌, Option, Some, None, option_map}
 use Rattle.std.specs.Option.{option_and_then}
 use Rattle.kore_text.specs.Trees.{SortTree, listed_sorts, PatternTree, symbol_applied, connected, listed_patterns}
@@ -7,7 +7,7 @@ use Rattle.kore_text.specs.declared.names.Op.{Op}
 use Rattle.kore_text.specs.declared.names.Op.TheVariants.{Implies, Equals}
 use Rattle.kore_shapes.specs.SameSorts.{same_sort}
 
--- `\equals{S,R}(f{}(..),d)`, with the guard in front of it where there is one
+-- `\equals{S,R}(f{}(..),d)`, with the guard before it if there is one
 pub record Statement : Type 0 where
   pub guard : Option PatternTree
   pub sort : SortTree
@@ -38,7 +38,7 @@ abbrev pub equality : PatternTree → Option Statement
 equality (connected at op ss ps) = equality_with op (listed_sorts ss) (listed_patterns ps)
 equality p = None
 
--- the statement under this guard, where it is over the same sort
+-- the statement under this guard; none if its sort R is another one than the guard's
 abbrev pub guarded : SortTree → PatternTree → Statement → Option Statement
 guarded r g e = if same_sort r e.over then Some (record e { guard = Some g }) else None
 

@@ -1,4 +1,4 @@
--- The parts of trees that the program's borrowed parts are.
+-- The parts of trees that borrowed parts of the program stand for.
 use Rattle.std.specs.Borrow.{Bor}
 use Rattle.kore_text.specs.Trees.{PatternTree}
 use Rattle.kore_ast.specs.declared.tree.Pat.{Pat}

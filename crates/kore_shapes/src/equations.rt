@@ -40,7 +40,7 @@ fn top_with(op: Op, sorts: &[Sort], args: &[Pat], sort: &Sort) -> bool
     }
 }
 
-/// The two patterns of `\and{S}(p,q)` of this sort S; none of any other pattern.
+/// The two patterns of `\and{S}(p,q)` of this sort S. Returns none for any other pattern.
 fn conjuncts<'a>(pat: &'a Pat, sort: &Sort) -> Option<(&'a Pat, &'a Pat)>
     ensures { option_map plain_pair result ≡ the_conjuncts (plain_sort sort.now) (plain_pattern pat.now) }
 {
@@ -65,7 +65,7 @@ fn conjuncts_with<'a>(
     }
 }
 
-/// The right side: of `\and{S}(r,\top{S}())` the pattern r, of any other pattern that itself.
+/// The right side: r for `\and{S}(r,\top{S}())`, and any other pattern itself.
 fn right_side<'a>(value: &'a Pat, sort: &Sort) -> &'a Pat
     ensures { plain_pattern result.now ≡ the_right_side (plain_sort sort.now) (plain_pattern value.now) }
 {
@@ -75,7 +75,7 @@ fn right_side<'a>(value: &'a Pat, sort: &Sort) -> &'a Pat
     }
 }
 
-/// Whether both patterns are one element variable of this sort.
+/// Whether both patterns are the same element variable and it has this sort.
 fn is_member(sort: &Sort, variable: &Pat, pat: &Pat) -> bool
     ensures { result ≡ is_the_member (plain_sort sort.now) (plain_pattern variable.now) (plain_pattern pat.now) }
 {
@@ -85,7 +85,8 @@ fn is_member(sort: &Sort, variable: &Pat, pat: &Pat) -> bool
     }
 }
 
-/// The pattern p of `\in{S,R}(X,p)` over this sort R, for this variable X; none of any other pattern.
+/// The pattern p of `\in{S,R}(X,p)` over this sort R, for this variable X. Returns none for any
+/// other pattern.
 fn member<'a>(pat: &'a Pat, over: &Sort, variable: &Pat) -> Option<&'a Pat>
     ensures { option_map pattern_at result
         ≡ the_member (plain_sort over.now) (plain_pattern variable.now) (plain_pattern pat.now) }
@@ -114,7 +115,8 @@ fn member_with<'a>(
     }
 }
 
-/// The pattern p and the rest G of `\and{R}(\in{S,R}(X,p),G)` over this sort R, for this variable X.
+/// The pattern p and the rest G of `\and{R}(\in{S,R}(X,p),G)` over this sort R, for this variable
+/// X. Returns none for any other pattern.
 fn entry<'a>(guard: &'a Pat, over: &Sort, variable: &Pat) -> Option<(&'a Pat, &'a Pat)>
     ensures { option_map plain_pair result
         ≡ the_entry (plain_sort over.now) (plain_pattern variable.now) (plain_pattern guard.now) }
@@ -124,8 +126,9 @@ fn entry<'a>(guard: &'a Pat, over: &Sort, variable: &Pat) -> Option<(&'a Pat, &'
     Some((pattern, rest))
 }
 
-/// What a guard says the variables to be members of: the patterns p0, p1, .. of
-/// `\and{R}(\in{S0,R}(X0,p0),\and{R}(\in{S1,R}(X1,p1),..\top{R}()))`; none where the guard is not so.
+/// The patterns of which a guard says that the variables are members: p0, p1, .. of
+/// `\and{R}(\in{S0,R}(X0,p0),\and{R}(\in{S1,R}(X1,p1),..\top{R}()))`. Returns none if the guard has
+/// another form.
 fn members<'a>(
     alloc: Global,
     guard: &'a Pat,
@@ -151,7 +154,7 @@ fn members<'a>(
     }
 }
 
-/// Whether an element variable of this name and sort stands in the pattern.
+/// Whether an element variable of this name and sort occurs in the pattern.
 #[cycle(variable)]
 fn has_variable(pat: &Pat, name: &str, sort: &Sort) -> bool
     ensures { result ≡ has_one name.now (plain_sort sort.now) (plain_pattern pat.now) }
@@ -179,7 +182,7 @@ fn have_variable(pats: &[Pat], name: &str, sort: &Sort) -> bool
     false
 }
 
-/// Whether a variable stands in one of the patterns.
+/// Whether the variable occurs in one of the patterns.
 fn is_in(name: &str, sort: &Sort, pats: &[Pat]) -> bool
     ensures { result ≡ list_any (has_one name.now (plain_sort sort.now)) (map plain_pattern pats.now) }
 {
@@ -191,7 +194,7 @@ fn is_in(name: &str, sort: &Sort, pats: &[Pat]) -> bool
     false
 }
 
-/// The same of patterns that are borrowed one by one.
+/// The same for patterns that are borrowed one by one.
 fn is_beside(name: &str, sort: &Sort, pats: &[&Pat]) -> bool
     ensures { result ≡ list_any (has_one name.now (plain_sort sort.now)) (map pattern_at pats.now) }
 {
@@ -203,8 +206,8 @@ fn is_beside(name: &str, sort: &Sort, pats: &[&Pat]) -> bool
     false
 }
 
-/// Whether the pattern is an element variable that stands in none of the others: those after it, c, d, and those that
-/// the guard gives.
+/// Whether the pattern is an element variable that occurs in none of the others: those after it,
+/// the condition, the value, and the patterns of the guard.
 fn stands_apart(
     variable: &Pat,
     later: &[Pat],
@@ -228,8 +231,9 @@ fn stands_apart(
     }
 }
 
-/// Whether the variables are element variables, each of which stands in none of those after it and in none of the
-/// other patterns. It goes through all patterns once for each variable; a function has at most 64 arguments.
+/// Whether the variables are element variables, and each of them occurs neither in those after it
+/// nor in the other patterns. It goes through all patterns once for each variable. A function has
+/// at most 64 arguments.
 fn stand_apart(variables: &[Pat], condition: &Pat, value: &Pat, patterns: &[&Pat]) -> bool
     ensures { result ≡ do_stand_apart (map plain_pattern variables.now) (plain_pattern condition.now
         ∷ (plain_pattern value.now ∷ map pattern_at patterns.now)) }
@@ -251,17 +255,17 @@ fn stand_apart(variables: &[Pat], condition: &Pat, value: &Pat, patterns: &[&Pat
 /// What an equation states.
 #[derive(Drop)]
 pub struct EquationParts<'a> {
-    /// The variables that its function is applied to, where it has kompile's form; else none.
+    /// The variables that its function is applied to, if it has kompile's form; else none.
     pub parameters: &'a [Pat],
     /// The patterns that the arguments of its function match.
     pub patterns: Vec<&'a Pat>,
-    /// Its condition, where it is written.
+    /// Its condition, if one is written.
     pub condition: Option<&'a Pat>,
     /// Its right side.
     pub right: &'a Pat,
 }
 
-/// The direct form: the guard is the condition.
+/// The direct form: the guard, if there is one, is the condition.
 fn direct<'a>(
     alloc: Global,
     stated: &Statement<'a>,
@@ -289,7 +293,8 @@ fn borrowed<'a>(alloc: Global, pats: &'a [Pat]) -> Result<Vec<&'a Pat>, AllocErr
     Ok(all)
 }
 
-/// kompile's form with the condition c and these patterns, where its variables stand in no other place.
+/// kompile's form with this condition and these patterns. Returns none if a variable of its left
+/// side occurs anywhere else.
 fn kompiled<'a>(
     stated: &Statement<'a>,
     condition: &'a Pat,
@@ -309,8 +314,8 @@ fn kompiled<'a>(
     })
 }
 
-/// The parts of an equation; none where it has neither form. Of the time: it is linear in the equation for each
-/// argument of its left side.
+/// The parts of an equation. Returns none if it has neither form. Fails only if memory runs out.
+/// For each argument of the left side, time is linear in the size of the equation.
 pub fn equation_parts<'a>(
     alloc: Global,
     stated: &Statement<'a>,

@@ -1,4 +1,4 @@
-// Which forms stand in a pattern.
+// Which forms occur in a pattern.
 ghost use Rattle.std.specs.Prelude.{◌≡◌, ◌&&◌, not, map};
 ghost use Rattle.kore_text.specs.Trees.{pattern_trees};
 ghost use Rattle.kore_ast.specs.Plain.{plain_pattern};
@@ -10,10 +10,10 @@ ghost use Rattle.kore_shapes.specs.SoughtForms.{sought as sought_forms};
 
 use kore_ast::{Op, Pat, PatForm};
 
-/// Forms of patterns that are neither a variable, an application, a domain value, a fold nor a binder.
+/// Forms of patterns other than a variable, an application, a domain value, a fold and a binder.
 #[derive(Clone, Copy, PartialEq, Eq)]
 pub enum SoughtForms {
-    /// `\and` alone.
+    /// Only `\and`.
     Conjunctions,
     /// All but `\and`.
     Others,
@@ -41,8 +41,8 @@ fn covers_others(sought: SoughtForms) -> bool
     }
 }
 
-/// Whether one of these forms stands in the pattern, at any depth. Folds are read: the head of a fold of one argument
-/// is not looked at. It goes through the pattern once.
+/// Whether one of these forms occurs in the pattern, at any depth. Folds are read, so the head of a
+/// fold of one argument is ignored. It goes through the pattern once.
 #[cycle(forms)]
 pub fn has_form(pat: &Pat, sought: SoughtForms) -> bool
     ensures { result ≡ has_one (sought_forms sought) (plain_pattern pat.now) }
@@ -69,7 +69,8 @@ fn have_form(pats: &[Pat], sought: SoughtForms) -> bool
     false
 }
 
-/// .. in the fold of this pattern, which is an application or a connective with an argument.
+/// Whether one of these forms occurs in the fold of this pattern. A fold can be of an application,
+/// or of a connective, with an argument.
 #[cycle(forms)]
 fn fold_has_form(pat: &Pat, sought: SoughtForms) -> bool
     ensures { result ≡ fold_has_one (sought_forms sought) (plain_pattern pat.now) }
@@ -82,21 +83,23 @@ fn fold_has_form(pat: &Pat, sought: SoughtForms) -> bool
     }
 }
 
-/// Whether a fold of these patterns is of none, and such folds are looked for.
+/// Whether there are no patterns, and a fold without arguments is among the sought forms.
 fn is_empty_fold(pats: &[Pat], sought: SoughtForms) -> bool
     ensures { result ≡ (there_is_none (map plain_pattern pats.now) && does_cover_others (sought_forms sought)) }
 {
     matches!(pats, []) && covers_others(sought)
 }
 
-/// Whether the connective of a fold of these patterns counts, and is looked for.
+/// Whether the connective of a fold of these patterns counts, and is among the sought forms. It
+/// does not count in a fold of one pattern.
 fn is_head(pats: &[Pat], sought: SoughtForms, op: Op) -> bool
     ensures { result ≡ (not (there_is_one (map plain_pattern pats.now)) && does_cover (sought_forms sought) op) }
 {
     !matches!(pats, [_]) && covers(sought, op)
 }
 
-/// Whether a quantifier, `\mu`, `\nu` or a set variable stands in the pattern. It goes through the pattern once.
+/// Whether a quantifier, `\mu`, `\nu` or a set variable occurs in the pattern. It goes through the
+/// pattern once.
 #[cycle(binder)]
 pub fn has_binder(pat: &Pat) -> bool
     ensures { result ≡ has_one_binder (plain_pattern pat.now) }

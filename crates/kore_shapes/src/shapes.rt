@@ -24,7 +24,7 @@ pub struct Rewriting<'a> {
     pub after: &'a Pat,
 }
 
-/// The parts of a pattern `\rewrites{S}(A,B)`; none of any other pattern.
+/// The parts of a pattern `\rewrites{S}(A,B)`. Returns none for any other pattern.
 pub fn rewriting_at(pat: &Pat) -> Option<Rewriting<'_>>
     ensures { option_map plain_rewriting result ≡ the_rewriting (plain_pattern pat.now) }
 {
@@ -48,12 +48,12 @@ fn rewriting_of<'a>(op: Op, sorts: &'a [Sort], args: &'a [Pat]) -> Option<Rewrit
     }
 }
 
-/// What stands beside a side of a rule.
+/// What may be next to a side of a rule, in an `\and`.
 #[derive(Clone, Copy)]
 pub enum Companion {
-    /// A condition: `\top` or `\equals` at its head.
+    /// A condition: a pattern with `\top` or `\equals` at its head.
     Condition,
-    /// `\top` at its head.
+    /// A pattern with `\top` at its head.
     Top,
 }
 
@@ -76,15 +76,15 @@ impl Companion {
 pub enum Side<'a> {
     /// A pattern that is no `\and`.
     Alone(&'a Pat),
-    /// The two patterns of an `\and` of two of the wanted sort, the companion first.
+    /// An `\and` of two patterns, of the wanted sort: the companion, and then the other pattern.
     Beside(&'a Pat, &'a Pat),
-    /// An `\and` of two of the wanted sort, none of which is the companion.
+    /// An `\and` of two patterns, of the wanted sort, neither of which is the companion.
     Without,
     /// An `\and` of another sort or of another number of patterns.
     Misshapen,
 }
 
-/// The side that a pattern is, where it has this sort and this companion.
+/// The side that a pattern is, for this sort and this kind of companion.
 pub fn side_at<'a>(pat: &'a Pat, sort: &Sort, companion: Companion) -> Side<'a>
     ensures { plain_side result ≡ the_side (passes companion) (plain_sort sort.now) (plain_pattern pat.now) }
 {
@@ -120,7 +120,7 @@ fn picked<'a>(first: &'a Pat, second: &'a Pat, companion: Companion) -> Side<'a>
 impl<'a> Side<'a> {
     ghost use Rattle.kore_shapes.specs.Views.{plain_side};
 
-    /// The companion, where it stands there.
+    /// The companion. Returns none if there is none.
     pub fn companion(self) -> Option<&'a Pat>
         ensures { option_map pattern_at result ≡ the_found_part (plain_side self.entry) }
     {
@@ -130,7 +130,8 @@ impl<'a> Side<'a> {
         }
     }
 
-    /// The side proper: the pattern alone, or the one beside the companion.
+    /// The side itself: the pattern alone, or the one next to the companion. Returns none for
+    /// `Without` and `Misshapen`.
     pub fn main(self) -> Option<&'a Pat>
         ensures { option_map pattern_at result ≡ the_main_part (plain_side self.entry) }
     {
@@ -148,11 +149,12 @@ pub enum Condition<'a> {
     Always,
     /// `\equals{T,S}(b,\dv{T}("true"))`: the sort T and the pattern b.
     Tests(&'a Sort, &'a Pat),
-    /// None of the two.
+    /// Any other pattern.
     Ill,
 }
 
-/// The condition that a pattern is, where this sort stands around it; where there is none, what always holds.
+/// The condition that a pattern is, inside something of this sort. Without a pattern it is
+/// `Always`.
 pub fn given_condition<'a>(pat: Option<&'a Pat>, sort: &Sort) -> Condition<'a>
     ensures { plain_condition result ≡ the_given (plain_sort sort.now) (option_map pattern_at pat.entry) }
 {

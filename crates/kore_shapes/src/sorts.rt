@@ -1,4 +1,4 @@
-// Sorts and variables that are written alike.
+// Sorts and variables that are written the same.
 ghost use Rattle.std.specs.Prelude.{◌≡◌, map};
 ghost use Rattle.kore_text.specs.Trees.{sort_trees};
 ghost use Rattle.kore_ast.specs.Plain.{plain_sort, plain_pattern};
@@ -7,7 +7,7 @@ ghost use Rattle.kore_shapes.specs.SameSorts.{is_variable as is_the_variable};
 
 use kore_ast::{Pat, PatForm, Sort, SortForm};
 
-/// Whether two sorts are written alike, places aside.
+/// Whether two sorts are written the same. Places are ignored.
 #[cycle(same)]
 pub fn same_sort(sort: &Sort, other: &Sort) -> bool
     ensures { result ≡ are_same (plain_sort sort.now) (plain_sort other.now) }

@@ -10,10 +10,10 @@ ghost use Rattle.kore_shapes.specs.StatementViews.{plain_statement, plain_call};
 use crate::sorts::same_sort;
 use kore_ast::{Op, Pat, PatForm, Sort, Text};
 
-/// The parts of `\equals{S,R}(f{}(..),d)`, which may stand after a guard g in `\implies{R}(g,..)`.
+/// The parts of `\equals{S,R}(f{}(..),d)`, or of the same after a guard g in `\implies{R}(g,..)`.
 #[derive(Clone, Copy)]
 pub struct Statement<'a> {
-    /// The guard g.
+    /// The guard g, if there is one.
     pub guard: Option<&'a Pat>,
     /// The sort S.
     pub sort: &'a Sort,
@@ -21,13 +21,14 @@ pub struct Statement<'a> {
     pub over: &'a Sort,
     /// The name of f.
     pub function: &'a Text,
-    /// What f is applied to.
+    /// The patterns that f is applied to.
     pub arguments: &'a [Pat],
     /// The pattern d.
     pub value: &'a Pat,
 }
 
-/// The parts of a pattern `\equals{S,R}(f{}(..),d)` or `\implies{R}(g,\equals{S,R}(f{}(..),d))`; none of any other one.
+/// The parts of a pattern `\equals{S,R}(f{}(..),d)` or `\implies{R}(g,\equals{S,R}(f{}(..),d))`.
+/// Returns none for any other pattern.
 pub fn statement_at(pat: &Pat) -> Option<Statement<'_>>
     ensures { option_map plain_statement result ≡ the_statement (plain_pattern pat.now) }
 {
@@ -47,7 +48,8 @@ fn statement_with<'a>(op: Op, sorts: &'a [Sort], args: &'a [Pat]) -> Option<Stat
     }
 }
 
-/// The equality after this guard, where it is over the same sort.
+/// The equality after this guard. Returns none if it is no such equality, or its sort R is another
+/// one than the guard's.
 fn guarded<'a>(over: &Sort, guard: &'a Pat, stated: &'a Pat) -> Option<Statement<'a>>
     ensures { option_map plain_statement result
         ≡ option_and_then (the_guarded (plain_sort over.now) (plain_pattern guard.now))
@@ -92,7 +94,7 @@ fn equality_with<'a>(op: Op, sorts: &'a [Sort], args: &'a [Pat]) -> Option<State
     }
 }
 
-/// The symbol and the arguments of `f{}(..)`.
+/// The symbol and the arguments of `f{}(..)`. Returns none for any other pattern.
 fn called(pat: &Pat) -> Option<(&Text, &[Pat])>
     ensures { option_map plain_call result ≡ the_called (plain_pattern pat.now) }
 {

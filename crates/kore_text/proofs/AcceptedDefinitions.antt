@@ -96,7 +96,7 @@ symbol-word-step : (b : Bool) (k : List Symbol) → step (symbol.Declarations �
 symbol-word-step true k = hooked-symbol-step k
 symbol-word-step false k = symbol-step k
 
--- attributes, and then the other declarations
+-- attributes, and then the other declarations of a module
 rest-goes : (ps : List PatternTree) (v w : List Want) (s e : Stream) → ((q : Stream) → Takes v q e → Reaches (symbol.Declarations ∷ []) w q e)
     → Takes (spell_attributes ps v) s e → Reaches (symbol.Attributes ∷ symbol.Declarations ∷ []) w s e
 rest-goes ps v w s e go h = after symbol.Attributes (symbol.Declarations ∷ []) v w s e (attributes-go ps v s e h) go

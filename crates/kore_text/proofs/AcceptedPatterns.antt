@@ -87,7 +87,7 @@ value-goes b at t x place w s e h =
     (any-placed (string_token x) place (any (mark 41) ∷ w) k e n) (λ c d. done (any (mark 41) ∷ w) c e d))
     (λ a g. mark-goes 41 w a e g))))))
 
--- the arguments of what is folded
+-- the arguments of a folded application
 abbrev pub folded_spellings : Bool → PatternTree → List Spelling
 folded_spellings b (symbol_applied at n ss ps) = spell_patterns b ps
 folded_spellings b (connected at o ss ps) = spell_patterns b ps
@@ -99,7 +99,7 @@ no-close (end x) h = absurd h
 no-close (fault x) h = absurd h
 no-close (token t p s) h = rw (unmarked 41 t h) refl
 
--- after the head of what is folded stands more than `)`
+-- after the head of an application with an argument comes more than `(` and `)`
 head-filled : (t : Token) (p : ℕ) (bs : List Symbol) (v w : List Want) (s e : Stream)
     → step (symbol.EmptyFolded ∷ []) t ≡ Some (bs ++ (symbol.Mark 41 ∷ []))
     → Takes (placed p t ∷ v) s e → ((q : Stream) → Takes v q e → Reaches bs w q e) → ((q : Stream) → Takes w q e → IsPlain q)
@@ -167,7 +167,7 @@ by-fold b left p v w (token t q s) e h f go =
       passing = λ k n. rw h.0 (pass-step (builtin (Some (Fold left))) q s (symbol.Pattern b) k (built_symbols b (Fold left) ++ k) (built-step b (Fold left) k)) ∙ c.passing k n;
     }
 
--- what is folded
+-- a folded application
 folded-goes : (b : Bool) (q : PatternTree) (w : List Want) (s e : Stream) → is_foldable q ≡ true → AllGo (symbol.Pattern b) (folded_spellings b q) e
     → Takes (spell_pattern b q w) s e → Reaches (symbol.Folded b ∷ []) w s e
 folded-goes b (element_variable at n t) w s e i ga h = let z : ⊥ = cc in absurd z

@@ -16,7 +16,7 @@ use Rattle.kore_text.specs.Table.{turn, step, folded_arguments, exactly, argumen
 use Rattle.kore_text.proofs.Reaching.{Reaches, done, after, by-token, any-placed, mark-then, tail-goes, is_plain, IsPlain, apart-more, Goes, AllGo, more-goes, first-goes, exactly-goes}
 use Rattle.kore_text.specs.Apart.{Apart}
 
--- both parts of a test
+-- if the conjunction of two tests holds, both hold
 pub both : (a b : Bool) → IsTrue (a && b) → (a ≡ true) × (b ≡ true)
 both true b h = (refl, h)
 both false b h = let z : ⊥ = cc in absurd z
@@ -34,7 +34,7 @@ name-step k n = refl
 pub name-goes : (n : List ℕ) (w : List Want) (s e : Stream) → Takes (any (identifier n) ∷ w) s e → Reaches (symbol.Name ∷ []) w s e
 name-goes n w s e h = by-token symbol.Name [] (identifier n) w w s e refl (λ k. name-step k n) h (λ q x. done w q e x)
 
--- the first wish for a token wants none that is a mark
+-- the first token that is required is no mark
 abbrev pub wants_plain : List Want → Bool
 wants_plain [] = false
 wants_plain (given b ∷ ws) = wants_plain ws
@@ -94,7 +94,7 @@ pub patterns-length : (b : Bool) (ps : PatternTrees) → length (spell_patterns 
 patterns-length b no_patterns = refl
 patterns-length b (pattern_then p ps) = ap suc (patterns-length b ps)
 
--- a pattern begins with no mark
+-- no pattern begins with a mark
 pub plain-pattern : (b : Bool) (p : PatternTree) (w : List Want) (s e : Stream) → Takes (spell_pattern b p w) s e → IsPlain s
 plain-pattern b (element_variable at n t) w s e h = plain-first (spell_pattern b (element_variable at n t) w) s e refl h
 plain-pattern b (set_variable at n t) w s e h = plain-first (spell_pattern b (set_variable at n t) w) s e refl h
@@ -220,7 +220,7 @@ arguments-go b (Some n) ps w s e i a h =
     subst (λ m. Reaches (exactly (symbol.Pattern b) close.Paren m []) w s e) (patterns-length b ps ∙ number-is (pattern_count ps) n i)
     (exactly-goes (symbol.Pattern b) close.Paren (spell_patterns b ps) [] w w s e a h (λ q x. done w q e x))
 
--- the arguments of what is folded
+-- the arguments of a folded application
 pub arguments-folded : (b : Bool) (f : Spelling) (fs : List Spelling) (w : List Want) (s e : Stream) → Goes (symbol.Pattern b) f e → AllGo (symbol.Pattern b) fs e
     → Takes (any (mark 40) ∷ f (more_listed fs 41 w)) s e → Reaches (folded_arguments b) w s e
 arguments-folded b f fs w s e g gs h =

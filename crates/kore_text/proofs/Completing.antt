@@ -1,4 +1,4 @@
--- What fits the stack can be completed, and what the table finds stands there.
+-- Tokens that fit the stack can be completed to a text. What the table finds is there.
 use Rattle.std.proofs.Common.{◌≡◌, ℕ, Bool, true, false, ◌&&◌, List, [], ◌∷◌, ◌++◌, Option, Some, None, refl, ap, sym, ◌∙◌, subst, codes, ◌⊎◌, inl, inr, if◌then◌else◌}
 use Rattle.kore_text.specs.declared.names.Built.TheVariants.{Connective, Binding, Value, Fold}
 use Rattle.kore_text.specs.declared.symbols.Close.{Close}
@@ -140,7 +140,7 @@ first-moved : (i : Item) (c : Close) (t : Token) (b : List Symbol) (s q : Stream
     → Pieces b s q → Moved (item_move i t) s q
 first-moved i c t b s q m u h = subst (λ x. Moved x s q) (m ∙ first-move i c t u) h
 
--- a token that fits the stack, in front of what the new stack says
+-- a token that fits the stack, and what the new stack says after it
 taken : (f : Symbol) (t : Token) (p : ℕ) (s : Stream) (k b : List Symbol) (e : Stream) → Some b ≡ turn f t → Pieces (b ++ rest_of f t k) s e
     → Pieces (f ∷ k) (token t p s) e
 taken f t p s k b e m h =
@@ -182,7 +182,7 @@ passed-on : (t : Token) (p : ℕ) (s : Stream) (k : List Symbol) (mv : Option (L
 passed-on t p s k None m h rec = let z : ⊥ = cc in absurd z
 passed-on t p s k (Some k') m h rec = let x = rec k' h in (x.0, step-back k t p s k' x.0 m x.1)
 
--- what the table passes over stands there
+-- tokens that the table accepts for a stack are what the stack says
 passed : (s : Stream) (k : List Symbol) → passes s k ≡ true → (r : Stream) × Pieces k s r
 unfolding passes
 passed s [] h = (s, refl)
@@ -202,7 +202,7 @@ fold-token (string_token n) h = let z : ⊥ = cc in absurd z
 fold-token (mark c) h = let z : ⊥ = cc in absurd z
 fold-token assign h = let z : ⊥ = cc in absurd z
 
--- where the table finds a fold without an argument, there is one ..
+-- if the table finds a fold without an argument, there is one
 pub is-empty-fold : (t : Token) (s : Stream) → (is_fold t && passes s empty_fold) ≡ true → IsEmptyFold t s
 is-empty-fold t s h =
     let x = both (is_fold t) (passes s empty_fold) h in
@@ -253,7 +253,7 @@ unfilled (of_connective o ss) s e h =
     (λ r y. sorts-exactly 1 ss (symbol.Mark 40 ∷ []) (any (mark 40) ∷ v3) v3 r e (number-is (sort_count ss) 1 h.1.0) y
     (λ k z. mark-goes 40 v3 k e z)))
 
--- .. and else there is none
+-- if there is a fold without an argument, the table finds it
 pub fold-found : (t : Token) (s : Stream) → IsEmptyFold t s → (is_fold t && passes s empty_fold) ≡ true
 fold-found t s h =
     let v : List Want = spell_unfilled h.2 [] in

@@ -1,4 +1,4 @@
--- The first of the tokens that were cut.
+-- The first of the tokens into which a text was cut.
 use Rattle.std.proofs.Common.{◌≡◌, ◌≢◌, ℕ, ◌-◌, List, take, drop, Result, Ok, Err, refl, ap, sym, ◌∙◌}
 use Rattle.kore_lex.specs.declared.lexer.TokenKind.{TokenKind}
 use Rattle.kore_lex.specs.declared.lexer.TokenKind.TheVariants as kind
@@ -52,7 +52,7 @@ next-token text (cut_token t from to s) a h k =
     joined-token text t from to (named text s) i
     ∙ ap (λ b. token (token_of b.kind (take (b.to - b.from) (drop b.from text))) b.from (named text s)) (sym e)
 
--- what is left of a text, where this text is the lexer's, and after its first token
+-- what is left of the text of a lexer, and what is left after its first token
 
 pub left-token : (u v : Unread) (text : List ℕ) (a : LexToken) → Ok a ≡ head (cut_left u) → a.kind ≢ kind.End
     → cut_left v ≡ tail (cut_left u) → v.text ≡ u.text → u.text ≡ text

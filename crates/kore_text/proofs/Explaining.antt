@@ -1,4 +1,4 @@
--- The verdict of the table is the first fault.
+-- The result of the table is the first fault.
 use Rattle.std.proofs.Common.{◌≡◌, ℕ, suc, Bool, true, false, ◌&&◌, List, [], ◌∷◌, map, Option, Some, None, refl, ap, sym, ◌∙◌, subst, arith, inl, inr, if◌then◌else◌, ◌≤◌, ◌<◌, nat_lt}
 use Rattle.std.proofs.lemmas.Bool.Decides.{nat_tests}
 use Rattle.kore_text.specs.declared.symbols.Symbol.{Symbol}
@@ -13,7 +13,7 @@ use Rattle.kore_text.proofs.AcceptedDefinitions.{accepts-pattern, accepts-defini
 use Rattle.kore_text.proofs.Saying.{Pieces}
 use Rattle.kore_text.proofs.Completing.{completes, ends-back, step-back, is-empty-fold, fold-found}
 
--- what a verdict says, by the texts that go on and the texts that would be accepted
+-- what a result says; `In` has the texts that go on, and `Out` has the texts that would be accepted
 abbrev pub Explained : (Stream → Type 0) → (Stream → Type 0) → ℕ → Stream → Option TextFault → Type 0
 Explained In Out n s None = In s × IsShallow n s
 Explained In Out n s (Some (Lex at)) = (m : ℕ) × IsGood In m n s × (behind m s ≡ fault at)
@@ -56,7 +56,7 @@ good-step : (In In' : Stream → Type 0) (t : Token) (p : ℕ) (m n : ℕ) (s : 
 good-step In In' t p m n s inn l f g =
     record { begins = begins-cons In In' t p m s inn g.begins; shallow = (l, g.shallow); filled = (f, g.filled) }
 
--- a good token in front
+-- a good token before the others
 onwards : (In In' Out Out' : Stream → Type 0) (t : Token) (p n : ℕ) (s : Stream) (v : Option TextFault) → ((r : Stream) → In' r → In (token t p r))
     → ((r : Stream) → Out (token t p r) → Out' r) → opened t n ≤ 500 → (IsEmptyFold t s → ⊥)
     → Explained In' Out' (opened t n) s v → Explained In Out n (token t p s) v
@@ -188,7 +188,7 @@ fits-definition r f =
       ),
     )
 
--- the table's verdict is the first fault
+-- the result of the table is the first fault
 pub pattern_fault : (s : Stream) → IsFirstFault IsPattern 0 s (run s (Some 0) pattern_symbols)
 pattern_fault s =
     first-fault IsPattern pattern_symbols 0 s (run s (Some 0) pattern_symbols) fits-pattern accepts-pattern (explain s 0 pattern_symbols (run s (Some 0) pattern_symbols) refl)

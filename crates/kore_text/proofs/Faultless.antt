@@ -11,7 +11,7 @@ use Rattle.kore_text.proofs.AcceptedDefinitions.{accepts-pattern, accepts-defini
 use Rattle.kore_text.proofs.Completing.{fold-found}
 use Rattle.kore_text.proofs.Explaining.{Accepts, stuck-run, on-run}
 
--- some stack accepts what comes after a token that was accepted
+-- after an accepted token, some stack accepts what follows
 accepted-on : (t : Token) (p : ℕ) (r : Stream) (k : List Symbol) (m : Option (List Symbol)) → step k t ≡ m → Accepts k (token t p r) → (k' : List Symbol) × Accepts k' r
 accepted-on t p r k None e h = absurd (stuck-run t p r k e h)
 accepted-on t p r k (Some k') e h = (k', on-run t p r k k' e h)

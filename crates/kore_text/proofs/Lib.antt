@@ -1,4 +1,4 @@
--- Laws of the table.
+-- Laws on the table.
 pub mod Reaching
 pub mod Accepting
 pub mod AcceptedPatterns

@@ -13,7 +13,7 @@ pub size_token : (t : Token) (p : ℕ) (s r : Stream) → s ≡ token t p r → 
 unfolding size
 size_token t p s r h = rw h (omega arith)
 
--- the table passing over tokens
+-- how the table passes tokens
 pub passes_done : (s : Stream) (k : List Symbol) → is_nil k ≡ true → passes s k ≡ true
 unfolding passes
 passes_done s [] h = refl
@@ -47,7 +47,7 @@ unfolding passes
 passes_stuck t p s r [] new h n m = let y : ⊥ = cc in absurd y
 passes_stuck t p s r (f ∷ k) new h n m = rw h (stops (step (f ∷ k) t) r new m)
 
--- the table's verdict
+-- the result of the table
 pub run_end : (x n : ℕ) (s : Stream) (k : List Symbol) → s ≡ end x → run s (Some n) k ≡ run (end x) (Some n) k
 run_end x n s k h = ap (λ u. run u (Some n) k) h
 

@@ -1,4 +1,5 @@
--- The names in a tree that bytes spell are identifiers: a wish for a name is met by an identifier alone.
+-- The names in a tree that bytes spell are identifiers. Only an identifier meets the requirement of
+-- a name.
 use Rattle.std.proofs.Common.{◌≤◌, ℕ, ◌+◌, ◌-◌, Bool, true, false, List, [], ◌∷◌, All, map, take, drop, Some, subst, arith}
 use Rattle.std.proofs.lemmas.List.Elements.{All-nil, All-cons}
 use Rattle.kore_lex.specs.declared.lexer.TokenKind.{TokenKind}
@@ -14,7 +15,7 @@ use Rattle.kore_text.specs.Left.{size}
 use Rattle.kore_text.specs.TextLaws.{NoMoreTokensThanBytes}
 use Rattle.kore_text.specs.Identifiers.{IsNamedSort, AreNamedSorts, IsNamedPattern, AreNamedPatterns, IsNamedAlias, IsNamedAxiom, IsNamedDeclaration, IsNamedModule, NamesAreIdentifiers, PatternNamesAreIdentifiers}
 
--- the name in a token, where it has one, is an identifier
+-- the name in a token, if it has one, is an identifier
 abbrev IsNamed : Token → Type 0
 IsNamed (identifier n) = IsName n
 IsNamed (set_identifier n) = IsName n
@@ -54,7 +55,7 @@ tokens-named : EachIsToken → (bytes : List ℕ) → AreNamed (tokens_of bytes)
 unfolding tokens_of
 tokens-named law bytes = named-are-named bytes (lexed 0 bytes) (law bytes)
 
--- the names that are wished for are identifiers
+-- the names in the requirements are identifiers
 abbrev Wished : List Want → Type 0
 Wished [] = Unit {0}
 Wished (given b ∷ ws) = Wished ws
@@ -71,7 +72,7 @@ taken (placed q u ∷ ws) (end x) e h a = absurd h
 taken (placed q u ∷ ws) (fault x) e h a = absurd h
 taken (placed q u ∷ ws) (token t p s) e h a = (subst IsNamed h.0 a.0, taken ws s e h.2 a.1)
 
--- what is so spelled is named so
+-- a thing with this spelling has names that are identifiers
 record Tells (f : Spelling) (P : Type 0) : Type 0 where
   pub told : (k : List Want) → Wished (f k) → P × Wished k
 

@@ -1,4 +1,4 @@
--- The table goes on over what is spelled.
+-- The table accepts what is spelled.
 use Rattle.std.proofs.Common.{◌≡◌, ℕ, Bool, true, false, ◌==◌, List, [], ◌∷◌, ◌++◌, length, Some, None, refl, ◌∙◌, arith}
 use Rattle.std.proofs.lemmas.Bool.Decides.{nat_tests}
 use Rattle.kore_text.specs.declared.symbols.Close.{Close}
@@ -16,7 +16,8 @@ abbrev pub is_nil : List Symbol → Bool
 is_nil [] = true
 is_nil (f ∷ k) = false
 
--- these symbols, on top of others, are gone where these wishes are left
+-- from the stream `s`, the table removes these symbols from the top of any stack, and then the
+-- requirements `w` are met up to `e`
 pub record Reaches (fs : List Symbol) (w : List Want) (s e : Stream) : Type 0 where
   pub to : Stream
   pub rest : Takes w to e
@@ -53,7 +54,7 @@ any-placed t p k (end n) e h = absurd h
 any-placed t p k (fault n) e h = absurd h
 any-placed t p k (token u at s) e h = (h.0, h.2)
 
--- a token that turns a symbol into others
+-- a token that replaces a symbol with others
 pub by-token : (f : Symbol) (b : List Symbol) (u : Token) (v w : List Want) (s e : Stream) → is_fold u ≡ false
     → ((k : List Symbol) → step (f ∷ k) u ≡ Some (b ++ k)) → Takes (any u ∷ v) s e
     → ((q : Stream) → Takes v q e → Reaches b w q e) → Reaches (f ∷ []) w s e
@@ -77,7 +78,7 @@ mark-step c k = rw (same-number c) refl
 pub mark-goes : (c : ℕ) (w : List Want) (s e : Stream) → Takes (any (mark c) ∷ w) s e → Reaches (symbol.Mark c ∷ []) w s e
 mark-goes c w s e h = by-token (symbol.Mark c) [] (mark c) w w s e refl (mark-step c) h (λ q x. done w q e x)
 
--- a mark, and then these
+-- a mark, and then these symbols
 pub mark-then : (c : ℕ) (fs : List Symbol) (v w : List Want) (s e : Stream) → Takes (any (mark c) ∷ v) s e
     → ((q : Stream) → Takes v q e → Reaches fs w q e) → Reaches (symbol.Mark c ∷ fs) w s e
 mark-then c fs v w s e h go = after (symbol.Mark c) fs v w s e (mark-goes c v s e h) go
@@ -133,7 +134,7 @@ abbrev pub IsPlain : Stream → Type 0
 IsPlain (token t p s) = is_plain t ≡ true
 IsPlain _ = ⊥
 
--- what is spelled so begins with no mark, and the table goes on over it with this symbol
+-- what has this spelling begins with no mark, and the table accepts it for this symbol
 pub record Goes (f : Symbol) (g : Spelling) (e : Stream) : Type 0 where
   pub plain : (w : List Want) (s : Stream) → Takes (g w) s e → IsPlain s
   pub goes : (w : List Want) (s : Stream) → Apart w e → Takes (g w) s e → Reaches (f ∷ []) w s e

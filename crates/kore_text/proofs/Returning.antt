@@ -1,4 +1,4 @@
--- What a token and what follows it say, by the move that it makes.
+-- What a token and the tokens after it say, by the move that the token makes.
 use Rattle.std.proofs.Common.{◌≡◌, ℕ, Bool, true, false, ◌==◌, ◌&&◌, List, [], ◌∷◌, length, map, Option, Some, None, refl, ap, sym, ◌∙◌, subst, codes, inl, inr, if◌then◌else◌}
 use Rattle.std.specs.Str.{bytes_eq}
 use Rattle.kore_text.specs.declared.names.Op.{Op}
@@ -22,7 +22,7 @@ use Rattle.kore_text.specs.Faults.{of_symbol, of_connective}
 use Rattle.kore_text.proofs.Accepting.{number-is, single}
 use Rattle.kore_text.proofs.Saying.{To, ItemTree, spell_item, variable_token, Says, Pieces, along, spell_sorts-trees, spell_patterns-trees, sort_count-trees, pattern_count-trees, same-count, said, exactly-back}
 
--- these symbols' parts stand there
+-- what the symbols of the move say is here
 abbrev pub Moved : Option (List Symbol) → Stream → Stream → Type 0
 Moved None s r = ⊥
 Moved (Some b) s r = Pieces b s r

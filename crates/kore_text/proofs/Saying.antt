@@ -12,7 +12,7 @@ use Rattle.kore_text.specs.Grammar.{Want, placed, any, Spelling, listed, more_li
 use Rattle.kore_text.specs.Table.{byte_of, symbol_of, more_exactly, exactly}
 use Rattle.kore_text.specs.Faults.{FoldHead, spell_unfilled}
 
--- what completes the rest completes the whole
+-- requirements that the stream meets from `r` on, it meets from `s` on with this spelling in front
 abbrev pub To : Spelling → Stream → Stream → Type 0
 To g s r = (w : List Want) (e : Stream) → Takes w r e → Takes (g w) s e
 
@@ -30,7 +30,7 @@ abbrev pub variable_token : Bool → List ℕ → Token
 variable_token true n = set_identifier n
 variable_token false n = identifier n
 
--- from the first stream up to the second stands what the symbol says
+-- what the symbol says is in the first stream, up to the second
 abbrev pub Says : Symbol → Stream → Stream → Type 0
 Says (symbol.Mark c) s r = To (λ w. any (mark c) ∷ w) s r
 Says symbol.Name s r = (n : List ℕ) × To (spell_name n) s r
@@ -55,7 +55,7 @@ Says symbol.Declarations s r = (ds : List Declaration) × (ps : List PatternTree
 Says symbol.Module s r = (m : ModuleTree) × To (spell_module m) s r
 Says symbol.Modules s r = (ms : List ModuleTree) × To (in_order (map spell_module ms)) s r
 
--- .. and what the symbols say, one after the other
+-- what the symbols say, one after the other, is in the first stream, up to the second
 abbrev pub Pieces : List Symbol → Stream → Stream → Type 0
 Pieces [] s r = s ≡ r
 Pieces (f ∷ k) s r = (q : Stream) × Says f s q × Pieces k q r
@@ -88,7 +88,7 @@ said item.Name s r m = m
 said item.Sort s r m = m
 said (item.Pattern b) s r m = m
 
--- a list of just so many items
+-- a list of exactly `n` items
 pub more-exactly-back : (i : Item) (c : Close) (n : ℕ) (fs : List Symbol) (s r : Stream) → Pieces (more_exactly (symbol_of i) c n fs) s r
     → (xs : List (ItemTree i)) × ((length xs ≡ n) × ((q : Stream) × (To (more_listed (map (spell_item i) xs) (byte_of c)) s q × Pieces fs q r)))
 more-exactly-back i c zero fs s r m = ([], (refl, (m.0, (m.1, m.2))))

@@ -1,4 +1,4 @@
--- A stack that is kept with its next symbol last.
+-- A stack whose next symbol is the last in the vector.
 use Rattle.std.proofs.Common.{◌≡◌, ◌<◌, ℕ, zero, suc, ◌+◌, List, [], ◌∷◌, ◌++◌, reverse, refl, ap, arith}
 use Rattle.std.proofs.lemmas.List.{reverse-append}
 use Rattle.kore_text.specs.declared.symbols.Symbol.{Symbol}
@@ -9,7 +9,7 @@ use Rattle.kore_text.specs.Table.{exactly, more_exactly}
 pub pushed : (xs : List Symbol) (f : Symbol) → reverse (xs ++ (f ∷ [])) ≡ f ∷ reverse xs
 pushed xs f = reverse-append xs (f ∷ [])
 
--- another item in front of so many
+-- one more item in front of the others
 pub exactly_first : (f : Symbol) (c : Close) (i : ℕ) (k : List Symbol) → (0 < i → ⊥) → exactly f c (i + 1) k ≡ f ∷ exactly f c i k
 exactly_first f c zero k h = refl
 exactly_first f c (suc i) k h = absurd (h (omega arith))

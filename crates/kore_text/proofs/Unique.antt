@@ -7,7 +7,7 @@ use Rattle.kore_text.specs.TokenStream.{Token, Stream, end, fault, token, tokens
 use Rattle.kore_text.specs.Faults.{opened, IsEmptyFold, Same, Begins, ShallowTo, FilledTo, open_behind, behind, IsGood, Stops, GoesDeep, IsFirstFault, IsPattern, IsDefinition}
 use Rattle.kore_text.specs.TextLaws.{DefinitionFaultIsUnique, PatternFaultIsUnique}
 
--- what stands after so many good tokens, at this fault
+-- what follows `m` good tokens is this fault
 abbrev Stands : (Stream → Type 0) → ℕ → Stream → ℕ → TextFault → Type 0
 Stands L n s m (Lex at) = behind m s ≡ fault at
 Stands L n s m (Syntax at) = Stops L m s (behind m s) at
@@ -23,7 +23,7 @@ found L n s (Lex at) h = record { count = h.0; good = h.1; stands = h.2 }
 found L n s (Syntax at) h = record { count = h.0; good = h.1; stands = h.2 }
 found L n s (Deep at) h = record { count = h.0; good = h.1; stands = h.2 }
 
--- among good tokens there is no fault
+-- no fault is among good tokens
 
 pub record Behind (L : Stream → Type 0) (n : ℕ) (s : Stream) (m : ℕ) : Type 0 where
   pub first : Token
@@ -69,7 +69,7 @@ never-before L n m k s f l g h =
     let e : Same k s r = g.begins.1 in
     no-fault-at L n m s f (r, same-less (suc m) k s r (omega arith) e, g.begins.2) (token-behind L m k n s r l e g.shallow g.filled) h
 
--- one place has one fault
+-- there is only one fault at a place
 
 open-few : (m n : ℕ) (s : Stream) → n ≤ 500 → ShallowTo m n s → open_behind m n s ≤ 500
 open-few zero n s l h = l

@@ -8,7 +8,8 @@ abbrev pub is_mark : ℕ → Token → Bool
 is_mark c (mark d) = d == c
 is_mark c _ = false
 
--- no opening brace follows
+-- no opening brace follows: the first required token is none, or no token is required and the text
+-- ends here
 abbrev pub Apart : List Want → Stream → Type 0
 Apart [] (end x) = Unit {0}
 Apart [] (fault x) = ⊥

@@ -1,4 +1,4 @@
--- What the finder of faults says of each look.
+-- What the finder of faults says of each token that it looks at.
 use Rattle.std.specs.Prelude.{◌≡◌, ◌<◌, ℕ, Option, Some, None}
 use Rattle.kore_text.specs.declared.faults.TextFault.{TextFault}
 use Rattle.kore_text.specs.declared.finder.Finder.{Finder}
@@ -18,7 +18,7 @@ Looks look.Good old new = (fault_of old ≡ fault_of new) × (size (left new.tok
 Looks look.Fine old new = fault_of old ≡ None
 Looks (look.Fault f) old new = fault_of old ≡ Some f
 
--- what is found where this is the end
+-- the result if the text ends at byte `at`
 abbrev pub Ends : Look → ℕ → Finder → Type 0
 Ends look.Good at f = ⊥
 Ends look.Fine at f = run (end at) (Some f.depth) (stack f.expected) ≡ None

@@ -1,5 +1,6 @@
 -- The grammar of Kore text (Kore language document, syntax), as the spelling of each tree. A
--- spelling is a list of wishes that stands in front of the wishes for what follows it.
+-- spelling is a list of requirements. It is put in front of the requirements for what follows the
+-- tree.
 use Rattle.std.specs.Prelude.{◌≡◌, ℕ, ◌==◌, Bool, true, false, not, ◌&&◌, IsTrue, Option, Some, None, List, [], ◌∷◌, map, codes}
 use Rattle.kore_text.specs.declared.names.Op.{Op}
 use Rattle.kore_text.specs.declared.names.Op.TheVariants as op
@@ -9,13 +10,13 @@ use Rattle.kore_text.specs.declared.names.Built.TheVariants.{Connective, Binding
 use Rattle.kore_text.specs.TokenStream.{Token, identifier, set_identifier, builtin, string_token, mark, assign, Stream, end, fault, token}
 use Rattle.kore_text.specs.Trees.{SortTree, sort_parameter, sort_applied, SortTrees, no_sorts, sort_then, sort_count, PatternTree, element_variable, set_variable, string, symbol_applied, connected, binding, domain_value, folded, PatternTrees, no_patterns, pattern_then, pattern_count, ImportDeclaration, SortDeclaration, SymbolDeclaration, AliasDeclaration, AxiomDeclaration, ModuleTree, DefinitionTree, Declaration, import_declaration, sort_declaration, symbol_declaration, alias_declaration, axiom_declaration, claim_declaration}
 
--- a token at this place, a token at any place, or, without a token, that a condition holds
+-- a requirement: a token at this place, a token at any place, or a condition, which needs no token
 pub data Want : Type 0 where
   placed : ℕ → Token → Want
   any : Token → Want
   given : Bool → Want
 
--- the number of a connective's sorts
+-- how many sorts a connective takes
 abbrev pub sorts_of : Op → ℕ
 sorts_of op.Ceil = 2
 sorts_of op.Floor = 2
@@ -23,7 +24,7 @@ sorts_of op.Equals = 2
 sorts_of op.Member = 2
 sorts_of _ = 1
 
--- the number of its arguments, none where it takes any number
+-- how many arguments a connective takes; `None` if it takes any number
 abbrev pub arguments_of : Op → Option ℕ
 arguments_of op.Top = Some 0
 arguments_of op.Bottom = Some 0
@@ -43,31 +44,31 @@ abbrev pub is_count : Option ℕ → ℕ → Bool
 is_count None n = true
 is_count (Some m) n = n == m
 
--- the connective takes so many sorts and so many arguments
+-- the connective takes this many sorts and this many arguments
 abbrev pub takes : Op → ℕ → ℕ → Bool
 takes o sorts arguments = (sorts == sorts_of o) && is_count (arguments_of o) arguments
 
--- the number of a binder's sorts
+-- how many sorts a binder takes
 abbrev pub binder_sorts : Binder → ℕ
 binder_sorts binder.Exists = 1
 binder_sorts binder.Forall = 1
 binder_sorts binder.Mu = 0
 binder_sorts binder.Nu = 0
 
--- it binds a set variable, or else an element variable
+-- the binder binds a set variable; if false, an element variable
 abbrev pub binds_sets : Binder → Bool
 binds_sets binder.Exists = false
 binds_sets binder.Forall = false
 binds_sets binder.Mu = true
 binds_sets binder.Nu = true
 
--- a variable of that kind
+-- the pattern is a set variable (true) or an element variable (false)
 abbrev pub is_variable : Bool → PatternTree → Bool
 is_variable true (set_variable at n s) = true
 is_variable false (element_variable at n s) = true
 is_variable _ _ = false
 
--- a fold is of `\and` or `\or`, or of a symbol, ..
+-- the connective may be folded: `\and` and `\or`
 abbrev pub is_associative : Op → Bool
 is_associative op.And = true
 is_associative op.Or = true
@@ -77,28 +78,30 @@ abbrev pub is_some : PatternTrees → Bool
 is_some no_patterns = false
 is_some (pattern_then p ps) = true
 
--- .. with an argument
+-- the pattern may be folded: the application of a symbol, `\and` or `\or`, with at least one
+-- argument
 abbrev pub is_foldable : PatternTree → Bool
 is_foldable (symbol_applied at n ss ps) = is_some ps
 is_foldable (connected at o ss ps) = is_associative o && is_some ps
 is_foldable _ = false
 
--- how a thing is spelled in front of what follows it
+-- how a thing is spelled: from the requirements for what follows it to those for the thing and what
+-- follows it
 abbrev pub Spelling : Type 0
 Spelling = List Want → List Want
 
--- a list from after its opening bracket up to and with the closing mark, with commas
+-- a list with commas, from the token after its opening bracket up to and including the closing mark
 abbrev mutual
   pub listed : List Spelling → ℕ → Spelling
   listed [] close k = any (mark close) ∷ k
   listed (f ∷ fs) close k = f (more_listed fs close k)
 
-  -- .. from after an item
+  -- the rest of a list, from the token after an item
   pub more_listed : List Spelling → ℕ → Spelling
   more_listed [] close k = any (mark close) ∷ k
   more_listed (f ∷ fs) close k = any (mark 44) ∷ f (more_listed fs close k)
 
--- one thing after the other
+-- things one after the other, without marks between them
 abbrev pub in_order : List Spelling → Spelling
 in_order [] k = k
 in_order (f ∷ fs) k = f (in_order fs k)
@@ -121,17 +124,17 @@ abbrev mutual
   spell_sorts no_sorts = []
   spell_sorts (sort_then s ss) = spell_sort s ∷ spell_sorts ss
 
--- a variable's name, a colon and its sort
+-- a variable: its name, a colon and its sort
 abbrev pub spell_variable : ℕ → Token → SortTree → Spelling
 spell_variable at t s k = placed at t ∷ any (mark 58) ∷ spell_sort s k
 
--- a pattern's head, its sorts in braces and its arguments in parentheses
+-- an application: its head, its sorts in braces and its arguments in parentheses
 abbrev pub spell_applied : ℕ → Token → SortTrees → List Spelling → Spelling
 spell_applied at t ss ps k =
     placed at t ∷ any (mark 123) ∷ listed (spell_sorts ss) 125 (any (mark 40) ∷ listed ps 41 k)
 
 abbrev mutual
-  -- a pattern, in which strings may stand or not
+  -- a pattern; if the flag is true, strings may occur in it
   pub spell_pattern : Bool → PatternTree → Spelling
   spell_pattern b (element_variable at n s) = λ k. spell_variable at (identifier n) s k
   spell_pattern b (set_variable at n s) = λ k. spell_variable at (set_identifier n) s k
@@ -155,7 +158,7 @@ abbrev mutual
   spell_patterns b no_patterns = []
   spell_patterns b (pattern_then p ps) = spell_pattern b p ∷ spell_patterns b ps
 
--- attributes: patterns in brackets, in which strings may stand
+-- attributes: patterns in brackets; strings may occur in them
 abbrev pub spell_attributes : List PatternTree → Spelling
 spell_attributes ps k = any (mark 91) ∷ listed (map (spell_pattern true) ps) 93 k
 
@@ -187,7 +190,7 @@ spell_symbol_declaration d k =
     keyword d.at (symbol_word d.hooked) ∷ any (identifier d.name)
     ∷ spell_names d.params (spell_signature d.args d.result (spell_attributes d.attributes k))
 
--- the symbol, `where`, its left side `:=` the body
+-- an alias: its symbol, `where`, its left side, `:=` and its body
 abbrev pub spell_alias : AliasDeclaration → Spelling
 spell_alias d k =
     given (not d.hooked) ∷ keyword d.at (codes "alias") ∷ any (identifier d.name)
@@ -207,11 +210,11 @@ spell_declaration (alias_declaration d) k = spell_alias d k
 spell_declaration (axiom_declaration d) k = keyword d.at (codes "axiom") ∷ spell_statement d k
 spell_declaration (claim_declaration d) k = keyword d.at (codes "claim") ∷ spell_statement d k
 
--- declarations, up to and with the word and the attributes that end their module
+-- declarations, up to and including the word `endmodule` and the attributes that end their module
 abbrev pub spell_body : List Declaration → List PatternTree → Spelling
 spell_body ds ps k = in_order (map spell_declaration ds) (any (identifier (codes "endmodule")) ∷ spell_attributes ps k)
 
--- `module` name declarations `endmodule` attributes
+-- a module: `module`, its name, its declarations, `endmodule` and its attributes
 abbrev pub spell_module : ModuleTree → Spelling
 spell_module m k =
     keyword m.at (codes "module") ∷ any (identifier m.name) ∷ spell_body m.declarations m.attributes k
@@ -220,12 +223,12 @@ abbrev pub is_some_module : List ModuleTree → Bool
 is_some_module [] = false
 is_some_module (m ∷ ms) = true
 
--- attributes, and one module or more
+-- a definition: attributes, and one module or more
 abbrev pub spell_definition : DefinitionTree → Spelling
 spell_definition d k =
     given (is_some_module d.modules) ∷ spell_attributes d.attributes (in_order (map spell_module d.modules) k)
 
--- from the first stream up to the second, the tokens are those of the wishes, in order, and the
+-- the tokens from the first stream up to the second meet the requirements, in order, and the
 -- conditions hold
 abbrev pub Takes : List Want → Stream → Stream → Type 0
 Takes [] s e = s ≡ e

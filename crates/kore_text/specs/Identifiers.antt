@@ -1,4 +1,4 @@
--- The names in a tree are identifiers: each is a letter, and then letters, digits, `'` and `-`.
+-- The names in a tree are identifiers. Each is a letter, and then letters, digits, `'` and `-`.
 use Rattle.std.specs.Prelude.{ℕ, false, List, [], All}
 use Rattle.kore_lex.specs.Tokens.{IsName}
 use Rattle.kore_text.specs.TokenStream.{tokens_of, end}
@@ -14,7 +14,8 @@ abbrev mutual
   AreNamedSorts no_sorts = Unit {0}
   AreNamedSorts (sort_then s ss) = IsNamedSort s × AreNamedSorts ss
 
--- the name of a set variable is what stands after its `@`; a string is no name
+-- each name in the pattern is an identifier; the name of a set variable is what follows its `@`; a
+-- string is not a name
 abbrev mutual
   pub IsNamedPattern : PatternTree → Type 0
   IsNamedPattern (element_variable at n s) = IsName n × IsNamedSort s
@@ -85,7 +86,7 @@ abbrev pub NamesAreIdentifiers : Type 0
 NamesAreIdentifiers =
     (bytes : List ℕ) (d : DefinitionTree) (e : ℕ) → Takes (spell_definition d []) (tokens_of bytes) (end e) → HasIdentifiers d
 
--- .. and those of a pattern
+-- the names of a pattern that bytes spell are identifiers
 abbrev pub PatternNamesAreIdentifiers : Type 0
 PatternNamesAreIdentifiers =
     (bytes : List ℕ) (p : PatternTree) (e : ℕ) → Takes (spell_pattern false p []) (tokens_of bytes) (end e) → IsNamedPattern p

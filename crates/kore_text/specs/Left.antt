@@ -12,14 +12,14 @@ use Rattle.kore_text.specs.declared.tokens.Next.TheVariants as next
 unfoldable pub left : Unread → Stream
 left u = named u.text (cut_left u)
 
--- the answer is what comes first in the one stream, and the other is what follows it
+-- the returned value is what comes first in the stream `s`; after a token, `r` is what follows it
 abbrev pub Comes : Next → Stream → Stream → Type 0
 Comes (next.Token kind at bytes) s r =
     (s ≡ token (token_of kind bytes.now) at r) × (kind ≢ End) × IsToken kind bytes.now × (kind ≡ Text → IsString bytes.now)
 Comes (next.End at) s r = s ≡ end at
 Comes (next.Fault at) s r = s ≡ fault at
 
--- the number of the tokens
+-- how many tokens the stream has
 unfoldable pub size : Stream → ℕ
 size (end e) = zero
 size (fault e) = zero

@@ -1,29 +1,30 @@
--- What the private functions say of what may come next.
+-- What the private functions say of the symbols that may come next.
 use Rattle.std.specs.Prelude.{◌≡◌, Bool, true, false, ◌&&◌, List, [], ◌∷◌, ◌++◌, reverse, Option, Some, None}
 use Rattle.kore_text.specs.declared.expected.Expected.{Expected}
 use Rattle.kore_text.specs.declared.symbols.Symbol.{Symbol}
 use Rattle.kore_text.specs.TokenStream.{Token}
 use Rattle.kore_text.specs.Table.{is_empty, turn}
 
--- what is to come, the next first
+-- the symbols that are to come, the next one first
 abbrev pub stack : Expected → List Symbol
 stack e = reverse e.symbols.items
 
--- the token made a move (true), by which these came in front of what was to come, or made none
+-- true: the token made a move, and the symbols of the move were put in front of the symbols to
+-- come; false: the token made no move
 abbrev pub Expands : Bool → Option (List Symbol) → List Symbol → List Symbol → Type 0
 Expands true (Some b) k new = new ≡ b ++ k
 Expands true None k new = ⊥
 Expands false (Some b) k new = ⊥
 Expands false None k new = Unit {0}
 
--- the stack after the token, if there is one
+-- true: there is a stack after the token, and this is it; false: there is none
 abbrev pub Steps : Bool → Option (List Symbol) → List Symbol → Type 0
 Steps true (Some b) new = new ≡ b
 Steps true None new = ⊥
 Steps false (Some b) new = ⊥
 Steps false None new = Unit {0}
 
--- nothing comes of the symbol at this token
+-- the token makes no move
 abbrev pub is_none : Option (List Symbol) → Bool
 is_none (Some b) = false
 is_none None = true

@@ -1,6 +1,6 @@
--- The table of moves: what may come next is a stack of symbols, the next one first, and a token
--- turns it into another stack or fits nothing. It is no part of what a reader has to believe: the
--- contracts say what faults are by the grammar alone.
+-- The table of moves. A stack of symbols says what may come next, the next symbol first. A token
+-- turns the stack into another one or does not fit it. A reader need not believe this table: the
+-- contracts state the faults by the grammar only.
 use Rattle.std.specs.Prelude.{ℕ, zero, suc, Bool, true, false, ◌==◌, ◌&&◌, List, [], ◌∷◌, ◌++◌, nat_lt, if◌then◌else◌, Option, Some, None, codes}
 use Rattle.std.specs.Str.{bytes_eq}
 use Rattle.kore_text.specs.declared.names.Built.{Built}
@@ -28,7 +28,7 @@ symbol_of item.Name = symbol.Name
 symbol_of item.Sort = symbol.Sort
 symbol_of (item.Pattern b) = symbol.Pattern b
 
--- an identifier, or just this one
+-- the token is an identifier; `is_word`: it is this identifier
 abbrev pub is_name : Token → Bool
 is_name (identifier n) = true
 is_name _ = false
@@ -53,7 +53,8 @@ abbrev pub when : Bool → List Symbol → Option (List Symbol)
 when true b = Some b
 when false b = None
 
--- so many of these from after an opening bracket, with commas, and the closing mark
+-- a list with a fixed count of items of the symbol, with commas, and its closing mark: the rest
+-- after an item, and (`exactly`) the whole list after its opening bracket
 abbrev pub more_exactly : Symbol → Close → ℕ → List Symbol → List Symbol
 more_exactly f c zero k = symbol.Mark (byte_of c) ∷ k
 more_exactly f c (suc n) k = symbol.Mark 44 ∷ f ∷ more_exactly f c n k
@@ -79,7 +80,7 @@ built_symbols b Value =
 built_symbols b (Fold left) =
     symbol.Mark 123 ∷ symbol.Mark 125 ∷ symbol.Mark 40 ∷ symbol.Folded b ∷ symbol.Mark 41 ∷ []
 
--- the arguments of what is folded: one or more, or none
+-- the arguments of a folded application: none, and (`folded_arguments`) one or more
 abbrev pub no_arguments : List Symbol
 no_arguments = symbol.Mark 40 ∷ symbol.Mark 41 ∷ []
 
@@ -119,7 +120,7 @@ pattern_tail_move b _ = None
 abbrev pub variable_move : Bool → Token → Option (List Symbol)
 variable_move c t = when (if c then is_set_name t else is_name t) (symbol.Mark 58 ∷ symbol.Sort ∷ [])
 
--- what is folded, with these symbols for its arguments
+-- what comes after the name of a folded connective, with these symbols for its arguments
 abbrev pub folded_built_move : List Symbol → Option Built → Option (List Symbol)
 folded_built_move k (Some (Connective o)) =
     when (is_associative o) (symbol.Mark 123 ∷ exactly symbol.Sort close.Brace 1 k)
@@ -156,11 +157,11 @@ abbrev pub declarations_move : Token → Option (List Symbol)
 declarations_move (identifier n) = word_move n
 declarations_move _ = None
 
--- this word, and then these
+-- if the token is this word, the symbols that come after it
 abbrev pub keyword_move : List ℕ → List Symbol → Token → Option (List Symbol)
 keyword_move w b t = when (is_word w t) b
 
--- what stands in the place of a symbol after a token that fits it
+-- the symbols that replace a symbol after a token, if the token fits it
 unfoldable pub turn : Symbol → Token → Option (List Symbol)
 turn (symbol.Mark c) t = when (is_mark c t) []
 turn symbol.Name t = name_move t
@@ -185,12 +186,13 @@ turn symbol.Declarations t = declarations_move t
 turn symbol.Module t = keyword_move (codes "module") (symbol.Name ∷ symbol.Declarations ∷ []) t
 turn symbol.Modules t = keyword_move (codes "module") (symbol.Name ∷ symbol.Declarations ∷ symbol.Modules ∷ []) t
 
--- what is still to come of the symbol's list after its first token
+-- what is still to come after the first token of a symbol: if the symbol begins a list, the rest of
+-- the list comes before `k`
 abbrev pub rest_of : Symbol → Token → List Symbol → List Symbol
 rest_of (symbol.First i c) t k = if is_mark (byte_of c) t then k else symbol.More i c ∷ k
 rest_of _ t k = k
 
--- nothing need come of it
+-- the symbol may be left out
 abbrev pub is_empty : Symbol → Bool
 is_empty symbol.SortTail = true
 is_empty symbol.Modules = true
@@ -200,7 +202,7 @@ abbrev pub onto : Option (List Symbol) → List Symbol → Option (List Symbol) 
 onto (Some b) k other = Some (b ++ k)
 onto None k other = other
 
--- the stack after a token; a symbol of which nothing need come may be left out
+-- the stack after a token; a symbol that may be left out is skipped if the token does not fit it
 unfoldable pub step : List Symbol → Token → Option (List Symbol)
 step [] t = None
 step (f ∷ k) t = onto (turn f t) (rest_of f t k) (if is_empty f then step k t else None)
@@ -209,7 +211,7 @@ abbrev pub can_end : List Symbol → Bool
 can_end [] = true
 can_end (f ∷ k) = is_empty f && can_end k
 
--- the tokens of the stream begin with what the stack says, all of it
+-- the stream begins with tokens for the whole stack
 abbrev pub passes_on : (List Symbol → Bool) → Option (List Symbol) → Bool
 passes_on go None = false
 passes_on go (Some k) = go k
@@ -220,7 +222,7 @@ passes (end e) (f ∷ k) = false
 passes (fault e) (f ∷ k) = false
 passes (token t p s) (f ∷ k) = passes_on (passes s) (step (f ∷ k) t)
 
--- what makes a fold one without an argument, after its name
+-- what follows the name of a fold if the fold has no argument
 abbrev pub empty_fold : List Symbol
 empty_fold = symbol.Mark 123 ∷ symbol.Mark 125 ∷ symbol.Mark 40 ∷ symbol.EmptyFolded ∷ []
 
@@ -228,7 +230,7 @@ abbrev pub is_fold : Token → Bool
 is_fold (builtin (Some (Fold left))) = true
 is_fold _ = false
 
--- the brackets that are open after a token, where they are counted
+-- how many brackets are open after a token, if they are counted
 abbrev pub counted : Token → Option ℕ → Option ℕ
 counted t None = None
 counted t (Some n) = Some (opened t n)
@@ -241,15 +243,15 @@ abbrev pub onward : (Option ℕ → List Symbol → Option TextFault) → ℕ �
 onward go at n None = Some (Syntax at)
 onward go at n (Some k) = if is_deep n then Some (Deep at) else go n k
 
--- the first fault of a text at whose tokens these symbols are to come, with so many brackets open
--- at its head, if they are counted
+-- the first fault of a text at whose head these symbols are to come; if brackets are counted, `n`
+-- is how many are open at its head
 unfoldable pub run : Stream → Option ℕ → List Symbol → Option TextFault
 run (end e) n k = if can_end k then None else Some (Syntax e)
 run (fault e) n k = Some (Lex e)
 run (token t p s) n k =
     if is_fold t && passes s empty_fold then Some (Syntax p) else onward (run s) p (counted t n) (step k t)
 
--- what is to come at the head of a pattern and of a definition
+-- what is to come at the head of a pattern, and of a definition
 abbrev pub pattern_symbols : List Symbol
 pattern_symbols = symbol.Pattern false ∷ []
 

@@ -1,12 +1,12 @@
--- Laws on texts: a text without a fault has none, another has one, and none has more tokens than
--- bytes.
+-- Laws on texts. A text of the language has no fault, each text has at most one first fault, and
+-- none has more tokens than bytes.
 use Rattle.std.specs.Prelude.{◌≡◌, ℕ, ◌≤◌, List, length, None, Some}
 use Rattle.kore_text.specs.declared.faults.TextFault.{TextFault}
 use Rattle.kore_text.specs.TokenStream.{tokens_of}
 use Rattle.kore_text.specs.Faults.{IsFirstFault, IsPattern, IsDefinition}
 use Rattle.kore_text.specs.Left.{size}
 
--- a text of the language has no fault
+-- a definition in which at most 500 brackets are open has no fault
 abbrev pub DefinitionHasNoFault : Type 0
 DefinitionHasNoFault =
     (bytes : List ℕ) (f : TextFault) → IsFirstFault IsDefinition 0 (tokens_of bytes) None → IsFirstFault IsDefinition 0 (tokens_of bytes) (Some f) → ⊥

@@ -1,4 +1,4 @@
--- The tokens of a Kore text with the byte at which each stands (Kore language document, lexical
+-- The tokens of a Kore text, each with the byte at which it begins (Kore language document, lexical
 -- structure).
 use Rattle.std.specs.Prelude.{ℕ, ◌-◌, List, take, drop, Option, Some, None, if◌then◌else◌, codes, true, false}
 use Rattle.std.specs.Str.{bytes_eq}
@@ -11,8 +11,8 @@ use Rattle.kore_text.specs.declared.names.Binder.TheVariants as binder
 use Rattle.kore_text.specs.declared.names.Built.{Built}
 use Rattle.kore_text.specs.declared.names.Built.TheVariants.{Connective, Binding, Value, Fold}
 
--- an identifier; the identifier of a set variable, after its `@`; what a built-in name stands
--- for, where that is anything; the text of a string; a mark; or `:=`
+-- a token: an identifier; the identifier of a set variable, after its `@`; what a built-in name
+-- stands for, if it stands for anything; the text of a string; a mark; or `:=`
 pub data Token : Type 0 where
   identifier : List ℕ → Token
   set_identifier : List ℕ → Token
@@ -21,7 +21,7 @@ pub data Token : Type 0 where
   mark : ℕ → Token
   assign : Token
 
--- what the name after a backslash stands for
+-- what the name after a backslash stands for, if it stands for anything
 unfoldable pub built_of : List ℕ → Option Built
 built_of n =
     if bytes_eq n (codes "top") then Some (Connective op.Top)
@@ -46,7 +46,7 @@ built_of n =
     else (if bytes_eq n (codes "right-assoc") then Some (Fold false)
     else None)))))))))))))))))))
 
--- the token of a kind that these bytes are
+-- the token of this kind with these bytes
 abbrev pub token_of : TokenKind → List ℕ → Token
 token_of kind.Ident bs = identifier bs
 token_of kind.SetIdent bs = set_identifier (drop 1 bs)
@@ -56,14 +56,15 @@ token_of (kind.Punct c) bs = mark c
 token_of kind.Assign bs = assign
 token_of kind.End bs = assign
 
--- tokens in order, each with the byte at which it stands, and then the end of the text or the byte
--- of what is no token
+-- tokens in order, each with the byte at which it begins; then the end of the text, or the byte of
+-- something that is no token
 pub data Stream : Type 0 where
   end : ℕ → Stream
   fault : ℕ → Stream
   token : Token → ℕ → Stream → Stream
 
--- a token and what follows it; a token of no bytes is the end
+-- a token of the text from byte `from` to byte `to`, and the stream after it; a token of the kind
+-- `End` is the end
 abbrev pub joined : List ℕ → TokenKind → ℕ → ℕ → Stream → Stream
 joined text kind.End from to s = end from
 joined text kind.Ident from to s = token (token_of kind.Ident (take (to - from) (drop from text))) from s
@@ -73,7 +74,7 @@ joined text kind.Text from to s = token (token_of kind.Text (take (to - from) (d
 joined text (kind.Punct c) from to s = token (token_of (kind.Punct c) (take (to - from) (drop from text))) from s
 joined text kind.Assign from to s = token (token_of kind.Assign (take (to - from) (drop from text))) from s
 
--- the tokens of a text that was cut
+-- the tokens of a text that was cut into pieces
 abbrev pub named : List ℕ → Cut → Stream
 named text (cut_end n) = end n
 named text (cut_fault n) = fault n

@@ -1,12 +1,12 @@
--- The trees of Kore text without memory (Kore language document, syntax). In each constructor and
--- record the number that comes first, or the field `at`, is the byte of the first token. A name or
--- a text is the list of its bytes.
+-- The trees of Kore text, without memory (Kore language document, syntax). In each constructor the
+-- first number is the byte of the first token. In each record it is the field `at`. A name or a
+-- text is the list of its bytes.
 use Rattle.std.specs.Prelude.{ℕ, Bool, List, [], ◌∷◌, length}
 use Rattle.kore_text.specs.declared.names.Op.{Op}
 use Rattle.kore_text.specs.declared.names.Binder.{Binder}
 
 mutual
-  -- a sort parameter by its name, or a sort's name applied to sorts
+  -- a sort: a parameter by its name, or a sort's name applied to sorts
   pub data SortTree : Type 0 where
     sort_parameter : ℕ → List ℕ → SortTree
     sort_applied : ℕ → List ℕ → SortTrees → SortTree
@@ -16,12 +16,12 @@ mutual
     sort_then : SortTree → SortTrees → SortTrees
 
 mutual
-  -- a pattern in its eight forms
+  -- a pattern, in one of eight forms
   pub data PatternTree : Type 0 where
     -- a variable's name and sort
     element_variable : ℕ → List ℕ → SortTree → PatternTree
     set_variable : ℕ → List ℕ → SortTree → PatternTree
-    -- a string, as attributes have it
+    -- a string; it occurs in attributes
     string : ℕ → List ℕ → PatternTree
     -- a symbol's name, its sort arguments and its arguments
     symbol_applied : ℕ → List ℕ → SortTrees → PatternTrees → PatternTree
@@ -31,7 +31,7 @@ mutual
     binding : ℕ → Binder → SortTrees → PatternTree → PatternTree → PatternTree
     -- a domain value's sort, its text and the byte of its string
     domain_value : ℕ → SortTree → List ℕ → ℕ → PatternTree
-    -- a fold from the left (true) or from the right (false) of an application
+    -- the fold of an application, from the left (true) or from the right (false)
     folded : ℕ → Bool → PatternTree → PatternTree
 
   pub data PatternTrees : Type 0 where
@@ -68,7 +68,7 @@ pub record ImportDeclaration : Type 0 where
   pub name : List ℕ
   pub attributes : List PatternTree
 
--- the keyword is `hooked-sort` where it is hooked
+-- the declaration of a sort; if `hooked` is true, its keyword is `hooked-sort`
 pub record SortDeclaration : Type 0 where
   pub at : ℕ
   pub hooked : Bool
@@ -76,7 +76,7 @@ pub record SortDeclaration : Type 0 where
   pub params : List (List ℕ)
   pub attributes : List PatternTree
 
--- the keyword is `hooked-symbol` where it is hooked
+-- the declaration of a symbol; if `hooked` is true, its keyword is `hooked-symbol`
 pub record SymbolDeclaration : Type 0 where
   pub at : ℕ
   pub hooked : Bool
@@ -86,7 +86,8 @@ pub record SymbolDeclaration : Type 0 where
   pub result : SortTree
   pub attributes : List PatternTree
 
--- the name and the sorts after `where`, the variables there, and the body after `:=`
+-- the declaration of an alias: the name and the sorts after `where`, the variables there, and the
+-- body after `:=`
 pub record AliasDeclaration : Type 0 where
   pub at : ℕ
   pub hooked : Bool
@@ -121,7 +122,7 @@ pub record ModuleTree : Type 0 where
   pub declarations : List Declaration
   pub attributes : List PatternTree
 
--- the modules stand in the order of the text
+-- a definition; its modules are in the order of the text
 pub record DefinitionTree : Type 0 where
   pub attributes : List PatternTree
   pub modules : List ModuleTree

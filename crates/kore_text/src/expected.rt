@@ -1,4 +1,4 @@
-// What may come next in a text: a stack of symbols, by the table of the grammar.
+// What may come next in a text: a stack of symbols, which changes by the table of the grammar.
 
 ghost use Rattle.std.specs.Prelude.{◌≡◌, ◌≢◌, ◌≤◌, ℕ, Bool, List, [], ◌∷◌, ◌++◌, true, false, Some, if◌then◌else◌, OnOk, IfOk};
 ghost use Rattle.kore_lex.specs.declared.lexer.TokenKind.TheVariants.{End};
@@ -14,35 +14,35 @@ use crate::words::Word;
 use kore_lex::TokenKind;
 use std::alloc::{AllocError, Global};
 
-/// Behind the brace that opens a list of sorts.
+/// After the brace that opens a list of sorts.
 const SORTS: [Symbol; 1] = [Symbol::First(Item::Sort, Close::Brace)];
 
-/// Behind the brace that opens a list of names.
+/// After the brace that opens a list of names.
 const NAMES: [Symbol; 1] = [Symbol::First(Item::Name, Close::Brace)];
 
-/// Behind the bracket that opens attributes.
+/// After the bracket that opens attributes.
 const ATTRIBUTES: [Symbol; 1] = [Symbol::First(Item::Pattern(true), Close::Bracket)];
 
-/// Behind the parenthesis that opens a signature.
+/// After the parenthesis that opens a signature.
 const SIGNATURE: [Symbol; 3] = [
     Symbol::First(Item::Sort, Close::Paren),
     Symbol::Mark(b':'),
     Symbol::Sort,
 ];
 
-/// Behind `module`, of a module alone.
+/// After `module`, if no other module may follow.
 const MODULE: [Symbol; 2] = [Symbol::Name, Symbol::Declarations];
 
-/// Behind `module`, where more modules may follow.
+/// After `module`, if more modules may follow.
 const MODULES: [Symbol; 3] = [Symbol::Name, Symbol::Declarations, Symbol::Modules];
 
-/// Behind `endmodule`.
+/// After `endmodule`.
 const END: [Symbol; 1] = [Symbol::Attributes];
 
-/// Behind `import`.
+/// After `import`.
 const IMPORT: [Symbol; 3] = [Symbol::Name, Symbol::Attributes, Symbol::Declarations];
 
-/// Behind `sort` and `hooked-sort`.
+/// After `sort` and `hooked-sort`.
 const SORT: [Symbol; 4] = [
     Symbol::Name,
     Symbol::Names,
@@ -50,7 +50,7 @@ const SORT: [Symbol; 4] = [
     Symbol::Declarations,
 ];
 
-/// Behind `symbol` and `hooked-symbol`.
+/// After `symbol` and `hooked-symbol`.
 const SYMBOL: [Symbol; 5] = [
     Symbol::Name,
     Symbol::Names,
@@ -59,7 +59,7 @@ const SYMBOL: [Symbol; 5] = [
     Symbol::Declarations,
 ];
 
-/// Behind `alias`.
+/// After `alias`.
 const ALIAS: [Symbol; 13] = [
     Symbol::Name,
     Symbol::Names,
@@ -76,7 +76,7 @@ const ALIAS: [Symbol; 13] = [
     Symbol::Declarations,
 ];
 
-/// Behind `axiom` and `claim`.
+/// After `axiom` and `claim`.
 const STATEMENT: [Symbol; 4] = [
     Symbol::Names,
     Symbol::Pattern(false),
@@ -84,7 +84,7 @@ const STATEMENT: [Symbol; 4] = [
     Symbol::Declarations,
 ];
 
-/// What may come next, the next symbol last.
+/// The symbols that may come next. The next symbol is the last in the vector.
 #[derive(Drop)]
 pub(crate) struct Expected {
     symbols: Vec<Symbol>,
@@ -93,7 +93,7 @@ pub(crate) struct Expected {
 impl Expected {
     ghost use Rattle.kore_text.specs.Stacks.{stack, Expands, Steps, is_nil};
 
-    /// These symbols, the first one next.
+    /// The stack of these symbols. The first of them is the next.
     pub(crate) fn new(alloc: Global, symbols: &[Symbol]) -> Result<Expected, AllocError>
         ensures { IfOk result (λ e. stack e ≡ symbols.now) }
     {
@@ -118,14 +118,15 @@ impl Expected {
         true
     }
 
-    /// Whether nothing is to come.
+    /// Whether no symbol is to come.
     pub(crate) fn is_done(&self) -> bool
         ensures { result ≡ is_nil (stack self.now) }
     {
         self.symbols.is_empty()
     }
 
-    /// Takes a token; answers whether it fits. Where it does not, nothing is known of what may come.
+    /// Takes a token and returns whether it fits. If it does not fit, the stack is left in an
+    /// unspecified state.
     pub(crate) fn take(&mut self, word: &Word<'_>) -> Result<bool, AllocError>
         requires { word.now.kind ≢ End }
         ensures { IfOk result (λ yes. Steps yes (step (stack self.old) (token_of word.now.kind word.now.bytes.now)) (stack self.new)) }
@@ -138,7 +139,7 @@ impl Expected {
         Ok(false)
     }
 
-    /// Puts these symbols in front.
+    /// Puts these symbols in front of the stack.
     fn put(&mut self, symbols: &[Symbol]) -> Result<(), AllocError>
         ensures { OnOk result (stack self.new ≡ symbols.now ++ stack self.old) }
     {
@@ -150,7 +151,7 @@ impl Expected {
         Ok(())
     }
 
-    /// Puts these symbols in front where the token fits.
+    /// Puts these symbols in front of the stack if the token fits. Returns whether it fits.
     fn put_where(&mut self, fits: bool, symbols: &[Symbol]) -> Result<bool, AllocError>
         ensures { IfOk result (λ yes. Expands yes (when fits symbols.now) (stack self.old) (stack self.new)) }
     {
@@ -160,7 +161,8 @@ impl Expected {
         Ok(fits)
     }
 
-    /// Puts what comes in the place of a symbol after a token, where the token fits it.
+    /// Puts in front of the stack what comes after this token of the symbol, if the token fits the
+    /// symbol. Returns whether it fits.
     #[tactic(auto, unfolding(crate::specs::Table::turn))]
     fn expand(&mut self, symbol: Symbol, word: &Word<'_>) -> Result<bool, AllocError>
         requires { word.now.kind ≢ End }
@@ -191,7 +193,7 @@ impl Expected {
         }
     }
 
-    /// A pattern's first token.
+    /// Takes the first token of a pattern.
     fn pattern(&mut self, strings: bool, word: &Word<'_>) -> Result<bool, AllocError>
         ensures { IfOk result (λ yes. Expands yes (pattern_move strings (token_of word.now.kind word.now.bytes.now)) (stack self.old) (stack self.new)) }
     {
@@ -210,7 +212,7 @@ impl Expected {
         }
     }
 
-    /// What comes after a built-in name.
+    /// Puts what comes after a built-in name.
     fn built(&mut self, strings: bool, built: Built) -> Result<(), AllocError>
         ensures { OnOk result (stack self.new ≡ built_symbols strings built ++ stack self.old) }
     {
@@ -235,7 +237,7 @@ impl Expected {
         }
     }
 
-    /// What comes after the name of a connective.
+    /// Puts what comes after the name of a connective.
     #[tactic(auto, using(crate::proofs::StackLaws::exactly_append))]
     fn connective(&mut self, strings: bool, op: Op) -> Result<(), AllocError>
         ensures { OnOk result (stack self.new ≡ built_symbols strings (Connective op) ++ stack self.old) }
@@ -249,7 +251,7 @@ impl Expected {
         self.put(&[Symbol::Mark(b'{')])
     }
 
-    /// What comes after the name of a binder.
+    /// Puts what comes after the name of a binder.
     #[tactic(auto, using(crate::proofs::StackLaws::exactly_append))]
     fn binding(&mut self, strings: bool, binder: Binder) -> Result<(), AllocError>
         ensures { OnOk result (stack self.new ≡ built_symbols strings (Binding binder) ++ stack self.old) }
@@ -265,7 +267,7 @@ impl Expected {
         self.put(&[Symbol::Mark(b'{')])
     }
 
-    /// A list of just so many of a symbol, from after its opening bracket.
+    /// Puts a list of exactly `count` items of a symbol, from the token after its opening bracket.
     #[tactic(auto, using(crate::proofs::StackLaws::exactly_first, crate::proofs::StackLaws::exactly_more))]
     fn exactly(&mut self, symbol: Symbol, close: Close, count: usize) -> Result<(), AllocError>
         ensures { OnOk result (stack self.new ≡ exactly symbol close count (stack self.old)) }
@@ -280,7 +282,7 @@ impl Expected {
         Ok(())
     }
 
-    /// Behind a name that begins a pattern.
+    /// Takes the token after a name that begins a pattern.
     fn pattern_tail(&mut self, strings: bool, word: &Word<'_>) -> Result<bool, AllocError>
         ensures { IfOk result (λ yes. Expands yes (pattern_tail_move strings (token_of word.now.kind word.now.bytes.now)) (stack self.old) (stack self.new)) }
     {
@@ -298,7 +300,7 @@ impl Expected {
         }
     }
 
-    /// A variable's name.
+    /// Takes the name of a variable.
     fn variable(&mut self, set: bool, word: &Word<'_>) -> Result<bool, AllocError>
         ensures { IfOk result (λ yes. Expands yes (variable_move set (token_of word.now.kind word.now.bytes.now)) (stack self.old) (stack self.new)) }
     {
@@ -310,7 +312,7 @@ impl Expected {
         self.put_where(fits, &[Symbol::Mark(b':'), Symbol::Sort])
     }
 
-    /// The head of what a fold is made of, with an argument.
+    /// Takes the head of a folded application that has at least one argument.
     fn folded_some(&mut self, strings: bool, word: &Word<'_>) -> Result<bool, AllocError>
         ensures { IfOk result (λ yes. Expands yes (folded_move (folded_arguments strings) (token_of word.now.kind word.now.bytes.now)) (stack self.old) (stack self.new)) }
     {
@@ -324,7 +326,7 @@ impl Expected {
         )
     }
 
-    /// The head of what a fold is made of, with these symbols for its arguments.
+    /// Takes the head of a folded application. These symbols come for its arguments.
     fn folded(&mut self, word: &Word<'_>, arguments: &[Symbol]) -> Result<bool, AllocError>
         ensures { IfOk result (λ yes. Expands yes (folded_move arguments.now (token_of word.now.kind word.now.bytes.now)) (stack self.old) (stack self.new)) }
     {
@@ -346,7 +348,7 @@ impl Expected {
         }
     }
 
-    /// A list from after its opening bracket.
+    /// Takes the token after the opening bracket of a list.
     fn first(&mut self, item: Item, close: Close, word: &Word<'_>) -> Result<bool, AllocError>
         ensures { IfOk result (λ yes. Expands yes (if is_mark (byte_of close) (token_of word.now.kind word.now.bytes.now) then Some [] else item_move item (token_of word.now.kind word.now.bytes.now))
             (rest_of (First item close) (token_of word.now.kind word.now.bytes.now) (stack self.old)) (stack self.new)) }
@@ -362,7 +364,7 @@ impl Expected {
         }
     }
 
-    /// A list from after an item.
+    /// Takes the token after an item of a list.
     fn more(&mut self, item: Item, close: Close, word: &Word<'_>) -> Result<bool, AllocError>
         ensures { IfOk result (λ yes. Expands yes (if is_mark (byte_of close) (token_of word.now.kind word.now.bytes.now) then Some []
             else when (is_mark 44 (token_of word.now.kind word.now.bytes.now)) (symbol_of item ∷ More item close ∷ [])) (stack self.old) (stack self.new)) }
@@ -376,7 +378,7 @@ impl Expected {
         )
     }
 
-    /// A declaration's keyword, or the one that ends a module.
+    /// Takes the keyword of a declaration, or `endmodule`.
     fn declaration(&mut self, word: &Word<'_>) -> Result<bool, AllocError>
         ensures { IfOk result (λ yes. Expands yes (declarations_move (token_of word.now.kind word.now.bytes.now)) (stack self.old) (stack self.new)) }
     {
@@ -386,7 +388,8 @@ impl Expected {
         }
     }
 
-    /// What comes after a declaration's keyword.
+    /// Puts what comes after the keyword of a declaration, or after `endmodule`. Returns false if
+    /// the name is no such keyword.
     fn declared(&mut self, name: &[u8]) -> Result<bool, AllocError>
         ensures { IfOk result (λ yes. Expands yes (word_move name.now) (stack self.old) (stack self.new)) }
     {

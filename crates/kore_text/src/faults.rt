@@ -3,11 +3,12 @@
 /// What is wrong with a text, and at which byte.
 #[derive(Clone, Copy, PartialEq, Eq, Debug)]
 pub enum TextFault {
-    /// No token starts here, a string or a comment has no end, or an escape is bad.
+    /// No token starts at this byte, a string or a comment has no end, a string is not UTF-8, or an
+    /// escape is bad.
     Lex(u32),
-    /// The token that stands here fits no case of the grammar, or the end does; a fold without an
-    /// argument counts at its first token.
+    /// The token at this byte fits no case of the grammar, or the text ends here too soon. For a
+    /// fold without an argument this is the byte of its first token.
     Syntax(u32),
-    /// The 501st bracket `(` or `{` opens here.
+    /// The bracket `(` or `{` at this byte opens the 501st level.
     Deep(u32),
 }

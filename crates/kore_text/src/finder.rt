@@ -14,10 +14,10 @@ use crate::words::Word;
 use kore_lex::TokenKind;
 use std::alloc::{AllocError, Global};
 
-/// The most brackets `(` and `{` that may be open at once.
+/// The greatest number of brackets `(` and `{` that may be open at once.
 const MOST_OPEN: usize = 500;
 
-/// What makes a fold one without an argument, after its name.
+/// What follows the name of a fold if the fold has no argument.
 const EMPTY_FOLD: [Symbol; 4] = [
     Symbol::Mark(b'{'),
     Symbol::Mark(b'}'),
@@ -25,13 +25,13 @@ const EMPTY_FOLD: [Symbol; 4] = [
     Symbol::EmptyFolded,
 ];
 
-/// A text of which a part was looked at.
+/// A text of which some tokens were looked at.
 #[derive(Drop)]
 pub(crate) struct Finder<'a> {
     alloc: Global,
     tokens: Tokens<'a>,
     expected: Expected,
-    // the brackets `(` and `{` that are open
+    // how many brackets `(` and `{` are open
     depth: usize,
     ghost shallow: { depth ≤ 500 },
 }
@@ -39,15 +39,16 @@ pub(crate) struct Finder<'a> {
 /// What was found at the next token.
 #[derive(Clone, Copy)]
 pub(crate) enum Look {
-    /// It is good.
+    /// The token is good.
     Good,
-    /// It is the end, and the text is good.
+    /// The text ends, and it is good.
     Fine,
     Fault(TextFault),
 }
 
-/// The first fault of a text, of fewer than 2^32 bytes, that is to be a definition; none where the
-/// bytes spell one. Time is linear in the bytes, and nothing recurses.
+/// The first fault of a text of fewer than 2^32 bytes that should be a definition. Returns none if
+/// the bytes spell a definition. Fails only if memory runs out. Time is linear in how many bytes
+/// there are, and nothing recurses.
 #[tactic(auto, using(crate::proofs::Explaining::definition_fault))]
 pub fn definition_fault(alloc: Global, text: &[u8]) -> Result<Option<TextFault>, AllocError>
     requires { length text.now < 2 ^ 32 }
@@ -60,8 +61,9 @@ pub fn definition_fault(alloc: Global, text: &[u8]) -> Result<Option<TextFault>,
     )
 }
 
-/// The first fault of a text, of fewer than 2^32 bytes, that is to be a pattern; none where the
-/// bytes spell one. Time is linear in the bytes, and nothing recurses.
+/// The first fault of a text of fewer than 2^32 bytes that should be a pattern. Returns none if the
+/// bytes spell a pattern. Fails only if memory runs out. Time is linear in how many bytes there
+/// are, and nothing recurses.
 #[tactic(auto, using(crate::proofs::Explaining::pattern_fault))]
 pub fn pattern_fault(alloc: Global, text: &[u8]) -> Result<Option<TextFault>, AllocError>
     requires { length text.now < 2 ^ 32 }
@@ -123,7 +125,7 @@ impl<'a> Finder<'a> {
         }
     }
 
-    /// What is found at the end.
+    /// What is found if the text ends at byte `at`.
     #[tactic(auto, using(crate::proofs::Looking::run_ends, crate::proofs::Looking::run_no_end))]
     fn end(&self, at: u32) -> Look
         ensures { Ends result at self.now }
@@ -136,7 +138,7 @@ impl<'a> Finder<'a> {
     }
 }
 
-/// Whether this token and what comes are a fold without an argument.
+/// Whether this token and the tokens after it begin a fold without an argument.
 fn begins_empty_fold(
     alloc: Global,
     word: &Word<'_>,
@@ -150,7 +152,7 @@ fn begins_empty_fold(
     is_empty_fold(alloc, tokens.fork())
 }
 
-/// Whether what comes makes a fold one without an argument.
+/// Whether these tokens, after the name of a fold, say that the fold has no argument.
 #[tactic(auto, using(crate::proofs::Looking::passes_done, crate::proofs::Looking::passes_end, crate::proofs::Looking::passes_fault, crate::proofs::Looking::passes_token, crate::proofs::Looking::passes_stuck, crate::proofs::Looking::size_token))]
 fn is_empty_fold(alloc: Global, mut tokens: Tokens<'_>) -> Result<bool, AllocError>
     ensures { IfOk result (λ yes. yes ≡ passes (left tokens.entry) empty_fold) }
@@ -169,7 +171,7 @@ fn is_empty_fold(alloc: Global, mut tokens: Tokens<'_>) -> Result<bool, AllocErr
     Ok(true)
 }
 
-/// The brackets that are open after a token.
+/// How many brackets are open after a token, if `depth` are open before it.
 fn opened(kind: TokenKind, depth: usize) -> usize
     requires { depth ≤ 500 }
     ensures { (bytes : List ℕ) → result ≡ opened (token_of kind bytes) depth }

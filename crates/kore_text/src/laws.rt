@@ -1,9 +1,10 @@
-// Laws on the definitions.
+// Laws on the definitions of `specs/`.
 ghost use Rattle.kore_text.specs.TextLaws.{DefinitionFaultIsUnique, DefinitionHasNoFault, NoMoreTokensThanBytes, PatternFaultIsUnique, PatternHasNoFault};
 ghost use Rattle.kore_text.specs.Identifiers.{NamesAreIdentifiers, PatternNamesAreIdentifiers};
 
 /// A text that spells a definition or a pattern, with at most 500 brackets open, has no fault. The
-/// first fault of any other is unique, in its kind and its byte. No text has more tokens than bytes.
+/// first fault of any other text is unique, in its kind and its byte. No text has more tokens than
+/// bytes.
 pub fn text_laws()
     ensures definition { DefinitionHasNoFault }
     ensures pattern { PatternHasNoFault }

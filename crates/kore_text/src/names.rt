@@ -45,7 +45,7 @@ pub enum Built {
 }
 
 impl Built {
-    /// What the name after a backslash stands for.
+    /// What the name after a backslash stands for. Returns none if it stands for nothing.
     #[tactic(auto, unfolding(crate::specs::TokenStream::built_of))]
     pub fn of_name(name: &[u8]) -> Option<Built>
         ensures { result ≡ built_of name.now }
@@ -97,7 +97,7 @@ impl Built {
 }
 
 impl Op {
-    /// The number of its sorts.
+    /// How many sorts the connective takes.
     pub fn sorts(self) -> usize
         ensures { result ≡ sorts_of self }
     {
@@ -107,7 +107,7 @@ impl Op {
         }
     }
 
-    /// The number of its arguments, none where it takes any number.
+    /// How many arguments the connective takes. Returns none if it takes any number.
     pub fn arguments(self) -> Option<usize>
         ensures { result ≡ arguments_of self }
     {
@@ -119,7 +119,7 @@ impl Op {
         }
     }
 
-    /// Whether a fold may be made of it: `\and` and `\or`.
+    /// Whether the connective may be folded: `\and` and `\or`.
     pub fn is_associative(self) -> bool
         ensures { result ≡ is_associative self }
     {
@@ -131,7 +131,7 @@ impl Op {
 }
 
 impl Binder {
-    /// The number of its sorts.
+    /// How many sorts the binder takes.
     pub fn sorts(self) -> usize
         ensures { result ≡ binder_sorts self }
     {
@@ -141,7 +141,7 @@ impl Binder {
         }
     }
 
-    /// Whether it binds a set variable, or else an element variable.
+    /// Whether the binder binds a set variable. If not, it binds an element variable.
     pub fn binds_sets(self) -> bool
         ensures { result ≡ binds_sets self }
     {

@@ -6,7 +6,7 @@ ghost use Rattle.kore_text.specs.Table.{byte_of, symbol_of, is_empty};
 
 use crate::words::Word;
 
-/// What ends a list.
+/// The mark that ends a list.
 #[derive(Clone, Copy)]
 pub(crate) enum Close {
     Brace,
@@ -19,7 +19,7 @@ pub(crate) enum Close {
 pub(crate) enum Item {
     Name,
     Sort,
-    /// A pattern, in which strings may stand or not.
+    /// A pattern. If the flag is true, strings may occur in it.
     Pattern(bool),
 }
 
@@ -37,21 +37,21 @@ pub(crate) enum Symbol {
     /// A string.
     Text,
     Sort,
-    /// Behind a sort's name: sorts in braces, or nothing.
+    /// After the name of a sort: sorts in braces, or nothing.
     SortTail,
-    /// A pattern, in which strings may stand or not.
+    /// A pattern. If the flag is true, strings may occur in it.
     Pattern(bool),
-    /// Behind a name that begins a pattern.
+    /// After a name that begins a pattern. The flag is as for `Pattern`.
     PatternTail(bool),
     /// A set variable (`true`) or an element variable (`false`).
     Variable(bool),
-    /// What a fold is made of: an application with an argument.
+    /// A folded application that has at least one argument. The flag is as for `Pattern`.
     Folded(bool),
-    /// The same without an argument.
+    /// A folded application that has no argument.
     EmptyFolded,
-    /// A list from after its opening bracket.
+    /// A list, from the token after its opening bracket.
     First(Item, Close),
-    /// A list from after an item.
+    /// A list, from the token after an item.
     More(Item, Close),
     /// Attributes in brackets.
     Attributes,
@@ -59,7 +59,8 @@ pub(crate) enum Symbol {
     Names,
     /// Sorts in parentheses, a colon and a sort.
     Signature,
-    /// Declarations up to and with the word and the attributes that end their module.
+    /// Declarations, up to and including the word `endmodule` and the attributes that end their
+    /// module.
     Declarations,
     Module,
     /// Modules up to the end.
@@ -67,7 +68,7 @@ pub(crate) enum Symbol {
 }
 
 impl Close {
-    /// The mark.
+    /// The byte of the mark.
     pub(crate) fn byte(self) -> u8
         ensures { result ≡ byte_of self }
     {
@@ -95,7 +96,7 @@ impl Item {
 impl Symbol {
     ghost use Rattle.kore_text.specs.Stacks.{is_left_out};
 
-    /// Whether nothing need come of it.
+    /// Whether the symbol may be left out.
     pub(crate) fn is_empty(self) -> bool
         ensures { result ≡ is_empty self }
     {
@@ -105,7 +106,7 @@ impl Symbol {
         }
     }
 
-    /// Whether nothing comes of it at this token.
+    /// Whether the symbol may be left out and this token does not fit it.
     #[tactic(auto, unfolding(crate::specs::Table::turn))]
     pub(crate) fn is_left_out(self, word: &Word<'_>) -> bool
         ensures { result ≡ is_left_out self (token_of word.now.kind word.now.bytes.now) }

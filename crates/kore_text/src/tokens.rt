@@ -9,15 +9,15 @@ use std::marker::Model;
 /// What comes next in a text.
 #[derive(Clone, Copy)]
 pub enum Next<'a> {
-    /// A token of this kind, at this byte, with its bytes; never of the kind `End`.
+    /// A token of this kind, at this byte, with these bytes. The kind is never `End`.
     Token(TokenKind, u32, &'a [u8]),
-    /// The end of the text.
+    /// The end of the text, at this byte.
     End(u32),
-    /// What is no token, and its byte.
+    /// Something that is no token, at this byte.
     Fault(u32),
 }
 
-/// A text of which some tokens are taken. A contract sees the text and the byte up to which it is
+/// A text of which some tokens were taken. A contract sees the text and the byte up to which it was
 /// taken.
 #[derive(Drop)]
 pub struct Tokens<'a> {
@@ -39,7 +39,7 @@ impl<'a> Model for Tokens<'a> {
 impl<'a> Tokens<'a> {
     ghost use Rattle.kore_text.specs.Left.{left, Comes};
 
-    /// The whole text, of fewer than 2^32 bytes.
+    /// The tokens of the whole text, which has fewer than 2^32 bytes.
     pub fn new(text: &'a [u8]) -> Tokens<'a>
         requires { length text.now < 2 ^ 32 }
         ensures { left result ≡ tokens_of text.now }
@@ -50,7 +50,7 @@ impl<'a> Tokens<'a> {
         }
     }
 
-    /// Another view of the text, which goes on from the same place by itself.
+    /// Another view of the same text, at the same place. The two are independent.
     pub fn fork(&self) -> Tokens<'a>
         ensures { result ≡ self.now }
     {
@@ -60,7 +60,8 @@ impl<'a> Tokens<'a> {
         }
     }
 
-    /// Takes the next token. It takes no memory, and the whole text a time linear in its length.
+    /// Takes the next token and returns it. It allocates nothing. Reading the whole text takes time
+    /// linear in its length.
     pub fn next(&mut self) -> Next<'a>
         ensures { Comes result (left self.old) (left self.new) }
     {

@@ -9,7 +9,7 @@ ghost use Rattle.kore_text.specs.Apart.{is_mark};
 use crate::names::Built;
 use kore_lex::TokenKind;
 
-/// A token of a kind with its bytes.
+/// A token: its kind and its bytes.
 #[derive(Clone, Copy)]
 pub(crate) struct Word<'a> {
     pub(crate) kind: TokenKind,
@@ -17,7 +17,7 @@ pub(crate) struct Word<'a> {
 }
 
 impl<'a> Word<'a> {
-    /// This mark.
+    /// Whether it is this mark.
     pub(crate) fn is_mark(&self, byte: u8) -> bool
         ensures { result ≡ is_mark byte (token_of self.now.kind self.now.bytes.now) }
     {
@@ -27,7 +27,7 @@ impl<'a> Word<'a> {
         }
     }
 
-    /// An identifier.
+    /// Whether it is an identifier.
     pub(crate) fn is_name(&self) -> bool
         ensures { result ≡ is_name (token_of self.now.kind self.now.bytes.now) }
     {
@@ -37,7 +37,7 @@ impl<'a> Word<'a> {
         }
     }
 
-    /// This identifier.
+    /// Whether it is this identifier.
     pub(crate) fn is_word(&self, word: &[u8]) -> bool
         ensures { result ≡ is_word word.now (token_of self.now.kind self.now.bytes.now) }
     {
@@ -47,7 +47,7 @@ impl<'a> Word<'a> {
         }
     }
 
-    /// The name of a set variable.
+    /// Whether it is the name of a set variable.
     pub(crate) fn is_set_name(&self) -> bool
         ensures { result ≡ is_set_name (token_of self.now.kind self.now.bytes.now) }
     {
@@ -57,7 +57,7 @@ impl<'a> Word<'a> {
         }
     }
 
-    /// A string.
+    /// Whether it is a string.
     pub(crate) fn is_text(&self) -> bool
         ensures { result ≡ is_text (token_of self.now.kind self.now.bytes.now) }
     {
@@ -67,7 +67,7 @@ impl<'a> Word<'a> {
         }
     }
 
-    /// `:=`.
+    /// Whether it is `:=`.
     pub(crate) fn is_assign(&self) -> bool
         requires { self.now.kind ≢ End }
         ensures { result ≡ is_assign (token_of self.now.kind self.now.bytes.now) }
@@ -78,7 +78,7 @@ impl<'a> Word<'a> {
         }
     }
 
-    /// A fold from the left or from the right.
+    /// Whether it is a fold, from the left or from the right.
     pub(crate) fn is_fold(&self) -> bool
         ensures { result ≡ is_fold (token_of self.now.kind self.now.bytes.now) }
     {
