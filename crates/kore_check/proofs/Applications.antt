@@ -20,7 +20,7 @@ use Rattle.kore_check.proofs.NotedLaws.{noted-append}
 use Rattle.kore_check.proofs.Forms.{application_is, listed_sorts-trees}
 use Rattle.kore_check.proofs.Items.{drop-item, drop-drop}
 
--- the patterns of a slice, unfolded
+-- the patterns of a slice, with their folds expanded
 abbrev pub reads : List Pat → Unfoldeds
 reads ps = all_unfolded (pattern_trees (map plain_pattern ps))
 

@@ -1,4 +1,4 @@
--- What rule patterns are built of.
+-- What rule patterns are built from.
 use Rattle.std.proofs.Common.{◌≡◌, ◌≤◌, ◌<◌, inl, inr, ℕ, zero, suc, ◌+◌, Bool, true, false, List, [], ◌∷◌, ◌++◌, length, map, drop, take, reverse, get_or, Option, Some, None, option_map, slice_get, append_assoc, append-nil, eq-eqb, refl, sym, ◌∙◌, ap, subst, arith}
 use Rattle.std.specs.Prelude.{is_some, ◌&&◌, ◌==◌}
 use Rattle.std.proofs.lemmas.List.{map-append, reverse-append}
@@ -133,7 +133,7 @@ right-none kind f ns (x ∷ []) a b is = ap (option_and_then (pair_pattern kind 
 right-none kind f ns (x ∷ y ∷ xs) a b is =
     ap (option_and_then (pair_pattern kind f ns x)) (right-none kind f ns (y ∷ xs) a b is)
 
--- one turn of the loop of a fold from the right, where this one is taken from those that are left
+-- one turn of the loop of a fold from the right: this pattern is taken from those that are left
 pub right_goes_on : (kind : SymKind) (f : ℕ) (ns : List ℕ) (xs ys : List RulePat) (a b r : RulePat) (whole : Option Pattern) → xs ≡ ys ++ a ∷ [] → pair_pattern kind f ns (plain_pattern a) (plain_pattern b) ≡ Some (plain_pattern r)
     → right_pattern kind f ns (map plain_pattern xs ++ plain_pattern b ∷ []) ≡ whole → right_pattern kind f ns (map plain_pattern ys ++ plain_pattern r ∷ []) ≡ whole
 right_goes_on kind f ns xs ys a b r whole e is known =
@@ -148,7 +148,7 @@ right_fails kind f ns xs ys a b whole e is known =
     ∙ ap (right_pattern kind f ns) (sym (append_assoc (map plain_pattern ys) (plain_pattern a ∷ []) (plain_pattern b ∷ [])) ∙ ap (λ (zs : List Pattern). zs ++ plain_pattern b ∷ []) (sym (ap (map plain_pattern) e ∙ map-append plain_pattern ys (a ∷ []))))
     ∙ known
 
--- .. from the left, where those that are left stand in reverse
+-- one turn of the loop of a fold from the left, with the patterns that are left in reverse order
 pub left_goes_on : (kind : SymKind) (f : ℕ) (ns : List ℕ) (xs ys : List RulePat) (a b r : RulePat) (whole : Option Pattern) → xs ≡ ys ++ b ∷ [] → pair_pattern kind f ns (plain_pattern a) (plain_pattern b) ≡ Some (plain_pattern r)
     → left_behind kind f ns (plain_pattern a) (map plain_pattern (reverse xs)) ≡ whole → left_behind kind f ns (plain_pattern r) (map plain_pattern (reverse ys)) ≡ whole
 left_goes_on kind f ns xs ys a b r whole e is known =
@@ -190,7 +190,7 @@ value_known sig at byte n s text kind good is of none =
     let fine : text_faults (Some kind) text byte ≡ [] = sym (ap (λ (o : Option SortKind). text_faults o text byte) kinds) ∙ (parts_empty (sort_faults sig s) _ (good.0)).1 in
     false≢true (sym (ap is_some none) ∙ unless_empty (is_some (value_of_text kind text)) 11 byte fine)
 
--- what the head of an application without faults is
+-- the head of an application without faults
 pub record IsSound (sig : Signature) (name : List ℕ) (ss : List SortTree) (args : ℕ) : Type 0 where
   pub info : SymInfo
   pub named : symbol_named sig name ≡ Some info
@@ -238,7 +238,7 @@ application_faultless sig at byte name ss us good =
     let more = parts_empty (symbol_faults sig byte (symbol_named sig name) ss (count us)) _ (parts.1) in
     (head_sound sig byte name ss (count us) parts.0 more.0, arguments_faultless sig ss (places_of (symbol_named sig name)) us more.1 good.1)
 
--- how many rule patterns there are
+-- the number of rule patterns
 abbrev how_many : Patterns → ℕ
 how_many no_pattern = 0
 how_many (more_patterns p ps) = how_many ps + 1
@@ -262,7 +262,7 @@ pub named_same : (sig : Signature) (name : List ℕ) (f : ℕ) (info other : Sym
 named_same sig name f info other named is =
     let both : Some other ≡ Some info = sym is ∙ ap (option_and_then (symbol_info sig)) named.0 ∙ named.1 in cc
 
--- a sound head makes something of as many patterns as it has arguments
+-- a sound head can be applied to as many patterns as it has arguments
 makes_some : (sig : Signature) (name : List ℕ) (ss : List SortTree) (n f : ℕ) (info : SymInfo) (ns : List ℕ) (ps : Patterns) (kind : SymKind) → IsSignature sig → IsSound sig name ss n → IsNamed sig name f info → info.kind ≡ kind → sort_numbers sig ss ≡ Some ns → n ≡ how_many ps
     → applied_pattern kind f ns ps ≡ None → ⊥
 makes_some sig name ss n f info ns ps Injection good sound named is sorts many none =
@@ -278,7 +278,7 @@ makes_some sig name ss n f info ns ps Closed good sound named is sorts many none
 makes_some sig name ss n f info ns ps NoKind good sound named is sorts many none =
     false≢true (sym sound.kind ∙ ap has_no_kind (ap (λ (i : SymInfo). i.kind) (named_same sig name f info sound.info named sound.named) ∙ is))
 
--- what is built of an application
+-- what is built from an application
 pub application_built : (sig : Signature) (at byte : ℕ) (name : List ℕ) (ss : List SortTree) (us : Unfoldeds) (old new : List (List ℕ × ℕ)) (h : Head) (args : Vec RulePat Global) (found : Option RulePat) → IsSignature sig → IsHead sig name ss (Some h) → AllBuilt sig old new us (Some args)
     → option_map plain_pattern found ≡ applied_pattern h.kind h.sym.0 (numbers_of h.sorts.items) (plain_patterns args.items) → Built sig old new (applied_symbol at byte name ss us) found
 application_built sig at byte name ss us old new h args None good (info, named, kind, sorts) all is = λ faultless.
@@ -376,7 +376,7 @@ right_means sig vars byte f name ss ns info u (and_more v us) p (q ∷ qs) r nam
     let made = then_is (pair_pattern info.kind f ns p) (right_pattern info.kind f ns (q ∷ qs)) r is in
     by_symbol named sorts (more_mean first (more_mean (right_means sig vars byte f name ss ns info v us q qs made.0 named sorts second rest made.1) none_mean)) made.2
 
--- a sound head makes something of any patterns
+-- a symbol that can be applied to any two patterns can be folded over any patterns
 left_some : (kind : SymKind) (f : ℕ) (ns : List ℕ) (p : Pattern) (qs : List Pattern) → ((a b : Pattern) → pair_pattern kind f ns a b ≡ None → ⊥) → left_behind kind f ns p qs ≡ None → ⊥
 left_some kind f ns p [] some none = let no_value : ⊥ = cc in no_value
 left_some kind f ns p (q ∷ qs) some none = by_case (λ r h. left_some kind f ns r qs some h) (pair_pattern kind f ns p q) refl where
@@ -394,7 +394,7 @@ right_some kind f ns p (q ∷ qs) some none = by_case (λ h. right_some kind f n
 split_mean : (sig : Signature) (vars : List (List ℕ × ℕ)) {u : Unfolded} {us : Unfoldeds} {p : Pattern} {ps : Patterns} → AllMean sig vars (and_more u us) (more_patterns p ps) → Means sig vars u p × AllMean sig vars us ps
 split_mean sig vars (more_mean first rest) = (first, rest)
 
--- a sound head of two arguments makes something of any two patterns
+-- a sound head of two arguments can be applied to any two patterns
 two_some : (sig : Signature) (name : List ℕ) (ss : List SortTree) (f : ℕ) (info : SymInfo) (ns : List ℕ) (kind : SymKind) → IsSignature sig → IsSound sig name ss 2 → IsNamed sig name f info → kind ≡ info.kind → sort_numbers sig ss ≡ Some ns
     → (a b : Pattern) → pair_pattern kind f ns a b ≡ None → ⊥
 two_some sig name ss f info ns kind good sound named is sorts a b none =
@@ -419,7 +419,7 @@ fold_variables : (sig : Signature) (vars : List (List ℕ × ℕ)) (left : Bool)
 fold_variables sig vars true byte name ss u us = left_variables sig vars byte name ss u us
 fold_variables sig vars false byte name ss u us = right_variables sig vars byte name ss u us
 
--- what is built of a fold of two or more patterns
+-- what is built from a fold of two or more patterns
 fold_made : (sig : Signature) (left : Bool) (byte : ℕ) (name : List ℕ) (ss : List SortTree) (u v : Unfolded) (us : Unfoldeds) (old new : List (List ℕ × ℕ)) (h : Head) (p : Pattern) (ps : List Pattern) (found : Option RulePat) → IsSignature sig → IsHead sig name ss (Some h)
     → new ≡ with_all_variables sig old (and_more u (and_more v us)) → AllMeanFrom sig new (and_more u (and_more v us)) (patterns (p ∷ ps))
     → option_map plain_pattern found ≡ fold_pattern left h.kind h.sym.0 (numbers_of h.sorts.items) (p ∷ ps) → Built sig old new (fold_of left byte name ss (and_more u (and_more v us))) found
@@ -459,7 +459,7 @@ fold_without_arguments sig left byte name ss (a ∷ []) old new many none good =
 fold_without_arguments sig left byte name ss (a ∷ b ∷ args) old new many none good =
     none ((fold_faultless sig left byte name ss (unfolded (plain_tree a)) (unfolded (plain_tree b)) (reads args) good).1)
 
--- one more pattern in front of those that were built
+-- one more pattern before those that were built
 pub all-more : (sig : Signature) (old mid new : List (List ℕ × ℕ)) (args : List Pat) (i : ℕ) (arg : Pat) (pats : List RulePat) (p : RulePat) → i < length args → arg ≡ get_or args i arg → Extends mid new → MeansFrom sig new (unfolded (plain_tree arg)) (plain_pattern p)
     → ((more : List (List ℕ × ℕ)) (qs : List Pattern) → Extends mid more → AllMean sig more (reads (drop i args)) (patterns qs) → AllMean sig more (reads args) (patterns (map plain_pattern pats ++ qs)))
     → (more : List (List ℕ × ℕ)) (qs : List Pattern) → Extends new more → AllMean sig more (reads (drop (i + 1) args)) (patterns qs) → AllMean sig more (reads args) (patterns (map plain_pattern (pats ++ p ∷ []) ++ qs))
@@ -481,7 +481,7 @@ take-front : {X : Type 0} (xs ys : List X) → take (length xs) (xs ++ ys) ≡ x
 take-front [] ys = refl
 take-front (x ∷ xs) ys = ap (λ (zs : List _). x ∷ zs) (take-front xs ys)
 
--- variables that were added are taken away again
+-- variables that were added are removed again
 pub variables-truncated : (old new : List (List ℕ × ℕ)) (n : ℕ) → n ≡ length old → Extends old new → take n new ≡ old
 variables-truncated old new n count (behind, is) =
     ap (λ (k : ℕ). take k new) count ∙ ap (λ (vs : List (List ℕ × ℕ)). take (length old) vs) is ∙ take-front old behind

@@ -1,4 +1,4 @@
--- What the cases of building a rule pattern come to.
+-- The results of the cases of building a rule pattern.
 use Rattle.std.proofs.Common.{◌≡◌, ◌≤◌, ◌<◌, ℕ, ◌+◌, Bool, List, [], ◌++◌, length, map, drop, get_or, Option, Some, None, option_map, Vec, Global, append-nil, sym, ◌∙◌, ap, subst}
 use Rattle.std.specs.Prelude.{Result, Ok, Err, IfOk}
 use Rattle.std.proofs.lemmas.List.{drop_all}

@@ -96,7 +96,7 @@ fold_begun sig left s (p ∷ args) arg own first second third many item at sorte
     after-append first second (after third rest) own_faults (clashes ++ rest) e (after-append second third (after third rest) clashes rest clash refl)
     ∙ ap (λ (q : Pat). after first (folded_faults sig left s (reads (q ∷ args)))) item
 
--- .. and each one after it
+-- each argument of a fold after the first one
 pub fold_goes_on : (sig : Signature) (left is_last : Bool) (s : FoldSorts) (args : List Pat) (i : ℕ) (arg : Pat) (own : Option ℕ) (first second third : Option PatternFault) (target : Option Fault)
     → i < length args → arg ≡ get_or args i arg → place (unfolded (plain_pattern arg)) ≡ arg.at → own ≡ sort_of sig (unfolded (plain_pattern arg)) → is_last ≡ (i + 1 == length args)
     → kept_fault second ≡ after first (pattern_faults sig (unfolded (plain_pattern arg)))

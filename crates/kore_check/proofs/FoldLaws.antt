@@ -1,4 +1,5 @@
--- The faults of the patterns that a fold stands for are those of its symbol, which are noted once, and of its arguments.
+-- The faults of the patterns that a fold means. They are those of its symbol, which are noted once,
+-- and those of its arguments.
 use Rattle.std.proofs.Common.{◌≡◌, ℕ, Bool, true, false, List, [], ◌++◌, Option, option_map, drop, append_assoc, append-nil, sym, ◌∙◌, ap}
 use Rattle.std.specs.Prelude.{flat_map}
 use Rattle.kore_text.specs.Trees.{SortTree}
@@ -17,14 +18,14 @@ use Rattle.kore_check.proofs.SameFaults.{same-refl, same-trans, same-eq, same-ap
 abbrev pub head_of : Signature → ℕ → List ℕ → List SortTree → List Fault
 head_of sig byte name ss = flat_map (sort_faults sig) ss ++ symbol_faults sig byte (symbol_named sig name) ss 2
 
--- what the code knows of the applications of a fold is so
+-- what the code knows of the applications of a fold is true
 pub record Knows (sig : Signature) (byte : ℕ) (name : List ℕ) (ss : List SortTree) (s : FoldSorts) : Type 0 where
   pub at : s.at ≡ byte
   pub own : option_map sort_no s.own ≡ result_sort (symbol_named sig name) ss (sort_numbers sig ss)
   pub lower : option_map sort_no s.lower ≡ first_wanted sig ss (places_of (symbol_named sig name))
   pub upper : option_map sort_no s.upper ≡ first_wanted sig ss (drop 1 (places_of (symbol_named sig name)))
 
--- the clash of a pattern with what is wanted
+-- the clash of a pattern with the wanted sort
 abbrev clash : Signature → Unfolded → Option ℕ → List Fault
 clash sig p wanted = clash_faults (place p) (sort_of sig p) wanted
 
@@ -37,14 +38,14 @@ two_faults sig byte name ss s p q k =
     ∙ ap (λ (w : Option ℕ). head_of sig byte name ss ++ (pattern_faults sig p ++ (clash sig p w ++ (pattern_faults sig q ++ (clash sig q (first_wanted sig ss (drop 1 (places_of (symbol_named sig name)))) ++ []))))) (sym k.lower)
     ∙ ap (λ (w : Option ℕ). head_of sig byte name ss ++ (pattern_faults sig p ++ (clash sig p (option_map sort_no s.lower) ++ (pattern_faults sig q ++ (clash sig q w ++ []))))) (sym k.upper)
 
--- the clash of such an application where it is an argument itself
+-- the clash of such an application if it is an argument itself
 own_clash : (sig : Signature) (byte : ℕ) (name : List ℕ) (ss : List SortTree) (s : FoldSorts) (p q : Unfolded) (wanted : Option ℕ) → Knows sig byte name ss s
     → clash sig (applied_to_two byte name ss p q) wanted ≡ clash_faults s.at (option_map sort_no s.own) wanted
 own_clash sig byte name ss s p q wanted k =
     ap (λ (b : ℕ). clash_faults b (result_sort (symbol_named sig name) ss (sort_numbers sig ss)) wanted) (sym k.at)
     ∙ ap (λ (o : Option ℕ). clash_faults s.at o wanted) (sym k.own)
 
--- from the left: of the patterns after an application that is built already
+-- from the left: the faults of the patterns after an application that is already built
 abbrev left_rest : Signature → FoldSorts → Unfoldeds → List Fault
 left_rest sig s no_more = []
 left_rest sig s (and_more q qs) =
@@ -91,7 +92,7 @@ left_same sig s q (and_more r qs) =
     (same-eq _ _ (ap (λ (x : List Fault). own ++ x) (sym (append_assoc last outer behind))))
     (same-append own own ((last ++ outer) ++ behind) _ (same-refl own) (same-append (last ++ outer) (last ++ outer) behind _ (same-refl (last ++ outer)) (left_same sig s r qs)))
 
--- after the faults of the symbol one may stand for the other, whatever stands between
+-- lists that have the same faults after those of the symbol still do with other faults between
 through : (h z xs ys : List Fault) → SameFaults (h ++ xs) (h ++ ys) → SameFaults (h ++ (z ++ xs)) (h ++ (z ++ ys))
 through h z xs ys same =
     same-trans (h ++ (z ++ xs)) (z ++ (h ++ xs)) (h ++ (z ++ ys)) (same-front h z xs)
@@ -100,7 +101,7 @@ through h z xs ys same =
 regroup_right : (h p k x y c : List Fault) → h ++ ((h ++ (p ++ (k ++ (x ++ (y ++ []))))) ++ c) ≡ h ++ (h ++ (p ++ (k ++ ((x ++ y) ++ c))))
 regroup_right h p k x y c = simp (append_assoc, append-nil)
 
--- from the right: of a pattern that is no first one, and of those after it
+-- from the right: the faults of a pattern that is not the first one, and of those after it
 right_built : (sig : Signature) (byte : ℕ) (name : List ℕ) (ss : List SortTree) (s : FoldSorts) (p : Unfolded) (qs : Unfoldeds) → Knows sig byte name ss s
     → SameFaults (head_of sig byte name ss ++ (pattern_faults sig (folded_right byte name ss p qs) ++ clash sig (folded_right byte name ss p qs) (option_map sort_no s.upper)))
     (head_of sig byte name ss ++ rest_faults sig false s (and_more p qs))

@@ -10,12 +10,12 @@ use Rattle.kore_check.proofs.Items.{drop-item}
 use Rattle.kore_check.proofs.FoldChecks.{only_other}
 use Rattle.std.proofs.lemmas.List.{drop_all}
 
--- the height of a fold from the left, where that of what is built already is this
+-- the height of a fold from the left, if what is already built has this height
 abbrev pub grown_left : ℕ → List Pat → ℕ
 grown_left h [] = h
 grown_left h (p ∷ ps) = grown_left (max h (height (unfolded (plain_pattern p))) + 1) ps
 
--- .. from the right
+-- the height of a fold from the right
 abbrev pub grown_right : Pat → List Pat → ℕ
 grown_right p [] = height (unfolded (plain_pattern p))
 grown_right p (q ∷ qs) = max (height (unfolded (plain_pattern p))) (grown_right q qs) + 1
@@ -35,7 +35,7 @@ right_high byte name ss p (q ∷ qs) =
     two_high (height (unfolded (plain_pattern p))) (height (folded_right byte name ss (unfolded (plain_pattern q)) (reads qs)))
     ∙ ap (λ h. max (height (unfolded (plain_pattern p))) h + 1) (right_high byte name ss q qs)
 
--- what is cut may be cut before
+-- a height that is cut at the end may also be cut before
 pub cut-grown : (h : ℕ) (ps : List Pat) → cut (grown_left (cut h) ps) ≡ cut (grown_left h ps)
 cut-grown h [] = omega arith
 cut-grown h (p ∷ ps) =
@@ -45,7 +45,7 @@ cut-grown h (p ∷ ps) =
       same : (h k : ℕ) → cut (max (cut h) k + 1) ≡ cut (max h k + 1)
       same h k = omega arith
 
--- one more pattern in front of those that were gone through
+-- one more pattern after those that were looked at
 pub highest-more : (h r : ℕ) (args : List Pat) (i : ℕ) (arg : Pat) (whole : ℕ) → i < length args → arg ≡ get_or args i arg → r ≡ cut (height (unfolded (plain_pattern arg)))
     → cut (max h (heights (reads (drop i args)))) ≡ whole → cut (max (max h r) (heights (reads (drop (i + 1) args)))) ≡ whole
 highest-more h r args i arg whole lt item is known =
@@ -83,7 +83,7 @@ left_whole byte name ss [] arg many item = absurd (omega (arith, many))
 left_whole byte name ss (p ∷ ps) arg many item =
     left_high byte name ss (unfolded (plain_pattern p)) ps ∙ ap (λ (q : Pat). grown_left (height (unfolded (plain_pattern q))) ps) (sym item)
 
--- the height of a fold from the right over these
+-- the height of a fold of these from the right
 abbrev pub grown_from : List Pat → ℕ
 grown_from [] = 0
 grown_from (p ∷ ps) = grown_right p ps

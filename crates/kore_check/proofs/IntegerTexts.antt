@@ -1,4 +1,4 @@
--- The whole number that a text is read as.
+-- The integer that a text is read as.
 use Rattle.std.proofs.Common.{◌≡◌, ◌<◌, ◌≤◌, ◌^◌, ℕ, Bool, true, false, List, [], ◌∷◌, length, Some, None, eq-eqb, refl, sym, ◌∙◌, ap, arith, rules}
 use Rattle.std.specs.Prelude.{ℤ, pos, neg_ℤ, Result, Ok, Err, nat_lt, nat_le, ◌==◌, ◌&&◌}
 use Rattle.std.specs.Int.{w128}
@@ -16,7 +16,7 @@ own = numerals_by_fold _ (search rules) digits_behind (search rules)
 digits_are : (ds : List ℕ) → all_ascii_digits ds ≡ true → 0 < length ds → number_of_digits ds ≡ Some (digits_behind 0 ds)
 digits_are ds all some = rw (all, lt-ltb 0 (length ds) some) refl
 
--- the number of digits that is small enough, or none
+-- the number of the digits if it is small enough, or none
 not_negative_is : {E : Type 0} (r : Result ℤ E) (ds : List ℕ)
     → OkIff r ((all_ascii_digits ds ≡ true) × (0 < length ds) × (digits_behind 0 ds < 2 ^ 127)) (pos (digits_behind 0 ds)) → result_ok r ≡ not_negative (number_of_digits ds)
 not_negative_is (Ok z) ds (q, e) =

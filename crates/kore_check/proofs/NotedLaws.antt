@@ -1,4 +1,5 @@
--- What is kept of faults that are noted one by one: the first of them, by byte, and at one byte by number.
+-- The fault that is kept of those that are noted one by one. It is the first of them by byte, and
+-- at the same byte by number.
 use Rattle.std.proofs.Common.{◌≡◌, ◌<◌, ◌⊎◌, inl, inr, ℕ, zero, suc, Bool, true, false, List, [], ◌∷◌, ◌++◌, Option, Some, None, Contains, refl, sym, ◌∙◌, ap, subst, arith}
 use Rattle.std.specs.Prelude.{◌&&◌, ◌==◌, nat_lt, nat_le, ◌↔◌}
 use Rattle.std.proofs.Common.{eq-eqb}
@@ -65,7 +66,7 @@ contains_cases xs first x (suc k, lt, is) = inr (k, omega (arith, lt), is)
 pub contains_none : (x : Fault) → Contains [] x → ⊥
 contains_none x (k, lt, is) = omega (arith, lt)
 
--- one that is kept in front of others leaves the first of them all
+-- noting others after a fault that is kept leaves the first of them all
 pub record Left (g : Fault) (fs : List Fault) : Type 0 where
   pub fault : Fault
   pub is : noted leads_by_byte (Some g) fs ≡ Some fault
@@ -117,7 +118,7 @@ left g [] = record {
   only h (inr none) = absurd (contains_none h none)
 left g (f ∷ fs) = left_by g f fs (leads_by_byte g f) refl (left g fs) (left f fs)
 
--- faults with the same items, in whatever order and however often
+-- faults with the same items, in any order and any number of times
 abbrev pub SameFaults : List Fault → List Fault → Type 0
 SameFaults xs ys = (f : Fault) → Contains xs f ↔ Contains ys f
 
@@ -125,7 +126,7 @@ pub noted-append : (r : Option Fault) (xs ys : List Fault) → noted leads_by_by
 noted-append r [] ys = refl
 noted-append r (x ∷ xs) ys = noted-append (kept leads_by_byte r x) xs ys
 
--- .. leave the same first one
+-- such lists of faults leave the same first one
 same_behind : (g : Fault) (xs ys : List Fault) → SameFaults (g ∷ xs) (g ∷ ys) → Left g xs → Left g ys → noted leads_by_byte (Some g) xs ≡ noted leads_by_byte (Some g) ys
 same_behind g xs ys same p q =
     p.is ∙ ap (λ (f : Fault). Some f) (ByByte-antisym p.fault q.fault (p.leads q.fault ((same q.fault).1 q.there)) (q.leads p.fault ((same p.fault).0 p.there))) ∙ sym q.is
@@ -151,21 +152,21 @@ noted-same None [] (y ∷ ys) same = absurd (contains_none y ((same y).1 (contai
 noted-same None (x ∷ xs) [] same = absurd (contains_none x ((same x).0 (contains_here xs x)))
 noted-same None (x ∷ xs) (y ∷ ys) same = same_firsts x y xs ys same (left x xs) (left y ys)
 
--- what is left is the first
+-- the fault that is left is the first
 pub noted-first : (fs : List Fault) → IsFirstBy ByByte (Contains fs) (noted leads_by_byte None fs)
 noted-first [] = contains_none
 noted-first (f ∷ fs) = found (left f fs) where
   found : Left f fs → IsFirstBy ByByte (Contains (f ∷ fs)) (noted leads_by_byte (Some f) fs)
   found l = subst (IsFirstBy ByByte (Contains (f ∷ fs))) (sym l.is) (l.there, l.leads)
 
--- there is one first alone
+-- there is only one first fault
 pub first-one : (fs : List Fault) (q r : Option Fault) → IsFirstBy ByByte (Contains fs) q → IsFirstBy ByByte (Contains fs) r → q ≡ r
 first-one fs None None p q = refl
 first-one fs None (Some g) p q = absurd (p g q.0)
 first-one fs (Some f) None p q = absurd (q f p.0)
 first-one fs (Some f) (Some g) p q = ap (λ (h : Fault). Some h) (ByByte-antisym f g (p.1 g q.0) (q.1 f p.0))
 
--- what is kept of some faults and then of others is the first of all
+-- the fault that is kept of some faults and then of others is the first of all
 pub first-append : (before fs : List Fault) (q : Option Fault) → IsFirstBy ByByte (Contains before) q → IsFirstBy ByByte (Contains (before ++ fs)) (noted leads_by_byte q fs)
 first-append before fs q is =
     let same : q ≡ noted leads_by_byte None before = first-one before q (noted leads_by_byte None before) is (noted-first before) in

@@ -1,4 +1,4 @@
--- The place of a pattern is that of its first token.
+-- The byte of a pattern is that of its first token.
 use Rattle.std.proofs.Common.{◌≡◌, ℕ, refl, ap, ◌∙◌}
 use Rattle.kore_text.specs.Trees.{PatternTree, element_variable, set_variable, string, symbol_applied, connected, binding, domain_value, folded}
 use Rattle.kore_ast.specs.declared.tree.Pat.{Pat, fold-Pat}

@@ -42,7 +42,7 @@ same-twice xs ys f = (λ known. to (Contains-append_cases xs (xs ++ ys) f known)
   to (inl left) = Contains-append_left xs ys f left
   to (inr right) = right
 
--- what stands in front may stand after
+-- what is before may be after
 pub same-front : (xs ys zs : List Fault) → SameFaults (xs ++ (ys ++ zs)) (ys ++ (xs ++ zs))
 same-front xs ys zs =
     same-trans (xs ++ (ys ++ zs)) ((xs ++ ys) ++ zs) (ys ++ (xs ++ zs)) (same-eq _ _ (sym (append_assoc xs ys zs)))

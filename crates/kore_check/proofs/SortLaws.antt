@@ -1,4 +1,4 @@
--- Which declared sorts the sorts in a text are.
+-- The declared sorts that the sorts in a text name.
 use Rattle.std.proofs.Common.{◌≡◌, ◌<◌, ℕ, zero, suc, ◌+◌, Bool, true, false, List, [], ◌∷◌, length, map, Option, Some, None, slice_get, refl, sym, ◌∙◌, ap, arith}
 use Rattle.std.specs.Prelude.{is_some, ◌==◌}
 use Rattle.std.specs.Option.{option_and_then}
@@ -21,7 +21,7 @@ use Rattle.rule_core.specs.declared.signature.SortInfo.{SortInfo}
 use Rattle.kore_sig.specs.SortReferences.{sort_number}
 use Rattle.kore_check.specs.PatternSorts.{sort_numbers, number_then, wanted_sort, result_sort}
 
--- the place that is found, from any one on
+-- the place that is found, counted from any number
 position-within : {X : Type 0} (test : X → Bool) (n k : ℕ) (xs : List X) → position_from test n xs ≡ Some k → k < n + length xs
 position-within test n k [] is = absurd (let no_place : ⊥ = cc in no_place)
 position-within {X} test n k (x ∷ xs) is = by_case (λ later. position-within test (n + 1) k xs later) (test x) refl where
@@ -39,7 +39,7 @@ sort_number-within sorts (sort_parameter at name) k is = absurd (let no_number :
 sort_number-within sorts (sort_applied at name no_sorts) k is = number-within sorts name k is
 sort_number-within sorts (sort_applied at name (sort_then s ss)) k is = absurd (let no_number : ⊥ = cc in no_number)
 
--- the number of the sort at a place
+-- the number of the sort at a place of a list
 pub sort_numbers-at : (sig : Signature) (ss : List SortTree) (ns : List ℕ) (i : ℕ) → sort_numbers sig ss ≡ Some ns → slice_get ns i ≡ option_and_then (sort_number sig.sorts) (slice_get ss i)
 sort_numbers-at sig [] [] i is = refl
 sort_numbers-at sig [] (n ∷ ns) i is = absurd (let no_numbers : ⊥ = cc in no_numbers)
@@ -62,7 +62,7 @@ sort_numbers-at sig (s ∷ ss) ns i is = by_case (λ ms j e. sort_numbers-at sig
       let same : ns ≡ n ∷ ms = cc in
       ap (λ xs. slice_get xs (suc j)) same ∙ rest ms j f
 
--- what a place wants, where all sort arguments are declared
+-- the sort that a place wants if all sort arguments are declared
 pub wanted-at : (sig : Signature) (ss : List SortTree) (ns : List ℕ) (of : SortRef) → sort_numbers sig ss ≡ Some ns → sort_at ns of ≡ wanted_sort sig ss of
 wanted-at sig ss ns (Param i) is = sort_numbers-at sig ss ns i is
 wanted-at sig ss ns (declared_at s) is = refl

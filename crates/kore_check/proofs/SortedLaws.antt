@@ -1,4 +1,4 @@
--- What a pattern without faults means has its sort.
+-- The meaning of a pattern without faults has the pattern's sort.
 use Rattle.std.proofs.Common.{◌≡◌, ◌<◌, ◌≤◌, ℕ, zero, suc, ◌+◌, ◌^◌, Bool, true, false, List, [], ◌∷◌, length, Option, Some, None, option_map, slice_get, Contains, eq-eqb, refl, sym, ◌∙◌, ap, subst, arith}
 use Rattle.std.specs.Prelude.{ℤ, pos, neg_ℤ, ◌==◌, ◌&&◌, not, IsTrue, flat_map, nat_lt, nat_le}
 use Rattle.std.specs.Option.{option_and_then}

@@ -1,4 +1,4 @@
--- The numbers of variables after one has come after the others, and after the last one has gone.
+-- The numbers of variables after one is added at the end, and after the last one is removed.
 use Rattle.std.proofs.Common.{inl, inr, ◌≡◌, ◌<◌, ◌+◌, ℕ, zero, suc, List, [], ◌∷◌, ◌++◌, length, Bool, true, false, cond, Option, Some, None, refl, sym, ◌∙◌, ap, subst, slice_get, arith, String, eq-eqb}
 use Rattle.std.specs.Prelude.{is_some, if◌then◌else◌, ◌&&◌, ◌==◌, ◌⊎◌}
 use Rattle.std.specs.List.{position_from}
@@ -22,7 +22,7 @@ use Rattle.kore_check.proofs.BuildLaws.{number-added, number-kept, extends-refl}
 
 -- ---- keys
 
--- two keys have one name and one sort
+-- two keys have the same name and the same sort
 abbrev pub same : List ℕ × ℕ → List ℕ × ℕ → Bool
 same a b = bytes_eq a.0 b.0 && (a.1 == b.1)
 
@@ -64,7 +64,7 @@ other_entries : {K X : Type 0} (eq : K → K → Bool) (test : K → Bool) (old 
 unfolding KeepsOthers
 other_entries eq test old new h = h
 
--- what a change at one key leaves at any key
+-- the value at any key after a change at one key
 pub numbers-updated : (a : List ℕ × ℕ) (m n : BTreeMap (String Global × ℕ) ℕ) (w : Option ℕ) → UpdatesBy (λ x y. key_cmp (key_of x) (key_of y)) (λ k. key_cmp a (key_of k)) m n w
     → (b : List ℕ × ℕ) → number_under n b.0 b.1 ≡ cond (same a b) w (number_under m b.0 b.1)
 numbers-updated a m n w h b = by_case (same a b) refl where
@@ -106,7 +106,7 @@ got-last : {X : Type 0} (xs : List X) (y : X) → slice_get (xs ++ y ∷ []) (le
 got-last [] y = refl
 got-last (x ∷ xs) y = got-last xs y
 
--- ---- a variable that comes
+-- ---- a variable is added
 
 pub AreNumbered-added : (vars : List (List ℕ × ℕ)) (a : List ℕ × ℕ) → variable_number vars a.0 a.1 ≡ None → AreNumbered vars → AreNumbered (vars ++ a ∷ [])
 AreNumbered-added vars a none had i v got = by_case (got-added vars a v i got) where
@@ -122,7 +122,7 @@ numbers-added vars a b none = by_case (same a b) refl where
   by_case true e = rw e (sym (number-added vars a.0 a.1 none) ∙ ap (λ (x : List ℕ × ℕ). variable_number (vars ++ a ∷ []) x.0 x.1) (same-equal a b e))
   by_case false e = rw e (sym (position-other (same b) 0 vars a (same-apart a b e)))
 
--- ---- the last variable goes
+-- ---- the last variable is removed
 
 last-alone : (vars : List (List ℕ × ℕ)) (a : List ℕ × ℕ) → AreNumbered (vars ++ a ∷ []) → variable_number vars a.0 a.1 ≡ None
 last-alone vars a had = by_case (variable_number vars a.0 a.1) refl where

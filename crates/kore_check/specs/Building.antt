@@ -1,4 +1,4 @@
--- What private functions that build rule patterns promise.
+-- What the private functions that build rule patterns promise.
 use Rattle.std.specs.Prelude.{◌≡◌, ◌++◌, ℕ, List, [], ◌∷◌, ◌⊎◌, Vec, Option, Some, None}
 use Rattle.std.specs.Option.{option_and_then}
 use Rattle.term_core.specs.Patterns.{Pattern, Patterns, no_pattern, more_patterns}
@@ -17,18 +17,18 @@ use Rattle.term_core.specs.PatternLists.{plain_patterns}
 use Rattle.term_core.specs.declared.rule_patterns.RulePat.{RulePat}
 use Rattle.rule_core.specs.declared.signature.SymInfo.{SymInfo}
 
--- the variables, and maybe more after them
+-- the second list is the first one, maybe with other variables after it
 abbrev pub Extends : List (List ℕ × ℕ) → List (List ℕ × ℕ) → Type 0
 Extends vars more = (behind : List (List ℕ × ℕ)) × (more ≡ vars ++ behind)
 
--- the pattern means this, also where there are more variables
+-- the pattern means this, also if other variables come after these
 abbrev pub MeansFrom : Signature → List (List ℕ × ℕ) → Unfolded → Pattern → Type 0
 MeansFrom sig vars u p = (more : List (List ℕ × ℕ)) → Extends vars more → Means sig more u p
 
 abbrev pub AllMeanFrom : Signature → List (List ℕ × ℕ) → Unfoldeds → Patterns → Type 0
 AllMeanFrom sig vars us ps = (more : List (List ℕ × ℕ)) → Extends vars more → AllMean sig more us ps
 
--- the pattern has no fault, but maybe that of its height
+-- the pattern has an allowed form, and no fault except maybe its height
 abbrev pub IsFaultless : Signature → Unfolded → Type 0
 IsFaultless sig u = (pattern_faults sig u ≡ []) × IsApplicative u
 
@@ -36,11 +36,11 @@ abbrev pub AreFaultless : Signature → Unfoldeds → Type 0
 AreFaultless sig no_more = Unit {0}
 AreFaultless sig (and_more u us) = IsFaultless sig u × AreFaultless sig us
 
--- what a symbol makes of two patterns
+-- a symbol applied to two patterns
 abbrev pub pair_pattern : SymKind → ℕ → List ℕ → Pattern → Pattern → Option Pattern
 pair_pattern kind f ns p q = applied_pattern kind f ns (more_patterns p (more_patterns q no_pattern))
 
--- what a fold of a symbol makes of patterns, from the left
+-- a symbol folded over patterns from the left
 abbrev pub left_behind : SymKind → ℕ → List ℕ → Pattern → List Pattern → Option Pattern
 left_behind kind f ns p [] = Some p
 left_behind kind f ns p (q ∷ qs) = option_and_then (λ r. left_behind kind f ns r qs) (pair_pattern kind f ns p q)
@@ -49,14 +49,14 @@ abbrev pub left_pattern : SymKind → ℕ → List ℕ → List Pattern → Opti
 left_pattern kind f ns [] = None
 left_pattern kind f ns (p ∷ ps) = left_behind kind f ns p ps
 
--- .. from the right
+-- a symbol folded over patterns from the right
 abbrev pub right_pattern : SymKind → ℕ → List ℕ → List Pattern → Option Pattern
 right_pattern kind f ns [] = None
 right_pattern kind f ns (p ∷ []) = Some p
 right_pattern kind f ns (p ∷ (q ∷ qs)) = option_and_then (pair_pattern kind f ns p) (right_pattern kind f ns (q ∷ qs))
 
--- what is built of a pattern: nothing where it has a fault or another form, else what it means, and its variables stand
--- after those that were there
+-- What is built from a pattern. It is None only if the pattern has a fault or another form.
+-- Otherwise it is what the pattern means, and the pattern's new variables come after the old ones.
 abbrev pub Built : Signature → List (List ℕ × ℕ) → List (List ℕ × ℕ) → Unfolded → Option RulePat → Type 0
 Built sig old new u None = IsFaultless sig u → ⊥
 Built sig old new u (Some p) = (new ≡ with_variables sig old u) × MeansFrom sig new u (plain_pattern p)
@@ -67,7 +67,7 @@ AllBuilt sig old new us None = AreFaultless sig us → ⊥
 AllBuilt sig old new us (Some ps) = (new ≡ with_all_variables sig old us)
     × AllMeanFrom sig new us (plain_patterns ps.items)
 
--- the head of an application, where the symbol and the sorts are declared
+-- The head of an application. It is None only if the symbol or one of its sorts is not declared.
 abbrev pub IsHead : Signature → List ℕ → List SortTree → Option Head → Type 0
 IsHead sig name ss None = (symbol_named sig name ≡ None) ⊎ (sort_numbers sig ss ≡ None)
 IsHead sig name ss (Some h) =

@@ -7,7 +7,7 @@ use Rattle.kore_check.specs.declared.faults.PatternFault.{PatternFault}
 use Rattle.kore_check.specs.declared.faults.CheckFault.{CheckFault}
 use Rattle.kore_check.specs.declared.faults.CheckFault.TheVariants as answer
 
--- the number of the refusal
+-- the number of the refusal for this kind of fault
 abbrev pub fault_number : FaultKind → ℕ
 fault_number kind.Deep = 3
 fault_number kind.UnknownSort = 6
@@ -20,12 +20,12 @@ fault_number kind.NoKind = 25
 abbrev pub plain_fault : PatternFault → Fault
 plain_fault f = record { number = fault_number f.kind; byte = f.at }
 
--- the fault that is kept is the first of these, by byte, and of those at one byte the one with the smallest number;
--- none is kept where there is none
+-- The fault that is kept is the first of these by byte. At the same byte it is the one with the
+-- smallest number. None is kept if there are no faults.
 abbrev pub IsFirstOf : List Fault → Option PatternFault → Type 0
 IsFirstOf faults first = IsFirstBy ByByte (Contains faults) (option_map plain_fault first)
 
--- the fault as the answer of a check
+-- the fault as the error of a check
 abbrev pub refusal_of : FaultKind → ℕ → CheckFault
 refusal_of kind.Deep at = answer.Deep at
 refusal_of kind.UnknownSort at = answer.UnknownSort at
@@ -38,7 +38,7 @@ refusal_of kind.NoKind at = answer.NoKind at
 abbrev pub as_refusal : PatternFault → CheckFault
 as_refusal f = refusal_of f.kind f.at
 
--- the answer is the first of these faults, or that memory ran out
+-- the error is the first of these faults, or that memory ran out
 abbrev pub IsRefusal : List Fault → CheckFault → Type 0
 IsRefusal faults (answer.Deep at) = IsFirstBy ByByte (Contains faults) (Some (record { number = 3; byte = at }))
 IsRefusal faults (answer.UnknownSort at) = IsFirstBy ByByte (Contains faults) (Some (record { number = 6; byte = at }))

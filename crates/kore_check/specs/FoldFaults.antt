@@ -1,4 +1,4 @@
--- The faults of a fold, where those of its symbol are noted once.
+-- The faults of the arguments of a fold. The faults of its symbol are noted once, elsewhere.
 use Rattle.std.specs.Prelude.{ℕ, Bool, true, false, List, [], ◌++◌, Option, option_map}
 use Rattle.kore_sig.specs.FirstFault.{Fault}
 use Rattle.rule_core.specs.declared.signature.Signature.{Signature}
@@ -8,7 +8,8 @@ use Rattle.kore_check.specs.PatternSorts.{sort_of}
 use Rattle.kore_check.specs.PatternFaults.{pattern_faults, clash_faults}
 use Rattle.kore_check.specs.Notes.{sort_no}
 
--- the clashes at an argument after the first one, which stands at this byte and has this sort
+-- The clashes at an argument after the first one. The parameters are whether it is the last one,
+-- whether the fold is from the left, the argument's byte and its sort, and the sorts of the fold.
 abbrev pub next_faults : Bool → Bool → ℕ → Option ℕ → FoldSorts → List Fault
 next_faults true left at own s = clash_faults at own (option_map sort_no s.upper)
 next_faults false true at own s =
@@ -22,14 +23,14 @@ abbrev pub is_none_more : Unfoldeds → Bool
 is_none_more no_more = true
 is_none_more (and_more p ps) = false
 
--- of the arguments after the first one
+-- the faults of the arguments after the first one
 abbrev pub rest_faults : Signature → Bool → FoldSorts → Unfoldeds → List Fault
 rest_faults sig left s no_more = []
 rest_faults sig left s (and_more p ps) =
     pattern_faults sig p ++ (next_faults (is_none_more ps) left (place p) (sort_of sig p) s
     ++ rest_faults sig left s ps)
 
--- of all arguments
+-- the faults of all arguments
 abbrev pub folded_faults : Signature → Bool → FoldSorts → Unfoldeds → List Fault
 folded_faults sig left s no_more = []
 folded_faults sig left s (and_more p ps) =

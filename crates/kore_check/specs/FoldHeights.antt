@@ -1,4 +1,4 @@
--- Heights, up to one more than the greatest that is allowed.
+-- Heights, cut to 501. The greatest height that is allowed is 500.
 use Rattle.std.specs.Prelude.{ℕ, min}
 
 abbrev pub cut : ℕ → ℕ

@@ -1,12 +1,13 @@
--- Patterns with their folds read (K framework, Kore language: `\left-assoc{}(f{}(a,b,c))` is `f{}(f{}(a,b),c)`, and
--- `\right-assoc{}(f{}(a,b,c))` is `f{}(a,f{}(b,c))`; a fold of one argument is that argument).
+-- Patterns with their folds expanded (K framework, Kore language). `\left-assoc{}(f{}(a,b,c))` is
+-- `f{}(f{}(a,b),c)`, and `\right-assoc{}(f{}(a,b,c))` is `f{}(a,f{}(b,c))`. A fold of one argument
+-- is that argument.
 use Rattle.std.specs.Prelude.{◌+◌, ℕ, Bool, true, false, List, max}
 use Rattle.kore_text.specs.Trees.{SortTree, PatternTree, element_variable, set_variable, string, symbol_applied}
 use Rattle.kore_text.specs.Trees.{connected, binding, domain_value, folded, PatternTrees, no_patterns, pattern_then}
 use Rattle.kore_text.specs.Trees.{listed_sorts}
 
 mutual
-  -- a pattern of variables, domain values and applications; the first number is the byte at which it stands
+  -- A pattern of variables, domain values and applications. The first number is its byte.
   pub data Unfolded : Type 0 where
     -- a variable's name and sort
     named_variable : ℕ → List ℕ → SortTree → Unfolded
@@ -21,30 +22,30 @@ mutual
     no_more : Unfoldeds
     and_more : Unfolded → Unfoldeds → Unfoldeds
 
--- the byte at which a pattern stands
+-- the byte of a pattern
 abbrev pub place : Unfolded → ℕ
 place (named_variable at name s) = at
 place (written_value at s text byte) = at
 place (applied_symbol at byte name ss ps) = at
 place (other_form at) = at
 
--- the pattern, standing there
+-- the pattern, with this byte
 abbrev pub standing_at : ℕ → Unfolded → Unfolded
 standing_at there (named_variable at name s) = named_variable there name s
 standing_at there (written_value at s text byte) = written_value there s text byte
 standing_at there (applied_symbol at byte name ss ps) = applied_symbol there byte name ss ps
 standing_at there (other_form at) = other_form there
 
--- a symbol applied to two patterns by unfolding: it stands at its name
+-- a symbol applied to two patterns when a fold is expanded; its byte is that of the symbol's name
 abbrev pub applied_to_two : ℕ → List ℕ → List SortTree → Unfolded → Unfolded → Unfolded
 applied_to_two byte name ss p q = applied_symbol byte byte name ss (and_more p (and_more q no_more))
 
--- f applied to the first pattern and the next, to that and the one after it, and so on
+-- f applied to the first pattern and the next, f applied to that and the one after it, and so on
 abbrev pub folded_left : ℕ → List ℕ → List SortTree → Unfolded → Unfoldeds → Unfolded
 folded_left byte name ss p no_more = p
 folded_left byte name ss p (and_more q qs) = folded_left byte name ss (applied_to_two byte name ss p q) qs
 
--- f applied to the first pattern and to f applied to the next, and so on
+-- f applied to the first pattern and to the fold of the others from the right
 abbrev pub folded_right : ℕ → List ℕ → List SortTree → Unfolded → Unfoldeds → Unfolded
 folded_right byte name ss p no_more = p
 folded_right byte name ss p (and_more q qs) = applied_to_two byte name ss p (folded_right byte name ss q qs)
@@ -55,13 +56,13 @@ fold_of left byte name ss no_more = other_form byte
 fold_of true byte name ss (and_more p ps) = folded_left byte name ss p ps
 fold_of false byte name ss (and_more p ps) = folded_right byte name ss p ps
 
--- the only one of patterns
+-- the only pattern of a list; another form if there is not exactly one
 abbrev pub only_of : ℕ → Unfoldeds → Unfolded
 only_of at no_more = other_form at
 only_of at (and_more p no_more) = p
 only_of at (and_more p (and_more q ps)) = other_form at
 
--- a pattern with its folds read; a fold stands at its own first byte
+-- a pattern with its folds expanded; the byte of a fold is its own first byte
 abbrev mutual
   pub unfolded : PatternTree → Unfolded
   unfolded (element_variable at name s) = named_variable at name s
@@ -73,7 +74,7 @@ abbrev mutual
   unfolded (domain_value at s text byte) = written_value at s text byte
   unfolded (folded at left p) = standing_at at (inner_fold left p)
 
-  -- what a fold of this stands for
+  -- the expansion of a fold of this pattern
   pub inner_fold : Bool → PatternTree → Unfolded
   inner_fold left (element_variable at name s) = other_form at
   inner_fold left (set_variable at name s) = other_form at
@@ -88,12 +89,12 @@ abbrev mutual
   all_unfolded no_patterns = no_more
   all_unfolded (pattern_then p ps) = and_more (unfolded p) (all_unfolded ps)
 
--- how many patterns these are
+-- the number of patterns
 abbrev pub count : Unfoldeds → ℕ
 count no_more = 0
 count (and_more p ps) = count ps + 1
 
--- the height: that of a variable, of a value and of a symbol without arguments is 1
+-- the height; a variable, a value and a symbol without arguments have the height 1
 abbrev mutual
   pub height : Unfolded → ℕ
   height (named_variable at name s) = 1
@@ -101,12 +102,13 @@ abbrev mutual
   height (applied_symbol at byte name ss ps) = heights ps + 1
   height (other_form at) = 1
 
-  -- the greatest of these heights, 0 where there is none
+  -- the greatest of these heights, 0 if there are none
   pub heights : Unfoldeds → ℕ
   heights no_more = 0
   heights (and_more p ps) = max (height p) (heights ps)
 
--- the pattern has only variables, applications, domain values and folds, each fold with an argument
+-- the pattern has only variables, applications, domain values and folds, and each fold has an
+-- argument
 abbrev mutual
   pub IsApplicative : Unfolded → Type 0
   IsApplicative (named_variable at name s) = Unit {0}

@@ -1,4 +1,4 @@
--- What is kept of the faults that were noted.
+-- The fault that is kept of those that were noted.
 use Rattle.std.specs.Prelude.{ℕ, List, Option, option_map}
 use Rattle.kore_sig.specs.FirstFault.{Fault}
 use Rattle.kore_sig.specs.Noted.{noted, leads_by_byte}
@@ -9,7 +9,7 @@ use Rattle.kore_check.specs.FaultNumbers.{plain_fault}
 abbrev pub kept_fault : Option PatternFault → Option Fault
 kept_fault first = option_map plain_fault first
 
--- what is kept after these faults were noted too
+-- the fault that is kept after these faults are noted too
 abbrev pub after : Option PatternFault → List Fault → Option Fault
 after first faults = noted leads_by_byte (kept_fault first) faults
 

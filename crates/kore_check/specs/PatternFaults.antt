@@ -1,4 +1,4 @@
--- The faults of a pattern, all that are there. Which of them is the first is another matter: `IsFirstFault`.
+-- All the faults of a pattern. `IsFirstOf` says which of them is the first.
 use Rattle.std.specs.Prelude.{◌==◌, ◌&&◌, not, ℕ, Bool, true, false, List, [], ◌∷◌, ◌++◌, length, drop, Option, Some}
 use Rattle.std.specs.Prelude.{None, is_some, flat_map, nat_lt}
 use Rattle.std.specs.Option.{option_and_then}
@@ -17,17 +17,16 @@ use Rattle.kore_check.specs.Folds.{no_more, and_more, place, count, height}
 use Rattle.kore_check.specs.ValueTexts.{value_of_text}
 use Rattle.kore_check.specs.PatternSorts.{sort_kind, symbol_named, sort_numbers, sort_of, wanted_sort, places_of}
 
--- 6 at the sort's name: it is not declared, it has arguments, or it is a sort parameter
+-- 6 at the sort's name: the sort is not declared, has arguments, or is a sort parameter
 abbrev pub sort_faults : Signature → SortTree → List Fault
 sort_faults sig s = unless (is_some (sort_number sig.sorts s)) 6 (sort_place s)
 
--- 11 at the string: its text is no value of the sort
+-- 11 at the string: the text is not a value of the sort
 abbrev pub text_faults : Option SortKind → List ℕ → ℕ → List Fault
 text_faults None text byte = []
 text_faults (Some kind) text byte = unless (is_some (value_of_text kind text)) 11 byte
 
--- 9: a sort is another one than the one that is wanted. A pattern without a sort, and a place that wants none, clash
--- with nothing.
+-- 9: the sort is not the one that is wanted. There is no clash if one of the two is missing.
 abbrev pub clash_faults : ℕ → Option ℕ → Option ℕ → List Fault
 clash_faults byte None wanted = []
 clash_faults byte (Some s) None = []
@@ -51,13 +50,13 @@ is_injection (Hooked row) = false
 is_injection Closed = false
 is_injection NoKind = false
 
--- an injection goes from a sort to one that it is not below
+-- the first sort of an injection is not below the second
 abbrev pub goes_astray : Signature → Option (List ℕ) → Bool
 goes_astray sig (Some (a ∷ (b ∷ []))) = not (is_below sig.subsorts a b)
 goes_astray sig ns = false
 
--- At a symbol: 7, it is not declared; 8, the number of its sort arguments or of its arguments is another one; 9, an
--- injection goes from a sort to one that it is not below; 25, it has no kind.
+-- The faults of a symbol. 7: it is not declared. 8: it has a wrong number of sort arguments or of
+-- arguments. 9: it is an injection whose first sort is not below the second. 25: it has no kind.
 abbrev pub symbol_faults : Signature → ℕ → Option SymInfo → List SortTree → ℕ → List Fault
 symbol_faults sig byte None ss args = record { number = 7; byte = byte } ∷ []
 symbol_faults sig byte (Some info) ss args =
@@ -70,7 +69,7 @@ abbrev pub first_wanted : Signature → List SortTree → List SortRef → Optio
 first_wanted sig ss [] = None
 first_wanted sig ss (of ∷ refs) = wanted_sort sig ss of
 
--- the faults of a pattern, but for its height
+-- the faults of a pattern, except that of its height
 abbrev mutual
   pub pattern_faults : Signature → Unfolded → List Fault
   pattern_faults sig (named_variable at name s) = sort_faults sig s
@@ -82,7 +81,8 @@ abbrev mutual
       ++ argument_faults sig ss (places_of (symbol_named sig name)) ps)
   pattern_faults sig (other_form at) = []
 
-  -- of the arguments, which stand at these places; 9 at an argument that has another sort than its place wants
+  -- the faults of the arguments at these places; 9 at an argument whose sort is not that of its
+  -- place
   pub argument_faults : Signature → List SortTree → List SortRef → Unfoldeds → List Fault
   argument_faults sig ss refs no_more = []
   argument_faults sig ss refs (and_more p ps) =
@@ -90,10 +90,10 @@ abbrev mutual
       ++ (clash_faults (place p) (sort_of sig p) (first_wanted sig ss refs)
       ++ argument_faults sig ss (drop 1 refs) ps)
 
--- the greatest height of a pattern of a rule, and of an initial term
+-- the greatest height that is allowed for a pattern of a rule and for an initial term
 abbrev pub most_height : ℕ
 most_height = 500
 
--- .. and 3 at the pattern: it is too high
+-- all faults of a pattern: those above, and 3 at the pattern if it is too high
 abbrev pub all_faults : Signature → Unfolded → List Fault
 all_faults sig p = when (nat_lt most_height (height p)) 3 (place p) ++ pattern_faults sig p

@@ -1,5 +1,5 @@
--- The rule pattern that a Kore pattern means, and its variables, numbered by name and sort in the order of their first
--- occurrence.
+-- The rule pattern that a Kore pattern means, and the pattern's variables. Variables are numbered
+-- by name and sort, in the order of their first occurrence.
 use Rattle.std.specs.Prelude.{◌≡◌, ◌==◌, ◌&&◌, ◌++◌, ℕ, List, [], ◌∷◌, Option, Some, None, is_some, map, if◌then◌else◌}
 use Rattle.std.specs.Prelude.{string_bytes}
 use Rattle.std.specs.List.{position_from}
@@ -25,16 +25,16 @@ use Rattle.kore_check.specs.PatternSorts.{sort_kind, symbol_info, sort_numbers}
 abbrev pub named_sorts : List VarInfo → List (List ℕ × ℕ)
 named_sorts vars = map (λ (v : VarInfo). (string_bytes v.name, v.sort.0)) vars
 
--- the number of the variable with this name and this sort
+-- the number of the variable with this name and this sort, if there is one
 abbrev pub variable_number : List (List ℕ × ℕ) → List ℕ → ℕ → Option ℕ
 variable_number vars name s = position_from (λ (v : List ℕ × ℕ). bytes_eq name v.0 && (s == v.1)) 0 vars
 
--- the variables, and this one after them where it is none of them
+-- the variables, with this one at the end if it is new and its sort is declared
 abbrev pub with_variable : List (List ℕ × ℕ) → List ℕ → Option ℕ → List (List ℕ × ℕ)
 with_variable vars name None = vars
 with_variable vars name (Some s) = if is_some (variable_number vars name s) then vars else vars ++ (name, s) ∷ []
 
--- the variables, and those of the pattern after them
+-- the variables, with the new ones of the pattern at the end
 abbrev mutual
   pub with_variables : Signature → List (List ℕ × ℕ) → Unfolded → List (List ℕ × ℕ)
   with_variables sig vars (named_variable at name s) = with_variable vars name (sort_number sig.sorts s)
@@ -46,16 +46,17 @@ abbrev mutual
   with_all_variables sig vars no_more = vars
   with_all_variables sig vars (and_more p ps) = with_all_variables sig (with_variables sig vars p) ps
 
--- the declared symbol with this name has this number and this declaration
+-- the symbol with this name is declared, and has this number and this declaration
 abbrev pub IsNamed : Signature → List ℕ → ℕ → SymInfo → Type 0
 IsNamed sig name f info = (number_of sig.symbols name ≡ Some f) × (symbol_info sig f ≡ Some info)
 
--- the injection of the only pattern from the one sort to the other
+-- the injection of one pattern from the first sort to the second; else None
 abbrev pub injected_only : List ℕ → Patterns → Option Pattern
 injected_only (a ∷ (b ∷ [])) (more_patterns p no_pattern) = Some (injection a b p)
 injected_only ns ps = None
 
--- what a symbol of this kind, with this number and these sort arguments, makes of patterns
+-- A symbol applied to patterns, by its kind, number and sort arguments. It is None if the symbol
+-- has no kind, or is an injection without exactly two sort arguments and one pattern.
 abbrev pub applied_pattern : SymKind → ℕ → List ℕ → Patterns → Option Pattern
 applied_pattern Injection f ns ps = injected_only ns ps
 applied_pattern Ctor f ns ps = Some (application f ps)
@@ -65,9 +66,9 @@ applied_pattern Closed f ns ps = Some (call f ns ps)
 applied_pattern NoKind f ns ps = None
 
 mutual
-  -- The rule pattern that a pattern means where the variables have these names and sorts: a variable means the variable
-  -- with its number, a domain value the value of its text in its sort, and a symbol what it makes of the meanings of
-  -- its arguments.
+  -- The rule pattern that a pattern means if the variables have these names and sorts. A variable
+  -- means the variable with its number. A domain value means the value of its text in its sort. An
+  -- application means its symbol applied to the meanings of its arguments.
   pub data Means (sig : Signature) (vars : List (List ℕ × ℕ)) : Unfolded → Pattern → Type 0 where
     by_variable : {at x s : ℕ} {name : List ℕ} {tree : SortTree} → sort_number sig.sorts tree ≡ Some s →
         variable_number vars name s ≡ Some x → Means sig vars (named_variable at name tree) (variable x)
@@ -80,7 +81,7 @@ mutual
         IsNamed sig name f info → sort_numbers sig ss ≡ Some ns → AllMean sig vars us ps →
         applied_pattern info.kind f ns ps ≡ Some p → Means sig vars (applied_symbol at byte name ss us) p
 
-  -- the same of patterns in order
+  -- the same for patterns in order
   pub data AllMean (sig : Signature) (vars : List (List ℕ × ℕ)) : Unfoldeds → Patterns → Type 0 where
     none_mean : AllMean sig vars no_more no_pattern
     more_mean : {u : Unfolded} {us : Unfoldeds} {p : Pattern} {ps : Patterns} → Means sig vars u p →

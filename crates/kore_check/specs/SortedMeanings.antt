@@ -1,4 +1,4 @@
--- The law of sorts: what a pattern without faults means has the pattern's sort.
+-- The law of sorts: the meaning of a pattern without faults has the sort of the pattern.
 use Rattle.std.specs.Prelude.{◌≡◌, ℕ, List, [], map, Some}
 use Rattle.term_core.specs.Patterns.{Pattern}
 use Rattle.rule_core.specs.Sorting.{HasSort}

@@ -1,6 +1,7 @@
--- The value that the text of a domain value stands for (K framework, domains `INT.Int` and `BOOL.Bool`): a whole number
--- of 128 bits by an optional sign and digits, a truth value by its name, and any text in a sort of another kind. So
--- `007` and `+7` are 7, and `-0` is 0.
+-- The value that the text of a domain value stands for (K framework, domains `INT.Int` and
+-- `BOOL.Bool`). The text of an integer of 128 bits is an optional sign and digits. The text of a
+-- truth value is its name. A sort of another kind takes any text. So `007` and `+7` are 7, and `-0`
+-- is 0.
 use Rattle.std.specs.Prelude.{◌==◌, ◌&&◌, ◌+◌, ◌*◌, ◌-◌, ◌^◌, ℕ, ℤ, pos, neg_ℤ, Bool, true, false, List, [], ◌∷◌}
 use Rattle.std.specs.Prelude.{length, Option, Some, None, option_map, if◌then◌else◌, codes, nat_lt, nat_le}
 use Rattle.std.specs.Str.{is_utf8, bytes_eq, all_ascii_digits}
@@ -8,17 +9,17 @@ use Rattle.term_core.specs.Terms.{DomainValue, integer, truth, text}
 use Rattle.rule_core.specs.declared.signature.SortKind.{SortKind}
 use Rattle.rule_core.specs.declared.signature.SortKind.TheVariants as kind
 
--- the number that digits stand for after those of this one
+-- the number whose digits are those of n and then these
 abbrev pub digits_behind : ℕ → List ℕ → ℕ
 digits_behind n [] = n
 digits_behind n (b ∷ bytes) = digits_behind (n * 10 + (b - 48)) bytes
 
--- the number of one digit or more
+-- the number that one or more digits stand for; None for another text
 abbrev pub number_of_digits : List ℕ → Option ℕ
 number_of_digits bytes =
     if all_ascii_digits bytes && nat_lt 0 (length bytes) then Some (digits_behind 0 bytes) else None
 
--- the whole number in the range, where there is one
+-- the number as an integer, if it is less than 2^127
 abbrev pub not_negative : Option ℕ → Option ℤ
 not_negative None = None
 not_negative (Some n) = if nat_lt n (2 ^ 127) then Some (pos n) else None
@@ -27,7 +28,7 @@ abbrev pub negated : Option ℕ → Option ℤ
 negated None = None
 negated (Some n) = if nat_le n (2 ^ 127) then Some (neg_ℤ (pos n)) else None
 
--- an optional sign, `-` or `+`, and digits
+-- the integer that an optional sign, `-` or `+`, and digits stand for
 abbrev pub integer_of_text : List ℕ → Option ℤ
 integer_of_text [] = None
 integer_of_text (b ∷ bytes) =
@@ -41,7 +42,7 @@ truth_of_text bytes =
     else if bytes_eq bytes (codes "false") then Some false
     else None
 
--- a text is valid UTF-8
+-- the text itself, if it is valid UTF-8
 abbrev pub value_of_words : List ℕ → Option DomainValue
 value_of_words bytes = if is_utf8 bytes then Some (text bytes) else None
 

@@ -27,7 +27,8 @@ pub(crate) struct Head {
     sorts: Vec<SortId>,
 }
 
-// The declared symbol with this name and these sort arguments: none where it or one of them is not declared.
+// The declared symbol with this name, and these sort arguments. It is None if the symbol or one of
+// the sorts is not declared.
 fn head_of(
     alloc: Global,
     sig: &Signature,
@@ -53,7 +54,7 @@ fn head_of(
     }))
 }
 
-// The declared sorts that these are: none where one of them is not declared.
+// The numbers of these sorts, or None if one of them is not declared.
 fn all_declared(
     alloc: Global,
     sig: &Signature,
@@ -73,7 +74,8 @@ fn all_declared(
     Ok(Some(declared))
 }
 
-// What a symbol makes of patterns: none where it has no kind, or is an injection of another number of them.
+// A symbol applied to patterns. It is None if the symbol has no kind, or is an injection without
+// exactly two sort arguments and one pattern.
 fn applied(alloc: Global, head: &Head, args: Vec<RulePat>) -> Result<Option<RulePat>, AllocError>
     ensures { IfOk result (λ found. option_map plain_pattern found
         ≡ applied_pattern head.now.kind head.now.sym.0 (numbers_of head.now.sorts.items) (plain_patterns args.items)) }
@@ -89,7 +91,7 @@ fn applied(alloc: Global, head: &Head, args: Vec<RulePat>) -> Result<Option<Rule
     }
 }
 
-// The injection of the only pattern.
+// The injection of the only pattern, or None if there are not exactly two sorts and one pattern.
 fn injected(alloc: Global, head: &Head, args: Vec<RulePat>) -> Result<Option<RulePat>, AllocError>
     ensures { IfOk result (λ found. option_map plain_pattern found
         ≡ injected_only (numbers_of head.now.sorts.items) (plain_patterns args.items)) }
@@ -105,7 +107,8 @@ fn injected(alloc: Global, head: &Head, args: Vec<RulePat>) -> Result<Option<Rul
     Ok(Some(RulePat::Inj(head.sorts[0], head.sorts[1], child)))
 }
 
-// A variable by its number.
+// The variable with this name and sort, or None if the sort is not declared. A new variable is
+// added.
 fn build_variable(
     alloc: Global,
     sig: &Signature,
@@ -125,7 +128,7 @@ fn build_variable(
     Ok(Some(RulePat::Var(number)))
 }
 
-// A value by its text.
+// The value of a text in a sort, or None if there is none or the sort is not declared.
 fn build_value(
     alloc: Global,
     sig: &Signature,
@@ -148,7 +151,7 @@ fn build_value(
     Ok(Some(RulePat::Value(sort, value)))
 }
 
-// The rule pattern that a pattern means: none where it has a fault or another form.
+// The rule pattern that a pattern means, or None if the pattern has a fault or another form.
 #[cycle(build)]
 pub(crate) fn build(
     alloc: Global,
@@ -180,7 +183,7 @@ pub(crate) fn build(
     }
 }
 
-// The rule patterns that patterns mean.
+// The rule patterns that these patterns mean, or None if one of them has a fault or another form.
 #[cycle(build)]
 fn build_all(
     args: &[Pat],
@@ -204,7 +207,8 @@ fn build_all(
     Ok(Some(pats))
 }
 
-// The rule pattern that a fold of this pattern means.
+// The rule pattern that a fold of this pattern means, or None if the fold has a fault or another
+// form.
 #[cycle(build)]
 fn build_fold(
     inner: &Pat,
@@ -241,7 +245,7 @@ fn build_fold(
     }
 }
 
-// The rule pattern that the only pattern means: none of another number of them.
+// The rule pattern that the only pattern means, or None if there is not exactly one.
 #[cycle(build)]
 fn build_only(
     args: &[Pat],
@@ -261,7 +265,7 @@ fn build_only(
     build(alloc, sig, &args[0], vars)
 }
 
-// What a fold of a symbol from the left makes of patterns.
+// A symbol folded over patterns from the left, or None if it cannot be applied to them.
 fn folded_left(
     alloc: Global,
     head: &Head,
@@ -284,7 +288,7 @@ fn folded_left(
     Ok(Some(made))
 }
 
-// What a fold of a symbol from the right makes of patterns.
+// A symbol folded over patterns from the right, or None if it cannot be applied to them.
 fn folded_right(
     alloc: Global,
     head: &Head,

@@ -17,8 +17,8 @@ use kore_ast::{Pat, PatForm, Sort, Text};
 use rule_core::{Signature, SortRef, SymInfo};
 use term_core::SortId;
 
-// The application of a symbol to two arguments, of which a fold makes many: the byte of the symbol, the sort of the
-// application, and the sorts that its two places want.
+// One of the applications that a fold stands for: the byte of the symbol, the sort of the
+// application, and the sorts of its two places.
 #[derive(Clone, Copy)]
 pub(crate) struct FoldSorts {
     at: u32,
@@ -27,7 +27,7 @@ pub(crate) struct FoldSorts {
     upper: Option<SortId>,
 }
 
-// The sort of a pattern. It notes the faults of the pattern.
+// Notes the faults of a pattern and returns its sort.
 #[cycle(check)]
 pub(crate) fn check(sig: &Signature, pat: &Pat, first: &mut Option<PatternFault>) -> Option<SortId>
     requires { IsNumbered sig.now }
@@ -48,7 +48,7 @@ pub(crate) fn check(sig: &Signature, pat: &Pat, first: &mut Option<PatternFault>
     }
 }
 
-// The places of a symbol's arguments.
+// The declared sorts of a symbol's arguments.
 fn places(symbol: Option<&SymInfo>) -> &[SortRef]
     ensures { result.now ≡ places_of (option_copied symbol.entry) }
 {
@@ -58,7 +58,7 @@ fn places(symbol: Option<&SymInfo>) -> &[SortRef]
     }
 }
 
-// Notes the faults of arguments, which stand at these places of a symbol with these sort arguments.
+// Notes the faults of the arguments at these places of a symbol with these sort arguments.
 #[cycle(check)]
 fn check_arguments(
     args: &[Pat],
@@ -79,8 +79,9 @@ fn check_arguments(
     }
 }
 
-// The sort of a fold of this pattern, from the left or from the right. It notes the faults of the patterns that the
-// fold stands for: those of its symbol once, though it stands for many applications of it.
+// Notes the faults of a fold of this pattern, from the left or from the right, and returns its
+// sort. The faults of the symbol are noted once, although the fold stands for many applications of
+// it.
 #[cycle(check)]
 fn check_fold(
     inner: &Pat,
@@ -123,7 +124,8 @@ fn check_fold(
     }
 }
 
-// The sort of the only pattern. It notes the faults of this pattern, and none where there is another number of them.
+// Notes the faults of the only pattern and returns its sort. If there is not exactly one pattern,
+// it notes nothing and returns None.
 #[cycle(check)]
 fn check_only(args: &[Pat], sig: &Signature, first: &mut Option<PatternFault>) -> Option<SortId>
     requires { IsNumbered sig.now }
@@ -164,9 +166,10 @@ fn check_folded(
     }
 }
 
-// Notes the clashes at an argument of a fold after the first one. The last one is the second argument of an
-// application. Any other one is the second argument from the left and the first one from the right, and the application
-// in which it stands is an argument too.
+// Notes the clashes at an argument of a fold after the first one. The last argument is the second
+// one of an application. Any other one is the second one of an application in a fold from the left,
+// and the first one in a fold from the right. That application is itself an argument, so its sort
+// is checked too.
 fn check_next(
     is_last: bool,
     left: bool,

@@ -1,4 +1,4 @@
-// A pattern with its sort and the rule pattern that it means, or its first fault.
+// The sort of a pattern and the rule pattern that it means, or its first fault.
 ghost use Rattle.std.specs.Prelude.{◌≡◌, List, [], ℕ, IfOk, OnOk, IfErr, OnErr, Some};
 ghost use Rattle.kore_ast.specs.Plain.{plain_pattern as plain_tree};
 ghost use Rattle.kore_sig.specs.Signatures.{IsNumbered};
@@ -19,11 +19,14 @@ use rule_core::Signature;
 use std::alloc::{AllocError, Global};
 use term_core::{RulePat, SortId};
 
-/// The rule pattern that a pattern means, and its sort; or the first of its faults, by byte, and at one byte by number.
-/// Its variables stand after those that were there, numbered by name and sort at their first occurrence. After a fault
-/// the variables are as before.
+/// Returns the rule pattern that a pattern means, and its sort. The pattern's new variables come
+/// after those that are there. They are numbered by name and sort at their first occurrence.
 ///
-/// It takes a time linear in the pattern, up to a logarithm of the numbers of sorts, symbols and variables.
+/// The error is the first fault of the pattern by byte, and at the same byte by number, or that
+/// memory ran out. After an error the variables are as before.
+///
+/// It takes time linear in the pattern, up to a logarithm of the numbers of sorts, symbols and
+/// variables.
 pub fn check_pattern(
     alloc: Global,
     sig: &Signature,
@@ -51,8 +54,9 @@ pub fn check_pattern(
     Ok((made, sort))
 }
 
-/// The rule pattern that a pattern without faults means. Its variables stand after those that were there, numbered by
-/// name and sort at their first occurrence. After `AllocError` the variables are as before.
+/// Returns the rule pattern that a pattern without faults means. The pattern's new variables come
+/// after those that are there. They are numbered by name and sort at their first occurrence. After
+/// `AllocError` the variables are as before.
 pub fn build_pattern(
     alloc: Global,
     sig: &Signature,

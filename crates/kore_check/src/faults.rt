@@ -1,4 +1,4 @@
-// Faults of patterns, of which the first is kept.
+// Faults of patterns. Only the first one is kept.
 ghost use Rattle.std.specs.Prelude.{◌≡◌};
 ghost use Rattle.kore_sig.specs.Noted.{leads_by_byte};
 ghost use Rattle.kore_check.specs.declared.faults.CheckFault.TheVariants.{Memory};
@@ -6,20 +6,21 @@ ghost use Rattle.kore_check.specs.declared.faults.CheckFault.TheVariants.{Memory
 use std::alloc::AllocError;
 use thiserror::Error;
 
-/// What is wrong with a pattern. As a number each is that of its refusal.
+/// The kind of a fault of a pattern. Each kind is the number of its refusal.
 #[derive(Clone, Copy, PartialEq, Eq, Debug)]
 pub enum FaultKind {
-    /// Its height is above 500.
+    /// The height of the pattern is above 500.
     Deep = 3,
     /// A sort is not declared, has arguments, or is a sort parameter.
     UnknownSort = 6,
     /// A symbol is not declared.
     UnknownSymbol = 7,
-    /// A symbol has another number of sorts or of arguments than its declaration.
+    /// A symbol has a wrong number of sort arguments or of arguments.
     Arity = 8,
-    /// An argument has another sort than its place, or an injection goes from a sort to one that it is not below.
+    /// The sort of an argument is not that of its place, or the first sort of an injection is not
+    /// below the second.
     SortClash = 9,
-    /// The text of a domain value is none of its sort.
+    /// The text of a domain value is not a value of its sort.
     BadValue = 11,
     /// A symbol has no kind.
     NoKind = 25,
@@ -28,37 +29,38 @@ pub enum FaultKind {
 /// A fault of a pattern.
 #[derive(Clone, Copy, PartialEq, Eq, Debug)]
 pub struct PatternFault {
-    /// What it is.
+    /// What the fault is.
     pub kind: FaultKind,
-    /// The byte at which it stands.
+    /// The byte of the fault.
     pub at: u32,
 }
 
-/// Why a pattern has no rule pattern.
+/// Why a pattern has no rule pattern. Each fault has its byte.
 #[derive(Debug, Drop, Error)]
 pub enum CheckFault {
-    /// Its height is above 500; at the pattern.
+    /// The height of the pattern is above 500. The byte is that of the pattern.
     #[error("too high at {0}")]
     Deep(u32),
-    /// A sort is not declared; at its name.
+    /// A sort is not declared, has arguments, or is a sort parameter. The byte is that of its name.
     #[error("unknown sort at {0}")]
     UnknownSort(u32),
-    /// A symbol is not declared; at its name.
+    /// A symbol is not declared. The byte is that of its name.
     #[error("unknown symbol at {0}")]
     UnknownSymbol(u32),
-    /// A symbol has another number of sorts or arguments; at its name.
+    /// A symbol has a wrong number of sort arguments or of arguments. The byte is that of its name.
     #[error("wrong number of sorts or arguments at {0}")]
     Arity(u32),
-    /// An argument has another sort; at it. An injection goes from a sort that is not below the other; at the symbol.
+    /// The sort of an argument is not that of its place: the byte is that of the argument. Or the
+    /// first sort of an injection is not below the second: the byte is that of the symbol.
     #[error("wrong sort at {0}")]
     SortClash(u32),
-    /// A text is no value of its sort; at the string.
+    /// A text is not a value of its sort. The byte is that of the string.
     #[error("no value of its sort at {0}")]
     BadValue(u32),
-    /// A symbol has no kind; at its name.
+    /// A symbol has no kind. The byte is that of its name.
     #[error("symbol without a kind at {0}")]
     NoKind(u32),
-    /// Memory was wanting.
+    /// Out of memory.
     #[error("out of memory")]
     Memory,
 }
@@ -103,7 +105,8 @@ impl FaultKind {
 impl PatternFault {
     ghost use Rattle.kore_check.specs.FaultNumbers.{plain_fault};
 
-    // Whether this fault stands in front of the other, or at its byte with no greater number.
+    // Whether this fault is at a smaller byte than the other, or at its byte with no greater
+    // number.
     pub(crate) fn leads(self, other: PatternFault) -> bool
         ensures { result ≡ leads_by_byte (plain_fault self) (plain_fault other) }
     {

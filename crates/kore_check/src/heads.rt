@@ -14,7 +14,7 @@ use kore_ast::{Sort, Text};
 use rule_core::{Signature, SymInfo, SymKind};
 use term_core::SortId;
 
-// The declared symbol with this name.
+// The declaration of the symbol with this name.
 pub(crate) fn symbol<'a>(sig: &'a Signature, name: &Text) -> Option<&'a SymInfo>
     ensures { option_copied result ≡ symbol_named sig.now name.now }
 {
@@ -22,7 +22,7 @@ pub(crate) fn symbol<'a>(sig: &'a Signature, name: &Text) -> Option<&'a SymInfo>
     sig.symbols.value(number)
 }
 
-// Whether an injection goes from a sort to one that it is not below.
+// Whether these are the two declared sorts of an injection, and the first is not below the second.
 fn is_astray(sig: &Signature, sorts: &[Sort]) -> bool
     requires { IsNumbered sig.now }
     ensures { result ≡ goes_astray sig.now (sort_numbers sig.now (map plain_sort sorts.now)) }
@@ -38,8 +38,8 @@ fn is_astray(sig: &Signature, sorts: &[Sort]) -> bool
     }
 }
 
-// The sort of a symbol with these sort arguments and so many arguments. It notes the faults of this head, which stand
-// at `at` and at the sorts.
+// Notes the faults of the head of an application with `args` arguments, and returns its sort. The
+// faults are at `at`, the byte of the symbol, and at the sorts.
 pub(crate) fn check_head(
     sig: &Signature,
     at: u32,
@@ -84,7 +84,7 @@ fn check_symbol(
     }
 }
 
-// Notes another number of sort arguments or of arguments.
+// Notes a wrong number of sort arguments or of arguments.
 fn check_arity(
     at: u32,
     symbol: &SymInfo,
@@ -102,7 +102,7 @@ fn check_arity(
     }
 }
 
-// Notes an injection from a sort to one that it is not below.
+// Notes an injection whose first sort is not below the second.
 fn check_injection(
     sig: &Signature,
     at: u32,
@@ -130,7 +130,7 @@ fn is_injection(kind: SymKind) -> bool
     }
 }
 
-// Notes that a symbol has no kind.
+// Notes a symbol that has no kind.
 fn check_kind(at: u32, symbol: &SymInfo, first: &mut Option<PatternFault>)
     ensures { kept_fault first.new ≡ after first.old (when (has_no_kind symbol.now.kind) 25 at) }
 {

@@ -1,4 +1,4 @@
-// The height of a pattern with its folds read.
+// The height of a pattern with its folds expanded.
 ghost use Rattle.std.specs.Prelude.{◌≡◌, ◌≤◌, ◌+◌, ℕ, true, false, List, length, map};
 ghost use Rattle.kore_text.specs.Trees.{SortTree, pattern_trees};
 ghost use Rattle.kore_ast.specs.Plain.{plain_pattern};
@@ -8,8 +8,8 @@ ghost use Rattle.kore_check.specs.FoldHeights.{cut};
 use kore_ast::{Pat, PatForm};
 use term_core::MAX_HEIGHT;
 
-/// The height of a pattern with its folds read, or 501 where it is greater. That of a variable, of a value and of a
-/// symbol without arguments is 1. It goes through the pattern once.
+/// The height of a pattern with its folds expanded, or 501 if it is greater. A variable, a value
+/// and a symbol without arguments have the height 1. It goes through the pattern once.
 #[cycle(height)]
 pub fn height_of(pat: &Pat) -> u32
     ensures { result ≡ cut (height (unfolded (plain_pattern pat.now))) }
@@ -22,7 +22,7 @@ pub fn height_of(pat: &Pat) -> u32
     }
 }
 
-// The greatest height of patterns, 0 where there is none, or 501 where it is greater.
+// The greatest height of these patterns, or 501 if it is greater. It is 0 if there are none.
 #[cycle(height)]
 fn highest(args: &[Pat]) -> u32
     ensures { result ≡ cut (heights (all_unfolded (pattern_trees (map plain_pattern args.now)))) }
@@ -34,7 +34,7 @@ fn highest(args: &[Pat]) -> u32
     highest
 }
 
-// The height of a fold of this pattern, or 501 where it is greater.
+// The height of a fold of this pattern, or 501 if it is greater.
 #[cycle(height)]
 fn fold_height(inner: &Pat, left: bool) -> u32
     ensures { result ≡ cut (height (inner_fold left (plain_pattern inner.now))) }
@@ -55,7 +55,7 @@ fn fold_height(inner: &Pat, left: bool) -> u32
     }
 }
 
-// The height of the only pattern; 1 where there is another number of them.
+// The height of the only pattern, or 1 if there is not exactly one.
 #[cycle(height)]
 fn only_height(args: &[Pat]) -> u32
     ensures { (at : ℕ) → result
@@ -67,7 +67,8 @@ fn only_height(args: &[Pat]) -> u32
     height_of(&args[0])
 }
 
-// The height of what a fold from the left makes of patterns: each of them adds one to what stands left of it.
+// The height of a fold of these patterns from the left, or 501 if it is greater. Each argument adds
+// one application above those before it.
 #[cycle(height)]
 fn left_height(args: &[Pat]) -> u32
     requires { 2 ≤ length args.now }
@@ -81,7 +82,8 @@ fn left_height(args: &[Pat]) -> u32
     height
 }
 
-// The height of what a fold from the right makes of patterns: each of them adds one to what stands right of it.
+// The height of a fold of these patterns from the right, or 501 if it is greater. Each argument
+// adds one application above those after it.
 #[cycle(height)]
 fn right_height(args: &[Pat]) -> u32
     requires { 2 ≤ length args.now }
@@ -97,7 +99,7 @@ fn right_height(args: &[Pat]) -> u32
     height
 }
 
-// A height with one more, or 501 where that is greater.
+// One more than a height, or 501 if that is greater.
 fn one_more(height: u32) -> u32
     ensures { result ≡ cut (height + 1) }
 {

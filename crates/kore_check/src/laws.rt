@@ -1,7 +1,8 @@
 // The law of sorts.
 ghost use Rattle.kore_check.specs.SortedMeanings.{MeaningsAreSorted};
 
-/// Does nothing when it runs: a caller learns by it that what a pattern without faults means has the pattern's sort.
+/// Does nothing at run time. It gives its caller the law that the meaning of a pattern without
+/// faults has the sort of the pattern.
 pub fn sort_laws()
     ensures { MeaningsAreSorted }
 {}

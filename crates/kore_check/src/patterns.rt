@@ -1,4 +1,4 @@
-// The faults of the patterns of one rule, of one equation or of a term, of which the first is kept.
+// The faults of the patterns of one rule, one equation or one term. Only the first one is kept.
 ghost use Rattle.std.specs.Prelude.{◌≡◌, ◌++◌, List, option_map, nat_lt};
 ghost use Rattle.kore_ast.specs.Plain.{plain_sort, plain_pattern};
 ghost use Rattle.kore_sig.specs.FirstFault.{Fault, when};
@@ -19,11 +19,12 @@ use kore_ast::{Pat, Sort};
 use rule_core::Signature;
 use term_core::{MAX_HEIGHT, SortId};
 
-/// Notes the faults of a pattern: what is kept is the first of them and of those that were noted before. It answers the
-/// pattern's sort, where it has one.
+/// Notes the faults of a pattern, and returns the pattern's sort if it has one. The first of these
+/// faults and of those noted before is kept.
 ///
-/// It takes a time linear in the pattern, up to a logarithm of the number of sorts and symbols. It recurses no deeper
-/// than brackets are open in the text; the arguments of a fold are gone through in a loop.
+/// It takes time linear in the pattern, up to a logarithm of the number of sorts and symbols. Its
+/// recursion is no deeper than the open brackets of the text, because a loop handles the arguments
+/// of a fold.
 pub fn note_pattern(sig: &Signature, pat: &Pat, first: &mut Option<PatternFault>) -> Option<SortId>
     requires { IsNumbered sig.now }
     ensures sort { option_map (λ s. s.0) result ≡ sort_of sig.now (unfolded (plain_pattern pat.now)) }
@@ -34,7 +35,7 @@ pub fn note_pattern(sig: &Signature, pat: &Pat, first: &mut Option<PatternFault>
     check(sig, pat, first)
 }
 
-// Notes that a pattern is too high.
+// Notes a pattern that is too high.
 fn check_height(pat: &Pat, first: &mut Option<PatternFault>)
     ensures { kept_fault first.new
         ≡ after first.old (when (nat_lt most_height (height (unfolded (plain_pattern pat.now)))) 3
@@ -45,7 +46,7 @@ fn check_height(pat: &Pat, first: &mut Option<PatternFault>)
     }
 }
 
-/// Notes that a sort is not declared. It answers the number of a declared one.
+/// Notes a sort that is not declared. It returns the number of a declared sort.
 pub fn note_sort(sig: &Signature, sort: &Sort, first: &mut Option<PatternFault>) -> Option<SortId>
     requires { IsNumbered sig.now }
     ensures sort { option_map (λ s. s.0) result ≡ sort_number sig.now.sorts (plain_sort sort.now) }
@@ -55,8 +56,8 @@ pub fn note_sort(sig: &Signature, sort: &Sort, first: &mut Option<PatternFault>)
     check_sort(sig, sort, first)
 }
 
-/// Notes, at this byte, that a sort is another one than the one that is wanted. Where one of them is missing, there is
-/// no clash.
+/// Notes a clash at this byte if the sort is not the one that is wanted. There is no clash if one
+/// of the two is missing.
 pub fn note_clash(
     at: u32,
     own: Option<SortId>,

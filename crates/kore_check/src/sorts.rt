@@ -1,4 +1,4 @@
-// Sorts in patterns: which declared sorts they are.
+// The declared sorts that the sorts in patterns name.
 ghost use Rattle.std.specs.Prelude.{◌≡◌, IsTrue, map, flat_map, is_some, length, slice_get, option_map, option_copied};
 ghost use Rattle.std.specs.Prelude.{Some, None};
 ghost use Rattle.std.specs.Option.{option_and_then};
@@ -16,7 +16,7 @@ use kore_sig::sort_number;
 use rule_core::{Signature, SortRef, SymInfo};
 use term_core::SortId;
 
-// The declared sort that a sort is: none where it is not declared, has arguments, or is a sort parameter.
+// The number of a sort, or None if it is not declared, has arguments, or is a sort parameter.
 pub(crate) fn declared_sort(sig: &Signature, sort: &Sort) -> Option<SortId>
     requires { IsNumbered sig.now }
     ensures { option_map sort_no result ≡ number_of_sort sig.now.sorts (plain_sort sort.now) }
@@ -25,7 +25,7 @@ pub(crate) fn declared_sort(sig: &Signature, sort: &Sort) -> Option<SortId>
     Some(SortId(number as u32))
 }
 
-// The same, where it notes what is no declared sort.
+// The number of a sort, or None. It notes a sort that is not declared.
 pub(crate) fn check_sort(
     sig: &Signature,
     sort: &Sort,
@@ -42,7 +42,7 @@ pub(crate) fn check_sort(
     found
 }
 
-// Whether all of these are declared sorts. It notes each that is not.
+// Whether all of these are declared sorts. It notes each one that is not.
 pub(crate) fn check_sorts(sig: &Signature, sorts: &[Sort], first: &mut Option<PatternFault>) -> bool
     requires { IsNumbered sig.now }
     ensures all { result ≡ is_some (sort_numbers sig.now (map plain_sort sorts.now)) }
@@ -57,7 +57,8 @@ pub(crate) fn check_sorts(sig: &Signature, sorts: &[Sort], first: &mut Option<Pa
     all_declared
 }
 
-// The sort of a symbol with these sort arguments, of which is known whether all of them are declared.
+// The sort of a symbol with these sort arguments. `all_declared` says whether all of them are
+// declared.
 pub(crate) fn sort_of_symbol(
     sig: &Signature,
     symbol: Option<&SymInfo>,
@@ -77,7 +78,7 @@ pub(crate) fn sort_of_symbol(
     wanted(sig, sorts, symbol.result)
 }
 
-// The sort that a place wants, at these sort arguments of its symbol.
+// The sort that a place wants if its symbol has these sort arguments.
 pub(crate) fn wanted(sig: &Signature, sorts: &[Sort], of: SortRef) -> Option<SortId>
     requires { IsNumbered sig.now }
     ensures { option_map sort_no result ≡ wanted_sort sig.now (map plain_sort sorts.now) of }
@@ -91,7 +92,8 @@ pub(crate) fn wanted(sig: &Signature, sorts: &[Sort], of: SortRef) -> Option<Sor
     }
 }
 
-// Notes that a sort is another one than the one that is wanted. Where one of them is missing, there is no clash.
+// Notes a clash if the sort is not the one that is wanted. There is no clash if one of the two is
+// missing.
 pub(crate) fn check_clash(
     at: u32,
     own: Option<SortId>,

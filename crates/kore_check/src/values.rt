@@ -19,7 +19,7 @@ use std::alloc::{AllocError, Global};
 use std::rc::RcStr;
 use term_core::{SortId, Value};
 
-// The whole number that a text stands for.
+// The integer that a text stands for.
 pub(crate) fn integer_of(text: &Text) -> Option<i128>
     ensures { result ≡ integer_of_text text.now }
 {
@@ -48,7 +48,7 @@ pub(crate) fn is_value(kind: SortKind, text: &Text) -> bool
     }
 }
 
-// Every text is valid UTF-8.
+// Whether a text is valid UTF-8. Every `Text` is.
 fn is_utf8(text: &Text) -> bool
     ensures { result ≡ is_some (value_of_words text.now) }
 {
@@ -86,7 +86,8 @@ pub(crate) fn kind_of(sig: &Signature, sort: SortId) -> Option<SortKind>
     Some(sort.kind)
 }
 
-// The sort of a domain value. It notes what is no declared sort, and at `at` a text that is no value of it.
+// Returns the sort of a domain value. It notes a sort that is not declared, and at `at` a text that
+// is not a value of the sort.
 pub(crate) fn check_value(
     sig: &Signature,
     sort: &Sort,

@@ -11,8 +11,8 @@ use std::collections::btree_map::Comparable;
 use std::marker::Model;
 use term_core::SortId;
 
-/// Variables in the order of their first occurrence, which gives them their numbers, from 0 on. No name stands twice
-/// with one sort. Contracts see them as the list of their names, each beside the number of its sort.
+/// Variables in the order of their first occurrence, numbered from 0. No two have the same name and
+/// the same sort. Contracts see them as the list of their names, each with the number of its sort.
 #[derive(Drop)]
 pub struct Variables {
     infos: Vec<VarInfo>,
@@ -31,7 +31,7 @@ impl Model for Variables {
     ghost invariant = { IsIndexed };
 }
 
-// A name and a sort that are looked for.
+// A name and a sort to look up.
 #[derive(Clone, Copy)]
 struct Wanted<'a> {
     name: &'a str,
@@ -51,7 +51,7 @@ impl Comparable<(String, u32)> for Wanted<'_> {
 }
 
 impl Variables {
-    /// No variables. It takes no memory yet.
+    /// No variables. It allocates nothing.
     pub fn new(alloc: Global) -> Self
         ensures { result ≡ [] }
     {
@@ -68,22 +68,22 @@ impl Variables {
         self.infos.len()
     }
 
-    /// The variables, by their numbers.
+    /// The variables in the order of their numbers.
     pub fn infos(&self) -> &[VarInfo]
         ensures { named_sorts result.now ≡ self.now }
     {
         &self.infos
     }
 
-    /// The variables, by their numbers.
+    /// The variables in the order of their numbers.
     pub fn into_infos(self) -> Vec<VarInfo>
         ensures { named_sorts result.items ≡ self }
     {
         self.infos
     }
 
-    /// The number of the variable with this name and this sort: none exactly where it is not there. It compares the
-    /// name with as many others as the logarithm of the number of variables, up to a factor.
+    /// The number of the variable with this name and this sort, or None if there is none. It
+    /// compares the name with a number of others that is logarithmic in the number of variables.
     pub fn number(&self, name: &str, sort: SortId) -> Option<u32>
         ensures { result ≡ variable_number self.now name.now sort.0 }
     {
@@ -91,9 +91,11 @@ impl Variables {
         self.numbers.get(wanted).copied()
     }
 
-    /// The number of the variable with this name and this sort, which is added after the others where it is not there.
-    /// A number past 32 bits counts as out of memory, which so many variables would not fit into. After `AllocError`
-    /// the variables are as before. It costs what `number` does, and two copies of the name of a new variable.
+    /// Returns the number of the variable with this name and this sort. A new variable is added at
+    /// the end. It costs as much as `number`, and two copies of the name of a new variable.
+    ///
+    /// The error is `AllocError`: out of memory, or the number does not fit in 32 bits. After it
+    /// the variables are as before.
     pub fn number_or_add(
         &mut self,
         alloc: Global,
@@ -110,7 +112,7 @@ impl Variables {
         self.add(alloc, name, sort)
     }
 
-    // Adds a variable that is not there, and answers its number.
+    // Adds a variable that is not there, and returns its number.
     fn add(&mut self, alloc: Global, name: &str, sort: SortId) -> Result<u32, AllocError>
         requires { variable_number self.old name.now sort.0 ≡ None }
         ensures vars { OnOk result (self.new ≡ self.old ++ (name.now, sort.0) ∷ []) }
@@ -129,7 +131,7 @@ impl Variables {
         Ok(number)
     }
 
-    // Takes the last variable away.
+    // Removes the last variable.
     fn remove_last(&mut self)
         ensures { self.new ≡ take (length self.old - 1) self.old }
     {
@@ -143,7 +145,8 @@ impl Variables {
         self.numbers.remove(wanted);
     }
 
-    /// Keeps so many of the first variables: all of them where there are no more. It looks up each one that it removes.
+    /// Keeps the first `len` variables, or all of them if there are no more. It looks up each one
+    /// that it removes.
     pub fn truncate(&mut self, len: usize)
         ensures { self.new ≡ take len self.old }
     {
@@ -153,7 +156,7 @@ impl Variables {
     }
 }
 
-// A number of 32 bits.
+// The number in 32 bits. The error is that it does not fit.
 fn as_number(number: usize) -> Result<u32, AllocError>
     ensures { IfOk result (λ x. x ≡ number) }
 {

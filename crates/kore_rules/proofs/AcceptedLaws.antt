@@ -35,7 +35,7 @@ use Rattle.kore_rules.proofs.ProgramNames.{identifier_names}
 use Rattle.kore_rules.proofs.WellSortedPrograms.{IsFaultlessProgram, well_sorted_program, sorted_rules}
 use Rattle.kore_rules.proofs.Places.{axioms-rise, once, few, variables-few}
 
--- the axioms of a text of fewer than 2^32 bytes are few, and each at a place of its own
+-- a text of fewer than 2^32 bytes has few axioms, each at its own place
 pub axioms_few : TokensCover → (bytes : List ℕ) (d : DefinitionTree) → length bytes < 4294967296 → ReadsDefinition bytes d → AreFew (axioms_of d)
 axioms_few law bytes d lt reads =
     let rise = axioms-rise law bytes d reads in record {
@@ -104,7 +104,7 @@ top_any sig other axioms None same none = λ a has w class. none a has w (rewrit
 top_any sig other axioms (Some s) same (a, has, (w, class, number)) =
     (a, has, (w, rewrites_any sig other a w class, ap (λ (sorts : List (List ℕ × SortInfo)). sort_number sorts w.sort) same ∙ number))
 
--- ---- what follows of a program that was made
+-- ---- what follows for a program that was made
 
 faultless : (d : DefinitionTree) (theory : RewriteTheory) (top : Option ℕ) (made : IsMadeOf d theory top) → IsFaultlessProgram d made.declared theory
 faultless d theory top made = record {

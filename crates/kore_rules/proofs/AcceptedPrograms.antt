@@ -1,4 +1,4 @@
--- A definition that is accepted gives a well-sorted program, whose names are identifiers.
+-- An accepted definition gives a well-sorted program, and the names of the program are identifiers.
 use Rattle.std.proofs.Common.{ℕ, List, Option}
 use Rattle.kore_text.specs.Identifiers.{NamesAreIdentifiers}
 use Rattle.rule_core.specs.Theories.{RewriteTheory}

@@ -1,4 +1,4 @@
--- A term that is accepted has a sort, and no variable.
+-- An accepted term has a sort, and no variable.
 use Rattle.std.proofs.Common.{◌≡◌, ℕ, true, List, [], Option, Some, None, sym, ◌∙◌, subst}
 use Rattle.std.specs.Prelude.{All}
 use Rattle.std.proofs.lemmas.Bool.{false≢true, eqb-true}
@@ -22,7 +22,7 @@ use Rattle.kore_rules.specs.FirstRefusal.{start_faults}
 use Rattle.kore_rules.specs.RefusedTexts.{IsSortOfRules}
 use Rattle.kore_rules.proofs.MeaningSorts.{means_form}
 
--- the sort of the rules, where it is told, is this one
+-- this is the sort of the rules, if there is one
 abbrev pub IsOfTop : Option ℕ → ℕ → Type 0
 IsOfTop None s = Unit {0}
 IsOfTop (Some t) s = t ≡ s
@@ -46,7 +46,7 @@ rules_of_top : (theory : RewriteTheory) (top : Option ℕ) (s : ℕ) → IsSortO
 rules_of_top theory None s none of = subst (All (IsRuleOf theory.sig s)) (sym none) (All-nil (IsRuleOf theory.sig s))
 rules_of_top theory (Some t) s all of = subst (λ (n : ℕ). All (IsRuleOf theory.sig n) theory.rules) of all
 
--- so it is a start of the program
+-- an accepted term is a start of the program
 pub accepted_is_start : (theory : RewriteTheory) (top : Option ℕ) (bytes : List ℕ) (start : Pattern) → IsSignature theory.sig → IsSortOfRules theory top → IsAcceptedTerm theory.sig top bytes start → IsStart theory start
 accepted_is_start theory top bytes start good rules is =
     let found = accepted_start theory.sig top bytes start good is in

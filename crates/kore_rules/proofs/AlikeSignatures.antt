@@ -1,5 +1,5 @@
--- Two signatures of the same declarations give the axioms the same faults: they differ at most in where names and lists
--- are kept.
+-- Two signatures of the same declarations give the axioms the same faults. They differ at most in
+-- where their names and lists are stored.
 use Rattle.std.proofs.Common.{◌≡◌, ℕ, ◌+◌, Bool, cond, List, [], ◌∷◌, ◌++◌, drop, length, zero, suc, Option, Some, None, refl, sym, ap, ◌∙◌, subst, inl, inr}
 use Rattle.std.specs.Prelude.{◌==◌, ◌&&◌, not, Contains, slice_get, option_map, string_bytes, is_none, flat_map, if◌then◌else◌, ◌||◌, codes, nat_lt}
 use Rattle.std.specs.List.{AllZip, position_from}
@@ -32,7 +32,7 @@ use Rattle.kore_rules.specs.FirstRefusal.{FirstOfClass, FirstOfAxioms, first_sor
 
 -- ---- symbols
 
--- two declared symbols of one name
+-- two declared symbols with the same name
 record IsAlike (a b : SymInfo) : Type 0 where
   pub kind : a.kind ≡ b.kind
   pub params : a.params ≡ b.params
@@ -41,7 +41,7 @@ record IsAlike (a b : SymInfo) : Type 0 where
   pub hook : option_map string_bytes a.hook ≡ option_map string_bytes b.hook
   pub ac : a.ac ≡ b.ac
 
--- both are declared, and alike, or neither is
+-- both are declared and alike, or neither is declared
 abbrev AreAlike : Option SymInfo → Option SymInfo → Type 0
 AreAlike None None = Unit {0}
 AreAlike None (Some b) = ⊥
@@ -131,7 +131,7 @@ in_order_alike {S} P Q next onward each same s (x ∷ xs) r h =
     then_alike (P s x) (InOrder P next (next s x) xs) (Q s x) (InOrder Q onward (onward s x) xs) (each s x)
     (λ q k. subst (λ (behind : S). InOrder Q onward behind xs q) (same s x) (in_order_alike P Q next onward each same (next s x) xs q k)) r h
 
--- ---- faults by what they rest on
+-- ---- faults, by what they depend on
 
 abbrev height_faults : Unfolded → List Fault
 height_faults p = when (nat_lt most_height (height p)) 3 (place p)
@@ -154,7 +154,7 @@ class_or attributes k =
     else if states_pairs attributes then orders_sorts
     else k
 
--- ---- a signature, and one with other entries of the same symbols
+-- ---- a signature, and another one with other entries of the same symbols
 
 abbrev with_symbols : Signature → Symbols → Signature
 with_symbols s xs = record { sorts = s.sorts; symbols = xs; subsorts = s.subsorts }

@@ -1,4 +1,4 @@
--- What is known of an answer, from what is known of another.
+-- What is known of one result, from what is known of another.
 use Rattle.std.specs.Prelude.{Result, Ok, Err, IfOk, IfErr}
 
 pub ok_into : {X E : Type 0} (P Q : X → Type 0) (r : Result X E) → ((x : X) → P x → Q x) → IfOk r P → IfOk r Q

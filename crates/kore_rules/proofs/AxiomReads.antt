@@ -1,4 +1,4 @@
--- What is kept of some axioms, and of one more, by what that is.
+-- What is kept of some axioms and of one more, by what the new one is.
 use Rattle.std.proofs.Common.{◌≡◌, ℕ, ◌+◌, Bool, true, false, List, [], ◌∷◌, ◌++◌, map, length, Contains, Option, Some, None, refl, sym, ap, ◌∙◌, subst, ◌⊎◌, inl, inr, eq-eqb}
 use Rattle.std.specs.Prelude.{◌||◌, ◌==◌, ◌↔◌, IsTrue}
 use Rattle.std.proofs.lemmas.Bool.{eqb-true}
@@ -30,7 +30,7 @@ pair_of n x = (n, x)
 pair_same : (a b : ℕ) (x y : plain.Equation) → a ≡ b → x ≡ y → pair_of a x ≡ pair_of b y
 pair_same a b x y e f = ap (λ (n : ℕ). pair_of n x) e ∙ ap (pair_of b) f
 
--- an axiom is an equation of one function, or none
+-- an axiom is an equation of at most one function
 function_one : (sig : Signature) (f g : List ℕ) (a : AxiomDeclaration) (x y : plain.Equation) → IsEquationOf sig f a x → IsEquationOf sig g a y → f ≡ g
 function_one sig f g a x y r s = sym r.function ∙ ap (λ (e : Statement). e.function) (equates_one r.stated s.stated (sym r.class ∙ s.class)) ∙ s.function
 
@@ -45,7 +45,7 @@ equation_not_unreadable sig f g a x r s =
     let functions : g ≡ f = sym s.function ∙ ap (λ (e : Statement). e.function) (equates_one s.stated r.stated (sym s.class ∙ r.class)) ∙ r.function in
     readable_or_not sig f a x r (subst (λ (h : List ℕ). IsUnreadable sig h a) functions s)
 
--- an axiom that is not unreadable changes no mark
+-- an axiom that is not an unreadable equation changes no mark
 same_marks : (sig : Signature) (axioms : List AxiomDeclaration) (a : AxiomDeclaration) (old new : List Bool) → new ≡ old → ((f : List ℕ) → IsUnreadable sig f a → ⊥)
     → ((n : ℕ) → IsTrue (is_marked old n) ↔ HasUnreadable sig axioms n) → (n : ℕ) → IsTrue (is_marked new n) ↔ HasUnreadable sig (axioms ++ a ∷ []) n
 same_marks sig axioms a old new same none before n =
@@ -69,7 +69,7 @@ right_true : (a b : Bool) → b ≡ true → (a || b) ≡ true
 right_true true b e = refl
 right_true false b e = e
 
--- one that is sets that of its function
+-- an unreadable equation sets the mark of its function
 one_mark : (sig : Signature) (axioms : List AxiomDeclaration) (a : AxiomDeclaration) (f : List ℕ) (k : ℕ) (old new : List Bool) → number_of sig.symbols f ≡ Some k → IsUnreadable sig f a
     → ((n : ℕ) → is_marked new n ≡ (is_marked old n || (n == k)))
     → ((n : ℕ) → IsTrue (is_marked old n) ↔ HasUnreadable sig axioms n) → (n : ℕ) → IsTrue (is_marked new n) ↔ HasUnreadable sig (axioms ++ a ∷ []) n
@@ -97,7 +97,7 @@ place_of r = r.place
 abbrev numbered_place : ℕ × plain.Equation → ℕ
 numbered_place e = e.1.place
 
--- an axiom is a rewrite rule
+-- the new axiom is a rewrite rule
 pub read_rule : (sig : Signature) (axioms : List AxiomDeclaration) (a : AxiomDeclaration) (old new : Readings) (rule : Rule) → new.rules.items ≡ old.rules.items ++ rule ∷ []
     → new.equations.items ≡ old.equations.items → new.unreadable.items ≡ old.unreadable.items → IsRuleOf sig a (rewrite_rule rule) → HaveRead sig axioms old → HaveRead sig (axioms ++ a ∷ []) new
 read_rule sig axioms a old new rule grown equations marks is before = record {
@@ -109,7 +109,7 @@ read_rule sig axioms a old new rule grown equations marks is before = record {
   unreadable = same_marks sig axioms a old.unreadable.items new.unreadable.items marks (λ f h. rule_not_unreadable sig f a (rewrite_rule rule) is h) before.unreadable;
 }
 
--- .. an equation
+-- the new axiom is an equation
 pub read_equation : (sig : Signature) (axioms : List AxiomDeclaration) (a : AxiomDeclaration) (f : List ℕ) (old new : Readings) (e : Equation) → new.equations.items ≡ old.equations.items ++ e ∷ []
     → new.rules.items ≡ old.rules.items → new.unreadable.items ≡ old.unreadable.items → number_of sig.symbols f ≡ Some e.fun.0 → IsEquationOf sig f a (function_equation e) → HaveRead sig axioms old → HaveRead sig (axioms ++ a ∷ []) new
 read_equation sig axioms a f old new e grown rules marks number is before = record {
@@ -121,7 +121,7 @@ read_equation sig axioms a f old new e grown rules marks number is before = reco
   unreadable = same_marks sig axioms a old.unreadable.items new.unreadable.items marks (λ g h. equation_not_unreadable sig f g a (function_equation e) is h) before.unreadable;
 }
 
--- .. an equation that is not readable
+-- the new axiom is an equation that is not readable
 pub read_unreadable : (sig : Signature) (axioms : List AxiomDeclaration) (a : AxiomDeclaration) (f : List ℕ) (k : ℕ) (old new : Readings) → new.rules.items ≡ old.rules.items → new.equations.items ≡ old.equations.items
     → length new.unreadable.items ≡ length old.unreadable.items → ((n : ℕ) → is_marked new.unreadable.items n ≡ (is_marked old.unreadable.items n || (n == k)))
     → number_of sig.symbols f ≡ Some k → IsUnreadable sig f a → HaveRead sig axioms old → HaveRead sig (axioms ++ a ∷ []) new
@@ -134,7 +134,7 @@ read_unreadable sig axioms a f k old new rules equations len set number is befor
   unreadable = one_mark sig axioms a f k old.unreadable.items new.unreadable.items number is set before.unreadable;
 }
 
--- .. neither of these
+-- the new axiom is neither a rule nor an equation
 pub read_nothing : (sig : Signature) (axioms : List AxiomDeclaration) (a : AxiomDeclaration) (old : Readings) → ((w : Rewriting) → class_of sig a ≡ rewrites w → ⊥) → ((e : Statement) → class_of sig a ≡ equates e → ⊥)
     → HaveRead sig axioms old → HaveRead sig (axioms ++ a ∷ []) old
 read_nothing sig axioms a old no_rule no_equation before = record {

@@ -1,4 +1,4 @@
--- What is read of some axioms, and of one more.
+-- What is read of some axioms and of one more.
 use Rattle.std.proofs.Common.{◌≡◌, ◌≤◌, ℕ, suc, ◌+◌, Bool, true, false, cond, List, [], ◌∷◌, ◌++◌, length, Contains, refl, sym, ap, ◌∙◌, subst, arith, ◌⊎◌, inl, inr, length-append}
 use Rattle.std.specs.Prelude.{count_by, ◌==◌, ◌↔◌}
 use Rattle.std.proofs.lemmas.List.Elements.{Contains-append_left, Contains-push, Contains-push_cases}
@@ -6,7 +6,7 @@ use Rattle.std.proofs.lemmas.List.Sums.{sum_by_push}
 use Rattle.kore_text.specs.Trees.{AxiomDeclaration}
 use Rattle.kore_rules.specs.AxiomsRead.{AreRead}
 
--- some axiom is so
+-- P holds for some axiom
 abbrev pub Some_is : (AxiomDeclaration → Type 0) → List AxiomDeclaration → Type 0
 Some_is P axioms = (a : AxiomDeclaration) × Contains axioms a × P a
 
@@ -28,7 +28,7 @@ one_if b = cond b 1 0
 count_push : {X : Type 0} (test : X → Bool) (xs : List X) (x : X) → count_by test (xs ++ x ∷ []) ≡ count_by test xs + one_if (test x)
 count_push test xs x = sum_by_push (λ y. one_if (test y)) xs x
 
--- an axiom is one more of the things
+-- the new axiom is one more of the things
 pub read_more : {X : Type 0} (Is : AxiomDeclaration → X → Type 0) (place : X → ℕ) (axioms : List AxiomDeclaration) (xs : List X) (a : AxiomDeclaration) (x : X)
     → Is a x → ((y : X) → Is a y → x ≡ y) → place x ≡ a.at → AreRead Is place axioms xs → AreRead Is place (axioms ++ a ∷ []) (xs ++ x ∷ [])
 read_more {X} Is place axioms xs a x is one there before = record {
@@ -51,7 +51,7 @@ read_more {X} Is place axioms xs a x is one there before = record {
       omega (arith, le, l, m, same);
 }
 
--- .. or none of them
+-- the new axiom is none of the things
 pub read_same : {X : Type 0} (Is : AxiomDeclaration → X → Type 0) (place : X → ℕ) (axioms : List AxiomDeclaration) (xs : List X) (a : AxiomDeclaration)
     → ((y : X) → Is a y → ⊥) → AreRead Is place axioms xs → AreRead Is place (axioms ++ a ∷ []) xs
 read_same {X} Is place axioms xs a none before = record {

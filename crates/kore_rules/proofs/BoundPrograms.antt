@@ -1,4 +1,4 @@
--- The variables of a program's rules and equations are bound, where its axioms have few variables.
+-- The variables of a program's rules and equations are bound if its axioms have few variables.
 use Rattle.std.proofs.Common.{◌≡◌, ◌<◌, ◌≤◌, ℕ, ◌+◌, ◌*◌, ◌^◌, List, [], ◌∷◌, map, length, slice_get, Contains, Option, Some, None, ◌⊎◌, ⊎_elim, inl, inr, refl, sym, ap, ◌∙◌, subst, arith}
 use Rattle.std.specs.Prelude.{Vec}
 use Rattle.std.specs.Global.{Global}

@@ -1,4 +1,4 @@
--- What the declarations of a definition say of the kinds of symbols.
+-- What the declarations of a definition say about the kinds of symbols.
 use Rattle.std.proofs.Common.{◌≡◌, ℕ, zero, suc, ◌+◌, Bool, true, false, ◌&&◌, List, [], ◌∷◌, length, slice_get, Some, refl, ap, sym, ◌∙◌, arith}
 use Rattle.std.specs.Prelude.{◌==◌, if◌then◌else◌}
 use Rattle.std.specs.List.{position_from}
@@ -67,7 +67,7 @@ place_of {V} (x ∷ es) i (suc f) e distinct at = by_test (place_of es (i + 1) f
   by_test later true same = absurd (none_at x.0 es f e distinct.0 at (sym ((bytes_eq-Decides e.0 x.0).0 same)))
   by_test later false other = rw other (later ∙ ap (λ (n : ℕ). Some n) (omega arith))
 
--- the symbol under a number is the one under its name
+-- the symbol with a number is the one with its name
 pub named_by_number : (sig : Signature) (f : ℕ) (name : List ℕ) (info : SymInfo) → AreDistinct (names_of sig.symbols) → slice_get sig.symbols f ≡ Some (name, info) → symbol_named sig name ≡ Some info
 named_by_number sig f name info distinct at =
     let number : number_of sig.symbols name ≡ Some f = place_of sig.symbols 0 f (name, info) distinct at ∙ ap (λ (n : ℕ). Some n) (omega arith) in

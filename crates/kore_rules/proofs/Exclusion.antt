@@ -1,4 +1,4 @@
--- No bytes are both accepted and refused, and refused bytes have one fault.
+-- No bytes are both accepted and refused, and refused bytes have only one fault.
 use Rattle.std.proofs.Common.{◌≡◌, Option, Some, None, subst, inl, inr}
 use Rattle.kore_text.specs.Trees.{PatternTree, DefinitionTree}
 use Rattle.rule_core.specs.declared.signature.Signature.{Signature}
@@ -13,7 +13,7 @@ use Rattle.kore_rules.specs.FirstRefusal.{FirstOfAxioms, FirstOfDefinition, Firs
 use Rattle.kore_rules.proofs.AlikeSignatures.{axioms_alike}
 use Rattle.kore_rules.proofs.OneFault.{term_is_one, axioms_are_one}
 
--- the first fault of the axioms, by whatever signature the declarations give
+-- the first fault of the axioms, by any signature that the declarations give
 abbrev FirstBehind : DefinitionTree → Option Fault → Type 0
 FirstBehind d r = (sig : Signature) × IsSignatureOf d sig × FirstOfAxioms sig (axioms_of d) r
 

@@ -1,4 +1,4 @@
--- Whatever is looked at has a first fault, or none: texts, declarations, axioms and terms.
+-- Texts, declarations, axioms and terms each have a first fault or none.
 use Rattle.std.proofs.Common.{◌≡◌, ℕ, Bool, true, false, List, [], ◌∷◌, ◌++◌, Option, Some, None, refl, sym, ◌∙◌, subst, ◌⊎◌, inl, inr}
 use Rattle.std.specs.Prelude.{Contains}
 use Rattle.std.proofs.lemmas.Bool.{false≢true}
@@ -48,7 +48,7 @@ pattern_is_found bytes = by_case (run (tokens_of bytes) (Some 0) pattern_symbols
 
 -- ---- lists, stages and things in order
 
--- a first fault, or none, is so
+-- P holds for some first fault, or for none
 abbrev pub Found : (Option Fault → Type 0) → Type 0
 Found P = (r : Option Fault) × P r
 
@@ -68,7 +68,7 @@ in_order_found R next each s (x ∷ xs) = then_found (R s x) (InOrder R next (ne
 
 -- ---- pairs of sorts
 
--- no sort is below itself that is the lower one of one of these pairs
+-- no sort that is the lower one of one of these pairs is below itself
 abbrev NoneLoops : List (ℕ × ℕ) → List (ℕ × ℕ) → Type 0
 NoneLoops pairs some = (p : ℕ × ℕ) → Contains some p → is_below pairs p.0 p.0 ≡ false
 

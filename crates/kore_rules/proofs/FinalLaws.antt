@@ -1,4 +1,4 @@
--- The symbols with their final kinds, one after the other.
+-- The symbols with their final kinds, one after another.
 use Rattle.std.proofs.Common.{◌≡◌, ◌≢◌, ◌<◌, ℕ, zero, suc, ◌+◌, Bool, true, false, cond, List, [], ◌∷◌, ◌++◌, map, take, drop, get_or, length, Option, Some, None, refl, sym, ap, ◌∙◌, subst, arith}
 use Rattle.std.specs.Prelude.{◌||◌, ◌&&◌, slice_get, option_map, is_some, is_none, not}
 use Rattle.std.specs.List.{AllZip, position_from}
@@ -20,7 +20,7 @@ use Rattle.kore_sig.proofs.SetLaws.{number_among}
 use Rattle.kore_rules.specs.ScalarSorts.{IsFinal, refers_to, refer_to, final_kind, is_marked_at}
 use Rattle.kore_rules.specs.AxiomsRead.{is_marked}
 
--- ---- references of another number
+-- ---- a different number of references
 
 right_false : (a b : Bool) → b ≡ false → (a && b) ≡ false
 right_false true b e = e
@@ -52,14 +52,14 @@ bytes_differ k q other = by_case (bytes_eq k q) refl where
   by_case true e = absurd (other (sym ((bytes_eq-Decides k q).0 e)))
   by_case false e = e
 
--- the name of an entry is not among those in front of it
+-- the name of an entry is not among the names before it
 none_before : {V : Type 0} (es : List (List ℕ × V)) (n : ℕ) (e : List ℕ × V) → AreDistinct (names_of es) → slice_get es n ≡ Some e → is_among (names_of (take n es)) e.0 ≡ false
 none_before [] n e distinct is = absurd (let never : ⊥ = cc in never)
 none_before (first ∷ es) zero e distinct is = refl
 none_before (first ∷ es) (suc n) e distinct is =
     rw (bytes_differ e.0 first.0 (none_of_at first.0 es n e distinct.0 is)) (none_before es n e distinct.1 is)
 
--- .. and its number is its place
+-- the number of an entry's name is the entry's place
 number_from : {V : Type 0} (es : List (List ℕ × V)) (i n : ℕ) (e : List ℕ × V) → AreDistinct (names_of es) → slice_get es n ≡ Some e → position_from (λ (x : List ℕ × V). bytes_eq e.0 x.0) i es ≡ Some (i + n)
 number_from [] i n e distinct is = absurd (let never : ⊥ = cc in never)
 number_from {V} (first ∷ es) i zero e distinct is =

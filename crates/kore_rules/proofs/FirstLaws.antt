@@ -1,4 +1,4 @@
--- The first fault of axioms, one after the other, and the sort of the first rule.
+-- The first fault of axioms, one after another, and the sort of the first rule.
 use Rattle.std.proofs.Common.{◌≡◌, ℕ, List, [], ◌∷◌, ◌++◌, Contains, Option, Some, None, refl, sym, ap, ◌∙◌, subst, ◌⊎◌, inl, inr}
 use Rattle.std.specs.Prelude.{is_some}
 use Rattle.std.proofs.lemmas.List.Elements.{Contains-append_left, Contains-push, Contains-push_cases}
@@ -21,18 +21,18 @@ pub refuses_into : (P Q : Fault → Type 0) (refusal : Refusal) → ((f : Fault)
 refuses_into P Q (Refused number byte) into h = into (record { number = number; byte = byte }) h
 refuses_into P Q Memory into h = tt
 
--- the first fault of axioms, where the first rule before them has this sort
+-- the first fault of axioms, if the first rule before them has this sort
 abbrev pub FirstBehind : Signature → Option SortTree → List AxiomDeclaration → Option Fault → Type 0
 FirstBehind sig first axioms r =
     InOrder (λ first a. FirstOfClass sig first a (class_of sig a)) (λ first a. first_sort first (class_of sig a)) first axioms r
 
--- where the next axiom has no fault, what follows decides
+-- if the next axiom has no fault, the axioms after it decide
 pub behind_clear : (sig : Signature) (first : Option SortTree) (a : AxiomDeclaration) (axioms : List AxiomDeclaration) (r : Option Fault) → FirstOfClass sig first a (class_of sig a) None
     → FirstBehind sig (first_sort first (class_of sig a)) axioms r → FirstBehind sig first (a ∷ axioms) r
 behind_clear sig first a axioms None clear rest = (clear, rest)
 behind_clear sig first a axioms (Some f) clear rest = inr (clear, rest)
 
--- .. and where it has one, that is the first
+-- if the next axiom has a fault, that is the first
 pub behind_fault : (sig : Signature) (first : Option SortTree) (a : AxiomDeclaration) (axioms : List AxiomDeclaration) (f : Fault) → FirstOfClass sig first a (class_of sig a) (Some f) → FirstBehind sig first (a ∷ axioms) (Some f)
 behind_fault sig first a axioms f is = inl is
 

@@ -15,7 +15,7 @@ rest_nil : {X : Type 0} (xs ys : List X) → xs ++ ys ≡ [] → ys ≡ []
 rest_nil [] ys e = e
 rest_nil (x ∷ xs) ys e = absurd (let never : ⊥ = cc in never)
 
--- a pattern of the forms of rule patterns that adds no variable
+-- the pattern has the forms of rule patterns, and adds no variable
 record IsClosed (u : Unfolded) : Type 0 where
   pub form : IsApplicative u
   pub none : (sig : Signature) (vars : List (List ℕ × ℕ)) → with_variables sig vars u ≡ vars

@@ -36,7 +36,7 @@ number_at : (n i : ℕ) → i < n → slice_get (range_with_len 0 n) i ≡ Some 
 number_at n i lt =
     slice_get-get_or (range_with_len 0 n) i 0 (subst (λ (m : ℕ). i < m) (sym (length-range_with_len 0 n)) lt) ∙ ap Some (get_or-range_with_len 0 n i 0 lt ∙ omega arith)
 
--- a hook has its own number
+-- the number of a hook's name is the hook's own number
 own_number : (row : ℕ) (h : Hook) → slice_get hooks row ≡ Some h → hook_number h.name ≡ Some row
 own_number row h there =
     some_same (hook_number h.name) (Some row)
@@ -46,7 +46,7 @@ own_number row h there =
     ∙ slice_get-map (λ (n : ℕ). Some n) (range_with_len 0 (length hooks)) row
     ∙ ap (option_map (λ (n : ℕ). Some n)) (number_at (length hooks) row (slice_get_within hooks row h there)))
 
--- the hook with a name's number has the name
+-- the hook with the number of a name has this name
 numbered_hook : (name : List ℕ) (n : ℕ) (d : Hook) → hook_number name ≡ Some n → (h : Hook) × (slice_get hooks n ≡ Some h) × (h.name ≡ name)
 numbered_hook name n d is =
     let found = position-Some (λ (h : Hook). bytes_eq h.name name) hooks n d is in

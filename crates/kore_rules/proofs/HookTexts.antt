@@ -1,4 +1,5 @@
--- The texts of hooks in a definition that bytes spell are UTF-8, and at most four times as long as the bytes.
+-- The texts of hooks in a definition that bytes spell are UTF-8, and at most four times as long as
+-- the bytes.
 use Rattle.std.proofs.Common.{◌≡◌, ◌≤◌, ◌*◌, ◌+◌, ◌-◌, ℕ, zero, suc, Bool, true, false, cond, List, [], ◌∷◌, ◌++◌, map, length, take, drop, Option, Some, None, refl, subst, arith, length-append, length-drop}
 use Rattle.std.specs.Prelude.{nat_lt, ◌==◌, find, unwrap_or, option_map, codes, filter_map, flat_map}
 use Rattle.std.specs.Char.{encode_utf8}
@@ -20,7 +21,7 @@ use Rattle.kore_sig.specs.Declarations.{symbol_declared, symbols_of}
 
 -- ---- texts
 
--- UTF-8, and no longer than this
+-- the text is UTF-8, and no longer than this
 abbrev pub IsFineText : ℕ → List ℕ → Type 0
 IsFineText n t = IsUtf8 t × (length t ≤ n)
 
@@ -58,7 +59,7 @@ value_short bs n short =
 
 -- ---- tokens
 
--- the text in a token, where it has one, is fine
+-- the text in a token, if it has one, is fine
 abbrev IsFine : ℕ → Token → Type 0
 IsFine n (identifier x) = Unit {0}
 IsFine n (set_identifier x) = Unit {0}
@@ -94,9 +95,9 @@ tokens_fine : (bytes : List ℕ) → AllFine (4 * length bytes) (tokens_of bytes
 unfolding tokens_of
 tokens_fine bytes = named_fine bytes (lexed 0 bytes) (tokens-textual bytes)
 
--- ---- wishes
+-- ---- wanted tokens
 
--- the texts that are wished for are fine
+-- the texts in the wanted tokens are fine
 abbrev Wished : ℕ → List Want → Type 0
 Wished n [] = Unit {0}
 Wished n (given b ∷ ws) = Wished n ws
@@ -113,7 +114,7 @@ taken n (placed q u ∷ ws) (end x) e h a = absurd h
 taken n (placed q u ∷ ws) (fault x) e h a = absurd h
 taken n (placed q u ∷ ws) (token t p s) e h a = (subst (IsFine n) h.0 a.0, taken n ws s e h.2 a.1)
 
--- the strings in a pattern, but below connectives, binders and folds, are fine
+-- the strings in a pattern are fine, except those inside connectives, binders and folds
 abbrev mutual
   Texts : ℕ → PatternTree → Type 0
   Texts n (element_variable at x s) = Unit {0}
@@ -177,7 +178,7 @@ abbrev pub AllOf : {T : Type 0} → (T → Type 0) → List T → Type 0
 AllOf P [] = Unit {0}
 AllOf P (t ∷ ts) = P t × AllOf P ts
 
--- what is spelled so is so
+-- if the tokens that spell a thing are fine, P holds for the thing
 abbrev Tells : {T : Type 0} → ℕ → (T → Spelling) → (T → Type 0) → Type 0
 Tells {T} n spell P = (t : T) (k : List Want) → Wished n (spell t k) → P t × Wished n k
 
@@ -216,7 +217,7 @@ signature_behind n args result k h = sort_behind n result k (sort_list_behind n 
 
 -- ---- declarations
 
--- the attributes of a symbol's declaration are fine
+-- the attributes in a symbol's declaration are fine
 abbrev IsFineDeclaration : ℕ → Declaration → Type 0
 IsFineDeclaration n (import_declaration d) = Unit {0}
 IsFineDeclaration n (sort_declaration d) = Unit {0}
@@ -281,7 +282,7 @@ declared_fine : (n : ℕ) (ms : List ModuleTree) → AllOf (IsFineModule n) ms �
 declared_fine n [] all = tt
 declared_fine n (m ∷ ms) all = all_append (IsFineDeclaration n) m.declarations (flat_map (λ (x : ModuleTree). x.declarations) ms) all.0 (declared_fine n ms all.1)
 
--- the hook of a symbol, where it has one, has a fine text
+-- the hook of a symbol, if it has one, has a fine text
 abbrev pub HasFineHook : ℕ → SymbolDeclaration → Type 0
 HasFineHook n d = (text : List ℕ) → hook_of d.attributes ≡ Some text → IsFineText n text
 

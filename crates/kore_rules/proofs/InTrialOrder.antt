@@ -1,4 +1,5 @@
--- Things that are sorted by priority and place, and no two of which stand at one place, are in the order of trial.
+-- Things that are sorted by priority and place are in the order of trial, if no two are at the same
+-- place.
 use Rattle.std.proofs.Common.{◌≡◌, ◌<◌, ◌≤◌, ℕ, zero, suc, ◌+◌, Bool, true, false, cond, List, [], ◌∷◌, length, map, All, get_or, refl, sym, ap, ◌∙◌, subst, arith, ◌⊎◌, inl, inr, eq-eqb, add-one}
 use Rattle.std.specs.Prelude.{count_by, ◌==◌, nat_lt}
 use Rattle.std.specs.List.Sorted.{IsPermutation, IsSortedByKey}
@@ -12,7 +13,7 @@ use Rattle.rule_core.specs.Rules.{ComesBefore}
 use Rattle.rule_core.specs.WellSorted.{AreInOrder}
 use Rattle.kore_rules.specs.AxiomsRead.{AreApart}
 
--- the first does not stand after the second
+-- the first is not after the second
 abbrev Leads : ℕ × ℕ → ℕ × ℕ → Type 0
 Leads x y = (x.0 < y.0) ⊎ ((x.0 ≡ y.0) × (x.1 ≤ y.1))
 
@@ -116,7 +117,7 @@ moved_apart ks ms moved apart p =
     let same = sum_by-IsPermutation (λ (x : ℕ × ℕ). one_if (is_at p x)) ks ms moved in
     let le = apart p in omega (arith, same, le)
 
--- what a sort by these keys gives
+-- sorting by these keys gives the order of trial
 pub sorted_in_order : {X : Type 0} (key : X → ℕ × ℕ) (xs ys : List X) → IsPermutation xs ys
     → IsSortedByKey key (λ x y. ordering_then (nat_cmp x.0 y.0) (nat_cmp x.1 y.1)) ys → AreApart (map key xs) → AreInOrder (map key ys)
 sorted_in_order key xs ys moved sorted apart =

@@ -1,4 +1,4 @@
--- The signature of a program is that of its declarations, but for the kinds of functions.
+-- The signature of a program is that of its declarations, except for the kinds of functions.
 use Rattle.std.proofs.Common.{◌≡◌, ◌<◌, ℕ, zero, suc, List, [], ◌∷◌, length, slice_get, Some, refl, ap, sym, ◌∙◌, subst}
 use Rattle.std.specs.Prelude.{All}
 use Rattle.std.specs.List.{AllZip}
@@ -18,7 +18,7 @@ use Rattle.rule_core.specs.declared.signature.SymKind.TheVariants.{Injection, Ct
 use Rattle.kore_rules.specs.Programs.{HasKind, as_declared, by_hook, without_hook, by_unreadable, by_equations, IsSymbolOf, IsProgramUnder}
 use Rattle.rule_core.specs.Theories.{RewriteTheory}
 
--- ---- entries that stand at one place
+-- ---- entries at the same place
 
 pub zipped_left : {X Y : Type 0} (R : X → Y → Type 0) (xs : List X) (ys : List Y) (i : ℕ) (x : X) → AllZip R xs ys → slice_get xs i ≡ Some x → (y : Y) × (slice_get ys i ≡ Some y) × R x y
 zipped_left R [] ys i x all is = absurd (let never : ⊥ = cc in never)
@@ -34,7 +34,7 @@ zipped_right R (w ∷ xs) (z ∷ ys) (suc i) y all is = zipped_right R xs ys i y
 
 -- ---- kinds
 
--- a kind that is no function's is as declared
+-- a final kind that is not a function's is the declared one
 pub kind_kept : (sig : Signature) (axioms : List AxiomDeclaration) (f : List ℕ) (info : SymInfo) (k : SymKind) → HasKind sig axioms f info k → (IsFunction k → ⊥) → info.kind ≡ k
 kind_kept sig axioms f info _ (as_declared other) not = refl
 kind_kept sig axioms f info _ (by_hook is hook fits) not = absurd (not tt)
@@ -42,7 +42,7 @@ kind_kept sig axioms f info _ (without_hook is hook none) not = absurd (not tt)
 kind_kept sig axioms f info _ (by_unreadable is none there bad) not = absurd (not tt)
 kind_kept sig axioms f info _ (by_equations is none all) not = absurd (not tt)
 
--- .. and so is one that is declared
+-- a declared kind that is not a function's is the final one
 pub kind_stays : (sig : Signature) (axioms : List AxiomDeclaration) (f : List ℕ) (info : SymInfo) (k : SymKind) → HasKind sig axioms f info k → (info.kind ≡ Equations → ⊥) → k ≡ info.kind
 kind_stays sig axioms f info _ (as_declared other) not = refl
 kind_stays sig axioms f info _ (by_hook is hook fits) not = absurd (not is)
@@ -50,7 +50,7 @@ kind_stays sig axioms f info _ (without_hook is hook none) not = absurd (not is)
 kind_stays sig axioms f info _ (by_unreadable is none there bad) not = absurd (not is)
 kind_stays sig axioms f info _ (by_equations is none all) not = absurd (not is)
 
--- a function stays one
+-- a function stays a function
 pub function_stays : (sig : Signature) (axioms : List AxiomDeclaration) (f : List ℕ) (info : SymInfo) (k : SymKind) → HasKind sig axioms f info k → IsFunction info.kind → IsFunction k
 function_stays sig axioms f info _ (as_declared other) fun = fun
 function_stays sig axioms f info _ (by_hook is hook fits) fun = tt
@@ -66,7 +66,7 @@ injection_apart e = let never : ⊥ = cc in never
 
 -- ---- the two signatures
 
--- a program's symbol, and the declared one
+-- a program's signature is the declared one, except for the kinds of functions
 pub record IsKept (declared final : Signature) (axioms : List AxiomDeclaration) : Type 0 where
   pub sorts : final.sorts ≡ declared.sorts
   pub symbols : AllZip (IsSymbolOf declared axioms) declared.symbols final.symbols
@@ -75,7 +75,7 @@ pub record IsKept (declared final : Signature) (axioms : List AxiomDeclaration) 
 pub kept : (declared : Signature) (axioms : List AxiomDeclaration) (theory : RewriteTheory) → IsProgramUnder declared axioms theory → IsKept declared theory.sig axioms
 kept declared axioms theory is = record { sorts = is.sorts; symbols = is.symbols; subsorts = is.subsorts }
 
--- the declared symbol of a program's
+-- the declared symbol for a symbol of the program
 pub declared_symbol : (declared final : Signature) (axioms : List AxiomDeclaration) (f : ℕ) (info : SymInfo) → IsKept declared final axioms → IsSymbol final f info
     → (name : List ℕ) × (own : SymInfo) × (slice_get declared.symbols f ≡ Some (name, own)) × ((made : List ℕ) × (slice_get final.symbols f ≡ Some (made, info)) × IsSymbolOf declared axioms (name, own) (made, info))
 declared_symbol declared final axioms f info k (made, there) =

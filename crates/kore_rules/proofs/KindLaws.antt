@@ -1,4 +1,4 @@
--- What symbols are used for, by the sorts that are marked and the equations that are not readable.
+-- What symbols are used for, from the marked sorts and the equations that are not readable.
 use Rattle.std.proofs.Common.{◌≡◌, ◌<◌, ℕ, zero, suc, ◌+◌, Bool, true, false, List, [], ◌∷◌, ◌++◌, map, length, get_or, Contains, Option, Some, None, refl, sym, ap, ◌∙◌, subst, arith, eq-eqb, ◌⊎◌, inl, inr}
 use Rattle.std.specs.Prelude.{◌||◌, ◌&&◌, ◌==◌, ◌↔◌, not, IsTrue, slice_get, option_map, flat_map, filter_map, string_bytes}
 use Rattle.std.specs.List.{list_any, cons_option, AllZip}
@@ -160,7 +160,7 @@ none_below pairs n never = false_from (list_any (is_upper n) pairs) (λ e.
     let has : Contains pairs q = (found.0, slice_get_within pairs found.0 q found.2, get_or_from_slice_get pairs found.0 q q found.2) in
     never q.0 (subst (IsBelow pairs q.0) (sym (eqb-true n q.1 found.3)) (by_pair has)))
 
--- ---- sorts of whole numbers and of truth values
+-- ---- sorts of integers and of truth values
 
 of_kind_from : (k : Kind) (info : SortInfo) (m : SortKind) → info.kind ≡ m → is_of_kind k (Some m) ≡ true → IsOfKind k info
 of_kind_from integers info kind.Int is e = is

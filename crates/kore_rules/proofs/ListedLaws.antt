@@ -41,7 +41,7 @@ listed_set lists k old new e lt is grown n = by_case (k == n) refl where
       (same_at lists k new lt ∙ grown ∙ ap (λ es. es ++ e ∷ []) (ap (λ (v : Vec Equation Global). v.items) is ∙ entry_at lists k old lt)))
   by_case false same = rw same (other_at lists k n new (λ e. false≢true (sym same ∙ eq-eqb k n e)))
 
--- an equation of a function that has the values of its equations, or of another one
+-- an equation of a function that has the values of its equations, or of another function
 pub placed : {X : Type 0} (here has : Bool) (old : List X) (e : X) → has ≡ true → cond here (old ++ e ∷ []) old ≡ old ++ cond (here && has) (e ∷ []) []
 placed true true old e is = refl
 placed false has old e is = sym (append-nil old)

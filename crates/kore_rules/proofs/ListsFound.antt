@@ -1,4 +1,4 @@
--- The things that axioms are, collected, and put into the order of trial.
+-- The things that axioms are, collected and put into the order of trial.
 use Rattle.std.proofs.Common.{◌≡◌, ◌<◌, ◌≤◌, ℕ, Bool, true, false, cond, List, [], ◌∷◌, ◌++◌, map, append_assoc, append-nil, refl, sym, ap, ◌∙◌, subst, arith, inl, inr, eq-eqb}
 use Rattle.std.specs.Prelude.{◌⊎◌, ◌↔◌, ◌==◌, All, Contains, count_by, nat_lt}
 use Rattle.std.proofs.lemmas.Bool.{false≢true}
@@ -16,7 +16,7 @@ use Rattle.kore_rules.proofs.RulesFound.{Decided}
 
 -- ---- the things
 
--- an axiom is one of these things at most, at its own place
+-- an axiom is at most one of these things, at the axiom's place
 pub record AreOne {X : Type 0} (Is : AxiomDeclaration → X → Type 0) (place : X → ℕ) : Type 0 where
   pub one : (a : AxiomDeclaration) (x y : X) → Is a x → Is a y → x ≡ y
   pub there : (a : AxiomDeclaration) (x : X) → Is a x → place x ≡ a.at
@@ -71,7 +71,7 @@ each_key key P (y ∷ ys) x all has = elim (contains_cases y x ys has) [
   | inr later ↦ each_key key P ys x (All-tail P (key y) (map key ys) all) later
 ]
 
--- the same things in order, and this one among them
+-- the same things in order, with this one among them
 record Inserted {X : Type 0} (key : X → ℕ × ℕ) (x : X) (xs : List X) : Type 0 where
   pub items : List X
   pub in_order : AreInOrder (map key items)
@@ -183,7 +183,7 @@ map_same : {X : Type 0} (xs : List X) → map (λ (x : X). x) xs ≡ xs
 map_same [] = refl
 map_same {X} (x ∷ xs) = ap (λ (ys : List X). x ∷ ys) (map_same xs)
 
--- just the things that the axioms are, in the order of trial
+-- the list has exactly the things that the axioms are, in the order of trial
 pub record AreListed {X : Type 0} (Is : AxiomDeclaration → X → Type 0) (key : X → ℕ × ℕ) (axioms : List AxiomDeclaration) : Type 0 where
   pub items : List X
   pub just : (x : X) → Contains items x ↔ ((a : AxiomDeclaration) × Contains axioms a × Is a x)

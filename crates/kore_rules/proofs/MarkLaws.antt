@@ -1,4 +1,4 @@
--- Marks that are set one after the other.
+-- Marks that are set one after another.
 use Rattle.std.proofs.Common.{◌≡◌, ◌<◌, ℕ, ◌+◌, Bool, true, false, List, [], ◌∷◌, ◌++◌, map, take, get_or, length, refl, sym, ap, ◌∙◌, subst}
 use Rattle.std.specs.Prelude.{◌||◌, ◌&&◌, slice_get, Some}
 use Rattle.std.proofs.lemmas.Bool.{eqb-true}
@@ -22,7 +22,7 @@ or_false : (b : Bool) → (b || false) ≡ b
 or_false true = refl
 or_false false = refl
 
--- a mark after one item more
+-- a mark after one more item
 pub marked_more : {X Y : Type 0} (f : X → Y) (test : Y → Bool) (xs : List X) (i : ℕ) (x : X) (old now new : Bool) → i < length xs → x ≡ get_or xs i x
     → now ≡ (old || list_any test (map f (take i xs))) → new ≡ (now || test (f x)) → new ≡ (old || list_any test (map f (take (i + 1) xs)))
 marked_more f test xs i x old now new lt is before after =

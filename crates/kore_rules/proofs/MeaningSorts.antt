@@ -53,7 +53,7 @@ mutual
 no_clash : (byte own wanted : ℕ) → clash_faults byte (Some own) (Some wanted) ≡ [] → own ≡ wanted
 no_clash byte own wanted e = eqb-true own wanted (unless_empty (own == wanted) 9 byte e)
 
--- a pattern without faults at a sort means one of that sort
+-- a pattern without faults that has a sort means a pattern of this sort
 pub sorted_at : (sig : Signature) (vars : List (List ℕ × ℕ)) (wanted : Option ℕ) (s : ℕ) {u : Unfolded} {p : Pattern} → IsSignature sig → pattern_faults sig u ≡ [] → clash_faults (place u) (sort_of sig u) wanted ≡ [] → wanted ≡ Some s → Means sig vars u p
     → HasSort sig (variable_sorts vars) p s
 sorted_at sig vars wanted s {u} {p} good clear clash is means =
@@ -92,7 +92,7 @@ applied_no_call (Hooked row) f ns ps p plain none made = absurd (false≢true (s
 applied_no_call Closed f ns ps p plain none made = absurd (false≢true (sym plain))
 applied_no_call NoKind f ns ps p plain none made = absurd (let never : ⊥ = cc in never)
 
--- a pattern without functions means one without calls
+-- a pattern without functions means a pattern without calls
 mutual
   pub no_call : (sig : Signature) (vars : List (List ℕ × ℕ)) {u : Unfolded} {p : Pattern} → has_symbol (is_plain_function sig) u ≡ false → has_symbol (is_ac_symbol sig) u ≡ false → Means sig vars u p → HasNoCall p
   no_call sig vars plain ac (by_variable a b) = tt
@@ -148,7 +148,7 @@ applied_forth (Hooked row) f ns ps p x made stands = subst (StandsIn x) (some_sa
 applied_forth Closed f ns ps p x made stands = subst (StandsIn x) (some_same _ _ made) stands
 applied_forth NoKind f ns ps p x made stands = absurd (let never : ⊥ = cc in never)
 
--- a variable that stands in a pattern stands in its meaning
+-- a variable that occurs in a pattern occurs in its meaning
 either : (a b : Bool) → (a || b) ≡ true → (a ≡ true) ⊎ (b ≡ true)
 either true b h = inl refl
 either false b h = inr h
@@ -169,7 +169,7 @@ mutual
   found_in_some sig vars name tree s x number var stands (more_mean {u = u} {us = us} first rest) =
       ⊎_elim (λ here. inl (found_in sig vars name tree s x number var here first)) (λ later. inr (found_in_some sig vars name tree s x number var later rest)) (either (stands_in name tree u) (stands_in_some name tree us) stands)
 
--- a pattern of bound variables means one of these
+-- the meaning of a pattern of bound variables has only variables of these patterns
 mutual
   pub uses_only : (sig : Signature) (vars : List (List ℕ × ℕ)) {qs : Unfoldeds} {ps : Patterns} → AllMean sig vars qs ps → {u : Unfolded} {p : Pattern} → is_bound_by qs u ≡ true → Means sig vars u p → UsesOnly ps p
   uses_only sig vars {qs} {ps} all bound (by_variable {x = y} {s = s} {name = name} {tree = tree} a b) = λ x is.
@@ -192,7 +192,7 @@ last_or_before x n lt = by_case (x == n) refl where
   by_case true e = inr (eqb-true x n e)
   by_case false e = let other : x ≡ n → ⊥ = λ same. false≢true (sym e ∙ eq-eqb x n same) in inl (omega (arith, lt, other))
 
--- a variable that is numbered anew stands in a pattern as the last one
+-- the variables with a new one at the end: each is an old one, or has the number of the new one
 last_stands : (vars more : List (List ℕ × ℕ)) (name : List ℕ) (s x y : ℕ) → Extends (vars ++ (name, s) ∷ []) more → variable_number vars name s ≡ None → variable_number more name s ≡ Some y
     → x < length (vars ++ (name, s) ∷ []) → (x < length vars) ⊎ (x ≡ y)
 last_stands vars more name s x y extends new is lt = ⊎_elim (λ before. inl before) (λ last. inr (last ∙ number)) (last_or_before x (length vars) (omega (arith, lt, long))) where
@@ -208,7 +208,8 @@ variable_stands vars more name s x y extends is lt = by_case (variable_number va
   by_case (Some k) e extends lt = inl lt
   by_case None e extends lt = last_stands vars more name s x y extends e is lt
 
--- each variable that numbering a pattern adds stands in what the pattern means, also where more are numbered later
+-- Each variable that numbering a pattern adds occurs in the pattern's meaning, also if more
+-- variables are numbered later.
 mutual
   pub numbered_stand : (sig : Signature) (vars more : List (List ℕ × ℕ)) {u : Unfolded} {p : Pattern} → Extends (with_variables sig vars u) more → Means sig more u p → (x : ℕ) → x < length (with_variables sig vars u) → (x < length vars) ⊎ StandsIn x p
   numbered_stand sig vars more extends (by_variable {x = y} {s = s} {name = name} {tree = tree} number is) = λ x lt.
@@ -229,7 +230,7 @@ none_before : {P : Type 0} (x : ℕ) → (x < length {A = List ℕ × ℕ} []) �
 none_before x (inl lt) = absurd (omega (arith, lt))
 none_before x (inr p) = p
 
--- .. so all do that are numbered from the start
+-- so all variables that are numbered from the start occur in the meaning
 pub each_stands : (sig : Signature) (vars : List (List ℕ × ℕ)) (u : Unfolded) (p : Pattern) → vars ≡ with_variables sig [] u → Means sig vars u p → (x : ℕ) → x < length vars → StandsIn x p
 each_stands sig vars u p numbered means x lt =
     none_before x (numbered_stand sig [] vars (subst (λ (vs : List (List ℕ × ℕ)). Extends vs vars) numbered (extends-refl vars)) means x (subst (λ (vs : List (List ℕ × ℕ)). x < length vs) numbered lt))

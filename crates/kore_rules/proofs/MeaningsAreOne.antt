@@ -1,4 +1,4 @@
--- A pattern means one rule pattern, an axiom one rule, and one equation of a function.
+-- A pattern means one rule pattern. An axiom means one rule, and one equation of a function.
 use Rattle.std.proofs.Common.{◌≡◌, ℕ, List, [], ◌∷◌, map, length, Option, Some, None, refl, sym, ap, ◌∙◌, subst}
 use Rattle.kore_text.specs.Trees.{PatternTree, AxiomDeclaration}
 use Rattle.term_core.specs.Patterns.{Pattern, Patterns}
@@ -126,7 +126,7 @@ equation_one sig f a x y r s =
     (r.sorts ∙ ap (map (λ (v : List ℕ × ℕ). v.1)) vars ∙ sym s.sorts)
     (r.priority ∙ sym s.priority) (r.place ∙ sym s.place)
 
--- an equation is not unreadable
+-- a readable equation is not unreadable
 pub readable_or_not : (sig : Signature) (f : List ℕ) (a : AxiomDeclaration) (x : Equation) → IsEquationOf sig f a x → IsUnreadable sig f a → ⊥
 readable_or_not sig f a x r s =
     let stated : r.stated ≡ s.stated = equates_one r.stated s.stated (sym r.class ∙ s.class) in

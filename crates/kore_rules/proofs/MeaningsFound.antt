@@ -1,4 +1,5 @@
--- A pattern without faults means some rule pattern; so a text is a term of a program, or is refused as one.
+-- A pattern without faults means some rule pattern. So a text is a term of a program, or is refused
+-- as one.
 use Rattle.std.proofs.Common.{◌≡◌, ℕ, ◌+◌, List, [], ◌∷◌, ◌++◌, length, Option, Some, None, refl, sym, ap, ◌∙◌, subst, arith, inl, inr}
 use Rattle.std.specs.Prelude.{◌⊎◌, is_some, if◌then◌else◌, nat_lt}
 use Rattle.std.specs.Option.{option_and_then}
@@ -85,7 +86,7 @@ injected (a ∷ b ∷ []) (more_patterns p no_pattern) two one = (injection a b 
 injected (a ∷ b ∷ []) (more_patterns p (more_patterns q ps)) two one = absurd (omega (arith, one))
 injected (a ∷ b ∷ c ∷ ns) ps two one = absurd (omega (arith, two))
 
--- a head without faults makes something of as many patterns as it has arguments
+-- a head without faults can be applied to as many patterns as it has arguments
 makes : (sig : Signature) (name : List ℕ) (ss : List SortTree) (n : ℕ) (sound : IsSound sig name ss n) (f : ℕ) (ns : List ℕ) (ps : Patterns) → IsSignature sig → IsNamed sig name f sound.info
     → sort_numbers sig ss ≡ Some ns → n ≡ how_many ps → (kind : SymKind) → sound.info.kind ≡ kind → (p : Pattern) × (applied_pattern kind f ns ps ≡ Some p)
 makes sig name ss n sound f ns ps good known sorts many Injection is =

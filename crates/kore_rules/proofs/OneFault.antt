@@ -1,4 +1,4 @@
--- The first fault of a term, and of axioms, is one.
+-- A term has only one first fault, and so do axioms.
 use Rattle.std.proofs.Common.{◌≡◌, ℕ, List, Option, Some, None, Contains, refl, sym, ap, ◌∙◌}
 use Rattle.kore_text.specs.Trees.{SortTree, PatternTree, AxiomDeclaration, DefinitionTree}
 use Rattle.kore_text.specs.declared.faults.TextFault.{TextFault}

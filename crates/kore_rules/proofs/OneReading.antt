@@ -1,4 +1,5 @@
--- A text spells one definition, and one pattern: the first tokens of a thing tell its form.
+-- A text spells one definition and one pattern, because the first tokens of a thing decide its
+-- form.
 use Rattle.std.proofs.Common.{◌≡◌, ℕ, ◌==◌, Bool, true, false, not, ◌||◌, IsTrue, List, [], ◌∷◌, map, Some, None, refl, sym, ap, ◌∙◌, subst, arith, codes, if◌then◌else◌}
 use Rattle.std.specs.Str.{bytes_eq}
 use Rattle.kore_text.specs.declared.names.Built.{Built}
@@ -12,7 +13,7 @@ use Rattle.kore_text.proofs.Accepting.{plain-first, sort-plain, plain-pattern}
 use Rattle.kore_ast.specs.KoreText.{ReadsPattern, ReadsDefinition}
 use Rattle.kore_ast.specs.Streams.{after}
 
--- two things that were taken from one stream are the same, and so is what is left of it
+-- two things that were taken from the same stream are the same, and so is the rest of the stream
 record Agree {T : Type 0} (t u : T) (v w : List Want) (d e : Stream) : Type 0 where
   pub same : t ≡ u
   pub to : Stream
@@ -32,7 +33,7 @@ placed-one p q t u v w (token x at s) d e h k =
     let tokens : t ≡ u = sym h.0 ∙ k.0 in
     record { same = λ i. (places i, tokens i); to = s; first = h.2; second = k.2 }
 
--- what is spelled so is told by its tokens
+-- the tokens that spell a thing decide the thing
 abbrev Told : {T : Type 0} → (T → Spelling) → T → Type 0
 Told {T} spell t =
     (u : T) (v w : List Want) (s d e : Stream) → Apart v d → Apart w e → Takes (spell t v) s d → Takes (spell u w) s e → Agree t u v w d e
@@ -45,11 +46,11 @@ all-told : {T : Type 0} (spell : T → Spelling) → ((t : T) → Told spell t) 
 all-told spell each [] = tt
 all-told spell each (t ∷ ts) = (each t, all-told spell each ts)
 
--- it begins with no mark
+-- the spelling begins with no mark
 abbrev BeginsPlain : {T : Type 0} → (T → Spelling) → Type 0
 BeginsPlain {T} spell = (t : T) (w : List Want) (s e : Stream) → Takes (spell t w) s e → IsPlain s
 
--- a closing mark is no comma and no opening brace
+-- the mark is neither a comma nor an opening brace, so it can close a list
 abbrev Closes : ℕ → Type 0
 Closes c = (c ≡ 44 → ⊥) × ((c == 123) ≡ false)
 
@@ -131,7 +132,7 @@ names-same p q n m h =
     let tokens : identifier n ≡ identifier m = ap (λ (x : ℕ × Token). x.1) h in
     (ap (λ (x : ℕ × Token). x.0) h, let e : n ≡ m = cc in e)
 
--- a brace does not come where it does
+-- there is no brace where a brace must not come
 no-brace : (v w : List Want) (s d e : Stream) → Apart v d → Takes v s d → Takes (any (mark 123) ∷ w) s e → ⊥
 no-brace v w s d e apart h k = brace s (apart-comes v s d apart h) k where
   brace : (s : Stream) → comes 123 s ≡ false → Takes (any (mark 123) ∷ w) s e → ⊥
@@ -184,7 +185,7 @@ patterns-one b ps qs told v w s d e h k =
     (subst (λ (fs : List Spelling). Takes (listed fs 41 w) s e) (spelled-patterns b qs) k) in
     record { same = sym (patterns-back ps) ∙ ap pattern_trees a.same ∙ patterns-back qs; to = a.to; first = a.first; second = a.second }
 
--- a number for each form of a pattern, and for what tokens begin
+-- a number for each form of a pattern, and for what its tokens begin with
 abbrev form : PatternTree → ℕ
 form (element_variable at n s) = 0
 form (set_variable at n s) = 1
@@ -406,7 +407,7 @@ named-one n m v w s d e h k =
     let a = any-one (identifier n) (identifier m) v w s d e h k in
     record { same = identifiers-same n m a.same; to = a.to; first = a.first; second = a.second }
 
--- a number for each keyword, and whether it is one of a hooked thing
+-- a number for each keyword, and whether the keyword is that of a hooked thing
 abbrev word_kind : List ℕ → ℕ
 word_kind n =
     if bytes_eq n (codes "endmodule") then 0
@@ -430,7 +431,7 @@ kind (alias_declaration d) = 4
 kind (axiom_declaration d) = 5
 kind (claim_declaration d) = 6
 
--- what stands after the parts of an alias
+-- what comes after the parts of an alias
 abbrev behind_vars : AliasDeclaration → Spelling
 behind_vars d k = any assign ∷ spell_pattern false d.body (spell_attributes d.attributes k)
 

@@ -1,5 +1,5 @@
--- The axioms of a definition that bytes spell stand at places that rise, below the number of the bytes, and none has more
--- variables than half of that number.
+-- The axioms of a definition that bytes spell are at increasing places, below the number of the
+-- bytes. None of them has more variables than half of that number.
 use Rattle.std.proofs.Common.{◌≡◌, ◌<◌, ◌≤◌, ℕ, zero, suc, ◌+◌, ◌*◌, ◌-◌, Bool, true, false, cond, List, [], ◌∷◌, ◌++◌, length, map, take, drop, Contains, Some, None, Option, inl, inr, subst, arith, refl, sym, ap, ◌∙◌, length-drop}
 use Rattle.std.specs.Prelude.{filter_map, flat_map, count_by, ◌==◌, codes}
 use Rattle.std.specs.List.{cons_option}
@@ -23,7 +23,7 @@ use Rattle.kore_rules.proofs.VariableCounts.{variable_count, variables_count}
 
 -- ---- tokens
 
--- the tokens stand from the one place on, each further than the one before, and below the other
+-- the tokens are at increasing places, from the one place on and below the other
 abbrev pub Stand : ℕ → ℕ → Stream → Type 0
 Stand low high (end e) = low ≤ high
 Stand low high (fault e) = low ≤ high
@@ -61,9 +61,9 @@ tokens-stand : TokensCover → (bytes : List ℕ) → Stand 0 (length bytes) (to
 unfolding tokens_of
 tokens-stand law bytes = covered-stand bytes 0 (length bytes) bytes (lexed 0 bytes) (omega arith) (law bytes)
 
--- ---- wishes
+-- ---- wanted tokens
 
--- the tokens that are wished for at places stand so
+-- the wanted tokens that have places are at increasing places
 abbrev Rising : ℕ → ℕ → List Want → Type 0
 Rising low high [] = low ≤ high
 Rising low high (given b ∷ ws) = Rising low high ws
@@ -98,7 +98,7 @@ taken low high (placed q u ∷ ws) (fault x) e h a = absurd h
 taken low high (placed q u ∷ ws) (token t p s) e h a =
     subst (λ (r : ℕ). (low ≤ r) × (r < high) × Rising (r + 1) high ws) h.1 (a.0, a.1, taken (p + 1) high ws s e h.2 a.2)
 
--- what follows a thing that is so spelled stands so too
+-- if the places increase from a thing with this spelling on, they increase from what follows it on
 record Skips (f : Spelling) : Type 0 where
   pub skip : (low high : ℕ) (k : List Want) → Rising low high (f k) → Rising low high k
 
@@ -259,7 +259,8 @@ statement-room d low high k h =
     ((pattern-counts false d.pattern).count low high (spell_attributes d.attributes k)
     ((names-skip d.params).skip low high (spell_pattern false d.pattern (spell_attributes d.attributes k)) h))
 
--- the axioms stand at places that rise, with room for their variables, and from after the last of them on P holds
+-- the axioms are at increasing places, with room for their variables, and P holds after the last of
+-- them
 abbrev pub Rise : (ℕ → Type 0) → ℕ → ℕ → List AxiomDeclaration → Type 0
 Rise P high low [] = P low
 Rise P high low (a ∷ axioms) = (low ≤ a.at) × (a.at + variable_count a.pattern * 2 < high) × Rise P high (a.at + 1) axioms
@@ -272,7 +273,7 @@ rise-append : (P : ℕ → Type 0) (high low : ℕ) (axioms bs : List AxiomDecla
 rise-append P high low [] bs h = h
 rise-append P high low (a ∷ axioms) bs h = (h.0, h.1, rise-append P high (a.at + 1) axioms bs h.2)
 
--- .. with nothing of P lost where the axioms are left out
+-- P holds without the axioms too
 rise-skip : (P : ℕ → Type 0) (high low : ℕ) (axioms : List AxiomDeclaration) → ((n m : ℕ) → m ≤ n → P n → P m) → Rise P high low axioms → P low
 rise-skip P high low [] lower h = h
 rise-skip P high low (a ∷ axioms) lower h = lower (a.at + 1) low (let b = h.0 in omega arith) (rise-skip P high (a.at + 1) axioms lower h.2)
@@ -339,7 +340,7 @@ modules-rise : (ms : List ModuleTree) (low high : ℕ) (k : List Want) → Risin
 modules-rise [] low high k h = h
 modules-rise (m ∷ ms) low high k h = counted-rises (counts m ms (counted ms)) m ms low high k (λ n r. modules-rise ms n high k r) h
 
--- the axioms of a definition stand so
+-- the axioms of a definition are at increasing places
 pub axioms-rise : TokensCover → (bytes : List ℕ) (d : DefinitionTree) → ReadsDefinition bytes d → Rise (λ n. Unit {0}) (length bytes) 0 (axioms_of d)
 axioms-rise law bytes d reads =
     let high = length bytes in
@@ -388,7 +389,7 @@ pub once : (P : ℕ → Type 0) (high low p : ℕ) (axioms : List AxiomDeclarati
 once P high low p [] h = omega arith
 once P high low p (a ∷ axioms) h = once_by P high low p a axioms (a.at == p) refl h (once P high (a.at + 1) p axioms h.2)
 
--- each has no more variables than half of the bytes
+-- an axiom has fewer variables than half of the bytes
 pub variables-few : (P : ℕ → Type 0) (high low : ℕ) (axioms : List AxiomDeclaration) (a : AxiomDeclaration) → Rise P high low axioms → Contains axioms a → variable_count a.pattern * 2 < high
 variables-few P high low [] a h has = absurd (contains_none a has)
 variables-few P high low (b ∷ axioms) a h has = elim (contains_cases b a axioms has) [

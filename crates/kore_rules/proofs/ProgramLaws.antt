@@ -1,4 +1,4 @@
--- The program that is made of what was read.
+-- The program that is made from what was read.
 use Rattle.std.proofs.Common.{◌≡◌, ◌<◌, ◌≤◌, ℕ, zero, suc, ◌+◌, Bool, true, false, cond, List, [], ◌∷◌, ◌++◌, map, length, Contains, Option, Some, None, refl, sym, ap, ◌∙◌, subst, arith, ◌⊎◌, inl, inr, All, eq-eqb}
 use Rattle.std.specs.Prelude.{◌↔◌, ◌&&◌, ◌==◌, IsTrue, Vec, slice_get, slice_index_or, filter, count_by}
 use Rattle.std.specs.Global.{Global}
@@ -103,7 +103,7 @@ same_count f g same at (x ∷ xs) =
     ∙ ap (λ (n : ℕ). one_if (g x == at) + n) (same_count f g same at xs)
     ∙ sym (sum_by-cons (λ y. one_if (g y == at)) x xs)
 
--- things that are read stand at different places
+-- things that are read are at different places
 pub read_apart : {X K : Type 0} (Is : AxiomDeclaration → K → Type 0) (place : K → ℕ) (view : X → K) (key : X → ℕ × ℕ) (axioms : List AxiomDeclaration) (xs : List X)
     → ((x : X) → place (view x) ≡ (key x).1) → AreFew axioms → AreRead Is place axioms (map view xs) → AreApart (map key xs)
 read_apart Is place view key axioms xs same few read at =
@@ -122,7 +122,7 @@ filter_all P key test (x ∷ xs) all =
       by true one rest = All-cons P (key x) (map key (filter test xs)) one rest
       by false one rest = rest
 
--- some of the things that stand in order do
+-- if things are in order, so are some of them
 pub filter_in_order : {X : Type 0} (key : X → ℕ × ℕ) (test : X → Bool) (xs : List X) → AreInOrder (map key xs) → AreInOrder (map key (filter test xs))
 filter_in_order key test [] h = tt
 filter_in_order key test (x ∷ xs) h = by (test x) (filter_all (ComesBefore (key x)) key test xs h.0) (filter_in_order key test xs h.1) where
@@ -277,7 +277,7 @@ listed_own made new lists f i es e listed there at =
     let kept = contains_filtered test new e (subst (λ (xs : List Equation). Contains xs e) same (contains_at es.items i e at)) in
     eqb-true e.fun.0 f (both_true (e.fun.0 == f) (has_equations made e.fun.0) kept.1).0
 
--- ---- how many
+-- ---- how many rules and equations
 
 pub few_rules : (sig : Signature) (axioms : List AxiomDeclaration) (old new : List Rule) → AreFew axioms → AreRead (IsRuleOf sig) (λ (r : RewriteRule). r.place) axioms (map rewrite_rule old) → IsPermutation old new → length new ≤ 4294967296
 few_rules sig axioms old new few read moved =

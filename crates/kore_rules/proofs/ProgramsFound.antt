@@ -1,4 +1,4 @@
--- A definition without faults means some program: so each text is decided.
+-- A definition without faults means some program. So each text is decided.
 use Rattle.std.proofs.Common.{◌≡◌, ◌<◌, ℕ, zero, suc, Bool, true, false, List, [], ◌∷◌, length, Option, Some, None, refl, sym, ap, ◌∙◌, subst, inl, inr, arith}
 use Rattle.std.specs.Prelude.{◌⊎◌, ◌↔◌, ◌||◌, IsTrue, Contains, slice_get, slice_index_or}
 use Rattle.std.specs.Global.{Global}
@@ -46,9 +46,9 @@ use Rattle.kore_rules.proofs.RulesFound.{rule_decided, equation_decided, unreada
 use Rattle.kore_rules.proofs.SignatureFacts.{faultless_signature}
 use Rattle.kore_rules.proofs.SignaturesFound.{signature_found}
 
--- ---- which sorts have other terms than values
+-- ---- which sorts have terms other than values
 
--- the test of the first numbers
+-- the results of the test for the first numbers
 tabulated : (ℕ → Bool) → ℕ → List Bool
 tabulated test zero = []
 tabulated test (suc n) = test 0 ∷ tabulated (λ k. test (suc k)) n
@@ -252,7 +252,7 @@ program_found bytes d sig reads few clear is none =
 
 -- ---- texts
 
--- it is accepted or refused
+-- the text is accepted or refused
 abbrev IsDecided : List ℕ → Type 0
 IsDecided bytes = ((theory : RewriteTheory) × ((top : Option ℕ) × IsAccepted bytes theory top)) ⊎ ((f : Fault) × IsRefused bytes f)
 

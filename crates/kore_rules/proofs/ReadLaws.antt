@@ -1,4 +1,4 @@
--- The axioms among declarations, one after the other.
+-- The axioms among declarations, one after another.
 use Rattle.std.proofs.Common.{◌≡◌, ◌<◌, ℕ, ◌+◌, List, [], ◌∷◌, ◌++◌, map, take, get_or, length, refl, sym, ap, ◌∙◌}
 use Rattle.std.specs.Prelude.{Option, Some, None, filter_map}
 use Rattle.std.specs.List.{cons_option}
@@ -8,7 +8,7 @@ use Rattle.kore_text.specs.Trees.{Declaration, AxiomDeclaration, import_declarat
 use Rattle.kore_sig.specs.Declarations.{axiom_declared}
 use Rattle.kore_sig.proofs.ListLaws.{map_step}
 
--- of the items so far h keeps those and what it keeps of the next one
+-- what h keeps of the items so far, and of the next one
 pub kept_more : {X Y Z : Type 0} (f : X → Y) (h : Y → Option Z) (xs : List X) (i : ℕ) (x : X) → i < length xs → x ≡ get_or xs i x
     → filter_map h (map f (take (i + 1) xs)) ≡ filter_map h (map f (take i xs)) ++ cons_option (h (f x)) []
 kept_more f h xs i x lt is =

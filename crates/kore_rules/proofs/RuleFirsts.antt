@@ -1,4 +1,4 @@
--- Where no axiom has a fault, no rewrite rule has one, and all are over one sort.
+-- If no axiom has a fault, no rewrite rule has one, and all rules have the same sort.
 use Rattle.std.proofs.Common.{◌≡◌, ℕ, zero, suc, Bool, true, false, ◌&&◌, List, [], ◌∷◌, Option, Some, None, ◌⊎◌, ⊎_elim, inl, inr, refl, ap, sym, ◌∙◌, subst, arith}
 use Rattle.std.specs.Prelude.{Contains, not, ◌||◌, codes, is_some, if◌then◌else◌}
 use Rattle.std.proofs.lemmas.Bool.{false≢true}
@@ -34,7 +34,7 @@ contains_later xs first x known = (suc known.0, omega (arith, known.1), known.2)
 pub contains_none : {X : Type 0} (x : X) → Contains [] x → ⊥
 contains_none x (k, lt, is) = omega (arith, lt)
 
--- the axioms have no fault, where the first rule has this sort
+-- the axioms have no fault, if the first rule before them has this sort
 abbrev pub NoneFrom : Signature → Option SortTree → List AxiomDeclaration → Type 0
 NoneFrom sig first axioms =
     InOrder (λ (s : Option SortTree) (a : AxiomDeclaration). FirstOfClass sig s a (class_of sig a)) (λ (s : Option SortTree) (a : AxiomDeclaration). first_sort s (class_of sig a)) first axioms None
@@ -54,7 +54,7 @@ not_not : (b : Bool) → not b ≡ false → b ≡ true
 not_not true h = refl
 not_not false h = sym h
 
--- a rule after one of this sort has it
+-- a rule after one of this sort has this sort
 same_sort_of : (sig : Signature) (s : SortTree) (a : AxiomDeclaration) (w : Rewriting) → FirstOfRule sig (Some s) a w None → same_sort s w.sort ≡ true
 same_sort_of sig s a w clear =
     let v = rule_parts sig w in
@@ -76,7 +76,7 @@ rules_behind sig s (x ∷ axioms) a w none there class =
 abbrev pub AllHave : Signature → List AxiomDeclaration → Option ℕ → Type 0
 AllHave sig axioms t = (a : AxiomDeclaration) → Contains axioms a → (w : Rewriting) → class_of sig a ≡ rewrites w → sort_number sig.sorts w.sort ≡ t
 
--- an axiom of another class says nothing
+-- an axiom of another class says nothing about the sort of the rules
 no_rule : (sig : Signature) (x : AxiomDeclaration) (axioms : List AxiomDeclaration) (t : Option ℕ) → ((w : Rewriting) → class_of sig x ≡ rewrites w → ⊥) → AllHave sig axioms t → AllHave sig (x ∷ axioms) t
 no_rule sig x axioms t other all = λ a there w class.
     ⊎_elim (λ here. absurd (other w (ap (class_of sig) here ∙ class))) (λ later. all a later w class) (contains_cases axioms x a there)

@@ -1,5 +1,5 @@
--- What an axiom is read as: a rule, where it is one and has no fault; and an equation of its function, or one that is
--- not readable.
+-- What an axiom is read as: a rule if it is one and has no fault, or an equation of its function,
+-- or an equation that is not readable.
 use Rattle.std.proofs.Common.{◌≡◌, ℕ, Bool, true, false, List, [], map, length, nat_eq, Option, Some, None, refl, sym, ap, ◌∙◌, subst, inl, inr}
 use Rattle.std.specs.Prelude.{◌⊎◌, ◌&&◌}
 use Rattle.std.specs.Str.{bytes_eq}
@@ -44,7 +44,7 @@ use Rattle.kore_rules.proofs.MeaningsFound.{Variables, HasMeaning, meaning, all_
 
 -- ---- conditions and right sides
 
--- what a condition means, where there is one
+-- what a condition means, if there is one
 test_meaning : (sig : Signature) → IsSignature sig → (old : Variables) (b : Option PatternTree) → ((p : PatternTree) → b ≡ Some p → IsFaultless sig (unfolded p))
     → (o : Option Pattern) × ((more : Variables) → Extends (with_some_variables sig old b) more → MeansTest sig more b o)
 test_meaning sig sorted old None good = (None, λ more ext. tt)
@@ -53,7 +53,7 @@ test_meaning sig sorted old (Some p) good = let m = meaning sig sorted (unfolded
 extends_same : (vars more : Variables) → vars ≡ more → Extends vars more
 extends_same vars more same = subst (λ (vs : Variables). Extends vars vs) same (extends-refl vars)
 
--- both mean something with the variables that are there, where no other stands in them
+-- the condition and the right side mean something with these variables, if they have no others
 record AreMeant (sig : Signature) (vars : Variables) (test : Option PatternTree) (right : PatternTree) : Type 0 where
   pub condition : Option Pattern
   pub means_condition : MeansTest sig vars test condition
@@ -121,7 +121,7 @@ are_faultless : (sig : Signature) (us : Unfoldeds) → AreFine sig us → AreFau
 are_faultless sig no_more h = tt
 are_faultless sig (and_more u us) h = ((h.0.clear, h.0.form), are_faultless sig us h.1)
 
--- the equation of its function that the axiom is, or that it is not readable
+-- the axiom is an equation of its function, or is not readable
 abbrev IsRead : Signature → AxiomDeclaration → List ℕ → Type 0
 IsRead sig a f = ((e : Equation) × IsEquationOf sig f a e) ⊎ IsUnreadable sig f a
 
@@ -182,11 +182,11 @@ equation_read sig a e sorted class = by_parts (clear_parts sig a declared.0 e) r
 
 -- ---- what an axiom is not
 
--- it is a thing of this kind, or no thing is
+-- there is a thing of this kind, or there is none
 abbrev pub Decided : {X : Type 0} → (X → Type 0) → Type 0
 Decided {X} P = ((x : X) × P x) ⊎ ((x : X) → P x → ⊥)
 
--- an axiom of another class, or of another function, is no equation of this one, readable or not
+-- an axiom of another class or of another function is not an equation of this one, readable or not
 abbrev IsNoOf : Signature → List ℕ → AxiomDeclaration → Type 0
 IsNoOf sig f a = ((e : Equation) → IsEquationOf sig f a e → ⊥) × (IsUnreadable sig f a → ⊥)
 
@@ -226,7 +226,7 @@ unreadable_decided sig f a sorted = by_reading (read_or_not sig f a sorted) wher
   by_reading (inl (inr bad)) = inl bad
   by_reading (inr none) = inr none.1
 
--- a rule is decided where its axiom has no fault
+-- an axiom without faults is decided to be a rule or not
 pub rule_decided : (sig : Signature) (a : AxiomDeclaration) → IsSignature sig → ((w : Rewriting) → class_of sig a ≡ rewrites w → (first : Option SortTree) × FirstOfRule sig first a w None) → Decided (IsRuleOf sig a)
 rule_decided sig a sorted clear = by_class (class_of sig a) refl where
   none : (k : AxiomClass) → class_of sig a ≡ k → ((w : Rewriting) → k ≡ rewrites w → ⊥) → Decided (IsRuleOf sig a)

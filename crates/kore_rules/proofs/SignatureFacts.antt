@@ -1,4 +1,5 @@
--- The signature of declarations without faults: no symbol stands twice, and no sort is below itself.
+-- The signature of declarations without faults: no symbol occurs twice, and no sort is below
+-- itself.
 use Rattle.std.proofs.Common.{◌≡◌, ◌<◌, ℕ, Bool, true, false, ◌||◌, List, [], ◌∷◌, ◌++◌, map, Option, Some, None, append_assoc, refl, ap, sym, ◌∙◌, subst, arith}
 use Rattle.std.specs.Prelude.{◌≢◌, Contains, filter_map, flat_map, length, nat_lt}
 use Rattle.std.specs.List.{AllZip}

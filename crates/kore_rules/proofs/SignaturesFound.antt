@@ -1,5 +1,5 @@
--- Declarations without a fault give a signature. Its lists and names are values of the program's types, which an
--- allocator is enough for.
+-- Declarations without faults give a signature. Its lists and names are values of the program's
+-- types. To make them, an allocator is enough.
 use Rattle.std.proofs.Common.{◌≡◌, ◌<◌, ◌*◌, suc, ℕ, true, false, List, [], ◌∷◌, ◌++◌, map, length, Option, Some, None, refl, sym, ap, ◌∙◌, subst, arith}
 use Rattle.std.specs.Prelude.{Contains, String, Vec, string_bytes, option_map, is_some, filter_map, flat_map, nat_lt}
 use Rattle.std.specs.Global.{Global}
@@ -42,7 +42,7 @@ string_of alloc text utf8 small =
 
 -- ---- symbols without faults
 
--- the sorts that a symbol's declaration names are there, and it has few arguments
+-- the sorts that a symbol's declaration names exist, and it has few arguments
 record IsClear (sorts : List (List ℕ × SortInfo)) (d : SymbolDeclaration) : Type 0 where
   pub references : flat_map (reference_faults sorts d.params) (d.args ++ d.result ∷ []) ≡ []
   pub few : nat_lt most_arguments (length d.args) ≡ false

@@ -16,7 +16,7 @@ use Rattle.kore_rules.specs.FirstRefusal.{FirstOfTerm, start_faults}
 use Rattle.kore_rules.specs.GroundTerms.{ground_faults}
 use Rattle.kore_rules.specs.Starts.{differs_from}
 
--- what is noted is the first
+-- the fault that is kept is the first
 noted_first : (fs : List Fault) (r : Option Fault) → r ≡ noted leads_by_byte None fs → IsFirstBy ByByte (Contains fs) r
 noted_first fs r e = subst (IsFirstBy ByByte (Contains fs)) (sym e) (first_of_list by_byte fs)
 
@@ -54,7 +54,7 @@ start_by : (sig : Signature) (s n : ℕ) (u : Unfolded) (t : Bool) → sort_of s
 start_by sig s n u t is e =
     ap (λ (o : Option ℕ). unless (is_one_sort o (Some s)) 19 0) is ∙ ap (λ (b : Bool). unless b 19 0) (turned n s t e)
 
--- it is another one
+-- the term does not have the sort of the rules
 pub other_sort_first : (sig : Signature) (top : Option ℕ) (p : PatternTree) (n : ℕ) → ground_faults p ≡ [] → all_faults sig (unfolded p) ≡ [] → sort_of sig (unfolded p) ≡ Some n → differs_from top n ≡ true
     → FirstOfTerm sig top p (Some (record { number = 19; byte = 0 }))
 other_sort_first sig None p n ground clear is e = absurd (false≢true e)
@@ -80,7 +80,7 @@ same_start sig (Some s) u n is e = by_case (s == n) refl where
   by_case true same = start_by sig s n u true is same
   by_case false other = absurd (let wrong : true ≡ false = ap not (sym other) ∙ e in false≢true (sym wrong))
 
--- nothing is wrong
+-- the term has no fault
 pub no_fault : (sig : Signature) (top : Option ℕ) (p : PatternTree) (n : ℕ) → ground_faults p ≡ [] → all_faults sig (unfolded p) ≡ [] → sort_of sig (unfolded p) ≡ Some n → differs_from top n ≡ false → FirstOfTerm sig top p None
 no_fault sig top p n ground clear is e =
     (nothing (ground_faults p) ground, (nothing (all_faults sig (unfolded p)) clear, nothing (start_faults sig top (unfolded p)) (same_start sig top (unfolded p) n is e)))

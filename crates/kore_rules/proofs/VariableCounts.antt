@@ -1,5 +1,5 @@
--- How many variables a pattern of the text has. Numbering a pattern adds no more, and the parts of a rule and of an
--- equation have no more than their axiom.
+-- How many variables a pattern of the text has. Numbering a pattern adds at most as many. The parts
+-- of a rule and of an equation have at most as many as their axiom.
 use Rattle.std.proofs.Common.{◌≡◌, ◌≤◌, ℕ, ◌+◌, Bool, true, false, ◌&&◌, List, [], ◌∷◌, ◌++◌, length, Option, Some, None, ◌⊎◌, inl, inr, cond, refl, ap, sym, subst, arith}
 use Rattle.std.specs.Prelude.{option_map, is_some, if◌then◌else◌}
 use Rattle.std.specs.Option.{option_and_then}
@@ -19,7 +19,7 @@ use Rattle.kore_shapes.specs.Statements.{Statement, call_of, called, equality_of
 use Rattle.kore_shapes.specs.EquationForms.{EquationParts, conjuncts_with, conjuncts, is_top_of, right_side, is_member, member_with, member, entry, members, stands_alone, stand_apart, direct, kompiled, parts_under, parts_with, equation_parts}
 use Rattle.kore_equations.specs.ReadableEquations.{all_read}
 
--- at how many places of the pattern an element variable stands
+-- the number of places of the pattern where an element variable occurs
 abbrev mutual
   pub variable_count : PatternTree → ℕ
   variable_count (element_variable at n s) = 1
@@ -35,7 +35,7 @@ abbrev mutual
   variables_count no_patterns = 0
   variables_count (pattern_then p ps) = variable_count p + variables_count ps
 
--- .. of patterns in a list
+-- the same for a list of patterns
 abbrev pub listed_count : List PatternTree → ℕ
 listed_count [] = 0
 listed_count (p ∷ ps) = variable_count p + listed_count ps
@@ -48,7 +48,7 @@ as_trees : (ps : List PatternTree) → variables_count (pattern_trees ps) ≡ li
 as_trees [] = refl
 as_trees (p ∷ ps) = ap (λ (n : ℕ). variable_count p + n) (as_trees ps)
 
--- ---- patterns with their folds read
+-- ---- patterns with their folds expanded
 
 abbrev mutual
   read_count : Unfolded → ℕ
@@ -68,7 +68,7 @@ one_added vars name (Some s) = by_case (is_some (variable_number vars name s)) w
   by_case true = omega arith
   by_case false = let long : length (vars ++ (name, s) ∷ []) ≡ length vars + 1 = length-append vars ((name, s) ∷ []) in omega (arith, long)
 
--- numbering a pattern adds no more variables than it has
+-- numbering a pattern adds at most as many variables as it has
 mutual
   added : (sig : Signature) (vars : List (List ℕ × ℕ)) (u : Unfolded) → length (with_variables sig vars u) ≤ length vars + read_count u
   added sig vars (named_variable at n t) = one_added vars n (sort_number sig.sorts t)
@@ -141,7 +141,7 @@ mutual
       let first = unfolded_count p in
       let rest = all_unfolded_count ps in omega (arith, first, rest)
 
--- the variables of a pattern, and of patterns
+-- a pattern has at most as many variables as places of variables, and so have patterns in a list
 pub few_variables : (sig : Signature) (p : PatternTree) → length (with_variables sig [] (unfolded p)) ≤ variable_count p
 few_variables sig p =
     let most = added sig [] (unfolded p) in
@@ -189,7 +189,7 @@ before_count (binding at b ss x p) w e = absurd (let never : ⊥ = cc in never)
 before_count (domain_value at s text place) w e = absurd (let never : ⊥ = cc in never)
 before_count (folded at left p) w e = absurd (let never : ⊥ = cc in never)
 
--- what stands in a side where it is looked for has no more than so many
+-- the pattern that is found in a side has at most n variables
 abbrev IsSideWithin : ℕ → Side → Type 0
 IsSideWithin n (alone p) = variable_count p ≤ n
 IsSideWithin n (beside p q) = variable_count q ≤ n
@@ -253,7 +253,7 @@ then_there : {X Y : Type 0} (f : X → Option Y) (o : Option X) (y : Y) → opti
 then_there f None y e = absurd (let never : ⊥ = cc in never)
 then_there f (Some x) y e = (x, refl, e)
 
--- its guard has no more than so many, nor have the arguments together
+-- the guard has at most n variables, and so have the arguments together
 pub record IsStatementWithin (n : ℕ) (e : Statement) : Type 0 where
   pub guard : (g : PatternTree) → e.guard ≡ Some g → variable_count g ≤ n
   pub arguments : listed_count e.arguments ≤ n
@@ -438,7 +438,8 @@ entry_count r x g both is =
     let most = conjuncts_count r g parts.0 parts.1 in
     subst (λ (b : PatternTree × PatternTree). variable_count b.0 + variable_count b.1 ≤ variable_count g) found.2 (omega (arith, first, most))
 
--- the members of a guard have no more than it, and there is one for each variable
+-- the members of a guard have at most as many variables as the guard, and there is one for each
+-- variable
 members_count : (r : SortTree) (xs : List PatternTree) (g : PatternTree) (ps : List PatternTree) → members r xs g ≡ Some ps → (listed_count ps ≤ variable_count g) × (length ps ≡ length xs)
 members_count r [] g ps is = by_case (is_top_of r g) is where
   by_case : (b : Bool) → cond b (Some []) None ≡ Some ps → (listed_count ps ≤ variable_count g) × (length ps ≡ length {A = PatternTree} [])
@@ -453,7 +454,7 @@ members_count r (x ∷ xs) g ps is =
     let long = later.1 in
     subst (λ (qs : List PatternTree). (listed_count qs ≤ variable_count g) × (length qs ≡ length (x ∷ xs))) rest.2 (omega (arith, most, counted), omega (arith, long))
 
--- variables that stand in no other place are variables
+-- a variable that occurs in no other place counts as one variable
 alone_count : (p : PatternTree) (others : List PatternTree) → stands_alone p others ≡ true → variable_count p ≡ 1
 alone_count (element_variable at n s) others h = refl
 alone_count (set_variable at n s) others h = absurd (false≢true h)
@@ -473,7 +474,8 @@ apart_count (x ∷ xs) others h =
 
 -- ---- the parts of an equation
 
--- the patterns have no more than so many together, and there are no parameters, or one for each pattern
+-- the patterns have at most n variables together, and there are no parameters or one for each
+-- pattern
 pub record ArePartsWithin (n : ℕ) (q : EquationParts) : Type 0 where
   pub patterns : listed_count q.patterns ≤ n
   pub parameters : length q.parameters ≤ n

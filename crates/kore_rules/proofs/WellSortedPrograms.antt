@@ -42,7 +42,7 @@ pub record IsFaultlessProgram (d : DefinitionTree) (declared : Signature) (theor
   pub no_fault : FirstOfAxioms declared (axioms_of d) None
   pub program : IsProgramUnder declared (axioms_of d) theory
 
--- it is one where the declarations have no fault
+-- the program is such a one if the declarations have no fault
 pub faultless_program : (d : DefinitionTree) (declared : Signature) (theory : RewriteTheory) → FirstOfSignature d None → IsSignatureOf d declared → FirstOfAxioms declared (axioms_of d) None → IsProgramUnder declared (axioms_of d) theory → IsFaultlessProgram d declared theory
 faultless_program d declared theory none is axioms program = record {
   signature = is;
@@ -111,7 +111,7 @@ fits_kept declared final axioms row own info name made same of is = record {
 
 -- ---- rules
 
--- the rules of such a program are of the sort of any of its rules
+-- the rules of such a program have the sort of any of its rules
 rules_sorted : (d : DefinitionTree) (declared : Signature) (theory : RewriteTheory) (s : ℕ) (a : AxiomDeclaration) (w : Rewriting) → IsFaultlessProgram d declared theory → Contains (axioms_of d) a → class_of declared a ≡ rewrites w → sort_number declared.sorts w.sort ≡ Some s → All (IsSortedRule theory.sig s) theory.rules
 rules_sorted d declared theory s a w p there class number =
     let axioms = axioms_of d in
@@ -136,7 +136,7 @@ rules_of_one_sort d declared theory (rule ∷ rules) p e =
 
 -- ---- equations
 
--- what is past the one list is past the other
+-- a place past the end of one list is past the end of the other
 none_listed : {X Y : Type 0} (xs : List X) (ys : List Y) (i : ℕ) (y : Y) → slice_get xs i ≡ None → length xs ≡ length ys → slice_index_or ys i y ≡ y
 none_listed xs [] i y none same = refl
 none_listed [] (z ∷ ys) i y none same = absurd (omega (arith, same))
@@ -205,7 +205,7 @@ no_rules d declared theory (rule ∷ rules) p none e =
     let of = (p.program.rules.just rule).0 (subst (λ (rs : List RewriteRule). Contains rs rule) (sym e) (contains_here rules rule)) in
     absurd (none of.0 of.1 of.2.shape (class_same declared theory.sig of.0 of.2.shape of.2.class))
 
--- the sort of its rules, where there are rules
+-- the sort of the program's rules, if there are rules
 pub sorted_rules : (d : DefinitionTree) (declared : Signature) (theory : RewriteTheory) (top : Option ℕ) → IsFaultlessProgram d declared theory → IsTopOf theory.sig (axioms_of d) top → IsSortOfRules theory top
 sorted_rules d declared theory None p is = no_rules d declared theory theory.rules p is refl
 sorted_rules d declared theory (Some s) p (a, there, (w, class, number)) =

@@ -18,19 +18,19 @@ use Rattle.kore_check.specs.PatternMeanings.{Means}
 use Rattle.kore_rules.specs.FirstRefusal.{FirstOfAxioms, FirstOfDefinition, FirstOfTerm}
 use Rattle.kore_rules.specs.Programs.{IsProgramUnder, IsTopOf}
 
--- a fault of the text: 1 of its tokens, 2 of its grammar, 3 too many open brackets
+-- a fault of the text: 1 for its tokens, 2 for its grammar, 3 for too many open brackets
 abbrev pub fault_of_text : TextFault → Fault
 fault_of_text (text_fault.Lex at) = record { number = 1; byte = at }
 fault_of_text (text_fault.Syntax at) = record { number = 2; byte = at }
 fault_of_text (text_fault.Deep at) = record { number = 3; byte = at }
 
--- the text has this first fault
+-- this is the first fault of the text
 abbrev pub HasTextFault : (Stream → Type 0) → List ℕ → Fault → Type 0
 HasTextFault L bytes f = (fault : TextFault) × IsFirstFault L 0 (tokens_of bytes) (Some fault)
     × (f ≡ fault_of_text fault)
 
--- The bytes are accepted as a definition, which means this program, and whose rules have this sort: where its
--- declarations have no fault, they give a signature, and by that its axioms have none.
+-- The bytes are accepted as a definition that means this program, and the rules have this sort. The
+-- declarations have no fault and give a signature. The axioms have no fault under this signature.
 pub record IsAccepted (bytes : List ℕ) (theory : RewriteTheory) (top : Option ℕ) : Type 0 where
   pub definition : DefinitionTree
   pub spelled : ReadsDefinition bytes definition
@@ -41,20 +41,20 @@ pub record IsAccepted (bytes : List ℕ) (theory : RewriteTheory) (top : Option 
   pub program : IsProgramUnder declared (axioms_of definition) theory
   pub sort : IsTopOf theory.sig (axioms_of definition) top
 
--- The bytes are refused as a definition, for this fault.
+-- The bytes are refused as a definition for this fault.
 abbrev pub IsRefused : List ℕ → Fault → Type 0
 IsRefused bytes f =
     HasTextFault IsDefinition bytes f
     ⊎ ((d : DefinitionTree) × ReadsDefinition bytes d × FirstOfDefinition d (Some f))
 
--- The bytes are accepted as a term of the program, and mean this pattern.
+-- The bytes are accepted as a term of the program and mean this pattern.
 pub record IsAcceptedTerm (sig : Signature) (top : Option ℕ) (bytes : List ℕ) (start : Pattern) : Type 0 where
   pub term : PatternTree
   pub spelled : ReadsPattern bytes term
   pub no_fault : FirstOfTerm sig top term None
   pub means : Means sig [] (unfolded term) start
 
--- The bytes are refused as a term, for this fault.
+-- The bytes are refused as a term for this fault.
 abbrev pub IsRefusedTerm : Signature → Option ℕ → List ℕ → Fault → Type 0
 IsRefusedTerm sig top bytes f =
     HasTextFault IsPattern bytes f

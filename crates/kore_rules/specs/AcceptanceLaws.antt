@@ -1,5 +1,5 @@
--- What bytes are is one: a text spells one definition at most, its first fault is one, and no bytes are both accepted
--- and refused.
+-- Acceptance is unique. A text spells at most one definition, it has at most one first fault, and
+-- no bytes are both accepted and refused.
 use Rattle.std.specs.Prelude.{◌≡◌, ◌<◌, ◌^◌, ◌⊎◌, ℕ, List, length, Option}
 use Rattle.kore_text.specs.Trees.{PatternTree, AxiomDeclaration, DefinitionTree}
 use Rattle.kore_text.specs.Faults.{IsPattern, IsDefinition}
@@ -20,11 +20,11 @@ AcceptedIsNotRefused =
     (bytes : List ℕ) (theory : RewriteTheory) (top : Option ℕ) (f : Fault) → IsAccepted bytes theory top →
     IsRefused bytes f → ⊥
 
--- bytes that are refused as a definition are refused for one fault
+-- bytes are refused as a definition for one fault only
 abbrev pub RefusalIsOne : Type 0
 RefusalIsOne = (bytes : List ℕ) (f g : Fault) → IsRefused bytes f → IsRefused bytes g → f ≡ g
 
--- the same of terms of a program
+-- the same for terms of a program
 abbrev pub AcceptedTermIsNotRefused : Type 0
 AcceptedTermIsNotRefused =
     (sig : Signature) (top : Option ℕ) (bytes : List ℕ) (start : Pattern) (f : Fault) →
@@ -35,13 +35,13 @@ TermRefusalIsOne =
     (sig : Signature) (top : Option ℕ) (bytes : List ℕ) (f g : Fault) → IsRefusedTerm sig top bytes f →
     IsRefusedTerm sig top bytes g → f ≡ g
 
--- each text of fewer than 2^32 bytes is accepted as a definition, or refused
+-- each text of fewer than 2^32 bytes is accepted or refused as a definition
 abbrev pub EachTextIsDecided : Type 0
 EachTextIsDecided =
     (bytes : List ℕ) → length bytes < 2 ^ 32 →
     ((theory : RewriteTheory) × ((top : Option ℕ) × IsAccepted bytes theory top)) ⊎ ((f : Fault) × IsRefused bytes f)
 
--- each text is accepted as a term of a program, or refused as one
+-- each text is accepted or refused as a term of a program
 abbrev pub EachTermIsDecided : Type 0
 EachTermIsDecided =
     (sig : Signature) (top : Option ℕ) (bytes : List ℕ) → IsSignature sig →
@@ -49,25 +49,25 @@ EachTermIsDecided =
 
 -- ---- trees
 
--- a text spells one definition at most, and one pattern
+-- a text spells at most one definition and at most one pattern
 abbrev pub DefinitionIsOne : Type 0
 DefinitionIsOne = (bytes : List ℕ) (c d : DefinitionTree) → ReadsDefinition bytes c → ReadsDefinition bytes d → c ≡ d
 
 abbrev pub PatternIsOne : Type 0
 PatternIsOne = (bytes : List ℕ) (p q : PatternTree) → ReadsPattern bytes p → ReadsPattern bytes q → p ≡ q
 
--- two first faults of a definition are the same, also where one is that there is none
+-- two first faults of a definition are the same, including the case that there is none
 abbrev pub DefinitionFaultIsOne : Type 0
 DefinitionFaultIsOne =
     (d : DefinitionTree) (q r : Option Fault) → FirstOfDefinition d q → FirstOfDefinition d r → q ≡ r
 
--- .. of its axioms, by its signature
+-- the same for the axioms of a definition, by its signature
 abbrev pub AxiomFaultIsOne : Type 0
 AxiomFaultIsOne =
     (sig : Signature) (axioms : List AxiomDeclaration) (q r : Option Fault) → FirstOfAxioms sig axioms q →
     FirstOfAxioms sig axioms r → q ≡ r
 
--- .. of a term
+-- the same for a term
 abbrev pub TermFaultIsOne : Type 0
 TermFaultIsOne =
     (sig : Signature) (top : Option ℕ) (p : PatternTree) (q r : Option Fault) → FirstOfTerm sig top p q →
@@ -75,7 +75,7 @@ TermFaultIsOne =
 
 -- ---- texts
 
--- a text that spells a definition, or a pattern, has no fault, and the first fault of any other is one
+-- a text that spells a definition or a pattern has no fault; another text has only one first fault
 abbrev pub SpelledDefinitionIsFaultless : Type 0
 SpelledDefinitionIsFaultless =
     (bytes : List ℕ) (d : DefinitionTree) (f : Fault) → ReadsDefinition bytes d → HasTextFault IsDefinition bytes f → ⊥

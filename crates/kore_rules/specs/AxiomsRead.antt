@@ -1,4 +1,4 @@
--- What has been read of axioms, one after the other.
+-- What has been read of the axioms so far.
 use Rattle.std.specs.Prelude.{◌≡◌, ◌↔◌, ◌≤◌, ◌==◌, ◌^◌, ℕ, Bool, List, [], ◌∷◌, map, length, Option, Some, None, option_map}
 use Rattle.std.specs.Prelude.{Contains, slice_index_or, count_by, IsTrue, false}
 use Rattle.std.specs.Borrow.{Bor}
@@ -26,7 +26,8 @@ tree_at d = plain_axiom_decl d.now
 abbrev pub sort_at : Option (Bor Sort) → Option SortTree
 sort_at first = option_map (λ (s : Bor Sort). plain_sort s.now) first
 
--- just the things that one of these axioms is stand there, each place no more often than it is that of an axiom
+-- The list has exactly the things that these axioms are. Each place occurs in it at most as often
+-- as it occurs among the axioms.
 pub record AreRead {X : Type 0} (Is : AxiomDeclaration → X → Type 0) (place : X → ℕ) (axioms : List AxiomDeclaration)
     (xs : List X) : Type 0 where
   pub just : (x : X) → Contains xs x ↔ ((a : AxiomDeclaration) × Contains axioms a × Is a x)
@@ -41,7 +42,7 @@ IsNumberedEquation sig a e =
 abbrev pub numbered_equation : Equation → ℕ × plain.Equation
 numbered_equation e = (e.fun.0, function_equation e)
 
--- an axiom is an equation of the function with this number, and not readable
+-- one of the axioms is an equation of the function with this number, and is not readable
 abbrev pub HasUnreadable : Signature → List AxiomDeclaration → ℕ → Type 0
 HasUnreadable sig axioms n =
     (a : AxiomDeclaration) × Contains axioms a
@@ -51,7 +52,7 @@ HasUnreadable sig axioms n =
 abbrev pub is_marked : List Bool → ℕ → Bool
 is_marked marks n = slice_index_or marks n false
 
--- the sort of the first rule, where there is one
+-- the sort of a rule; None if there are no rules
 abbrev pub IsFirstSort : Signature → List AxiomDeclaration → Option SortTree → Type 0
 IsFirstSort sig axioms None =
     (a : AxiomDeclaration) → Contains axioms a → (w : Rewriting) → class_of sig a ≡ rewrites w → ⊥
@@ -60,7 +61,7 @@ IsFirstSort sig axioms (Some s) =
     × ((w : Rewriting) × (class_of sig a ≡ rewrites w) × (w.sort ≡ s))
     × ((n : ℕ) × (sort_number sig.sorts s ≡ Some n))
 
--- what is kept of these axioms
+-- what is read of these axioms
 pub record HaveRead (sig : Signature) (axioms : List AxiomDeclaration) (read : Readings) : Type 0 where
   pub rules : AreRead (IsRuleOf sig) (λ (r : RewriteRule). r.place) axioms (map rewrite_rule read.rules.items)
   pub equations : AreRead (IsNumberedEquation sig) (λ (e : ℕ × plain.Equation). e.1.place) axioms
@@ -68,11 +69,11 @@ pub record HaveRead (sig : Signature) (axioms : List AxiomDeclaration) (read : R
   pub marked : length read.unreadable.items ≡ length sig.symbols
   pub unreadable : (n : ℕ) → IsTrue (is_marked read.unreadable.items n) ↔ HasUnreadable sig axioms n
 
--- no place stands twice
+-- no place occurs twice
 abbrev pub AreApart : List (ℕ × ℕ) → Type 0
 AreApart keys = (at : ℕ) → count_by (λ (k : ℕ × ℕ). k.1 == at) keys ≤ 1
 
--- the axioms are fewer than 2^32, and no two stand at one place
+-- there are at most 2^32 axioms, and no two are at the same place
 pub record AreFew (axioms : List AxiomDeclaration) : Type 0 where
   pub short : length axioms ≤ 2 ^ 32
   pub apart : (at : ℕ) → count_by (λ (a : AxiomDeclaration). a.at == at) axioms ≤ 1

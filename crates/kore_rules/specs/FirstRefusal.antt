@@ -14,7 +14,7 @@ use Rattle.kore_axioms.specs.RuleFaults.{FirstOfRule}
 use Rattle.kore_rules.specs.GroundTerms.{ground_faults}
 use Rattle.kore_equations.specs.ReadableEquations.{is_one_sort}
 
--- the first fault of an axiom of this class, where the first rule has this sort
+-- the first fault of an axiom of this class, if the first rule before it has this sort
 abbrev pub FirstOfClass : Signature → Option SortTree → AxiomDeclaration → AxiomClass → Option Fault → Type 0
 FirstOfClass sig first a (refused number) r = r ≡ Some (record { number = number; byte = a.at })
 FirstOfClass sig first a orders_sorts r = r ≡ None
@@ -22,7 +22,7 @@ FirstOfClass sig first a (rewrites w) r = FirstOfRule sig first a w r
 FirstOfClass sig first a (equates e) r = r ≡ None
 FirstOfClass sig first a passed_over r = r ≡ None
 
--- the sort of the first rule, where one was before, or this is it
+-- the sort of the first rule: of an earlier one, or else of this axiom if it is a rule
 abbrev pub first_sort : Option SortTree → AxiomClass → Option SortTree
 first_sort (Some s) class = Some s
 first_sort None (refused number) = None
@@ -37,18 +37,19 @@ FirstOfAxioms sig axioms r =
     InOrder (λ first a. FirstOfClass sig first a (class_of sig a)) (λ first a. first_sort first (class_of sig a)) None
     axioms r
 
--- The first fault of a definition: of its declarations, or else of its axioms.
+-- The first fault of a definition: that of its declarations, or else that of its axioms.
 abbrev pub FirstOfDefinition : DefinitionTree → Option Fault → Type 0
 FirstOfDefinition d r =
     Then (FirstOfSignature d)
     (λ r. (sig : Signature) × IsSignatureOf d sig × FirstOfAxioms sig (axioms_of d) r) r
 
--- 19 at the first byte: the term has another sort than the rules, where there are rules
+-- 19 at the first byte: the term does not have the sort of the rules; no fault if there are no
+-- rules
 abbrev pub start_faults : Signature → Option ℕ → Unfolded → List Fault
 start_faults sig None p = []
 start_faults sig (Some s) p = unless (is_one_sort (sort_of sig p) (Some s)) 19 0
 
--- the first fault of a term, where the rules have this sort
+-- the first fault of a term, if the rules have this sort
 abbrev pub FirstOfTerm : Signature → Option ℕ → PatternTree → Option Fault → Type 0
 FirstOfTerm sig top p r =
     Then (IsFirstBy ByByte (Contains (ground_faults p)))

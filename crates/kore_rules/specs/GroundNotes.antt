@@ -1,4 +1,4 @@
--- What is kept of the bytes that were noted.
+-- The byte that is kept of those that were noted, as a fault.
 use Rattle.std.specs.Prelude.{ℕ, List, Option, option_map}
 use Rattle.kore_sig.specs.FirstFault.{Fault}
 use Rattle.kore_sig.specs.Noted.{noted, leads_by_byte}

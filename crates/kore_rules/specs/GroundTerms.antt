@@ -1,4 +1,4 @@
--- Terms: patterns of applications, domain values and folds alone.
+-- Terms: patterns that have only applications, domain values and folds.
 use Rattle.std.specs.Prelude.{ℕ, List, [], ◌∷◌, ◌++◌, if◌then◌else◌}
 use Rattle.kore_text.specs.Trees.{PatternTree, element_variable, set_variable, string, symbol_applied, connected}
 use Rattle.kore_text.specs.Trees.{binding, domain_value, folded, PatternTrees, no_patterns, pattern_then}
@@ -9,7 +9,8 @@ use Rattle.kore_shapes.specs.Forms.{is_one, is_none}
 abbrev pub not_ground : ℕ → List Fault
 not_ground at = record { number = 26; byte = at } ∷ []
 
--- 26 at each pattern that is a variable or of another form; what stands inside such a pattern is not looked at
+-- 26 at each pattern that is a variable or has another form; the inside of such a pattern is not
+-- checked
 abbrev mutual
   pub ground_faults : PatternTree → List Fault
   ground_faults (element_variable at n s) = not_ground at
@@ -25,7 +26,8 @@ abbrev mutual
   all_ground_faults no_patterns = []
   all_ground_faults (pattern_then p ps) = ground_faults p ++ all_ground_faults ps
 
-  -- of what is folded: an application with an argument, or a connective over one, which is that argument
+  -- The faults of the pattern inside a fold. It must be an application with an argument, or a
+  -- connective of one argument, which means that argument.
   pub folded_ground_faults : PatternTree → List Fault
   folded_ground_faults (element_variable at n s) = not_ground at
   folded_ground_faults (set_variable at n s) = not_ground at

@@ -1,4 +1,4 @@
--- What is known of the program of a definition once it is made.
+-- What is known of the program of a definition after it is made.
 use Rattle.std.specs.Prelude.{◌≡◌, ℕ, Option, None}
 use Rattle.kore_text.specs.Trees.{DefinitionTree}
 use Rattle.rule_core.specs.BoundVariables.{IsEquationAt}
@@ -14,7 +14,7 @@ use Rattle.kore_sig.specs.Signatures.{IsSignatureOf}
 use Rattle.kore_rules.specs.FirstRefusal.{FirstOfAxioms}
 use Rattle.kore_rules.specs.Programs.{IsProgramUnder, IsTopOf}
 
--- the definition has no fault, and means this program, whose rules have this sort
+-- the definition has no fault and means this program, and the rules have this sort
 pub record IsMadeOf (d : DefinitionTree) (theory : RewriteTheory) (top : Option ℕ) : Type 0 where
   pub declared : Signature
   pub signature : IsSignatureOf d declared

@@ -1,4 +1,4 @@
--- The names of a program: identifiers, as the text of its definition has them.
+-- The names of a program are identifiers, the same as in the text of its definition.
 use Rattle.std.specs.Prelude.{All, map}
 use Rattle.kore_lex.specs.Tokens.{IsName}
 use Rattle.rule_core.specs.declared.signature.Signature.{Signature}

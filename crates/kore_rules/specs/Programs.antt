@@ -1,4 +1,5 @@
--- The program that a definition means: its signature, its rewrite rules and the equations of its functions.
+-- The program that a definition means: its signature, its rewrite rules and the equations of its
+-- functions.
 use Rattle.std.specs.Prelude.{◌≡◌, ℕ, List, [], map, Option, Some, None, option_map, Contains, ◌↔◌, length, slice_get}
 use Rattle.std.specs.Prelude.{string_bytes}
 use Rattle.std.specs.List.{AllZip}
@@ -27,13 +28,14 @@ use Rattle.kore_axioms.specs.RuleParts.{rule_parts, left_of, right_of}
 use Rattle.kore_axioms.specs.AxiomMeanings.{IsRuleOf}
 use Rattle.kore_equations.specs.EquationMeanings.{IsEquationOf, IsUnreadable}
 
--- the hook of this name, with its number, is one that the declaration fits
+-- a hook has this name and this number, and the declaration fits it
 abbrev pub HasFittingHook : Signature → SymInfo → List ℕ → ℕ → Type 0
 HasFittingHook sig info name row =
     (hook : Hook) × (slice_get hooks row ≡ Some hook) × (hook.name ≡ name) × FitsHook sig row info
 
--- What a symbol is used for, where these are the axioms. A function whose hook fits has the values of its hook; one
--- with a hook that does not, or with an equation that is not readable, is closed; any other has its equations.
+-- What a symbol is used for under these axioms. A function has the values of its hook if the hook
+-- fits. It is closed if its hook does not fit, or if it has no hook and an equation that is not
+-- readable. Any other function has its equations.
 pub data HasKind (sig : Signature) (axioms : List AxiomDeclaration) (f : List ℕ) (info : SymInfo) : SymKind
     → Type 0 where
   as_declared : (info.kind ≡ Equations → ⊥) → HasKind sig axioms f info info.kind
@@ -46,7 +48,7 @@ pub data HasKind (sig : Signature) (axioms : List AxiomDeclaration) (f : List �
   by_equations : info.kind ≡ Equations → info.hook ≡ None →
       ((a : AxiomDeclaration) → Contains axioms a → IsUnreadable sig f a → ⊥) → HasKind sig axioms f info Equations
 
--- a symbol of the program is as it is declared, but for its kind
+-- a symbol of the program is the declared one, except for its kind
 pub record IsSymbolOf (sig : Signature) (axioms : List AxiomDeclaration) (declared made : List ℕ × SymInfo) : Type 0
   where
     pub name : made.0 ≡ declared.0
@@ -57,13 +59,13 @@ pub record IsSymbolOf (sig : Signature) (axioms : List AxiomDeclaration) (declar
     pub hook : option_map string_bytes made.1.hook ≡ option_map string_bytes declared.1.hook
     pub ac : made.1.ac ≡ declared.1.ac
 
--- just the rules that axioms are stand there, each once, in the order of trial
+-- the list has exactly the rules that axioms are, each once, in the order of trial
 pub record AreRulesOf (sig : Signature) (axioms : List AxiomDeclaration) (rules : List RewriteRule) : Type 0 where
   pub just : (rule : RewriteRule) → Contains rules rule
       ↔ ((a : AxiomDeclaration) × Contains axioms a × IsRuleOf sig a rule)
   pub in_order : AreInOrder (map (λ (r : RewriteRule). (r.priority, r.place)) rules)
 
--- .. of the equations of a function that has its equations, and none of any other symbol
+-- the same for the equations of a function that has its equations; any other symbol has none
 pub record AreEquationsOf (sig : Signature) (axioms : List AxiomDeclaration) (f : List ℕ) (kind : SymKind)
     (es : List Equation) : Type 0 where
   pub just : (e : Equation) → Contains es e
@@ -81,7 +83,7 @@ pub record IsProgramUnder (declared : Signature) (axioms : List AxiomDeclaration
     pub equations : (n : ℕ) (f : List ℕ) (info : SymInfo) → slice_get theory.sig.symbols n ≡ Some (f, info) →
         AreEquationsOf declared axioms f info.kind (equations_of theory n)
 
--- the sort of the rules, where there are rules
+-- the sort of a rule; None if there are no rules
 abbrev pub IsTopOf : Signature → List AxiomDeclaration → Option ℕ → Type 0
 IsTopOf sig axioms None = (a : AxiomDeclaration) → Contains axioms a → (w : Rewriting) → class_of sig a ≡ rewrites w → ⊥
 IsTopOf sig axioms (Some s) =

@@ -1,4 +1,4 @@
--- What is said of a text that is refused, and the sort of a program's rules.
+-- What is said of a refused text, and the sort of a program's rules.
 use Rattle.std.specs.Prelude.{◌≡◌, ℕ, [], All, Option, Some, None, option_map}
 use Rattle.term_core.specs.declared.ids.SortId.{SortId}
 use Rattle.rule_core.specs.Theories.{RewriteTheory}
@@ -8,7 +8,7 @@ use Rattle.kore_sig.specs.FirstFault.{Fault}
 use Rattle.kore_axioms.specs.declared.refusals.Refusal.{Refusal}
 use Rattle.kore_axioms.specs.declared.refusals.Refusal.TheVariants.{Refused, Memory}
 
--- P holds of the fault for which the text is refused; out of memory says nothing
+-- P holds for the fault that the text is refused for; nothing is said if memory ran out
 abbrev pub RefusesFor : (Fault → Type 0) → Refusal → Type 0
 RefusesFor P (Refused number byte) = P (record { number = number; byte = byte })
 RefusesFor P Memory = Unit {0}
@@ -16,11 +16,11 @@ RefusesFor P Memory = Unit {0}
 abbrev pub sort_of : Option SortId → Option ℕ
 sort_of sort = option_map (λ (s : SortId). s.0) sort
 
--- the sort of the program's rules, where it is told
+-- the sort of the rules that the program states, if there is one
 abbrev pub top_of : Program → Option ℕ
 top_of program = sort_of program.top
 
--- the sort of the rules, where there are rules
+-- all rules have this sort; None if there are no rules
 abbrev pub IsSortOfRules : RewriteTheory → Option ℕ → Type 0
 IsSortOfRules theory None = theory.rules ≡ []
 IsSortOfRules theory (Some s) = All (IsRuleOf theory.sig s) theory.rules

@@ -1,4 +1,5 @@
--- Sorts of whole numbers and of truth values, told by marks, and the kinds of symbols that these give.
+-- The sorts of integers and of truth values, by marks, and the kinds of symbols that follow from
+-- them.
 use Rattle.std.specs.Prelude.{◌≡◌, ◌==◌, ◌&&◌, ◌||◌, not, ℕ, Bool, true, false, List, [], ◌∷◌, map, Option, Some, None}
 use Rattle.std.specs.Prelude.{option_map, slice_get, string_bytes, if◌then◌else◌, IsTrue, is_some}
 use Rattle.std.specs.List.{list_any}
@@ -26,7 +27,7 @@ use Rattle.kore_check.specs.PatternSorts.{sort_kind}
 use Rattle.kore_axioms.specs.AxiomClasses.{is_defined_kind}
 use Rattle.kore_rules.specs.AxiomsRead.{is_marked}
 
--- ---- which sorts have other terms than values
+-- ---- which sorts have terms other than values
 
 abbrev pub is_constructor_kind : SymKind → Bool
 is_constructor_kind Injection = false
@@ -51,11 +52,11 @@ abbrev pub is_number : ℕ → Option ℕ → Bool
 is_number n None = false
 is_number n (Some m) = n == m
 
--- the upper one of two sorts
+-- the upper sort of a pair
 abbrev pub upper_one : Option (SortTree × SortTree) → Option SortTree
 upper_one pair = option_map (λ (p : SortTree × SortTree). p.1) pair
 
--- this is the number of the sort, where there is one
+-- the sort is there and has this number
 abbrev pub is_numbered_so : List (List ℕ × SortInfo) → ℕ → Option SortTree → Bool
 is_numbered_so sorts n s = is_number n (option_and_then (sort_number sorts) s)
 
@@ -70,7 +71,7 @@ states_upper sorts n a = list_any (puts_below sorts n) a.attributes
 abbrev pub has_terms : Signature → List AxiomDeclaration → ℕ → Bool
 has_terms sig axioms n = list_any (entry_makes n) sig.symbols || list_any (states_upper sig.sorts n) axioms
 
--- just these sorts are marked
+-- exactly the sorts with terms are marked
 abbrev pub MarksTerms : Signature → List AxiomDeclaration → List Bool → Type 0
 MarksTerms sig axioms marks = (n : ℕ) → is_marked marks n ≡ has_terms sig axioms n
 
@@ -87,7 +88,7 @@ is_of_kind truths (Some kind.Bool) = true
 is_of_kind truths (Some kind.Map) = false
 is_of_kind truths (Some kind.Other) = false
 
--- a reference is to a sort of this kind that is not marked
+-- the reference is to a sort of this kind that is not marked
 abbrev pub refers_to : Signature → List Bool → Kind → SortRef → Bool
 refers_to sig marks k (Param i) = false
 refers_to sig marks k (Sort s) = is_of_kind k (sort_kind sig s.0) && not (is_marked marks s.0)
@@ -98,7 +99,7 @@ refer_to sig marks [] (of ∷ refs) = false
 refer_to sig marks (k ∷ ks) [] = false
 refer_to sig marks (k ∷ ks) (of ∷ refs) = refers_to sig marks k of && refer_to sig marks ks refs
 
--- the declaration has the sorts of the row
+-- the declaration has no sort parameters, and has the sorts of the row
 abbrev pub fits_row : Signature → List Bool → hook.Signature → SymInfo → Bool
 fits_row sig marks row info =
     (info.params == 0) && (refer_to sig marks row.arguments info.args.items && refers_to sig marks row.result info.result)
@@ -111,7 +112,7 @@ kind_in_row sig marks info n (Some row) = if fits_row sig marks row info then Ho
 abbrev pub row_at : Bor HookRow → hook.Signature
 row_at row = plain_row row.now
 
--- what the table says of the hook with this number
+-- the row of the table for the hook with this number
 unfoldable pub hook_row : ℕ → Option hook.Signature
 hook_row n = slice_get (map signature hooks) n
 
@@ -119,7 +120,7 @@ abbrev pub kind_of_number : Signature → List Bool → SymInfo → Option ℕ �
 kind_of_number sig marks info None = Closed
 kind_of_number sig marks info (Some n) = kind_in_row sig marks info n (hook_row n)
 
--- .. by the name of its hook
+-- the kind of a function by the name of its hook
 abbrev pub kind_by_hook : Signature → List Bool → SymInfo → List ℕ → SymKind
 kind_by_hook sig marks info name = kind_of_number sig marks info (hook_number name)
 
@@ -134,12 +135,12 @@ final_kind sig marks info unreadable =
     if is_defined_kind info.kind then kind_of_function sig marks info unreadable (option_map string_bytes info.hook)
     else info.kind
 
--- the mark of the name's number is set
+-- the mark with this number is set; false if there is no number
 abbrev pub is_marked_at : List Bool → Option ℕ → Bool
 is_marked_at marks None = false
 is_marked_at marks (Some n) = is_marked marks n
 
--- the entry of a symbol with its final kind; else it is as it was
+-- the symbol's entry is the declared one, except that it has its final kind
 pub record IsFinal (sig : Signature) (marks unreadable : List Bool) (declared made : List ℕ × SymInfo) : Type 0 where
   pub name : made.0 ≡ declared.0
   pub kind : made.1.kind

@@ -7,7 +7,7 @@ use Rattle.rule_core.specs.declared.rules.Rule.{Rule}
 use Rattle.rule_core.specs.declared.signature.SymInfo.{SymInfo}
 use Rattle.kore_axioms.specs.AxiomClasses.{is_defined_kind}
 
--- by which rules are sorted
+-- the priority and the place, by which rules are sorted
 abbrev pub rule_key : Rule → ℕ × ℕ
 rule_key r = (r.priority, r.at)
 
@@ -22,7 +22,7 @@ is_by_equations (Some e) = is_defined_kind e.1.kind
 abbrev pub has_equations : List (List ℕ × SymInfo) → ℕ → Bool
 has_equations symbols n = is_by_equations (slice_get symbols n)
 
--- an equation of this function, which has the values of its equations
+-- the equation is one of this function, and the function has the values of its equations
 abbrev pub belongs_to : List (List ℕ × SymInfo) → ℕ → Equation → Bool
 belongs_to symbols n e = (e.fun.0 == n) && has_equations symbols e.fun.0
 

@@ -1,4 +1,4 @@
-// Definitions and terms that are accepted, or their first refusal.
+// Definitions and terms are accepted, or their first refusal is returned.
 ghost use Rattle.std.specs.Prelude.{◌≡◌, ◌<◌, ◌≤◌, ◌^◌, ℕ, length, option_map, flat_map, map, None, Some, IfOk, OnOk};
 ghost use Rattle.std.specs.Prelude.{IfErr};
 ghost use Rattle.std.specs.List.{AllZip};
@@ -37,12 +37,15 @@ use rule_core::{Program, Signature};
 use std::alloc::{AllocError, Global};
 use term_core::{RulePat, SortId};
 
-/// The program that a definition means, or why it is refused: the text's first fault, or else that of its declarations,
-/// or else that of its axioms in the order of the file. Each variable of a rule stands in its left side, and each
-/// variable of an equation in its arguments.
+/// Returns the program that a definition means. Each variable of a rule occurs in its left side,
+/// and each variable of an equation occurs in its arguments.
 ///
-/// It goes through the text a few times, and through each declaration a few times, with a look-up for each name; the
-/// rules and the equations are sorted. It recurses no deeper than brackets are open in the text.
+/// The error is the first fault of the text, or else that of its declarations, or else that of its
+/// axioms in the order of the file, or that memory ran out.
+///
+/// It goes through the text a few times, and through each declaration a few times, with a look-up
+/// for each name. It sorts the rules and the equations. Its recursion is no deeper than the open
+/// brackets of the text.
 pub fn accept(alloc: Global, bytes: &[u8]) -> Result<Program, Refusal>
     requires { length bytes.now < 2 ^ 32 }
     ensures accepted { IfOk result (λ p. IsAccepted bytes.now (theory_of p) (top_of p)) }
@@ -63,7 +66,8 @@ pub fn accept(alloc: Global, bytes: &[u8]) -> Result<Program, Refusal>
     }
 }
 
-/// The program that a definition means, or the first fault of its declarations, or else of its axioms.
+/// The program that a definition means. The error is the first fault of its declarations, or else
+/// of its axioms.
 fn program_of(alloc: Global, definition: &Definition) -> Result<Program, Refusal>
     requires { AreFew (the_axioms (plain_definition definition.now)) }
     ensures made { IfOk result (λ p. IsMadeOf (plain_definition definition.now) (theory_of p) (top_of p)) }
@@ -87,7 +91,7 @@ fn program_of(alloc: Global, definition: &Definition) -> Result<Program, Refusal
     Ok(program_under(alloc, sig, &axioms, readings, top)?)
 }
 
-/// The number of the sort of the rules, where there are rules.
+/// The number of the sort of the rules, if there are rules.
 fn sort_of_rules(sig: &Signature, first: Option<&Sort>) -> Option<SortId>
     requires numbered { IsNumbered sig.now }
     ensures { (axioms : List AxiomDeclaration) → IsFirstSort sig.now axioms (sort_at first.entry) →
@@ -97,7 +101,8 @@ fn sort_of_rules(sig: &Signature, first: Option<&Sort>) -> Option<SortId>
     Some(SortId(number as u32))
 }
 
-/// The program of a definition with this signature and these axioms, of which this is known.
+/// The program of a definition with this signature and these axioms. `readings` is what was read of
+/// the axioms, and `top` is the sort of the rules.
 fn program_under(
     alloc: Global,
     sig: Signature,
@@ -138,12 +143,14 @@ fn program_under(
     })
 }
 
-/// The pattern that a term of an accepted definition means, or why it is refused: the text's first fault, or else the
-/// first pattern that no term has, or else the first fault of its sorts, or else that it has another sort than the
-/// rules.
+/// Returns the pattern that a term of an accepted definition means.
 ///
-/// It goes through the text a few times, with a look-up for each name. It recurses no deeper than brackets are open in
-/// the text.
+/// The error is the first fault of the text, or else the first pattern that a term must not have,
+/// or else the first fault of its sorts, or else that it does not have the sort of the rules, or
+/// that memory ran out.
+///
+/// It goes through the text a few times, with a look-up for each name. Its recursion is no deeper
+/// than the open brackets of the text.
 pub fn accept_term(alloc: Global, program: &Program, bytes: &[u8]) -> Result<RulePat, Refusal>
     requires few { length bytes.now < 2 ^ 32 }
     requires well_sorted { IsWellSorted (theory_of program.now) }

@@ -1,5 +1,5 @@
-// The axioms of a definition, one after the other: its rewrite rules and the equations of its functions, or their first
-// fault.
+// Reads the axioms of a definition in order: its rewrite rules and the equations of its functions,
+// or their first fault.
 ghost use Rattle.std.specs.Prelude.{◌≡◌, ◌++◌, ◌∷◌, ◌==◌, ◌||◌, ◌<◌, [], ℕ, List, false, length, map, None, Some};
 ghost use Rattle.std.specs.Prelude.{IfOk, OnOk, IfErr};
 ghost use Rattle.kore_text.specs.Trees.{AxiomDeclaration};
@@ -22,18 +22,19 @@ use kore_shapes::{Rewriting, Statement};
 use rule_core::{Equation, Rule, Signature};
 use std::alloc::{AllocError, Global};
 
-/// What axioms are: rewrite rules, equations, or equations that are not readable.
+/// What is read of axioms: rewrite rules, equations, and equations that are not readable.
 #[derive(Drop)]
 pub(crate) struct Readings {
     /// The rewrite rules, in the order of the file.
     pub(crate) rules: Vec<Rule>,
-    /// The equations, of all functions, in the order of the file.
+    /// The equations of all functions, in the order of the file.
     pub(crate) equations: Vec<Equation>,
-    /// For each symbol, by its number, whether it has an equation that is not readable.
+    /// For each symbol, by its number: whether it has an equation that is not readable.
     pub(crate) unreadable: Vec<bool>,
 }
 
-/// What the axioms are, and the sort of their first rewrite rule; or the first fault of the first that has any.
+/// Reads the axioms, and returns the sort of their first rewrite rule too. The error is the first
+/// fault of the first axiom that has any.
 pub(crate) fn read_axioms<'a>(
     alloc: Global,
     sig: &Signature,
@@ -59,7 +60,7 @@ pub(crate) fn read_axioms<'a>(
     Ok((readings, first))
 }
 
-/// What no axiom is.
+/// What is read of no axioms.
 fn no_readings(alloc: Global, sig: &Signature) -> Result<Readings, AllocError>
     ensures { IfOk result (HaveRead sig.now []) }
 {
@@ -70,7 +71,7 @@ fn no_readings(alloc: Global, sig: &Signature) -> Result<Readings, AllocError>
     })
 }
 
-/// So many marks, none of which is set.
+/// `len` marks, none of them set.
 pub(crate) fn no_marks(alloc: Global, len: usize) -> Result<Vec<bool>, AllocError>
     ensures len { IfOk result (λ marks. length marks.items ≡ len) }
     ensures none { IfOk result (λ marks. (n : ℕ) → is_marked marks.items n ≡ false) }
@@ -80,7 +81,7 @@ pub(crate) fn no_marks(alloc: Global, len: usize) -> Result<Vec<bool>, AllocErro
     Ok(marks)
 }
 
-/// The sort of the first rule: an earlier one, or else that of this axiom, where it is a rule.
+/// The sort of the first rule: of an earlier one, or else of this axiom if it is a rule.
 fn first_sort<'a>(first: Option<&'a Sort>, class: AxiomClass<'a>) -> Option<&'a Sort>
     ensures { sort_at result ≡ the_first_sort (sort_at first.entry) (plain_class class.entry) }
 {
@@ -90,7 +91,8 @@ fn first_sort<'a>(first: Option<&'a Sort>, class: AxiomClass<'a>) -> Option<&'a 
     }
 }
 
-/// Adds what an axiom of this class is, or answers its first fault, where the first rule has this sort.
+/// Adds what an axiom of this class is, if the first rule before it has the sort `first`. The error
+/// is the axiom's first fault.
 fn read_axiom(
     alloc: Global,
     sig: &Signature,
@@ -119,7 +121,7 @@ fn read_axiom(
     }
 }
 
-/// Adds the rewrite rule that an axiom is, or answers its first fault.
+/// Adds the rewrite rule that an axiom is. The error is its first fault.
 fn add_rule(
     alloc: Global,
     sig: &Signature,
@@ -149,7 +151,7 @@ fn add_rule(
     }
 }
 
-/// Adds the equation that an axiom is, or that it is none that is readable.
+/// Adds the equation that an axiom is, or marks its function if the equation is not readable.
 fn add_equation(
     alloc: Global,
     sig: &Signature,

@@ -1,4 +1,4 @@
-// What the declarations of a definition give: its signature, and its axioms in the order of the file.
+// What a definition declares: its signature, and its axioms in the order of the file.
 ghost use Rattle.std.specs.Prelude.{◌≡◌, ◌++◌, [], map, None, Some, IfOk, OnOk, IfErr};
 ghost use Rattle.kore_text.specs.Trees.{DefinitionTree};
 ghost use Rattle.std.specs.List.{cons_option};
@@ -17,7 +17,7 @@ use kore_sig::{SigFault, counted_declarations, signature};
 use rule_core::Signature;
 use std::alloc::{AllocError, Global};
 
-/// The signature that a definition declares, or the first fault of its declarations.
+/// The signature that a definition declares. The error is the first fault of its declarations.
 pub(crate) fn signature_of(alloc: Global, definition: &Definition) -> Result<Signature, Refusal>
     ensures declared { IfOk result (IsSignatureOf (plain_definition definition.now)) }
     ensures faultless { OnOk result (FirstOfSignature (plain_definition definition.now) None) }
@@ -32,7 +32,7 @@ pub(crate) fn signature_of(alloc: Global, definition: &Definition) -> Result<Sig
     }
 }
 
-/// The number and the byte of a fault.
+/// The refusal for a fault: its number and its byte.
 fn refusal_of(fault: SigFault) -> Refusal
     ensures { (d : DefinitionTree) → IsRefusal d fault → RefusesFor (λ f. FirstOfSignature d (Some f)) result }
 {
@@ -62,7 +62,7 @@ pub(crate) fn axioms_of(
     Ok(axioms)
 }
 
-/// Adds a declaration, where it is an axiom.
+/// Adds a declaration if it is an axiom.
 fn add_axiom<'a>(decl: &'a Decl, axioms: &mut Vec<&'a AxiomDecl>) -> Result<(), AllocError>
     ensures { OnOk result (map tree_at axioms.new.items
         ≡ map tree_at axioms.old.items ++ cons_option (axiom_declared (plain_declaration decl.now)) []) }

@@ -1,4 +1,4 @@
-// Terms: patterns of applications, domain values and folds alone.
+// Terms: patterns that have only applications, domain values and folds.
 ghost use Rattle.std.specs.Prelude.{◌≡◌, map, None};
 ghost use Rattle.kore_text.specs.Trees.{pattern_trees};
 ghost use Rattle.kore_ast.specs.Plain.{plain_pattern};
@@ -8,8 +8,8 @@ ghost use Rattle.kore_rules.specs.GroundNotes.{not_ground_at, behind};
 
 use kore_ast::{Pat, PatForm};
 
-/// The first byte at which a term has a variable, or a pattern of another form than an application, a domain value or a
-/// fold.
+/// The first byte in a term of a pattern that is not an application, a domain value or a fold with
+/// an argument. None if there is no such pattern.
 pub(crate) fn first_not_ground(pat: &Pat) -> Option<u32>
     ensures { not_ground_at result ≡ behind None (ground_faults (plain_pattern pat.now)) }
 {
@@ -41,7 +41,7 @@ fn note_all(pats: &[Pat], first: &mut Option<u32>)
     }
 }
 
-/// .. of what is folded.
+/// Notes the bytes that the pattern inside a fold must not have.
 #[cycle(ground)]
 fn note_folded(pat: &Pat, first: &mut Option<u32>)
     ensures { not_ground_at first.new ≡ behind first.old (folded_ground_faults (plain_pattern pat.now)) }
@@ -72,7 +72,7 @@ fn is_one(pats: &[Pat]) -> bool
     matches!(pats, [_])
 }
 
-/// Notes a byte: what is kept is the smaller one of it and of what was kept.
+/// Notes a byte. The smaller one of it and of the byte that was kept before is kept.
 fn note(first: &mut Option<u32>, at: u32)
     ensures { not_ground_at first.new ≡ behind first.old (not_ground at) }
 {

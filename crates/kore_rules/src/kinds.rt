@@ -1,4 +1,4 @@
-// What the symbols of a definition are used for, once its axioms are read.
+// What the symbols of a definition are used for, after its axioms are read.
 ghost use Rattle.std.specs.Prelude.{◌≡◌, map, option_map, option_copied, slice_get, string_bytes, Some, IfOk};
 ghost use Rattle.std.specs.List.{AllZip};
 ghost use Rattle.hook_table.specs.Rows.{plain_kind, plain_row};
@@ -15,8 +15,9 @@ use rule_core::{Signature, SortKind, SortRef, SymInfo, SymKind, Table};
 use std::alloc::{AllocError, Global};
 use term_core::HookNo;
 
-/// The symbols with what they are used for, where these sorts have other terms than values, and these symbols have an
-/// equation that is not readable. It looks at each symbol once, and copies it.
+/// The symbols with what they are used for. `with_terms` marks the sorts that have terms other than
+/// values. `unreadable` marks the symbols with an equation that is not readable. It looks at each
+/// symbol once, and copies it.
 pub(crate) fn final_symbols(
     alloc: Global,
     sig: &Signature,
@@ -39,7 +40,7 @@ pub(crate) fn final_symbols(
     Ok(symbols)
 }
 
-/// A copy of a symbol, with this kind.
+/// A copy of a symbol with this kind.
 fn with_kind(alloc: Global, symbol: &SymInfo, kind: SymKind) -> Result<SymInfo, AllocError>
     ensures kind { IfOk result (λ made. made.kind ≡ kind) }
     ensures params { IfOk result (λ made. made.params ≡ symbol.now.params) }
@@ -77,8 +78,9 @@ fn is_marked(marks: &[bool], number: usize) -> bool
     }
 }
 
-/// What a symbol is used for. A function without sort parameters has the values of its hook where that fits, and those
-/// of its equations where it has no hook and each of them is readable; else nothing gives its values.
+/// What a symbol is used for. A function without sort parameters has the values of its hook if the
+/// hook fits. It has the values of its equations if it has no hook and each of its equations is
+/// readable. Otherwise nothing gives its values. Any other symbol keeps its kind.
 fn final_kind(sig: &Signature, with_terms: &[bool], symbol: &SymInfo, unreadable: bool) -> SymKind
     ensures { result ≡ the_final_kind sig.now with_terms.now symbol.now unreadable }
 {
@@ -115,7 +117,7 @@ fn kind_by_hook(sig: &Signature, with_terms: &[bool], symbol: &SymInfo, name: &s
     }
 }
 
-/// .. this number.
+/// The kind of a function whose hook has this number.
 fn kind_of_number(sig: &Signature, with_terms: &[bool], symbol: &SymInfo, number: HookNo) -> SymKind
     ensures { result ≡ the_kind_of_number sig.now with_terms.now symbol.now (Some number.0) }
 {
@@ -139,7 +141,7 @@ fn row_in(rows: &[HookRow], place: usize) -> Option<&HookRow>
     Some(row)
 }
 
-/// .. and stands in this row of the table.
+/// The kind of a function whose hook has this number and this row of the table.
 fn kind_in_row(
     sig: &Signature,
     with_terms: &[bool],
@@ -156,7 +158,7 @@ fn kind_in_row(
     }
 }
 
-/// Whether a function has the sorts of a row of the table.
+/// Whether a function has no sort parameters, and has the sorts of a row of the table.
 fn fits_row(sig: &Signature, with_terms: &[bool], row: &HookRow, symbol: &SymInfo) -> bool
     ensures { result ≡ does_fit sig.now with_terms.now (plain_row row.now) symbol.now }
 {
@@ -179,7 +181,7 @@ fn refer_to(sig: &Signature, with_terms: &[bool], kinds: &[ScalarKind], sorts: &
     true
 }
 
-/// Whether this is a sort of this kind without other terms than values.
+/// Whether this is a sort of this kind that has no terms other than values.
 fn refers_to(sig: &Signature, with_terms: &[bool], kind: ScalarKind, sort: SortRef) -> bool
     ensures { result ≡ does_refer sig.now with_terms.now (plain_kind kind) sort }
 {

@@ -10,10 +10,12 @@ use kore_sig::signature_laws;
 use kore_text::text_laws;
 use std::alloc::Global;
 
-/// Does nothing when it runs: a caller learns by it that no bytes are both accepted and refused, as a definition or as
-/// a term, that each text is one of the two, and that bytes are refused for one fault; that a text spells one tree; and
-/// that first faults are one. The allocator is never asked: there is one, so there are values of lists and names, with
-/// which the program that a text means is told.
+/// Does nothing at run time. It gives its caller these laws, for definitions and for terms. Each
+/// text is accepted or refused, and none is both. A refused text is refused for one fault only. A
+/// text spells at most one tree. First faults are unique.
+///
+/// The allocator is never used. It is a parameter because the program that a text means has lists
+/// and names, and their values need an allocator.
 pub fn acceptance_laws(_alloc: Global)
     ensures exclusive { AcceptedIsNotRefused }
     ensures refusal { RefusalIsOne }

@@ -1,10 +1,10 @@
-// Acceptance: from the bytes of a definition to a program, or its one first refusal.
+// Acceptance: from the bytes of a definition to a program, or to its one first refusal.
 //
-// `accept` answers the program that a definition means (specs/Programs.antt), or why it is refused: the first fault by
-// the order of refusals (specs/FirstRefusal.antt), exactly. The program is well-sorted, and its variables are bound.
-// `accept_term` answers the pattern that a term of an accepted definition means, which is a start of the program, or
-// why the term is refused (specs/Acceptance.antt). `acceptance_laws` says that each text is accepted or refused, and
-// none is both.
+// `accept` returns the program that a definition means (specs/Programs.antt). Its error is exactly
+// the first fault by the order of refusals (specs/FirstRefusal.antt). The program is well-sorted,
+// and its variables are bound. `accept_term` returns the pattern that a term of an accepted
+// definition means, or why the term is refused (specs/Acceptance.antt). The pattern is a start of
+// the program. `acceptance_laws` says that each text is accepted or refused, and that none is both.
 #![tactic(auto)]
 
 mod acceptance;

@@ -8,7 +8,7 @@ ghost use Rattle.kore_rules.specs.TrialOrder.{rule_key, equation_key, belongs_to
 use rule_core::{Equation, Rule, SymInfo, SymKind, Table};
 use std::alloc::{AllocError, Global};
 
-/// Puts rules into the order of trial: by priority, and those of one priority by place.
+/// Puts rules into the order of trial: by priority, and for the same priority by place.
 pub(crate) fn put_rules_in_order(rules: &mut Vec<Rule>) -> Result<(), AllocError>
     ensures permutation { OnOk result (IsPermutation rules.old.items rules.new.items) }
     ensures in_order { OnOk result (AreApart (map rule_key rules.old.items) →
@@ -28,7 +28,8 @@ pub(crate) fn put_equations_in_order(equations: &mut Vec<Equation>) -> Result<()
     Ok(())
 }
 
-/// The equations of each function, by its number, in the order in which they come. A symbol of another kind has none.
+/// The equations of each function, by its number, in the order given. A symbol of another kind has
+/// none.
 pub(crate) fn by_function(
     alloc: Global,
     symbols: &Table<SymInfo>,
@@ -46,7 +47,7 @@ pub(crate) fn by_function(
     Ok(lists)
 }
 
-/// Adds an equation to the list of its function, where that has the values of its equations.
+/// Adds an equation to the list of its function, if the function has the values of its equations.
 fn place(
     symbols: &Table<SymInfo>,
     equation: Equation,
@@ -73,7 +74,7 @@ fn has_equations(symbols: &Table<SymInfo>, function: usize) -> bool
     }
 }
 
-/// So many empty lists.
+/// `len` empty lists.
 fn empty_lists(alloc: Global, len: usize) -> Result<Vec<Vec<Equation>>, AllocError>
     ensures len { IfOk result (λ lists. length lists.items ≡ len) }
     ensures empty { IfOk result (λ lists. (n : ℕ) → listed_at lists.items n ≡ []) }

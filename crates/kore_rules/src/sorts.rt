@@ -1,4 +1,4 @@
-// Which sorts have other terms than values.
+// Which sorts have terms other than values.
 ghost use Rattle.std.specs.Prelude.{◌≡◌, ◌<◌, ◌||◌, ℕ, true, length, map, IfOk};
 ghost use Rattle.std.specs.List.{list_any};
 ghost use Rattle.kore_ast.specs.Plain.{plain_sort, plain_pattern};
@@ -14,8 +14,9 @@ use kore_sig::sort_number;
 use rule_core::{Signature, SortInfo, SortRef, SymInfo, SymKind, Table};
 use std::alloc::{AllocError, Global};
 
-/// For each sort, by its number, whether it has other terms than values: whether a constructor makes terms of it, or an
-/// axiom puts a sort below it. It looks at each symbol once, and at each attribute of an axiom once.
+/// For each sort, by its number: whether it has terms other than values. It has some if a
+/// constructor makes terms of it, or if an axiom puts a sort below it. It looks at each symbol
+/// once, and at each attribute of an axiom once.
 pub(crate) fn sorts_with_terms(
     alloc: Global,
     sig: &Signature,
@@ -30,7 +31,7 @@ pub(crate) fn sorts_with_terms(
     Ok(marks)
 }
 
-/// Marks the sorts of which a constructor makes terms.
+/// Marks the sorts that a constructor makes terms of.
 fn mark_results(sig: &Signature, marks: &mut Vec<bool>)
     requires signature { IsSignature sig.now }
     requires len { length marks.old.items ≡ length sig.now.sorts }
@@ -46,7 +47,7 @@ fn mark_results(sig: &Signature, marks: &mut Vec<bool>)
     }
 }
 
-/// Marks the sort of which a symbol makes terms, where it is a constructor.
+/// Marks the sort that a symbol makes terms of, if the symbol is a constructor.
 fn mark_result(symbol: &SymInfo, marks: &mut Vec<bool>)
     requires { (n : ℕ) → makes n symbol.now ≡ true → n < length marks.old.items }
     ensures len { length marks.new.items ≡ length marks.old.items }
@@ -58,7 +59,7 @@ fn mark_result(symbol: &SymInfo, marks: &mut Vec<bool>)
     }
 }
 
-/// Marks the sorts below which an axiom puts a sort.
+/// Marks the sorts that an axiom puts another sort below.
 fn mark_uppers(sorts: &Table<SortInfo>, axioms: &[&AxiomDecl], marks: &mut Vec<bool>)
     requires { length marks.old.items ≡ length sorts.now }
     ensures { (n : ℕ) → is_marked marks.new.items n
@@ -69,7 +70,7 @@ fn mark_uppers(sorts: &Table<SortInfo>, axioms: &[&AxiomDecl], marks: &mut Vec<b
     }
 }
 
-/// Marks the sorts below which one of the attributes puts a sort.
+/// Marks the sorts that one of the attributes puts another sort below.
 fn mark_stated(sorts: &Table<SortInfo>, attrs: &[Pat], marks: &mut Vec<bool>)
     requires { length marks.old.items ≡ length sorts.now }
     ensures len { length marks.new.items ≡ length marks.old.items }
@@ -81,7 +82,7 @@ fn mark_stated(sorts: &Table<SortInfo>, attrs: &[Pat], marks: &mut Vec<bool>)
     }
 }
 
-/// Marks the sort, where there is one and it is declared.
+/// Marks the sort, if there is one and it is declared.
 fn mark_numbered(sorts: &Table<SortInfo>, sort: Option<&Sort>, marks: &mut Vec<bool>)
     requires { length marks.old.items ≡ length sorts.now }
     ensures len { length marks.new.items ≡ length marks.old.items }

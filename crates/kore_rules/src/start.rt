@@ -24,7 +24,7 @@ use rule_core::Signature;
 use std::alloc::Global;
 use term_core::{RulePat, SortId};
 
-/// The pattern that a term means, where the rules have this sort, or the term's first fault.
+/// The pattern that a term means, if the rules have this sort. The error is the term's first fault.
 pub(crate) fn start_of(
     alloc: Global,
     sig: &Signature,
@@ -49,7 +49,7 @@ pub(crate) fn start_of(
     }
 }
 
-/// What a pattern without variables means, and its sort; or the first fault of its sorts.
+/// What a pattern without variables means, and its sort. The error is the first fault of its sorts.
 fn ground_pattern(alloc: Global, sig: &Signature, term: &Pat) -> Result<(RulePat, SortId), Refusal>
     requires numbered { IsNumbered sig.now }
     requires signature { IsSignature sig.now }
@@ -68,7 +68,7 @@ fn ground_pattern(alloc: Global, sig: &Signature, term: &Pat) -> Result<(RulePat
     }
 }
 
-/// The number and the byte of a fault.
+/// The refusal for a fault: its number and its byte.
 fn refusal_of(fault: CheckFault) -> Refusal
     ensures { (faults : List Fault) → IsRefusal faults fault →
         RefusesFor (λ f. IsFirstBy ByByte (Contains faults) (Some f)) result }
@@ -85,7 +85,7 @@ fn refusal_of(fault: CheckFault) -> Refusal
     }
 }
 
-/// Whether the sort of the rules, where there are rules, is another one.
+/// Whether the rules have a sort and it is not this one.
 fn differs_from(top: Option<SortId>, sort: SortId) -> bool
     ensures { result ≡ does_differ (sort_of top) sort.0 }
 {

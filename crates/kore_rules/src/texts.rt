@@ -10,7 +10,7 @@ use kore_ast::{Definition, Pat, ReadFault, read_definition, read_pattern};
 use kore_axioms::Refusal;
 use std::alloc::Global;
 
-/// The definition that the bytes spell, or the first fault of the text.
+/// The definition that the bytes spell. The error is the first fault of the text.
 pub(crate) fn definition_in(alloc: Global, bytes: &[u8]) -> Result<Definition, Refusal>
     requires { length bytes.now < 2 ^ 32 }
     ensures spelled { IfOk result (λ d. ReadsDefinition bytes.now (plain_definition d)) }
@@ -22,7 +22,7 @@ pub(crate) fn definition_in(alloc: Global, bytes: &[u8]) -> Result<Definition, R
     }
 }
 
-/// The pattern that the bytes spell, or the first fault of the text.
+/// The pattern that the bytes spell. The error is the first fault of the text.
 pub(crate) fn pattern_in(alloc: Global, bytes: &[u8]) -> Result<Pat, Refusal>
     requires { length bytes.now < 2 ^ 32 }
     ensures spelled { IfOk result (λ p. ReadsPattern bytes.now (plain_pattern p)) }
@@ -34,7 +34,7 @@ pub(crate) fn pattern_in(alloc: Global, bytes: &[u8]) -> Result<Pat, Refusal>
     }
 }
 
-/// The number and the byte of a fault.
+/// The refusal for a fault: its number and its byte.
 fn refusal_of(fault: ReadFault) -> Refusal
     ensures definition { (bytes : List ℕ) → IsFault IsDefinition bytes fault →
         RefusesFor (HasTextFault IsDefinition bytes) result }

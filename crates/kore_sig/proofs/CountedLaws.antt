@@ -1,4 +1,4 @@
--- Which modules count, one module more in front.
+-- Which modules count, with one more module before the others.
 use Rattle.std.proofs.Common.{◌≡◌, ℕ, zero, suc, ◌+◌, ◌-◌, ◌<◌, ◌≤◌, Bool, true, false, cond, List, [], ◌∷◌, ◌++◌, map, drop, reverse, get_or, length, refl, ap, sym, ◌∙◌, arith}
 use Rattle.std.specs.Prelude.{flat_map}
 use Rattle.std.proofs.lemmas.List.{reverse-append, append_assoc, map-append}
@@ -12,7 +12,7 @@ use Rattle.kore_sig.specs.Placing.{marks_of, plain_placed}
 use Rattle.kore_sig.specs.SignatureFaults.{Placed, placed_at, placed, name_behind}
 use Rattle.kore_sig.proofs.ListLaws.{drop_step}
 
--- the modules after the one before this place
+-- the modules from the place before this one on: the module there, and those from this place on
 pub behind : (modules : List Module) (i : ℕ) (m : Module) → 0 < i → i ≤ length modules → m ≡ get_or modules (i - 1) m → map plain_module (drop (i - 1) modules) ≡ plain_module m ∷ map plain_module (drop i modules)
 behind modules i m some within is =
     let lt : i - 1 < length modules = omega arith in
@@ -72,7 +72,7 @@ mark_at ms marks i m later b is lt at rest =
     sym (drop_step marks i b within at) ∙ ap (drop i) is ∙ drop_marks i ms ∙ ap marks_of rest in
     cc
 
--- the declarations of one module more
+-- the declarations with one more module
 pub placed_with : (names : List (List ℕ)) (m : ModuleTree) (later : List ModuleTree) (b : Bool) (so_far : List Placed) → b ≡ counts m later (counted later) → b ≡ true → (so_far ++ map (placed_at names) m.declarations) ++ placed (name_behind names m) later ≡ so_far ++ placed names (m ∷ later)
 placed_with names m later b so_far is holds =
     append_assoc so_far (map (placed_at names) m.declarations) (placed (name_behind names m) later)
@@ -82,7 +82,7 @@ pub placed_without : (names : List (List ℕ)) (m : ModuleTree) (later : List Mo
 placed_without names m later b so_far is fails =
     ap (λ c. so_far ++ (cond c (map (placed_at names) m.declarations) [] ++ placed (name_behind names m) later)) (sym fails ∙ is)
 
--- the declarations of placed ones
+-- the declarations of placed declarations
 pub declarations_of : (names : List (List ℕ)) (ps : List PlacedDecl) → map (λ (p : Placed). p.declaration) (map (plain_placed names) ps) ≡ map (λ (p : PlacedDecl). plain_declaration p.decl.now) ps
 declarations_of names [] = refl
 declarations_of names (p ∷ ps) = ap (λ ds. plain_declaration p.decl.now ∷ ds) (declarations_of names ps)

@@ -1,4 +1,4 @@
--- What is kept of the declarations so far, with one declaration more.
+-- What is kept of the declarations so far, and of one more.
 use Rattle.std.proofs.Common.{◌≡◌, ℕ, Bool, true, false, not, cond, List, [], ◌∷◌, ◌++◌, refl, ap, sym, ◌∙◌, subst}
 use Rattle.std.specs.Prelude.{Some, None, is_none, option_copied, if◌then◌else◌, flat_map, nat_lt, length, ◌==◌}
 use Rattle.std.specs.List.{AllZip}
@@ -81,7 +81,7 @@ grows_symbol known seen symbols symbols_behind d info is entry = record {
   sorts = λ ds e. e ∙ ap names_of (sym (entries_push ds (symbol_declaration d) ∙ append-nil (entries_in ds)));
 }
 
--- a declaration of neither
+-- a declaration that is neither a sort nor a symbol
 pub grows_not : (known : Known) (seen : List (List ℕ × Unit {0})) (symbols : List (List ℕ × SymInfo)) (d : Declaration) → declared_behind (before_of seen symbols) d ≡ before_of seen symbols → symbols_in (d ∷ []) ≡ [] → entries_in (d ∷ []) ≡ [] → Grows known seen symbols seen symbols d
 grows_not known seen symbols d behind none_declared none_sort = record {
   names = sym behind;

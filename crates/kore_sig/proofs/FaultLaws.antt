@@ -29,7 +29,7 @@ not_lt false P h never = refl
 pub lt_false : (a b : ℕ) → b ≤ a → nat_lt a b ≡ false
 lt_false a b h = not_lt (nat_lt a b) (a < b) (Decides-ltb a b).0 (λ lt. omega arith)
 
--- ---- the modules in front of one
+-- ---- the modules before one
 
 at_or_behind : (b : Bool) (i j : ℕ) (o : Option ℕ) → (o ≡ Some j → i + 1 ≤ j) → cond b (Some i) o ≡ Some j → i ≤ j
 at_or_behind true i j o rest e = let same : i ≡ j = cc in omega arith

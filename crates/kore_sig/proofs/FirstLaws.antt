@@ -1,4 +1,4 @@
--- The first of a set of faults is what is kept of it.
+-- The fault that is kept of a set of faults is the first of them.
 use Rattle.std.proofs.Common.{◌≡◌, ℕ, zero, suc, ◌<◌, ◌≤◌, Bool, true, false, cond, List, [], ◌∷◌, length, get_or, Option, Some, None, refl, sym, ◌∙◌, arith, subst, ◌⊎◌, inl, inr}
 use Rattle.std.specs.Prelude.{Contains, nat_lt, nat_le, ◌==◌, ◌||◌, ◌&&◌}
 use Rattle.std.proofs.lemmas.Bool.Decides.{Decides-ltb, Decides-eqb}
@@ -32,7 +32,8 @@ pub record IsOrder (leads : Fault → Fault → Bool) (Leads : Fault → Fault �
   pub trans : (f g h : Fault) → Leads f g → Leads g h → Leads f h
   pub same : (f : Fault) → Leads f f
 
--- a set that is no wider, and of which some item leads each of the wider one's, has the same first
+-- Two sets have the same first fault if the first set is part of the second, and each fault of the
+-- second is led by one of the first.
 widen : {leads : Fault → Fault → Bool} {Leads : Fault → Fault → Type 0} (order : IsOrder leads Leads) (P Q : Fault → Type 0) (o : Option Fault) → ((g : Fault) → P g → Q g) → ((g : Fault) → Q g → (h : Fault) × P h × Leads h g) → IsFirstBy Leads P o → IsFirstBy Leads Q o
 widen order P Q None into led first = λ g q. first (led g q).0 (led g q).1
 widen order P Q (Some f) into led first = (into f first.0, λ g q. order.trans f (led g q).0 g (first.1 (led g q).0 (led g q).1) (led g q).2)
@@ -52,7 +53,7 @@ into leads r x xs g (inr h) = inr (contains_there x g xs h)
 abbrev Led : (Fault → Fault → Type 0) → (Fault → Type 0) → Fault → Type 0
 Led Leads P g = (h : Fault) × P h × Leads h g
 
--- of two, the one that is kept leads both
+-- the one that is kept of two faults leads both
 led_first : {leads : Fault → Fault → Bool} {Leads : Fault → Fault → Type 0} (order : IsOrder leads Leads) (b : Bool) (f x : Fault) (xs : List Fault) → leads f x ≡ b → Led Leads (KeptOr (cond b (Some f) (Some x)) xs) f
 led_first order true f x xs e = (f, inl refl, order.same f)
 led_first order false f x xs e = (x, inl refl, order.total f x e)
@@ -90,7 +91,7 @@ unkept : (Leads : Fault → Fault → Type 0) (fs : List Fault) (o : Option Faul
 unkept Leads fs None first = λ g h. first g (inr h)
 unkept Leads fs (Some f) first = (elim first.0 [ inl e ↦ absurd (let never : ⊥ = cc in never) | inr h ↦ h ], λ g h. first.1 g (inr h))
 
--- what is noted of a list is its first
+-- the fault that is kept of a list is its first
 pub first_of_list : {leads : Fault → Fault → Bool} {Leads : Fault → Fault → Type 0} (order : IsOrder leads Leads) (fs : List Fault) → IsFirstBy Leads (Contains fs) (noted leads None fs)
 first_of_list {leads = leads} {Leads = Leads} order fs = unkept Leads fs (noted leads None fs) (first_noted order None fs)
 
@@ -107,7 +108,7 @@ or_false false true true e = absurd (let never : ⊥ = cc in never)
 or_false false true false e = (λ h. (let never : ⊥ = cc in never), λ h. (let never : ⊥ = cc h.1 in never))
 or_false false false c e = (λ h. (let never : ⊥ = cc in never), λ h. (let never : ⊥ = cc h.0 in never))
 
--- the order of pairs of numbers, the first number first
+-- the order of pairs of numbers by the first number, and then by the second
 abbrev Lexical : ℕ → ℕ → ℕ → ℕ → Type 0
 Lexical a b c d = (a < c) ⊎ ((a ≡ c) × (b ≤ d))
 

@@ -52,7 +52,7 @@ injection_found : (ds : List SymbolDeclaration) (d : SymbolDeclaration) → kind
 injection_found ds d e =
     named_found (find has_injection_form ds) d.name (named_by (is_named_so (injection_of ds) d.name) (has_attribute (codes "function") d.attributes) (has_attribute (codes "constructor") d.attributes) (length d.params == 0) (length d.params == 0) e)
 
--- ---- one declaration under a name
+-- ---- one declaration with a name
 
 none_at : (n : List ℕ) (es : List (List ℕ × SymInfo)) (f : ℕ) (e : List ℕ × SymInfo) → IsNoneOf n (names_of es) → slice_get es f ≡ Some e → n ≡ e.0 → ⊥
 none_at n [] f e none at same = let no : ⊥ = cc in no
@@ -144,7 +144,7 @@ injection_declared sorts ac ds all es f e d z distinct at found same =
     let read = form_read sorts d.params d.args d.result e.1.args.items e.1.result form.1 x.1.args x.1.result in
     record { parameters = x.1.params ∙ read.0; argument = read.1; result = read.2 }
 
--- each entry stands for a declaration
+-- each entry is that of a declaration
 pub entry_of : (sorts : List (List ℕ × SortInfo)) (i : Option (List ℕ)) (ac : List (List ℕ)) (ds : List SymbolDeclaration) (es : List (List ℕ × SymInfo)) (f : ℕ) (e : List ℕ × SymInfo) → AllZip (IsSymbolEntry sorts i ac) ds es → slice_get es f ≡ Some e → (d : SymbolDeclaration) × IsSymbolEntry sorts i ac d e
 entry_of sorts i ac ds [] f e h at = absurd (let never : ⊥ = cc in never)
 entry_of sorts i ac [] (x ∷ es) f e h at = absurd h

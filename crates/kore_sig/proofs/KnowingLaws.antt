@@ -49,7 +49,7 @@ pub distinct_last : (xs : List (List ℕ)) (n : List ℕ) → AreDistinct (xs ++
 distinct_last [] n h = refl
 distinct_last (x ∷ xs) n h = differ (bytes_eq n x) n x (is_among xs n) refl (none_last x xs n h.0) (distinct_last xs n h.1)
 
--- ---- one sort more
+-- ---- one more sort
 
 at_fresh : (b : Bool) (old new es : List (List ℕ × SortInfo)) (e : List ℕ × SortInfo) → b ≡ is_none (number_of old e.0) → new ≡ (if b then old ++ e ∷ [] else old) → is_some (number_of old e.0) ≡ false → old ≡ es → new ≡ es ++ e ∷ []
 at_fresh true old new es e fresh is none same = is ∙ ap (λ xs. xs ++ e ∷ []) same

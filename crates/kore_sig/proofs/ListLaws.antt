@@ -15,7 +15,7 @@ is_some-cond : {X : Type 0} (b : Bool) (x : X) (o : Option X) → is_some (cond 
 is_some-cond true x o = refl
 is_some-cond false x o = refl
 
--- a list has an item that passes exactly where a first one is found
+-- a list has an item that passes a test if and only if a first one is found
 pub is_some-find : {X : Type 0} (test : X → Bool) (xs : List X) → is_some (find test xs) ≡ list_any test xs
 is_some-find test [] = refl
 is_some-find test (x ∷ xs) =
@@ -29,7 +29,7 @@ take_step xs i x lt is = take_more xs i x lt ∙ ap (λ y. take i xs ++ y ∷ []
 pub drop_step : {X : Type 0} (xs : List X) (i : ℕ) (x : X) → i < length xs → x ≡ get_or xs i x → drop i xs ≡ x ∷ drop (i + 1) xs
 drop_step xs i x lt is = drop_more xs i x lt ∙ ap (λ y. y ∷ drop (i + 1) xs) (sym is)
 
--- of the items so far h keeps one more
+-- if h keeps the next item, it keeps one more of the items so far
 pub filter_map_some : {X Y Z : Type 0} (f : X → Y) (h : Y → Option Z) (xs : List X) (i : ℕ) (x : X) (z : Z) → i < length xs → x ≡ get_or xs i x → h (f x) ≡ Some z → filter_map h (map f (take (i + 1) xs)) ≡ filter_map h (map f (take i xs)) ++ z ∷ []
 filter_map_some f h xs i x z lt is e =
     ap (λ ys. filter_map h (map f ys)) (take_step xs i x lt is)
@@ -37,7 +37,7 @@ filter_map_some f h xs i x z lt is e =
     ∙ filter_map-append h (map f (take i xs)) (f x ∷ [])
     ∙ ap (λ o. filter_map h (map f (take i xs)) ++ cons_option o []) e
 
--- .. or no more
+-- if h does not keep the next item, it keeps no more
 pub filter_map_none : {X Y Z : Type 0} (f : X → Y) (h : Y → Option Z) (xs : List X) (i : ℕ) (x : X) → i < length xs → x ≡ get_or xs i x → h (f x) ≡ None → filter_map h (map f (take (i + 1) xs)) ≡ filter_map h (map f (take i xs))
 filter_map_none f h xs i x lt is e =
     ap (λ ys. filter_map h (map f ys)) (take_step xs i x lt is)
@@ -74,12 +74,12 @@ rest_nil : {X : Type 0} (xs ys : List X) → xs ++ ys ≡ [] → ys ≡ []
 rest_nil [] ys e = e
 rest_nil (x ∷ xs) ys e = absurd (let never : ⊥ = cc in never)
 
--- where nothing comes of any item, nothing comes of one
+-- if all items together give nothing, each of them gives nothing
 pub flat_nil_at : {X Y Z : Type 0} (F : Y → List Z) (f : X → Y) (xs : List X) (i : ℕ) (x : X) → i < length xs → x ≡ get_or xs i x → flat_map F (map f xs) ≡ [] → F (f x) ≡ []
 flat_nil_at F f [] i x lt is e = absurd (omega arith)
 flat_nil_at F f (y ∷ ys) zero x lt is e = ap (λ z. F (f z)) is ∙ first_nil (F (f y)) (flat_map F (map f ys)) e
 flat_nil_at F f (y ∷ ys) (suc i) x lt is e = flat_nil_at F f ys i x (omega arith) is (rest_nil (F (f y)) (flat_map F (map f ys)) e)
 
--- a list by one of its items
+-- a list, split at one of its items
 pub split_at : {X : Type 0} (xs : List X) (i : ℕ) (x : X) → i < length xs → x ≡ get_or xs i x → xs ≡ take i xs ++ x ∷ drop (i + 1) xs
 split_at xs i x lt is = sym (take-append-drop i xs) ∙ ap (λ ys. take i xs ++ ys) (drop_step xs i x lt is)

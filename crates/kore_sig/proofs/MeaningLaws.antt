@@ -1,4 +1,4 @@
--- The signature of a definition from what is known of its declarations.
+-- The signature of a definition, from what is known of its declarations.
 use Rattle.std.proofs.Common.{◌≡◌, ℕ, zero, suc, ◌<◌, List, [], ◌∷◌, ◌++◌, map, length, slice_get, Option, Some, None, refl, ap, sym, ◌∙◌, arith, subst}
 use Rattle.std.specs.Prelude.{is_some, option_map, flat_map, ◌||◌, All, nat_lt}
 use Rattle.std.specs.List.{AllZip, AllByRecursion}
@@ -29,7 +29,7 @@ use Rattle.kore_sig.proofs.OrderLaws.{first_in_same}
 use Rattle.kore_sig.proofs.PairLaws.{number_of_sort}
 use Rattle.kore_sig.proofs.SetLaws.{number_among}
 
--- ---- sorts under the same names
+-- ---- sorts with the same names
 
 number_known : (table entries : List (List ℕ × SortInfo)) → Knows table (names_of entries) → (n : List ℕ) → is_some (number_of table n) ≡ is_some (number_of entries n)
 number_known table entries knows n = knows n ∙ sym (number_among entries n)
@@ -60,12 +60,12 @@ faults_known table entries knows before earlier (alias_declaration d) = refl
 faults_known table entries knows before earlier (axiom_declaration d) = refl
 faults_known table entries knows before earlier (claim_declaration d) = refl
 
--- the first fault is the same
+-- the first fault is the same by both tables
 pub first_known : (table entries : List (List ℕ × SortInfo)) → Knows table (names_of entries) → (before : Before) (ps : List Placed) → first_declared table before ps ≡ first_declared entries before ps
 first_known table entries knows before ps =
     first_in_same (placed_faults table) (placed_faults entries) placed_behind (λ b p. faults_known table entries knows b p.earlier p.declaration) before ps
 
--- ---- entries by what is known
+-- ---- entries, from what is known
 
 allzip_map : {X Y : Type 0} (R S : X → Y → Type 0) → ((x : X) (y : Y) → R x y → S x y) → (xs : List X) (ys : List Y) → AllZip R xs ys → AllZip S xs ys
 allzip_map R S h [] [] z = tt
@@ -87,7 +87,7 @@ same_entry sorts i j ac bc injection among d e h = record {
 pub same_entries : (sorts : List (List ℕ × SortInfo)) (i j : Option (List ℕ)) (ac bc : List (List ℕ)) → i ≡ j → ((n : List ℕ) → is_among ac n ≡ is_among bc n) → (ds : List SymbolDeclaration) (es : List (List ℕ × SymInfo)) → AllZip (IsSymbolEntry sorts i ac) ds es → AllZip (IsSymbolEntry sorts j bc) ds es
 same_entries sorts i j ac bc injection among = allzip_map (IsSymbolEntry sorts i ac) (IsSymbolEntry sorts j bc) (same_entry sorts i j ac bc injection among)
 
--- ---- what a signature refers to is there
+-- ---- what a signature refers to exists
 
 parameter_there : (sig : Signature) (params : List (List ℕ)) (o : Option ℕ) (r : SortRef) → ((j : ℕ) → o ≡ Some j → j < length params) → Some r ≡ option_map Param o → IsReference sig (length params) r
 parameter_there sig params None r within e = absurd (let never : ⊥ = cc in never)

@@ -1,4 +1,4 @@
--- The first fault of things that come one after the other, computed.
+-- The first fault of things that come one after another, computed.
 use Rattle.std.proofs.Common.{◌≡◌, List, [], ◌∷◌, Option, Some, None, refl, ap, ◌∙◌, inl, inr}
 use Rattle.std.specs.Option.{option_or}
 use Rattle.std.specs.Prelude.{Contains}
@@ -26,14 +26,14 @@ first_in_same F G next same s [] = refl
 first_in_same F G next same s (x ∷ xs) =
     ap (λ fs. option_or (first_by_number fs) (first_in F next (next s x) xs)) (same s x) ∙ ap (option_or (first_by_number (G s x))) (first_in_same F G next same (next s x) xs)
 
--- the fault of one thing, and the rest without it
+-- the fault of one thing if it has one, else that of the rest
 pub or_some : (a b : Option Fault) (f : Fault) → a ≡ Some f → option_or a b ≡ Some f
 or_some a b f e = ap (λ o. option_or o b) e
 
 pub or_none : (a b : Option Fault) → a ≡ None → option_or a b ≡ b
 or_none a b e = ap (λ o. option_or o b) e
 
--- a fault is answered, never none
+-- the error is always a fault
 pub refuses_some : (P Q : Option Fault → Type 0) (f : SigFault) → ((g : Fault) → P (Some g) → Q (Some g)) → Refuses P f → Refuses Q f
 refuses_some P Q (Import at) h p = h _ p
 refuses_some P Q (Duplicate at) h p = h _ p

@@ -1,4 +1,4 @@
--- Laws of the pairs of sorts: the first fault of one, and pairs one after the other.
+-- Laws of the pairs of sorts: the first fault of one pair, and of pairs one after another.
 use Rattle.std.proofs.Common.{◌≡◌, ℕ, ◌+◌, ◌<◌, ◌≤◌, Bool, true, false, cond, List, [], ◌∷◌, ◌++◌, map, take, drop, get_or, Option, Some, None, refl, ap, sym, ◌∙◌, arith, subst, inl, inr, min}
 use Rattle.std.proofs.lemmas.Bool.{leb-true, le-leb}
 use Rattle.std.specs.Prelude.{nat_le, length, Contains, is_some, flat_map, filter_map}
@@ -64,7 +64,7 @@ leads_others : (sorts : List (List ℕ × SortInfo)) (before : List (ℕ × ℕ)
 leads_others sorts before p byte law g (unknown_sort h) = law g h
 leads_others sorts before p byte law _ (cycle ea eb never) = inl (omega arith)
 
--- a sort of the pair is not known
+-- a sort of the pair is not declared
 pub first_unknown_sort : (sorts : List (List ℕ × SortInfo)) (before : List (ℕ × ℕ)) (p : SubsortPair) (byte : ℕ) → first_by_number (number_faults sorts p.lower ++ number_faults sorts p.upper) ≡ fault_at 6 byte → IsFirstBy ByNumber (HasPairFault sorts before p) (fault_at 6 byte)
 first_unknown_sort sorts before p byte e =
     let fs = number_faults sorts p.lower ++ number_faults sorts p.upper in
@@ -85,7 +85,7 @@ no_pair_fault sorts before p a b ea eb fine _ (cycle {a = a'} {b = b'} ea' eb' n
     let right : b ≡ b' = cc in
     never (subst (λ (y : ℕ). HasNoCycle (before ++ (a', y) ∷ [])) right (subst (λ (x : ℕ). HasNoCycle (before ++ (x, b) ∷ [])) left fine))
 
--- ---- one after the other
+-- ---- one after another
 
 pub then_next : (P Q : Option Fault → Type 0) (r : Option Fault) → P None → Q r → Then P Q r
 then_next P Q None p q = (p, q)
@@ -118,7 +118,7 @@ pub passes_at : (sorts : List (List ℕ × SortInfo)) (before behind behind' : L
 passes_at sorts before behind behind' xs ys e f h =
     subst (λ (ns : List (ℕ × ℕ)). Passes sorts before ns ys) (sym e) (subst (Passes sorts before behind) (sym f) h)
 
--- ---- what is answered
+-- ---- the error
 
 pub refuses_map : (P Q : Option Fault → Type 0) (f : SigFault) → ((r : Option Fault) → P r → Q r) → Refuses P f → Refuses Q f
 refuses_map P Q (Import at) h p = h _ p
@@ -139,7 +139,7 @@ pub number_of_sort : (sorts : List (List ℕ × SortInfo)) (s : SortTree) (n : �
 number_of_sort sorts (sort_parameter at name) n e = absurd (let never : ⊥ = cc in never)
 number_of_sort sorts (sort_applied at name args) n e = declared_within sorts name (listed_sorts args) n e
 
--- ---- pairs so far, and one item more
+-- ---- the pairs so far, and one more item
 
 -- the pairs of the attributes so far
 pub attribute_pairs : (at : ℕ) (ps : List PatternTree) (p : PatternTree) → map (pair_at at) (subsort_pairs (ps ++ p ∷ [])) ≡ map (pair_at at) (subsort_pairs ps) ++ map (pair_at at) (subsort_pairs (p ∷ []))
@@ -148,12 +148,12 @@ attribute_pairs at ps p = ap (map (pair_at at)) (filter_map-append subsort_sorts
 pub pairs_push : (ds : List Declaration) (d : Declaration) → pairs_in (ds ++ d ∷ []) ≡ pairs_in ds ++ pairs_in (d ∷ [])
 pairs_push ds d = ap (flat_map pairs_of_axiom) (filter_map-append axiom_declared ds (d ∷ [])) ∙ flat_map-append pairs_of_axiom (filter_map axiom_declared ds) (filter_map axiom_declared (d ∷ []))
 
--- a first fault after pairs that pass is that of all
+-- the first fault of pairs after others that have none is the first fault of all
 pub first_behind : (sorts : List (List ℕ × SortInfo)) (before behind : List (ℕ × ℕ)) (xs : List SubsortPair) (f : SigFault) (rest : List SubsortPair) → Passes sorts before behind xs → Refuses (λ r. FirstFrom sorts behind rest r) f → Refuses (λ r. FirstFrom sorts before (xs ++ rest) r) f
 first_behind sorts before behind xs f rest passes first =
     refuses_map (λ r. FirstFrom sorts behind rest r) (λ r. FirstFrom sorts before (xs ++ rest) r) f (λ r h. passes.first rest r h) first
 
--- the pairs of attributes, by one that states a pair
+-- the pairs of attributes, split at one that states a pair
 pub split_pairs : (at : ℕ) (attrs : List Pat) (i : ℕ) (x : Pat) (lower upper : SortTree) → i < length attrs → x ≡ get_or attrs i x → Some (lower, upper) ≡ subsort_sorts (plain_pattern x)
     → map (pair_at at) (subsort_pairs (map plain_pattern attrs)) ≡ map (pair_at at) (subsort_pairs (map plain_pattern (take i attrs))) ++ record { at = at; lower = lower; upper = upper } ∷ map (pair_at at) (subsort_pairs (map plain_pattern (drop (i + 1) attrs)))
 split_pairs at attrs i x lower upper lt is e =
@@ -165,7 +165,7 @@ split_pairs at attrs i x lower upper lt is e =
     ∙ map-append (pair_at at) (subsort_pairs front) (subsort_pairs (plain_pattern x ∷ rest))
     ∙ ap (λ (o : Option (SortTree × SortTree)). map (pair_at at) (subsort_pairs front) ++ map (pair_at at) (cons_option o (subsort_pairs rest))) (sym e)
 
--- the pairs of declarations, by one of them
+-- the pairs of declarations, split at one of them
 pub split_order : (f : Placed → Declaration) (decls : List Placed) (i : ℕ) (x : Placed) → i < length decls → x ≡ get_or decls i x
     → pairs_in (map f decls) ≡ pairs_in (map f (take i decls)) ++ (pairs_in (f x ∷ []) ++ pairs_in (map f (drop (i + 1) decls)))
 split_order f decls i x lt is =

@@ -23,14 +23,14 @@ pub any_name : {V : Type 0} (entries : List (List ℕ × V)) (n : List ℕ) → 
 any_name [] n = refl
 any_name (e ∷ entries) n = ap (λ (b : Bool). bytes_eq n e.0 || b) (any_name entries n)
 
--- a name has a number exactly where it is among the names
+-- a name has a number if and only if it is among the names
 pub number_among : {V : Type 0} (entries : List (List ℕ × V)) (n : List ℕ) → is_some (number_of entries n) ≡ is_among (names_of entries) n
 number_among {V} entries n = some_position (λ (e : List ℕ × V). bytes_eq n e.0) 0 entries ∙ any_name entries n
 
 pub among_append : (xs ys : List (List ℕ)) (n : List ℕ) → is_among (xs ++ ys) n ≡ (is_among xs n || is_among ys n)
 among_append xs ys n = list_any-append (bytes_eq n) xs ys
 
--- in front or after is the same
+-- the order of two lists of names does not matter
 pub among_swap : (xs ys : List (List ℕ)) (n : List ℕ) → is_among (xs ++ ys) n ≡ is_among (ys ++ xs) n
 among_swap xs ys n = among_append xs ys n ∙ or_comm (is_among xs n) (is_among ys n) ∙ sym (among_append ys xs n)
 
@@ -42,7 +42,7 @@ or_true : (b : Bool) → (b || true) ≡ true
 or_true true = refl
 or_true false = refl
 
--- a name that the set has already adds nothing
+-- adding a name that the set already has changes nothing
 one_more : (b : Bool) (has : List ℕ → Bool) (n name : List ℕ) → bytes_eq n name ≡ b → has name ≡ true → has n ≡ (has n || (b || false))
 one_more true has n name same there =
     ap has ((bytes_eq-Decides n name).0 same) ∙ there ∙ sym (or_true (has n))
@@ -73,6 +73,6 @@ knows_more false old new name v known fresh is knows n =
 pub knows_same : {V : Type 0} (old new : List (List ℕ × V)) (xs ys : List (List ℕ)) → new ≡ old → xs ≡ ys → Knows old xs → Knows new ys
 knows_same old new xs ys e f h n = ap (λ es. is_some (number_of es n)) e ∙ h n ∙ ap (λ ns. is_among ns n) f
 
--- what stands in front may stand after
+-- the order of two lists of names does not matter for a set
 pub knows_swap : {V : Type 0} (es : List (List ℕ × V)) (xs ys : List (List ℕ)) → Knows es (xs ++ ys) → Knows es (ys ++ xs)
 knows_swap es xs ys h n = h n ∙ among_swap xs ys n

@@ -1,4 +1,4 @@
--- The children of a tree that is made of a list.
+-- The children of a tree that is made from a list.
 use Rattle.std.proofs.Common.{◌≡◌, List, [], ◌∷◌, refl, ap}
 use Rattle.kore_text.specs.Trees.{SortTree, sort_trees, listed_sorts, PatternTree, pattern_trees, listed_patterns}
 

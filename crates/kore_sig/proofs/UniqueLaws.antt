@@ -1,4 +1,5 @@
--- The first of a set is one, also of stages and of things in order; and a definition has one signature.
+-- The first fault of a set, of stages, or of things in order is unique. A definition has one
+-- signature.
 use Rattle.std.proofs.Common.{◌≡◌, ℕ, List, [], ◌∷◌, map, Option, Some, None, refl, ap, sym, ◌∙◌, arith, inl, inr, subst}
 use Rattle.std.specs.Prelude.{Contains}
 use Rattle.std.specs.List.{AllZip}
@@ -47,7 +48,7 @@ first_one P q r = first_same ByNumber number_antisymmetric P P q r (λ f h. h) (
 abbrev pub IsOne : (Option Fault → Type 0) → Type 0
 IsOne P = (q r : Option Fault) → P q → P r → q ≡ r
 
--- none and some cannot both be
+-- there cannot be both none and some
 none_or_some : (P : Option Fault → Type 0) (f : Fault) → IsOne P → P None → P (Some f) → ⊥
 none_or_some P f one p q = let e : None ≡ Some f = one None (Some f) p q in let never : ⊥ = cc in never
 

@@ -38,7 +38,7 @@ declared_first definition ds known ps r counted is where_ first =
     subst (λ (qs : List Placed). FirstOfDeclarations (sort_entries definition) qs r) where_
     (subst (λ (xs : List Declaration). FirstOfDeclarations (entries_in xs) ps r) counted (declarations_first (entries_in ds) ps r same))
 
--- the table is just the declared sorts
+-- the table has exactly the declared sorts
 pub table_is : (definition : DefinitionTree) (ds : List Declaration) (known : Known) → ds ≡ counted_declarations definition → IsKnown ds known → AreDistinct (names_of (entries_in ds)) → known.sorts ≡ sort_entries definition
 table_is definition ds known counted is distinct = is.sorts.same distinct ∙ ap entries_in counted
 

@@ -1,12 +1,13 @@
--- Attributes (Kore language document, "Attributes"; K framework, the attributes that its compiler writes). An attribute
--- goes by its name alone, whatever sorts and arguments it has, but where its text or its sorts are asked for.
+-- Attributes (Kore language document, "Attributes"; K framework, the attributes that its compiler
+-- writes). Only the name of an attribute counts, whatever its sorts and arguments, except where its
+-- text or its sorts are needed.
 use Rattle.std.specs.Prelude.{ℕ, Bool, false, ◌||◌, List, [], ◌∷◌, Option, Some, None, option_map, unwrap_or, find}
 use Rattle.std.specs.Prelude.{filter_map, if◌then◌else◌, codes}
 use Rattle.std.specs.List.{list_any}
 use Rattle.std.specs.Str.{bytes_eq}
 use Rattle.kore_text.specs.Trees.{SortTree, listed_sorts, PatternTree, string, symbol_applied, listed_patterns}
 
--- an attribute of this name
+-- the pattern is an attribute with this name
 abbrev pub is_named : List ℕ → PatternTree → Bool
 is_named name (symbol_applied at n sorts arguments) = bytes_eq n name
 is_named name p = false
@@ -15,16 +16,16 @@ is_named name p = false
 abbrev pub has_attribute : List ℕ → List PatternTree → Bool
 has_attribute name attributes = list_any (is_named name) attributes
 
--- the first attribute of this name: of several it is the one that counts
+-- the first attribute with this name; if there are several, only this one counts
 abbrev pub first_of_name : List ℕ → List PatternTree → Option PatternTree
 first_of_name name attributes = find (is_named name) attributes
 
--- the text that a pattern is
+-- the text of a pattern that is a string
 abbrev pub text_itself : PatternTree → Option (List ℕ)
 text_itself (string at text) = Some text
 text_itself p = None
 
--- the text that is the only one of these
+-- the text of the only pattern, if it is a string
 abbrev pub only_text : List PatternTree → Option (List ℕ)
 only_text [] = None
 only_text (p ∷ []) = text_itself p
@@ -35,7 +36,7 @@ abbrev pub text_of : PatternTree → Option (List ℕ)
 text_of (symbol_applied at n sorts arguments) = only_text (listed_patterns arguments)
 text_of p = None
 
--- the name of the hook; the empty text, which names no hook, where the attribute has no text
+-- the name of the hook; the empty text, which names no hook, if the attribute has no text
 abbrev pub hook_of : List PatternTree → Option (List ℕ)
 hook_of attributes =
     option_map (λ (a : PatternTree). unwrap_or (text_of a) []) (first_of_name (codes "hook") attributes)
@@ -46,7 +47,7 @@ is_said_ac attributes =
     has_attribute (codes "assoc") attributes || has_attribute (codes "comm") attributes
     || has_attribute (codes "unit") attributes || has_attribute (codes "idem") attributes
 
--- the two sorts of `subsort{A,B}()`: the lower and the upper one
+-- the two sorts of `subsort{A,B}()`: the lower one and the upper one
 abbrev pub stated_pair : List ℕ → List SortTree → List PatternTree → Option (SortTree × SortTree)
 stated_pair name (lower ∷ (upper ∷ [])) [] = if bytes_eq name (codes "subsort") then Some (lower, upper) else None
 stated_pair name sorts arguments = None

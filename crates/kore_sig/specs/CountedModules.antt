@@ -1,5 +1,6 @@
--- Which modules count (Kore language document, "Modules and declarations"): the main module, which is the last one of
--- the definition, and what it reaches by imports. An import names a module that stands earlier.
+-- Which modules count (Kore language document, "Modules and declarations"). These are the main
+-- module, which is the last one of the definition, and the modules that it reaches by imports. An
+-- import names an earlier module.
 use Rattle.std.specs.Prelude.{ℕ, Bool, true, List, [], ◌∷◌, Option, Some, None, flat_map, filter_map, if◌then◌else◌}
 use Rattle.kore_text.specs.Trees.{Declaration, import_declaration, ModuleTree, DefinitionTree}
 use Rattle.kore_sig.specs.Names.{is_among}
@@ -12,7 +13,8 @@ import_name d = None
 abbrev pub imports_of : ModuleTree → List (List ℕ)
 imports_of m = filter_map import_name m.declarations
 
--- a module counts, where these stand after it, of which those count: it is the last, or one that counts imports it
+-- Whether a module counts, from the modules after it and from those of them that count. It counts
+-- if it is the last one, or if one that counts imports it.
 abbrev pub counts : ModuleTree → List ModuleTree → List ModuleTree → Bool
 counts m [] counted_later = true
 counts m (next ∷ later) counted_later = is_among (flat_map imports_of counted_later) m.name

@@ -1,4 +1,4 @@
--- The declarations, one after the other.
+-- The declarations, one after another.
 use Rattle.std.specs.Prelude.{◌≡◌, ℕ, List, [], ◌∷◌, ◌++◌, Option, Some, None, option_copied}
 use Rattle.std.specs.List.{AllZip}
 use Rattle.rule_core.specs.Named.{names_of}
@@ -14,12 +14,12 @@ use Rattle.kore_sig.specs.Signatures.{IsSymbolEntry}
 use Rattle.kore_sig.specs.declared.faults.SigFault.{SigFault}
 use Rattle.kore_sig.specs.declared.known.Known.{Known}
 
--- the answer is this first fault
+-- the result is this first fault, or None if there is none
 abbrev pub Answers : Option Fault → Option SigFault → Type 0
 Answers first None = first ≡ None
 Answers first (Some fault) = Refuses (λ r. first ≡ r) fault
 
--- the names in front of a declaration, as they are kept
+-- the names that are declared before a declaration, from the tables that keep them
 abbrev pub before_of : List (List ℕ × Unit {0}) → List (List ℕ × SymInfo) → Before
 before_of seen symbols = record { sorts = names_of seen; symbols = names_of symbols }
 
@@ -33,12 +33,12 @@ placed_behind before p = declared_behind before p.declaration
 abbrev pub first_declared : List (List ℕ × SortInfo) → Before → List Placed → Option Fault
 first_declared sorts before ps = first_in (placed_faults sorts) placed_behind before ps
 
--- the symbols that these declarations declare, by what is known of all
+-- the symbols that these declarations declare, from what is known of all declarations
 abbrev pub AreSymbols : Known → List Declaration → List (List ℕ × SymInfo) → Type 0
 AreSymbols known ds symbols =
     AllZip (IsSymbolEntry known.sorts (option_copied known.injection) (names_of known.ac)) (symbols_in ds) symbols
 
--- what is kept of the declarations so far, with one declaration more
+-- what is kept of the declarations so far, and what is kept after one more declaration
 pub record Grows (known : Known) (seen : List (List ℕ × Unit {0})) (symbols : List (List ℕ × SymInfo))
     (seen_behind : List (List ℕ × Unit {0})) (symbols_behind : List (List ℕ × SymInfo)) (d : Declaration) : Type 0 where
   pub names : before_of seen_behind symbols_behind ≡ declared_behind (before_of seen symbols) d

@@ -1,4 +1,4 @@
--- What is known of all declarations before each is looked at.
+-- What is known of all declarations before each of them is checked.
 use Rattle.std.specs.Prelude.{◌≡◌, ℕ, List, map, filter_map, option_copied}
 use Rattle.rule_core.specs.Named.{names_of, AreDistinct}
 use Rattle.rule_core.specs.declared.signature.SortInfo.{SortInfo}
@@ -18,7 +18,8 @@ symbols_in ds = filter_map symbol_declared ds
 abbrev pub ac_in : List Declaration → List (List ℕ)
 ac_in ds = filter_map said_ac (filter_map axiom_declared ds)
 
--- the table has a sort under each declared name, and just the declared sorts where no name stands twice
+-- The table has a sort for each declared name. If no name is declared twice, it has exactly the
+-- declared sorts.
 pub record IsSortTable (ds : List Declaration) (sorts : List (List ℕ × SortInfo)) : Type 0 where
   pub known : Knows sorts (names_of (entries_in ds))
   pub same : AreDistinct (names_of (entries_in ds)) → sorts ≡ entries_in ds

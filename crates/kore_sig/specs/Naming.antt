@@ -1,10 +1,10 @@
--- The names of the modules, one after the other.
+-- The names of the modules, one after another.
 use Rattle.std.specs.Prelude.{ℕ, List, Option}
 use Rattle.kore_text.specs.Trees.{ModuleTree}
 use Rattle.kore_sig.specs.FirstFault.{Fault}
 use Rattle.kore_sig.specs.Noted.{first_in}
 use Rattle.kore_sig.specs.SignatureFaults.{module_faults, name_behind}
 
--- the first fault of the names of these modules, where those names stand in front of them
+-- the first fault of the names of these modules, if the modules before them have those names
 abbrev pub first_module : List (List ℕ) → List ModuleTree → Option Fault
 first_module names modules = first_in module_faults name_behind names modules

@@ -1,4 +1,4 @@
--- Which modules count, module by module, and declarations by the number of their module.
+-- Which modules count, module by module, and declarations with the number of their module.
 use Rattle.std.specs.Prelude.{ℕ, Bool, List, [], ◌∷◌, map, take}
 use Rattle.kore_text.specs.Trees.{ModuleTree}
 use Rattle.kore_ast.specs.Plain.{plain_declaration}
@@ -15,6 +15,6 @@ marks_of (m ∷ later) = counts m later (counted later) ∷ marks_of later
 abbrev pub names_of_modules : List Module → List (List ℕ)
 names_of_modules modules = map (λ (m : Module). m.name) modules
 
--- a declaration beside the names of the modules in front of its own
+-- a declaration with the names of the modules before its own
 abbrev pub plain_placed : List (List ℕ) → Placed → PlacedTree
 plain_placed names p = record { earlier = take p.module_index names; declaration = plain_declaration p.decl.now }

@@ -1,4 +1,4 @@
--- The number and the byte of what is answered for a definition without a signature.
+-- The number and the byte of the error for a definition without a signature.
 use Rattle.std.specs.Prelude.{ℕ, Option, Some}
 use Rattle.kore_text.specs.Trees.{DefinitionTree}
 use Rattle.kore_sig.specs.FirstFault.{Fault}
@@ -10,7 +10,7 @@ use Rattle.kore_sig.specs.declared.faults.SigFault.TheVariants.{SubsortCycle, Me
 abbrev pub fault_at : ℕ → ℕ → Option Fault
 fault_at number byte = Some (record { number = number; byte = byte })
 
--- P holds of the fault that is answered; out of memory says nothing
+-- P holds for the fault of the error; nothing is said if memory ran out
 abbrev pub Refuses : (Option Fault → Type 0) → SigFault → Type 0
 Refuses P (Import at) = P (fault_at 4 at)
 Refuses P (Duplicate at) = P (fault_at 5 at)
@@ -20,6 +20,6 @@ Refuses P (SortParameter at) = P (fault_at 10 at)
 Refuses P (SubsortCycle at) = P (fault_at 24 at)
 Refuses P Memory = Unit {0}
 
--- what is answered is the first fault of the definition
+-- the error is the first fault of the definition
 abbrev pub IsRefusal : DefinitionTree → SigFault → Type 0
 IsRefusal definition fault = Refuses (FirstOfSignature definition) fault

@@ -1,6 +1,7 @@
--- The faults of the declarations of a definition, and the first of them: first the names of all modules, then the
--- declarations of the modules that count, then the pairs of sorts. Each of these goes in the order of the file. At one
--- declaration the smallest number comes first, of one number the first byte.
+-- The faults of the declarations of a definition, and the first of them. The names of all modules
+-- come first, then the declarations of the modules that count, then the pairs of sorts. Each of
+-- these is in the order of the file. At one declaration the smallest number comes first, and for
+-- the same number the first byte.
 use Rattle.std.specs.Prelude.{◌≡◌, ◌==◌, ℕ, List, [], ◌∷◌, ◌++◌, length, map, flat_map, Contains, Option, Some, None}
 use Rattle.std.specs.Prelude.{is_some, if◌then◌else◌, nat_lt}
 use Rattle.kore_text.specs.Trees.{SortTree, ImportDeclaration, SortDeclaration, SymbolDeclaration, Declaration}
@@ -15,7 +16,7 @@ use Rattle.kore_sig.specs.SortReferences.{sort_entries, sort_reference, sort_num
 
 -- ---- the names of the modules
 
--- 5 at the keyword of a module: one in front of it has its name
+-- 5 at the keyword of a module: an earlier one has its name
 abbrev pub module_faults : List (List ℕ) → ModuleTree → List Fault
 module_faults names m = when (is_among names m.name) 5 m.at
 
@@ -28,7 +29,7 @@ FirstOfModules modules r =
 
 -- ---- the declarations
 
--- a declaration, and the names of the modules that stand in front of its own
+-- a declaration, and the names of the modules before its own
 pub record Placed : Type 0 where
   pub earlier : List (List ℕ)
   pub declaration : Declaration
@@ -36,23 +37,23 @@ pub record Placed : Type 0 where
 abbrev pub placed_at : List (List ℕ) → Declaration → Placed
 placed_at names d = record { earlier = names; declaration = d }
 
--- the declarations of the modules that count, where modules of these names stand in front
+-- the declarations of the modules that count, if the modules before them have these names
 abbrev pub placed : List (List ℕ) → List ModuleTree → List Placed
 placed names [] = []
 placed names (m ∷ later) =
     (if counts m later (counted later) then map (placed_at names) m.declarations else [])
     ++ placed (name_behind names m) later
 
--- the names that are declared in front of a declaration
+-- the names that are declared before a declaration
 pub record Before : Type 0 where
   pub sorts : List (List ℕ)
   pub symbols : List (List ℕ)
 
--- 4 at the keyword: no module in front of this one has the name
+-- 4 at the keyword: no earlier module has the name
 abbrev pub import_faults : List (List ℕ) → ImportDeclaration → List Fault
 import_faults earlier d = unless (is_among earlier d.name) 4 d.at
 
--- 5 at the keyword: a sort in front of it has the name; 10 at the keyword: it has parameters
+-- 5 at the keyword: an earlier sort has the name; 10 at the keyword: it has parameters
 abbrev pub sort_faults : List (List ℕ) → SortDeclaration → List Fault
 sort_faults names d = when (is_among names d.name) 5 d.at ++ unless (length d.params == 0) 10 d.at
 
@@ -60,26 +61,26 @@ sort_faults names d = when (is_among names d.name) 5 d.at ++ unless (length d.pa
 abbrev pub reference_faults : List (List ℕ × SortInfo) → List (List ℕ) → SortTree → List Fault
 reference_faults sorts params s = unless (is_some (sort_reference sorts params s)) 6 (sort_place s)
 
--- the most arguments of a symbol
+-- the greatest number of arguments of a symbol
 abbrev pub most_arguments : ℕ
 most_arguments = 64
 
--- 5 at the keyword: a symbol in front of it has the name; 6 at the name of a sort; 8 at the keyword: it has too many
--- arguments
+-- 5 at the keyword: an earlier symbol has the name; 6 at the name of a sort; 8 at the keyword: it
+-- has too many arguments
 abbrev pub symbol_faults : List (List ℕ × SortInfo) → List (List ℕ) → SymbolDeclaration → List Fault
 symbol_faults sorts names d =
     when (is_among names d.name) 5 d.at
     ++ flat_map (reference_faults sorts d.params) (d.args ++ d.result ∷ [])
     ++ when (nat_lt most_arguments (length d.args)) 8 d.at
 
--- the faults of a declaration, where these names stand in front of it
+-- the faults of a declaration, if these names are declared before it
 abbrev pub declaration_faults : List (List ℕ × SortInfo) → Before → List (List ℕ) → Declaration → List Fault
 declaration_faults sorts before earlier (import_declaration d) = import_faults earlier d
 declaration_faults sorts before earlier (sort_declaration d) = sort_faults before.sorts d
 declaration_faults sorts before earlier (symbol_declaration d) = symbol_faults sorts before.symbols d
 declaration_faults sorts before earlier d = []
 
--- the names that are declared after it
+-- the names that are declared before the next declaration
 abbrev pub declared_behind : Before → Declaration → Before
 declared_behind before (sort_declaration d) = record before { sorts = before.sorts ++ d.name ∷ [] }
 declared_behind before (symbol_declaration d) = record before { symbols = before.symbols ++ d.name ∷ [] }
@@ -95,12 +96,13 @@ FirstOfDeclarations sorts declarations r =
 
 -- ---- the pairs of sorts
 
--- 6 at the sort's name: it is not declared, or it is a parameter or has arguments
+-- 6 at the sort's name: it is not declared, is a parameter, or has arguments
 abbrev pub number_faults : List (List ℕ × SortInfo) → SortTree → List Fault
 number_faults sorts s = unless (is_some (sort_number sorts s)) 6 (sort_place s)
 
--- a fault of a pair, where these pairs stand in front of it: 6 at the name of a sort that is not declared or has
--- arguments, or 24 at the keyword of the axiom, where the pair makes a sort be below itself
+-- A fault of a pair, if these pairs come before it. It is 6 at the name of a sort that is not
+-- declared, is a parameter, or has arguments. It is 24 at the keyword of the axiom if the pair puts
+-- a sort below itself.
 pub data HasPairFault (sorts : List (List ℕ × SortInfo)) (before : List (ℕ × ℕ)) (p : SubsortPair) :
     Fault → Type 0 where
   unknown_sort : {f : Fault} → Contains (number_faults sorts p.lower ++ number_faults sorts p.upper) f →
@@ -108,7 +110,7 @@ pub data HasPairFault (sorts : List (List ℕ × SortInfo)) (before : List (ℕ 
   cycle : {a b : ℕ} → sort_number sorts p.lower ≡ Some a → sort_number sorts p.upper ≡ Some b →
       (HasNoCycle (before ++ (a, b) ∷ []) → ⊥) → HasPairFault sorts before p (record { number = 24; byte = p.at })
 
--- the numbers of the sorts of a pair after those of the pairs in front of it
+-- the numbers of the pairs before, and then those of this pair if both of its sorts are declared
 abbrev pub with_numbers : List (ℕ × ℕ) → Option ℕ → Option ℕ → List (ℕ × ℕ)
 with_numbers before None b = before
 with_numbers before (Some a) None = before

@@ -1,4 +1,5 @@
--- The first fault of a definition is one, and so is its signature: two that the same declarations mean agree.
+-- A definition has one first fault at most, and one signature at most: two signatures of the same
+-- declarations agree.
 use Rattle.std.specs.Prelude.{◌≡◌, ℕ, List, Option, option_map, string_bytes}
 use Rattle.std.specs.List.{AllZip}
 use Rattle.kore_text.specs.Trees.{DefinitionTree}
@@ -13,7 +14,7 @@ FirstIsOne =
     (definition : DefinitionTree) (q r : Option Fault) → FirstOfSignature definition q → FirstOfSignature definition r →
     q ≡ r
 
--- two entries of one symbol
+-- two entries are the same symbol
 pub record IsSameSymbol (e f : List ℕ × SymInfo) : Type 0 where
   pub name : e.0 ≡ f.0
   pub kind : e.1.kind ≡ f.1.kind

@@ -1,4 +1,5 @@
--- The signature that the declarations of a definition mean (Kore language document, "Modules and declarations").
+-- The signature that the declarations of a definition mean (Kore language document, "Modules and
+-- declarations").
 use Rattle.std.specs.Prelude.{◌≡◌, ◌<◌, ◌^◌, ℕ, List, length, map, Option, Some, option_map, string_bytes}
 use Rattle.std.specs.List.{AllZip}
 use Rattle.kore_text.specs.Trees.{SymbolDeclaration, DefinitionTree}
@@ -10,8 +11,8 @@ use Rattle.kore_sig.specs.Declarations.{symbols_of, SubsortPair, pairs_of}
 use Rattle.kore_sig.specs.SortReferences.{sort_entries, sort_reference, sort_number}
 use Rattle.kore_sig.specs.SymbolKinds.{injection_of, kind_of, ac_names, is_ac}
 
--- a declared symbol, where there are these sorts, and this injection and these symbols said to be associative or the
--- like
+-- The entry of a declared symbol, from these sorts, this injection, and the symbols that axioms say
+-- to be associative or the like.
 pub record IsSymbolEntry (sorts : List (List ℕ × SortInfo)) (injection : Option (List ℕ)) (by_axiom : List (List ℕ))
     (d : SymbolDeclaration) (entry : List ℕ × SymInfo) : Type 0 where
   pub name : entry.0 ≡ d.name
@@ -22,7 +23,7 @@ pub record IsSymbolEntry (sorts : List (List ℕ × SortInfo)) (injection : Opti
   pub hook : option_map string_bytes entry.1.hook ≡ hook_of d.attributes
   pub ac : entry.1.ac ≡ is_ac by_axiom d
 
--- a symbol of a definition, where there are these sorts
+-- the entry of a symbol of a definition with these sorts
 abbrev pub IsEntryOf : DefinitionTree → List (List ℕ × SortInfo) → SymbolDeclaration → List ℕ × SymInfo → Type 0
 IsEntryOf definition sorts d entry =
     IsSymbolEntry sorts (injection_of (symbols_of definition)) (ac_names definition) d entry
@@ -32,12 +33,12 @@ pub record IsPairOf (sorts : List (List ℕ × SortInfo)) (pair : SubsortPair) (
   pub lower : sort_number sorts pair.lower ≡ Some numbers.0
   pub upper : sort_number sorts pair.upper ≡ Some numbers.1
 
--- the declared sorts, symbols and pairs, each in the order of the file
+-- the signature has the declared sorts, symbols and pairs, each in the order of the file
 pub record IsSignatureOf (definition : DefinitionTree) (sig : Signature) : Type 0 where
   pub sorts : sig.sorts ≡ sort_entries definition
   pub symbols : AllZip (IsEntryOf definition sig.sorts) (symbols_of definition) sig.symbols
   pub subsorts : AllZip (IsPairOf sig.sorts) (pairs_of definition) sig.subsorts
 
--- each sort and each symbol has a number of 32 bits
+-- the number of each sort and of each symbol fits in 32 bits
 abbrev pub IsNumbered : Signature → Type 0
 IsNumbered sig = (length sig.sorts < 2 ^ 32) × (length sig.symbols < 2 ^ 32)

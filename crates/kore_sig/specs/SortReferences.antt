@@ -1,4 +1,5 @@
--- Declared sorts: what their hooks say, and which of them a sort in the text is (Kore language document, "Sorts").
+-- Declared sorts: what their hooks say, and which declared sort a sort in the text names (Kore
+-- language document, "Sorts").
 use Rattle.std.specs.Prelude.{ℕ, List, [], ◌∷◌, Option, Some, None, option_map, map, if◌then◌else◌, codes}
 use Rattle.std.specs.List.{position_from}
 use Rattle.std.specs.Str.{bytes_eq}
@@ -12,7 +13,7 @@ use Rattle.rule_core.specs.declared.signature.SortRef.TheVariants.{Param, Sort}
 use Rattle.kore_sig.specs.Attributes.{hook_of}
 use Rattle.kore_sig.specs.Declarations.{sorts_of}
 
--- what the name of a sort's hook says of its domain values
+-- the kind of a sort's domain values, by the name of the sort's hook
 abbrev pub kind_of_hook : Option (List ℕ) → SortKind
 kind_of_hook None = kind.Other
 kind_of_hook (Some name) =
@@ -21,7 +22,7 @@ kind_of_hook (Some name) =
     else if bytes_eq name (codes "MAP.Map") then kind.Map
     else kind.Other
 
--- a declared sort: its name, and what its hook says
+-- a declared sort: its name and its kind
 abbrev pub sort_entry : SortDeclaration → List ℕ × SortInfo
 sort_entry d = (d.name, record { kind = kind_of_hook (hook_of d.attributes) })
 
@@ -29,23 +30,23 @@ sort_entry d = (d.name, record { kind = kind_of_hook (hook_of d.attributes) })
 abbrev pub sort_entries : DefinitionTree → List (List ℕ × SortInfo)
 sort_entries definition = map sort_entry (sorts_of definition)
 
--- the place of a sort parameter: that of the first of its name
+-- the place of a sort parameter: that of the first one with its name
 abbrev pub parameter_place : List (List ℕ) → List ℕ → Option ℕ
 parameter_place params name = position_from (λ (p : List ℕ). bytes_eq name p) 0 params
 
--- the number of a declared sort of this name, where it has no arguments
+-- the number of the declared sort with this name; None if it has arguments
 abbrev pub declared_number : List (List ℕ × SortInfo) → List ℕ → List SortTree → Option ℕ
 declared_number sorts name [] = number_of sorts name
 declared_number sorts name (s ∷ args) = None
 
--- what a sort means where there are these declared sorts and these sort parameters: one of the parameters, or a
--- declared sort, which has no arguments
+-- What a sort means with these declared sorts and these sort parameters: one of the parameters, or
+-- a declared sort without arguments.
 abbrev pub sort_reference : List (List ℕ × SortInfo) → List (List ℕ) → SortTree → Option SortRef
 sort_reference sorts params (sort_parameter at name) = option_map Param (parameter_place params name)
 sort_reference sorts params (sort_applied at name args) =
     option_map (λ (n : ℕ). Sort (record { 0 = n })) (declared_number sorts name (listed_sorts args))
 
--- the number of a sort outside a symbol's declaration, where nothing is a parameter
+-- the number of a sort outside a symbol's declaration, where no sort is a parameter
 abbrev pub sort_number : List (List ℕ × SortInfo) → SortTree → Option ℕ
 sort_number sorts (sort_parameter at name) = None
 sort_number sorts (sort_applied at name args) = declared_number sorts name (listed_sorts args)

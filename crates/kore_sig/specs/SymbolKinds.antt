@@ -1,5 +1,6 @@
--- What a symbol is used for, and whether it is said to be associative, commutative or the like (K framework,
--- attributes `sortInjection`, `function`, `constructor`, `assoc`, `comm`, `unit` and `idem`).
+-- What a symbol is used for, and whether it is said to be associative, commutative or the like (K
+-- framework, attributes `sortInjection`, `function`, `constructor`, `assoc`, `comm`, `unit` and
+-- `idem`).
 use Rattle.std.specs.Prelude.{ℕ, Bool, false, not, ◌&&◌, ◌||◌, ◌==◌, List, [], ◌∷◌, length, Option, Some, None}
 use Rattle.std.specs.Prelude.{option_map, find, filter_map, if◌then◌else◌, codes}
 use Rattle.std.specs.Str.{bytes_eq}
@@ -13,7 +14,7 @@ use Rattle.kore_sig.specs.Names.{is_among}
 use Rattle.kore_sig.specs.Attributes.{has_attribute, is_said_ac}
 use Rattle.kore_sig.specs.Declarations.{axioms_of}
 
--- the sort is the parameter of this name
+-- the sort is the parameter with this name
 abbrev pub is_parameter : List ℕ → SortTree → Bool
 is_parameter name (sort_parameter at n) = bytes_eq n name
 is_parameter name (sort_applied at n ss) = false
@@ -28,11 +29,11 @@ abbrev pub has_injection_form : SymbolDeclaration → Bool
 has_injection_form d =
     has_attribute (codes "sortInjection") d.attributes && goes_from_to d.params d.args d.result
 
--- the name of the injection symbol: the first symbol of that form
+-- the name of the injection symbol, which is the first symbol of that form
 abbrev pub injection_of : List SymbolDeclaration → Option (List ℕ)
 injection_of symbols = option_map (λ (d : SymbolDeclaration). d.name) (find has_injection_form symbols)
 
--- this is the name, where there is one
+-- the name is there and is the same
 abbrev pub is_named_so : Option (List ℕ) → List ℕ → Bool
 is_named_so None name = false
 is_named_so (Some n) name = bytes_eq n name
@@ -41,8 +42,8 @@ is_named_so (Some n) name = bytes_eq n name
 abbrev pub function_kind : SymbolDeclaration → SymKind
 function_kind d = if length d.params == 0 then Equations else Closed
 
--- the kind of a symbol, where the injection symbol has this name: the first kind that fits. Whether a hook gives a
--- function's values is not looked at here.
+-- The kind of a symbol if the injection symbol has this name. The first kind that fits is taken.
+-- Hooks of functions are not considered here.
 abbrev pub kind_of : Option (List ℕ) → SymbolDeclaration → SymKind
 kind_of injection d =
     if is_named_so injection d.name then Injection
@@ -59,7 +60,7 @@ abbrev pub applied_symbol : PatternTree → Option (List ℕ)
 applied_symbol (symbol_applied at n sorts args) = head_of n (listed_sorts sorts)
 applied_symbol p = None
 
--- of the first of these
+-- the symbol of the first of these patterns
 abbrev pub first_symbol : List PatternTree → Option (List ℕ)
 first_symbol [] = None
 first_symbol (p ∷ ps) = applied_symbol p
@@ -77,10 +78,10 @@ equated_symbol p = None
 abbrev pub said_ac : AxiomDeclaration → Option (List ℕ)
 said_ac stated = if is_said_ac stated.attributes then equated_symbol stated.pattern else None
 
--- the symbols that axioms say so of
+-- the symbols that axioms say to be associative, commutative or the like
 abbrev pub ac_names : DefinitionTree → List (List ℕ)
 ac_names definition = filter_map said_ac (axioms_of definition)
 
--- the symbol is said so by its own attributes or by an axiom
+-- the symbol's own attributes or an axiom say that it is associative, commutative or the like
 abbrev pub is_ac : List (List ℕ) → SymbolDeclaration → Bool
 is_ac by_axiom d = is_said_ac d.attributes || is_among by_axiom d.name

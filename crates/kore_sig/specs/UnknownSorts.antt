@@ -1,4 +1,4 @@
--- The fault of a sort that is not declared, where its byte is known.
+-- The fault of a sort that is not declared, by its byte.
 use Rattle.std.specs.Prelude.{ℕ, Option, option_map}
 use Rattle.kore_sig.specs.FirstFault.{Fault}
 

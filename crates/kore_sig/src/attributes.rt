@@ -8,14 +8,16 @@ ghost use Rattle.kore_sig.specs.Attributes.{subsort_sorts as pair};
 
 use kore_ast::{Pat, PatForm, Sort, Text};
 
-/// Whether some attribute has this name, whatever sorts and arguments it has. It looks at each attribute once.
+/// Whether some attribute has this name, whatever its sorts and arguments. It looks at each
+/// attribute once.
 pub fn has_attribute(attrs: &[Pat], name: &str) -> bool
     ensures { result ≡ has name.now (map plain_pattern attrs.now) }
 {
     first_of_name(attrs, name).is_some()
 }
 
-/// The first attribute of this name, which is the one that counts; none exactly where no attribute has the name.
+/// The first attribute with this name, which is the one that counts. None if no attribute has the
+/// name.
 pub fn first_of_name<'a>(attrs: &'a [Pat], name: &str) -> Option<&'a Pat>
     ensures { option_map (λ p. plain_pattern p.now) result ≡ first name.now (map plain_pattern attrs.now) }
 {
@@ -27,7 +29,7 @@ pub fn first_of_name<'a>(attrs: &'a [Pat], name: &str) -> Option<&'a Pat>
     None
 }
 
-/// Whether the pattern is an attribute of this name.
+/// Whether the pattern is an attribute with this name.
 fn is_named(attr: &Pat, name: &str) -> bool
     ensures { result ≡ is_attribute name.now (plain_pattern attr.now) }
 {
@@ -37,7 +39,7 @@ fn is_named(attr: &Pat, name: &str) -> bool
     }
 }
 
-/// The text of an attribute whose only argument is a text; none of any other pattern.
+/// The text of an attribute whose only argument is a text. None for any other pattern.
 pub fn text_of(attr: &Pat) -> Option<&Text>
     ensures { option_copied result ≡ text (plain_pattern attr.now) }
 {
@@ -65,7 +67,8 @@ fn text_itself(pat: &Pat) -> Option<&Text>
     }
 }
 
-/// The name of the hook; the empty text, which names no hook, where the attribute has no text.
+/// The name of the hook, or None if there is no hook. It is the empty text, which names no hook, if
+/// the attribute has no text.
 pub(crate) fn hook_of(attrs: &[Pat]) -> Option<&str>
     ensures { option_copied result ≡ hook (map plain_pattern attrs.now) }
 {
@@ -76,7 +79,8 @@ pub(crate) fn hook_of(attrs: &[Pat]) -> Option<&str>
     }
 }
 
-/// Whether some attribute says that the symbol is associative, commutative or idempotent, or has a unit.
+/// Whether some attribute says that the symbol is associative, commutative or idempotent, or has a
+/// unit.
 pub(crate) fn is_said_ac(attrs: &[Pat]) -> bool
     ensures { result ≡ is_ac (map plain_pattern attrs.now) }
 {
@@ -86,7 +90,7 @@ pub(crate) fn is_said_ac(attrs: &[Pat]) -> bool
         || has_attribute(attrs, "idem")
 }
 
-/// The two sorts of `subsort{A,B}()`, the lower and the upper one; none of any other pattern.
+/// The two sorts of `subsort{A,B}()`, the lower one and the upper one. None for any other pattern.
 pub(crate) fn subsort_sorts(attr: &Pat) -> Option<(&Sort, &Sort)>
     ensures { option_map (λ p. (plain_sort p.0.now, plain_sort p.1.now)) result ≡ pair (plain_pattern attr.now) }
 {

@@ -1,4 +1,4 @@
-// The modules that count: the main one, and what it reaches by imports.
+// The modules that count: the main module, and the modules that it reaches by imports.
 ghost use Rattle.std.specs.Prelude.{◌≡◌, ◌++◌, [], ℕ, List, map, filter_map, IfOk, OnOk, take};
 ghost use Rattle.kore_ast.specs.Plain.{plain_definition, plain_module, plain_declaration};
 ghost use Rattle.kore_sig.specs.CountedModules.{import_name, counted_declarations as the_counted};
@@ -14,16 +14,16 @@ use std::alloc::{AllocError, Global};
 /// A declaration of a module that counts.
 #[derive(Clone, Copy)]
 pub(crate) struct Placed<'a> {
-    /// The number of the module in the file, from 0 on.
+    /// The number of the module in the file, from 0.
     pub(crate) module_index: usize,
     pub(crate) decl: &'a Decl,
 }
 
-/// The declarations of the modules that count, in the order of the file. The main module, which is the last one,
-/// counts, and each module that one that counts imports; an import names a module that stands earlier.
+/// Returns the declarations of the modules that count, in the order of the file. The main module
+/// counts, which is the last one. Each earlier module that a counted one imports counts too.
 ///
-/// It looks at each declaration a few times, and at each name that is imported as many times as the logarithm of their
-/// number. `AllocError` says that memory ran out.
+/// It looks at each declaration a few times. It looks up each imported name, in a time logarithmic
+/// in the number of these names. The error is `AllocError`: out of memory.
 pub fn counted_declarations(
     alloc: Global,
     definition: &Definition,
@@ -39,7 +39,7 @@ pub fn counted_declarations(
     Ok(decls)
 }
 
-/// The same, each with the number of its module.
+/// The same declarations, each with the number of its module.
 pub(crate) fn placed_declarations(
     alloc: Global,
     definition: &Definition,
@@ -77,7 +77,7 @@ fn place<'a>(
     Ok(())
 }
 
-/// Whether each module counts, from the last module back.
+/// Whether each module counts. It goes from the last module to the first.
 fn marks(alloc: Global, modules: &[Module]) -> Result<Vec<bool>, AllocError>
     ensures { IfOk result (λ marks. marks.items ≡ marks_of (map plain_module modules.now)) }
 {

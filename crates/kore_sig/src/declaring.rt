@@ -1,4 +1,4 @@
-// The first fault of a declaration, where other declarations stand in front of it.
+// The first fault of a declaration, from the declarations before it.
 ghost use Rattle.std.specs.Prelude.{◌≡◌, ◌<◌, ◌^◌, length, take};
 ghost use Rattle.kore_ast.specs.Plain.{plain_declaration, plain_import, plain_sort_decl, plain_symbol_decl};
 ghost use Rattle.rule_core.specs.Named.{names_of};
@@ -14,11 +14,11 @@ use crate::references::first_unknown;
 use kore_ast::{Decl, ImportDecl, SortDecl, SymbolDecl, Text};
 use rule_core::{SortInfo, SymInfo, Table};
 
-/// The most arguments of a symbol.
+/// The greatest number of arguments of a symbol.
 const MOST_ARGUMENTS: usize = 64;
 
-/// The first fault of a declaration: `modules` are all modules by number, `sorts` all sorts; `seen` has the sorts in
-/// front of the declaration, `symbols` the symbols.
+/// The first fault of a declaration. `modules` has all modules by number, and `sorts` has all
+/// sorts. `seen` and `symbols` have the sorts and the symbols that are declared before it.
 pub(crate) fn declaration_fault(
     modules: &Table<()>,
     sorts: &Table<SortInfo>,
@@ -39,7 +39,7 @@ pub(crate) fn declaration_fault(
     }
 }
 
-/// An import has a fault where no module in front of its own has the name.
+/// The fault of an import: no earlier module has the name.
 fn import_fault(modules: &Table<()>, own: usize, decl: &ImportDecl) -> Option<SigFault>
     ensures { Answers (first_by_number
         (import_faults (take own (names_of modules.now)) (plain_import decl.now))) result }
@@ -51,7 +51,7 @@ fn import_fault(modules: &Table<()>, own: usize, decl: &ImportDecl) -> Option<Si
     }
 }
 
-/// Whether a module in front of this one has the name.
+/// Whether a module before this one has the name.
 fn is_earlier(modules: &Table<()>, own: usize, name: &Text) -> bool
     ensures { result ≡ is_among (take own (names_of modules.now)) name.now }
 {
@@ -61,7 +61,7 @@ fn is_earlier(modules: &Table<()>, own: usize, name: &Text) -> bool
     }
 }
 
-/// A sort has a fault where its name is taken, or where it has parameters.
+/// The first fault of a sort: its name is taken, or it has parameters.
 fn sort_fault(seen: &Table<()>, decl: &SortDecl) -> Option<SigFault>
     ensures { Answers (first_by_number (sort_faults (names_of seen.now) (plain_sort_decl decl.now))) result }
 {
@@ -74,7 +74,8 @@ fn sort_fault(seen: &Table<()>, decl: &SortDecl) -> Option<SigFault>
     }
 }
 
-/// A symbol has a fault where its name is taken, where it names an unknown sort, or where it has too many arguments.
+/// The first fault of a symbol: its name is taken, it names an unknown sort, or it has too many
+/// arguments.
 fn symbol_fault(
     sorts: &Table<SortInfo>,
     symbols: &Table<SymInfo>,

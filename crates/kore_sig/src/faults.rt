@@ -8,25 +8,27 @@ use thiserror::Error;
 /// The first fault of the declarations of a definition, with its byte in the text.
 #[derive(Debug, Drop, Error)]
 pub enum SigFault {
-    /// An import names no earlier module; at its keyword.
+    /// An import names no earlier module. The byte is that of its keyword.
     #[error("import of no earlier module at {0}")]
     Import(u32),
-    /// A module, a sort or a symbol has the name of an earlier one; at its keyword.
+    /// A module, a sort or a symbol has the name of an earlier one. The byte is that of its
+    /// keyword.
     #[error("name declared twice at {0}")]
     Duplicate(u32),
-    /// A sort is not declared, or has arguments; at its name.
+    /// A sort is neither a declared sort without arguments nor a parameter of its symbol. The byte
+    /// is that of its name.
     #[error("unknown sort at {0}")]
     UnknownSort(u32),
-    /// A symbol has more than 64 arguments; at its keyword.
+    /// A symbol has more than 64 arguments. The byte is that of its keyword.
     #[error("too many arguments at {0}")]
     Arity(u32),
-    /// A sort has parameters; at its keyword.
+    /// A sort has parameters. The byte is that of its keyword.
     #[error("sort with parameters at {0}")]
     SortParameter(u32),
-    /// A pair of sorts makes a sort be below itself; at the keyword of the axiom.
+    /// A pair of sorts puts a sort below itself. The byte is that of the axiom's keyword.
     #[error("cycle of sorts at {0}")]
     SubsortCycle(u32),
-    /// Memory was wanting.
+    /// Out of memory.
     #[error("out of memory")]
     Memory,
 }

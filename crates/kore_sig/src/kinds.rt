@@ -13,7 +13,7 @@ use crate::attributes::{has_attribute, is_said_ac};
 use kore_ast::{AxiomDecl, Op, Pat, PatForm, Sort, SortForm, SymbolDecl, Text};
 use rule_core::{SortKind, SymKind};
 
-/// What the name of a sort's hook says of its domain values.
+/// The kind of a sort's domain values, by the name of the sort's hook.
 pub(crate) fn kind_of_hook(hook: Option<&str>) -> SortKind
     ensures { result ≡ the_kind_of_hook (option_copied hook.entry) }
 {
@@ -37,8 +37,8 @@ fn kind_named(name: &str) -> SortKind
     }
 }
 
-/// Whether a symbol has the form of the injection: the attribute, two different parameters From and To, one argument
-/// of sort From, and the result sort To.
+/// Whether a symbol has the form of the injection: the attribute, two different parameters From and
+/// To, one argument of sort From, and the result sort To.
 pub(crate) fn has_injection_form(decl: &SymbolDecl) -> bool
     ensures { result ≡ the_form (plain_symbol_decl decl.now) }
 {
@@ -57,7 +57,7 @@ fn goes_from_to(params: &[Text], args: &[Sort], value: &Sort) -> bool
     }
 }
 
-/// Whether the sort is the parameter of this name.
+/// Whether the sort is the parameter with this name.
 fn is_parameter(name: &Text, sort: &Sort) -> bool
     ensures { result ≡ the_parameter name.now (plain_sort sort.now) }
 {
@@ -67,7 +67,7 @@ fn is_parameter(name: &Text, sort: &Sort) -> bool
     }
 }
 
-/// The kind of a symbol, where the injection symbol has this name.
+/// The kind of a symbol, if the injection symbol has this name.
 pub(crate) fn kind_of(injection: Option<&str>, decl: &SymbolDecl) -> SymKind
     ensures { result ≡ the_kind (option_copied injection.entry) (plain_symbol_decl decl.now) }
 {

@@ -1,4 +1,4 @@
-// What is known of all declarations before each is looked at.
+// What is known of all declarations before each of them is checked.
 ghost use Rattle.std.specs.Prelude.{◌≡◌, ◌<◌, ◌^◌, ◌++◌, ◌∷◌, [], ℕ, List, map, IfOk, OnOk, option_copied, length};
 ghost use Rattle.std.specs.Prelude.{filter_map};
 ghost use Rattle.kore_ast.specs.Plain.{plain_declaration, plain_sort_decl, plain_axiom_decl};
@@ -15,7 +15,8 @@ use kore_ast::{AxiomDecl, Decl, SortDecl};
 use rule_core::{SortInfo, Table};
 use std::alloc::{AllocError, Global};
 
-/// The declared sorts, the name of the injection symbol, and the symbols that axioms say to be associative or the like.
+/// The declared sorts, the name of the injection symbol, and the symbols that axioms say to be
+/// associative or the like.
 #[derive(Drop)]
 pub(crate) struct Known<'a> {
     pub(crate) sorts: Table<SortInfo>,
@@ -23,7 +24,8 @@ pub(crate) struct Known<'a> {
     pub(crate) ac: Table<()>,
 }
 
-/// Learns what is known of these declarations. Of several sorts with one name the first is kept.
+/// Collects what is known of these declarations. If several sorts have the same name, the first one
+/// is kept.
 pub(crate) fn learn<'a>(alloc: Global, decls: &[Placed<'a>]) -> Result<Known<'a>, AllocError>
     ensures { IfOk result (IsKnown (map (λ p. plain_declaration p.decl.now) decls.now)) }
 {
@@ -46,7 +48,7 @@ fn sorts_in(alloc: Global, decls: &[Placed<'_>]) -> Result<Table<SortInfo>, Allo
     Ok(sorts)
 }
 
-/// Adds a sort, where its name is new.
+/// Adds a sort if its name is new.
 fn add_sort(alloc: Global, sorts: &mut Table<SortInfo>, decl: &SortDecl) -> Result<(), AllocError>
     ensures { OnOk result ((ds : List Declaration) → IsSortTable ds sorts.old
         → IsSortTable (ds ++ sort_declaration (plain_sort_decl decl.now) ∷ []) sorts.new) }

@@ -1,8 +1,8 @@
 // Laws of signatures and of the first fault.
 ghost use Rattle.kore_sig.specs.SignatureLaws.{FirstIsOne, SignatureIsOne};
 
-/// A definition has one first fault at most, and none exactly where the first fault is none; its signature is one, too.
-/// So what `signature` answers is the only answer.
+/// Does nothing at run time. It gives its caller the laws that a definition has one first fault at
+/// most and one signature at most. So the result of `signature` is the only possible one.
 pub fn signature_laws()
     ensures first { FirstIsOne }
     ensures one { SignatureIsOne }

@@ -1,12 +1,14 @@
 // The signature of a definition: what the modules that count declare.
 //
-// `signature` answers the signature that the declarations mean (specs/Signatures.antt), or the first fault by the order
-// of refusals (specs/SignatureFaults.antt), exactly. `counted_declarations` tells the declarations that count (specs/
-// CountedModules.antt), in the order of the file. `has_attribute`, `first_of_name` and `text_of` read attributes
-// (specs/ Attributes.antt); `sort_number` tells which declared sort a sort in the text is (specs/SortReferences.antt).
+// `signature` returns the signature that the declarations mean (specs/Signatures.antt). Its error
+// is exactly the first fault by the order of refusals (specs/SignatureFaults.antt).
+// `counted_declarations` returns the declarations that count, in the order of the file
+// (specs/CountedModules.antt). `has_attribute`, `first_of_name` and `text_of` read attributes
+// (specs/Attributes.antt). `sort_number` finds the declared sort that a sort in the text names
+// (specs/SortReferences.antt).
 //
-// The other crates that look for a first fault use the words of specs/FirstFault.antt, and the laws of
-// proofs/FirstLaws.antt.
+// Other crates that look for a first fault use the definitions of specs/FirstFault.antt and the
+// laws of proofs/FirstLaws.antt.
 #![tactic(auto)]
 
 mod attributes;

@@ -19,16 +19,17 @@ use kore_ast::{Definition, Module};
 use rule_core::{Signature, Table};
 use std::alloc::Global;
 
-/// The signature that a definition declares, or the first fault of its declarations.
+/// Returns the signature that a definition declares. A function has the kind `Closed` if it has
+/// sort parameters, and `Equations` otherwise, whatever its hook.
 ///
-/// The names of all modules come first, then the declarations of the modules that count, then the pairs of sorts that
-/// their axioms state, each in the order of the file. At one declaration the smallest number of a refusal comes first,
-/// of one number the first byte. A function has the kind `Closed` where it has sort parameters, and `Equations`
-/// otherwise, whatever its hook.
+/// The error is the first fault of the declarations. The names of all modules come first, then the
+/// declarations of the modules that count, then the pairs of sorts that their axioms state. Each of
+/// these is in the order of the file. At one declaration the smallest number of a refusal comes
+/// first, and for the same number the first byte. The error is `SigFault::Memory` if memory runs
+/// out, or if there are 2^32 or more sorts, symbols, or parameters of one symbol.
 ///
-/// It looks at each declaration a few times, and at each name as many times as the logarithm of the number of names;
-/// `Subsorts` tells what the pairs cost. It does not recurse. More than 2^32 sorts, symbols, or parameters of one
-/// symbol are answered as out of memory.
+/// It looks at each declaration a few times. It looks up each name, in a time logarithmic in the
+/// number of names. See `Subsorts` for the cost of the pairs. It does not recurse.
 pub fn signature(alloc: Global, definition: &Definition) -> Result<Signature, SigFault>
     ensures declared { IfOk result (IsSignatureOf (plain_definition definition.now)) }
     ensures faultless { OnOk result (FirstOfSignature (plain_definition definition.now) None) }
@@ -55,7 +56,8 @@ pub fn signature(alloc: Global, definition: &Definition) -> Result<Signature, Si
     })
 }
 
-/// The names of the modules, in the order of the file, or the first that stands twice.
+/// The names of the modules, in the order of the file. The error is the first name that occurs
+/// twice.
 fn module_names(alloc: Global, modules: &[Module]) -> Result<Table<()>, SigFault>
     ensures refused { IfErr result (Refuses (λ r. first_module [] (map plain_module modules.now) ≡ r)) }
     ensures clear { OnOk result (first_module [] (map plain_module modules.now) ≡ None) }

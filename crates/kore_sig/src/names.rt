@@ -16,7 +16,7 @@ pub(crate) fn has_name<V: Drop>(names: &Table<V>, name: &Text) -> bool
     names.number(name.as_str()).is_some()
 }
 
-/// Adds a name; false where the set has it already.
+/// Adds a name, and returns whether it is new.
 pub(crate) fn add_name(
     alloc: Global,
     names: &mut Table<()>,

@@ -20,7 +20,7 @@ use rule_core::{SortInfo, Subsorts, Table};
 use std::alloc::Global;
 use term_core::SortId;
 
-/// The order of the sorts that these declarations state, or the first fault of a pair.
+/// The order of the sorts that these declarations state. The error is the first fault of a pair.
 pub(crate) fn stated_order(
     alloc: Global,
     sorts: &Table<SortInfo>,

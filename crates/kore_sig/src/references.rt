@@ -1,4 +1,4 @@
-// The sorts that are named in a definition.
+// The sorts that a definition names.
 ghost use Rattle.std.specs.Prelude.{◌≡◌, ◌<◌, ◌^◌, ◌++◌, ◌∷◌, [], length, map, flat_map, option_map, None, Option, ℕ};
 ghost use Rattle.kore_ast.specs.Plain.{plain_sort};
 ghost use Rattle.kore_sig.specs.SortReferences.{declared_number as the_declared, sort_number as the_number};
@@ -12,7 +12,7 @@ use kore_ast::{Sort, SortForm, Text};
 use rule_core::{SortInfo, SortRef, Table};
 use term_core::SortId;
 
-/// The number of a sort that is declared and has no arguments; none of any other sort.
+/// The number of a sort that is declared and has no arguments. None for any other sort.
 pub fn sort_number(sorts: &Table<SortInfo>, sort: &Sort) -> Option<usize>
     ensures { result ≡ the_number sorts.now (plain_sort sort.now) }
 {
@@ -31,7 +31,7 @@ fn declared_number(sorts: &Table<SortInfo>, name: &Text, args: &[Sort]) -> Optio
     }
 }
 
-/// The place of the first sort parameter of this name.
+/// The place of the first sort parameter with this name.
 fn parameter_place(params: &[Text], name: &Text) -> Option<usize>
     ensures { result ≡ the_place params.now name.now }
 {
@@ -43,7 +43,7 @@ fn parameter_place(params: &[Text], name: &Text) -> Option<usize>
     None
 }
 
-/// What a sort means among these sorts and sort parameters: none exactly where it is neither a parameter nor a
+/// What a sort means with these sorts and sort parameters. None if it is neither a parameter nor a
 /// declared sort without arguments.
 pub(crate) fn sort_reference(
     sorts: &Table<SortInfo>,
@@ -76,7 +76,7 @@ pub(crate) fn sort_place(sort: &Sort) -> u32
     }
 }
 
-/// The byte of the first sort, by byte, that means nothing.
+/// The smallest byte of a sort that means nothing.
 pub(crate) fn first_unknown(
     sorts: &Table<SortInfo>,
     params: &[Text],
@@ -97,7 +97,7 @@ pub(crate) fn first_unknown(
     first
 }
 
-/// Keeps the byte of a sort that means nothing, where no smaller one is kept.
+/// Keeps the byte of a sort that means nothing, unless a smaller one is kept.
 fn note_unknown(sorts: &Table<SortInfo>, params: &[Text], sort: &Sort, first: &mut Option<u32>)
     requires sorts { length sorts.now < 2 ^ 32 }
     requires params { length params.now < 2 ^ 32 }

@@ -1,4 +1,4 @@
-// The symbols that declarations without a fault declare.
+// The symbols of declarations that have no fault.
 ghost use Rattle.std.specs.Prelude.{◌≡◌, ◌<◌, ◌^◌, ◌++◌, ◌∷◌, [], ℕ, List, None, Some, map, flat_map, length, take};
 ghost use Rattle.std.specs.Prelude.{IfOk, IfErr, OnOk, option_map, option_copied, string_bytes};
 ghost use Rattle.kore_ast.specs.Plain.{plain_declaration, plain_sort, plain_symbol_decl, plain_pattern};
@@ -25,7 +25,8 @@ use kore_ast::{Decl, Pat, Sort, SymbolDecl, Text};
 use rule_core::{SortInfo, SortRef, SymInfo, Table};
 use std::alloc::{AllocError, Global};
 
-/// The declared symbols, or the first fault of the declarations, where `modules` are all modules by number.
+/// The declared symbols. `modules` has all modules by number. The error is the first fault of the
+/// declarations.
 pub(crate) fn declared_symbols(
     alloc: Global,
     modules: &Table<()>,
@@ -54,7 +55,7 @@ pub(crate) fn declared_symbols(
     Ok(symbols)
 }
 
-/// Adds what a declaration without a fault declares.
+/// Adds what a declaration that has no fault declares.
 fn declare(
     alloc: Global,
     known: &Known<'_>,
@@ -83,7 +84,7 @@ fn declare(
     Ok(())
 }
 
-/// A symbol whose sorts are all known.
+/// The entry of a symbol whose sorts are all known.
 fn symbol_info(alloc: Global, known: &Known<'_>, decl: &SymbolDecl) -> Result<SymInfo, SigFault>
     requires sorts { length known.now.sorts < 2 ^ 32 }
     requires args { flat_map (reference_faults known.now.sorts decl.now.params.items)
@@ -111,7 +112,7 @@ fn symbol_info(alloc: Global, known: &Known<'_>, decl: &SymbolDecl) -> Result<Sy
     })
 }
 
-/// What known sorts mean.
+/// What these known sorts mean.
 fn references(
     alloc: Global,
     sorts: &Table<SortInfo>,
@@ -134,7 +135,7 @@ fn references(
     Ok(refs)
 }
 
-/// The name of the hook, where the attributes have one.
+/// The name of the hook, if the attributes have one.
 fn hook_name(alloc: Global, attrs: &[Pat]) -> Result<Option<String>, AllocError>
     ensures { IfOk result (λ hook. option_map string_bytes hook ≡ the_hook (map plain_pattern attrs.now)) }
 {

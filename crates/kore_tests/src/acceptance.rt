@@ -1,13 +1,13 @@
-// Definitions and terms, and what one expects to be wrong with them.
+// Definitions and terms, each with the fault that is expected of it.
 use kore_rules::{Refusal, accept, accept_term};
 use rule_core::{Program, SymKind};
 use std::alloc::Global;
 use std::test::Fail;
 
-/// Longer texts are not tried.
+/// The greatest length in bytes of a text that is tried.
 const LONGEST: usize = 10_000;
 
-/// What stands in front of the axioms.
+/// The declarations before the axioms.
 const DECLARED: &str =
     "[] module M sort S{} [] sort T{} [] hooked-sort B{} [hook{}(\"BOOL.Bool\")] hooked-sort I{} \
     [hook{}(\"INT.Int\")] symbol a{}() : S{} [constructor{}()] symbol b{}() : S{} [constructor{}()] symbol \
@@ -50,7 +50,7 @@ const ADDITION: &str =
     SortKItem{}}(Lbl'UndsPlus'Int'Unds'{}(VarI:SortInt{}, VarJ:SortInt{})), VarR:SortK{})), \
     \\top{SortKCell{}}())) [label{}(\"plus\")] endmodule []";
 
-/// The number and the byte of the refusal of a definition, where it is refused.
+/// The number and the byte of the refusal of a definition, or None if it is accepted.
 fn refusal(alloc: Global, text: &str) -> Result<Option<(u8, u32)>, Fail> {
     if text.len() > LONGEST {
         return Err(Fail::from("long"));
@@ -62,7 +62,7 @@ fn refusal(alloc: Global, text: &str) -> Result<Option<(u8, u32)>, Fail> {
     }
 }
 
-/// .. of a term of a definition that is accepted.
+/// The same for a term of an accepted definition.
 fn refusal_of_term(alloc: Global, definition: &str, term: &str) -> Result<Option<(u8, u32)>, Fail> {
     if definition.len() > LONGEST || term.len() > LONGEST {
         return Err(Fail::from("long"));
@@ -77,7 +77,8 @@ fn refusal_of_term(alloc: Global, definition: &str, term: &str) -> Result<Option
     }
 }
 
-/// The text, the names of modules, the declarations, the pairs of sorts and the axioms, in this order.
+/// Faults in the text come first, then those in the names of modules, the declarations, the pairs
+/// of sorts and the axioms.
 #[test]
 fn whole_definitions(rt: HostRuntime) -> Result<(), Fail> {
     let cases = [
@@ -151,8 +152,8 @@ fn whole_definitions(rt: HostRuntime) -> Result<(), Fail> {
     Ok(())
 }
 
-/// Each refusal of an axiom, by its byte after what is declared: the axioms in the order of the file, and at one axiom
-/// its form, its sorts and its uses.
+/// Each refusal of an axiom, by its byte after the declarations. The axioms come in the order of
+/// the file. In one axiom its form comes first, then its sorts, then its uses.
 #[test]
 fn axioms(rt: HostRuntime) -> Result<(), Fail> {
     let cases = [
@@ -279,7 +280,7 @@ fn terms(rt: HostRuntime) -> Result<(), Fail> {
     Ok(())
 }
 
-/// A text round an item so many times.
+/// An item `count` times, between two texts.
 fn repeated(
     alloc: Global,
     before: &str,
@@ -295,7 +296,8 @@ fn repeated(
     Ok(text)
 }
 
-/// The bracket that opens the 501st level, and a fold of a height of 501; one of 500 is not too high.
+/// Faults: the bracket that opens the 501st level, and a fold of height 501. A fold of height 500
+/// is not too high.
 #[test]
 fn heights(rt: HostRuntime) -> Result<(), Fail> {
     let definition = format!(in rt.alloc(); "{DECLARED}endmodule []")?;
@@ -325,7 +327,7 @@ fn kind_of(program: &Program, name: &str) -> Option<SymKind> {
     Some(program.sig.symbols.value(number)?.kind)
 }
 
-/// How many equations the symbol with this name has.
+/// The number of equations of the symbol with this name.
 fn equations_of(program: &Program, name: &str) -> usize {
     match program.sig.symbols.number(name) {
         Some(number) => match program.equations.get(number) {
@@ -336,8 +338,8 @@ fn equations_of(program: &Program, name: &str) -> usize {
     }
 }
 
-/// A definition as kompile writes it is accepted, and so is its term; `append` has two equations, the sum of numbers
-/// its hook's values, and the hook of maps closes its function.
+/// A definition as kompile writes it is accepted, and so is its term. `append` has two equations.
+/// The sum of numbers has the values of its hook. The function with the hook of maps is closed.
 #[test]
 fn addition(rt: HostRuntime) -> Result<(), Fail> {
     let term = "Lbl'-LT-'k'-GT-'{}(kseq{}(inj{SortExp{},SortKItem{}}(Lbl'UndsPlusUnds'{}(inj\
@@ -376,7 +378,7 @@ fn addition(rt: HostRuntime) -> Result<(), Fail> {
     Ok(())
 }
 
-/// Rules stand by priority, and those of one priority in the order of the file.
+/// Rules are ordered by priority, and those with the same priority by the order of the file.
 #[test]
 fn order_of_trial(rt: HostRuntime) -> Result<(), Fail> {
     let text = format!(in rt.alloc();
@@ -400,7 +402,7 @@ fn order_of_trial(rt: HostRuntime) -> Result<(), Fail> {
     Ok(())
 }
 
-/// No part of a definition in front of its end is accepted.
+/// No proper prefix of a definition is accepted.
 #[test]
 fn prefixes(rt: HostRuntime) -> Result<(), Fail> {
     let text =

@@ -1,14 +1,14 @@
-// Worked texts: which are read, and what trees they are.
+// Worked texts: which of them are read, and as which trees.
 
 use kore_ast::{Decl, PatForm, ReadFault, SortForm, read_definition, read_pattern};
 use kore_text::Op;
 use std::alloc::{AllocError, Global};
 use std::test::Fail;
 
-/// Longer texts are not tried.
+/// The greatest length in bytes of a text that is tried.
 const LONGEST: usize = 100_000;
 
-/// What came of a reading, as the tables write it.
+/// The result of a reading, as the tables write it.
 fn shown<X: Drop>(alloc: Global, read: Result<X, ReadFault>) -> Result<String, AllocError> {
     match read {
         Ok(_) => String::from_str(alloc, "read"),
@@ -19,7 +19,7 @@ fn shown<X: Drop>(alloc: Global, read: Result<X, ReadFault>) -> Result<String, A
     }
 }
 
-/// What comes of a pattern's text.
+/// The result for a pattern's text.
 fn of_pattern(alloc: Global, text: &str) -> Result<String, AllocError> {
     if text.len() > LONGEST {
         return Ok(String::new(alloc));
@@ -27,7 +27,7 @@ fn of_pattern(alloc: Global, text: &str) -> Result<String, AllocError> {
     shown(alloc, read_pattern(alloc, text.as_bytes()))
 }
 
-/// What comes of a definition's text.
+/// The result for a definition's text.
 fn of_definition(alloc: Global, text: &str) -> Result<String, AllocError> {
     if text.len() > LONGEST {
         return Ok(String::new(alloc));

@@ -1,4 +1,4 @@
-// Axioms and what one expects to be wrong with them.
+// Axioms, each with the fault that is expected of it.
 ghost use Rattle.rule_core.specs.WellSorted.{IsSignature};
 ghost use Rattle.kore_sig.specs.Signatures.{IsNumbered};
 
@@ -9,10 +9,10 @@ use rule_core::Signature;
 use std::alloc::Global;
 use std::test::Fail;
 
-/// Longer texts are not tried.
+/// The greatest length in bytes of a text that is tried.
 const LONGEST: usize = 10_000;
 
-/// What stands in front of the axioms.
+/// The declarations before the axioms.
 const DECLARED: &str =
     "[] module M sort S{} [] sort T{} [] hooked-sort B{} [hook{}(\"BOOL.Bool\")] \
     hooked-sort I{} [hook{}(\"INT.Int\")] symbol a{}() : S{} [constructor{}()] symbol b{}() : S{} [constructor{}()] \
@@ -20,7 +20,7 @@ const DECLARED: &str =
     symbol m{}(S{},S{}) : S{} [function{}(),comm{}()] symbol n{}() : S{} [] symbol t{}() : T{} [constructor{}()] \
     symbol is{}(S{}) : B{} [function{}()] symbol i{}(I{}) : S{} [constructor{}()] ";
 
-/// The first fault of the axioms, by its number and its byte after what is declared.
+/// The first fault of the axioms: its number, and its byte after the declarations.
 fn first_fault(alloc: Global, axioms: &str) -> Result<Option<(u8, u32)>, Fail> {
     let text = format!(in alloc; "{DECLARED}{axioms} endmodule []")?;
     if text.len() > LONGEST {
@@ -72,7 +72,8 @@ fn fault_of<'a>(
     }
 }
 
-/// Each refusal of an axiom, and their order at one axiom: by number in the form and in the uses, by byte in the sorts.
+/// Each refusal of an axiom, and their order in one axiom: by number in the form and in the uses,
+/// by byte in the sorts.
 #[test]
 fn first_faults(rt: HostRuntime) -> Result<(), Fail> {
     let cases = [

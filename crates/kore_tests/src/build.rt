@@ -26,7 +26,7 @@ fn sort(alloc: Global, name: &str) -> Result<Sort, AllocError> {
     })
 }
 
-// The variable X of a sort.
+// The variable X of the sort `of`.
 fn variable(alloc: Global, of: &str) -> Result<Pat, AllocError>
     ensures { IfOk result (λ p. IsApplicative (unfolded (plain_pattern p))) }
 {
@@ -66,7 +66,7 @@ fn sample(alloc: Global) -> Result<Pat, AllocError>
     application(alloc, "pair", Vec::new(alloc), args)
 }
 
-// The arguments of a pair.
+// The two arguments of a pair.
 fn pair_parts(pat: &RulePat) -> Option<(&RulePat, &RulePat)> {
     match pat {
         RulePat::Ctor(PAIR, args) if args.len() == 2 => Some((&args[0], &args[1])),
@@ -74,7 +74,7 @@ fn pair_parts(pat: &RulePat) -> Option<(&RulePat, &RulePat)> {
     }
 }
 
-// The number of a variable, and of one that is injected from Int into Exp.
+// The number of a variable.
 fn variable_number(pat: &RulePat) -> Option<u32> {
     match pat {
         RulePat::Var(number) => Some(*number),
@@ -89,7 +89,7 @@ fn injected_number(pat: &RulePat) -> Option<u32> {
     }
 }
 
-// The rule pattern of the sample, and its variables: one name with two sorts.
+// The rule pattern of the sample, and its two variables: they have one name and two sorts.
 fn expect_sample(rt: &impl Abort, made: &RulePat, vars: &Variables) -> Result<(), Fail> {
     let (left, right) = pair_parts(made).ok_or("no pair")?;
     let (first, second) = pair_parts(right).ok_or("no pair within")?;

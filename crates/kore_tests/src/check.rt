@@ -1,4 +1,4 @@
-// Patterns over a small definition, with the fault that is expected of each.
+// Patterns over a small definition, each with the fault that is expected of it.
 ghost use Rattle.std.specs.Prelude.{IfOk};
 ghost use Rattle.rule_core.specs.WellSorted.{IsSignature};
 ghost use Rattle.kore_sig.specs.Signatures.{IsNumbered};
@@ -40,7 +40,7 @@ pub(crate) fn small_signature(rt: &impl Abort, alloc: Global) -> Result<Signatur
     Ok(sig)
 }
 
-// The number and the byte of the fault of each pattern.
+// Each pattern has the fault with this number at this byte.
 fn expect_faults(
     rt: &impl Abort,
     alloc: Global,

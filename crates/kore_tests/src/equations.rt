@@ -1,4 +1,4 @@
-// Axioms, and what one expects them to be read as.
+// Axioms, each with the equation that it is expected to mean.
 ghost use Rattle.rule_core.specs.WellSorted.{IsSignature};
 ghost use Rattle.kore_sig.specs.Signatures.{IsNumbered};
 
@@ -10,10 +10,10 @@ use rule_core::{Equation, Signature};
 use std::alloc::Global;
 use std::test::Fail;
 
-/// Longer texts are not tried.
+/// The greatest length in bytes of a text that is tried.
 const LONGEST: usize = 10_000;
 
-/// What stands in front of the axiom.
+/// The declarations before the axiom.
 const DECLARED: &str =
     "[] module M sort S{} [] sort T{} [] hooked-sort B{} [hook{}(\"BOOL.Bool\")] \
     hooked-sort I{} [hook{}(\"INT.Int\")] symbol a{}() : S{} [constructor{}()] symbol t{}() : T{} [constructor{}()] \
@@ -22,7 +22,7 @@ const DECLARED: &str =
     symbol g{}() : S{} [function{}()] symbol h{}(S{},S{}) : S{} [function{}()] \
     symbol m{}(S{}) : S{} [function{}(),comm{}()] symbol is{}(S{}) : B{} [function{}()] ";
 
-/// The numbers of parameters, of arguments and of variables of an equation, and whether it has a condition.
+/// How many parameters, arguments and variables an equation has, and whether it has a condition.
 type Counts = (u32, usize, usize, bool);
 
 fn counts_of(equation: &Equation) -> Counts {
@@ -34,7 +34,7 @@ fn counts_of(equation: &Equation) -> Counts {
     )
 }
 
-/// The counts of the equation that the only axiom means; none where it is not readable.
+/// The counts of the equation that the only axiom means, or None if it is not readable.
 fn counts_in(alloc: Global, axiom: &str) -> Result<Option<Counts>, Fail> {
     let text = format!(in alloc; "{DECLARED}axiom{{R}} {axiom} endmodule []")?;
     if text.len() > LONGEST {
@@ -67,7 +67,7 @@ fn counts_at(alloc: Global, sig: &Signature, decl: &AxiomDecl) -> Result<Option<
     }
 }
 
-/// Both forms, with and without a condition.
+/// Equations of both forms, with and without a condition.
 #[test]
 fn readable_equations(rt: HostRuntime) -> Result<(), Fail> {
     let cases = [
@@ -112,7 +112,7 @@ fn readable_equations(rt: HostRuntime) -> Result<(), Fail> {
     Ok(())
 }
 
-/// Each reason for which an equation is not readable.
+/// Each reason why an equation is not readable.
 #[test]
 fn unreadable_equations(rt: HostRuntime) -> Result<(), Fail> {
     let cases = [

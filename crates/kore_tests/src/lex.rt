@@ -1,13 +1,13 @@
-// Worked texts: which tokens they have, and where they have none.
+// Worked texts: which tokens they have, and where there is no token.
 
 use kore_lex::{Lexer, TokenKind, text_value};
 use std::alloc::{AllocError, Global};
 use std::test::Fail;
 
-/// Longer texts are not tried.
+/// The greatest length in bytes of a text that is tried.
 const LONGEST: usize = 1000;
 
-/// The word for a kind of tokens.
+/// The word for a kind of token.
 fn word(kind: TokenKind) -> &'static str {
     match kind {
         TokenKind::Ident => "name",
@@ -20,7 +20,7 @@ fn word(kind: TokenKind) -> &'static str {
     }
 }
 
-/// The kinds of the tokens of a text with their bytes, up to the end or a fault.
+/// The kinds of the tokens of a text with their bytes, up to the end or to a fault.
 fn tokens(alloc: Global, text: &str) -> Result<String, AllocError> {
     let mut answer = String::new(alloc);
     if text.len() > LONGEST {

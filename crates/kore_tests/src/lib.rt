@@ -1,7 +1,8 @@
-//! Worked examples for the crates that read, check and print Kore: what no clause of theirs says.
+//! Worked examples for the crates that read, check and print Kore. They show what no clause of
+//! these crates says.
 //!
-//! A check of a crate's tests proves the whole crate once more. So the tests of libraries stand here, a module for
-//! each, and call what the library exports.
+//! A check of a crate's tests proves the whole crate again. So the tests of these libraries are
+//! here. Each library has a module, which calls what the library exports.
 #![tactic(auto)]
 
 #[cfg(test)]

@@ -1,11 +1,11 @@
-// Worked texts: what is printed of what was read.
+// Worked texts: what is printed after they are read.
 
 use kore_ast::{ReadFault, read_pattern};
 use kore_print::print_pattern;
 use std::alloc::Global;
 use std::test::Fail;
 
-/// Longer texts are not tried.
+/// The greatest length in bytes of a text that is tried.
 const LONGEST: usize = 1000;
 
 /// The canonical text of the pattern that a text spells.

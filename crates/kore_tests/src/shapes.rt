@@ -1,4 +1,4 @@
-// Patterns and the shapes that one expects of them.
+// Patterns, each with the shapes that are expected of it.
 use kore_ast::{Pat, read_pattern};
 use kore_shapes::{
     Companion, Condition, Side, SoughtForms, equation_parts, given_condition, has_binder, has_form,
@@ -7,7 +7,7 @@ use kore_shapes::{
 use std::alloc::{AllocError, Global};
 use std::test::Fail;
 
-/// Longer texts are not tried.
+/// The greatest length in bytes of a text that is tried.
 const LONGEST: usize = 1000;
 
 fn pattern(alloc: Global, text: &str) -> Result<Pat, Fail> {
@@ -37,8 +37,8 @@ fn condition_word(condition: Condition<'_>) -> &'static str {
     }
 }
 
-/// Whether a pattern is a rewrite rule with a left side, a right side and a condition of these words; or none, where
-/// the left word is empty.
+/// Whether a pattern is a rewrite rule whose left side, right side and condition have these words.
+/// If the left word is empty, the pattern must not be a rewrite rule.
 fn is_rule(pat: &Pat, left: &str, right: &str, condition: &str) -> bool {
     match rewriting_at(pat) {
         None => left.is_empty(),
@@ -137,7 +137,7 @@ fn rules(rt: HostRuntime) -> Result<(), Fail> {
     Ok(())
 }
 
-/// What of the forms stands in a pattern: an `\and`, another connective, a binder.
+/// Which of these forms occur in a pattern: an `\and`, another connective, a binder.
 #[test]
 fn forms(rt: HostRuntime) -> Result<(), Fail> {
     let cases = [
@@ -179,10 +179,11 @@ fn forms(rt: HostRuntime) -> Result<(), Fail> {
     Ok(())
 }
 
-/// The numbers of an equation's parameters and patterns, whether it has a condition, and the byte of its right side.
+/// The numbers of an equation's parameters and patterns, whether it has a condition, and the byte
+/// of its right side.
 type Parts = (usize, usize, bool, u32);
 
-/// None of a pattern that is no equation; an equation without parts has neither form.
+/// None for a pattern that is not an equation. `Some(None)` for an equation that has neither form.
 fn parts_of(alloc: Global, pat: &Pat) -> Result<Option<Option<Parts>>, AllocError> {
     let Some(stated) = statement_at(pat) else {
         return Ok(None);

@@ -9,7 +9,7 @@ use std::alloc::{AllocError, Global};
 use std::test::Fail;
 use term_core::{RulePat, SortId, Value};
 
-// A signature with a sort of whole numbers alone.
+// A signature with only one sort, which is of integers.
 fn numbers(alloc: Global) -> Result<Signature, AllocError>
     ensures { IfOk result (λ sig. IsSome (declared_name sig.sorts 0)) }
 {

@@ -1,11 +1,12 @@
-// Small definitions and the first fault of each: the number of the refusal, and in the text a caret in front of the
-// token at which it stands. A definition without a fault has number 0 and no caret.
+// Small definitions, each with its first fault. The number is that of the refusal. In the text a
+// caret is before the token of the fault. A definition without a fault has the number 0 and no
+// caret.
 use kore_ast::read_definition;
 use kore_sig::{SigFault, signature};
 use std::alloc::Global;
 use std::test::Fail;
 
-/// Longer texts are not tried.
+/// The greatest length in bytes of a text that is tried.
 const LONGEST: usize = 100_000;
 
 // An import names an earlier module.
@@ -32,7 +33,7 @@ const IMPORTS: [(u32, &str); 6] = [
     ),
 ];
 
-// Modules, sorts and symbols are three name spaces; only modules that count declare.
+// Modules, sorts and symbols have separate name spaces. Only modules that count declare names.
 const NAMES: [(u32, &str); 8] = [
     (5, "[] module A endmodule [] ^module A endmodule []"),
     (
@@ -68,7 +69,8 @@ const NAMES: [(u32, &str); 8] = [
     ),
 ];
 
-// A sort in a declaration of a symbol is one of its parameters, or declared without arguments.
+// A sort in a symbol's declaration is one of the symbol's parameters, or a declared sort without
+// arguments.
 const SORTS: [(u32, &str); 11] = [
     (
         6,
@@ -207,7 +209,7 @@ fn number_and_byte(fault: SigFault) -> (u32, u32) {
     }
 }
 
-/// What comes of a definition's text: (0, 0) where it has no fault.
+/// The number and the byte of the first fault of a definition's text, or (0, 0) if it has no fault.
 fn first_fault(alloc: Global, text: &str) -> (u32, u32) {
     if text.len() > LONGEST {
         return (1_001, 0);
@@ -242,7 +244,7 @@ fn first_faults(rt: HostRuntime) -> Result<(), Fail> {
     Ok(())
 }
 
-/// A symbol with so many arguments, with the last one as given, and a text in front of it.
+/// A symbol with this many arguments, the last one as given, after the text `front`.
 fn wide_symbol(alloc: Global, front: &str, arguments: usize, last: &str) -> Result<String, Fail> {
     let mut text = format!(in alloc; "[] module M sort S{{}} [] {front}symbol a{{}}(")?;
     for _ in 1..arguments {
@@ -253,7 +255,7 @@ fn wide_symbol(alloc: Global, front: &str, arguments: usize, last: &str) -> Resu
     Ok(text)
 }
 
-// 64 arguments are allowed; an unknown sort comes before too many arguments.
+// 64 arguments are allowed. An unknown sort comes before too many arguments.
 #[test]
 fn arities(rt: HostRuntime) -> Result<(), Fail> {
     let alloc = rt.alloc();

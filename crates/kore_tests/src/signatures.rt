@@ -1,4 +1,4 @@
-// Definitions and the signatures that one expects of them.
+// Definitions, each with the signature that is expected of it.
 use kore_ast::{Decl, read_definition};
 use kore_sig::{
     counted_declarations, first_of_name, has_attribute, signature, signature_laws, sort_number,
@@ -9,7 +9,7 @@ use std::alloc::Global;
 use std::test::Fail;
 use term_core::SortId;
 
-/// Longer texts are not tried.
+/// The greatest length in bytes of a text that is tried.
 const LONGEST: usize = 100_000;
 
 /// Injections of nested subsorts, and constructors.
@@ -21,14 +21,15 @@ const NESTED_INJECTIONS: &str =
     axiom{R} \\top{R}() [subsort{SortAExp{},SortKItem{}}()] \
     symbol k{}(SortKItem{}) : T{} [constructor{}()] symbol done{}(SortStmt{}) : T{} [constructor{}()] endmodule []";
 
-/// Functions with hooks; not all hooks are ones of whole numbers.
+/// Functions with hooks. Not all of the hooks are of integers.
 const INTEGER_FUNCTIONS: &str = "[] module D hooked-sort SortInt{} [hook{}(\"INT.Int\")] \
     hooked-sort SortBool{} [hook{}(\"BOOL.Bool\")] hooked-sort SortString{} [hook{}(\"STRING.String\")] \
     symbol n{}(SortInt{}) : SortBool{} [constructor{}()] \
     hooked-symbol add{}(SortInt{},SortInt{}) : SortInt{} [function{}(),hook{}(\"INT.add\")] \
     hooked-symbol len{}(SortString{}) : SortInt{} [function{}(),hook{}(\"STRING.length\")] endmodule []";
 
-/// Two modules that are reached, one that is not, and declarations of which each may name the others' sorts.
+/// Two modules that are reached and one that is not. Each declaration may use the sorts of the
+/// others.
 const APPEND_LIST: &str = "[] module BASIC-K sort SortK{} [] sort SortKItem{} [] endmodule [] \
     module OTHER sort SortK{} [] symbol kseq{}() : SortK{} [] endmodule [] \
     module KSEQ import BASIC-K [] \
@@ -37,7 +38,8 @@ const APPEND_LIST: &str = "[] module BASIC-K sort SortK{} [] sort SortKItem{} []
     module G import KSEQ [] sort T{} [] symbol p{}() : SortKItem{} [constructor{}()] \
     symbol k{}(SortK{}) : T{} [constructor{}()] endmodule []";
 
-/// As kompile writes it, shortened: a map that an axiom says to be commutative, and an injection of another module.
+/// A definition as kompile writes it, shortened. An axiom says that a map is commutative, and the
+/// injection is in another module.
 const ADDITION: &str = "[topCellInitializer{}(Lblinit{}())] \
     module INJ symbol inj{From, To}(From) : To [sortInjection{}()] \
     axiom{S1, S2, S3, R} \\equals{S3, R}(inj{S2, S3}(inj{S1, S2}(T:S1)), inj{S1, S3}(T:S1)) [simplification{}()] \
@@ -54,7 +56,7 @@ const ADDITION: &str = "[topCellInitializer{}(Lblinit{}())] \
     axiom{} \\bottom{SortMap{}}() [constructor{}()] // no junk\n\
     endmodule []";
 
-/// A symbol for each kind, and edges of the kinds.
+/// A symbol of each kind, and edge cases of the kinds.
 const KINDS: &str = "[] module M sort S{} [hook{}()] symbol same{A,A}(A) : A [sortInjection{}()] \
     symbol inj{A,B}(A) : B [function{}(),sortInjection{}()] symbol again{A,B}(A) : B [sortInjection{}()] \
     symbol f{}() : S{} [constructor{}(),function{}(),hook{}(),assoc{S{}}(a{}())] \
@@ -63,7 +65,7 @@ const KINDS: &str = "[] module M sort S{} [hook{}()] symbol same{A,A}(A) : A [so
     axiom{} \\equals{S{},S{}}(u{}(),u{}()) [unit{}()] claim{} \\equals{S{},S{}}(v{}(),v{}()) [unit{}()] \
     axiom{} \\equals{S{},S{}}(g{S{}}(),v{}()) [idem{}()] endmodule []";
 
-/// A sort in a declaration: `#` and its place where it is a parameter.
+/// A sort in a declaration: its name, or `#` and its place if it is a parameter.
 fn shown_sort(alloc: Global, sorts: &Table<SortInfo>, of: SortRef) -> Result<String, Fail> {
     match of {
         SortRef::Param(place) => Ok(format!(in alloc; "#{place}")?),
@@ -74,7 +76,8 @@ fn shown_sort(alloc: Global, sorts: &Table<SortInfo>, of: SortRef) -> Result<Str
     }
 }
 
-/// A symbol: its kind, its parameters, the sorts of its arguments and of its result, its hook, and whether it is AC.
+/// A symbol: its kind, its parameters, the sorts of its arguments and of its result, its hook, and
+/// whether it is AC.
 fn shown_symbol(alloc: Global, sorts: &Table<SortInfo>, info: &SymInfo) -> Result<String, Fail> {
     let mut text = format!(in alloc; "{:?} {} (", info.kind, info.params)?;
     for arg in &info.args {
@@ -92,7 +95,7 @@ fn shown_symbol(alloc: Global, sorts: &Table<SortInfo>, info: &SymInfo) -> Resul
     Ok(text)
 }
 
-/// The sorts, the symbols and the pairs of a signature, a line each.
+/// The sorts, the symbols and the pairs of a signature, each on its own line.
 fn shown_signature(alloc: Global, sig: &Signature) -> Result<String, Fail> {
     let mut text = String::new(alloc);
     for i in 0..sig.sorts.len() {
@@ -116,7 +119,7 @@ fn shown_signature(alloc: Global, sig: &Signature) -> Result<String, Fail> {
     Ok(text)
 }
 
-/// The signature of a definition's text, or a word where it has none.
+/// The signature of a definition's text, or a word if it has none.
 fn shown(alloc: Global, text: &str) -> Result<String, Fail> {
     if text.len() > LONGEST {
         return Ok(String::from_str(alloc, "long")?);
@@ -174,7 +177,7 @@ fn signatures(rt: HostRuntime) -> Result<(), Fail> {
     Ok(())
 }
 
-// What the crate above reads: the declarations that count, attributes by name, and sorts by number.
+// What other crates read: the declarations that count, attributes by name, and sorts by number.
 #[test]
 fn declarations_attributes_and_sorts(rt: HostRuntime) -> Result<(), Fail> {
     let alloc = rt.alloc();

@@ -1,10 +1,10 @@
-// Worked texts: which are good, and which fault comes first in the others.
+// Worked texts: which of them are good, and which fault comes first in the others.
 
 use kore_text::{TextFault, definition_fault, pattern_fault};
 use std::alloc::{AllocError, Global};
 use std::test::Fail;
 
-/// Longer texts are not tried.
+/// The greatest length in bytes of a text that is tried.
 const LONGEST: usize = 100_000;
 
 /// A fault as the tables write it.
@@ -35,7 +35,7 @@ fn of_definition(alloc: Global, text: &str) -> Result<String, AllocError> {
     shown(alloc, fault)
 }
 
-/// `b{}()` in so many applications of `s`.
+/// `b{}()` inside `levels` applications of `s`.
 fn nested(alloc: Global, levels: usize) -> Result<String, AllocError> {
     let mut text = String::new(alloc);
     for _ in 0..levels {
@@ -78,13 +78,13 @@ fn patterns(rt: HostRuntime) -> Result<(), Fail> {
         ("a{}(b{}() c{}())", "syntax 10"),
         ("a{}() a{}()", "syntax 6"),
         ("a{}())", "syntax 5"),
-        // what is no token
+        // what is not a token
         ("1{}()", "lex 0"),
         ("a_b{}()", "lex 1"),
         ("a{}(\"\\q\")", "lex 5"),
         ("a{} /*", "lex 4"),
         ("a{(}_)", "syntax 2"),
-        // a fold without an argument counts at its name
+        // a fold without an argument has its fault at the name of the fold
         ("a{}(\\left-assoc{}(f{}()))", "syntax 4"),
         ("\\right-assoc{}(\\and{S}() ;", "syntax 0"),
         ("\\right-assoc{}(\\and{S,T}())", "syntax 21"),

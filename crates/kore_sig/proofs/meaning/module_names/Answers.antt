@@ -12,7 +12,7 @@ use Rattle.kore_sig.proofs.ListLaws.{drop_step, map_step}
 use Rattle.kore_sig.proofs.SetLaws.{number_among, names_push}
 use Rattle.kore_sig.proofs.meaning.module_names.Goals as goal
 
--- what is known of a name where it was added, or was not
+-- whether a name was there, from whether it was added
 taken : (fresh there : Bool) → fresh ≡ not there → fresh ≡ false → there ≡ true
 taken fresh true e f = refl
 taken fresh false e f = absurd (let never : ⊥ = cc in never)
