@@ -1,4 +1,4 @@
--- Contexts with a place, which the rules of equality make, and the sides that have no variable.
+-- The contexts that the rules of equality build, and the sides that have no variable.
 use Rattle.std.proofs.Common.{◌≡◌, ℕ, Some, refl, sym, ◌∙◌, ap, subst}
 use Rattle.ml_pat.specs.Patterns.{Pattern, equal, app, var, fun}
 use Rattle.ml_pat.specs.Judgements.{substituted}
@@ -7,7 +7,7 @@ use Rattle.ml_kernel.proofs.InstanceLaws.{substituted-without}
 use Rattle.ml_derived.specs.Equalities.{IsFromClosed, AreJoinable}
 use Rattle.ml_derived.specs.Parts.{Takes, IsElementOf}
 
--- the context is c, and what is made is m, by these equations
+-- the substitution for the context c and the result m, with both replaced along these equations
 as_made : (c context m made u : Pattern) → context ≡ c → made ≡ m → substituted c 0 u ≡ Some m → substituted context 0 u ≡ Some made
 as_made c context m made u is makes same = ap (λ (r : Pattern). substituted r 0 u) is ∙ same ∙ ap (λ (r : Pattern). Some r) (sym makes)
 
@@ -51,13 +51,13 @@ closed_join e g p q h is = subst (λ (r : Pattern). HasNoVariable r) (first_side
 last_side : (p q r t : Pattern) → equal p q ≡ equal r t → q ≡ t
 last_side p q r t h = cc
 
--- what the first equality is to is what the second is from
+-- the second side of the first equality is the first side of the second
 pub to_middle : (e g p q r t : Pattern) → AreJoinable e g → e ≡ equal p q → g ≡ equal r t → e ≡ equal p r
 to_middle e g p q r t h is that =
     is ∙ ap (λ (u : Pattern). equal p u)
     (last_side p q h.0 h.1.0 (sym is ∙ h.1.1.1.0) ∙ first_side h.1.0 h.1.1.0 r t (sym h.1.1.1.1.0 ∙ that))
 
--- nor has the pattern of a fact
+-- the pattern of a fact has no variable
 pub closed_element : (sentence fact q : Pattern) → Takes sentence fact → IsElementOf q fact → HasNoVariable q
 closed_element sentence fact q h is =
     subst (λ (r : Pattern). HasNoVariable r) (element_same h.1.1.0 q h.1.0 is.0 (sym h.1.1.1.1.1.0 ∙ is.1)) h.1.1.1.1.1.1

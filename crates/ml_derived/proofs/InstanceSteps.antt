@@ -1,4 +1,4 @@
--- Instances at one pattern after the other.
+-- Instances at one pattern after another.
 use Rattle.std.proofs.Common.{◌≡◌, ◌<◌, ◌≤◌, ◌+◌, ℕ, zero, suc, List, [], ◌∷◌, length, drop, get_or, refl, sym, ◌∙◌, ap, subst, add-one, drop-cons, arith}
 use Rattle.std.proofs.lemmas.List.{drop_all}
 use Rattle.ml_pat.specs.Patterns.{Pattern, fun, all}
@@ -19,7 +19,7 @@ element_same p q s v h = cc
 same_put : (x y : ℕ) (p q a b : Pattern) → x ≡ y → p ≡ q → a ≡ b → put x p a ≡ put y q b
 same_put x y p q a b e g h = cc
 
--- a sentence has one instance at these facts
+-- a sentence has only one instance at these facts
 pub IsInstance-unique : (p : Pattern) (facts : List Pattern) (r t : Pattern) → IsInstance p facts r → IsInstance p facts t → r ≡ t
 IsInstance-unique p [] r t h k = h ∙ sym k
 IsInstance-unique p (fact ∷ facts) r t h k =
@@ -30,7 +30,7 @@ IsInstance-unique p (fact ∷ facts) r t h k =
     (body_same h.0 k.0 h.1.0 k.1.0 h.1.1.1.0 k.1.1.1.0 sentences) in
     IsInstance-unique (put k.0 k.1.1.0 k.1.1.1.0) facts r t (subst (λ (q : Pattern). IsInstance q facts r) same h.1.1.1.1.1.1.1) k.1.1.1.1.1.1.1
 
--- where there is an instance, the first fact can be taken
+-- if there is an instance, the sentence takes the first fact
 taken : (p fact : Pattern) (facts : List Pattern) → HasInstance p (fact ∷ facts) → Takes p fact
 taken p fact facts (r, (x, (s, (q, (body, (is, (element, (closed, rest)))))))) = (x, (s, (q, (body, (is, (element, closed))))))
 
@@ -42,7 +42,8 @@ next_is : (p fact new r : Pattern) (facts : List Pattern) → HasInstance p (fac
 next_is p fact new r facts (t, (x, (s, (q, (body, (is, (element, (closed, rest)))))))) made h =
     (x, (s, (q, (body, (is, (element, (closed, subst (λ (t : Pattern). IsInstance t facts r) (made x s q body is element) h)))))))
 
--- The state of the loop: what is at hand has an instance at the facts that are left, which is the sentence's at all.
+-- The invariant of the loop: the present theorem has an instance at the remaining facts, and that
+-- is the instance of the sentence at all facts.
 pub record IsPresent (sentence : Theorem) (facts : List Theorem) (i : ℕ) (present : Theorem) : Type 0 where
   pub has : HasInstance present.conclusion (conclusions (drop i facts))
   pub whole : (r : Pattern) → IsInstance present.conclusion (conclusions (drop i facts)) r → IsInstance sentence.conclusion (conclusions facts) r
@@ -67,12 +68,12 @@ left_at : (sentence : Theorem) (facts : List Theorem) (i : ℕ) (present fact : 
     → HasInstance present.conclusion (fact.conclusion ∷ conclusions (drop (i + 1) facts))
 left_at sentence facts i present fact h lt is = subst (λ (ts : List Theorem). HasInstance present.conclusion (conclusions ts)) (next_fact facts i fact lt is) h.has
 
--- the next fact can be taken
+-- the present theorem takes the next fact
 pub at_fact : (sentence : Theorem) (facts : List Theorem) (i : ℕ) (present fact : Theorem) → IsPresent sentence facts i present → i < length facts → fact ≡ get_or facts i fact
     → Takes present.conclusion fact.conclusion
 at_fact sentence facts i present fact h lt is = taken present.conclusion fact.conclusion (conclusions (drop (i + 1) facts)) (left_at sentence facts i present fact h lt is)
 
--- and then the state is kept
+-- the invariant holds again after the next fact
 pub after_fact : (sentence : Theorem) (facts : List Theorem) (i : ℕ) (present fact new : Theorem) → IsPresent sentence facts i present → i < length facts
     → fact ≡ get_or facts i fact → IsPutIn present.conclusion fact.conclusion new.conclusion → StaysWithin [] (present ∷ fact ∷ []) new → IsPresent sentence facts (i + 1) new
 after_fact sentence facts i present fact new h lt is made stays =
@@ -84,7 +85,7 @@ after_fact sentence facts i present fact new h lt is made stays =
       stays = λ s hp ht. stays s tt (h.stays s tt ht, (within_at s facts i fact ht.1 lt is, tt));
     }
 
--- after the last fact the instance is at hand
+-- after the last fact, the present theorem is the instance
 pub at_end : (sentence : Theorem) (facts : List Theorem) (i : ℕ) (present : Theorem) → IsPresent sentence facts i present → length facts ≤ i
     → IsInstance sentence.conclusion (conclusions facts) present.conclusion
 at_end sentence facts i present h le =

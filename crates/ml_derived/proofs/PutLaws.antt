@@ -1,4 +1,4 @@
--- Substitution of patterns without variables, and the leaves of what substitution makes.
+-- Substitution of patterns without variables, and the leaves of the result of a substitution.
 use Rattle.std.proofs.Common.{◌≡◌, ◌==◌, ◌||◌, ℕ, Bool, true, false, cond, Option, Some, None, option_map, refl, sym, ◌∙◌, ap, subst}
 use Rattle.ml_pat.specs.Patterns.{Pattern, bot, top, imp, not, and, or, equal, member, fun, ex, all, app, at_sort, next, ev, var, meta, constant}
 use Rattle.ml_pat.specs.Judgements.{fresh, substituted, both_parts}
@@ -14,7 +14,7 @@ two_put f p q a b e g = rw (e, g) refl
 pub some_same : (p q : Pattern) → Some p ≡ Some q → p ≡ q
 some_same p q h = cc
 
--- b: x is the variable that is bound; d: x is not free in p; e: the variable that is bound is not free in u
+-- b: x is the bound variable; d: x is not free in p; e: the bound variable is not free in u
 bound_put : (f : Pattern → Pattern) (b d e : Bool) (p q : Pattern) (a : Option Pattern) → e ≡ true → a ≡ Some q → (d ≡ true → p ≡ q)
     → cond (b || d) (Some (f p)) (cond e (option_map f a) None) ≡ Some (cond b (f p) (f q))
 bound_put f true d e p q a h g k = refl
@@ -28,7 +28,7 @@ variable_put : (b : Bool) (u p : Pattern) → cond b (Some u) (Some p) ≡ Some 
 variable_put true u p = refl
 variable_put false u p = refl
 
--- a pattern without variables can come in for every variable
+-- a pattern without variables can be substituted for every variable
 pub substituted-put : (x : ℕ) (u p : Pattern) → HasNoVariable u → substituted p x u ≡ Some (put x u p)
 substituted-put x u bot h = refl
 substituted-put x u top h = refl
@@ -49,7 +49,7 @@ substituted-put x u (var y) h = variable_put (x == y) u (var y)
 substituted-put x u (meta i) h = refl
 substituted-put x u (constant c) h = refl
 
--- each leaf has its fact, where there is a pattern
+-- each leaf has its fact, if there is a pattern
 abbrev pub EachLeafOf : LeafFacts → Option Pattern → Type 0
 EachLeafOf f None = Unit {0}
 EachLeafOf f (Some p) = EachLeaf f p
@@ -94,7 +94,7 @@ each_leaf f x u (var y) h k = variable_leaves f (x == y) u (var y) h k
 each_leaf f x u (meta i) h k = k
 each_leaf f x u (constant c) h k = k
 
--- substitution brings in only the leaves of what comes in
+-- the leaves of the result are leaves of the pattern or of the replacement
 pub EachLeaf-substituted : (f : LeafFacts) (x : ℕ) (u p r : Pattern) → EachLeaf f u → EachLeaf f p → substituted p x u ≡ Some r → EachLeaf f r
 EachLeaf-substituted f x u p r h k e = subst (EachLeafOf f) e (each_leaf f x u p h k)
 

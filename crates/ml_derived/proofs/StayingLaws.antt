@@ -1,4 +1,4 @@
--- What a theorem within a scope has in its parts.
+-- The parts of a theorem that is within a scope.
 use Rattle.std.proofs.Common.{◌≡◌, subst}
 use Rattle.std.specs.Prelude.{Result, Ok, Err, IfOk}
 use Rattle.ml_pat.specs.Patterns.{Pattern}
@@ -9,6 +9,6 @@ pub if_ok : {T E : Type 0} {P Q : T → Type 0} (r : Result T E) → ((x : T) �
 if_ok (Ok x) f h = f x h
 if_ok (Err e) f h = tt
 
--- what the theorem concludes, as another pattern
+-- the conclusion of the theorem, as an equal pattern
 pub concluded : (s : Scope) (t : Theorem) (p : Pattern) → IsWithin s t → t.conclusion ≡ p → IsOver s p
 concluded s t p within is = subst (IsOver s) is within.conclusion

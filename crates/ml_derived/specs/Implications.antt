@@ -1,12 +1,12 @@
--- The forms of implications that derived rules take and give.
+-- The forms of the implications that derived rules take and return.
 use Rattle.std.specs.Prelude.{◌≡◌}
 use Rattle.ml_pat.specs.Patterns.{Pattern, top, imp, and, next, ev}
 
--- two implications, the first to what the second is from
+-- two implications such that the second side of the first is the first side of the second
 abbrev pub AreLinked : Pattern → Pattern → Type 0
 AreLinked first second = (p : Pattern) × ((q : Pattern) × ((r : Pattern) × ((first ≡ imp p q) × (second ≡ imp q r))))
 
--- the implication from what the first is from to what the second is to
+-- the implication from the first side of the first to the second side of the second
 abbrev pub IsChain : Pattern → Pattern → Pattern → Type 0
 IsChain first second whole = (p q r : Pattern) → first ≡ imp p q → second ≡ imp q r → whole ≡ imp p r
 
@@ -26,7 +26,7 @@ HasCondition c rule = (p : Pattern) × ((q : Pattern) × (rule ≡ imp (and p c)
 abbrev pub IsFreedOf : Pattern → Pattern → Pattern → Type 0
 IsFreedOf c rule freed = (p q : Pattern) → rule ≡ imp (and p c) q → freed ≡ imp p q
 
--- .. where that is no more than `top`
+-- `p & top -> q`
 abbrev pub HasTopCondition : Pattern → Type 0
 HasTopCondition = HasCondition top
 

@@ -4,7 +4,7 @@ use Rattle.ml_pat.specs.Patterns.{Pattern, bot, top, imp, not, and, or, equal, m
 use Rattle.ml_pat.specs.Patterns.{app, at_sort, next, ev, var, meta, constant}
 use Rattle.ml_kernel.specs.Lemmas.{HasNoVariable}
 
--- The pattern with u in the place of each free x, where u has no variable: so nothing is captured.
+-- The pattern with u substituted for each free x. If u has no variable, nothing is captured.
 abbrev pub put : ℕ → Pattern → Pattern → Pattern
 put x u bot = bot
 put x u top = top
@@ -25,14 +25,14 @@ put x u (var y) = if x == y then u else var y
 put x u (meta i) = meta i
 put x u (constant c) = constant c
 
--- r is p at the closed patterns of these facts, which say in turn that a pattern is one element of the sort of the
--- variable that is bound first.
+-- r is p at the closed patterns of these facts. Each fact says that a pattern is one element of the
+-- sort of the variable that is the outermost one then.
 abbrev pub IsInstance : Pattern → List Pattern → Pattern → Type 0
 IsInstance p [] r = r ≡ p
 IsInstance p (fact ∷ facts) r =
     (x : ℕ) × ((s : ℕ) × ((q : Pattern) × ((body : Pattern) ×
     ((p ≡ all x s body) × ((fact ≡ fun q s) × (HasNoVariable q × IsInstance (put x q body) facts r))))))
 
--- p binds a variable for each of the facts, at its sort
+-- p binds a variable of the right sort for each of the facts
 abbrev pub HasInstance : Pattern → List Pattern → Type 0
 HasInstance p facts = (r : Pattern) × IsInstance p facts r

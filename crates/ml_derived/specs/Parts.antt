@@ -1,4 +1,4 @@
--- The patterns whose parts derived rules take.
+-- The patterns whose parts derived rules read.
 use Rattle.std.specs.Prelude.{◌≡◌, ℕ, Some}
 use Rattle.ml_pat.specs.Patterns.{Pattern, imp, and, equal, next, fun, all}
 use Rattle.ml_pat.specs.Judgements.{substituted}
@@ -24,19 +24,20 @@ IsFunctional t = (p : Pattern) × ((s : ℕ) × (t ≡ fun p s))
 abbrev pub IsElementOf : Pattern → Pattern → Type 0
 IsElementOf p t = (s : ℕ) × (t ≡ fun p s)
 
--- the sentence binds a variable of the sort at which the fact has a closed pattern
+-- the sentence binds a variable, and the fact says that a closed pattern is one element of the
+-- variable's sort
 abbrev pub Takes : Pattern → Pattern → Type 0
 Takes sentence fact =
     (x : ℕ) × ((s : ℕ) × ((q : Pattern) × ((body : Pattern) ×
     ((sentence ≡ all x s body) × ((fact ≡ fun q s) × HasNoVariable q)))))
 
--- the sentence at the pattern of the fact
+-- the sentence with the pattern of the fact substituted for its variable
 abbrev pub IsPutIn : Pattern → Pattern → Pattern → Type 0
 IsPutIn sentence fact r = (x s : ℕ) (q body : Pattern) → sentence ≡ all x s body → fact ≡ fun q s → r ≡ put x q body
 
 abbrev pub IsEquality : Pattern → Type 0
 IsEquality t = (p : Pattern) × ((q : Pattern) × (t ≡ equal p q))
 
--- the pattern can come in for x
+-- the pattern can be substituted for x
 abbrev pub CanReplace : Pattern → ℕ → Pattern → Type 0
 CanReplace context x p = (made : Pattern) × (substituted context x p ≡ Some made)

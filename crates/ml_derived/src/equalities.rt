@@ -1,5 +1,5 @@
-// Rules of equality. Each puts one side of an equality in the place of the other, in a context: a pattern with a
-// variable at the place.
+// Rules of equality. Each replaces one side of an equality by the other in a context. A context is
+// a pattern with a variable that marks the place.
 ghost use Rattle.std.specs.Prelude.{◌≡◌, [], ◌∷◌, IfOk, Some};
 ghost use Rattle.ml_pat.specs.Patterns.{equal, app, var};
 ghost use Rattle.ml_pat.specs.Judgements.{substituted};
@@ -14,10 +14,11 @@ use ml_pat::{MForm, MPat, VarNo, subst};
 use ml_scope::{eq_el, eq_refl, mp};
 use std::alloc::{AllocError, Global};
 
-// The variable that marks the place in the contexts made here. No variable stands in the other parts of them.
+// The variable that marks the place in the contexts of this module. The other parts of these
+// contexts have no variable.
 const HOLE: VarNo = VarNo(0);
 
-/// The context with q for x, from `p = q` and the context with p for x. An error: memory was refused.
+/// The context with q for x, from `p = q` and the context with p for x. An error: out of memory.
 pub fn carry(alloc: Global, eq: &Thm, ctx: &MPat, x: VarNo, thm: &Thm) -> Result<Thm, AllocError>
     requires { CanCarry eq.now.conclusion ctx.now x.0 thm.now.conclusion }
     ensures conclusion { IfOk result (λ t. IsCarried eq.now.conclusion ctx.now x.0 t.conclusion) }
@@ -28,7 +29,7 @@ pub fn carry(alloc: Global, eq: &Thm, ctx: &MPat, x: VarNo, thm: &Thm) -> Result
     carried(alloc, eq, p, q, ctx, x, thm, &made)
 }
 
-/// `q = p`, from `p = q`. An error: memory was refused.
+/// `q = p`, from `p = q`. An error: out of memory.
 pub fn flip(alloc: Global, ab: &Thm) -> Result<Thm, AllocError>
     requires { IsFromClosed ab.now.conclusion }
     ensures conclusion { IfOk result (λ t. IsFlip ab.now.conclusion t.conclusion) }
@@ -41,7 +42,7 @@ pub fn flip(alloc: Global, ab: &Thm) -> Result<Thm, AllocError>
     carried(alloc, ab, p, q, &context, HOLE, &same, &flipped)
 }
 
-/// `p = r`, from `p = q` and `q = r`. An error: memory was refused.
+/// `p = r`, from `p = q` and `q = r`. An error: out of memory.
 pub fn join(alloc: Global, ab: &Thm, bc: &Thm) -> Result<Thm, AllocError>
     requires { AreJoinable ab.now.conclusion bc.now.conclusion }
     ensures conclusion { IfOk result (λ t. IsJoin ab.now.conclusion bc.now.conclusion t.conclusion) }
@@ -54,7 +55,7 @@ pub fn join(alloc: Global, ab: &Thm, bc: &Thm) -> Result<Thm, AllocError>
     carried(alloc, bc, q, r, &context, HOLE, ab, &joined)
 }
 
-/// `p r = q t`, from `p = q` and `r = t`. An error: memory was refused.
+/// `p r = q t`, from `p = q` and `r = t`. An error: out of memory.
 pub fn cong_app(alloc: Global, f: &Thm, a: &Thm) -> Result<Thm, AllocError>
     requires { AreApplicable f.now.conclusion a.now.conclusion }
     ensures conclusion { IfOk result (λ t. IsApplied f.now.conclusion a.now.conclusion t.conclusion) }
@@ -67,7 +68,7 @@ pub fn cong_app(alloc: Global, f: &Thm, a: &Thm) -> Result<Thm, AllocError>
     argument_in(alloc, &one, a, q, r, t, &from)
 }
 
-/// `p r = q r`, from `p = q`. An error: memory was refused.
+/// `p r = q r`, from `p = q`. An error: out of memory.
 pub fn cong_fun(alloc: Global, f: &Thm, r: &MPat) -> Result<Thm, AllocError>
     requires equality { IsFromClosed f.now.conclusion }
     requires closed { HasNoVariable r.now }
@@ -79,7 +80,7 @@ pub fn cong_fun(alloc: Global, f: &Thm, r: &MPat) -> Result<Thm, AllocError>
     applied_to(alloc, f, p, q, r, &from)
 }
 
-/// `p r = p t`, from `r = t`. An error: memory was refused.
+/// `p r = p t`, from `r = t`. An error: out of memory.
 pub fn cong_arg(alloc: Global, p: &MPat, a: &Thm) -> Result<Thm, AllocError>
     requires closed { HasNoVariable p.now }
     requires equality { IsFromClosed a.now.conclusion }
@@ -92,7 +93,7 @@ pub fn cong_arg(alloc: Global, p: &MPat, a: &Thm) -> Result<Thm, AllocError>
     argument_in(alloc, &same, a, p, r, t, &from)
 }
 
-// `p r = q r`, from `p = q`; from is `p r`.
+// `p r = q r`, from `p = q`. `from` is `p r`.
 fn applied_to(
     alloc: Global,
     f: &Thm,
@@ -138,7 +139,7 @@ fn argument_in(
     carried(alloc, a, r, t, &context, HOLE, one, &made)
 }
 
-// What is made, the context with q for x, from `p = q` and the context with p for x.
+// `made`, which is the context with q for x, from `p = q` and the context with p for x.
 fn carried(
     alloc: Global,
     eq: &Thm,
@@ -173,7 +174,7 @@ fn replaced(alloc: Global, ctx: &MPat, x: VarNo, q: &MPat) -> Result<MPat, Alloc
     }
 }
 
-// The sides of an equality.
+// The two sides of an equality.
 fn sides(p: &MPat) -> (&MPat, &MPat)
     requires { IsEquality p.now }
     ensures { p.now ≡ equal result.0.now result.1.now }

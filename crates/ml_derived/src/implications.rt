@@ -11,7 +11,7 @@ use ml_pat::{MForm, MPat};
 use ml_scope::{and_3, mp, p_1, p_2, top};
 use std::alloc::{AllocError, Global};
 
-/// `p -> r`, from `p -> q` and `q -> r`.
+/// `p -> r`, from `p -> q` and `q -> r`. An error: out of memory.
 pub fn chain(alloc: Global, ab: &Thm, bc: &Thm) -> Result<Thm, AllocError>
     requires { AreLinked ab.now.conclusion bc.now.conclusion }
     ensures conclusion { IfOk result (λ t. IsChain ab.now.conclusion bc.now.conclusion t.conclusion) }
@@ -22,7 +22,7 @@ pub fn chain(alloc: Global, ab: &Thm, bc: &Thm) -> Result<Thm, AllocError>
     chained(alloc, ab, bc, p, q, r)
 }
 
-/// `p & q`, from p and q. An error: memory was refused.
+/// `p & q`, from p and q. An error: out of memory.
 pub fn both(alloc: Global, a: &Thm, b: &Thm) -> Result<Thm, AllocError>
     ensures conclusion { IfOk result (λ t. t.conclusion ≡ and a.now.conclusion b.now.conclusion) }
     ensures stays { IfOk result (StaysWithin [] (a.now ∷ b.now ∷ [])) }
@@ -85,7 +85,7 @@ pub(crate) fn under(
     mp(alloc, a, &both, &left, &right)
 }
 
-// `(h -> p) -> h -> q`, from `h -> p -> q`; left and right are its sides.
+// `(h -> p) -> h -> q`, from `h -> p -> q`. `left` and `right` are the sides of the result.
 fn distributed(
     alloc: Global,
     b: &Thm,
@@ -106,7 +106,8 @@ fn distributed(
     mp(alloc, b, &rule, b.conclusion(), &sides)
 }
 
-/// `p -> q`, from `p & top -> q`: a condition that always holds is left out. An error: out of memory.
+/// `p -> q`, from `p & top -> q`. The condition `top` always holds, so it is removed. An error: out
+/// of memory.
 pub fn free_of_top(alloc: Global, rule: &Thm) -> Result<Thm, AllocError>
     requires { HasTopCondition rule.now.conclusion }
     ensures conclusion { IfOk result (λ t. IsFreed rule.now.conclusion t.conclusion) }
@@ -116,7 +117,8 @@ pub fn free_of_top(alloc: Global, rule: &Thm) -> Result<Thm, AllocError>
     free_of_condition(alloc, rule, &holds)
 }
 
-/// `p -> q`, from `p & c -> q` and c: a condition that holds is left out. An error: out of memory.
+/// `p -> q`, from `p & c -> q` and c. The condition c holds, so it is removed. An error: out of
+/// memory.
 pub fn free_of_condition(alloc: Global, rule: &Thm, condition: &Thm) -> Result<Thm, AllocError>
     requires { HasCondition condition.now.conclusion rule.now.conclusion }
     ensures conclusion { IfOk result
@@ -129,7 +131,7 @@ pub fn free_of_condition(alloc: Global, rule: &Thm, condition: &Thm) -> Result<T
     chained(alloc, &with_condition, rule, p, from, q)
 }
 
-// `p -> p & c`, from c; both is `p & c`.
+// `p -> p & c`, from c. `both` is `p & c`.
 fn add_condition(alloc: Global, p: &MPat, both: &MPat, condition: &Thm) -> Result<Thm, AllocError>
     requires { both.now ≡ and p.now condition.now.conclusion }
     ensures conclusion { IfOk result (λ t. t.conclusion ≡ imp p.now both.now) }
@@ -141,7 +143,7 @@ fn add_condition(alloc: Global, p: &MPat, both: &MPat, condition: &Thm) -> Resul
     under(alloc, &lifted, &joining, p, c, both)
 }
 
-// The parts of a conjunction.
+// The two parts of a conjunction.
 fn conjuncts(p: &MPat) -> (&MPat, &MPat)
     requires { IsConjunction p.now }
     ensures { p.now ≡ and result.0.now result.1.now }
@@ -152,7 +154,7 @@ fn conjuncts(p: &MPat) -> (&MPat, &MPat)
     }
 }
 
-// The sides of an implication.
+// The two sides of an implication.
 pub(crate) fn sides(p: &MPat) -> (&MPat, &MPat)
     requires { IsImplication p.now }
     ensures { p.now ≡ imp result.0.now result.1.now }

@@ -1,4 +1,4 @@
-// Instances of sentences: closed patterns in the places of the variables that a sentence binds.
+// Instances of sentences: closed patterns are substituted for the variables that a sentence binds.
 ghost use Rattle.std.specs.Prelude.{◌≡◌, [], ◌∷◌, IfOk};
 ghost use Rattle.ml_pat.specs.Patterns.{all};
 ghost use Rattle.ml_kernel.specs.Lemmas.{HasNoVariable};
@@ -12,9 +12,9 @@ use ml_pat::{MForm, MPat, MSort, VarNo, subst};
 use ml_scope::{inst, mp};
 use std::alloc::{AllocError, Global};
 
-/// The sentence with closed patterns in the places of the variables that it binds first, one for each of the facts,
-/// which say that the pattern is one element of the variable's sort. Without facts it is the sentence. An error:
-/// memory was refused.
+/// The sentence with closed patterns substituted for its outermost bound variables, one for each
+/// fact. A fact says that the pattern is one element of the variable's sort. Without facts the
+/// result is the sentence. An error: out of memory.
 pub fn instance(alloc: Global, mut sentence: Thm, facts: &[Thm]) -> Result<Thm, AllocError>
     requires { HasInstance sentence.conclusion (conclusions facts.now) }
     ensures conclusion { IfOk result (λ t. IsInstance sentence.conclusion (conclusions facts.now) t.conclusion) }
@@ -26,7 +26,7 @@ pub fn instance(alloc: Global, mut sentence: Thm, facts: &[Thm]) -> Result<Thm, 
     Ok(sentence)
 }
 
-// The instance at one pattern.
+// The instance at the pattern of one fact.
 fn instance_at(alloc: Global, sentence: &Thm, fact: &Thm) -> Result<Thm, AllocError>
     requires { Takes sentence.now.conclusion fact.now.conclusion }
     ensures conclusion { IfOk result (λ t. IsPutIn sentence.now.conclusion fact.now.conclusion t.conclusion) }
@@ -41,7 +41,7 @@ fn instance_at(alloc: Global, sentence: &Thm, fact: &Thm) -> Result<Thm, AllocEr
     mp(alloc, fact, &open, fact.conclusion(), &made)
 }
 
-// The pattern with a closed one in the place of each free x.
+// The pattern with a closed pattern substituted for each free x.
 pub(crate) fn put(alloc: Global, pat: &MPat, x: VarNo, by: &MPat) -> Result<MPat, AllocError>
     requires { HasNoVariable by.now }
     ensures { IfOk result (λ made. made ≡ put x.0 by.now pat.now) }
@@ -52,7 +52,7 @@ pub(crate) fn put(alloc: Global, pat: &MPat, x: VarNo, by: &MPat) -> Result<MPat
     }
 }
 
-// The variable that is bound, its sort, and what is said for each.
+// The bound variable, its sort, and the body.
 fn bound(p: &MPat) -> (VarNo, MSort, &MPat)
     requires { IsForAll p.now }
     ensures { p.now ≡ all result.0.0 result.1.0 result.2.now }
@@ -63,7 +63,7 @@ fn bound(p: &MPat) -> (VarNo, MSort, &MPat)
     }
 }
 
-// What is one element of a sort.
+// The pattern that is one element of a sort.
 fn element(p: &MPat) -> &MPat
     requires { IsFunctional p.now }
     ensures { IsElementOf result.now p.now }

@@ -1,7 +1,7 @@
-// Derived rules of matching logic, each a fixed combination of the kernel's rules.
+// Derived rules of matching logic. Each is a fixed combination of the kernel's rules.
 //
-// The contract: a derived rule concludes what its name says, and stays within what it is given: it assumes, uses and
-// cites nothing else (crate `ml_scope`).
+// The contract: a derived rule has the conclusion that its name says, and stays within its inputs.
+// It assumes, uses and cites nothing else (crate `ml_scope`).
 #![tactic(auto)]
 
 mod equalities;

@@ -1,4 +1,4 @@
-// Reaching a pattern in steps.
+// Rules for reaching a pattern in steps.
 ghost use Rattle.std.specs.Prelude.{◌≡◌, [], ◌∷◌, IfOk};
 ghost use Rattle.ml_pat.specs.Patterns.{imp, next, ev};
 ghost use Rattle.ml_derived.specs.Implications.{IsOneStepOn, ReachesOneFurther};
@@ -11,7 +11,7 @@ use ml_pat::{MForm, MPat};
 use ml_scope::{ev_1, ev_2, ev_kt, next_in};
 use std::alloc::{AllocError, Global};
 
-/// `a -> ev a`.
+/// `a -> ev a`. An error: out of memory.
 pub fn reach_here(alloc: Global, a: &MPat) -> Result<Thm, AllocError>
     ensures conclusion { IfOk result (λ t. t.conclusion ≡ imp a.now (ev a.now)) }
     ensures stays { IfOk result (StaysWithin (a.now ∷ []) []) }
@@ -19,7 +19,7 @@ pub fn reach_here(alloc: Global, a: &MPat) -> Result<Thm, AllocError>
     ev_1(alloc, a)
 }
 
-/// `a -> ev c`, from `a -> ev b` and `b -> next c`.
+/// `a -> ev c`, from `a -> ev b` and `b -> next c`. An error: out of memory.
 pub fn reach_step(alloc: Global, sofar: &Thm, step: &Thm) -> Result<Thm, AllocError>
     requires { IsOneStepOn sofar.now.conclusion step.now.conclusion }
     ensures conclusion { IfOk result (λ t. ReachesOneFurther sofar.now.conclusion step.now.conclusion t.conclusion) }
@@ -34,7 +34,7 @@ pub fn reach_step(alloc: Global, sofar: &Thm, step: &Thm) -> Result<Thm, AllocEr
     chained(alloc, sofar, &all, a, reached, &end)
 }
 
-// `b -> ev c`, from `b -> next c`; made is `next c` and end is `ev c`.
+// `b -> ev c`, from `b -> next c`. `made` is `next c`, and `end` is `ev c`.
 fn reach_by(
     alloc: Global,
     step: &Thm,
@@ -57,7 +57,7 @@ fn reach_by(
     chained(alloc, step, &on, b, made, end)
 }
 
-// `ev b -> ev c`, from `b -> ev c`; end is `ev c`.
+// `ev b -> ev c`, from `b -> ev c`. `end` is `ev c`.
 fn kept_reaching(
     alloc: Global,
     one: &Thm,

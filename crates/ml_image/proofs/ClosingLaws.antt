@@ -1,4 +1,4 @@
--- Quantifiers one by one, and variables as arguments.
+-- Quantifiers, added one by one, and variables as arguments.
 use Rattle.std.proofs.Common.{◌≡◌, ◌≢◌, ℕ, ◌+◌, ◌-◌, ◌<◌, ◌≤◌, zero, suc, List, [], ◌∷◌, ◌++◌, Option, Some, refl, sym, ◌∙◌, ap, subst, length, take, drop, get_or, map, arith}
 use Rattle.std.proofs.lemmas.List.{take_more, drop_more, map-append}
 use Rattle.ml_pat.specs.Patterns.{Pattern, app, and, var, all}

@@ -1,4 +1,5 @@
--- Conditions that patterns have images, for more variables, and what is said of conditions.
+-- Conditions under which patterns have images, with more variables, and the sentences of
+-- conditions.
 use Rattle.std.proofs.Common.{◌≡◌, ℕ, ◌+◌, ◌≤◌, ◌<◌, zero, suc, List, [], ◌∷◌, Option, Some, None, option_map, Result, IfOk, refl, sym, ◌∙◌, ap, length, slice_get, map, true, arith}
 use Rattle.ml_pat.specs.Patterns.{Pattern, equal, constant}
 use Rattle.ml_pat.specs.Patterns as logic

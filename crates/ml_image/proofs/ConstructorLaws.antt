@@ -15,7 +15,7 @@ use Rattle.ml_image.proofs.SentenceLaws.{named_same, one_symbol}
 pub one_sort : (s t : ℕ) → named s ≡ named t → s ≡ t
 one_sort s t is = some_same s t (ap (sort_at []) is)
 
--- a declaration that was read has the sorts that were read
+-- the sorts that were read from a declaration are its sorts
 pub read_sorts : (sig : Signature) (f : ℕ) (info read : SymInfo) (sorts listed : List ℕ) (sort : ℕ) → Declares sig f info sorts sort → IsSymbol sig f read → read.args.items ≡ map named listed → sorts ≡ listed
 read_sorts sig f info read sorts listed sort declared there takes =
     named_same sorts listed (sym declared.takes ∙ ap (λ (i : SymInfo). i.args.items) (one_symbol sig f info read declared.there there) ∙ takes)

@@ -58,7 +58,7 @@ by_hook : (o : Option Hook) (args : List Scalar) (r : Answer) → value_by o (ma
 by_hook None args r is = absurd (none_some r is)
 by_hook (Some h) args r is = ap (λ (ks : List Kind). Some ks) (fits h.operation args r is)
 
--- a hook that answers has arguments of its kinds
+-- a hook that has a value has arguments of its kinds
 pub answer_fits : (row : ℕ) (args : List Scalar) (r : Answer) → hook_value row (map scalar_value args) ≡ Some r → hook_arguments row ≡ Some (map kind_of args)
 answer_fits row args r is = by_hook (slice_get hooks row) args r is
 
@@ -84,7 +84,7 @@ few_by (Some h) args r is = go (few_kinds h.operation)
     go (inl one) = inl (sym count ∙ one)
     go (inr two) = inr (sym count ∙ two)
 
--- .. one or two of them
+-- and it has one or two arguments
 pub answer_few : (row : ℕ) (args : List Scalar) (r : Answer) → hook_value row (map scalar_value args) ≡ Some r → (length args ≡ 1) ⊎ (length args ≡ 2)
 answer_few row args r is = few_by (slice_get hooks row) args r is
 

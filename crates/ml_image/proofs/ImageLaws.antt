@@ -15,7 +15,7 @@ use Rattle.ml_image.specs.Images.{both, symbol_image, sort_image, at_sorts, imag
 use Rattle.ml_image.specs.Injecting.{IsInjectionAt}
 use Rattle.ml_image.specs.Gained.{IsOwnToken, AreOwnTokens, HasGained}
 
--- what is there stays the same
+-- a result that exists does not change
 abbrev pub Keeps : {A : Type 0} → Option A → Option A → Type 0
 Keeps {A} old new = (a : A) → old ≡ Some a → new ≡ Some a
 
@@ -75,7 +75,7 @@ mutual
   applied-keeps sig names more (more_patterns p ps) head head' k m h =
       applied-keeps sig names more ps _ _ (both-keeps app _ _ _ _ k (image-keeps sig names more p)) m h
 
--- gaining nothing, one own token, and twice
+-- no gained token, one own token, and gaining tokens twice
 pub gained-nothing : (sig : Signature) (names : List (List ℕ)) → HasGained sig names names
 gained-nothing sig names = record { gained = []; all = sym (append-nil names); own = tt }
 
@@ -90,7 +90,7 @@ gained_twice sig a b c h k = record {
   own = AreOwn-append sig h.gained k.gained h.own k.own;
 }
 
--- what was there under the names before is the same under the names that have gained tokens
+-- a result under the old names is the same under the names that have gained tokens
 pub gained-symbol : (sig : Signature) (old new : List (List ℕ)) (f : ℕ) → HasGained sig old new → Keeps (symbol_image sig old f) (symbol_image sig new f)
 gained-symbol sig old new f g = subst (λ (ns : List (List ℕ)). Keeps (symbol_image sig old f) (symbol_image sig ns f)) (sym g.all) (symbol-keeps sig old g.gained f)
 
@@ -103,7 +103,7 @@ gained-applied sig old new ps head head' g k = subst (λ (ns : List (List ℕ)).
 pub gained-image : (sig : Signature) (old new : List (List ℕ)) (p : RulePattern) → HasGained sig old new → Keeps (image_of sig old p) (image_of sig new p)
 gained-image sig old new p g = subst (λ (ns : List (List ℕ)). Keeps (image_of sig old p) (image_of sig ns p)) (sym g.all) (image-keeps sig old g.gained p)
 
--- a token that was asked for has its number
+-- a token that was looked up has its number
 numbered-by : (old new : List (List ℕ)) (token : List ℕ) (n : ℕ) (o : Option ℕ) → number_of old token ≡ o → MatchOption o ((n ≡ length old) × (new ≡ old ++ token ∷ [])) (λ m. (n ≡ m) × (new ≡ old)) → number_of new token ≡ Some n
 numbered-by old new token n None e h =
     ap (λ (ns : List (List ℕ)). number_of ns token) h.1 ∙ number_of-push old token token e ∙ ap (λ (b : Bool). cond b (Some (length old)) (number_of old token)) ((bytes_eq-Decides token token).1 refl) ∙ ap (λ (m : ℕ). Some m) (sym h.0)
@@ -119,12 +119,12 @@ gained-by sig old new token n (Some m) own h = record { gained = []; all = h.1 �
 pub gained-numbered : (sig : Signature) (old new : List (List ℕ)) (token : List ℕ) (n : ℕ) → IsOwnToken sig token → IsNumbered old new token n → HasGained sig old new
 gained-numbered sig old new token n own h = gained-by sig old new token n (number_of old token) own h
 
--- what holds of a result also holds where it says more
+-- if a property holds of a result, so does each weaker property
 pub if_ok : {T E : Type 0} (P Q : T → Type 0) (r : Result T E) → ((x : T) → P x → Q x) → IfOk r P → IfOk r Q
 if_ok P Q (Ok x) f h = f x h
 if_ok P Q (Err e) f h = tt
 
--- what is read at a place is what is there
+-- the item that is read at an index is the item there
 pub item_there : {X : Type 0} (xs : List X) (i : ℕ) (x y : X) → x ≡ get_or xs i x → slice_get xs i ≡ Some y → y ≡ x
 item_there [] i x y read there = absurd (none_some y there)
 item_there (z ∷ zs) zero x y read there = some_same _ _ (sym there) ∙ sym read
@@ -133,7 +133,7 @@ item_there (z ∷ zs) (suc i) x y read there = item_there zs i x y read there
 pub gained-injection : (sig : Signature) (old new : List (List ℕ)) (a b : ℕ) → HasGained sig old new → Keeps (injection_image sig old a b) (injection_image sig new a b)
 gained-injection sig old new a b g = subst (λ (ns : List (List ℕ)). Keeps (injection_image sig old a b) (injection_image sig ns a b)) (sym g.all) (injection-keeps sig old g.gained a b)
 
--- the first injection symbol from a place on, one place further
+-- the first injection symbol from an index on, one index further
 pub injection-next : (f : List ℕ × SymInfo → Bool) (es : List (List ℕ × SymInfo)) (i : ℕ) (e : List ℕ × SymInfo) → slice_get es i ≡ Some e → position_from f i (drop i es) ≡ cond (f e) (Some i) (position_from f (i + 1) (drop (i + 1) es))
 injection-next f es i e there =
     let lt : i < length es = slice_get_within es i e there in

@@ -1,4 +1,5 @@
--- Values as arguments, one by one, and parameters that meet their arguments, from the last one on.
+-- Values as arguments, one by one, and parameters that are in their arguments, from the last one
+-- on.
 use Rattle.std.proofs.Common.{◌≡◌, ℕ, ◌+◌, ◌<◌, ◌≤◌, zero, suc, List, [], ◌∷◌, ◌++◌, Option, Some, option_map, refl, sym, ◌∙◌, ap, length, take, drop, get_or, map, arith}
 use Rattle.std.proofs.lemmas.List.{take_more, drop_more, get_or-map}
 use Rattle.std.proofs.Math.Seq.{drop-length, take_all}
@@ -24,7 +25,7 @@ use Rattle.ml_image.proofs.NamingLaws.{gained-sentence}
 
 -- ---- values
 
--- one value more after as many sorts as values
+-- one more value, if there are as many sorts as values
 values-push : (sig : Signature) (names : List (List ℕ)) (ss : List ℕ) (vs : List DomainValue) (s : ℕ) (v : DomainValue) (head : Option Pattern) → length ss ≡ length vs
     → applied sig names head (value_patterns (ss ++ s ∷ []) (vs ++ v ∷ [])) ≡ both app (applied sig names head (value_patterns ss vs)) (image_of sig names (domain_value s v))
 values-push sig names [] [] s v head same = refl

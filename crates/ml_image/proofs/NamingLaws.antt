@@ -1,4 +1,4 @@
--- Images stay the same when names gain tokens.
+-- Images do not change when names gain tokens.
 use Rattle.std.proofs.Common.{◌≡◌, ℕ, List, [], ◌∷◌, ◌++◌, Some, length, drop, refl, ap, ◌∙◌, sym, subst}
 use Rattle.ml_pat.specs.Patterns.{Pattern}
 use Rattle.ml_pat.specs.Patterns as logic
@@ -39,7 +39,7 @@ sentence-keeps sig names more (next p) = map-keeps logic.next _ _ (sentence-keep
 pub sentence_stays : SentenceStays
 sentence_stays sig names more s p h = sentence-keeps sig names more s p h
 
--- what is there under names before is the same under those that have gained tokens
+-- a result under the old names is the same under the names that have gained tokens
 pub gained-sentence : (sig : Signature) (old new : List (List ℕ)) (s : Sentence) → HasGained sig old new → Keeps (sentence_image sig old s) (sentence_image sig new s)
 gained-sentence sig old new s g =
     subst (λ (ns : List (List ℕ)). Keeps (sentence_image sig old s) (sentence_image sig ns s)) (sym g.all) (sentence-keeps sig old g.gained s)

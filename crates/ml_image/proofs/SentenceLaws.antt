@@ -1,4 +1,5 @@
--- The images of sentences, put together from those of their parts, which were made under names that gained tokens.
+-- The images of sentences, composed of the images of their parts, which were made under names that
+-- gained tokens later.
 use Rattle.std.proofs.Common.{◌≡◌, ◌≢◌, ℕ, ◌+◌, ◌<◌, ◌⊎◌, inl, inr, zero, suc, List, [], ◌∷◌, ◌++◌, Option, Some, None, option_map, Result, IfOk, refl, sym, ◌∙◌, ap, subst, length, slice_get, map, false, Contains, arith}
 use Rattle.ml_pat.specs.Patterns.{Pattern}
 use Rattle.ml_pat.specs.Patterns as logic
@@ -21,7 +22,7 @@ use Rattle.ml_image.specs.Gained.{HasGained}
 use Rattle.ml_image.proofs.ImageLaws.{some_same, if_ok, gained_twice, gained-injection}
 use Rattle.ml_image.proofs.NamingLaws.{gained-sentence}
 
--- ---- variables numbered from a number on
+-- ---- variables numbered from a number
 
 mutual
   pub shifted-zero : (p : RulePattern) → shifted 0 p ≡ p
@@ -76,11 +77,12 @@ one_symbol sig f a b ha hb = ap (λ (e : List ℕ × SymInfo). e.1) (some_same (
 
 -- ---- closed sentences
 
--- what `close` gives: the image of whatever sentence has this body, for all variables of the sorts
+-- the result of `close`: the image of each sentence with this body, quantified over all variables
+-- of the sorts
 abbrev pub Closes : Signature → List (List ℕ) → List (List ℕ) → List ℕ → Pattern → Pattern → Type 0
 Closes sig old new sorts body p = (s : Sentence) → sentence_image sig old s ≡ Some body → sentence_image sig new (for_all 0 sorts s) ≡ Some p
 
--- so a sentence of which something is true has its image
+-- so a sentence with a property has its image
 pub closed_image : {E : Type 0} (sig : Signature) (old new : List (List ℕ)) (sorts : List ℕ) (body : Pattern) (P : Sentence → Type 0) (s : Sentence) (result : Result Pattern E)
     → P (for_all 0 sorts s) → sentence_image sig old s ≡ Some body → IfOk result (Closes sig old new sorts body) → IfOk result (IsImageOf sig new P)
 closed_image sig old new sorts body P s result says is closes = if_ok (Closes sig old new sorts body) (IsImageOf sig new P) result (λ p close. (for_all 0 sorts s, says, close s is)) closes
@@ -207,7 +209,7 @@ hook_said sig n1 n2 f vs s says head called value t result gained symbol_is call
     if_ok (λ (p : Pattern). p ≡ logic.equal called value) (IsImageOf sig n2 (SaysHook sig f vs)) result
     (λ p e. (s, says, ap (sentence_image sig n2) says.says ∙ whole ∙ ap (λ (q : Pattern). Some (logic.equal called q)) (sym is) ∙ ap (λ (q : Pattern). Some q) (sym e))) made
 
--- the parameters of an equation that has some
+-- the parameters of an equation that has parameters
 pub has_parameters : {P : Type 0} (n : ℕ) → (n ≡ 0) ⊎ P → n ≢ 0 → P
 has_parameters n (inl none) some = absurd (some none)
 has_parameters n (inr has) some = has

@@ -1,4 +1,4 @@
--- What a well-sorted theory says has images.
+-- The statements of a well-sorted theory have images.
 use Rattle.std.proofs.Common.{◌≡◌, ◌≤◌, ◌<◌, ◌+◌, ◌^◌, ◌⊎◌, ℕ, Bool, true, false, cond, zero, suc, List, [], ◌∷◌, Option, Some, None, length, map, slice_get, inl, inr, refl, sym, ◌∙◌, ap, subst, arith}
 use Rattle.std.specs.Prelude.{IsSome, IfSome, All, Contains}
 use Rattle.std.specs.List.{position_from}
@@ -27,7 +27,7 @@ use Rattle.ml_image.specs.HasImages.{HasImage, HaveImages, HasRuleImage, HasEqua
 use Rattle.ml_image.specs.ConditionLaws.{SortedHasImage, RuleHasImage, EquationHasImage, ConstructorHasTotality}
 use Rattle.ml_image.proofs.ImageLaws.{none_some, some_same}
 
--- ---- what is there
+-- ---- what exists
 
 position_some : {E : Type 0} (g : E → Bool) (i : ℕ) (es : List E) (n : ℕ) (e : E) → slice_get es n ≡ Some e → g e ≡ true → IsSome (position_from g i es)
 position_some g i [] n e there is = absurd (none_some e there)

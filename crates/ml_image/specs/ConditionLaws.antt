@@ -1,5 +1,5 @@
--- What a well-sorted theory says has images: the conditions of the calls are those that acceptance establishes, and
--- bounds on how many variables there are.
+-- The statements of a well-sorted theory that have images. The conditions are those that acceptance
+-- establishes, and bounds on the number of variables.
 use Rattle.std.specs.Prelude.{◌≡◌, ◌≤◌, ◌<◌, ◌+◌, ◌^◌, ◌⊎◌, ℕ, List, length, Contains}
 use Rattle.term_core.specs.Patterns.{Pattern}
 use Rattle.rule_core.specs.Rules.{RewriteRule, Equation}
@@ -17,13 +17,13 @@ SortedHasImage =
     (sig : Signature) (variables : List ℕ) (p : Pattern) (sort : ℕ) → IsSignature sig → HasSort sig variables p sort →
     HasImage sig (length variables) p
 
--- so has a rule
+-- a rule has an image
 abbrev pub RuleHasImage : Type 0
 RuleHasImage =
     (theory : RewriteTheory) (r : RewriteRule) → IsWellSorted theory → Contains theory.rules r →
     length r.variables ≤ 2 ^ 32 → HasRuleImage theory.sig r
 
--- and an equation, which has no parameters or as many as arguments
+-- an equation has an image, if it has no parameters or one for each argument
 abbrev pub EquationHasImage : Type 0
 EquationHasImage =
     (theory : RewriteTheory) (f : ℕ) (info : SymInfo) (e : Equation) → IsWellSorted theory
@@ -31,7 +31,7 @@ EquationHasImage =
     info.kind ≡ Equations → Contains (equations_of theory f) e → e.parameters + length e.variables ≤ 2 ^ 32 →
     (e.parameters ≡ 0) ⊎ (e.parameters ≡ count_of e.arguments) → HasEquationImage theory.sig f e
 
--- a constructor is total
+-- the totality of a constructor has an image
 abbrev pub ConstructorHasTotality : Type 0
 ConstructorHasTotality =
     (sig : Signature) (f : ℕ) (info : SymInfo) → IsSignature sig → IsSymbol sig f info → info.kind ≡ Ctor →

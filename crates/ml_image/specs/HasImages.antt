@@ -1,4 +1,5 @@
--- Of what an image can be made: its sorts and symbols are the signature's, and its values are values of their sorts.
+-- The conditions under which an image can be made: the sorts and symbols belong to the signature,
+-- and each value is a value of its sort.
 use Rattle.std.specs.Prelude.{◌≡◌, ◌≢◌, ◌<◌, ◌≤◌, ◌+◌, ◌^◌, ℕ, true, false, IsSome, List, [], ◌∷◌, length, Option, Some}
 use Rattle.std.specs.Prelude.{None, ◌⊎◌, suc}
 use Rattle.term_core.specs.Terms.{truth}
@@ -11,8 +12,8 @@ use Rattle.rule_core.specs.declared.signature.SymInfo.{SymInfo}
 use Rattle.ml_image.specs.Images.{injection_symbol}
 use Rattle.ml_image.specs.OwnAxioms.{sort_of, Declares, IsConstructor}
 
--- The pattern has an image: its variables have numbers below n, its sorts and symbols are the signature's, and each
--- domain value is one that its sort has.
+-- The pattern has an image: its variables have numbers below n, its sorts and symbols belong to the
+-- signature, and each domain value is a value of its sort.
 abbrev mutual
   pub HasImage : Signature → ℕ → Pattern → Type 0
   HasImage sig n (variable x) = x < n
@@ -25,12 +26,12 @@ abbrev mutual
   HaveImages sig n no_pattern = Unit {0}
   HaveImages sig n (more_patterns p ps) = HasImage sig n p × HaveImages sig n ps
 
--- how many patterns there are
+-- the number of patterns
 abbrev pub count_of : Patterns → ℕ
 count_of no_pattern = 0
 count_of (more_patterns p ps) = suc (count_of ps)
 
--- a condition, where there is one, has an image and a sort of truth values
+-- a condition, if there is one, has an image and a sort of truth values
 pub record IsTruth (sig : Signature) (sorts : List ℕ) (p : Pattern) : Type 0 where
   pub image : HasImage sig (length sorts) p
   pub sort : ℕ
@@ -49,7 +50,8 @@ pub record HasRuleImage (sig : Signature) (r : RewriteRule) : Type 0 where
   pub condition : IsCondition sig r.variables r.condition
   pub right : HasImage sig (length r.variables) r.right
 
--- the function takes arguments of these sorts, and the equation has as many parameters and patterns for them
+-- the function has arguments of these sorts, and the equation has one parameter and one pattern for
+-- each
 pub record HasParameters (sig : Signature) (f : ℕ) (e : Equation) : Type 0 where
   pub info : SymInfo
   pub sorts : List ℕ
@@ -69,8 +71,8 @@ pub record HasEquationImage (sig : Signature) (f : ℕ) (e : Equation) : Type 0 
   pub right : HasImage sig (length e.variables) e.right
   pub parameters : (e.parameters ≡ 0) ⊎ HasParameters sig f e
 
--- The symbol with this number is a constructor whose declaration names sorts of the signature. It has fewer than 2^31
--- arguments, so that twice as many variables have numbers of 32 bits.
+-- The symbol with this number is a constructor whose declaration names sorts of the signature. It
+-- has fewer than 2^31 arguments, so that the numbers of twice as many variables fit in 32 bits.
 pub record MakesTerms (sig : Signature) (f : ℕ) (info : SymInfo) (sorts : List ℕ) (sort : ℕ) : Type 0 where
   pub constructs : IsConstructor sig f info sorts sort
   pub are_sorts : AreSorts sig (sort ∷ sorts)
@@ -79,7 +81,8 @@ pub record MakesTerms (sig : Signature) (f : ℕ) (info : SymInfo) (sorts : List
 abbrev pub HasTotality : Signature → ℕ → Type 0
 HasTotality sig f = (info : SymInfo) × (sorts : List ℕ) × (sort : ℕ) × MakesTerms sig f info sorts sort
 
--- two constructors of one result sort, neither of them said to be associative or the like
+-- two constructors with the same result sort, neither of which is associative, commutative or
+-- idempotent, or has a unit
 pub record HasDifference (sig : Signature) (f g : ℕ) : Type 0 where
   pub differ : f ≢ g
   pub info : SymInfo
@@ -91,7 +94,8 @@ pub record HasDifference (sig : Signature) (f g : ℕ) : Type 0 where
   pub second : MakesTerms sig g other others sort
   pub no_ac : (info.ac ≡ false) × (other.ac ≡ false)
 
--- a constructor that takes something, and is not said to be associative or the like
+-- a constructor that has an argument, and is not associative, commutative or idempotent, and has no
+-- unit
 pub record HasFreedom (sig : Signature) (f : ℕ) : Type 0 where
   pub info : SymInfo
   pub sorts : List ℕ
@@ -100,6 +104,6 @@ pub record HasFreedom (sig : Signature) (f : ℕ) : Type 0 where
   pub no_ac : info.ac ≡ false
   pub some : 0 < length sorts
 
--- there is an injection symbol, and these are sorts
+-- there is an injection symbol, and these are sorts of the signature
 abbrev pub CanInject : Signature → List ℕ → Type 0
 CanInject sig sorts = IsSome (injection_symbol sig) × AreSorts sig sorts

@@ -1,5 +1,6 @@
--- The images of rules' patterns as patterns of matching logic (Chen and Rosu 2019). A constant or a sort of an image is
--- the number of its token among names; where the names lack a token there is no image.
+-- The images of rules' patterns as patterns of matching logic (Chen and Rosu 2019). A constant or a
+-- sort of an image is the number of its token among the names. If the names do not have a token,
+-- there is no image.
 use Rattle.std.specs.Prelude.{ℕ, ◌+◌, Bool, true, false, List, [], ◌∷◌, Option, Some, None, option_map}
 use Rattle.std.specs.List.{position_from}
 use Rattle.ml_pat.specs.Patterns.{Pattern, app, at_sort, var, constant}
@@ -10,7 +11,7 @@ use Rattle.rule_core.specs.declared.signature.SymKind.{SymKind}
 use Rattle.rule_core.specs.declared.signature.SymKind.TheVariants as kind
 use Rattle.ml_image.specs.Tokens.{token_of_sort, token_of_symbol, token_of_value, numbered}
 
--- what two things make, where both are there
+-- the function of two things, if both are given
 abbrev pub both : {A B C : Type 0} → (A → B → C) → Option A → Option B → Option C
 both f None b = None
 both f (Some a) None = None
@@ -36,12 +37,13 @@ symbol_image sig names f = option_map constant (numbered names (token_of_symbol 
 abbrev pub sort_image : Signature → List (List ℕ) → ℕ → Option ℕ
 sort_image sig names s = numbered names (token_of_sort sig s)
 
--- the pattern at sort arguments, from the first on
+-- the pattern applied to the sort arguments, in order
 abbrev pub at_sorts : Signature → List (List ℕ) → Option Pattern → List ℕ → Option Pattern
 at_sorts sig names head [] = head
 at_sorts sig names head (s ∷ ss) = at_sorts sig names (both at_sort head (sort_image sig names s)) ss
 
--- the injection symbol, where there is one, at the sort that an injection comes from and the one that it goes to
+-- the injection symbol, if there is one, applied to the source sort and the target sort of an
+-- injection
 abbrev pub some_symbol_image : Signature → List (List ℕ) → Option ℕ → Option Pattern
 some_symbol_image sig names None = None
 some_symbol_image sig names (Some f) = symbol_image sig names f
@@ -49,8 +51,9 @@ some_symbol_image sig names (Some f) = symbol_image sig names f
 abbrev pub injection_image : Signature → List (List ℕ) → ℕ → ℕ → Option Pattern
 injection_image sig names a b = at_sorts sig names (some_symbol_image sig names (injection_symbol sig)) (a ∷ b ∷ [])
 
--- A variable is the object variable of its number, a domain value the constant of its token. A symbol is applied to its
--- sort arguments and then to its arguments, one after another from the first on.
+-- The image of a variable is the object variable with its number. The image of a domain value is
+-- the constant of its token. A symbol is applied to its sort arguments and then to its arguments,
+-- one after another, in order.
 abbrev mutual
   pub image_of : Signature → List (List ℕ) → RulePattern → Option Pattern
   image_of sig names (variable x) = Some (var x)
@@ -59,12 +62,12 @@ abbrev mutual
   image_of sig names (injection a b p) = both app (injection_image sig names a b) (image_of sig names p)
   image_of sig names (call f ss ps) = applied sig names (at_sorts sig names (symbol_image sig names f) ss) ps
 
-  -- the pattern applied to the images of arguments, from the first on
+  -- the pattern applied to the images of the arguments, in order
   pub applied : Signature → List (List ℕ) → Option Pattern → RulePatterns → Option Pattern
   applied sig names head no_pattern = head
   applied sig names head (more_patterns p ps) = applied sig names (both app head (image_of sig names p)) ps
 
--- the pattern with its variables numbered from k on
+-- the pattern with its variables numbered from k
 abbrev mutual
   pub shifted : ℕ → RulePattern → RulePattern
   shifted k (variable x) = variable (k + x)

@@ -1,4 +1,4 @@
--- What stays true of images when names gain tokens.
+-- What does not change in images when names gain tokens.
 use Rattle.std.specs.Prelude.{◌≡◌, ℕ, List, ◌++◌, length, drop, Some}
 use Rattle.ml_pat.specs.Patterns.{Pattern}
 use Rattle.term_core.specs.Patterns.{Pattern as RulePattern}
@@ -7,12 +7,12 @@ use Rattle.ml_image.specs.Images.{image_of}
 use Rattle.ml_image.specs.Sentences.{Sentence, sentence_image}
 use Rattle.ml_image.specs.Gained.{AreOwnTokens, HasGained}
 
--- names that have gained tokens have own tokens after what they were
+-- names that have gained tokens are the old names followed by own tokens
 abbrev pub GainedAreOwn : Type 0
 GainedAreOwn =
     (sig : Signature) (old new : List (List ℕ)) → HasGained sig old new → AreOwnTokens sig (drop (length old) new)
 
--- an image stays the same when names gain tokens, and so does that of a sentence
+-- an image of a pattern does not change when names gain tokens
 abbrev pub ImageStays : Type 0
 ImageStays =
     (sig : Signature) (names more : List (List ℕ)) (a : RulePattern) (p : Pattern) → image_of sig names a ≡ Some p →

@@ -1,5 +1,5 @@
--- What a definition's rules, equations, symbols and sorts say in matching logic: its own axioms (Chen and Rosu 2019; K
--- framework, attributes `constructor`, `subsort` and `function`).
+-- The statements of a definition's rules, equations, symbols and sorts in matching logic: its own
+-- axioms (Chen and Rosu 2019; K framework, attributes `constructor`, `subsort` and `function`).
 use Rattle.std.specs.Prelude.{◌≡◌, ◌≢◌, ◌+◌, ◌<◌, ℕ, false, true, List, [], ◌∷◌, ◌++◌, length, map, slice_get, Contains}
 use Rattle.std.specs.Prelude.{Option, Some, None, option_map}
 use Rattle.term_core.specs.Terms.{truth}
@@ -20,7 +20,7 @@ use Rattle.ml_image.specs.Sentences.{for_all, variables, apply_all, conjunctions
 
 -- ---- rules and equations
 
--- the sort of what the symbol makes, where it is applied at these sorts
+-- the result sort of the symbol at these sort arguments
 abbrev pub made_sort : Signature → ℕ → List ℕ → Option ℕ
 made_sort sig f sorts = option_sort (slice_get sig.symbols f)
   where
@@ -36,16 +36,17 @@ sort_of sig sorts (application f ps) = made_sort sig f []
 sort_of sig sorts (injection a b p) = Some b
 sort_of sig sorts (call f ss ps) = made_sort sig f ss
 
--- that the pattern, of this sort, is the value `true`
+-- the sentence that the pattern, which has this sort, is the value `true`
 abbrev pub is_true : Pattern → ℕ → Sentence
 is_true p s = equals (term p) (term (domain_value s (truth true)))
 
--- a condition says that it is true, and where there is none nothing is said
+-- the sentence of a condition: it is true; without a condition it is `top`
 abbrev pub condition_of : Signature → List ℕ → Option Pattern → Option Sentence
 condition_of sig sorts None = Some top
 condition_of sig sorts (Some p) = option_map (is_true p) (sort_of sig sorts p)
 
--- A rewrite rule with this condition: what is its left side, where the condition holds, makes a step to its right side.
+-- The sentence of a rewrite rule with this condition: an instance of its left side, if the
+-- condition holds, makes a step to that of its right side.
 abbrev pub rule_sentence : RewriteRule → Sentence → Sentence
 rule_sentence r c = for_all 0 r.variables (implies (and (term r.left) c) (next (term r.right)))
 
@@ -54,11 +55,12 @@ pub record SaysRule (sig : Signature) (r : RewriteRule) (p : Sentence) : Type 0 
   pub conditional : condition_of sig r.variables r.condition ≡ Some condition
   pub says : p ≡ rule_sentence r condition
 
--- An equation that is written directly: where the condition holds, the function of these arguments is the right side.
+-- The sentence of an equation that is written directly: if the condition holds, the function
+-- applied to these arguments equals the right side.
 abbrev pub direct_sentence : ℕ → Equation → Sentence → Sentence
 direct_sentence f e c = for_all 0 e.variables (implies c (equals (term (call f [] e.arguments)) (term e.right)))
 
--- an equation after parameters of these sorts, which are its first variables then
+-- the equation with parameters of these sorts, which come before its other variables
 abbrev pub behind_parameters : List ℕ → Equation → Equation
 behind_parameters sorts e = record e {
   arguments = all_shifted (length sorts) e.arguments;
@@ -67,30 +69,30 @@ behind_parameters sorts e = record e {
   variables = sorts ++ e.variables;
 }
 
--- the parameters from number k on are in these patterns, one in each
+-- each parameter, numbered from k, is in its pattern
 abbrev pub meets : ℕ → Patterns → Sentence
 meets k no_pattern = top
 meets k (more_patterns p ps) = and (is_in (term (variable k)) (term p)) (meets (k + 1) ps)
 
--- An equation in the form of kompile: where the condition holds and the parameters, so many, meet the arguments, the
--- function of the parameters is the right side.
+-- The sentence of an equation in the form of kompile with n parameters: if the condition holds and
+-- each parameter is in its argument, the function applied to the parameters equals the right side.
 abbrev pub kompile_sentence : ℕ → ℕ → Equation → Sentence → Sentence
 kompile_sentence f n e c =
     for_all 0 e.variables
     (implies (and c (meets 0 e.arguments)) (equals (apply_all (symbol f) (variables 0 n)) (term e.right)))
 
--- a sort in a declaration that is no parameter
+-- a sort in a declaration, which is not a sort parameter
 abbrev pub named : ℕ → SortRef
 named s = Sort (record { 0 = s })
 
--- the symbol with this number takes terms of these sorts and makes one of that sort
+-- the symbol with this number has these argument sorts and this result sort
 pub record Declares (sig : Signature) (f : ℕ) (info : SymInfo) (sorts : List ℕ) (sort : ℕ) : Type 0 where
   pub there : IsSymbol sig f info
   pub takes : info.args.items ≡ map named sorts
   pub makes : info.result ≡ named sort
 
--- an equation of a function without parameters is written directly, and one with a parameter for each argument is in
--- the form of kompile
+-- the sentence of an equation: an equation without parameters is written directly, and one with a
+-- parameter for each argument is in the form of kompile
 pub data SaysEquation (sig : Signature) (f : ℕ) (e : Equation) (p : Sentence) : Type 0 where
   direct : (c : Sentence) → e.parameters ≡ 0 → condition_of sig e.variables e.condition ≡ Some c →
       p ≡ direct_sentence f e c → SaysEquation sig f e p
@@ -99,7 +101,7 @@ pub data SaysEquation (sig : Signature) (f : ℕ) (e : Equation) (p : Sentence) 
       condition_of sig (behind_parameters sorts e).variables (behind_parameters sorts e).condition ≡ Some c →
       p ≡ kompile_sentence f (length sorts) (behind_parameters sorts e) c → SaysEquation sig f e p
 
--- the function's values are given by equations, of which this is one
+-- the function is defined by equations, and this is one of them
 pub record IsEquationFor (theory : RewriteTheory) (f : ℕ) (e : Equation) : Type 0 where
   pub info : SymInfo
   pub function : IsSymbol theory.sig f info
@@ -111,11 +113,11 @@ pub record IsEquationFor (theory : RewriteTheory) (f : ℕ) (e : Equation) : Typ
 abbrev pub IsConstructor : Signature → ℕ → SymInfo → List ℕ → ℕ → Type 0
 IsConstructor sig f info sorts sort = Declares sig f info sorts sort × (info.kind ≡ Ctor)
 
--- the symbol of variables, so many, numbered from k on
+-- the symbol applied to this many variables, numbered from k
 abbrev pub of_variables : ℕ → ℕ → ℕ → Sentence
 of_variables f k n = apply_all (symbol f) (variables k n)
 
--- A constructor is total: it makes one element of its result sort.
+-- A constructor is total: its result is one element of its result sort.
 pub record SaysTotal (sig : Signature) (f : ℕ) (p : Sentence) : Type 0 where
   pub info : SymInfo
   pub sorts : List ℕ
@@ -124,7 +126,8 @@ pub record SaysTotal (sig : Signature) (f : ℕ) (p : Sentence) : Type 0 where
   pub says : p ≡ for_all 0 sorts
       (exists (length sorts) sort (equals (term (variable (length sorts))) (of_variables f 0 (length sorts))))
 
--- Two constructors of one result sort, neither of them said to be associative or the like, make different things.
+-- Two constructors with the same result sort have different results. Neither of them is
+-- associative, commutative or idempotent, or has a unit.
 pub record SaysApart (sig : Signature) (f g : ℕ) (p : Sentence) : Type 0 where
   pub differ : f ≢ g
   pub info : SymInfo
@@ -138,8 +141,8 @@ pub record SaysApart (sig : Signature) (f g : ℕ) (p : Sentence) : Type 0 where
   pub says : p ≡ for_all 0 (sorts ++ others)
       (not (and (of_variables f 0 (length sorts)) (of_variables g (length sorts) (length others))))
 
--- A constructor that takes something, and is not said to be associative or the like, is free: it makes the same of the
--- same arguments alone.
+-- A constructor is free: equal results have equal arguments. It has an argument, and is not
+-- associative, commutative or idempotent, and has no unit.
 pub record SaysFree (sig : Signature) (f : ℕ) (p : Sentence) : Type 0 where
   pub info : SymInfo
   pub sorts : List ℕ
@@ -153,12 +156,14 @@ pub record SaysFree (sig : Signature) (f : ℕ) (p : Sentence) : Type 0 where
 
 -- ---- subsorts
 
--- An element of a sort is, injected into a sort that the definition puts right above it, one element of that.
+-- An element of a sort, injected into a sort that the definition puts directly above it, is one
+-- element of that sort.
 pub record SaysSubsort (sig : Signature) (a b : ℕ) (p : Sentence) : Type 0 where
   pub pair : Contains sig.subsorts (a, b)
   pub says : p ≡ for_all 0 (a ∷ []) (exists 1 b (equals (term (variable 1)) (term (injection a b (variable 0)))))
 
--- From a sort to one above it, and on to one above that, is from the first to the last.
+-- Two injections in a row, along a chain of three sorts, equal the injection from the first sort to
+-- the last.
 pub record SaysCollapse (sig : Signature) (a b c : ℕ) (p : Sentence) : Type 0 where
   pub lower : IsBelow sig.subsorts a b
   pub upper : IsBelow sig.subsorts b c
@@ -167,8 +172,9 @@ pub record SaysCollapse (sig : Signature) (a b c : ℕ) (p : Sentence) : Type 0 
 
 -- ---- all of them
 
--- The definition's own axioms: its rules and the equations of its functions; that its constructors are total, differ
--- and are free; that its subsorts are such; and that injections along chains of them collapse.
+-- The definition's own axioms: its rules and the equations of its functions; that its constructors
+-- are total, different and free; that its subsorts are subsorts; and that two injections in a row
+-- equal one.
 pub data IsOwnAxiom (theory : RewriteTheory) (p : Sentence) : Type 0 where
   of_rule : (r : RewriteRule) → Contains theory.rules r → SaysRule theory.sig r p → IsOwnAxiom theory p
   of_equation : (f : ℕ) (e : Equation) → IsEquationFor theory f e → SaysEquation theory.sig f e p → IsOwnAxiom theory p

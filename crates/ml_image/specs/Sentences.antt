@@ -1,4 +1,5 @@
--- What a definition says in matching logic, over its own sorts and symbols, and the image of that (Chen and Rosu 2019).
+-- The statements of a definition in matching logic, over its own sorts and symbols, and their
+-- images (Chen and Rosu 2019).
 use Rattle.std.specs.Prelude.{◌≡◌, ℕ, ◌+◌, suc, zero, List, [], ◌∷◌, Option, Some, None, option_map}
 use Rattle.ml_pat.specs.Patterns.{Pattern}
 use Rattle.ml_pat.specs.Patterns as logic
@@ -6,9 +7,9 @@ use Rattle.term_core.specs.Patterns.{Pattern as RulePattern, variable}
 use Rattle.rule_core.specs.declared.signature.Signature.{Signature}
 use Rattle.ml_image.specs.Images.{both, symbol_image, sort_image, image_of}
 
--- A sentence is built of rules' patterns and of symbols. `is_in x p` says that the element x is in p, `functional p s`
--- that p is one element of the sort s, and `next p` is what makes a step to p. A quantifier has the number of its
--- variable and its sort.
+-- A sentence is built from rules' patterns and from symbols. `is_in x p` says that the element x is
+-- in p. `functional p s` says that p is one element of the sort s. `next p` is everything that can
+-- make one step to p. A quantifier has the number of its variable and its sort.
 pub data Sentence : Type 0 where
   term : RulePattern → Sentence
   symbol : ℕ → Sentence
@@ -24,7 +25,8 @@ pub data Sentence : Type 0 where
   forall : ℕ → ℕ → Sentence → Sentence
   next : Sentence → Sentence
 
--- the image of a sentence: that of each pattern, symbol and sort in it, under the same connectives
+-- the image of a sentence: the images of its patterns, symbols and sorts, under the same
+-- connectives
 abbrev pub sentence_image : Signature → List (List ℕ) → Sentence → Option Pattern
 sentence_image sig names (term p) = image_of sig names p
 sentence_image sig names (symbol f) = symbol_image sig names f
@@ -45,7 +47,7 @@ abbrev pub for_all : ℕ → List ℕ → Sentence → Sentence
 for_all k [] p = p
 for_all k (s ∷ ss) p = forall k s (for_all (k + 1) ss p)
 
--- so many variables, numbered from k on
+-- this many variables, numbered from k
 abbrev pub variables : ℕ → ℕ → List Sentence
 variables k zero = []
 variables k (suc n) = term (variable k) ∷ variables (k + 1) n
@@ -61,6 +63,6 @@ conjunctions [] qs = []
 conjunctions (p ∷ ps) [] = []
 conjunctions (p ∷ ps) (q ∷ qs) = and p q ∷ conjunctions ps qs
 
--- the pattern is the image of a sentence of which this is true
+-- the pattern is the image of a sentence with this property
 abbrev pub IsImageOf : Signature → List (List ℕ) → (Sentence → Type 0) → Pattern → Type 0
 IsImageOf sig names P p = (s : Sentence) × P s × (sentence_image sig names s ≡ Some p)

@@ -13,23 +13,24 @@ sort_token name = codes "s:" ++ name
 abbrev pub symbol_token : List ℕ → List ℕ
 symbol_token name = codes "f:" ++ name
 
--- the bytes in hexadecimal digits, each byte in two
+-- the bytes as hexadecimal digits, two for each byte
 abbrev pub hexadecimal : List ℕ → List ℕ
 hexadecimal [] = []
 hexadecimal (byte ∷ bytes) = digit_char (byte / 16) ∷ (digit_char (byte % 16) ∷ hexadecimal bytes)
 
--- the canonical text of a domain value: an integer in decimal digits, and a text itself
+-- the canonical text of a domain value: decimal digits for an integer, and the text itself for a
+-- text
 abbrev pub value_text : DomainValue → List ℕ
 value_text (integer n) = signed_decimal n
 value_text (truth true) = codes "true"
 value_text (truth false) = codes "false"
 value_text (text bytes) = bytes
 
--- a domain value of the sort with this name
+-- the token of a domain value of the sort with this name
 abbrev pub value_token : List ℕ → DomainValue → List ℕ
 value_token name v = codes "d:" ++ (name ++ (codes ":" ++ hexadecimal (value_text v)))
 
--- the name under a number
+-- the name with this number
 abbrev pub name_at : {V : Type 0} → List (List ℕ × V) → ℕ → Option (List ℕ)
 name_at {V} entries n = option_map (λ e. e.0) (slice_get entries n)
 
@@ -43,7 +44,7 @@ token_of_symbol sig f = option_map symbol_token (name_at sig.symbols f)
 abbrev pub token_of_value : Signature → ℕ → DomainValue → Option (List ℕ)
 token_of_value sig s v = option_map (λ name. value_token name v) (name_at sig.sorts s)
 
--- the number of a token among names, where it is there
+-- the number of a token among the names, if it is there
 abbrev pub numbered : List (List ℕ) → Option (List ℕ) → Option ℕ
 numbered names None = None
 numbered names (Some token) = number_of names token

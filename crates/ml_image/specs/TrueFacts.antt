@@ -1,4 +1,5 @@
--- True facts on built-ins: what each reader of a proof can check by computing.
+-- True facts about built-in values and functions. Each reader of a proof can check them by
+-- computation.
 use Rattle.std.specs.Prelude.{◌≡◌, ℕ, List, [], ◌∷◌, Some, Ok}
 use Rattle.term_core.specs.Terms.{DomainValue}
 use Rattle.term_core.specs.Patterns.{Patterns, domain_value, call, no_pattern, more_patterns}
@@ -10,7 +11,7 @@ use Rattle.rule_core.specs.declared.signature.SymKind.TheVariants.{Hooked}
 use Rattle.ml_image.specs.Sentences.{Sentence, term, equals, functional}
 use Rattle.ml_image.specs.OwnAxioms.{Declares}
 
--- A domain value that its sort has is one element of the sort.
+-- A domain value of a sort is one element of the sort.
 pub record SaysValue (sig : Signature) (s : ℕ) (v : DomainValue) (p : Sentence) : Type 0 where
   pub has : HasValue sig s v
   pub says : p ≡ functional (term (domain_value s v)) s
@@ -27,7 +28,7 @@ value_patterns [] vs = no_pattern
 value_patterns (s ∷ ss) [] = no_pattern
 value_patterns (s ∷ ss) (v ∷ vs) = more_patterns (domain_value s v) (value_patterns ss vs)
 
--- A function with a hook is, of values, the value that the hook gives, in its result sort.
+-- A function with a hook, applied to values, equals the value of the hook, in its result sort.
 pub record SaysHook (sig : Signature) (f : ℕ) (vs : List DomainValue) (p : Sentence) : Type 0 where
   pub info : SymInfo
   pub sorts : List ℕ

@@ -1,4 +1,4 @@
-// Quantifiers in front of a pattern, and the variables that they bind.
+// The quantifiers in front of a pattern, and the variables that they bind.
 ghost use Rattle.std.specs.Prelude.{◌≡◌, ◌≤◌, ◌+◌, ◌^◌, ℕ, List, length, map, IfOk, Some};
 ghost use Rattle.ml_pat.specs.Patterns.{and, var};
 ghost use Rattle.term_core.specs.RulePatterns.{sort_numbers};
@@ -15,7 +15,8 @@ use rule_core::{Signature, SortRef, VarInfo};
 use std::alloc::{AllocError, Global};
 use term_core::SortId;
 
-// The pattern for all variables of these sorts, numbered from 0 on, the first outermost.
+// The pattern, universally quantified over variables of these sorts. The variables are numbered
+// from 0, and the first one is the outermost.
 pub(crate) fn close(
     alloc: Global,
     sig: &Signature,
@@ -48,7 +49,7 @@ pub(crate) fn variable_sorts(alloc: Global, vars: &[VarInfo]) -> Result<Vec<Sort
     Ok(sorts)
 }
 
-// The sorts that a declaration names, in order.
+// The sorts that the references name, in order.
 pub(crate) fn named_sorts(alloc: Global, refs: &[SortRef]) -> Result<Vec<SortId>, AllocError>
     requires { (sorts : List ℕ) × (refs.now ≡ map named sorts) }
     ensures { IfOk result (λ v. refs.now ≡ map named (sort_numbers v.items)) }
@@ -63,7 +64,7 @@ pub(crate) fn named_sorts(alloc: Global, refs: &[SortRef]) -> Result<Vec<SortId>
     Ok(sorts)
 }
 
-// The pattern applied to variables, so many, numbered from `first` on.
+// The pattern applied to `count` variables, numbered from `first`.
 pub(crate) fn at_variables(
     alloc: Global,
     head: MPat,
@@ -80,7 +81,8 @@ pub(crate) fn at_variables(
     Ok(made)
 }
 
-// The pattern applied to conjunctions, so many, of variables from `first` on with those from `second` on.
+// The pattern applied to `count` conjunctions. Each is of a variable numbered from `first` and one
+// numbered from `second`.
 pub(crate) fn at_pairs(
     alloc: Global,
     head: MPat,

@@ -1,4 +1,4 @@
-// The images of what constructors say.
+// The images of the axioms about constructors.
 ghost use Rattle.std.specs.Prelude.{◌≡◌, ◌≤◌, ◌<◌, ◌+◌, ◌^◌, ℕ, length, IfOk, Some};
 ghost use Rattle.ml_pat.specs.Patterns.{equal, var, ex};
 ghost use Rattle.term_core.specs.RulePatterns.{sort_numbers};
@@ -16,8 +16,9 @@ use rule_core::{Signature, SortRef, SymInfo};
 use std::alloc::{AllocError, Global};
 use term_core::{SortId, SymId};
 
-/// That a constructor is total (Chen and Rosu 2019): for all arguments of its sorts it makes one element of its result
-/// sort. An error: out of memory; the names may have gained tokens then too.
+/// The axiom that a constructor is total (Chen and Rosu 2019): for all arguments of its sorts, the
+/// result is one element of its result sort. An error: out of memory. The names may have gained
+/// tokens even then.
 pub fn ctor_total(
     alloc: Global,
     sig: &Signature,
@@ -37,8 +38,9 @@ pub fn ctor_total(
     close(alloc, sig, names, &sorts, body)
 }
 
-/// That two constructors of one result sort make different things (K framework, attribute `constructor`): neither of
-/// them is said to be associative or the like. An error: out of memory; the names may have gained tokens then too.
+/// The axiom that two constructors with the same result sort have different results (K framework,
+/// attribute `constructor`). Neither of them may be declared associative, commutative or
+/// idempotent, or with a unit. An error: out of memory. The names may have gained tokens even then.
 pub fn ctor_apart(
     alloc: Global,
     sig: &Signature,
@@ -60,9 +62,10 @@ pub fn ctor_apart(
     close(alloc, sig, names, &sorts, body)
 }
 
-/// That a constructor is free (K framework, attribute `constructor`): it makes the same of the same arguments alone. It
-/// takes at least one, and is not said to be associative or the like. An error: out of memory; the names may have
-/// gained tokens then too.
+/// The axiom that a constructor is free (K framework, attribute `constructor`): equal results have
+/// equal arguments. It has at least one argument, and may not be declared associative, commutative
+/// or idempotent, or with a unit. An error: out of memory. The names may have gained tokens even
+/// then.
 pub fn ctor_free(
     alloc: Global,
     sig: &Signature,
@@ -96,7 +99,7 @@ pub(crate) fn declaration(sig: &Signature, symbol: SymId) -> &SymInfo
     }
 }
 
-// The sort of what a symbol makes, where it is no parameter.
+// The result sort of a symbol, which is not a sort parameter.
 pub(crate) fn result_sort(info: &SymInfo) -> SortId
     requires { (sort : ℕ) × (info.now.result ≡ named sort) }
     ensures { info.now.result ≡ named result.0 }
@@ -107,7 +110,7 @@ pub(crate) fn result_sort(info: &SymInfo) -> SortId
     }
 }
 
-// A symbol of variables, so many, numbered from `first` on.
+// A symbol applied to `count` variables, numbered from `first`.
 pub(crate) fn of_variables(
     alloc: Global,
     sig: &Signature,
@@ -125,7 +128,7 @@ pub(crate) fn of_variables(
     at_variables(alloc, head, first, count)
 }
 
-// That the pattern is, for some x of the sort, that x.
+// The statement that `made` equals some x of the sort.
 pub(crate) fn is_some(alloc: Global, x: VarNo, sort: MSort, made: &MPat) -> Result<MPat, AllocError>
     ensures { IfOk result (λ p. p ≡ ex x.0 sort.0 (equal (var x.0) made.now)) }
 {

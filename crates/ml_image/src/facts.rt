@@ -1,4 +1,4 @@
-// The images of true facts on built-ins.
+// The images of true facts about built-in values and functions.
 ghost use Rattle.std.specs.Prelude.{◌≡◌, ◌<◌, ℕ, List, [], length, map, IfOk, Some, Ok};
 ghost use Rattle.term_core.specs.RulePatterns.{sort_numbers};
 ghost use Rattle.term_core.specs.Values.{value_of, scalar_value};
@@ -21,8 +21,8 @@ use rule_core::{Signature, SymInfo, SymKind};
 use std::alloc::{AllocError, Global};
 use term_core::{Scalar, SortId, SymId, Value};
 
-/// That a domain value is one element of its sort. An error: out of memory; the names may have gained tokens then
-/// too.
+/// The fact that a domain value is one element of its sort. An error: out of memory. The names may
+/// have gained tokens even then.
 pub fn value_fact(
     alloc: Global,
     sig: &Signature,
@@ -39,8 +39,9 @@ pub fn value_fact(
     MPat::fun(alloc, &MPat::constant(alloc, number)?, sort)
 }
 
-/// That a function with a hook is, of values, the value that the hook gives (K framework, "domains.md"). It has one
-/// there. An error: out of memory; the names may have gained tokens then too.
+/// The fact that a function with a hook, applied to values, equals the value of the hook (K
+/// framework, "domains.md"). The hook must have a value there. An error: out of memory. The names
+/// may have gained tokens even then.
 pub fn hook_fact(
     alloc: Global,
     sig: &Signature,
@@ -61,7 +62,7 @@ pub fn hook_fact(
     MPat::equal(alloc, &call, &MPat::constant(alloc, number)?)
 }
 
-// The pattern applied to values of sorts, one after another.
+// The pattern applied to values of these sorts, one after another.
 fn at_values(
     alloc: Global,
     sig: &Signature,
@@ -84,7 +85,7 @@ fn at_values(
     Ok(made)
 }
 
-// What the hook of a function answers.
+// The value of a function's hook at these arguments.
 fn hook_answer(info: &SymInfo, args: &[Scalar]) -> Scalar
     requires { (row : ℕ) × (value : DomainValue) × (info.now.kind ≡ Hooked (record { 0 = row }))
         × (hook_value row (map scalar_value args.now) ≡ Some (Ok value)) }

@@ -16,9 +16,9 @@ use rule_core::{Signature, SymKind};
 use std::alloc::{AllocError, Global};
 use term_core::{RulePat, SortId};
 
-/// The image of a pattern whose sorts and symbols are the signature's (Chen and Rosu 2019): a symbol's token, applied
-/// to the sorts' tokens and to the images of the arguments, one after another. An error: out of memory; the names
-/// may have gained tokens then too.
+/// The image of a pattern whose sorts and symbols belong to the signature (Chen and Rosu 2019): the
+/// token of a symbol, applied to the tokens of the sorts and to the images of the arguments, one
+/// after another. An error: out of memory. The names may have gained tokens even then.
 pub fn term_image(
     alloc: Global,
     sig: &Signature,
@@ -32,7 +32,7 @@ pub fn term_image(
     image(alloc, sig, names, 0, pat)
 }
 
-// The image of a pattern whose variables are numbered from `first` on, by its form.
+// The image of a pattern whose variables are numbered from `first`, by its form.
 #[cycle(image)]
 pub(crate) fn image(
     alloc: Global,
@@ -68,7 +68,7 @@ pub(crate) fn image(
     }
 }
 
-// The pattern applied to the images of the arguments, from the first on.
+// The pattern applied to the images of the arguments, in order.
 #[cycle(image)]
 pub(crate) fn applied(
     alloc: Global,
@@ -106,7 +106,7 @@ pub(crate) fn head_image(
     MPat::constant(alloc, number)
 }
 
-// The pattern at sort arguments, from the first on.
+// The pattern applied to the sort arguments, in order.
 fn at_sorts(
     alloc: Global,
     sig: &Signature,
@@ -126,7 +126,7 @@ fn at_sorts(
     Ok(made)
 }
 
-// The injection symbol at two sorts.
+// The injection symbol, applied to two sorts.
 pub(crate) fn injection_image(
     alloc: Global,
     sig: &Signature,
@@ -148,8 +148,8 @@ pub(crate) fn injection_image(
     }
 }
 
-/// The number of the injection symbol, where there is one. It looks at the symbols up to this one, which definitions
-/// declare early.
+/// The number of the injection symbol, if there is one. It looks at the symbols up to this one.
+/// Definitions declare it early.
 pub fn injection_symbol(sig: &Signature) -> Option<usize>
     ensures symbol { result ≡ injection_symbol sig.now }
     ensures within { IfSome result (λ symbol. symbol < length sig.now.symbols) }
@@ -162,7 +162,7 @@ pub fn injection_symbol(sig: &Signature) -> Option<usize>
     None
 }
 
-// Whether the symbol with this number injects.
+// Whether the symbol with this number is an injection.
 fn is_injection(sig: &Signature, symbol: usize) -> bool
     requires { symbol < length sig.now.symbols }
     ensures { IsInjectionAt sig.now symbol result }

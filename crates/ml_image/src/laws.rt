@@ -1,17 +1,18 @@
-// Laws on images and names.
+// Laws about images and names.
 ghost use Rattle.ml_image.specs.ConditionLaws.{ConstructorHasTotality, EquationHasImage, RuleHasImage, SortedHasImage};
 ghost use Rattle.ml_image.specs.NamingLaws.{GainedAreOwn, ImageStays, SentenceStays};
 
-/// Names that have gained tokens have own tokens after what they were, and an image of a pattern or a sentence stays
-/// the same then.
+/// Has no effect at run time. It states that names gain tokens only at the end, and only tokens of
+/// the definition itself. The image of a pattern or a sentence does not change then.
 pub fn naming_laws()
     ensures gained { GainedAreOwn }
     ensures image { ImageStays }
     ensures sentence { SentenceStays }
 {}
 
-/// What a well-sorted theory says has images: its patterns, its rules, the equations of its functions, and that its
-/// constructors are total. Only the numbers of variables have to be bounded besides.
+/// Has no effect at run time. It states which statements of a well-sorted theory have images: its
+/// patterns, its rules, the equations of its functions, and that its constructors are total. The
+/// only further condition is a bound on the numbers of variables.
 pub fn condition_laws()
     ensures pattern { SortedHasImage }
     ensures rule { RuleHasImage }

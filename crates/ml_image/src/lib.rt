@@ -1,10 +1,11 @@
-// The images of what a definition says: patterns of matching logic that stand for its terms, rules, equations, symbols
-// and sorts, and for true facts on its domain values and hooks.
+// The images of a definition: patterns of matching logic that represent its terms, rules,
+// equations, symbols and sorts, and true facts about its domain values and hooks.
 //
-// The contract: what a call gives is the image of the sentence that its name says (specs/OwnAxioms.antt,
-// specs/TrueFacts.antt) under the names as they are afterwards; the names keep all that they held, and gain tokens of
-// the definition's sorts, symbols and domain values alone (specs/Gained.antt). An image has one level more for each
-// argument of a symbol; making it recurses only as deep as the pattern is.
+// The contract: a call returns the image of the sentence that its name says (specs/OwnAxioms.antt,
+// specs/TrueFacts.antt), under the names as they are after the call. The names keep all their
+// tokens. They gain only tokens of the definition's sorts, symbols and domain values
+// (specs/Gained.antt). An image has one more level for each argument of a symbol. The recursion
+// that makes it is only as deep as the pattern.
 #![tactic(auto, using(crate::proofs::ImageLaws::gained_twice))]
 
 mod closing;

@@ -23,8 +23,9 @@ use rule_core::{Equation, Rule, Signature, SortRef, VarInfo};
 use std::alloc::{AllocError, Global};
 use term_core::{RulePat, SortId, SymId, Value};
 
-/// The image of a rewrite rule (Chen and Rosu 2019): for all its variables, what is its left side, where the condition
-/// is `true`, makes a step to its right side. An error: out of memory; the names may have gained tokens then too.
+/// The image of a rewrite rule (Chen and Rosu 2019): for all its variables, if the condition is
+/// `true`, an instance of the left side makes a step to that of the right side. An error: out of
+/// memory. The names may have gained tokens even then.
 pub fn rule_image(
     alloc: Global,
     sig: &Signature,
@@ -51,8 +52,8 @@ fn step_to(alloc: Global, left: &MPat, condition: &MPat, right: &MPat) -> Result
     MPat::imp(alloc, &from, &MPat::next(alloc, right)?)
 }
 
-// What a condition says, with its variables numbered from `first` on: that it is `true`, and everything where there is
-// none.
+// The image of a condition, with its variables numbered from `first`: the statement that it is
+// `true`. Without a condition it is `top`.
 fn condition_image(
     alloc: Global,
     sig: &Signature,
@@ -73,7 +74,7 @@ fn condition_image(
     }
 }
 
-// That a pattern, whose variables are numbered from `first` on, is `true`.
+// The statement that `pat`, with its variables numbered from `first`, is `true`.
 fn truth_image(
     alloc: Global,
     sig: &Signature,
@@ -118,7 +119,7 @@ fn variable(vars: &[VarInfo], number: u32) -> Option<&VarInfo>
     vars.get(number as usize)
 }
 
-// The sort of what a symbol makes at sort arguments.
+// The result sort of a symbol at these sort arguments.
 fn made_sort(sig: &Signature, symbol: SymId, sorts: &[SortId]) -> Option<SortId>
     ensures { option_map (λ (s : SortId). s.0) result ≡ made_sort sig.now symbol.0 (sort_numbers sorts.now) }
 {
@@ -128,10 +129,11 @@ fn made_sort(sig: &Signature, symbol: SymId, sorts: &[SortId]) -> Option<SortId>
     }
 }
 
-/// The image of an equation of a function (Chen and Rosu 2019; K framework, "Functions"): for all its variables, where
-/// the condition is `true`, the function of its arguments is its right side. An equation in the form of kompile gives
-/// the function parameters, says that each is in its argument, and has the parameters before its other variables. An
-/// error: out of memory; the names may have gained tokens then too.
+/// The image of an equation of a function (Chen and Rosu 2019; K framework, "Functions"): for all
+/// its variables, if the condition is `true`, the function applied to its arguments equals its
+/// right side. An equation in the form of kompile has a parameter for each argument of the
+/// function. It says that each parameter is in its argument. The parameters come before its other
+/// variables. An error: out of memory. The names may have gained tokens even then.
 pub fn equation_image(
     alloc: Global,
     sig: &Signature,
@@ -171,7 +173,7 @@ fn direct_image(
     close(alloc, sig, names, &sorts, body)
 }
 
-// The function of the arguments of an equation.
+// The function applied to the arguments of an equation.
 fn call_image(
     alloc: Global,
     sig: &Signature,
@@ -227,7 +229,8 @@ fn met_equal(
     MPat::imp(alloc, &holds, &MPat::equal(alloc, function, right)?)
 }
 
-// That the parameters, numbered from 0 on, are each in its argument, whose variables are numbered from `first` on.
+// The statement that each parameter is in its argument. The parameters are numbered from 0, and the
+// variables of the arguments from `first`.
 fn meets_image(
     alloc: Global,
     sig: &Signature,

@@ -1,4 +1,4 @@
-// The images of what subsorts say.
+// The images of the axioms about subsorts.
 ghost use Rattle.std.specs.Prelude.{◌≡◌, [], ◌∷◌, Contains, IfOk, Some};
 ghost use Rattle.term_core.specs.Patterns.{variable, injection};
 ghost use Rattle.rule_core.specs.Subsorts.{IsBelow};
@@ -17,8 +17,9 @@ use rule_core::Signature;
 use std::alloc::{AllocError, Global};
 use term_core::SortId;
 
-/// That each element of a sort is, injected into a sort that the definition puts right above it, one element of that (K
-/// framework, attribute `subsort`). An error: out of memory; the names may have gained tokens then too.
+/// The axiom about a pair of subsorts: each element of the lower sort, injected into the sort
+/// directly above it, is one element of that sort (K framework, attribute `subsort`). An error: out
+/// of memory. The names may have gained tokens even then.
 pub fn inj_total(
     alloc: Global,
     sig: &Signature,
@@ -37,8 +38,9 @@ pub fn inj_total(
     close(alloc, sig, names, &[from], body)
 }
 
-/// That an injection from a sort to one above it, and on to one above that, is the injection from the first to the last
-/// (K framework, `INJ`). An error: out of memory; the names may have gained tokens then too.
+/// The axiom that two injections in a row, along a chain of three sorts, equal the injection from
+/// the first sort to the last (K framework, `INJ`). An error: out of memory. The names may have
+/// gained tokens even then.
 pub fn inj_collapse(
     alloc: Global,
     sig: &Signature,

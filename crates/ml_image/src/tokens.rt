@@ -91,7 +91,7 @@ fn value_token(alloc: Global, name: &str, value: &Value) -> Result<String, Alloc
     Ok(token)
 }
 
-// Adds the bytes in hexadecimal digits.
+// Adds the bytes as hexadecimal digits, two for each byte.
 fn push_hexadecimal(token: &mut String, bytes: &[u8]) -> Result<(), AllocError>
     ensures { OnOk result (string_bytes token.new ≡ string_bytes token.old ++ hexadecimal bytes.now) }
 {
@@ -102,7 +102,7 @@ fn push_hexadecimal(token: &mut String, bytes: &[u8]) -> Result<(), AllocError>
     Ok(())
 }
 
-// A digit below 16.
+// The hexadecimal digit of a number below 16.
 fn digit(n: u8) -> char
     requires { n < 16 }
     ensures value { result ≡ digit_char n }
@@ -115,7 +115,7 @@ fn digit(n: u8) -> char
     }
 }
 
-// A name after the letters that say what it names.
+// A name after the prefix that says what kind of name it is.
 fn prefixed(alloc: Global, prefix: &str, name: &str) -> Result<String, AllocError>
     ensures { IfOk result (λ token. string_bytes token ≡ prefix.now ++ name.now) }
 {

@@ -1,4 +1,5 @@
--- Derivations under more hypotheses and axioms, under instances, and from trees as they are kept.
+-- Derivations with more hypotheses and axioms, derivations of instances, and derivations from
+-- stored trees.
 use Rattle.std.proofs.Common.{◌≡◌, ℕ, ◌<◌, List, [], ◌∷◌, ◌++◌, option_map, slice_index_or, refl, sym, ◌∙◌, ap, subst, inl, inr, arith, suc, zero, length}
 use Rattle.std.specs.Prelude.{Contains}
 use Rattle.std.proofs.lemmas.List.Elements.{Contains-append_left, Contains-append_right, Contains-append_cases}
@@ -13,7 +14,8 @@ use Rattle.ml_kernel.specs.Theorems.{Derivation, Derivations, hypothesis, own_ax
 use Rattle.ml_kernel.specs.Concluding.{Concludes, AllConclude}
 use Rattle.ml_kernel.proofs.InstanceLaws.{fresh-instance, absent-instance, predicate-instance, substituted-instance, instance-without, HasNoMeta-renamed}
 
--- what is derived from hypotheses is derived from what derives these, with more axioms
+-- if each hypothesis is derivable from other hypotheses, then so is what follows from it; there may
+-- be more axioms
 mutual
   pub Derives-cut : {hs hs' : List Pattern} {axs axs' : Pattern → Type 0} {q : Pattern} → ((p : Pattern) → Contains hs p → Derives hs' axs' p) → ((p : Pattern) → axs p → axs' p) → Derives hs axs q → Derives hs' axs' q
   Derives-cut f g (by_hypothesis p h) = f p h
@@ -25,7 +27,7 @@ mutual
   AllDerive-cut f g none_left = none_left
   AllDerive-cut f g (one_more p ps d ds) = one_more p ps (Derives-cut f g d) (AllDerive-cut f g ds)
 
--- an instance of what a rule's variable stands for
+-- an instance of the instance of a rule's variable
 abbrev pub instance_at : List Pattern → Instance → Instance
 instance_at ms (pattern p) = pattern (instance ms p)
 instance_at ms (variable x) = variable x
@@ -35,7 +37,7 @@ abbrev pub all_instances_at : List Pattern → List Instance → List Instance
 all_instances_at ms [] = []
 all_instances_at ms (i ∷ is) = instance_at ms i ∷ all_instances_at ms is
 
--- an instance of a rule's instance is one, one line for each rule
+-- an instance of a rule's instance is an instance of the rule; one line for each rule
 pub Infers-instance : {r : Rule} {is : List Instance} {ps : List Pattern} {q : Pattern} (ms : List Pattern) → HaveNoVariables ms → Infers r is ps q → Infers r (all_instances_at ms is) (instances ms ps) (instance ms q)
 Infers-instance ms h (rules.p_1 p q) = rules.p_1 (instance ms p) (instance ms q)
 Infers-instance ms h (rules.p_2 p q r) = rules.p_2 (instance ms p) (instance ms q) (instance ms r)
@@ -86,7 +88,8 @@ same_instance ms hs axs q m d = subst (λ (r : Pattern). Derives hs axs r) (sym 
 renamed_without : (p q : Pattern) → HasNoMeta p → IsRenaming p q → HasNoMeta q
 renamed_without p q m r = subst (λ (t : Pattern). HasNoMeta t) (sym r.1.result) (HasNoMeta-renamed r.0 p m)
 
--- an instance of what is derived is derived from the same axioms and the instances of the hypotheses
+-- an instance of a derivable pattern is derivable from the same axioms and the instances of the
+-- hypotheses
 mutual
   pub Derives-instance : {hs : List Pattern} {axs : Pattern → Type 0} {q : Pattern} (ms : List Pattern) → HaveNoVariables ms → ((p : Pattern) → axs p → HasNoMeta p) → Derives hs axs q → Derives (instances ms hs) axs (instance ms q)
   Derives-instance {hs = hs} {axs = axs} ms h m (by_hypothesis p c) = by_hypothesis (instance ms p) (Contains-instances ms hs p c)
@@ -133,7 +136,7 @@ Derives-more g d = Derives-cut (λ p h. by_hypothesis p h) g d
 pub AllDerive-more : {hs : List Pattern} {axs axs' : Pattern → Type 0} {ps : List Pattern} → ((p : Pattern) → axs p → axs' p) → AllDerive hs axs ps → AllDerive hs axs' ps
 AllDerive-more g ds = AllDerive-cut (λ p h. by_hypothesis p h) g ds
 
--- what a kept derivation concludes has a derivation from the axioms that it keeps
+-- the conclusion of a stored derivation is derivable from the axioms that the derivation keeps
 mutual
   pub Derives-Concludes : (hs : List Pattern) (d : Derivation) (q : Pattern) → Concludes hs d q → Derives hs (Contains (axioms_of d)) q
   Derives-Concludes hs (hypothesis p) q k = subst (λ (t : Pattern). Derives hs (Contains []) t) k.1 (by_hypothesis p k.0)
@@ -158,6 +161,6 @@ mutual
       (Derives-more (λ a e. Contains-append_left (axioms_of d) (all_axioms ds) a e) (Derives-Concludes hs d p k.0))
       (AllDerive-more (λ a e. Contains-append_right (axioms_of d) (all_axioms ds) a e) (AllDerive-AllConclude hs ds ps k.1))
 
--- what is derived from the axioms that it keeps is derived in each theory that has these
+-- if it is derivable from the axioms that it keeps, it is derivable in each theory that has them
 pub IsDerivedInTheories-IsDerived : (t : Theorem) → IsDerived t → IsDerivedInTheories t
 IsDerivedInTheories-IsDerived t derived IsAxiom has = Derives-more has derived

@@ -1,4 +1,4 @@
--- What the judgements on patterns say of instances.
+-- The judgements about patterns, for instances.
 use Rattle.std.proofs.Common.{◌≡◌, ◌==◌, ◌||◌, ◌&&◌, ℕ, ◌+◌, ◌<◌, List, [], ◌∷◌, Bool, true, false, cond, Option, Some, None, option_map, slice_index_or, refl, sym, ◌∙◌, ap, arith, suc, zero, length, subst, slice_get, ◌++◌}
 use Rattle.std.proofs.Common as std
 use Rattle.std.proofs.lemmas.Bool.{false≢true}
@@ -12,7 +12,7 @@ use Rattle.ml_kernel.specs.Renamings.{renamed}
 both : (a b c d : Bool) → a ≡ c → b ≡ d → (a && b) ≡ (c && d)
 both a b c d e f = cc
 
--- every variable is fresh where none stands
+-- every variable is fresh in a pattern without variables
 pub fresh-without : (x : ℕ) (p : Pattern) → HasNoVariable p → fresh x p ≡ true
 fresh-without x bot h = refl
 fresh-without x top h = refl
@@ -33,7 +33,7 @@ fresh-without x (var y) h = absurd h
 fresh-without x (meta i) h = refl
 fresh-without x (constant c) h = refl
 
--- every variable is absent where none stands
+-- every variable is absent from a pattern without variables
 pub absent-without : (x : ℕ) (p : Pattern) → HasNoVariable p → absent x p ≡ true
 absent-without x bot h = refl
 absent-without x top h = refl
@@ -57,7 +57,7 @@ absent-without x (constant c) h = refl
 joined_none : (f : Pattern → Pattern → Pattern) (p q : Pattern) (a b : Option Pattern) → a ≡ Some p → b ≡ Some q → both_parts f a b ≡ Some (f p q)
 joined_none f p q a b e g = rw (e, g) refl
 
--- substitution leaves a pattern without variables
+-- substitution does not change a pattern without variables
 pub substituted-without : (p : Pattern) (x : ℕ) (u : Pattern) → HasNoVariable p → substituted p x u ≡ Some p
 substituted-without bot x u h = refl
 substituted-without top x u h = refl
@@ -78,7 +78,7 @@ substituted-without (var y) x u h = absurd h
 substituted-without (meta i) x u h = refl
 substituted-without (constant c) x u h = refl
 
--- what stands for a pattern variable has no object variable
+-- the pattern for a pattern variable has no object variable
 pub HasNoVariable-place : (ms : List Pattern) (i j : ℕ) → HaveNoVariables ms → HasNoVariable (slice_index_or ms i (meta j))
 HasNoVariable-place [] i j h = tt
 HasNoVariable-place (m ∷ ms) zero j h = h.0
@@ -126,7 +126,7 @@ absent-instance ms x (var y) h = refl
 absent-instance ms x (meta i) h = absent-without x (slice_index_or ms i (meta i)) (HasNoVariable-place ms i i h)
 absent-instance ms x (constant c) h = refl
 
--- an instance of a predicate is one
+-- an instance of a predicate is a predicate
 pub predicate-instance : (ms : List Pattern) (p : Pattern) → predicate p ≡ true → predicate (instance ms p) ≡ true
 predicate-instance ms bot h = refl
 predicate-instance ms top h = refl
@@ -147,7 +147,7 @@ predicate-instance ms (var y) h = absurd (false≢true h)
 predicate-instance ms (meta i) h = absurd (false≢true h)
 predicate-instance ms (constant c) h = absurd (false≢true h)
 
--- the instance of two parts, of what may be wanting
+-- the instance of a pattern of two parts, each of which may be missing
 two_parts : (ms : List Pattern) (f : Pattern → Pattern → Pattern) (a b c d : Option Pattern) → ((p q : Pattern) → instance ms (f p q) ≡ f (instance ms p) (instance ms q))
     → c ≡ option_map (instance ms) a → d ≡ option_map (instance ms) b → both_parts f c d ≡ option_map (instance ms) (both_parts f a b)
 two_parts ms f None b c d k e g = rw e refl
@@ -216,7 +216,7 @@ instance-without ms (var x) h = refl
 instance-without ms (meta i) h = absurd (omega (arith, h))
 instance-without ms (constant c) h = refl
 
--- renaming brings in no pattern variable
+-- renaming adds no pattern variable
 pub HasNoMeta-renamed : (f : ℕ → ℕ) (p : Pattern) → HasNoMeta p → HasNoMeta (renamed f p)
 HasNoMeta-renamed f bot h = tt
 HasNoMeta-renamed f top h = tt
@@ -237,7 +237,7 @@ HasNoMeta-renamed f (var x) h = tt
 HasNoMeta-renamed f (meta i) h = h
 HasNoMeta-renamed f (constant c) h = tt
 
--- where nothing stands for pattern variables, a pattern is its own instance
+-- if there are no patterns for pattern variables, a pattern is its own instance
 pub instance-empty : (ms : List Pattern) (p : Pattern) → length ms ≡ 0 → IsMetaBelow (length ms) p → instance ms p ≡ p
 instance-empty ms p e h = instance-without ms p (subst (λ n. IsMetaBelow n p) e h)
 

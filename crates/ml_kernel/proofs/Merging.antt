@@ -1,4 +1,4 @@
--- Hypotheses of several theorems, each once.
+-- The hypotheses of several theorems, each once.
 use Rattle.std.proofs.Common.{◌≡◌, ℕ, ◌<◌, ◌+◌, List, [], ◌∷◌, ◌++◌, ◌⊎◌, refl, sym, ◌∙◌, ap, subst, inl, inr, arith, length, take, get_or, append_assoc, append-nil, zero, suc}
 use Rattle.std.specs.Prelude.{Contains}
 use Rattle.std.specs.Borrow.{Bor}
@@ -23,15 +23,15 @@ AddsNew-append old (x ∷ xs) mid ys new h k =
       | inr b ↦ inr (b.0, AddsNew-append (old ++ x ∷ []) xs mid ys new b.1 k)
     ]
 
--- one more pattern that is there already
+-- one more pattern that is in the list already
 pub AddsNew-there : (old xs new : List Pattern) (p : Pattern) → AddsNew old xs new → Contains new p → AddsNew old (xs ++ p ∷ []) new
 AddsNew-there old xs new p h k = AddsNew-append old xs new (p ∷ []) new h (inl (k, refl))
 
--- one more pattern that is not there yet
+-- one more pattern that is not in the list yet
 pub AddsNew-new : (old xs new : List Pattern) (p : Pattern) → AddsNew old xs new → (Contains new p → ⊥) → AddsNew old (xs ++ p ∷ []) (new ++ p ∷ [])
 AddsNew-new old xs new p h k = AddsNew-append old xs new (p ∷ []) (new ++ p ∷ []) h (inr (k, refl))
 
--- nothing that was there is lost
+-- the old list is contained in the new one
 pub Contains-AddsNew_old : (old xs new : List Pattern) (p : Pattern) → AddsNew old xs new → Contains old p → Contains new p
 Contains-AddsNew_old old [] new p h k = subst (λ (o : List Pattern). Contains o p) (sym h) k
 Contains-AddsNew_old old (x ∷ xs) new p h k =
@@ -48,7 +48,7 @@ first_or_later : (x : Pattern) (xs : List Pattern) (p : Pattern) → Contains (x
 first_or_later x xs p k =
     elim (Contains-append_cases (x ∷ []) xs p k) [ inl a ↦ inl (only x p a.0 a.1 a.2) | inr b ↦ inr b ]
 
--- all that came is there
+-- the added patterns are contained in the new list
 pub Contains-AddsNew : (old xs new : List Pattern) (p : Pattern) → AddsNew old xs new → Contains xs p → Contains new p
 Contains-AddsNew old [] new p h k = absurd (omega (arith, k.1))
 Contains-AddsNew old (x ∷ xs) new p h k =
@@ -87,11 +87,11 @@ pub derivations-push : (ds : List Derivation) (ts : List Theorem) (t : Theorem) 
 derivations-push ds ts t e =
     derivations-append ds t.derivation ∙ ap (λ rest. with_last rest t.derivation) e ∙ sym (all_derivations-append ts t)
 
--- the items up to one more
+-- the first items, and one more
 pub next_taken : {X : Type 0} (xs : List X) (i : ℕ) (x : X) → i < length xs → x ≡ get_or xs i x → take (i + 1) xs ≡ take i xs ++ x ∷ []
 next_taken xs i x lt is = take_more xs i x lt ∙ ap (λ y. take i xs ++ y ∷ []) (sym is)
 
--- one more of the patterns of a list is added
+-- one more pattern of a list is added
 pub AddsNew-next_there : (old from new : List Pattern) (i : ℕ) (p : Pattern) → AddsNew old (take i from) new → i < length from → p ≡ get_or from i p → Contains new p → AddsNew old (take (i + 1) from) new
 AddsNew-next_there old from new i p h lt is k =
     subst (λ (ps : List Pattern). AddsNew old ps new) (sym (next_taken from i p lt is)) (AddsNew-there old (take i from) new p h k)
@@ -102,7 +102,7 @@ AddsNew-next_new old from mid new i p h lt is k e =
     subst (λ (ps : List Pattern). AddsNew old ps new) (sym (next_taken from i p lt is))
     (subst (λ (o : List Pattern). AddsNew old (take i from ++ p ∷ []) o) (sym e) (AddsNew-new old (take i from) mid p h k))
 
--- the theorems after the references up to one more
+-- the theorems behind the first references, and one more
 pub theorems_of-next : (xs : List (Bor Theorem)) (i : ℕ) (x : Bor Theorem) → i < length xs → x ≡ get_or xs i x → theorems_of (take (i + 1) xs) ≡ theorems_of (take i xs) ++ x.now ∷ []
 theorems_of-next xs i x lt is = ap theorems_of (next_taken xs i x lt is) ∙ theorems_of-push (take i xs) x
 
@@ -129,14 +129,14 @@ parts_of-push : (ps : List Part) (p : Part) → parts_of (ps ++ p ∷ []) ≡ pa
 parts_of-push [] p = refl
 parts_of-push (q ∷ ps) p = ap (λ rest. part_of q ∷ rest) (parts_of-push ps p)
 
--- one more of what stands for a rule's variables is kept
+-- one more instance of a rule's variable is stored
 pub parts-next : (xs : List Part) (i : ℕ) (x : Part) (old new : List Inst) (held : Inst) → instances_of old ≡ parts_of (take i xs) → i < length xs → x ≡ get_or xs i x → instance_of held ≡ part_of x → new ≡ old ++ held ∷ []
     → instances_of new ≡ parts_of (take (i + 1) xs)
 parts-next xs i x old new held h lt is e g =
     ap instances_of g ∙ map-append instance_of old (held ∷ []) ∙ ap (λ rest. rest ++ instance_of held ∷ []) h
     ∙ ap (λ o. parts_of (take i xs) ++ o ∷ []) e ∙ sym (parts_of-push (take i xs) x) ∙ ap parts_of (sym (next_taken xs i x lt is))
 
--- more hypotheses conclude the same
+-- with more hypotheses the derivation has the same conclusion
 mutual
   pub Concludes-more : (hs hs' : List Pattern) (d : Derivation) (q : Pattern) → ((p : Pattern) → Contains hs p → Contains hs' p) → Concludes hs d q → Concludes hs' d q
   Concludes-more hs hs' (hypothesis p) q f k = (f p k.0, k.1)
@@ -152,7 +152,7 @@ mutual
   AllConclude-more hs hs' (more_derivations d ds) (p ∷ ps) f k =
       (Concludes-more hs hs' d p f k.0, AllConclude-more hs hs' ds ps f k.1)
 
--- theorems whose hypotheses are all there conclude their conclusions
+-- theorems whose hypotheses are all in the list conclude their conclusions from it
 pub AllConclude-kept : (ts : List Theorem) (hs : List Pattern) → AreKept ts → ((p : Pattern) → Contains (all_hypotheses ts) p → Contains hs p) → AllConclude hs (all_derivations ts) (conclusions ts)
 AllConclude-kept [] hs k f = tt
 AllConclude-kept (t ∷ ts) hs k f = (
@@ -160,7 +160,7 @@ AllConclude-kept (t ∷ ts) hs k f = (
   AllConclude-kept ts hs k.1 (λ p c. f p (Contains-append_right t.hypotheses (all_hypotheses ts) p c)),
 )
 
--- a theorem by a rule is kept
+-- the stored derivation of a theorem by a rule concludes its conclusion
 pub rule-kept : (r : Rule) (is held : List Instance) (ts : List Theorem) (hs : List Pattern) (ds : List Derivation) (d : Derivation) (q c : Pattern)
     → Infers r is (conclusions ts) q → AreKept ts → AddsNew [] (all_hypotheses ts) hs → held ≡ is → derivations ds ≡ all_derivations ts → d ≡ by_rule r held (derivations ds) → c ≡ q → Concludes hs d c
 rule-kept r is held ts hs ds d q c h k a e g last same =
@@ -169,7 +169,7 @@ rule-kept r is held ts hs ds d q c h k a e g last same =
     (subst (λ (o : Derivation). Concludes hs o q) (sym (last ∙ ap (λ is'. by_rule r is' (derivations ds)) e ∙ ap (λ ds'. by_rule r is ds') g))
     (let whole : Concludes hs (by_rule r is (all_derivations ts)) q = (conclusions ts, (h, below)) in whole))
 
--- a theorem by a lemma is kept
+-- the stored derivation of a theorem by a lemma concludes its conclusion
 pub cited-kept : (lemma : Theorem) (ms held : List Pattern) (ts : List Theorem) (hs : List Pattern) (ds : List Derivation) (d : Derivation) (q : Pattern)
     → IsKept lemma → HaveNoVariables ms → instance ms lemma.conclusion ≡ q → conclusions ts ≡ instances ms lemma.hypotheses → AreKept ts → AddsNew [] (all_hypotheses ts) hs → held ≡ ms
     → derivations ds ≡ all_derivations ts → d ≡ cited lemma.hypotheses lemma.conclusion lemma.derivation held (derivations ds) → Concludes hs d q
@@ -184,7 +184,7 @@ later : (old : List Pattern) (x : Pattern) (xs : List Pattern) (p : Pattern) →
 later old x xs p (inl a) = inl a
 later old x xs p (inr b) = inr (Contains-append_right (x ∷ []) xs p b)
 
--- nothing is there but what was and what came
+-- each pattern of the new list was in the old one or was added
 pub AddsNew-sources : (old xs new : List Pattern) (p : Pattern) → AddsNew old xs new → Contains new p → Contains old p ⊎ Contains xs p
 AddsNew-sources old [] new p h k = inl (subst (λ (o : List Pattern). Contains o p) h k)
 AddsNew-sources old (x ∷ xs) new p h k =

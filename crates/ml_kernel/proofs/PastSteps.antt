@@ -1,4 +1,5 @@
--- A step that the walks of `src/past.rt` share: a struct without fields is made. Assumes `Logic`.
+-- A step that the proofs about `src/past.rt` share: it makes a struct without fields. Assumes
+-- `Logic`.
 use Rattle.std.proofs.Common.{List, [], ◌∷◌, refl}
 use seplogic.Ra.Ura.{Ura}
 use mir.Val.{Val, vstruct, vnil}

@@ -1,4 +1,5 @@
--- What each rule call owes, one line for each rule: its case of the rules, where patterns are equal to the named ones.
+-- The proof obligation of each rule call, one line for each rule: its case of `Infers`, up to
+-- equations between patterns.
 use Rattle.std.proofs.Common.{◌≡◌, List, [], ◌∷◌, sym, subst}
 use Rattle.std.specs.Prelude.{ℕ, Some}
 use Rattle.ml_pat.specs.Patterns.{Pattern, bot, top, imp, not, and, or, equal, member, fun, ex, all, app, next, ev, var}

@@ -1,4 +1,4 @@
--- The instance of a pattern, around that of its first part.
+-- The instance of a pattern, built around the instance of its first part.
 use Rattle.std.proofs.Common.{◌≡◌, List, Some, sym, ap}
 use Rattle.ml_pat.specs.Patterns.{Pattern, bot, top, imp, not, and, or, equal, member, fun, ex, all, app, at_sort, next, ev, var, meta, constant}
 use Rattle.ml_pat.specs.FirstPart.{first_part}
@@ -6,7 +6,7 @@ use Rattle.ml_pat.proofs.SpineLaws.{some_same, none_some}
 use Rattle.ml_kernel.specs.Lemmas.{instance}
 use Rattle.ml_kernel.specs.Spines.{around}
 
--- around the instance of the first part stands that of the whole
+-- the instance of the whole is built around the instance of the first part
 pub around-instance : (ms : List Pattern) (r p : Pattern) → first_part r ≡ Some p → around ms (instance ms p) r ≡ instance ms r
 around-instance ms bot p h = absurd (none_some p h)
 around-instance ms top p h = absurd (none_some p h)

@@ -1,4 +1,4 @@
--- What a derivation as it is kept concludes from hypotheses, step by step.
+-- What a stored derivation concludes from hypotheses, step by step.
 use Rattle.std.specs.Prelude.{◌≡◌, List, [], ◌∷◌, Contains}
 use Rattle.ml_pat.specs.Patterns.{Pattern}
 use Rattle.ml_kernel.specs.Rules.{Infers}

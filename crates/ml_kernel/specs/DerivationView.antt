@@ -1,4 +1,4 @@
--- The derivation that a `Deriv` of the code stands for, and the theorem that a `Lemma` does.
+-- The derivation that represents a `Deriv` of the code, and the theorem that represents a `Lemma`.
 use Rattle.ml_kernel.specs.Theorems.{Derivation, Theorem}
 use Rattle.ml_kernel.specs.StepView.{derivation_of}
 use Rattle.ml_kernel.specs.declared.derivations.Deriv.TheInside as tree

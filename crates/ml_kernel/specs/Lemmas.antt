@@ -1,8 +1,9 @@
--- Patterns with pattern variables, as lemmas have, and their instances.
+-- Patterns with pattern variables, as in lemmas, and their instances.
 use Rattle.std.specs.Prelude.{ℕ, ◌<◌, List, [], ◌∷◌, slice_index_or}
 use Rattle.ml_pat.specs.Patterns.{Pattern, bot, top, imp, not, and, or, equal, member, fun, ex, all, app, at_sort, next, ev, var, meta, constant}
 
--- the pattern with a pattern of the list in the place of each pattern variable whose number has one
+-- the pattern with each pattern variable replaced by the pattern of the list at its number, if
+-- there is one
 abbrev pub instance : List Pattern → Pattern → Pattern
 instance ms bot = bot
 instance ms top = top
@@ -28,7 +29,7 @@ abbrev pub instances : List Pattern → List Pattern → List Pattern
 instances ms [] = []
 instances ms (p ∷ ps) = instance ms p ∷ instances ms ps
 
--- each pattern variable in the pattern has a number below n
+-- each pattern variable of the pattern has a number below n
 abbrev pub IsMetaBelow : ℕ → Pattern → Type 0
 IsMetaBelow n bot = Unit {0}
 IsMetaBelow n top = Unit {0}
@@ -53,11 +54,11 @@ abbrev pub AreMetasBelow : ℕ → List Pattern → Type 0
 AreMetasBelow n [] = Unit {0}
 AreMetasBelow n (p ∷ ps) = IsMetaBelow n p × AreMetasBelow n ps
 
--- no pattern variable stands in the pattern
+-- no pattern variable occurs in the pattern
 abbrev pub HasNoMeta : Pattern → Type 0
 HasNoMeta p = IsMetaBelow 0 p
 
--- no object variable stands in the pattern, bound or free
+-- no object variable occurs in the pattern, bound or free
 abbrev pub HasNoVariable : Pattern → Type 0
 HasNoVariable bot = Unit {0}
 HasNoVariable top = Unit {0}

@@ -1,9 +1,10 @@
--- Which axioms and lemmas a derivation cites.
+-- The axioms and lemmas that a derivation cites.
 use Rattle.std.specs.Prelude.{ℕ, List}
 use Rattle.ml_pat.specs.Patterns.{Pattern}
 use Rattle.ml_kernel.specs.Theorems.{Derivation, Derivations, hypothesis, own_axiom, by_rule, cited, no_derivation, more_derivations}
 
--- which axioms may be cited, under which new numbers of their bound variables, and which lemmas at which patterns
+-- which axioms may be cited, with which new numbers of their bound variables, and which lemmas, at
+-- which patterns
 pub record MayCite : Type 1 where
   pub fact : Pattern → List ℕ → Type 0
   pub lemma : List Pattern → Pattern → List Pattern → Type 0

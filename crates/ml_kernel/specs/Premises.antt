@@ -1,4 +1,4 @@
--- What the code gives a rule: what stands for its variables, and theorems.
+-- What the code passes to a rule: the instances of its variables, and theorems.
 use Rattle.std.specs.Prelude.{List, [], ◌∷◌}
 use Rattle.std.specs.Borrow.{Bor}
 use Rattle.ml_kernel.specs.Rules.{Instance, pattern, variable, sort}
@@ -16,12 +16,12 @@ abbrev pub parts_of : List Part → List Instance
 parts_of [] = []
 parts_of (p ∷ ps) = part_of p ∷ parts_of ps
 
--- the theorems after references
+-- the theorems behind references
 abbrev pub theorems_of : List (Bor Theorem) → List Theorem
 theorems_of [] = []
 theorems_of (t ∷ ts) = t.now ∷ theorems_of ts
 
--- each theorem is kept so
+-- each theorem's stored derivation concludes its conclusion
 abbrev pub AreKept : List Theorem → Type 0
 AreKept [] = Unit {0}
 AreKept (t ∷ ts) = IsKept t × AreKept ts

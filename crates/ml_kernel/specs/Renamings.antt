@@ -1,9 +1,9 @@
--- Axioms with other bound variables.
+-- Axioms with renamed bound variables.
 use Rattle.std.specs.Prelude.{◌≡◌, ℕ, false, List, slice_index_or}
 use Rattle.ml_pat.specs.Patterns.{Pattern, bot, top, imp, not, and, or, equal, member, fun, ex, all, app, at_sort, next, ev, var, meta, constant}
 use Rattle.ml_pat.specs.Judgements.{fresh, absent}
 
--- the pattern with each variable in it replaced by another
+-- the pattern with each of its variables replaced by another
 abbrev pub renamed : (ℕ → ℕ) → Pattern → Pattern
 renamed f bot = bot
 renamed f top = top
@@ -24,8 +24,8 @@ renamed f (var x) = var (f x)
 renamed f (meta i) = meta i
 renamed f (constant c) = constant c
 
--- The second pattern is the first with its bound variables renamed so: variables that differ stay different, and a free
--- one stays as it is.
+-- The second pattern is the first with its bound variables renamed in this way. Different variables
+-- stay different, and a free variable does not change.
 pub record Renames (to : ℕ → ℕ) (p q : Pattern) : Type 0 where
   pub result : q ≡ renamed to p
   pub one_to_one : (x y : ℕ) → absent x p ≡ false → absent y p ≡ false → to x ≡ to y → x ≡ y
@@ -34,6 +34,7 @@ pub record Renames (to : ℕ → ℕ) (p q : Pattern) : Type 0 where
 abbrev pub IsRenaming : Pattern → Pattern → Type 0
 IsRenaming p q = (to : ℕ → ℕ) × Renames to p q
 
--- A renaming as a list: the variable with a number becomes the one at that place, and stays where the list is shorter.
+-- A renaming as a list: the variable with a number becomes the entry at that index. If the list is
+-- shorter, the variable does not change.
 abbrev pub by_place : List ℕ → ℕ → ℕ
 by_place new x = slice_index_or new x x

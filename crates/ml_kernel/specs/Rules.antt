@@ -1,19 +1,19 @@
--- The rules of matching logic with one-step and many-step reachability, as schemes over patterns (Rosu 2017; Chen and
--- Rosu 2019).
+-- The rules of matching logic with one-step and many-step reachability, as schemes over patterns
+-- (Rosu 2017; Chen and Rosu 2019).
 use Rattle.std.specs.Prelude.{◌≡◌, ℕ, List, [], ◌∷◌, Some, codes}
 use Rattle.ml_pat.specs.Patterns.{Pattern, bot, top, imp, not, and, or, equal, member, fun, ex, all, app, next, ev, var}
 use Rattle.ml_pat.specs.Judgements.{IsFresh, IsAbsent, substituted, IsPredicate}
 use Rattle.ml_kernel.specs.declared.rules.Rule.{Rule}
 use Rattle.ml_kernel.specs.declared.rules.Rule.TheVariants as rule
 
--- what stands for a variable of a scheme
+-- what is substituted for a variable of a scheme
 pub data Instance : Type 0 where
   pattern : Pattern → Instance
   variable : ℕ → Instance
   sort : ℕ → Instance
 
--- `Infers rule is ps q`: the rule, at the instances of its variables, concludes q from ps. A rule's side conditions are
--- premises of its case.
+-- `Infers rule is ps q`: the rule, at the instances `is` of its variables, concludes q from ps. The
+-- side conditions of a rule are premises of its case.
 pub data Infers : Rule → List Instance → List Pattern → Pattern → Type 0 where
   p_1 : (p q : Pattern) → Infers rule.P1 (pattern p ∷ pattern q ∷ []) [] (imp p (imp q p))
   p_2 : (p q r : Pattern) → Infers rule.P2 (pattern p ∷ pattern q ∷ pattern r ∷ []) [] (imp (imp p (imp q r)) (imp (imp p q) (imp p r)))

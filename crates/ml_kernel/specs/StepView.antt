@@ -1,4 +1,4 @@
--- The derivation that a step of the code stands for.
+-- The derivation that represents a step of the code.
 use Rattle.std.specs.Prelude.{ℕ, List, map}
 use Rattle.ml_kernel.specs.Rules.{Instance, pattern, variable, sort}
 use Rattle.ml_kernel.specs.Theorems.{Derivation, hypothesis, own_axiom, by_rule, cited, derivations}

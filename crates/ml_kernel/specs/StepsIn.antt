@@ -1,4 +1,4 @@
--- How many steps a derivation has, without those of the lemmas that it cites.
+-- The number of steps of a derivation, without the steps of the lemmas that it cites.
 use Rattle.std.specs.Prelude.{ℕ, ◌+◌}
 use Rattle.ml_kernel.specs.Theorems.{Derivation, Derivations, hypothesis, own_axiom, by_rule, cited}
 use Rattle.ml_kernel.specs.Theorems.{no_derivation, more_derivations}

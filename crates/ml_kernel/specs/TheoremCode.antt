@@ -1,4 +1,5 @@
--- Derivations and theorems as lists of tokens, and back: by this the proofs tell them apart.
+-- Derivations and theorems as lists of tokens, and the way back. The proofs use this to show that
+-- they differ.
 use Rattle.std.specs.Prelude.{◌≡◌, refl, ℕ, List, [], ◌∷◌, ◌⊎◌, if◌then◌else◌, bytes_eq}
 use Rattle.std.proofs.Common.{inl, inr, ◌∙◌, ap}
 use Rattle.std.specs.Coded.{Coded, code_by, coded×, coded⊎, coded_ℕ, coded_list}
@@ -10,7 +11,7 @@ use Rattle.ml_kernel.specs.Theorems.{Derivation, Derivations, hypothesis, own_ax
 use Rattle.ml_kernel.specs.declared.rules.Rule.{Rule}
 use Rattle.ml_kernel.specs.declared.rules.Rule.TheVariants as rule
 
--- a rule is stored as its label
+-- a rule is encoded as its label
 abbrev all_rules : List Rule
 all_rules =
     rule.P1 ∷ rule.P2 ∷ rule.P3 ∷ rule.Mp ∷ rule.Not1 ∷ rule.Not2 ∷ rule.And1 ∷ rule.And2 ∷ rule.And3 ∷ rule.Or1 ∷ rule.Or2 ∷ rule.Or3 ∷ rule.Top ∷ rule.Inst ∷ rule.FunEx ∷ rule.ExEl ∷ rule.EqRefl ∷ rule.EqEl ∷ rule.EqIn ∷ rule.MemIn ∷ rule.MemNo ∷ rule.Apart ∷ rule.AppL ∷ rule.AppR ∷ rule.BotL ∷ rule.BotR ∷ rule.NextIn ∷ rule.Ev1 ∷ rule.Ev2 ∷ rule.EvKt ∷ []
@@ -73,8 +74,8 @@ abbrev instance_code : Coded Instance
 instance_code =
     code_by (Pattern ⊎ (ℕ ⊎ ℕ)) (coded⊎ pattern_code (coded⊎ coded_ℕ coded_ℕ)) instance_cases instance_of_cases instance_of_cases-instance_cases
 
--- A token opens a list of derivations, or is a hypothesis or an axiom, or ends the derivations below a rule or a
--- citation.
+-- A token begins a list of derivations, or is a hypothesis or an axiom, or ends the derivations
+-- below a rule or a citation.
 abbrev Token : Type 0
 Token = (Unit {0} ⊎ (Pattern ⊎ (ℕ × (Pattern × List ℕ)))) ⊎ ((Rule × List Instance) ⊎ (List Pattern × (Pattern × List Pattern)))
 
@@ -83,7 +84,7 @@ token_code =
     coded⊎ (coded⊎ coded_unit (coded⊎ pattern_code (coded× coded_ℕ (coded× pattern_code (coded_list coded_ℕ)))))
     (coded⊎ (coded× rule_code (coded_list instance_code)) (coded× (coded_list pattern_code) (coded× pattern_code (coded_list pattern_code))))
 
--- the tokens of a derivation, and of derivations from the last one on, in front of others
+-- the tokens of a derivation, or of derivations from the last one on, in front of other tokens
 abbrev mutual
   tokens : Derivation → List Token → List Token
   tokens (hypothesis p) rest = inl (inr (inl p)) ∷ rest
@@ -96,7 +97,7 @@ abbrev mutual
   all_tokens no_derivation rest = rest
   all_tokens (more_derivations d ds) rest = all_tokens ds (tokens d rest)
 
--- reading one token, over a stack of the lists that are open
+-- reads one token, with a stack of the open lists
 abbrev read_token : Token → List Derivations → List Derivations
 read_token (inl (inl u)) open_lists = no_derivation ∷ open_lists
 read_token (inl (inr k)) [] = []
@@ -127,7 +128,7 @@ mutual
   read_all-all_tokens (more_derivations d ds) rest fs =
       read_all-all_tokens ds (tokens d rest) fs ∙ read_all-tokens d rest ds fs
 
--- the first derivation of the list on top
+-- the first derivation of the list at the top of the stack
 abbrev first_derivation : List Derivations → Derivation
 first_derivation [] = hypothesis bot
 first_derivation (no_derivation ∷ fs) = hypothesis bot
@@ -140,7 +141,7 @@ abbrev pub derivation_code : Coded Derivation
 derivation_code =
     code_by (List Token) (coded_list token_code) (λ d. tokens d []) (λ ks. first_derivation (read_all ks (no_derivation ∷ []))) first_derivation-tokens
 
--- a theorem is stored as its fields
+-- a theorem is encoded as its fields
 abbrev pub theorem_code : Coded Theorem
 theorem_code =
     code_by (List Pattern × (Pattern × Derivation)) (coded× (coded_list pattern_code) (coded× pattern_code derivation_code))

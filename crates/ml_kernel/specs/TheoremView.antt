@@ -1,4 +1,4 @@
--- The theorem that a `Thm` of the code stands for.
+-- The theorem that represents a `Thm` of the code.
 use Rattle.ml_kernel.specs.Theorems.{Theorem}
 use Rattle.ml_kernel.specs.declared.theorems.Thm.TheInside.{Inside}
 

@@ -1,17 +1,17 @@
--- The leaves of the patterns that a derivation uses for the variables of rules.
+-- The leaves of the patterns that a derivation substitutes for the variables of rules.
 use Rattle.std.specs.Prelude.{List, [], ◌∷◌}
 use Rattle.ml_pat.specs.Leaves.{LeafFacts, EachLeaf}
 use Rattle.ml_kernel.specs.Rules.{Instance, pattern, variable, sort}
 use Rattle.ml_kernel.specs.Theorems.{Derivation, Derivations, hypothesis, own_axiom, by_rule, cited, no_derivation, more_derivations}
 
--- each leaf of what stands for the variables of a rule has its fact
+-- each leaf of the instances of a rule's variables has its fact
 abbrev pub EachInstance : LeafFacts → List Instance → Type 0
 EachInstance f [] = Unit {0}
 EachInstance f (pattern p ∷ is) = EachLeaf f p × EachInstance f is
 EachInstance f (variable x ∷ is) = f.object x × EachInstance f is
 EachInstance f (sort s ∷ is) = f.sort s × EachInstance f is
 
--- and so in each rule of a derivation
+-- the same for each rule of a derivation
 abbrev mutual
   pub EachUsed : LeafFacts → Derivation → Type 0
   EachUsed f (hypothesis p) = Unit {0}

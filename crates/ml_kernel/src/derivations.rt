@@ -1,4 +1,4 @@
-// Derivations as they are kept, and lemmas, which they cite.
+// Stored derivations, and the lemmas that they cite.
 ghost use Rattle.std.specs.Prelude.{◌≡◌, ◌<◌, IfOk, IfSome};
 ghost use Rattle.ml_kernel.specs.StepView.{derivation_of};
 ghost use Rattle.ml_kernel.specs.Theorems.{derivations};
@@ -16,7 +16,7 @@ use std::rc::Rc;
 #[derive(Clone, Copy, PartialEq, Eq, PartialOrd, Ord, Hash, Debug)]
 pub struct AxiomNo(pub u64);
 
-/// What stands for a variable of a rule.
+/// What is substituted for a variable of a rule.
 #[derive(Drop)]
 pub enum Inst {
     /// A pattern.
@@ -39,17 +39,19 @@ pub struct Deriv {
 pub enum DerivStep {
     /// A hypothesis.
     Hyp(MPat),
-    /// An axiom, by its number in its theory, and what its bound variables become: the one with a number the variable at
-    /// that place, and where there are fewer, itself.
+    /// An axiom: its number in its theory, its pattern, and the new numbers of its bound variables.
+    /// The variable with the number i becomes the i-th entry of the list. If the list is shorter,
+    /// the variable does not change.
     Axiom(AxiomNo, MPat, Vec<VarNo>),
-    /// A rule; what stands for its variables, in the order of its call; and the derivations of what it concludes from.
+    /// A rule; the instances of its variables, in the order of its call; and the derivations of its
+    /// premises.
     ByRule(Rule, Vec<Inst>, Vec<Deriv>),
-    /// A lemma, what stands for its pattern variables, and the derivations of its hypotheses.
+    /// A lemma, the patterns for its pattern variables, and the derivations of its hypotheses.
     Cited(Lemma, Vec<MPat>, Vec<Deriv>),
 }
 
-/// A theorem that may be cited with other patterns in the place of its pattern variables. Contracts see it as a plain
-/// `Theorem`. Its derivation is there for contracts alone.
+/// A theorem that may be cited with other patterns for its pattern variables. Contracts see it as a
+/// plain `Theorem`. Its derivation exists only for contracts.
 #[derive(Drop)]
 pub struct Lemma {
     pub(crate) hypotheses: Vec<MPat>,
@@ -94,8 +96,8 @@ impl Model for Lemma {
     ghost invariant = { λ a. IsKept (lemma_theorem a) };
 }
 
-// A loop over a list of what is still to be dropped: a chain of rules may be as long as a run. Where memory for the
-// list is refused, the parts are dropped one level further down.
+// It loops over a list of the parts that are still to be dropped, because a chain of rules may be
+// as long as a run. If there is no memory for the list, it recurses into the parts.
 impl Drop for Deriv {
     #[cycle(derivation_drop)]
     fn drop(self) {
@@ -112,7 +114,7 @@ impl Drop for Deriv {
 }
 
 impl Deriv {
-    // The derivations right below, where nothing else shares this one and there are some.
+    // The derivations directly below, if there are some and nothing else shares this one.
     fn into_parts(self) -> Option<Vec<Deriv>>
         ensures { IfSome result (λ parts. all_steps (derivations parts.items) < steps_in self) }
     {
@@ -122,7 +124,7 @@ impl Deriv {
 }
 
 impl DerivStep {
-    // The derivations right below. A cited lemma keeps none.
+    // The derivations directly below. A cited lemma does not keep any.
     fn into_parts(self) -> Option<Vec<Deriv>>
         ensures { IfSome result (λ parts. all_steps (derivations parts.items) < steps_in (derivation_of self)) }
     {
@@ -136,7 +138,7 @@ impl DerivStep {
 }
 
 impl Deriv {
-    /// The derivation with this last step.
+    /// The derivation with this last step. An error: out of memory.
     pub(crate) fn of(alloc: Global, step: DerivStep) -> Result<Deriv, AllocError>
         ensures { IfOk result (λ d. d ≡ derivation_of step) }
     {
@@ -151,7 +153,7 @@ impl Deriv {
         &self.node
     }
 
-    /// The same derivation, shared.
+    /// The same derivation, shared. An error: out of memory.
     pub fn share(&self) -> Result<Deriv, AllocError>
         ensures { IfOk result (λ shared. shared ≡ self.now) }
     {
@@ -161,7 +163,7 @@ impl Deriv {
 }
 
 impl Lemma {
-    /// What it rests on.
+    /// The hypotheses that it depends on.
     pub fn hypotheses(&self) -> &[MPat]
         ensures value { result.now ≡ self.now.hypotheses }
         ensures kept { IsKept self.now }
@@ -169,7 +171,7 @@ impl Lemma {
         &self.hypotheses
     }
 
-    /// The same lemma, its patterns shared.
+    /// The same lemma, with its patterns shared. An error: out of memory.
     pub fn share(&self, alloc: Global) -> Result<Lemma, AllocError>
         ensures { IfOk result (λ shared. shared ≡ self.now) }
     {
@@ -180,7 +182,7 @@ impl Lemma {
         })
     }
 
-    /// What it concludes.
+    /// The conclusion.
     pub fn conclusion(&self) -> &MPat
         ensures { result.now ≡ self.now.conclusion }
     {

@@ -7,8 +7,8 @@ ghost use Rattle.ml_kernel.specs.Spines.{around};
 use ml_pat::{MForm, MPat, first_part};
 use std::alloc::{AllocError, Global};
 
-// The pattern with a pattern in the place of each pattern variable. Where there are none it costs the same for every
-// pattern.
+// The pattern with its pattern variables replaced by patterns. If there are no such patterns, the
+// cost does not depend on the pattern.
 pub(crate) fn instance(alloc: Global, metas: &[MPat], pat: &MPat) -> Result<MPat, AllocError>
     requires { IsMetaBelow (length metas.now) pat.now }
     ensures { IfOk result (λ made. made ≡ instance metas.now pat.now) }
@@ -19,7 +19,8 @@ pub(crate) fn instance(alloc: Global, metas: &[MPat], pat: &MPat) -> Result<MPat
     filled(alloc, metas, pat)
 }
 
-// A loop down the first parts, where patterns are deep, and back up; other parts are filled one level further down.
+// It loops down the first parts, because patterns are deep there, and back up. It recurses into
+// other parts.
 #[cycle(filled)]
 fn filled(alloc: Global, metas: &[MPat], pat: &MPat) -> Result<MPat, AllocError>
     ensures { IfOk result (λ made. made ≡ instance metas.now pat.now) }
@@ -37,7 +38,7 @@ fn filled(alloc: Global, metas: &[MPat], pat: &MPat) -> Result<MPat, AllocError>
     Ok(made)
 }
 
-// The instance of a pattern, built around that of its first part, where it has one.
+// The instance of a pattern, built around the instance of its first part, if it has one.
 #[cycle(filled)]
 fn filled_around(
     alloc: Global,
@@ -66,7 +67,7 @@ fn filled_around(
     }
 }
 
-// The pattern in the place of a pattern variable, or the variable, where there is none for it.
+// The pattern for a pattern variable. If there is none, the variable itself.
 fn filled_meta(metas: &[MPat], i: u32, pat: &MPat) -> Result<MPat, AllocError>
     ensures { IfOk result (λ made. made ≡ slice_index_or metas.now i pat.now) }
 {

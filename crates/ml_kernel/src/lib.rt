@@ -1,9 +1,10 @@
-// Theorems of matching logic. Only the calls of this crate make a `Thm`, each by one rule of the logic, an axiom of a
-// theory, a hypothesis or a lemma.
+// Theorems of matching logic. Only the calls of this crate make a `Thm`. Each call uses one rule of
+// the logic, an axiom of a theory, a hypothesis or a lemma.
 //
-// The contract: each theorem has a derivation in matching logic (specs/Derivability.antt) from its own hypotheses and
-// the axioms that its derivation keeps. The rules are schemes over plain patterns (specs/Rules.antt), and src/rules.rt
-// has one call for each. A rule call states what the rule asks as its condition, and so compares nothing when it runs.
+// The contract: each theorem has a derivation in matching logic (specs/Derivability.antt) from its
+// own hypotheses and from the axioms that its derivation keeps. The rules are schemes over plain
+// patterns (specs/Rules.antt), and src/rules.rt has one call for each. The precondition of a call
+// is what its rule requires, so the call compares nothing at run time.
 #![tactic(auto)]
 
 mod derivations;

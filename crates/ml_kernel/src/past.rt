@@ -1,8 +1,8 @@
-// The derivation of a lemma, for contracts alone. It takes no memory, so a lemma does not keep its derivation when the
-// program runs, and neither does what cites it.
+// The derivation of a lemma, for contracts only. It takes no memory. So a lemma does not keep its
+// derivation at run time, and neither does a theorem that cites the lemma.
 //
-// Code can not say which derivation this is; the proofs of the two calls choose it. So it is made for a lemma that is
-// closed or shared and nowhere else.
+// Code cannot state which derivation this is. The proofs of the two functions choose it. So it is
+// made only when a lemma is closed or shared.
 ghost use Rattle.std.specs.Prelude.{◌≡◌};
 ghost use base.Fml.{ftrue};
 ghost use Rattle.ml_kernel.specs.Theorems.{Derivation};
@@ -28,7 +28,7 @@ impl Past {
         Past {}
     }
 
-    // The same derivation once more.
+    // The same derivation again.
     pub(crate) fn again(&self) -> Past
         ensures { result.derivation ≡ self.now.derivation }
     {

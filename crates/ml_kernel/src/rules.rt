@@ -1,5 +1,5 @@
-// The rules, one call each, in the order of the header. A call's conditions are what the rule asks: of the theorems
-// that it concludes from, and of patterns.
+// The rules, one call each, in the order of the header. The preconditions of a call are what its
+// rule requires of the premises and of the patterns. The only error is out of memory.
 #![tactic(auto, using(crate::proofs::RuleLaws::rule_laws))]
 
 ghost use Rattle.std.specs.Prelude.{◌≡◌, [], ◌∷◌, IfOk, Some};
@@ -97,7 +97,7 @@ macro_rules! scheme {
     ($alloc:ident, ($form:ident $($part:tt)+)) => { &MPat::$form($alloc, $(scheme!($alloc, $part)),+)? };
 }
 
-// A rule at what stands for its variables, the theorems that it concludes from, and what it concludes.
+// A rule at the instances of its variables, with its premises and its conclusion.
 macro_rules! infer {
     ($alloc:ident, $rule:ident $parts:tt, $premises:tt, $conclusion:tt) => {
         Thm::by_rule($alloc, Rule::$rule, &$parts, &$premises, scheme!($alloc, $conclusion))
@@ -202,9 +202,10 @@ impl Thm {
         infer!(alloc, Top [], [], top)
     }
 
-    // Quantifiers: an instance at one element, being one element, and what follows from some element.
+    // Quantifiers: an instance at one element, being one element, and a consequence of an
+    // existential.
 
-    /// `(all x s p) -> fun q s -> r`, where r is p with q for x.
+    /// `(all x s p) -> fun q s -> r`, where r is p with q substituted for x.
     pub fn inst<'a>(
         alloc: Global,
         p: &'a MPat,
@@ -219,7 +220,7 @@ impl Thm {
         infer!(alloc, Inst [Pat(p), Pat(q), Pat(r), Var(x), Sort(s)], [], (imp (all x s p) (imp (fun q s) r)))
     }
 
-    /// `(ex y s (y = p)) -> fun p s`, where y stands nowhere in p.
+    /// `(ex y s (y = p)) -> fun p s`, where y does not occur in p.
     pub fn fun_ex(alloc: Global, p: &MPat, y: VarNo, s: MSort) -> Result<Thm, AllocError>
         requires { IsAbsent y.0 p.now }
         ensures { IfOk result (IsByRule rule.FunEx (pattern p.now ∷ variable y.0 ∷ sort s.0 ∷ []) [] (imp (ex y.0 s.0 (equal (var y.0) p.now)) (fun p.now s.0))) }
@@ -243,7 +244,8 @@ impl Thm {
         infer!(alloc, ExEl [Pat(p), Pat(q), Var(x), Sort(s)], [a], (imp (ex x s p) q))
     }
 
-    // Equality: of a pattern and itself, of equals in a context, and of patterns that imply each other.
+    // Equality: of a pattern with itself, of equals in a context, and of patterns that imply each
+    // other.
 
     /// `p = p`.
     pub fn eq_refl(alloc: Global, p: &MPat) -> Result<Thm, AllocError>
@@ -252,7 +254,7 @@ impl Thm {
         infer!(alloc, EqRefl [Pat(p)], [], (equal p p))
     }
 
-    /// `p = q -> t -> u`, where t and u are r with p and with q for x.
+    /// `p = q -> t -> u`, where t is r with p for x, and u is r with q for x.
     pub fn eq_el<'a>(
         alloc: Global,
         p: &'a MPat,
@@ -278,7 +280,8 @@ impl Thm {
         infer!(alloc, EqIn [Pat(p), Pat(q)], [a, b], (equal p q))
     }
 
-    // Elements: an element of itself, no element where nothing is shared, and elements that differ.
+    // Membership: an element is a member of itself; a pattern is not a member of a disjoint one;
+    // different elements are disjoint.
 
     /// `fun p s -> p in p`.
     pub fn mem_in(alloc: Global, p: &MPat, s: MSort) -> Result<Thm, AllocError>
@@ -357,7 +360,8 @@ impl Thm {
         infer!(alloc, BotR [Pat(p)], [], (imp (app p bot) bot))
     }
 
-    // Reachability: one step keeps an implication, and many steps are a least fixed point (Knaster and Tarski).
+    // Reachability: a step preserves an implication, and many steps are a least fixed point
+    // (Knaster and Tarski).
 
     /// `next p -> next q`, from `p -> q`.
     pub fn next_in(alloc: Global, a: &Thm, p: &MPat, q: &MPat) -> Result<Thm, AllocError>

@@ -1,4 +1,4 @@
-// Theorems, and the private call by which each rule makes one.
+// Theorems, and the private function with which each rule makes one.
 ghost use Rattle.std.specs.Prelude.{◌≡◌, ◌↔◌, [], ◌∷◌, length, IfOk, OnOk, IsTrue, Contains};
 ghost use Rattle.ml_kernel.specs.Rules.{Infers};
 ghost use Rattle.ml_kernel.specs.Theorems.{Theorem, hypothesis, own_axiom, cited, AddsNew, all_hypotheses, conclusions, all_derivations, derivations, IsByRule, IsByLemma, IsDerived};
@@ -15,8 +15,8 @@ use ml_pat::{MPat, MSort, VarNo};
 use std::alloc::{AllocError, Global};
 use std::marker::Model;
 
-/// A theorem: a conclusion with the hypotheses that it rests on, each once, and a derivation. Contracts see it as a
-/// plain `Theorem`.
+/// A theorem: a conclusion, the hypotheses that it depends on, each once, and a derivation.
+/// Contracts see it as a plain `Theorem`.
 #[derive(Drop)]
 pub struct Thm {
     hypotheses: Vec<MPat>,
@@ -24,7 +24,7 @@ pub struct Thm {
     derivation: Deriv,
 }
 
-/// What a call gives for a variable of its rule.
+/// What a call passes for a variable of its rule.
 #[derive(Clone, Copy)]
 pub(crate) enum Part<'a> {
     Pat(&'a MPat),
@@ -50,7 +50,8 @@ impl Model for Thm {
 }
 
 impl Thm {
-    /// A pattern follows from itself: the theorem's only hypothesis is its conclusion, and it keeps no axiom.
+    /// A pattern follows from itself: the only hypothesis of the theorem is its conclusion, and it
+    /// keeps no axiom. An error: out of memory.
     pub fn assume(alloc: Global, hyp: MPat) -> Result<Thm, AllocError>
         ensures hypotheses { IfOk result (λ t. t.hypotheses ≡ hyp ∷ []) }
         ensures conclusion { IfOk result (λ t. t.conclusion ≡ hyp) }
@@ -66,14 +67,15 @@ impl Thm {
         })
     }
 
-    /// The conclusion has a derivation in matching logic from the hypotheses and the axioms that the derivation keeps.
+    /// Has no effect at run time. It states that the conclusion has a derivation in matching logic
+    /// from the hypotheses and from the axioms that the derivation keeps.
     pub fn law(&self)
         ensures { IsDerived self.now }
     {
         let _conclusion = &self.conclusion;
     }
 
-    /// The same theorem, its patterns and its derivation shared.
+    /// The same theorem, with its patterns and its derivation shared. An error: out of memory.
     pub fn share(&self, alloc: Global) -> Result<Thm, AllocError>
         ensures { IfOk result (λ shared. shared ≡ self.now) }
     {
@@ -84,7 +86,7 @@ impl Thm {
         })
     }
 
-    /// What it rests on.
+    /// The hypotheses that it depends on.
     pub fn hypotheses(&self) -> &[MPat]
         ensures value { result.now ≡ self.now.hypotheses }
         ensures kept { IsKept self.now }
@@ -92,22 +94,23 @@ impl Thm {
         &self.hypotheses
     }
 
-    /// What it concludes.
+    /// The conclusion.
     pub fn conclusion(&self) -> &MPat
         ensures { result.now ≡ self.now.conclusion }
     {
         &self.conclusion
     }
 
-    /// How its conclusion follows.
+    /// The derivation of the conclusion.
     pub fn derivation(&self) -> &Deriv
         ensures { result.now ≡ self.now.derivation }
     {
         &self.derivation
     }
 
-    /// The conclusion of a lemma with these patterns in the place of its pattern variables, from proofs of its
-    /// hypotheses with the same in their places. It keeps the axioms of the lemma and of the proofs.
+    /// The conclusion of a lemma with these patterns substituted for its pattern variables, from
+    /// proofs of its hypotheses with the same patterns substituted. It keeps the axioms of the
+    /// lemma and of the proofs. An error: out of memory.
     pub fn use_lemma(
         alloc: Global,
         lemma: &Lemma,
@@ -151,7 +154,7 @@ impl Thm {
         })
     }
 
-    // The theorem that a rule concludes from theorems.
+    // The theorem that a rule concludes from its premises.
     pub(crate) fn by_rule(
         alloc: Global,
         rule: Rule,
@@ -175,7 +178,8 @@ impl Thm {
 }
 
 impl Lemma {
-    /// The theorem as a lemma, which may be cited with other patterns in the place of its pattern variables.
+    /// The theorem as a lemma, which may be cited with other patterns for its pattern variables. An
+    /// error: out of memory.
     pub fn close(thm: Thm) -> Result<Lemma, AllocError>
         ensures { IfOk result (λ lemma. lemma ≡ thm) }
     {
@@ -203,7 +207,7 @@ fn citation(
     Deriv::of(alloc, DerivStep::Cited(lemma, metas, below))
 }
 
-// The theorems of a list, by reference.
+// References to the theorems of a list.
 fn references(alloc: Global, proofs: &[Thm]) -> Result<Vec<&Thm>, AllocError>
     ensures { IfOk result (λ v. theorems_of v.items ≡ proofs.now) }
 {
@@ -214,7 +218,7 @@ fn references(alloc: Global, proofs: &[Thm]) -> Result<Vec<&Thm>, AllocError>
     Ok(all)
 }
 
-// What stands for a rule's variables, to be kept.
+// The instances of a rule's variables, for storage.
 fn kept_parts(alloc: Global, parts: &[Part<'_>]) -> Result<Vec<Inst>, AllocError>
     ensures { IfOk result (λ v. instances_of v.items ≡ parts_of parts.now) }
 {
@@ -235,14 +239,14 @@ fn kept_part(part: &Part<'_>) -> Result<Inst, AllocError>
     }
 }
 
-// Whether the pattern is one of these.
+// Whether the pattern is in the list.
 fn contains(items: &[MPat], p: &MPat) -> bool
     ensures { IsTrue result ↔ Contains items.now p.now }
 {
     items.iter().any(|item| item.same(p))
 }
 
-// Adds each of the patterns that is not there yet.
+// Adds each of the patterns that is not in the list yet.
 fn add_new(old: &mut Vec<MPat>, from: &[MPat]) -> Result<(), AllocError>
     ensures { OnOk result (AddsNew old.old.items from.now old.new.items) }
 {
@@ -254,7 +258,7 @@ fn add_new(old: &mut Vec<MPat>, from: &[MPat]) -> Result<(), AllocError>
     Ok(())
 }
 
-// The hypotheses of the theorems, in order, each once.
+// The hypotheses of the premises, in order, each once.
 fn merged(alloc: Global, premises: &[&Thm]) -> Result<Vec<MPat>, AllocError>
     ensures merged { IfOk result (λ v. AddsNew [] (all_hypotheses (theorems_of premises.now)) v.items) }
     ensures kept { OnOk result (AreKept (theorems_of premises.now)) }
@@ -266,7 +270,7 @@ fn merged(alloc: Global, premises: &[&Thm]) -> Result<Vec<MPat>, AllocError>
     Ok(all)
 }
 
-// The derivations of the theorems, in order.
+// The derivations of the premises, in order.
 fn kept_derivations(alloc: Global, premises: &[&Thm]) -> Result<Vec<Deriv>, AllocError>
     ensures { IfOk result (λ v. derivations v.items ≡ all_derivations (theorems_of premises.now)) }
 {

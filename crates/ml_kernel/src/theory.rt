@@ -9,7 +9,8 @@ use ml_pat::MPat;
 use std::alloc::{AllocError, Global};
 use std::marker::Model;
 
-/// The axioms that theorems may rest on, each with the number of its place. No pattern variable stands in them.
+/// The axioms that theorems may depend on. The number of an axiom is its index. No pattern variable
+/// occurs in them.
 #[derive(Drop)]
 pub struct Theory {
     axioms: Vec<MPat>,
@@ -41,7 +42,8 @@ impl Theory {
         }
     }
 
-    /// Adds a pattern as an axiom, and gives its number. Where memory is wanting, nothing changes.
+    /// Adds a pattern as an axiom, and returns its number. An error: out of memory. Then nothing
+    /// changes.
     pub fn add(&mut self, pattern: MPat) -> Result<AxiomNo, AllocError>
         requires { HasNoMeta pattern }
         ensures number { IfOk result (λ no. no.0 ≡ length self.old) }
@@ -53,14 +55,15 @@ impl Theory {
         Ok(number)
     }
 
-    /// How many axioms there are: they have the numbers below that.
+    /// How many axioms there are. Their numbers are the ones below that.
     pub fn len(&self) -> u64
         ensures { result ≡ length self.now }
     {
         self.axioms.len() as u64
     }
 
-    /// The axiom as a theorem, its bound variables as they are: it has no hypotheses, and keeps this axiom alone.
+    /// The axiom as a theorem, with its own bound variables. It has no hypotheses, and keeps only
+    /// this axiom. An error: out of memory.
     pub fn axiom(&self, alloc: Global, no: AxiomNo) -> Result<Thm, AllocError>
         requires { no.0 < length self.now }
         ensures conclusion { IfOk result (λ t. slice_get self.now no.0 ≡ Some t.conclusion) }
@@ -71,7 +74,7 @@ impl Theory {
         Thm::of_axiom(alloc, no, pattern)
     }
 
-    /// The axiom with this number. No pattern variable stands in it.
+    /// The axiom with this number. No pattern variable occurs in it.
     pub fn at(&self, no: AxiomNo) -> &MPat
         requires { no.0 < length self.now }
         ensures axiom { slice_get self.now no.0 ≡ Some result.now }

@@ -18,7 +18,7 @@ pub not_true : (a : Bool) → std.not a ≡ true → a ≡ false
 not_true true h = absurd (false≢true h)
 not_true false h = refl
 
--- facts that follow from others
+-- facts that follow from other facts
 pub record Implies (f g : LeafFacts) : Type 0 where
   pub sort : (i : ℕ) → f.sort i → g.sort i
   pub constant : (i : ℕ) → f.constant i → g.constant i
@@ -45,7 +45,7 @@ EachLeaf-implied f g (var x) w h = w.object x h
 EachLeaf-implied f g (meta i) w h = w.meta i h
 EachLeaf-implied f g (constant c) w h = w.constant c h
 
--- x is none of the object variables
+-- the same facts, and x is none of the object variables
 abbrev pub other_leaves : ℕ → LeafFacts → LeafFacts
 other_leaves x f = record { sort = f.sort; constant = f.constant; object = λ y. f.object y × ((x == y) ≡ false); meta = f.meta }
 

@@ -35,18 +35,19 @@ from (e ∷ es) i k q h =
     let o = not_found e es i k h in
     step e k q i (i + length (e ∷ es)) _ _ (bytes_eq q e) (bytes_eq k q) refl refl o.0 (from es (i + 1) k q o.1 ∙ ap (λ n. cond (bytes_eq k q) (Some n) (position_from (λ (other : List ℕ). bytes_eq q other) (i + 1) es)) (omega arith))
 
--- the number of each token after a new token has come
+-- the number of each token after a new token is added
 pub number_of-push : (es : List (List ℕ)) (k q : List ℕ) → number_of es k ≡ None → number_of (es ++ k ∷ []) q ≡ cond (bytes_eq k q) (Some (length es)) (number_of es q)
 number_of-push es k q h = from es 0 k q h ∙ ap (λ n. cond (bytes_eq k q) (Some n) (number_of es q)) (omega arith)
 
--- a map that had just the numbers of the old tokens, and got the new token's number, has just the numbers of all
+-- if a map has exactly the numbers of the old tokens, then with the new token's number it has
+-- exactly the numbers of all tokens
 pub indexed-push : (f g : List ℕ → Option ℕ) (es new : List (List ℕ)) (k : List ℕ) (n : ℕ) → ((q : List ℕ) → f q ≡ number_of es q)
     → number_of es k ≡ None → n ≡ length es → ((q : List ℕ) → g q ≡ cond (bytes_eq k q) (Some n) (f q)) → new ≡ es ++ k ∷ [] → (q : List ℕ) → g q ≡ number_of new q
 indexed-push f g es new k n had absent size got grown q =
     got q ∙ ap (λ o. cond (bytes_eq k q) (Some n) o) (had q) ∙ ap (λ m. cond (bytes_eq k q) (Some m) (number_of es q)) size
     ∙ sym (number_of-push es k q absent) ∙ ap (λ xs. number_of xs q) (sym grown)
 
--- tokens that differ stay so where one comes that is none of them
+-- different tokens stay different when a token is added that is none of them
 IsNoneOf-push : (name : List ℕ) (others : List (List ℕ)) (new : List ℕ) → IsNoneOf name others → name ≢ new → IsNoneOf name (others ++ new ∷ [])
 IsNoneOf-push name [] new all last = (last, tt)
 IsNoneOf-push name (other ∷ others) new all last = (all.0, IsNoneOf-push name others new all.1 last)

@@ -1,4 +1,4 @@
--- What becomes of a pattern where a variable is replaced, against its definition.
+-- The pattern that the code computes when it replaces a variable, compared with its definition.
 use Rattle.std.proofs.Common.{◌≡◌, ◌==◌, ◌||◌, ◌&&◌, ℕ, Bool, true, false, cond, Option, Some, None, option_map, refl, sym, ◌∙◌, ap, subst}
 use Rattle.std.proofs.Common as std
 use Rattle.ml_pat.specs.Patterns.{Pattern, bot, top, imp, not, and, or, equal, member, fun, ex, all, app, at_sort, next, ev, var, meta, constant}
@@ -17,7 +17,7 @@ two_same f p q a b e g = rw (e, g) refl
 bound_same : (f : Pattern → Pattern) (x y : ℕ) (u p : Pattern) (a : Option Pattern) → ((x == y) || fresh x p) ≡ true → under_quantifier f x y u p a ≡ Some (f p)
 bound_same f x y u p a h = rw h refl
 
--- substitution leaves a pattern in which the variable is not free
+-- substitution does not change a pattern in which the variable is not free
 pub substituted-fresh : (x : ℕ) (u p : Pattern) → fresh x p ≡ true → substituted p x u ≡ Some p
 substituted-fresh x u bot h = refl
 substituted-fresh x u top h = refl
@@ -38,7 +38,8 @@ substituted-fresh x u (var y) h = rw (not_true (x == y) h) refl
 substituted-fresh x u (meta i) h = refl
 substituted-fresh x u (constant c) h = refl
 
--- The variable is not free and the pattern is kept, or it is free and there is the new pattern, or none.
+-- Either the variable is not free and the pattern is kept, or the variable is free and there is a
+-- new pattern or none.
 abbrev pub IsOutcome : Bool → Option Pattern → Outcome → Type 0
 IsOutcome b o Kept = b ≡ true
 IsOutcome b o (New r) = (b ≡ false) × (o ≡ Some r)
@@ -66,7 +67,8 @@ one f g b m Kept k h = h
 one f g b m (New r) k h = (h.0, ap (option_map g) h.1 ∙ ap (λ (t : Pattern). Some t) (sym (k r)))
 one f g b m Captured k h = (h.0, ap (option_map g) h.1)
 
--- d: the quantifier's variable is not free in what comes in; e: it is the one that is replaced
+-- d: the quantifier's variable is not free in the replacement; e: it is the variable that is
+-- replaced
 bound : (f : Pattern → Pattern → Pattern) (g : Pattern → Pattern) (b d e : Bool) (p : Pattern) (m : Option Pattern) (v : Outcome) → ((r : Pattern) → f r r ≡ g r)
     → IsOutcome b m v → IsOutcome (e || b) (cond (e || b) (Some (g p)) (cond d (option_map g m) None)) (cond e Kept (under_replaced f d v))
 bound f g b d true p m v k h = refl
@@ -100,7 +102,7 @@ replaced-law x u (var y) = variable (x == y) u y
 replaced-law x u (meta i) = refl
 replaced-law x u (constant c) = refl
 
--- around what becomes of the first part stands what becomes of the whole
+-- the outcome of the whole is built around the outcome of the first part
 pub around-replaced : (x : ℕ) (u r p : Pattern) → first_part r ≡ Some p → around x u (replaced x u p) r ≡ replaced x u r
 around-replaced x u bot p h = absurd (none_some p h)
 around-replaced x u top p h = absurd (none_some p h)
@@ -121,7 +123,7 @@ around-replaced x u (var y) p h = absurd (none_some p h)
 around-replaced x u (meta i) p h = absurd (none_some p h)
 around-replaced x u (constant c) p h = absurd (none_some p h)
 
--- where there is no first part, nothing of it is used
+-- if there is no first part, its outcome is not used
 pub around-lowest : (x : ℕ) (u p : Pattern) (v : Outcome) → first_part p ≡ None → around x u v p ≡ replaced x u p
 around-lowest x u bot v h = refl
 around-lowest x u top v h = refl
@@ -142,7 +144,7 @@ around-lowest x u (var y) v h = refl
 around-lowest x u (meta i) v h = refl
 around-lowest x u (constant c) v h = refl
 
--- what is given back for each outcome
+-- the result for each outcome
 pub of_kept : (x : ℕ) (u p : Pattern) → replaced x u p ≡ Kept → substituted p x u ≡ Some p
 of_kept x u p e = substituted-fresh x u p (subst (IsOutcome (fresh x p) (substituted p x u)) e (replaced-law x u p))
 

@@ -32,7 +32,7 @@ first_part-smaller (var x) p h = absurd (none_some p h)
 first_part-smaller (meta i) p h = absurd (none_some p h)
 first_part-smaller (constant c) p h = absurd (none_some p h)
 
--- the way down to a pattern, and one part further
+-- the path down to a pattern, and one part further
 pub LeadsTo-push : (p : Pattern) (rs : List (Bor Pattern)) (r : Bor Pattern) (q : Pattern) → LeadsTo p rs r.now → first_part r.now ≡ Some q → LeadsTo p (rs ++ r ∷ []) q
 LeadsTo-push p [] r q way part = (way, (q, (ap first_part way ∙ part, refl)))
 LeadsTo-push p (t ∷ rs) r q way part = (way.0, (way.1.0, (way.1.1.0, LeadsTo-push way.1.0 rs r q way.1.1.1 part)))

@@ -1,16 +1,17 @@
--- How forms compare, where the comparison of their first parts may be left.
+-- The results of comparing two forms, where the comparison of their first parts may be left open.
 use Rattle.std.specs.Prelude.{◌≡◌, ◌↔◌, ◌<◌, Bool, true, false, IsTrue}
 use Rattle.ml_pat.specs.Patterns.{Pattern}
 use Rattle.ml_pat.specs.FormsIn.{forms_in}
 use Rattle.ml_pat.specs.declared.same.Comparison.{Comparison}
 use Rattle.ml_pat.specs.declared.same.Comparison.TheVariants as comparison
 
--- Either it is known whether the patterns are the same, or they are the same just where these two smaller ones are.
+-- Either it is known whether the patterns are the same, or they are the same if and only if these
+-- two smaller ones are.
 abbrev pub Compares : Pattern → Pattern → Comparison → Type 0
 Compares p q (comparison.Known same) = IsTrue same ↔ (p ≡ q)
 Compares p q (comparison.AsFirstParts r t) = ((r.now ≡ t.now) ↔ (p ≡ q)) × (forms_in r.now < forms_in p)
 
--- what is left of the comparison, where it is known whether the other parts are the same
+-- what is left to compare, given whether the other parts are the same
 abbrev pub ByFirstParts : Bool → Pattern → Pattern → Comparison → Type 0
 ByFirstParts others p q (comparison.Known same) = (others ≡ false) × (same ≡ false)
 ByFirstParts others p q (comparison.AsFirstParts r t) = (others ≡ true) × ((r.now ≡ p) × (t.now ≡ q))

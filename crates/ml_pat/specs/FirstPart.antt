@@ -3,7 +3,7 @@ use Rattle.std.specs.Prelude.{Option, Some, None}
 use Rattle.ml_pat.specs.Patterns.{Pattern, bot, top, imp, not, and, or, equal, member, fun, ex, all}
 use Rattle.ml_pat.specs.Patterns.{app, at_sort, next, ev, var, meta, constant}
 
--- the first part, where there is one
+-- the first part, if there is one
 abbrev pub first_part : Pattern → Option Pattern
 first_part bot = None
 first_part top = None

@@ -1,4 +1,4 @@
--- How many forms a pattern has.
+-- The number of forms in a pattern.
 use Rattle.std.specs.Prelude.{ℕ, ◌+◌}
 use Rattle.ml_pat.specs.Patterns.{Pattern, bot, top, imp, not, and, or, equal, member, fun, ex, all, app, at_sort, next, ev, var, meta, constant}
 

@@ -1,6 +1,7 @@
--- What the rules of the logic ask of patterns and variables (Rosu 2017; the tables of judgements of the Metamath header):
--- freshness, substitution without capture, and being everything or nothing. A pattern variable of a lemma stands for
--- patterns without variables: every variable is fresh in it, substitution leaves it, and it is no predicate.
+-- The judgements about patterns and variables that the rules of the logic need (Rosu 2017; the
+-- tables of judgements of the Metamath header): freshness, substitution without capture, and being
+-- everything or nothing. A pattern variable of a lemma stands for patterns without variables: every
+-- variable is fresh in it, and substitution does not change it. It is not a predicate.
 use Rattle.std.specs.Prelude.{ℕ, ◌==◌, ◌||◌, ◌&&◌, Bool, true, false, IsTrue, if◌then◌else◌, Option, Some, None, option_map}
 use Rattle.std.specs.Prelude as std
 use Rattle.ml_pat.specs.Patterns.{Pattern, bot, top, imp, not, and, or, equal, member, fun, ex, all, app, at_sort, next, ev, var, meta, constant}
@@ -30,7 +31,7 @@ fresh x (constant c) = true
 abbrev pub IsFresh : ℕ → Pattern → Type 0
 IsFresh x p = IsTrue (fresh x p)
 
--- whether x stands nowhere in the pattern, bound or free
+-- whether x does not occur in the pattern, bound or free
 abbrev pub absent : ℕ → Pattern → Bool
 absent x bot = true
 absent x top = true
@@ -51,23 +52,25 @@ absent x (var y) = std.not (x == y)
 absent x (meta i) = true
 absent x (constant c) = true
 
--- x stands nowhere in the pattern
+-- x does not occur in the pattern
 abbrev pub IsAbsent : ℕ → Pattern → Type 0
 IsAbsent x p = IsTrue (absent x p)
 
--- a pattern of two parts, where both are there
+-- a pattern of two parts, if both are given
 abbrev pub both_parts : (Pattern → Pattern → Pattern) → Option Pattern → Option Pattern → Option Pattern
 both_parts f None q = None
 both_parts f (Some p) None = None
 both_parts f (Some p) (Some q) = Some (f p q)
 
--- Under the quantifier of y, whose body is p and has become p': where x is bound or not free there, nothing changes. Else
--- there is no result where y is free in u, since it would be captured.
+-- Under the quantifier of y, whose body is p and has become p': if x is bound there or not free
+-- there, nothing changes. Otherwise, if y is free in u, there is no result, since y would be
+-- captured.
 abbrev pub under_quantifier : (Pattern → Pattern) → ℕ → ℕ → Pattern → Pattern → Option Pattern → Option Pattern
 under_quantifier f x y u p p' =
     if (x == y) || fresh x p then Some (f p) else (if fresh y u then option_map f p' else None)
 
--- The pattern with u in the place of each free x. There is none where a free variable of u would be captured.
+-- The pattern with u substituted for each free x. There is none if a free variable of u would be
+-- captured.
 abbrev pub substituted : Pattern → ℕ → Pattern → Option Pattern
 substituted bot x u = Some bot
 substituted top x u = Some top
@@ -88,7 +91,7 @@ substituted (var y) x u = if x == y then Some u else Some (var y)
 substituted (meta i) x u = Some (meta i)
 substituted (constant c) x u = Some (constant c)
 
--- whether the pattern is built so that it is everything or nothing
+-- whether the form of the pattern makes it everything or nothing
 abbrev pub predicate : Pattern → Bool
 predicate bot = true
 predicate top = true

@@ -1,4 +1,4 @@
--- Leaves that are known by tests.
+-- Leaves that tests show to be known.
 use Rattle.std.specs.Prelude.{ℕ, Bool, IsTrue}
 use Rattle.ml_pat.specs.Leaves.{LeafFacts}
 

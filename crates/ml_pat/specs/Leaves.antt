@@ -1,4 +1,4 @@
--- What is said of each sort, constant and variable of a pattern.
+-- Facts about each sort, constant and variable of a pattern.
 use Rattle.std.specs.Prelude.{ℕ}
 use Rattle.ml_pat.specs.Patterns.{Pattern, bot, top, imp, not, and, or, equal, member, fun, ex, all, app, at_sort, next, ev, var, meta, constant}
 

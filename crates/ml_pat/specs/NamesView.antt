@@ -7,7 +7,7 @@ use Rattle.ml_pat.specs.declared.names.Names.TheInside.{Inside}
 abbrev pub tokens_of : Inside → List (List ℕ)
 tokens_of n = map (λ t. string_bytes t) n.tokens.items
 
--- no token stands twice, and the map has just the number of each token
+-- no token occurs twice, and the map has exactly the number of each token
 pub record IsIndexed (n : Inside) : Type 0 where
   pub distinct : AreDistinct (tokens_of n)
   pub numbered : (token : List ℕ) → get_by_text n.numbers token ≡ number_of (tokens_of n) token

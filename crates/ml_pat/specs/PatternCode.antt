@@ -1,11 +1,12 @@
--- A pattern as a list of tokens, in postfix order, and back: by this the proofs tell patterns apart.
+-- A pattern as a list of tokens, in postfix order, and the way back. The proofs use this to show
+-- that patterns differ.
 use Rattle.std.specs.Prelude.{◌≡◌, refl, ℕ, ◌==◌, if◌then◌else◌, List, [], ◌∷◌, ◌⊎◌}
 use Rattle.std.proofs.Common.{inl, inr, ◌∙◌, ap}
 use Rattle.std.specs.Coded.{Coded, code_by, coded×, coded⊎, coded_ℕ, coded_list}
 use Rattle.ml_pat.specs.Patterns.{Pattern, bot, top, imp, not, and, or, equal, member, fun, ex, all, app, at_sort, next, ev, var, meta, constant}
 
--- A token is that of a form without patterns, of one with one pattern, or of one with two: the form's number among those,
--- and the other numbers in it.
+-- A token is that of a form with no part, with one part, or with two parts. It has the number of
+-- the form among those, and the other numbers in the form.
 abbrev Token : Type 0
 Token = (ℕ × ℕ) ⊎ ((ℕ × (ℕ × ℕ)) ⊎ ℕ)
 
@@ -13,7 +14,7 @@ abbrev token_code : Coded Token
 token_code =
     coded⊎ (coded× coded_ℕ coded_ℕ) (coded⊎ (coded× coded_ℕ (coded× coded_ℕ coded_ℕ)) coded_ℕ)
 
--- the tokens of a pattern in front of others
+-- the tokens of a pattern, in front of other tokens
 abbrev tokens : Pattern → List Token → List Token
 tokens bot rest = inl (0, 0) ∷ rest
 tokens top rest = inl (1, 0) ∷ rest
@@ -57,7 +58,7 @@ over_two k p q =
     else (if k == 4 then member p q
     else app p q))))
 
--- reading one token, over a stack of patterns
+-- reads one token, with a stack of patterns
 abbrev read_token : Token → List Pattern → List Pattern
 read_token (inl k) ps = leaf_of k.0 k.1 ∷ ps
 read_token (inr (inl k)) [] = []
@@ -90,7 +91,7 @@ read_all-tokens (equal p q) rest ps = read_all-tokens p _ ps ∙ read_all-tokens
 read_all-tokens (member p q) rest ps = read_all-tokens p _ ps ∙ read_all-tokens q _ (p ∷ ps)
 read_all-tokens (app p q) rest ps = read_all-tokens p _ ps ∙ read_all-tokens q _ (p ∷ ps)
 
--- the pattern on top
+-- the pattern at the top of the stack
 abbrev top_pattern : List Pattern → Pattern
 top_pattern [] = bot
 top_pattern (p ∷ ps) = p

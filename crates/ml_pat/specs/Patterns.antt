@@ -1,11 +1,12 @@
--- Patterns of matching logic with one-step and many-step reachability (Rosu 2017; Chen and Rosu 2019). Variables, sorts
--- and constants are numbers here, without bound.
+-- Patterns of matching logic with one-step and many-step reachability (Rosu 2017; Chen and Rosu
+-- 2019). Variables, sorts and constants are numbers here, without an upper bound.
 use Rattle.std.specs.Prelude.{ℕ}
 
--- `equal` and `member` are definedness of an equality and of a membership, and `fun p s` says that p is one element of
--- the sort s. `ex` and `all` bind a variable of a sort. `app` applies p to q, and `at p s` gives p a sort argument.
--- `next p` is what makes a step to p, and `ev p` what comes to p in steps, none among them. A `meta` is a pattern
--- variable of a lemma; it stands for patterns without variables alone.
+-- `equal` and `member` say that an equality or a membership is defined. `fun p s` says that p is
+-- one element of the sort s. `ex` and `all` bind a variable of a sort. `app` applies p to q, and
+-- `at p s` applies p to a sort argument. `next p` is everything that can make one step to p. `ev p`
+-- is everything that can reach p in zero or more steps. A `meta` is a pattern variable of a lemma.
+-- It stands only for patterns without variables.
 pub data Pattern : Type 0 where
   bot : Pattern
   top : Pattern

@@ -1,4 +1,4 @@
--- What becomes of a pattern where u comes in the place of each free x, from what becomes of its parts.
+-- The outcome of substituting u for each free x in a pattern, given the outcomes for its parts.
 use Rattle.std.specs.Prelude.{ℕ, Bool, true, false, ◌==◌, if◌then◌else◌}
 use Rattle.ml_pat.specs.Patterns.{Pattern, bot, top, imp, not, and, or, equal, member, fun, ex, all}
 use Rattle.ml_pat.specs.Patterns.{app, at_sort, next, ev, var, meta, constant}
@@ -7,7 +7,7 @@ use Rattle.ml_pat.specs.Spines.{with_parts}
 use Rattle.ml_pat.specs.declared.substitution.Outcome.{Outcome}
 use Rattle.ml_pat.specs.declared.substitution.Outcome.TheVariants.{Kept, New, Captured}
 
--- of a pattern of the parts p and q, which is made by f
+-- the outcome for a pattern that f builds from the parts p and q
 abbrev pub both_replaced : (Pattern → Pattern → Pattern) → Pattern → Pattern → Outcome → Outcome → Outcome
 both_replaced f p q Kept Kept = Kept
 both_replaced f p q Kept (New t) = New (f p t)
@@ -19,20 +19,21 @@ both_replaced f p q Captured Kept = Captured
 both_replaced f p q Captured (New t) = Captured
 both_replaced f p q Captured Captured = Captured
 
--- of a pattern of one part
+-- the outcome for a pattern with one part
 abbrev pub one_replaced : (Pattern → Pattern → Pattern) → Outcome → Outcome
 one_replaced f Kept = Kept
 one_replaced f (New r) = New (f r r)
 one_replaced f Captured = Captured
 
--- of a pattern that binds another variable than x: nothing comes in where that one is free in u
+-- the outcome for a pattern that binds another variable than x: nothing is substituted if that
+-- variable is free in u
 abbrev pub under_replaced : (Pattern → Pattern → Pattern) → Bool → Outcome → Outcome
 under_replaced f is_fresh Kept = Kept
 under_replaced f true (New r) = New (f r r)
 under_replaced f false (New r) = Captured
 under_replaced f is_fresh Captured = Captured
 
--- of a pattern, by its form
+-- the outcome for a pattern, by its form
 abbrev pub replaced : ℕ → Pattern → Pattern → Outcome
 replaced x u bot = Kept
 replaced x u top = Kept
@@ -53,7 +54,7 @@ replaced x u (var y) = if x == y then New u else Kept
 replaced x u (meta i) = Kept
 replaced x u (constant c) = Kept
 
--- of a pattern, from what becomes of its first part, where it has one
+-- the outcome for a pattern, given the outcome for its first part, if it has one
 abbrev pub around : ℕ → Pattern → Outcome → Pattern → Outcome
 around x u first bot = Kept
 around x u first top = Kept

@@ -1,16 +1,17 @@
--- A pattern along its first parts, where patterns are deep, and a pattern with other parts.
+-- A pattern along its first parts, in which patterns are deep, and a pattern with other parts.
 use Rattle.std.specs.Prelude.{◌≡◌, List, [], ◌∷◌, Some}
 use Rattle.std.specs.Borrow.{Bor}
 use Rattle.ml_pat.specs.Patterns.{Pattern, bot, top, imp, not, and, or, equal, member, fun, ex, all}
 use Rattle.ml_pat.specs.Patterns.{app, at_sort, next, ev, var, meta, constant}
 use Rattle.ml_pat.specs.FirstPart.{first_part}
 
--- the way from a pattern down its first parts, from the top on, and where it leads
+-- the path from a pattern down its first parts, from the top on, and where it ends
 abbrev pub LeadsTo : Pattern → List (Bor Pattern) → Pattern → Type 0
 LeadsTo p [] q = p ≡ q
 LeadsTo p (r ∷ rs) q = (p ≡ r.now) × ((s : Pattern) × ((first_part p ≡ Some s) × LeadsTo s rs q))
 
--- the pattern with r in the place of its first part, where it has one, and t in that of its second
+-- the pattern with its first part, if it has one, replaced by r, and its second part, if it has
+-- one, replaced by t
 abbrev pub with_parts : Pattern → Pattern → Pattern → Pattern
 with_parts bot r t = bot
 with_parts top r t = top

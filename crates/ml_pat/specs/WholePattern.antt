@@ -1,4 +1,4 @@
--- The pattern that an `MPat` of the code stands for.
+-- The pattern that represents an `MPat` of the code.
 use Rattle.ml_pat.specs.Patterns.{Pattern}
 use Rattle.ml_pat.specs.PatternView.{pattern_of}
 use Rattle.ml_pat.specs.declared.patterns.MPat.TheInside.{Inside}

@@ -1,4 +1,4 @@
-// Freshness, and being a predicate.
+// The tests of freshness and of being a predicate.
 ghost use Rattle.std.specs.Prelude.{◌≡◌};
 ghost use Rattle.ml_pat.specs.Judgements.{fresh, predicate};
 ghost use Rattle.ml_pat.specs.Judging.{JudgesFresh, JudgesPredicate, IsPartWhere, IsPartUnless};
@@ -7,17 +7,17 @@ ghost use Rattle.ml_pat.specs.PatternView.{pattern_of};
 use crate::numbers::VarNo;
 use crate::patterns::{MForm, MPat};
 
-// What is known of a form.
+// What is known about a form.
 #[derive(Clone, Copy)]
 pub(crate) enum Judgement<'a> {
     // The answer for the form.
     Known(bool),
-    // The answer is that of this part.
+    // The answer is the same as for this part.
     AsPart(&'a MPat),
 }
 
-/// Whether x is not free in the pattern. It takes no memory and is a loop along first parts, where patterns are deep;
-/// other parts are read one level further down.
+/// Whether x is not free in the pattern. It allocates no memory. It loops along first parts,
+/// because patterns are deep there, and recurses into other parts.
 #[cycle(fresh)]
 pub fn fresh(x: VarNo, pat: &MPat) -> bool
     ensures { result ≡ fresh x.0 pat.now }
@@ -31,7 +31,7 @@ pub fn fresh(x: VarNo, pat: &MPat) -> bool
     }
 }
 
-// Reads all but the first part.
+// Decides by every part except the first.
 #[cycle(fresh)]
 fn fresh_by_form<'a>(x: VarNo, form: &'a MForm) -> Judgement<'a>
     ensures { JudgesFresh x.0 (pattern_of form.now) result }
@@ -51,8 +51,8 @@ fn fresh_by_form<'a>(x: VarNo, form: &'a MForm) -> Judgement<'a>
     }
 }
 
-/// Whether the pattern is built so that it is everything or nothing. It takes no memory and is a loop along first
-/// parts.
+/// Whether the form of the pattern makes it everything or nothing. It allocates no memory. It loops
+/// along first parts, and recurses into other parts.
 #[cycle(is_pred)]
 pub fn is_pred(pat: &MPat) -> bool
     ensures { result ≡ predicate pat.now }
@@ -66,7 +66,7 @@ pub fn is_pred(pat: &MPat) -> bool
     }
 }
 
-// Reads all but the first part.
+// Decides by every part except the first.
 #[cycle(is_pred)]
 fn predicate_by_form<'a>(form: &'a MForm) -> Judgement<'a>
     ensures { JudgesPredicate (pattern_of form.now) result }
@@ -86,7 +86,7 @@ fn predicate_by_form<'a>(form: &'a MForm) -> Judgement<'a>
     }
 }
 
-// The first part decides, where the other one has what is asked.
+// If `other` holds, the answer is that of the part. Otherwise it is no.
 fn as_part_where(other: bool, p: &MPat) -> Judgement<'_>
     ensures { IsPartWhere other p.now result }
 {
@@ -97,7 +97,7 @@ fn as_part_where(other: bool, p: &MPat) -> Judgement<'_>
     }
 }
 
-// The part decides, unless the answer is yes already.
+// If `known` holds, the answer is yes. Otherwise it is that of the part.
 fn as_part_unless(known: bool, p: &MPat) -> Judgement<'_>
     ensures { IsPartUnless known p.now result }
 {

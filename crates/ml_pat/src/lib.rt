@@ -1,8 +1,8 @@
-// Patterns of matching logic, and the numbers of the names that stand in them.
+// Patterns of matching logic, and the numbers of the names in them.
 //
-// An `MPat` is a tree that is shared; contracts see it as a plain `Pattern` (specs/Patterns.antt). What the rules of the
-// logic ask of patterns (freshness, substitution, being a predicate) is defined over plain patterns in
-// specs/Judgements.antt. `Names` gives each token one number.
+// An `MPat` is a shared tree. Contracts see it as a plain `Pattern` (specs/Patterns.antt). The
+// rules of the logic need freshness, substitution, and the test for predicates. These are defined
+// on plain patterns in specs/Judgements.antt. `Names` gives each token one number.
 #![tactic(auto)]
 
 mod judgements;

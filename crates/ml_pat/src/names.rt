@@ -6,8 +6,8 @@ use std::alloc::{AllocError, Global};
 use std::collections::BTreeMap;
 use std::marker::Model;
 
-/// The numbers of tokens, from 0 on without a gap, in the order in which the tokens came. Looking one up takes time in the
-/// logarithm of how many there are. Contracts see the list of the tokens.
+/// The numbers of tokens, from 0 without a gap, in the order in which the tokens came. A look-up
+/// takes time logarithmic in the number of tokens. Contracts see the list of the tokens.
 #[derive(Drop)]
 pub struct Names {
     tokens: Vec<String>,
@@ -37,15 +37,15 @@ impl Names {
         }
     }
 
-    /// No token has two numbers.
+    /// Has no effect at run time. It states that no token has two numbers.
     pub fn tokens_differ(&self)
         ensures { AreDistinct self.now }
     {
         let _tokens = &self.tokens;
     }
 
-    /// The number of the token: the one that it has, or else the next one, which it has from then on. Where memory is
-    /// wanting, nothing changes.
+    /// The number of the token. A new token gets the next number. An error: out of memory. Then
+    /// nothing changes.
     pub fn number(&mut self, token: &str) -> Result<u64, AllocError>
         ensures number { IfOk result (λ no. IsNumbered self.old self.new token.now no) }
         ensures err { OnErr result (self.new ≡ self.old) }
@@ -80,7 +80,7 @@ impl Names {
         self.tokens.len() as u64
     }
 
-    /// The token with this number: none exactly where the number was not given.
+    /// The token with this number, or None if no token has the number.
     pub fn token(&self, no: u64) -> Option<&str>
         ensures { option_copied result ≡ slice_get self.now no }
     {

@@ -1,4 +1,4 @@
-// Numbers that stand for names in patterns.
+// Numbers that represent names in patterns.
 
 /// The number of an object variable.
 #[derive(Clone, Copy, PartialEq, Eq, PartialOrd, Ord, Hash, Debug)]
@@ -8,6 +8,6 @@ pub struct VarNo(pub u32);
 #[derive(Clone, Copy, PartialEq, Eq, PartialOrd, Ord, Hash, Debug)]
 pub struct MSort(pub u64);
 
-/// The number of a constant's token: that of a symbol or a value.
+/// The number of a constant's token. A constant is a symbol or a value.
 #[derive(Clone, Copy, PartialEq, Eq, PartialOrd, Ord, Hash, Debug)]
 pub struct ConstNo(pub u64);

@@ -43,11 +43,11 @@ pub enum MForm {
     All(VarNo, MSort, MPat),
     /// The first applied to the second.
     App(MPat, MPat),
-    /// The pattern at a sort argument.
+    /// The pattern applied to a sort argument.
     At(MPat, MSort),
-    /// What makes a step to the pattern.
+    /// Everything that can make one step to the pattern.
     Next(MPat),
-    /// What comes to the pattern in steps, or is in it.
+    /// Everything that can reach the pattern in zero or more steps.
     Ev(MPat),
     /// An object variable.
     Var(VarNo),
@@ -78,8 +78,8 @@ impl Model for MPat {
     ghost size_decreases = { λ a h. Prim.omega (arith, deep-forms_in a.node.value) };
 }
 
-// A loop along first parts, where patterns are deep: the image of an application has one level more for each argument.
-// Other parts are dropped one level further down.
+// It loops along first parts, because patterns are deep there: the image of an application has one
+// more level for each argument. It recurses into other parts.
 impl Drop for MPat {
     #[cycle(pattern_drop)]
     fn drop(mut self) {
@@ -97,7 +97,7 @@ impl Drop for MPat {
 }
 
 impl MForm {
-    // The first part, where there is one.
+    // The first part, if there is one.
     #[cycle(pattern_drop)]
     fn into_first(self) -> Option<MPat>
         ensures { IfSome result (λ p. forms_in p < forms_in (pattern_of self)) }
@@ -126,7 +126,7 @@ impl MForm {
 }
 
 impl MPat {
-    // The pattern of a form.
+    // The pattern with this form at its root.
     fn of(alloc: Global, form: MForm) -> Result<MPat, AllocError>
         ensures { IfOk result (λ made. made ≡ pattern_of form) }
     {
@@ -134,7 +134,7 @@ impl MPat {
         Ok(MPat { node })
     }
 
-    /// Nothing.
+    /// Nothing. An error, here and in the functions below: out of memory.
     pub fn bot(alloc: Global) -> Result<MPat, AllocError>
         ensures { IfOk result (λ made. made ≡ bot) }
     {
@@ -155,7 +155,7 @@ impl MPat {
         MPat::of(alloc, MForm::Imp(p.share()?, q.share()?))
     }
 
-    /// The negation.
+    /// The negation of p.
     pub fn not(alloc: Global, p: &MPat) -> Result<MPat, AllocError>
         ensures { IfOk result (λ made. made ≡ not p.now) }
     {
@@ -176,35 +176,35 @@ impl MPat {
         MPat::of(alloc, MForm::Or(p.share()?, q.share()?))
     }
 
-    /// That p and q are equal.
+    /// The equality of p and q.
     pub fn equal(alloc: Global, p: &MPat, q: &MPat) -> Result<MPat, AllocError>
         ensures { IfOk result (λ made. made ≡ equal p.now q.now) }
     {
         MPat::of(alloc, MForm::Equal(p.share()?, q.share()?))
     }
 
-    /// That p is an element of q.
+    /// The membership of p in q.
     pub fn member(alloc: Global, p: &MPat, q: &MPat) -> Result<MPat, AllocError>
         ensures { IfOk result (λ made. made ≡ member p.now q.now) }
     {
         MPat::of(alloc, MForm::Member(p.share()?, q.share()?))
     }
 
-    /// That p is one element of the sort s.
+    /// The statement that p is one element of the sort s.
     pub fn fun(alloc: Global, p: &MPat, s: MSort) -> Result<MPat, AllocError>
         ensures { IfOk result (λ made. made ≡ fun p.now s.0) }
     {
         MPat::of(alloc, MForm::Fun(p.share()?, s))
     }
 
-    /// That p holds for some x of the sort s.
+    /// The statement that p holds for some x of the sort s.
     pub fn ex(alloc: Global, x: VarNo, s: MSort, p: &MPat) -> Result<MPat, AllocError>
         ensures { IfOk result (λ made. made ≡ ex x.0 s.0 p.now) }
     {
         MPat::of(alloc, MForm::Ex(x, s, p.share()?))
     }
 
-    /// That p holds for each x of the sort s.
+    /// The statement that p holds for each x of the sort s.
     pub fn all(alloc: Global, x: VarNo, s: MSort, p: &MPat) -> Result<MPat, AllocError>
         ensures { IfOk result (λ made. made ≡ all x.0 s.0 p.now) }
     {
@@ -218,21 +218,21 @@ impl MPat {
         MPat::of(alloc, MForm::App(p.share()?, q.share()?))
     }
 
-    /// p at the sort argument s.
+    /// p applied to the sort argument s.
     pub fn at(alloc: Global, p: &MPat, s: MSort) -> Result<MPat, AllocError>
         ensures { IfOk result (λ made. made ≡ at_sort p.now s.0) }
     {
         MPat::of(alloc, MForm::At(p.share()?, s))
     }
 
-    /// What makes a step to p.
+    /// Everything that can make one step to p.
     pub fn next(alloc: Global, p: &MPat) -> Result<MPat, AllocError>
         ensures { IfOk result (λ made. made ≡ next p.now) }
     {
         MPat::of(alloc, MForm::Next(p.share()?))
     }
 
-    /// What comes to p in steps, or is in p.
+    /// Everything that can reach p in zero or more steps.
     pub fn ev(alloc: Global, p: &MPat) -> Result<MPat, AllocError>
         ensures { IfOk result (λ made. made ≡ ev p.now) }
     {
@@ -267,7 +267,7 @@ impl MPat {
         &self.node
     }
 
-    /// The same pattern, shared: it costs the same for every pattern.
+    /// The same pattern, shared. The cost does not depend on the pattern.
     pub fn share(&self) -> Result<MPat, AllocError>
         ensures { IfOk result (λ shared. shared ≡ self.now) }
     {

@@ -5,18 +5,19 @@ ghost use Rattle.ml_pat.specs.Comparing.{Compares, ByFirstParts};
 
 use crate::patterns::{MForm, MPat};
 
-// How two forms compare.
+// The result of the comparison of two forms.
 #[derive(Clone, Copy)]
 pub(crate) enum Comparison<'a> {
     // Whether they are the same.
     Known(bool),
-    // They are the same where these two are.
+    // They are the same if and only if these two are.
     AsFirstParts(&'a MPat, &'a MPat),
 }
 
 impl MPat {
-    /// Whether both are the same pattern, with the same variables at the same places. It is a loop along first parts, where
-    /// patterns are deep; other parts are compared one level further down. It costs the size of the smaller one at most.
+    /// Whether both are the same pattern, with the same variables at the same places. It loops
+    /// along first parts, because patterns are deep there, and recurses into other parts. It costs
+    /// at most the size of the smaller one.
     #[cycle(same)]
     pub fn same(&self, other: &MPat) -> bool
         ensures { IsTrue result ↔ (self.now ≡ other.now) }
@@ -35,7 +36,7 @@ impl MPat {
     }
 }
 
-// Compares all but the first parts.
+// Compares every part except the first.
 #[cycle(same)]
 fn compared<'a>(form: &'a MForm, other: &'a MForm) -> Comparison<'a>
     ensures { Compares (pattern_of form.now) (pattern_of other.now) result }
@@ -65,7 +66,7 @@ fn compared<'a>(form: &'a MForm, other: &'a MForm) -> Comparison<'a>
     }
 }
 
-// The first parts decide, where the others are the same.
+// If the other parts are the same, the first parts decide.
 fn as_first_parts<'a>(others: bool, p: &'a MPat, q: &'a MPat) -> Comparison<'a>
     ensures { ByFirstParts others p.now q.now result }
 {

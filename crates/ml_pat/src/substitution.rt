@@ -12,20 +12,20 @@ use crate::numbers::VarNo;
 use crate::patterns::{MForm, MPat};
 use std::alloc::{AllocError, Global};
 
-// What becomes of a pattern where x is replaced.
+// The outcome of replacing x in a pattern.
 #[derive(Drop)]
 pub(crate) enum Outcome {
-    // It stays as it is: x is not free in it.
+    // The pattern does not change, because x is not free in it.
     Kept,
-    // It becomes this one.
+    // The pattern becomes this one.
     New(MPat),
-    // There is none: a free variable of what comes in would be captured.
+    // There is no result, because a free variable of the replacement would be captured.
     Captured,
 }
 
-/// The pattern with `by` in the place of each free x, or None where a free variable of `by` would be captured. Each
-/// part in which x is not free is shared. It is a loop along first parts, where patterns are deep; other parts are
-/// read one level further down. An error: out of memory.
+/// The pattern with `by` substituted for each free x, or None if a free variable of `by` would be
+/// captured. Each part in which x is not free is shared. It loops along first parts, because
+/// patterns are deep there, and recurses into other parts. An error: out of memory.
 pub fn subst(alloc: Global, pat: &MPat, x: VarNo, by: &MPat) -> Result<Option<MPat>, AllocError>
     ensures { IfOk result (λ r. r ≡ substituted pat.now x.0 by.now) }
 {
@@ -36,7 +36,7 @@ pub fn subst(alloc: Global, pat: &MPat, x: VarNo, by: &MPat) -> Result<Option<MP
     }
 }
 
-// Down the first parts and back up.
+// Goes down the first parts and back up.
 #[cycle(replaced)]
 fn replaced(alloc: Global, x: VarNo, by: &MPat, pat: &MPat) -> Result<Outcome, AllocError>
     ensures { IfOk result (λ made. made ≡ replaced x.0 by.now pat.now) }
@@ -54,7 +54,7 @@ fn replaced(alloc: Global, x: VarNo, by: &MPat, pat: &MPat) -> Result<Outcome, A
     Ok(made)
 }
 
-// What becomes of a pattern, from what becomes of its first part, where it has one.
+// The outcome for a pattern, given the outcome for its first part, if it has one.
 #[cycle(replaced)]
 fn replaced_around(
     alloc: Global,
@@ -91,7 +91,7 @@ fn replaced_around(
     }
 }
 
-// What becomes of a pattern of the two parts p and q.
+// The outcome for a pattern with the two parts p and q.
 fn both_replaced(
     alloc: Global,
     pat: &MPat,
@@ -111,7 +111,7 @@ fn both_replaced(
     }
 }
 
-// What becomes of a pattern of one part.
+// The outcome for a pattern with one part.
 fn one_replaced(alloc: Global, pat: &MPat, first: Outcome) -> Result<Outcome, AllocError>
     ensures { IfOk result (λ made. made ≡ one_replaced (with_parts pat.now) first) }
 {
@@ -122,7 +122,7 @@ fn one_replaced(alloc: Global, pat: &MPat, first: Outcome) -> Result<Outcome, Al
     }
 }
 
-// What becomes of a pattern that binds y, another variable than the one that is replaced.
+// The outcome for a pattern that binds y, where y is not the variable that is replaced.
 fn under_replaced(
     alloc: Global,
     pat: &MPat,
@@ -149,7 +149,8 @@ fn new(alloc: Global, pat: &MPat, p: &MPat, q: &MPat) -> Result<Outcome, AllocEr
     Ok(Outcome::New(with_parts(alloc, pat, p, q)?))
 }
 
-// The pattern with p in the place of its first part, where it has one, and q in that of its second.
+// The pattern with its first part, if it has one, replaced by p, and its second part, if it has
+// one, replaced by q.
 fn with_parts(alloc: Global, pat: &MPat, p: &MPat, q: &MPat) -> Result<MPat, AllocError>
     ensures { IfOk result (λ made. made ≡ with_parts pat.now p.now q.now) }
 {
@@ -171,8 +172,8 @@ fn with_parts(alloc: Global, pat: &MPat, p: &MPat, q: &MPat) -> Result<MPat, All
     }
 }
 
-/// The first part of a pattern of this form, where it has one: a way down by first parts alone visits a deep pattern
-/// without recursion.
+/// The first part of a pattern of this form, if it has one. A loop along first parts visits a deep
+/// pattern without recursion.
 pub fn first_part(form: &MForm) -> Option<&MPat>
     ensures { option_copied result ≡ first_part (pattern_of form.now) }
 {

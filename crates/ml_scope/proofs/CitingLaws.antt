@@ -1,4 +1,4 @@
--- What is assumed, and the lemmas that are cited, within a scope.
+-- Assumptions and cited lemmas within a scope.
 use Rattle.std.proofs.Common.{◌≡◌, ℕ, ◌<◌, List, [], ◌∷◌, slice_index_or, sym, ◌∙◌, subst, suc, zero, length, refl, arith}
 use Rattle.std.specs.Prelude.{Contains, Result, Ok, Err, IfOk}
 use Rattle.ml_pat.specs.Patterns.{Pattern, bot, top, imp, not, and, or, equal, member, fun, ex, all, app, at_sort, next, ev, var, meta, constant}
@@ -9,7 +9,7 @@ use Rattle.ml_kernel.specs.MayCite.{EachCited}
 use Rattle.ml_scope.specs.Scopes.{Scope, leaves_of, cites_of, IsOver, AreOver, IsOverPlaces, AreAssumed, IsWithin, AssumesWithin, CitesWithin}
 use Rattle.ml_scope.proofs.RuleLaws.{lemma_within}
 
--- what is in a list of one
+-- the only item of a list
 only : (p q : Pattern) → Contains (p ∷ []) q → p ≡ q
 only p q (zero, below, same) = same
 only p q (suc k, below, same) = absurd (omega (arith, below))
@@ -31,13 +31,13 @@ pub assumption_stays : {E : Type 0} (p : Pattern) (result : Result Theorem E) �
 assumption_stays p (Ok t) hypotheses conclusion derivation = assumption_within p t hypotheses conclusion derivation
 assumption_stays p (Err e) hypotheses conclusion derivation = tt
 
--- what stands for a pattern variable
+-- the pattern for a pattern variable is within the scope
 over_at : (s : Scope) (ms : List Pattern) (i j : ℕ) → AreOver s ms → i < length ms → IsOver s (slice_index_or ms i (meta j))
 over_at s [] i j over below = absurd (omega (arith, below))
 over_at s (m ∷ ms) zero j over below = over.0
 over_at s (m ∷ ms) (suc i) j over below = over_at s ms i j over.1 (omega (arith, below))
 
--- an instance at patterns of the scope has only what the scope has
+-- an instance at patterns of the scope has only leaves of the scope
 pub IsOver-instance : (s : Scope) (ms : List Pattern) (p : Pattern) → AreOver s ms → IsMetaBelow (length ms) p → IsOverPlaces s p → IsOver s (instance ms p)
 IsOver-instance s ms bot over below h = tt
 IsOver-instance s ms top over below h = tt

@@ -1,5 +1,5 @@
--- A rule stays within a scope that has what stands for its variables, what it concludes, and the theorems from which
--- it concludes.
+-- A rule stays within a scope that contains the instances of its variables, its conclusion and its
+-- premises.
 use Rattle.std.proofs.Common.{List, [], ◌∷◌, sym, subst, inl, inr, arith}
 use Rattle.std.specs.Prelude.{Contains, Result, Ok, Err, IfOk, ◌⊎◌}
 use Rattle.ml_pat.specs.Patterns.{Pattern}
@@ -41,7 +41,7 @@ rule_within s r is ts q t by instances over within = record {
   cited = subst (EachCited (cites_of s)) (sym by.last_step) (all_cited s ts within);
 }
 
--- what a scope needs for a rule
+-- what a rule requires of a scope
 abbrev pub Suffices : List Instance → List Pattern → List Theorem → Pattern → Type 0
 Suffices is ps ts q = (s : Scope) → AreOver s ps → AreWithin s ts → EachInstance (leaves_of s) is × IsOver s q
 

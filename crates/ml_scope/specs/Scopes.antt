@@ -1,5 +1,6 @@
--- What theorems use and cite. A scope has sorts, constants and variables, claims that were stated, and patterns that may
--- be assumed. A call of a derived rule says in one clause that it stays within every scope that has what it is given.
+-- What theorems use and cite. A scope has sorts, constants and variables, stated claims, and
+-- patterns that may be assumed. A call of a derived rule states in one clause that its result stays
+-- within every scope that contains its inputs.
 use Rattle.std.specs.Prelude.{ℕ, Bool, IsTrue, List, [], ◌∷◌, Contains}
 use Rattle.ml_pat.specs.Patterns.{Pattern}
 use Rattle.ml_pat.specs.Leaves.{LeafFacts, EachLeaf}
@@ -7,8 +8,8 @@ use Rattle.ml_kernel.specs.Theorems.{Theorem}
 use Rattle.ml_kernel.specs.UsedLeaves.{EachUsed}
 use Rattle.ml_kernel.specs.MayCite.{MayCite, EachCited}
 
--- Which sorts, constants, object variables and pattern variables a pattern may have; which claims may be cited, each
--- with its hypotheses; and what may be assumed.
+-- The sorts, constants, object variables and pattern variables that a pattern may have; the claims
+-- that may be cited, each with its hypotheses; and the patterns that may be assumed.
 pub record Scope : Type 0 where
   pub sort : ℕ → Bool
   pub constant : ℕ → Bool
@@ -25,7 +26,7 @@ leaves_of s = record {
   meta = λ n. IsTrue (s.meta n);
 }
 
--- the pattern has only what the scope has
+-- the pattern has only leaves of the scope
 abbrev pub IsOver : Scope → Pattern → Type 0
 IsOver s p = EachLeaf (leaves_of s) p
 
@@ -36,19 +37,20 @@ AreOver s (p ∷ ps) = IsOver s p × AreOver s ps
 abbrev pub IsStatedIn : Scope → List Pattern → Pattern → Type 0
 IsStatedIn s hypotheses conclusion = Contains s.stated (hypotheses, conclusion)
 
--- an axiom, also with its bound variables renamed, and a lemma at patterns of the scope, may be cited where they were
--- stated
+-- an axiom and a lemma may be cited if they were stated; the bound variables of the axiom may be
+-- renamed, and the lemma must be at patterns of the scope
 abbrev pub cites_of : Scope → MayCite
 cites_of s = record {
   fact = λ p new. IsStatedIn s [] p;
   lemma = λ own q ms. IsStatedIn s own q × AreOver s ms;
 }
 
--- each may be assumed, and has only what the scope has
+-- each may be assumed, and has only leaves of the scope
 abbrev pub AreAssumed : Scope → List Pattern → Type 0
 AreAssumed s ps = (p : Pattern) → Contains ps p → Contains s.assumed p × IsOver s p
 
--- the theorem assumes, says, uses and cites what the scope has
+-- the hypotheses, the conclusion, the patterns and the citations of the theorem are within the
+-- scope
 pub record IsWithin (s : Scope) (t : Theorem) : Type 0 where
   pub hypotheses : AreAssumed s t.hypotheses
   pub conclusion : IsOver s t.conclusion
@@ -59,7 +61,8 @@ abbrev pub AreWithin : Scope → List Theorem → Type 0
 AreWithin s [] = Unit {0}
 AreWithin s (t ∷ ts) = IsWithin s t × AreWithin s ts
 
--- the pattern has only what the scope has, but for pattern variables, in whose places other patterns come
+-- the pattern has only leaves of the scope, except for pattern variables, which are replaced by
+-- other patterns
 abbrev pub place_leaves_of : Scope → LeafFacts
 place_leaves_of s = record {
   sort = λ n. IsTrue (s.sort n);
@@ -71,16 +74,16 @@ place_leaves_of s = record {
 abbrev pub IsOverPlaces : Scope → Pattern → Type 0
 IsOverPlaces s p = EachLeaf (place_leaves_of s) p
 
--- Where a scope has these patterns and these theorems, it has this theorem.
+-- Each scope that contains these patterns and these theorems contains this theorem.
 abbrev pub StaysWithin : List Pattern → List Theorem → Theorem → Type 0
 StaysWithin ps ts t = (s : Scope) → AreOver s ps → AreWithin s ts → IsWithin s t
 
--- Where a scope has the pattern, and it may be assumed there, the scope has this theorem.
+-- Each scope that contains the pattern, and in which it may be assumed, contains this theorem.
 abbrev pub AssumesWithin : Pattern → Theorem → Type 0
 AssumesWithin p t = (s : Scope) → Contains s.assumed p → IsOver s p → IsWithin s t
 
--- Where the lemma was stated in a scope, and the scope has what the lemma concludes, these patterns and these proofs,
--- it has this theorem.
+-- Each scope in which the lemma was stated, and that contains the lemma's conclusion, these
+-- patterns and these proofs, contains this theorem.
 abbrev pub CitesWithin : Theorem → List Pattern → List Theorem → Theorem → Type 0
 CitesWithin lemma ms ts t =
     (s : Scope) → IsStatedIn s lemma.hypotheses lemma.conclusion → IsOverPlaces s lemma.conclusion → AreOver s ms

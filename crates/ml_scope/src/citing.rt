@@ -1,4 +1,4 @@
-// What is assumed, and the lemmas that are cited.
+// Assumptions and citations of lemmas.
 ghost use Rattle.std.specs.Prelude.{◌≡◌, ◌∷◌, [], length, IfOk};
 ghost use Rattle.ml_kernel.specs.Lemmas.{instance, instances, IsMetaBelow, AreMetasBelow, HaveNoVariables};
 ghost use Rattle.ml_kernel.specs.Theorems.{conclusions};
@@ -8,7 +8,7 @@ use ml_kernel::{Lemma, Thm};
 use ml_pat::MPat;
 use std::alloc::{AllocError, Global};
 
-/// A pattern, from itself.
+/// A pattern, from itself. An error: out of memory.
 pub fn assume(alloc: Global, hyp: MPat) -> Result<Thm, AllocError>
     ensures conclusion { IfOk result (λ t. t.conclusion ≡ hyp) }
     ensures hypotheses { IfOk result (λ t. t.hypotheses ≡ hyp ∷ []) }
@@ -17,8 +17,8 @@ pub fn assume(alloc: Global, hyp: MPat) -> Result<Thm, AllocError>
     Thm::assume(alloc, hyp)
 }
 
-/// The conclusion of a lemma with these patterns in the place of its pattern variables, from proofs of its hypotheses
-/// with the same in their places.
+/// The conclusion of a lemma with these patterns substituted for its pattern variables, from proofs
+/// of its hypotheses with the same patterns substituted. An error: out of memory.
 pub fn use_lemma(
     alloc: Global,
     lemma: &Lemma,

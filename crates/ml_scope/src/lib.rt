@@ -1,6 +1,6 @@
-// The rules of matching logic, each with one clause more: it stays within every scope that has what it is given
-// (specs/Scopes.antt). So what a derived rule uses and cites follows from the calls that it makes, and no contract pins
-// a derivation step by step.
+// The rules of matching logic, each with one more clause: the result stays within every scope that
+// contains the inputs (specs/Scopes.antt). So what a derived rule uses and cites follows from its
+// calls, and no contract has to state a derivation step by step.
 #![tactic(auto)]
 
 mod citing;

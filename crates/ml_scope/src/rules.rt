@@ -1,4 +1,4 @@
-// The rules, one call each, by the names of the kernel's calls.
+// The rules, one call each, with the names of the kernel's calls. The only error is out of memory.
 ghost use Rattle.std.specs.Prelude.{◌≡◌, [], ◌∷◌, IfOk, Some};
 ghost use Rattle.ml_pat.specs.Patterns.{bot, top, imp, and, equal, fun, ex, all, next, ev, var};
 ghost use Rattle.ml_pat.specs.Judgements.{IsAbsent, substituted};
@@ -93,7 +93,7 @@ pub fn ev_kt(alloc: Global, a: &Thm, b: &Thm, p: &MPat, q: &MPat) -> Result<Thm,
     Thm::ev_kt(alloc, a, b, p, q)
 }
 
-/// `(all x s p) -> fun q s -> r`, where r is p with q for x.
+/// `(all x s p) -> fun q s -> r`, where r is p with q substituted for x.
 pub fn inst<'a>(
     alloc: Global,
     p: &'a MPat,
@@ -109,7 +109,7 @@ pub fn inst<'a>(
     Thm::inst(alloc, p, q, r, x, s)
 }
 
-/// `(ex y s (y = p)) -> fun p s`, where y stands nowhere in p.
+/// `(ex y s (y = p)) -> fun p s`, where y does not occur in p.
 pub fn fun_ex(alloc: Global, p: &MPat, y: VarNo, s: MSort) -> Result<Thm, AllocError>
     requires { IsAbsent y.0 p.now }
     ensures conclusion { IfOk result
@@ -119,7 +119,7 @@ pub fn fun_ex(alloc: Global, p: &MPat, y: VarNo, s: MSort) -> Result<Thm, AllocE
     Thm::fun_ex(alloc, p, y, s)
 }
 
-/// `p = q -> t -> u`, where t and u are r with p and with q for x.
+/// `p = q -> t -> u`, where t is r with p for x, and u is r with q for x.
 pub fn eq_el<'a>(
     alloc: Global,
     p: &'a MPat,

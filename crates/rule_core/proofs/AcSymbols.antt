@@ -1,5 +1,5 @@
--- Whether a look-up in the table of symbols finds a constructor that is associative, commutative or idempotent, or has
--- a unit.
+-- Whether a look-up in the table of symbols finds a constructor that is associative, commutative or
+-- idempotent, or has a unit.
 use Rattle.std.proofs.Common.{◌≡◌, ◌<◌, ℕ, List, length, Option, Some, None, option_map, slice_get, refl, sym, ◌∙◌, ap, subst}
 use Rattle.std.specs.Prelude.{IsTrue}
 use Rattle.std.proofs.lemmas.Option.{slice_get_within}
@@ -12,11 +12,11 @@ named : (entry : Option (List ℕ × SymInfo)) (info : SymInfo) → Some info �
 named None info is = absurd (cc)
 named (Some (name, other)) info is = (name, let same : info ≡ other = cc in ap (λ (i : SymInfo). Some (name, i)) (sym same))
 
--- the entry that a value was found in
+-- the entry in which a value was found
 pub symbol_found : (sig : Signature) (f : ℕ) (info : SymInfo) → Some info ≡ option_map (λ (e : List ℕ × SymInfo). e.1) (slice_get sig.symbols f) → IsSymbol sig f info
 symbol_found sig f info is = named (slice_get sig.symbols f) info is
 
--- a symbol is declared in one way
+-- a symbol has only one declaration
 pub symbol_same : (sig : Signature) (f : ℕ) (info other : SymInfo) → Some info ≡ option_map (λ (e : List ℕ × SymInfo). e.1) (slice_get sig.symbols f) → IsSymbol sig f other → info ≡ other
 symbol_same sig f info other is (name, there) =
     let both : Some info ≡ Some other = is ∙ ap (λ o. option_map (λ (e : List ℕ × SymInfo). e.1) o) there in cc

@@ -1,11 +1,11 @@
--- The test of what is below what answers true exactly where a chain leads there.
+-- The test of the order of sorts returns true exactly when there is a chain.
 use Rattle.std.proofs.Common.{◌≡◌, ℕ, zero, suc, ◌⊎◌, ◌↔◌, inl, inr, eq-eqb, Bool, true, false, List, [], ◌∷◌, ◌++◌, Contains, refl, sym, ◌∙◌, ap, subst, arith}
 use Rattle.std.specs.Prelude.{◌&&◌, ◌||◌, ◌==◌, IsTrue}
 use Rattle.std.proofs.lemmas.Bool.{eqb-true, false≢true}
 use Rattle.rule_core.specs.Subsorts.{IsBelow, by_pair, by_chain, HasNoCycle, is_below}
 use Rattle.rule_core.specs.SubsortLaws.{BelowIsTested}
 
--- two tests of which one holds, or both
+-- if one of two tests or both hold, the first or the second holds
 pub either_true : (a b : Bool) → (a || b) ≡ true → (a ≡ true) ⊎ (b ≡ true)
 either_true true b h = inl refl
 either_true false b h = inr h
@@ -24,12 +24,12 @@ true_right false b h = h
 pub true_both : (a b : Bool) → a ≡ true → b ≡ true → (a && b) ≡ true
 true_both a b h k = rw h k
 
--- what is below what is below is below
+-- the order is transitive
 pub IsBelow-trans : (pairs : List (ℕ × ℕ)) (a b c : ℕ) → IsBelow pairs a b → IsBelow pairs b c → IsBelow pairs a c
 IsBelow-trans pairs a b c (by_pair first) h = by_chain first h
 IsBelow-trans pairs a b c (by_chain {b = m} first rest) h = by_chain first (IsBelow-trans pairs m b c rest h)
 
--- a pair of a longer list
+-- a pair is also a pair of a longer list
 pub contains_later : (pairs : List (ℕ × ℕ)) (first pair : ℕ × ℕ) → Contains pairs pair → Contains (first ∷ pairs) pair
 contains_later pairs first pair known = (suc known.0, omega (arith, known.1), known.2)
 
@@ -46,7 +46,7 @@ more_pairs pairs first a b (by_chain {b = m} known rest) =
 abbrev Reaches : List (ℕ × ℕ) → ℕ → ℕ → Type 0
 Reaches pairs a b = (a ≡ b) ⊎ IsBelow pairs a b
 
--- a chain over a longer list needs the first pair not at all, or once
+-- a chain over a longer list does not need the first pair, or needs it once
 chain_cases : (pairs : List (ℕ × ℕ)) (first : ℕ × ℕ) (a b : ℕ) → IsBelow (first ∷ pairs) a b → IsBelow pairs a b ⊎ (Reaches pairs a first.0 × Reaches pairs first.1 b)
 chain_cases pairs first a b (by_pair known) = one (contains_cases pairs first (a, b) known) where
   one : (first ≡ (a, b)) ⊎ Contains pairs (a, b) → IsBelow pairs a b ⊎ (Reaches pairs a first.0 × Reaches pairs first.1 b)
@@ -71,7 +71,7 @@ reached pairs a b fewer h = known (either_true _ _ h) where
   known (inl t) = inl (eqb-true a b t)
   known (inr t) = inr (fewer a b t)
 
--- a chain that goes over the first pair
+-- a chain through the first pair
 over_first : (pairs : List (ℕ × ℕ)) (pair : ℕ × ℕ) (a b : ℕ) → Reaches pairs a pair.0 → Reaches pairs pair.1 b → IsBelow (pair ∷ pairs) a b
 over_first pairs pair a b front back = after (before front) back where
   before : (a ≡ pair.0) ⊎ IsBelow pairs a pair.0 → IsBelow (pair ∷ pairs) a pair.1
@@ -104,7 +104,7 @@ nothing_below : (a b : ℕ) → IsBelow [] a b → ⊥
 nothing_below a b (by_pair known) = omega (arith, known.1)
 nothing_below a b (by_chain known rest) = omega (arith, known.1)
 
--- the test and the fact
+-- if the test holds, the sort is below the other
 pub is_below-true : (pairs : List (ℕ × ℕ)) (a b : ℕ) → is_below pairs a b ≡ true → IsBelow pairs a b
 is_below-true [] a b h = absurd (cc)
 is_below-true (pair ∷ pairs) a b h = from_test pairs pair a b (λ x y t. is_below-true pairs x y t) h
@@ -113,7 +113,7 @@ pub true-is_below : (pairs : List (ℕ × ℕ)) (a b : ℕ) → IsBelow pairs a 
 true-is_below [] a b h = absurd (nothing_below a b h)
 true-is_below (pair ∷ pairs) a b h = to_test pairs pair a b (λ x y t. true-is_below pairs x y t) (chain_cases pairs pair a b h)
 
--- the answer of a call that tells what is below what is that of the test
+-- the answer of a call that decides the order is that of the test
 pub below_answer : (pairs : List (ℕ × ℕ)) (a b : ℕ) (answer : Bool) → IsTrue answer ↔ IsBelow pairs a b → answer ≡ is_below pairs a b
 below_answer pairs a b true h = sym (true-is_below pairs a b (h.0 refl))
 below_answer pairs a b false h = unless (is_below pairs a b) refl where
@@ -151,7 +151,7 @@ first_last (pair ∷ pairs) last p known =
       one fewer (inl is) = contains_later _ pair p (fewer (0, omega arith, is))
       one fewer (inr known') = two fewer (contains_cases pairs pair p known')
 
--- the test over a list that ends in one more pair
+-- the test over a list that has one more pair at its end
 pub below_last : (pairs : List (ℕ × ℕ)) (last : ℕ × ℕ) (a b : ℕ) → is_below (pairs ++ last ∷ []) a b ≡ is_below (last ∷ pairs) a b
 below_last pairs last a b =
     sym (below_answer (pairs ++ last ∷ []) a b (is_below (last ∷ pairs) a b) (
@@ -159,7 +159,7 @@ below_last pairs last a b =
       λ below. true-is_below (last ∷ pairs) a b (fewer_pairs _ _ a b (last_first pairs last) below),
     ))
 
--- one more pair makes no cycle just where it does not lead from a sort to itself or to one below
+-- one more pair makes no cycle, unless it leads from a sort to itself or to a sort below it
 pub no_cycle_more : (pairs : List (ℕ × ℕ)) (a b : ℕ) → HasNoCycle pairs → (a ≡ b → ⊥) → (IsBelow pairs b a → ⊥) → HasNoCycle (pairs ++ (a, b) ∷ [])
 no_cycle_more pairs a b none other back x round = by_case (chain_cases pairs (a, b) x x (fewer_pairs _ _ x x (last_first pairs (a, b)) round)) where
   by_case : IsBelow pairs x x ⊎ (Reaches pairs x a × Reaches pairs b x) → ⊥
@@ -181,7 +181,7 @@ cycle_back pairs a b back none =
     none a (by_chain (first_last pairs (a, b) (a, b) (0, omega arith, refl))
     (fewer_pairs _ _ b a (λ p known. first_last pairs (a, b) p (contains_later pairs (a, b) p known)) back))
 
--- no sort reaches itself
+-- a sort is not equal to a sort above it
 pub no_loop : (pairs : List (ℕ × ℕ)) (a b : ℕ) → HasNoCycle pairs → IsBelow pairs a b → (a == b) ≡ false
 no_loop pairs a b none below = unless (a == b) refl where
   unless : (t : Bool) → (a == b) ≡ t → (a == b) ≡ false

@@ -1,4 +1,4 @@
--- What substitutions give variables.
+-- The bindings of substitutions.
 use Rattle.std.proofs.Common.{◌≡◌, ◌≢◌, ◌<◌, ◌⊎◌, inl, inr, ℕ, zero, suc, Bool, true, false, List, [], ◌∷◌, length, replicate, set, Option, Some, None, refl, sym, ◌∙◌, eq-eqb}
 use Rattle.std.specs.Prelude.{◌==◌, IsSome}
 use Rattle.std.proofs.lemmas.Bool.{eqb-true, false≢true}
@@ -6,7 +6,7 @@ use Rattle.std.proofs.lemmas.List.{get_or-set_same, get_or-set_other}
 use Rattle.term_core.specs.Terms.{Tree}
 use Rattle.term_core.specs.Patterns.{binding}
 
--- the one substitution gives all that the other does
+-- the first substitution has all the bindings of the second
 abbrev pub Extends : List (Option Tree) → List (Option Tree) → Type 0
 Extends more fewer = (x : ℕ) (t : Tree) → binding fewer x ≡ Some t → binding more x ≡ Some t
 
@@ -16,7 +16,7 @@ Extends-refl theta x t e = e
 pub Extends-trans : (most more fewer : List (Option Tree)) → Extends most more → Extends more fewer → Extends most fewer
 Extends-trans most more fewer h k x t e = h x t (k x t e)
 
--- one number is another or not
+-- a number equals another one, or does not
 pub same_or_other : (x y : ℕ) → (x ≡ y) ⊎ (x ≢ y)
 same_or_other x y = told (x == y) refl where
   told : (b : Bool) → (x == y) ≡ b → (x ≡ y) ⊎ (x ≢ y)
@@ -29,13 +29,13 @@ binding-set_same theta x t lt = get_or-set_same theta x (Some t) None lt
 pub binding-set_other : (theta : List (Option Tree)) (x y : ℕ) (t : Tree) → y ≢ x → binding (set theta x (Some t)) y ≡ binding theta y
 binding-set_other theta x y t other = get_or-set_other theta x y (Some t) None other
 
--- a substitution without bindings
+-- a substitution in which no variable is bound
 pub binding-replicate : (n x : ℕ) → binding (replicate n None) x ≡ None
 binding-replicate zero x = refl
 binding-replicate (suc n) zero = refl
 binding-replicate (suc n) (suc x) = binding-replicate n x
 
--- substitutions that give the same are the same
+-- substitutions with the same bindings are equal
 pub same_bindings : (xs ys : List (Option Tree)) → length xs ≡ length ys → ((x : ℕ) → binding xs x ≡ binding ys x) → xs ≡ ys
 same_bindings [] [] len same = refl
 same_bindings [] (y ∷ ys) len same = absurd (cc)
@@ -45,7 +45,7 @@ same_bindings (x ∷ xs) (y ∷ ys) len same =
     let rest : xs ≡ ys = same_bindings xs ys (cc) (λ i. same (suc i)) in
     cc
 
--- where something is given it is some tree
+-- if there is a binding, it is some tree
 pub given : (o : Option Tree) → IsSome o → (t : Tree) × (o ≡ Some t)
 given None h = absurd (false≢true h)
 given (Some t) h = (t, refl)

@@ -1,4 +1,5 @@
--- Well-sorted patterns have an answer, and a value is a normal term of their sort that is not too high.
+-- Well-sorted patterns have an answer. A value is a normal term of the pattern's sort, and it is
+-- not too high.
 use Rattle.std.proofs.Common.{◌≡◌, ℕ, suc, zero, ◌<◌, ◌≤◌, ◌≢◌, ◌⊎◌, inl, inr, ⊎_elim, List, [], ◌∷◌, length, slice_get, true, false, Option, Some, None, refl, sym, ◌∙◌, ap, subst, arith}
 use Rattle.std.specs.Prelude.{All, IsSome, IfSome}
 use Rattle.std.proofs.Math.Nat.{eq-or-lt_of_le, le_trans}
@@ -53,7 +54,7 @@ mutual
       let low : height u ≤ heights parts.1.0 = binding_low_in theta ps x parts.1.0 u parts.1.1.1.1 stands b in
       subst (λ w. height u ≤ heights w) (sym parts.1.1.0) (omega (arith, low))
 
--- ---- answers that are as they should be
+-- ---- answers that are well-sorted
 
 -- a normal term of this sort that is not too high
 abbrev pub IsGoodTree : Signature → Tree → ℕ → Type 0
@@ -82,7 +83,7 @@ FunctionAnswer theory n f ts c sort = (r : Evaluated) × Applies theory n f ts c
 abbrev EquationAnswer : RewriteTheory → ℕ → ℕ → List Equation → Forest → ℕ → ℕ → Type 0
 EquationAnswer theory n f es ts c sort = (r : Evaluated) × Equates theory n f es ts c r × IsGood theory.sig sort r
 
--- with so much nesting each well-sorted pattern has an answer
+-- with this much nesting, each well-sorted pattern has an answer
 abbrev AnswersAt : RewriteTheory → ℕ → Type 0
 AnswersAt theory n =
     (variables : List ℕ) (theta : List (Option Tree)) (p : Pattern) (sort c : ℕ) → HasSort theory.sig variables p sort → Serves theory.sig variables theta p → Answer theory n theta p c sort
@@ -140,7 +141,7 @@ injected_answer a b p c f i has up (blocked cause) e good = (blocked cause, argu
 injected_answer a b p c f i has up (value t d) e good =
     made_answer (injection a b p) (injected a b t) b (of_injection i) (one_more e none_left) refl (up t good.0) (IsNormal-injected a b t good.1)
 
--- the first of the symbols before a number that injects, where one does
+-- the first symbol, before a number, that is an injection, if there is one
 is_injection : (k : SymKind) → (k ≡ Injection) ⊎ (k ≢ Injection)
 is_injection Injection = inl refl
 is_injection Ctor = inr (λ e. cc)
@@ -174,7 +175,7 @@ injection_symbol sig has =
 
 -- ---- equations
 
--- what matching gives the condition and the right side
+-- the substitution of a match serves the condition and the right side
 pub serves_match : (sig : Signature) (variables : List ℕ) (ps : Patterns) (ts : Forest) (theta : List (Option Tree)) (p : Pattern) → MatchAll sig variables ps ts theta → heights ts ≤ most_height → UsesOnly ps p → Serves sig variables theta p
 serves_match sig variables ps ts theta p m lows uses = record {
   bound = λ x stands. (m.binds.just x).1 (uses x stands);
@@ -203,7 +204,7 @@ test_answer theory n within f variables ps ts theta c m lows (Some p) fits =
     let x = says_something r.0 in
     (x.0, condition r.1 x.1)
 
--- what comes of an equation that matches
+-- the outcome of an equation that matches
 matched_answer : (theory : RewriteTheory) (n : ℕ) (f : ℕ) (e : Equation) (es : List Equation) (ts : Forest) (theta : List (Option Tree)) (c sort : ℕ) → MatchAll theory.sig e.variables e.arguments ts theta → (x : Tested) → Tests theory n f theta e.condition c x → ((d : ℕ) → (r : Evaluated) × EvaluatesIn theory n f theta e.right d r × IsGood theory.sig sort r) → ((d : ℕ) → EquationAnswer theory n f es ts d sort) → EquationAnswer theory n f (e ∷ es) ts c sort
 matched_answer theory n f e es ts theta c sort m (holds d) test right others = let r = right d in (r.0, used m test r.1, r.2)
 matched_answer theory n f e es ts theta c sort m (fails d) test right others = let r = others d in (r.0, condition_fails m test r.1, r.2)

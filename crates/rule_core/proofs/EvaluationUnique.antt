@@ -1,4 +1,4 @@
--- An evaluation has one answer, where each equation matches in one way.
+-- An evaluation has one answer, if each equation matches in at most one way.
 use Rattle.std.proofs.Common.{◌≡◌, ℕ, suc, ◌<◌, ◌≤◌, ◌≢◌, List, [], ◌∷◌, Option, Some, None, refl, sym, ◌∙◌, ap, subst, arith}
 use Rattle.std.specs.Prelude.{All, Ok, Err}
 use Rattle.term_core.specs.Terms.{Tree, leaf, node, inj, Forest, no_tree, more_trees, height, DomainValue}
@@ -17,23 +17,23 @@ use Rattle.rule_core.specs.declared.signature.SymInfo.{SymInfo}
 use Rattle.rule_core.specs.declared.signature.SymKind.{SymKind}
 use Rattle.rule_core.specs.declared.signature.SymKind.TheVariants.{Equations, Hooked, Closed}
 
--- a number has one symbol
+-- a number is the number of only one symbol
 pub same_symbol : (sig : Signature) (f : ℕ) (a b : SymInfo) → IsSymbol sig f a → IsSymbol sig f b → a ≡ b
 same_symbol sig f a b x y =
     let e : Some (x.0, a) ≡ Some (y.0, b) = sym x.1 ∙ y.1 in
     let pair : (x.0, a) ≡ (y.0, b) = cc in
     ap (λ (q : List ℕ × SymInfo). q.1) pair
 
--- a substitution that matches an equation with terms is the only one
+-- only one substitution matches an equation with terms
 abbrev pub MatchesOnce : RewriteTheory → Equation → Type 0
 MatchesOnce theory e =
     (ts : Forest) (theta sigma : List (Option Tree)) → MatchAll theory.sig e.variables e.arguments ts theta → MatchAll theory.sig e.variables e.arguments ts sigma → theta ≡ sigma
 
--- .. of each equation of each symbol
+-- the same for each equation of each symbol
 abbrev pub AllMatchOnce : RewriteTheory → Type 0
 AllMatchOnce theory = (f : ℕ) (info : SymInfo) → IsSymbol theory.sig f info → All (MatchesOnce theory) (equations_of theory f)
 
--- what holds of each item of a list holds of the first, and of each of the others
+-- what holds of each item of a list holds of the first item, and of each of the others
 pub all_first : {X : Type 0} (P : X → Type 0) (x : X) (xs : List X) → All P (x ∷ xs) → P x
 all_first P x xs each = each 0 x (omega arith)
 
@@ -59,7 +59,7 @@ same_head of_constructor of_constructor = (refl, refl)
 same_head {theory} (of_injection i) (of_injection j) = (same_injection theory.sig _ _ i j, refl)
 same_head of_call of_call = (refl, refl)
 
--- ---- what an evaluation of a node with arguments comes from
+-- ---- the outcomes of a node with arguments
 
 data Makes (theory : RewriteTheory) (n f : ℕ) (ts : Forest) (d : ℕ) : Pattern → Evaluated → Type 0 where
   fits : {p : Pattern} {t : Tree} → built p ts ≡ Some t → height t ≤ most_height → Makes theory n f ts d p (value t d)
@@ -81,7 +81,7 @@ comes {theory} {n} {c} {f} {theta = theta} {p = p} h (made_too_high {d = d} {f =
     from_values (subst (λ qs. EvaluateAll theory n theta qs c (values ts d)) (same_head i h).1 all) (subst (λ k. Makes theory n f ts d p (blocked (too_high k))) (sym (same_head i h).0) (passes b lt))
 comes of_call (called all applied) = from_values all (calls applied)
 
--- ---- each case by itself, where what it is made of has one answer
+-- ---- each case by itself, if its parts have one answer
 
 bound_only : {theory : RewriteTheory} {n c x : ℕ} {theta : List (Option Tree)} {t : Tree} {s : Evaluated} → binding theta x ≡ Some t → Evaluates theory n theta (variable x) c s → value t c ≡ s
 bound_only {t = t} e (bound {t = u} k) = let same : Some t ≡ Some u = sym e ∙ k in cc
@@ -146,7 +146,7 @@ first_blocked_only {cause = cause} only (later_blocked {d = d} {t = t} e all) =
 first_blocked_only {cause = cause} only (one_more {d = d} {t = t} e all) =
     let same : blocked cause ≡ value t d = only (value t d) e in let no : ⊥ = cc in absurd no
 
--- a tree in front of what comes of the others
+-- a tree in front of the outcome of the others
 abbrev behind : Tree → AllEvaluated → AllEvaluated
 behind t (values ts c) = values (more_trees t ts) c
 behind t (stopped cause) = stopped cause
@@ -203,7 +203,7 @@ same_failure info ts i j v w a b =
     let e : Some (Err v) ≡ Some (Err w) = sym a.fails ∙ both ∙ b.fails in
     (rows, cc)
 
--- what a function that is declared so is applied by
+-- how a function with this declaration is applied
 data AppliedAs (theory : RewriteTheory) (n f : ℕ) (ts : Forest) (info : SymInfo) : ℕ → Evaluated → Type 0 where
   as_closed : {c : ℕ} → info.kind ≡ Closed → AppliedAs theory n f ts info c (blocked (closed f))
   as_exhausted : info.kind ≢ Closed → AppliedAs theory n f ts info 0 (blocked (no_call_left f))
@@ -265,7 +265,7 @@ equations_only {s = s} k only (as_equations l e) = only s e
 
 -- ---- equations and their conditions
 
--- what comes of an equation that matches with this substitution
+-- the outcome of an equation that matches with this substitution
 data Tried (theory : RewriteTheory) (n f : ℕ) (ts : Forest) (e : Equation) (es : List Equation) (theta : List (Option Tree)) (c : ℕ) : Evaluated → Type 0 where
   tried_fails : {d : ℕ} {r : Evaluated} → Tests theory n f theta e.condition c (fails d) → Equates theory n f es ts d r → Tried theory n f ts e es theta c r
   tried_blocked : {cause : Cause} → Tests theory n f theta e.condition c (untested cause) → Tried theory n f ts e es theta c (blocked cause)
@@ -307,7 +307,7 @@ holds_only {theory} {n} {f} {d = d} {e = e} {theta = theta} {s = s} test only (t
     let calls_same : k ≡ d = cc in
     only s (subst (λ j. EvaluatesIn theory n f theta e.right j s) calls_same right)
 
--- what is said of a value is one thing
+-- a value has only one meaning for a condition
 pub says_only : {e : Evaluated} {x y : Tested} → Says e x → Says e y → x ≡ y
 says_only (says_true a) (says_true b) = refl
 says_only (says_true a) (says_other b) = absurd (b a)

@@ -1,4 +1,4 @@
--- The rule that applies is the first one in order of which the condition holds.
+-- The rule that applies is the first one in order whose condition holds.
 use Rattle.std.proofs.Common.{◌≡◌, ℕ, suc, zero, ◌+◌, ◌<◌, ◌≤◌, inl, inr, ⊎_elim, List, [], ◌∷◌, Option, Some, None, refl, sym, ◌∙◌, ap, subst, slice_get, map, arith}
 use Rattle.std.specs.Prelude.{All, option_map}
 use Rattle.std.proofs.lemmas.Bool.{cases_lt}
@@ -18,7 +18,7 @@ all_at P [] i x each e = let k : None ≡ Some x = e in let no : ⊥ = cc in abs
 all_at P (y ∷ xs) zero x each e = let k : Some y ≡ Some x = e in let same : y ≡ x = cc in subst P same (all_first P y xs each)
 all_at P (y ∷ xs) (suc i) x each e = all_at P xs i x (all_rest P y xs each) e
 
--- where the rule that applies stands among the rules
+-- the position of the rule that applies among the rules
 pub record Applied (theory : RewriteTheory) (t : Tree) (from to left : ℕ) (rules : List RewriteRule) (rule : RewriteRule) (theta : List (Option Tree)) : Type 0 where
   pub place : ℕ
   pub counted : to ≡ from + place
@@ -47,7 +47,7 @@ applied (unmatched {rule = first} never others) = one_later first (inl never) (a
 applied (condition_fails {c = c} {d = d} {rule = first} {theta = theta} m test others) = one_later first (inr (theta, c, d, m, test)) (applied others)
 applied (condition_holds {c = c} {d = d} m test) = record { place = 0; counted = omega arith; there = refl; matches = m; before = c; holding = test; earlier = λ j other lt s. absurd (omega arith) }
 
--- where a rule stands that comes before another one in the list
+-- the order of trial of two rules, by their positions in the list
 pub in_order : (xs : List (ℕ × ℕ)) → AreInOrder xs → (i j : ℕ) (a b : ℕ × ℕ) → i < j → slice_get xs i ≡ Some a → slice_get xs j ≡ Some b → ComesBefore a b
 in_order [] order i j a b lt there later = let k : None ≡ Some a = there in let no : ⊥ = cc in absurd no
 in_order (x ∷ xs) order i zero a b lt there later = absurd (omega arith)

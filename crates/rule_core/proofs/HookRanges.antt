@@ -1,4 +1,5 @@
--- The hooks of well-sorted theories have values at well-sorted terms, or a reason why not, and the values are in range.
+-- The hooks of well-sorted theories have values at well-sorted terms, or a reason why they have
+-- none, and the values are in range.
 use Rattle.std.proofs.Common.{◌≡◌, ℕ, suc, zero, ◌-◌, ◌/◌, ◌%◌, ◌^◌, ◌<◌, ◌≤◌, ◌⊎◌, inl, inr, ⊎_elim, ℤ, pos, negsuc, Bool, true, false, cond, leb, leb→le, le→leb, List, [], ◌∷◌, Some, None, refl, sym, ◌∙◌, ap, subst, slice_get, arith}
 use Rattle.std.specs.Prelude.{bit_and, int_rem, int_div, ◌-ℤ◌, ◌+ℤ◌, ◌*ℤ◌, int_le, int_lt, ◌&&◌, Result, Ok, Err, unsigned_abs, if◌then◌else◌}
 use Rattle.std.specs.Int.{int_min, int_max, int_div_euclid, int_rem_euclid}
@@ -28,7 +29,7 @@ use Rattle.rule_core.proofs.Belows.{both_true}
 
 -- ---- whole numbers
 
--- it has so many bits and a sign
+-- the number has k bits and a sign
 abbrev IsShort : ℕ → ℤ → Type 0
 IsShort k z = mag z < 2 ^ k
 
@@ -93,7 +94,7 @@ xor_short k (negsuc m) (negsuc n) sx sy = xor_lt k m n sx sy
 
 -- ---- the table
 
--- the results of an operation are in range where its arguments are
+-- the results of an operation are in range if its arguments are in range
 abbrev KeepsRange : Operation → Type 0
 KeepsRange (on_integer f) = (x r : ℤ) → IsShort 127 x → f x ≡ Ok r → IsShort 127 r
 KeepsRange (on_integers f) = (x y r : ℤ) → IsShort 127 x → IsShort 127 y → f x y ≡ Ok r → IsShort 127 r
@@ -105,7 +106,7 @@ abbrev AllKeepRange : List Hook → Type 0
 AllKeepRange [] = Unit {0}
 AllKeepRange (h ∷ hs) = KeepsRange h.operation × AllKeepRange hs
 
--- the number in a result that is there
+-- the number of a result that is not an error
 plain : (k : ℕ) (z r : ℤ) → ◌≡◌ {A = Result ℤ NoValue} (Ok z) (Ok r) → IsShort k z → IsShort k r
 plain k z r e s = let same : z ≡ r = cc in subst (IsShort k) same s
 
@@ -251,7 +252,7 @@ kind_value truths info (integer z) is v = absurd v
 kind_value truths info (truth b) is v = subst (λ k. IsValueOf k (truth b)) (sym is) tt
 kind_value truths info (text bytes) is v = absurd v
 
--- the sort that a reference outside any symbol names
+-- the sort that a reference names outside any symbol
 named_sort : (of : SortRef) (sort : ℕ) → sort_at [] of ≡ Some sort → of ≡ Sort (record { 0 = sort })
 named_sort (Param i) sort e = let k : None ≡ Some sort = e in let no : ⊥ = cc in absurd no
 named_sort (Sort s) sort e = let k : Some s.0 ≡ Some sort = e in let same : s.0 ≡ sort = cc in ap (λ (n : ℕ). Sort (record { 0 = n })) same

@@ -1,4 +1,5 @@
--- Where a substitution makes the pattern the term, matching binds no more than it gives.
+-- If the pattern becomes the term under a substitution, matching adds only bindings of that
+-- substitution.
 use Rattle.std.proofs.Common.{◌≡◌, ◌≢◌, ◌<◌, ◌⊎◌, inl, inr, ℕ, List, [], ◌∷◌, length, set, slice_get, Option, Some, None, refl, sym, ◌∙◌, ap, subst, eq-eqb}
 use Rattle.std.proofs.lemmas.List.{length-set}
 use Rattle.std.proofs.lemmas.Option.{slice_get_within}
@@ -15,7 +16,7 @@ use Rattle.rule_core.proofs.Belows.{true-is_below, no_loop}
 use Rattle.rule_core.proofs.Bindings.{Extends, same_or_other, binding-set_same, binding-set_other}
 use Rattle.rule_core.proofs.SortedInstances.{mapped, both_there, instance_is_sorted}
 
--- matching finds a substitution, which gives no more than sigma does
+-- matching finds a substitution, whose bindings are all bindings of sigma
 abbrev pub FindsWithin : List ℕ → List (Option Tree) → Option (List (Option Tree)) → Type 0
 FindsWithin variables sigma found =
     (new : List (Option Tree)) × (found ≡ Some new) × Extends sigma new × (length new ≡ length variables)
@@ -36,14 +37,14 @@ variable_complete variables sigma theta x sort t (Some u) at room extends given 
     let same : u ≡ t = cc in
     (theta, rw ((Decides-tree_eq u t).1 same) refl, extends, room)
 
--- matching goes on to the arguments of a constructor, and from a pattern to the next
+-- matching continues with the arguments of a constructor, and with the next pattern
 node_complete : (pairs : List (ℕ × ℕ)) (f : ℕ) (ps : Patterns) (us : Forest) (t : Tree) (theta new : List (Option Tree)) → node f us ≡ t → all_matched pairs ps us theta ≡ Some new → matched pairs (application f ps) t theta ≡ Some new
 node_complete pairs f ps us t theta new is e = let same : t ≡ node f us = sym is in rw (same, eq-eqb f f refl) e
 
 list_complete : (pairs : List (ℕ × ℕ)) (p : Pattern) (ps : Patterns) (t : Tree) (us ts : Forest) (theta mid new : List (Option Tree)) → ts ≡ more_trees t us → matched pairs p t theta ≡ Some mid → all_matched pairs ps us mid ≡ Some new → all_matched pairs (more_patterns p ps) ts theta ≡ Some new
 list_complete pairs p ps t us ts theta mid new is first rest = rw (is, first) rest
 
--- matching goes below an injection
+-- matching continues below an injection
 injection_complete : (pairs : List (ℕ × ℕ)) (sig : Signature) (b c : ℕ) (p : Pattern) (u t : Tree) (theta new : List (Option Tree)) → sig.subsorts ≡ pairs → HasNoCycle pairs → IsTermOf sig u b → injected b c u ≡ t → matched pairs p u theta ≡ Some new → matched pairs (injection b c p) t theta ≡ Some new
 injection_complete pairs sig b c p (leaf s v) t theta new is none sorted makes e =
     let same : t ≡ inj b c (leaf s v) = sym makes in rw (same, eq-eqb c c refl, eq-eqb b b refl) e

@@ -1,4 +1,5 @@
--- Matching from a substitution without bindings gives just the substitution that makes the patterns the terms.
+-- Matching from a substitution without bindings finds exactly the substitution under which the
+-- patterns become the terms.
 use Rattle.std.proofs.Common.{◌≡◌, ◌↔◌, ◌⊎◌, inl, inr, ℕ, Bool, true, false, List, length, replicate, Option, Some, None, refl, sym, ◌∙◌, ap, ⊎_elim}
 use Rattle.std.specs.Prelude.{IsSome}
 use Rattle.std.proofs.lemmas.List.{length-replicate}
@@ -33,7 +34,7 @@ empty_respects sig variables n x t e = absurd (unbound n x (IsSome-of _ t e))
 empty_extends : (sigma : List (Option Tree)) (n : ℕ) → Extends sigma (empty n)
 empty_extends sigma n x t e = absurd (unbound n x (IsSome-of _ t e))
 
--- what matching finds matches
+-- a substitution that matching finds matches
 pub found_matches : (sig : Signature) (variables sorts : List ℕ) (ps : Patterns) (refs : List SortRef) (ts : Forest) (theta : List (Option Tree)) → HaveSorts sig variables sorts ps refs → AreTermsOf sig sorts ts refs → AreNormal ts → all_matched sig.subsorts ps ts (replicate (length variables) None) ≡ Some theta → MatchAll sig variables ps ts theta
 found_matches sig variables sorts ps refs ts theta h is normal e =
     let found = all_found sig variables sorts ps refs ts (empty (length variables)) theta h is normal (length-replicate (length variables) None) (empty_respects sig variables (length variables)) e in
@@ -49,7 +50,8 @@ found_matches sig variables sorts ps refs ts theta h is normal e =
       makes = found.1;
     }
 
--- a substitution that gives no more than another, and the same variables something, is the other
+-- a substitution whose bindings are all bindings of another one, and that binds the same variables,
+-- is the other one
 same_where_bound : (variables : List ℕ) (ps : Patterns) (theta sigma : List (Option Tree)) → length theta ≡ length variables → length sigma ≡ length variables → Extends sigma theta → ((x : ℕ) → IsSome (binding theta x) ↔ StandsInSome x ps) → ((x : ℕ) → IsSome (binding sigma x) ↔ StandsInSome x ps) → theta ≡ sigma
 same_where_bound variables ps theta sigma room room2 extends just just2 =
     same_bindings theta sigma (room ∙ sym room2) (λ x. at x (binding theta x) (binding sigma x) refl refl) where
@@ -60,7 +62,7 @@ same_where_bound variables ps theta sigma room room2 extends just just2 =
           let there = given (binding theta x) ((just x).1 ((just2 x).0 (IsSome-of _ u d))) in
           absurd (let no : None ≡ Some there.0 = sym e ∙ there.1 in let never : ⊥ = cc in never)
 
--- what matches is found
+-- a substitution that matches is found
 pub match_is_found : (sig : Signature) (variables sorts : List ℕ) (ps : Patterns) (refs : List SortRef) (ts : Forest) (theta : List (Option Tree)) → HasNoCycle sig.subsorts → HaveSorts sig variables sorts ps refs → MatchAll sig variables ps ts theta → all_matched sig.subsorts ps ts (replicate (length variables) None) ≡ Some theta
 match_is_found sig variables sorts ps refs ts theta none h m =
     let found = all_complete sig variables sorts ps refs ts theta (empty (length variables)) none h m.binds.sorted (length-replicate (length variables) None) (empty_extends theta (length variables)) m.makes in
@@ -72,7 +74,7 @@ pub match_is_unique : MatchIsUnique
 match_is_unique sig variables sorts ps refs ts theta sigma none h m k =
     let both : Some theta ≡ Some sigma = sym (match_is_found sig variables sorts ps refs ts theta none h m) ∙ match_is_found sig variables sorts ps refs ts sigma none h k in cc
 
--- where nothing is found nothing matches
+-- if nothing is found, nothing matches
 pub none_found : (sig : Signature) (variables sorts : List ℕ) (ps : Patterns) (refs : List SortRef) (ts : Forest) → HasNoCycle sig.subsorts → HaveSorts sig variables sorts ps refs → all_matched sig.subsorts ps ts (replicate (length variables) None) ≡ None → NoneMatches sig variables ps ts
 none_found sig variables sorts ps refs ts none h e theta m =
     let both : None ≡ Some theta = sym e ∙ match_is_found sig variables sorts ps refs ts theta none h m in cc

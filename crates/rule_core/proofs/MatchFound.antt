@@ -1,4 +1,4 @@
--- What matching binds makes the pattern the term.
+-- With the bindings that matching adds, the pattern becomes the term.
 use Rattle.std.proofs.Common.{◌≡◌, ◌≢◌, ◌<◌, ◌↔◌, ◌⊎◌, inl, inr, ℕ, Bool, true, false, List, [], ◌∷◌, length, set, slice_get, Option, option_map, Some, None, refl, sym, ◌∙◌, ap, subst, ⊎_elim}
 use Rattle.std.specs.Prelude.{IsSome, ◌==◌, ◌&&◌, ◌||◌, if◌then◌else◌}
 use Rattle.std.specs.Option.{option_and_then}
@@ -22,7 +22,7 @@ use Rattle.rule_core.proofs.Belows.{both_true, is_below-true}
 use Rattle.rule_core.proofs.Bindings.{Extends, Extends-refl, Extends-trans, same_or_other, binding-set_same, binding-set_other, IsSome-of}
 use Rattle.rule_core.proofs.SortedInstances.{mapped, both_there}
 
--- what a guarded option came from, and one that was found after another
+-- the sources of a guarded option, and of an option that was found after another
 pub guarded : {A : Type 0} (b : Bool) (o : Option A) (y : A) → (if b then o else None) ≡ Some y → (b ≡ true) × (o ≡ Some y)
 guarded true o y e = (refl, e)
 guarded false o y e = absurd (let no : ⊥ = cc in no)
@@ -31,7 +31,7 @@ pub after : {A B : Type 0} (f : A → Option B) (o : Option A) (y : B) → optio
 after f None y e = absurd (let no : ⊥ = cc in no)
 after f (Some x) y e = (x, (refl, e))
 
--- more bindings leave an instance as it is
+-- more bindings do not change an instance
 mutual
   pub instance_of-extends : (more theta : List (Option Tree)) (p : Pattern) (t : Tree) → Extends more theta → instance_of theta p ≡ Some t → instance_of more p ≡ Some t
   instance_of-extends more theta (variable x) t h e = h x t e
@@ -51,14 +51,15 @@ mutual
       rw (instance_of-extends more theta p parts.0 h parts.1.1.1.0, instances_of-extends more theta ps parts.1.0 h parts.1.1.1.1)
       (ap (λ (us : Forest). Some us) (sym parts.1.1.0))
 
--- what a search that begins with the one substitution and ends with the other did, where these variables stand in the pattern
+-- the effect of a search that begins with `old` and ends with `new`, if these variables occur in
+-- the pattern
 pub record Found (sig : Signature) (variables : List ℕ) (old new : List (Option Tree)) (Stands : ℕ → Type 0) : Type 0 where
   pub extends : Extends new old
   pub room : length new ≡ length variables
   pub sorted : RespectsSorts sig variables new
   pub just : (x : ℕ) → IsSome (binding new x) ↔ (IsSome (binding old x) ⊎ Stands x)
 
--- nothing was bound
+-- no variable was bound
 unchanged : (sig : Signature) (variables : List ℕ) (theta new : List (Option Tree)) (Stands : ℕ → Type 0) → length theta ≡ length variables → RespectsSorts sig variables theta → theta ≡ new → ((x : ℕ) → Stands x → IsSome (binding theta x)) → Found sig variables theta new Stands
 unchanged sig variables theta new Stands room sorted same there =
     let P : List (Option Tree) → Type 0 = λ th. Found sig variables theta th Stands in
@@ -69,7 +70,7 @@ unchanged sig variables theta new Stands room sorted same there =
       just = λ x. (λ h. inl h, λ h. ⊎_elim (λ some. some) (λ stands. there x stands) h);
     })
 
--- a variable may stand for the tree
+-- a variable may be bound to the tree
 abbrev FitsAt : Signature → List ℕ → ℕ → Tree → Type 0
 FitsAt sig variables y u = IsNormal u × ((s : ℕ) × (slice_get variables y ≡ Some s) × IsTermOf sig u s)
 
@@ -116,7 +117,7 @@ bound sig variables theta x t sort at is normal room sorted free = (
     λ h. ⊎_elim (λ some. from_at y some (same_or_other y x)) (λ same. IsSome-of _ t (ap (binding (set theta x (Some t))) same ∙ here)) h,
   )
 
--- a variable is bound, or was bound to the same
+-- a variable is bound now, or was bound to the same tree
 found_variable : (sig : Signature) (variables : List ℕ) (theta new : List (Option Tree)) (x : ℕ) (t : Tree) (sort : ℕ) (o : Option Tree) → slice_get variables x ≡ Some sort → IsTermOf sig t sort → IsNormal t → length theta ≡ length variables → RespectsSorts sig variables theta → binding theta x ≡ o → bound_to t x theta o ≡ Some new → Found sig variables theta new (λ y. y ≡ x) × (binding new x ≡ Some t)
 found_variable sig variables theta new x t sort None at is normal room sorted e found =
     let same : set theta x (Some t) ≡ new = cc in
@@ -134,12 +135,12 @@ found_variable sig variables theta new x t sort (Some u) at is normal room sorte
 some_same : {A : Type 0} (x y : A) → Some x ≡ Some y → x ≡ y
 some_same x y e = cc
 
--- one declaration a symbol
+-- a symbol has one declaration
 pub same_symbol : (sig : Signature) (f g : ℕ) (info other : SymInfo) → f ≡ g → IsSymbol sig f info → IsSymbol sig g other → info ≡ other
 same_symbol sig f g info other same (name, is) (again, at) =
     ap (λ (entry : List ℕ × SymInfo). entry.1) (some_same (name, info) (again, other) (sym is ∙ ap (λ i. slice_get sig.symbols i) same ∙ at))
 
--- what stands for a pattern under an injection, as a term
+-- the tree for a pattern under an injection is a well-sorted term
 lowered_term : (sig : Signature) (a b c : ℕ) (t : Tree) → (a == b || is_below sig.subsorts a b) ≡ true → HasInjection sig → IsTermOf sig t a → IsNoInjection t → IsNormal t → IsTermOf sig (lowered a b t) b × (IsNormal (lowered a b t) × (injected b c (lowered a b t) ≡ inj a c t))
 lowered_term sig a b c t test has is other normal = told (a == b) refl where
   told : (same : Bool) → (a == b) ≡ same → IsTermOf sig (lowered a b t) b × (IsNormal (lowered a b t) × (injected b c (lowered a b t) ≡ inj a c t))

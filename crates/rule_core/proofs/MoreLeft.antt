@@ -1,4 +1,5 @@
--- An evaluation that has a value has it too with more nesting and more calls left, and then leaves as many more calls.
+-- An evaluation that has a value also has it with more nesting and more calls left. Then it leaves
+-- as many more calls.
 use Rattle.std.proofs.Common.{◌≡◌, ℕ, suc, zero, ◌+◌, ◌≤◌, List, Option, arith}
 use Rattle.term_core.specs.Terms.{Tree, Forest}
 use Rattle.term_core.specs.Patterns.{Pattern, Patterns}
@@ -6,13 +7,13 @@ use Rattle.rule_core.specs.Rules.{Equation}
 use Rattle.rule_core.specs.Theories.{RewriteTheory}
 use Rattle.rule_core.specs.Evaluation.{value, blocked, values, Tested, holds, fails, untested, Says, says_true, says_other, says_nothing, Evaluates, bound, itself, made, called, EvaluateAll, none_left, one_more, Applies, by_hook, by_equations, Equates, unmatched, condition_fails, used, Tests, no_condition, condition, EvaluatesIn, inside}
 
--- so many more calls are left
+-- k more calls are left
 abbrev pub with_calls : ℕ → Tested → Tested
 with_calls k (holds c) = holds (c + k)
 with_calls k (fails c) = fails (c + k)
 with_calls k (untested cause) = untested cause
 
--- a condition is told
+-- a condition holds or fails, and is not blocked
 abbrev pub IsTold : Tested → Type 0
 IsTold (holds c) = Unit {0}
 IsTold (fails c) = Unit {0}

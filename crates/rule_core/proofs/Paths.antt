@@ -1,4 +1,4 @@
--- The walk from a sort up to another that it is below.
+-- The walk from a sort up to a sort above it.
 use Rattle.std.proofs.Common.{◌≡◌, ◌≢◌, ℕ, zero, suc, ◌+◌, ◌<◌, ◌≤◌, ◌⊎◌, inl, inr, Contains, Bool, true, false, cond, List, [], ◌∷◌, ◌++◌, length, get_or, eq-eqb, refl, sym, ◌∙◌, ap, subst, arith}
 use Rattle.std.specs.Prelude.{◌==◌, ◌||◌, IsTrue, if◌then◌else◌}
 use Rattle.std.proofs.lemmas.Bool.{false≢true, eqb-true}
@@ -7,7 +7,7 @@ use Rattle.rule_core.specs.SubsortFields.{sort_pairs}
 use Rattle.term_core.specs.declared.ids.SortId.{SortId}
 use Rattle.rule_core.proofs.Belows.{is_below-true, true-is_below, either_true, true_left, true_right, IsBelow-trans}
 
--- the sort is b, or below it
+-- the sort is b, or is below b
 abbrev pub Reaches : List (ℕ × ℕ) → ℕ → ℕ → Type 0
 Reaches pairs a b = (a ≡ b) ⊎ IsBelow pairs a b
 
@@ -19,7 +19,7 @@ leads_first : (pairs : List (ℕ × ℕ)) (from b : ℕ) → IsBelow pairs from 
 leads_first pairs from b (by_pair known) = (b, known, inl refl)
 leads_first pairs from b (by_chain {b = m} known rest) = (m, known, inr rest)
 
--- some pair leads from a sort to each one that it is below
+-- some pair leads from a sort to each sort above it
 pub some_leads : (pairs : List (ℕ × ℕ)) (from b n : ℕ) → IsBelow pairs from b → length pairs ≤ n
     → ((k : ℕ) → k < n → Leads pairs from b (get_or pairs k (0, 0)) → ⊥) → ⊥
 some_leads pairs from b n below all none =
@@ -35,22 +35,22 @@ some_leads pairs from b n below all none =
           let there : get_or pairs k (0, 0) ≡ (from, m) = read pairs k (from, m) (0, 0) lt is in
           none k (omega (arith, lt, all)) (ap (λ (p : ℕ × ℕ). p.0) there, subst (λ (x : ℕ). Reaches pairs x b) (sym (ap (λ (p : ℕ × ℕ). p.1) there)) leads)
 
--- what contracts see of a pair that is kept
+-- the plain pair of a stored pair
 pub entry_seen : (pairs : List (SortId × SortId)) (i : ℕ) (p : SortId × SortId) → i < length pairs → p ≡ get_or pairs i p → get_or (sort_pairs pairs) i (0, 0) ≡ (p.0.0, p.1.0)
 entry_seen [] i p lt is = absurd (omega (arith, lt))
 entry_seen (first ∷ pairs) zero p lt is = ap (λ (q : SortId × SortId). (q.0.0, q.1.0)) (sym is)
 entry_seen (first ∷ pairs) (suc i) p lt is = entry_seen pairs i p (omega (arith, lt)) is
 
--- how many of the pairs pass a test
+-- the number of the pairs that pass a test
 abbrev pub counted : (ℕ × ℕ → Bool) → List (ℕ × ℕ) → ℕ
 counted p [] = 0
 counted p (x ∷ xs) = (if p x then 1 else 0) + counted p xs
 
--- how many pairs go up from the sort or from one above it
+-- the number of the pairs that go up from the sort or from a sort above it
 abbrev pub pairs_above : List (ℕ × ℕ) → ℕ → ℕ
 pairs_above pairs from = counted (λ (p : ℕ × ℕ). from == p.0 || is_below pairs from p.0) pairs
 
--- one more element, of which the second test holds only where the first does
+-- one more element, where the second test holds only if the first one holds
 counted_step : (p q : ℕ × ℕ → Bool) (x : ℕ × ℕ) (xs : List (ℕ × ℕ)) → (q x ≡ true → p x ≡ true) → (t u : Bool) → q x ≡ t → p x ≡ u
     → counted q (x ∷ xs) + counted p xs ≤ counted p (x ∷ xs) + counted q xs
 counted_step p q x xs more false false e f = rw (e, f) (omega arith)
@@ -63,7 +63,7 @@ counted-le p q [] more = omega arith
 counted-le p q (x ∷ xs) more =
     omega (arith, counted-le p q xs more, counted_step p q x xs (more x) (q x) (p x) refl refl)
 
--- a test that holds of fewer, and not of one of them, counts less
+-- a test that is stronger, and fails for one more element, counts less
 counted-less : (p q : ℕ × ℕ → Bool) (xs : List (ℕ × ℕ)) (x : ℕ × ℕ) → ((y : ℕ × ℕ) → q y ≡ true → p y ≡ true) → Contains xs x → p x ≡ true → q x ≡ false → counted q xs < counted p xs
 counted-less p q [] x more (k, lt, is) holds not = absurd (omega (arith, lt))
 counted-less p q (y ∷ xs) x more (zero, lt, is) holds not =
@@ -73,7 +73,7 @@ counted-less p q (y ∷ xs) x more (zero, lt, is) holds not =
 counted-less p q (y ∷ xs) x more (suc k, lt, is) holds not =
     omega (arith, counted-less p q xs x more (k, omega (arith, lt), is) holds not, counted_step p q y xs (more y) (q y) (p y) refl refl)
 
--- each pair on the walk leaves fewer above
+-- each pair of the walk leaves fewer pairs above
 pub pairs_above-less : (pairs : List (ℕ × ℕ)) (from next : ℕ) → HasNoCycle pairs → Contains pairs (from, next) → pairs_above pairs next < pairs_above pairs from
 pairs_above-less pairs from next none pair =
     counted-less _ _ pairs (from, next) more pair (true_left (from == from) _ (eq-eqb from from refl)) no where
@@ -95,7 +95,7 @@ pairs_above-less pairs from next none pair =
       no : (next == from || is_below pairs next from) ≡ false
       no = unless _ refl
 
--- the sorts of a walk so far: the first alone, or a path
+-- the sorts of a walk so far: only the first one, or a path
 abbrev pub IsWalk : List (ℕ × ℕ) → ℕ → ℕ → List ℕ → Type 0
 IsWalk pairs a last sorts = ((last ≡ a) × (sorts ≡ a ∷ [])) ⊎ IsPath pairs a last sorts
 
@@ -116,7 +116,7 @@ IsWalk-append pairs a last next sorts (inl start) pair =
     subst Q (sym start.1) (refl, refl, subst P start.0 pair)
 IsWalk-append pairs a last next sorts (inr path) pair = IsPath-append pairs a last next sorts path pair
 
--- a walk that has come to another sort is a path
+-- a walk that has reached another sort is a path
 pub IsWalk-ends : (pairs : List (ℕ × ℕ)) (a last b : ℕ) (sorts : List ℕ) → HasNoCycle pairs → IsBelow pairs a b → last ≡ b → IsWalk pairs a last sorts → IsPath pairs a b sorts
 IsWalk-ends pairs a last b sorts none below there (inl start) =
     let P : ℕ → Type 0 = λ x. IsBelow pairs a x in

@@ -15,7 +15,7 @@ use Rattle.rule_core.specs.declared.signature.SymInfo.{SymInfo}
 use Rattle.rule_core.specs.declared.signature.SymKind.TheVariants.{Equations}
 use Rattle.rule_core.proofs.MoreLeft.{tests_more}
 
--- the calls that a told condition leaves
+-- the number of calls that a condition leaves, if it is not blocked
 abbrev pub LeavesAtMost : ℕ → Tested → Type 0
 LeavesAtMost c (holds d) = d ≤ c
 LeavesAtMost c (fails d) = d ≤ c
@@ -65,7 +65,7 @@ ConditionRecord theory theta p (holds c) = (o : OptionalRecord) × RecordsCondit
 ConditionRecord theory theta p (fails c) = Unit {0}
 ConditionRecord theory theta p (untested cause) = Unit {0}
 
--- the first of these equations that is used at the terms, with its records
+-- the first of these equations that applies at the terms, with its records
 record EquationRecord (theory : RewriteTheory) (f : ℕ) (es : List Equation) (ts : Forest) (t : Tree) : Type 0 where
   place : ℕ
   equation : Equation
@@ -112,7 +112,8 @@ first_used e es theta match o kept_condition right = record {
   result = right.2;
 }
 
--- a condition that fails with less fails with the calls and the nesting that records are judged with
+-- a condition that fails with less also fails with the calls and the nesting with which records are
+-- judged
 failed_before : {theory : RewriteTheory} {f : ℕ} {ts : Forest} (e : Equation) (theta : List (Option Tree)) (n c d m k : ℕ) → MatchAll theory.sig e.variables e.arguments ts theta → Tests theory n f theta e.condition c (fails d) → n ≤ m → c ≤ k → (left : ℕ) × Tests theory m f theta e.condition k (fails left)
 failed_before {theory} {f} e theta n c d m k match test le few =
     let whole : c + (k - c) ≡ k = omega arith in

@@ -1,4 +1,4 @@
--- A record of a pattern tells an evaluation of it, with some nesting and some calls left.
+-- A record of a pattern describes an evaluation of it, with some nesting and some calls left.
 use Rattle.std.proofs.Common.{◌≡◌, ℕ, suc, zero, ◌+◌, ◌<◌, ◌≤◌, ⊎_elim, List, [], ◌∷◌, Option, Some, refl, subst, slice_get, arith}
 use Rattle.term_core.specs.Terms.{Tree, leaf, Forest, more_trees}
 use Rattle.term_core.specs.Patterns.{Pattern, Patterns, call, more_patterns}
@@ -11,7 +11,7 @@ use Rattle.rule_core.specs.Records.{Record, RecordList, no_record, more_records,
 use Rattle.rule_core.specs.Records as kept
 use Rattle.rule_core.proofs.MoreLeft.{evaluates_more, all_more, equates_more, tests_more}
 
--- with some nesting and some calls, this is the value
+-- with some nesting and some calls left, it holds
 abbrev pub Somehow : (ℕ → ℕ → ℕ → Type 0) → Type 0
 Somehow P = (n : ℕ) × (c : ℕ) × (d : ℕ) × P n c d
 
@@ -35,7 +35,7 @@ one_more_somehow theory theta p ps t ts first others =
     let swap : others.1 + first.2 ≡ first.2 + others.1 = omega arith in
     (n, first.1 + others.1, others.2 + first.2, one_more e (subst (λ c. EvaluateAll theory n theta ps c (values ts (others.2 + first.2))) swap all))
 
--- a call, by what its arguments are and what the function gives there
+-- a call, from its arguments and the result of the function
 called_somehow : (theory : RewriteTheory) (theta : List (Option Tree)) (f : ℕ) (sorts : List ℕ) (ps : Patterns) (ts : Forest) (t : Tree) (m c d : ℕ) → Somehow (ValuesBy theory theta ps ts) → ((n k : ℕ) → m ≤ n → Applies theory n f ts (c + k) (value t (d + k))) → Somehow (ValueBy theory theta (call f sorts ps) t)
 called_somehow theory theta f sorts ps ts t m c d all applied =
     let n : ℕ = m + all.0 in
@@ -64,7 +64,7 @@ used_somehow theory f e es ts theta t match test right =
     let swap : right.1 + test.2 ≡ test.2 + right.1 = omega arith in
     (n, test.1 + right.1, right.2 + test.2, used match tested (subst (λ k. EvaluatesIn theory n f theta e.right k (value t (right.2 + test.2))) swap there))
 
--- from the equation that is used back to the first
+-- from the equation that applies back to the first one
 equated_somehow : (theory : RewriteTheory) (f : ℕ) (es : List Equation) (ts : Forest) (t : Tree) (i : ℕ) (e : Equation) → slice_get es i ≡ Some e → ((j : ℕ) (other : Equation) → j < i → slice_get es j ≡ Some other → IsUnused theory f other ts) → ((rest : List Equation) → Somehow (EquatedBy theory f (e ∷ rest) ts t)) → Somehow (EquatedBy theory f es ts t)
 equated_somehow theory f [] ts t i e there earlier from = let no : ⊥ = cc in absurd no
 equated_somehow theory f (x ∷ es) ts t zero e there earlier from =

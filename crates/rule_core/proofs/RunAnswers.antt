@@ -1,4 +1,5 @@
--- Steps and runs have an outcome, their configurations are well-sorted, and a record of a step tells where it leads.
+-- Steps and runs have an outcome, their configurations are well-sorted, and a record of a step
+-- determines the next term.
 use Rattle.std.proofs.Common.{◌≡◌, ℕ, suc, zero, ◌+◌, ◌<◌, ◌≤◌, inl, ⊎_elim, List, [], ◌∷◌, Option, Some, None, refl, sym, ◌∙◌, ap, subst, slice_get, arith}
 use Rattle.std.specs.Prelude.{All, IfSome}
 use Rattle.term_core.specs.Terms.{Tree, Forest, no_tree, more_trees, height, heights}
@@ -101,7 +102,8 @@ serves_start theory start sort h = record {
 start_answer : (theory : RewriteTheory) → IsWellSorted theory → (calls sort : ℕ) (start : Pattern) → HasSort theory.sig [] start sort → (r : Evaluated) × Evaluates theory most_nesting [] start calls r × IsGood theory.sig sort r
 start_answer theory good calls sort start h = (answers theory good most_nesting).0 [] [] start sort calls h (serves_start theory start sort h)
 
--- the run goes on by this step, where each configuration after it has a run with less to the limit
+-- the run continues with this step, if each configuration after it has a run with less left to the
+-- limit
 run_by : (theory : RewriteTheory) (limit calls sort : ℕ) (start : Pattern) (n : ℕ) (t : Tree) (c : ℕ) → Reaches theory start calls n t c → n < limit → (s : Stepped) → Steps theory t c s → IsGoodStep theory sort s → ((u : Tree) (d : ℕ) → Reaches theory start calls (suc n) u d → IsGoodTree theory.sig u sort → (r : Run) × IsRunOf theory limit calls start r) → (r : Run) × IsRunOf theory limit calls start r
 run_by theory limit calls sort start n t c r lt (next u d) step fine later = later u d (after_step r step) fine
 run_by theory limit calls sort start n t c r lt stays step fine later = (stuck n t, (c, r, lt, step))
@@ -133,7 +135,7 @@ configurations_are_sorted theory good calls sort start each h (after_step {c = c
 
 -- ---- records of steps
 
--- a condition does not both hold and fail, whatever is left
+-- a condition cannot both hold and fail, however much is left
 not_both : (theory : RewriteTheory) → IsWellSorted theory → (theta : List (Option Tree)) (p : Option Pattern) (c d k e : ℕ) → Meets theory theta p c (holds d) → Meets theory theta p k (fails e) → ⊥
 not_both theory good theta None c d k e holding failing = elim failing [ ]
 not_both theory good theta (Some p) c d k e (condition {e = value t m} a (says_true is)) (condition {e = value u n} b (says_other other)) =
@@ -141,7 +143,7 @@ not_both theory good theta (Some p) c d k e (condition {e = value t m} a (says_t
 not_both theory good theta (Some p) c d k e (condition {e = value t m} a (says_true is)) (condition {e = blocked cause} b says) = elim says [ ]
 not_both theory good theta (Some p) c d k e (condition {e = blocked cause} a says) failing = elim says [ ]
 
--- .. nor fail where it has a record
+-- a condition that has a record cannot fail
 not_recorded : (theory : RewriteTheory) → IsWellSorted theory → (theta : List (Option Tree)) (p : Option Pattern) (k e : ℕ) (o : OptionalRecord) → RecordsCondition theory theta p o → Meets theory theta p k (fails e) → ⊥
 not_recorded theory good theta p k e unconditional w test = no_failure (subst (λ q. Meets theory theta q k (fails e)) w test) where
   no_failure : Meets theory theta None k (fails e) → ⊥
@@ -153,7 +155,7 @@ not_recorded theory good theta p k e (conditional r) w test = failed (subst (λ 
       other (subst IsTrueValue (values_agree theory good theta w.0 (result_of r) u told.0 told.1 told.2 most_nesting k n told.3 b) w.3)
   failed (condition {e = blocked cause} b says) = elim says [ ]
 
--- the rule that is used is the one that the record names
+-- the rule that is used is the one in the record
 same_rule : (theory : RewriteTheory) → IsWellSorted theory → (t : Tree) (rule : RewriteRule) (theta : List (Option Tree)) (step : StepRecord) → (w : RecordsStep theory t step) → {i d : ℕ} → (a : Applied theory t 0 i d theory.rules rule theta) → a.place ≡ step.rule
 same_rule theory good t rule theta step w {i} {d} a =
     let once = rules_match_once theory good in

@@ -1,4 +1,4 @@
--- A step and a run have one outcome, in well-sorted theories.
+-- A step and a run have one outcome in well-sorted theories.
 use Rattle.std.proofs.Common.{◌≡◌, ℕ, suc, zero, ◌+◌, ◌<◌, ◌≤◌, ⊎_elim, List, [], ◌∷◌, Option, refl, sym, ap, subst, arith}
 use Rattle.std.specs.Prelude.{All}
 use Rattle.std.proofs.Math.Nat.{eq-or-lt_of_le}
@@ -16,7 +16,7 @@ use Rattle.rule_core.proofs.EvaluationUnique.{AllMatchOnce, all_first, all_rest,
 use Rattle.rule_core.proofs.MatchExact.{match_is_unique}
 use Rattle.rule_core.proofs.Determined.{all_match_once}
 
--- a substitution that matches a rule with a term is the only one
+-- only one substitution matches a rule with a term
 abbrev pub RuleMatchesOnce : RewriteTheory → RewriteRule → Type 0
 RuleMatchesOnce theory rule = (t : Tree) (theta sigma : List (Option Tree)) → Matches theory rule t theta → Matches theory rule t sigma → theta ≡ sigma
 
@@ -87,7 +87,7 @@ trial_is_unique theory t c r s good a b = tries_unique theory (all_match_once th
 
 -- ---- steps
 
--- what comes of a step, by what comes of the trial
+-- the outcome of a step, by the outcome of the trial
 pub data After (theory : RewriteTheory) : Trial → Stepped → Type 0 where
   after_right : {i d e : ℕ} {rule : RewriteRule} {theta : List (Option Tree)} {u : Tree} → Evaluates theory most_nesting theta rule.right d (value u e) → After theory (applies i rule theta d) (next u e)
   after_none : After theory none_applies stays
@@ -147,13 +147,13 @@ starts : {theory : RewriteTheory} {start : Pattern} {calls n c : ℕ} {t : Tree}
 starts (at_start {t = t} {c = c} e) = (t, c, e)
 starts (after_step r s) = starts r
 
--- a run that goes on passes each place, by a step
+-- a run that continues passes each earlier configuration by a step
 passes : {theory : RewriteTheory} {start : Pattern} {calls : ℕ} (m n : ℕ) {d : ℕ} {u : Tree} → Reaches theory start calls m u d → n < m → (w : Tree) × (e : ℕ) × Before theory start calls n w e
 passes zero n r lt = absurd (omega arith)
 passes (suc m) n {d} {u} r lt =
     ⊎_elim (λ (same : n ≡ m). rw same (u, d, before r)) (λ (less : n < m). passes m n (before r).reached less) (eq-or-lt_of_le (omega arith))
 
--- a configuration is the last one: the limit is reached, or no step leads on
+-- a configuration is the last one: the limit is reached, or there is no next one
 record Last (theory : RewriteTheory) (limit : ℕ) (start : Pattern) (calls n : ℕ) (t : Tree) (c : ℕ) : Type 0 where
   reached : Reaches theory start calls n t c
   within : n ≤ limit

@@ -1,4 +1,4 @@
--- What a search that began without bindings says.
+-- The result of a search that began without bindings.
 use Rattle.std.proofs.Common.{◌≡◌, ℕ, List, length, replicate, Option, Some, None, refl, sym, subst}
 use Rattle.term_core.specs.Terms.{Tree, Forest, no_tree, more_trees, AreNormal}
 use Rattle.term_core.specs.Patterns.{Pattern, Patterns, no_pattern, more_patterns}
@@ -19,7 +19,7 @@ search_failed pairs count ps ts none e = λ sig variables sorts refs is len h so
     let P : List (ℕ × ℕ) → Type 0 = HasNoCycle in
     none_found sig variables sorts ps refs ts (subst P (sym is) none) h (moved pairs sig.subsorts count (length variables) ps ts None is len e)
 
--- one pattern is a list of one
+-- one pattern is a list with one pattern
 pub one_found : (pairs : List (ℕ × ℕ)) (p : Pattern) (t : Tree) (theta : List (Option Tree)) (found : Option (List (Option Tree))) → matched pairs p t theta ≡ found → all_matched pairs (more_patterns p no_pattern) (more_trees t no_tree) theta ≡ found
 one_found pairs p t theta None e = rw e refl
 one_found pairs p t theta (Some new) e = rw e refl

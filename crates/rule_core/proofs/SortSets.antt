@@ -9,7 +9,7 @@ use Rattle.std.specs.Global.{Global}
 use Rattle.rule_core.specs.SubsortFields.{sort_pairs, pairs_of, has, set_at, is_in, reaches, IsClosed, IsTable}
 use Rattle.rule_core.specs.declared.subsorts.Subsorts.TheInside.{Inside}
 
--- the set that an entry holds
+-- the set in an entry
 pub set_at_entry : (sets : List (Vec ℕ Global)) (x : ℕ) (d : Vec ℕ Global) → x < length sets → set_at sets x ≡ (get_or sets x d).items
 set_at_entry [] x d lt = absurd (omega (arith, lt))
 set_at_entry (first ∷ sets) zero d lt = refl
@@ -38,7 +38,7 @@ set_at_push [] new (suc z) none = refl
 set_at_push (first ∷ sets) new zero none = refl
 set_at_push (first ∷ sets) new (suc z) none = set_at_push sets new z none
 
--- a number is that one, or another
+-- a number equals another one, or does not
 abbrev either : (z x : ℕ) → Type 0
 either z x = (z ≡ x) ⊎ (z ≢ x)
 
@@ -51,7 +51,7 @@ same_or_not (suc z) (suc x) = more (same_or_not z x) where
   more (inl e) = inl (ap suc e)
   more (inr n) = inr (λ e. n (omega (arith, e)))
 
--- what a set has, after the set with the number x has become one that has this
+-- the members of the sets, after the set with the number x has been replaced
 pub is_in_set : (sets : List (Vec ℕ Global)) (x : ℕ) (new : Vec ℕ Global) (P : ℕ → ℕ → Bool → Type 0) → x < length sets
     → ((y : ℕ) → P x y (has new.items y)) → ((z y : ℕ) → z ≢ x → P z y (is_in sets z y)) → (z y : ℕ) → P z y (is_in (set sets x new) z y)
 is_in_set sets x new P lt at_x others z y = by_case (same_or_not z x) where
@@ -64,12 +64,12 @@ is_in_set sets x new P lt at_x others z y = by_case (same_or_not z x) where
       let R : List ℕ → Type 0 = λ s. P z y (has s y) in
       subst R (sym (set_at_set_other sets x z new n)) (others z y n)
 
--- the same sets as before, where the changed one has the same sorts
+-- the sets do not change, if the replaced one has the same members
 pub is_in_same : (sets : List (Vec ℕ Global)) (x : ℕ) (new : Vec ℕ Global) → x < length sets → ((y : ℕ) → has new.items y ≡ is_in sets x y) → (z y : ℕ) → is_in (set sets x new) z y ≡ is_in sets z y
 is_in_same sets x new lt same =
     is_in_set sets x new (λ z y known. known ≡ is_in sets z y) lt same (λ z y n. refl)
 
--- what holds already where two others do is no more with them
+-- adding a case that holds already changes nothing
 nothing_if : (u v w : Bool) → (IsTrue v → IsTrue w → IsTrue u) → u ≡ (u || (v && w))
 nothing_if true v w h = refl
 nothing_if false false w h = refl
@@ -79,7 +79,7 @@ nothing_if false true true h = h refl refl
 same_reaches : (sets init : List (Vec ℕ Global)) (x a : ℕ) → is_in sets x a ≡ is_in init x a → reaches init x a ≡ reaches sets x a
 same_reaches sets init x a same = ap (λ b. (x == a) || b) (sym same)
 
--- sets are long enough up to the next number, where this one has been made so
+-- the sets are long enough up to the next number, if this one has been made long enough
 pub long_next : (sets new init : List (Vec ℕ Global)) (x a len : ℕ) → len ≤ length (set_at new x) → ((z : ℕ) → z ≢ x → set_at new z ≡ set_at sets z)
     → ((z : ℕ) → z < x → IsTrue (reaches init z a) → len ≤ length (set_at sets z)) → (z : ℕ) → z < x + 1 → IsTrue (reaches init z a) → len ≤ length (set_at new z)
 long_next sets new init x a len long others before z lt leads = by_case (same_or_not z x) where
@@ -92,7 +92,7 @@ long_next sets new init x a len long others before z lt leads = by_case (same_or
       let Q : List ℕ → Type 0 = λ s. len ≤ length s in
       subst Q (sym (others z n)) (before z (below n) leads)
 
--- .. or where it need not be
+-- or if this one does not have to be long enough
 pub long_still : (sets init : List (Vec ℕ Global)) (x a len : ℕ) → is_in sets x a ≡ is_in init x a → reaches sets x a ≡ false
     → ((z : ℕ) → z < x → IsTrue (reaches init z a) → len ≤ length (set_at sets z)) → (z : ℕ) → z < x + 1 → IsTrue (reaches init z a) → len ≤ length (set_at sets z)
 long_still sets init x a len same not before z lt leads = by_case (same_or_not z x) where
@@ -105,7 +105,7 @@ long_still sets init x a len same not before z lt leads = by_case (same_or_not z
       absurd (false≢true (sym not ∙ sym (same_reaches sets init x a same) ∙ subst Q e leads))
   by_case (inr n) = before z (below n) leads
 
--- sets have got more sorts up to the next number, where this one has got them
+-- the sets have got the new sorts up to the next number, if this one has got them
 pub merged_next : (sets new init : List (Vec ℕ Global)) (x a : ℕ) (more : List ℕ) → set_at sets x ≡ set_at init x → reaches sets x a ≡ true
     → ((y : ℕ) → is_in new x y ≡ (is_in sets x y || has more y)) → ((z : ℕ) → z ≢ x → set_at new z ≡ set_at sets z)
     → ((z y : ℕ) → z < x → is_in sets z y ≡ (is_in init z y || (reaches init z a && has more y)))
@@ -128,7 +128,7 @@ pub known_before : (sets init : List (Vec ℕ Global)) (x a b : ℕ) → set_at 
 known_before sets init x a b same known leads =
     ap (λ s. has s b) (sym same) ∙ known (sym (same_reaches sets init x a (ap (λ s. has s a) same)) ∙ leads)
 
--- .. or where it gets nothing new
+-- or if this one gets nothing new
 pub merged_still : (sets init : List (Vec ℕ Global)) (x a : ℕ) (more : List ℕ) → set_at sets x ≡ set_at init x
     → ((y : ℕ) → IsTrue (reaches init x a) → IsTrue (has more y) → IsTrue (is_in init x y))
     → ((z y : ℕ) → z < x → is_in sets z y ≡ (is_in init z y || (reaches init z a && has more y)))
@@ -144,14 +144,14 @@ merged_still sets init x a more same known before z y lt = by_case (same_or_not 
   by_case (inl e) = subst Wanted (sym e) (ap (λ s. has s y) same ∙ nothing_if _ _ _ (known y))
   by_case (inr n) = before z y (below n)
 
--- a set that has b gets nothing new with b and what its set has
+-- a set that contains b gets nothing new from b and the set of b
 pub nothing_new : (sets : List (Vec ℕ Global)) (x b y : ℕ) → IsClosed sets → IsTrue (is_in sets x b) → IsTrue (b == y || is_in sets b y) → IsTrue (is_in sets x y)
 nothing_new sets x b y closed leads more = by_case (either_true _ _ more) where
   by_case : ((b == y) ≡ true) ⊎ (is_in sets b y ≡ true) → is_in sets x y ≡ true
   by_case (inl t) = let P : ℕ → Type 0 = λ n. is_in sets x n ≡ true in subst P (eqb-true b y t) leads
   by_case (inr t) = closed x b y leads t
 
--- .. and a set that leads to one that has b has it
+-- if the set of a contains b, then so does each set that leads to a
 pub joined_already : (sets : List (Vec ℕ Global)) (a b : ℕ) → IsClosed sets → IsTrue (is_in sets a b)
     → (x y : ℕ) → is_in sets x y ≡ (is_in sets x y || (reaches sets x a && (b == y || is_in sets b y)))
 joined_already sets a b closed known x y = nothing_if _ _ _ (λ leads. nothing_new sets x b y closed (below (either_true _ _ leads))) where
@@ -159,7 +159,7 @@ joined_already sets a b closed known x y = nothing_if _ _ _ (λ leads. nothing_n
   below (inl t) = let P : ℕ → Type 0 = λ n. is_in sets n b ≡ true in subst P (sym (eqb-true x a t)) known
   below (inr t) = closed x a b t known
 
--- the sets have got b and what its set has, where they lead to a
+-- the sets that lead to a have got b and the sorts of its set
 pub joined_from : (init sets merged : List (Vec ℕ Global)) (a b : ℕ) (more : List ℕ) → ((x y : ℕ) → is_in sets x y ≡ is_in init x y)
     → ((y : ℕ) → has more y ≡ (b == y || is_in init b y)) → ((x y : ℕ) → is_in merged x y ≡ (is_in sets x y || (reaches sets x a && has more y)))
     → (x y : ℕ) → is_in merged x y ≡ (is_in init x y || (reaches init x a && (b == y || is_in init b y)))
@@ -168,7 +168,8 @@ joined_from init sets merged a b more same upper got x y =
     ∙ ap (λ u. is_in init x y || ((x == a || u) && has more y)) (same x a)
     ∙ ap (λ u. is_in init x y || (reaches init x a && u)) (upper y)
 
--- the sets above each sort, after those that lead to a have got b and what is above b
+-- the sets of the sorts above each sort, after those that lead to a have got b and the sorts above
+-- b
 pub chains_more : (pairs : List (ℕ × ℕ)) (a b : ℕ) (sets merged : List (Vec ℕ Global)) → ((x y : ℕ) → is_in sets x y ≡ is_below pairs x y)
     → ((x y : ℕ) → is_in merged x y ≡ (is_in sets x y || (reaches sets x a && (b == y || is_in sets b y))))
     → (x y : ℕ) → is_in merged x y ≡ is_below (pairs ++ (a, b) ∷ []) x y
@@ -178,7 +179,7 @@ chains_more pairs a b sets merged known got x y =
     ∙ ap (λ u. is_below pairs x y || ((x == a || is_below pairs x a) && (b == y || u))) (known b y)
     ∙ sym (below_last pairs (a, b) x y)
 
--- tables that agree with the pairs still do, where their sets have the same sorts
+-- tables that agree with the pairs still agree, if their sets have the same members
 pub table_same : (t u : Inside) → u.pairs.items ≡ t.pairs.items → ((x y : ℕ) → is_in u.above.items x y ≡ is_in t.above.items x y)
     → ((x y : ℕ) → is_in u.direct.items x y ≡ is_in t.direct.items x y) → IsTable t → IsTable u
 table_same t u pairs above direct table =
@@ -191,12 +192,12 @@ table_same t u pairs above direct table =
       no_cycle = subst HasNoCycle (sym kept) table.no_cycle;
     }
 
--- what is above is closed
+-- the sets of the sorts above each sort are closed
 pub chains_closed : (pairs : List (ℕ × ℕ)) (sets : List (Vec ℕ Global)) → ((x y : ℕ) → is_in sets x y ≡ is_below pairs x y) → IsClosed sets
 chains_closed pairs sets known x y z one other =
     known x z ∙ true-is_below pairs x z (IsBelow-trans pairs x y z (is_below-true pairs x y (sym (known x y) ∙ one)) (is_below-true pairs y z (sym (known y z) ∙ other)))
 
--- the sets right above each sort, after that of a has got b
+-- the sets of the sorts directly above each sort, after the set of a has got b
 pub single_more : (pairs : List (ℕ × ℕ)) (a b : ℕ) (sets : List (Vec ℕ Global)) (new : Vec ℕ Global) → a < length sets
     → ((x y : ℕ) → IsTrue (is_in sets x y) ↔ Contains pairs (x, y)) → ((y : ℕ) → has new.items y ≡ (b == y || is_in sets a y))
     → (x y : ℕ) → IsTrue (is_in (set sets a new) x y) ↔ Contains (pairs ++ (a, b) ∷ []) (x, y)

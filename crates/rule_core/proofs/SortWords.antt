@@ -11,7 +11,7 @@ use Rattle.std.proofs.lemmas.Grind.{get_or-set_at}
 use Rattle.std.proofs.lemmas.Nat.Bits.{bit_at_or, bit_at-lt, bit_at_set_same, bit_at_set_other}
 use Rattle.rule_core.specs.SubsortFields.{word_at, has}
 
--- the greater of two bits is set where one of them is
+-- the greater of two bits is 1 if and only if one of them is 1
 greater_bit : (x y : ℕ) → x < 2 → y < 2 → (max x y == 1) ≡ (x == 1 || y == 1)
 greater_bit zero zero p q = refl
 greater_bit zero (suc zero) p q = refl
@@ -20,7 +20,7 @@ greater_bit (suc zero) (suc zero) p q = refl
 greater_bit (suc (suc x)) y p q = absurd (omega (arith, p))
 greater_bit x (suc (suc y)) p q = absurd (omega (arith, q))
 
--- the words of the set are those of the two others, joined
+-- if the words of a set are the joined words of two others, its members are theirs
 pub has_joined : (all one other : List ℕ) → ((k : ℕ) → word_at all k ≡ bit_or (word_at one k) (word_at other k)) → (y : ℕ) → has all y ≡ (has one y || has other y)
 has_joined all one other words y =
     rw (words (y / 64), bit_at_or (word_at one (y / 64)) (word_at other (y / 64)) (y % 64)) (greater_bit _ _ (bit_at-lt _ (y % 64)) (bit_at-lt _ (y % 64)))
@@ -28,7 +28,8 @@ has_joined all one other words y =
 pub joined_none : (one other : ℕ) → other ≡ 0 → one ≡ bit_or one other
 joined_none one other none = rw none (sym (or_zero_r one))
 
--- words are joined that were joined up to an index, from which on the other set has none
+-- all words are joined, if they are joined up to an index and the other set has only zeros from
+-- there on
 pub joined_words : (all one other : List ℕ) (i : ℕ) → ((k : ℕ) → k < i → word_at all k ≡ bit_or (word_at one k) (word_at other k)) → ((k : ℕ) → i ≤ k → word_at all k ≡ word_at one k)
     → ((k : ℕ) → i ≤ k → word_at other k ≡ 0) → (k : ℕ) → word_at all k ≡ bit_or (word_at one k) (word_at other k)
 joined_words all one other i done rest none k = by_case (cases_lt k i) where
@@ -36,7 +37,7 @@ joined_words all one other i done rest none k = by_case (cases_lt k i) where
   by_case (inl lt) = done k lt
   by_case (inr le) = rest k le ∙ joined_none _ _ (none k le)
 
--- a set that has got one sort
+-- a set to which one sort was added
 pub has_inserted : (old : List ℕ) (b word y : ℕ) → b / 64 < length old → word ≡ word_at old (b / 64) → has (set old (b / 64) (bit_or word (1 * 2 ^ (b % 64) % 2 ^ 64))) y ≡ (b == y || has old y)
 has_inserted old b word y lt read = by_sort (eqb_tells b y) where
   new : ℕ

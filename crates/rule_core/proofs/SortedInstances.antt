@@ -38,12 +38,12 @@ sorted_use_first sig variables sorts ps refs h x stands = all_use_first sig vari
 
 -- ---- instances
 
--- what an option that was mapped came from
+-- the source of a mapped option
 pub mapped : {A B : Type 0} (f : A → B) (o : Option A) (y : B) → option_map f o ≡ Some y → (x : A) × ((o ≡ Some x) × (f x ≡ y))
 mapped f None y e = absurd (let no : ⊥ = cc in no)
 mapped f (Some x) y e = (x, (refl, cc))
 
--- trees that are there come from a first one and the others
+-- trees that exist have a first one and the others
 pub both_there : (o : Option Tree) (os : Option Forest) (ts : Forest) → with_first o os ≡ Some ts → (t : Tree) × ((us : Forest) × ((ts ≡ more_trees t us) × ((o ≡ Some t) × (os ≡ Some us))))
 both_there None os ts e = absurd (let no : ⊥ = cc in no)
 both_there (Some t) None ts e = absurd (let no : ⊥ = cc in no)

@@ -1,4 +1,4 @@
--- The numbers and the names of a table after a new name has come, and the entry that a number names.
+-- The numbers and the names of a table after a new name is added, and the entry with a number.
 use Rattle.std.proofs.Common.{◌≡◌, ℕ, ◌+◌, List, [], ◌∷◌, ◌++◌, length, Bool, true, false, cond, is_some, Option, Some, None, refl, sym, slice_get, suc, ◌∙◌, ap, ◌≢◌, arith, add-zero}
 use Rattle.std.specs.List.{position_from}
 use Rattle.std.specs.Str.{bytes_eq}
@@ -36,7 +36,7 @@ from {V = V} (e ∷ es) i k v q h =
     let o = not_found e es i k h in
     step e k q i (i + length (e ∷ es)) _ _ (bytes_eq q e.0) (bytes_eq k q) refl refl o.0 (from es (i + 1) k v q o.1 ∙ ap (λ n. cond (bytes_eq k q) (Some n) (position_from (λ (e' : List ℕ × V). bytes_eq q e'.0) (i + 1) es)) (omega arith))
 
--- the number of each name after a new name has come
+-- the number of each name after a new name is added
 pub number_of-push : {V : Type 0} (es : List (List ℕ × V)) (k : List ℕ) (v : V) (q : List ℕ) → number_of es k ≡ None → number_of (es ++ (k, v) ∷ []) q ≡ cond (bytes_eq k q) (Some (length es)) (number_of es q)
 number_of-push es k v q h = from es 0 k v q h ∙ ap (λ n. cond (bytes_eq k q) (Some n) (number_of es q)) (omega arith)
 
@@ -44,14 +44,15 @@ none_is : (o : Option ℕ) → is_some o ≡ false → o ≡ None
 none_is None h = refl
 none_is (Some n) h = absurd (false≢true (sym h))
 
--- a map that had just the numbers of the old names, and got the new name's number, has just the numbers of all names
+-- if a map has exactly the numbers of the old names, then with the new name's number it has exactly
+-- the numbers of all names
 pub indexed-push : {V : Type 0} (f g : List ℕ → Option ℕ) (es new : List (List ℕ × V)) (k : List ℕ) (v : V) (n : ℕ) → ((q : List ℕ) → f q ≡ number_of es q)
     → is_some (number_of es k) ≡ false → n ≡ length es → ((q : List ℕ) → g q ≡ cond (bytes_eq k q) (Some n) (f q)) → new ≡ es ++ (k, v) ∷ [] → (q : List ℕ) → g q ≡ number_of new q
 indexed-push f g es new k v n had absent size got grown q =
     got q ∙ ap (λ o. cond (bytes_eq k q) (Some n) o) (had q) ∙ ap (λ m. cond (bytes_eq k q) (Some m) (number_of es q)) size
     ∙ sym (number_of-push es k v q (none_is _ absent)) ∙ ap (λ xs. number_of xs q) (sym grown)
 
--- names that differ stay so where one comes that is none of them
+-- different names stay different when a name is added that is none of them
 IsNoneOf-push : (name : List ℕ) (others : List (List ℕ)) (new : List ℕ) → IsNoneOf name others → name ≢ new → IsNoneOf name (others ++ new ∷ [])
 IsNoneOf-push name [] new all last = (last, tt)
 IsNoneOf-push name (other ∷ others) new all last = (all.0, IsNoneOf-push name others new all.1 last)
@@ -78,7 +79,7 @@ found : {V : Type 0} (es : List (List ℕ × V)) (i : ℕ) (k : List ℕ) (j : �
 found [] i k j h = absurd (let z : ⊥ = cc in z)
 found (e ∷ es) i k j h = found_at e es i k j (bytes_eq k e.0) refl h (found es (i + 1) k j)
 
--- the entry with the number of a name is under that name
+-- the entry with the number of a name has that name
 pub number_of-entry : {V : Type 0} (es : List (List ℕ × V)) (k : List ℕ) (i : ℕ) → number_of es k ≡ Some i → (v : V) × (slice_get es i ≡ Some (k, v))
 number_of-entry es k i h = let p = found es 0 k i h in
     let same : i ≡ p.0 = omega (arith, p.1.0) in

@@ -13,7 +13,7 @@ use Rattle.rule_core.specs.declared.signature.SymKind.TheVariants.{Equations, Cl
 not_given : (x : ℕ) → binding [] x ≡ None
 not_given x = refl
 
--- no pattern becomes no tree
+-- the empty list of patterns matches the empty list of trees
 pub match_nothing : (sig : Signature) → MatchAll sig [] no_pattern no_tree []
 match_nothing sig = record {
   binds = record {
@@ -27,7 +27,7 @@ match_nothing sig = record {
 pub defined_not_closed : (k : SymKind) → k ≡ Equations → k ≡ Closed → ⊥
 defined_not_closed k a b = let e : Closed ≡ Equations = sym b ∙ a in cc
 
--- the function, by the one equation that it has
+-- the function, which has one equation
 called_once : (sig : Signature) (k c : ℕ) (right : Pattern) (r : Evaluated) → Declares sig 0 Equations [] 0 → EvaluatesIn (defined_by sig (always right ∷ [])) k 0 [] right c r → Evaluates (defined_by sig (always right ∷ [])) (suc k) [] (call 0 [] no_pattern) (suc c) r
 called_once sig k c right r d e = called none_left (by_equations d.there d.of_kind (used (match_nothing sig) no_condition e))
 

@@ -13,11 +13,11 @@ use Rattle.rule_core.specs.declared.signature.Signature.{Signature}
 use Rattle.rule_core.specs.declared.signature.SymKind.{SymKind}
 use Rattle.rule_core.specs.declared.signature.SymKind.TheVariants.{Hooked, Closed}
 
--- the sort of what a declared symbol makes
+-- the result sort of a declared symbol
 pub declared_result : {sig : Signature} {f : ℕ} {is : SymKind} {arguments : List ℕ} {result : ℕ} (d : Declares sig f is arguments result) → sort_at [] d.info.result ≡ Some result
 declared_result d = ap (sort_at []) d.makes
 
--- a function with a hook has values
+-- a function with a hook is not closed
 pub hooked_not_closed : (k : SymKind) (row : ℕ) → k ≡ hook row → k ≡ Closed → ⊥
 hooked_not_closed k row a b = let e : Closed ≡ Hooked (record { 0 = row }) = sym b ∙ a in cc
 

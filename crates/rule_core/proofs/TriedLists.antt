@@ -22,7 +22,7 @@ nothing = node 1 no_tree
 abbrev item : Tree
 item = node 3 no_tree
 
--- the constructor on terms of the sorts that it takes
+-- the constructor on terms of its argument sorts
 constructed : (sig : Signature) (f result : ℕ) (arguments : List ℕ) (ts : Forest) → Declares sig f Ctor arguments result → HaveSorts sig [] [] (ground_patterns ts) (map named arguments) → IsTermOf sig (node f ts) result
 constructed sig f result arguments ts d of = (d.info, d.there, d.of_kind, declared_result d, subst (λ refs. HaveSorts sig [] [] (ground_patterns ts) refs) (sym d.takes) of)
 
@@ -36,14 +36,14 @@ one_is_list : (sig : Signature) → DeclaresLists sig → IsTermOf sig one_item_
 one_is_list sig d =
     constructed sig 2 1 (0 ∷ (1 ∷ [])) (more_trees item (one_tree nothing)) d.more (0, refl, item_is_item sig d, (1, refl, empty_is_list sig d, tt))
 
--- the first equation, on an empty list and this one
+-- the first equation matches an empty list and this list
 match_empty : (sig : Signature) → DeclaresLists sig → MatchAll sig (1 ∷ []) (two (application 1 no_pattern) (variable 0)) (more_trees nothing (one_tree one_item_tree)) (Some one_item_tree ∷ [])
 match_empty sig d =
     match_one sig 1 (two (application 1 no_pattern) (variable 0)) (more_trees nothing (one_tree one_item_tree)) one_item_tree
     (λ x s. ⊎_elim (λ (no : ⊥). absurd no) (λ (a : (x ≡ 0) ⊎ ⊥). ⊎_elim (λ (e : x ≡ 0). e) (λ (no : ⊥). absurd no) a) s)
     (inr (inl refl)) (tt, (tt, tt)) (one_is_list sig d) refl
 
--- it does not match where the first list has an item
+-- it does not match if the first list has an item
 first_unmatched : (sig : Signature) (us : Forest) → IsUnmatchedBy (appending sig) append_empty (more_trees one_item_tree us)
 first_unmatched sig us theta m =
     let parts = both_there (Some nothing) (instances_of theta (one (variable 0))) (more_trees one_item_tree us) m.makes in
@@ -84,7 +84,7 @@ match_items sig d = record {
   sorted_there (suc (suc zero)) t b = let k : Some one_item_tree ≡ Some t = b in let same : one_item_tree ≡ t = cc in rw (sym same) ((tt, (tt, tt)), (1, refl, one_is_list sig d))
   sorted_there (suc (suc (suc x))) t b = let k : None ≡ Some t = b in let no : ⊥ = cc in absurd no
 
--- a list of one item is itself
+-- a list with one item is its own value
 one_item_value : {theory : RewriteTheory} {k c : ℕ} {theta : List (Option Tree)} → Evaluates theory (suc (suc k)) theta one_item c (value one_item_tree c)
 one_item_value = made of_constructor (one_more (made of_constructor none_left refl (omega arith)) (one_more (made of_constructor none_left refl (omega arith)) none_left)) refl (omega arith)
 

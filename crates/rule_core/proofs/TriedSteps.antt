@@ -17,7 +17,7 @@ use Rattle.rule_core.specs.declared.signature.Signature.{Signature}
 use Rattle.rule_core.proofs.HookRanges.{short_range}
 use Rattle.rule_core.proofs.TriedIntegers.{hook_gives, hook_has_none, hooked_not_closed}
 
--- a pattern with one variable matches, by what stands for it
+-- a pattern with one variable matches, by the term of the variable
 pub match_one : (sig : Signature) (sort : ℕ) (ps : Patterns) (ts : Forest) (u : Tree) → ((x : ℕ) → StandsInSome x ps → x ≡ 0) → StandsInSome 0 ps → IsNormal u → IsTermOf sig u sort → instances_of (Some u ∷ []) ps ≡ Some ts → MatchAll sig (sort ∷ []) ps ts (Some u ∷ [])
 match_one sig sort ps ts u only there normal of e = record {
   binds = record { room = refl; just = λ x. (given x, λ s. bound_there x (only x s)); sorted = sorted_there };

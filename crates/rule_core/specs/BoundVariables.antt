@@ -1,5 +1,5 @@
--- Programs whose variables are bound: each variable of a rule stands in its left side, and each variable of an equation
--- in its arguments. What is matched gives each of them a term then.
+-- Programs whose variables are bound: each variable of a rule occurs in its left side, and each
+-- variable of an equation occurs in its arguments. So a match binds each variable to a term.
 use Rattle.std.specs.Prelude.{◌≡◌, ◌⊎◌, ◌+◌, ◌<◌, ◌≤◌, ◌^◌, ℕ, length, Some, Vec, slice_get}
 use Rattle.std.specs.Global.{Global}
 use Rattle.term_core.specs.RulePatterns.{plain_pattern}
@@ -9,20 +9,21 @@ use Rattle.rule_core.specs.declared.rules.Rule.{Rule}
 use Rattle.rule_core.specs.declared.rules.Equation.{Equation}
 use Rattle.rule_core.specs.declared.rules.Program.{Program}
 
--- each variable of the rule stands in its left side, and has a number of 32 bits
+-- each variable of the rule occurs in its left side, and its number fits in 32 bits
 pub record IsBoundRule (r : Rule) : Type 0 where
   pub few : length r.vars.items < 2 ^ 32
   pub each : (x : ℕ) → x < length r.vars.items → StandsIn x (plain_pattern r.left)
 
--- The equation is one of the function f, and each of its variables stands in its arguments. It has no parameters, or
--- one for each argument; they and the variables can be numbered with 32 bits together.
+-- The equation is one of the function f, and each of its variables occurs in its arguments. It has
+-- no parameters, or one for each argument. The parameters and the variables together can be
+-- numbered with 32 bits.
 pub record IsBoundEquation (f : ℕ) (e : Equation) : Type 0 where
   pub own : e.fun.0 ≡ f
   pub parameters : (e.params ≡ 0) ⊎ (e.params ≡ length e.args.items)
   pub few : e.params + length e.vars.items ≤ 2 ^ 32
   pub each : (x : ℕ) → x < length e.vars.items → StandsInSome x (plain_patterns e.args.items)
 
--- the equation is the one with this number among those of the function f
+-- the equation is the one with this number among the equations of the function f
 abbrev pub IsEquationAt : Program → ℕ → ℕ → Equation → Type 0
 IsEquationAt program f i e =
     (es : Vec Equation Global) × (slice_get program.equations.items f ≡ Some es) × (slice_get es.items i ≡ Some e)

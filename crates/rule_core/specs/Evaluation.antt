@@ -1,6 +1,6 @@
--- Evaluation of patterns under a substitution, innermost and from left to right (K framework, "Functions"; Rosu 2017),
--- as a big-step semantics. It is bounded by the calls of functions that are left, by the nesting that is left, and by
--- the height of terms.
+-- Evaluation of patterns under a substitution, innermost and from left to right (K framework,
+-- "Functions"; Rosu 2017), as a big-step semantics. Three things bound it: the calls of functions
+-- that are left, the nesting that is left, and the height of terms.
 use Rattle.std.specs.Prelude.{◌≡◌, ◌≢◌, ◌≤◌, ◌<◌, ℕ, suc, true, List, [], ◌∷◌, Option, Some, None}
 use Rattle.term_core.specs.Terms.{Tree, leaf, node, Forest, no_tree, more_trees, height, truth, injected, DomainValue}
 use Rattle.term_core.specs.Patterns.{Pattern, Patterns, variable, domain_value, application, injection, call, no_pattern, more_patterns, binding}
@@ -14,8 +14,8 @@ use Rattle.rule_core.specs.declared.signature.SymInfo.{SymInfo}
 use Rattle.rule_core.specs.declared.signature.SymKind.TheVariants.{Injection, Equations, Closed}
 use Rattle.term_core.specs.declared.values.NoValue.{NoValue}
 
--- why there is no term: the hook with this number has no value; nothing gives the function's values; no equation is
--- used; no call, no height, or no nesting is left for the symbol
+-- why there is no term: the hook with this number has no value; nothing defines the function; no
+-- equation applies; no call, no height, or no nesting is left for the symbol
 pub data Cause : Type 0 where
   no_value : ℕ → NoValue → Cause
   closed : ℕ → Cause
@@ -24,7 +24,7 @@ pub data Cause : Type 0 where
   too_high : ℕ → Cause
   too_nested : ℕ → Cause
 
--- a term and the calls that are left, or why there is none
+-- a term and the number of calls that are left, or the reason why there is no term
 pub data Evaluated : Type 0 where
   value : Tree → ℕ → Evaluated
   blocked : Cause → Evaluated
@@ -33,7 +33,7 @@ pub data AllEvaluated : Type 0 where
   values : Forest → ℕ → AllEvaluated
   stopped : Cause → AllEvaluated
 
--- a condition holds or fails, and leaves so many calls, or it is blocked
+-- a condition holds or fails, with the number of calls that are left, or it is blocked
 pub data Tested : Type 0 where
   holds : ℕ → Tested
   fails : ℕ → Tested
@@ -54,15 +54,15 @@ pub record IsInjectionSymbol (sig : Signature) (f : ℕ) : Type 0 where
   pub injects : info.kind ≡ Injection
   pub first : (g : ℕ) (other : SymInfo) → g < f → IsSymbol sig g other → other.kind ≢ Injection
 
--- The symbol and the arguments of a node that is no variable and no value. An injection's symbol is the injection
--- symbol.
+-- The symbol and the arguments of a node that is neither a variable nor a value. The symbol of an
+-- injection is the injection symbol.
 pub data HasHead (theory : RewriteTheory) : Pattern → ℕ → Patterns → Type 0 where
   of_constructor : {f : ℕ} {ps : Patterns} → HasHead theory (application f ps) f ps
   of_injection : {a b f : ℕ} {p : Pattern} → IsInjectionSymbol theory.sig f →
       HasHead theory (injection a b p) f (more_patterns p no_pattern)
   of_call : {f : ℕ} {sorts : List ℕ} {ps : Patterns} → HasHead theory (call f sorts ps) f ps
 
--- the normal term that a constructor or an injection makes of its arguments' values
+-- the normal term that a constructor or an injection builds from the values of its arguments
 abbrev pub built : Pattern → Forest → Option Tree
 built (variable x) ts = None
 built (domain_value s v) ts = None
@@ -72,7 +72,7 @@ built (injection a b p) (more_trees t no_tree) = Some (injected a b t)
 built (injection a b p) (more_trees t (more_trees u ts)) = None
 built (call f sorts ps) ts = None
 
--- what the value of a condition says
+-- the meaning of the value of a condition
 pub data Says : Evaluated → Tested → Type 0 where
   says_true : {c : ℕ} {t : Tree} → IsTrueValue t → Says (value t c) (holds c)
   says_other : {c : ℕ} {t : Tree} → (IsTrueValue t → ⊥) → Says (value t c) (fails c)
@@ -83,7 +83,7 @@ abbrev pub IsUnmatchedBy : RewriteTheory → Equation → Forest → Type 0
 IsUnmatchedBy theory e ts = NoneMatches theory.sig e.variables e.arguments ts
 
 mutual
-  -- with so much nesting and so many calls left, the pattern evaluates so under the substitution
+  -- with this nesting and this many calls left, the pattern has this outcome under the substitution
   pub data Evaluates (theory : RewriteTheory) : ℕ → List (Option Tree) → Pattern → ℕ → Evaluated → Type 0 where
     bound : {n c x : ℕ} {theta : List (Option Tree)} {t : Tree} → binding theta x ≡ Some t →
         Evaluates theory n theta (variable x) c (value t c)
@@ -102,7 +102,7 @@ mutual
     called : {n c d f : ℕ} {theta : List (Option Tree)} {sorts : List ℕ} {ps : Patterns} {ts : Forest} {e : Evaluated} → EvaluateAll theory n theta ps c (values ts d) →
         Applies theory n f ts d e → Evaluates theory (suc n) theta (call f sorts ps) c e
 
-  -- so do the patterns, one after another
+  -- the same for the patterns, one after another
   pub data EvaluateAll (theory : RewriteTheory) : ℕ → List (Option Tree) → Patterns → ℕ → AllEvaluated → Type 0 where
     none_left : {n c : ℕ} {theta : List (Option Tree)} → EvaluateAll theory n theta no_pattern c (values no_tree c)
     first_blocked : {n c : ℕ} {theta : List (Option Tree)} {p : Pattern} {ps : Patterns} {cause : Cause} →
@@ -116,7 +116,8 @@ mutual
         EvaluateAll theory n theta ps d (values ts e) →
         EvaluateAll theory n theta (more_patterns p ps) c (values (more_trees t ts) e)
 
-  -- the function, at these terms, has this value: a call is taken, but of a function whose values nothing gives
+  -- The function has this outcome at these terms. This takes one call, unless nothing defines the
+  -- function.
   pub data Applies (theory : RewriteTheory) : ℕ → ℕ → Forest → ℕ → Evaluated → Type 0 where
     by_nothing : {n f c : ℕ} {ts : Forest} {info : SymInfo} → IsSymbol theory.sig f info → info.kind ≡ Closed →
         Applies theory n f ts c (blocked (closed f))
@@ -132,8 +133,8 @@ mutual
         info.kind ≡ Equations →
         Equates theory n f (equations_of theory f) ts c e → Applies theory n f ts (suc c) e
 
-  -- The first of these equations that matches and whose condition holds gives the value: that of its right side. Calls
-  -- that a condition took stay taken.
+  -- The value is that of the right side of the first of these equations that matches and whose
+  -- condition holds. The calls that a condition takes are not available to later conditions.
   pub data Equates (theory : RewriteTheory) : ℕ → ℕ → List Equation → Forest → ℕ → Evaluated → Type 0 where
     no_equation_left : {n f c : ℕ} {ts : Forest} → Equates theory n f [] ts c (blocked (no_equation f))
     unmatched : {n f c : ℕ} {ts : Forest} {e : Equation} {es : List Equation} {r : Evaluated} →
@@ -147,13 +148,13 @@ mutual
         Tests theory n f theta e.condition c (holds d) → EvaluatesIn theory n f theta e.right d r →
         Equates theory n f (e ∷ es) ts c r
 
-  -- the condition of an equation of this function, where it has one
+  -- the condition of an equation of this function, if it has one
   pub data Tests (theory : RewriteTheory) : ℕ → ℕ → List (Option Tree) → Option Pattern → ℕ → Tested → Type 0 where
     no_condition : {n f c : ℕ} {theta : List (Option Tree)} → Tests theory n f theta None c (holds c)
     condition : {n f c : ℕ} {theta : List (Option Tree)} {p : Pattern} {e : Evaluated} {r : Tested} →
         EvaluatesIn theory n f theta p c e → Says e r → Tests theory n f theta (Some p) c r
 
-  -- a condition or a right side of an equation of this function, which takes one of the nesting
+  -- a condition or a right side of an equation of this function, which takes one level of nesting
   pub data EvaluatesIn (theory : RewriteTheory) : ℕ → ℕ → List (Option Tree) → Pattern → ℕ → Evaluated → Type 0 where
     no_nesting : {f c : ℕ} {theta : List (Option Tree)} {p : Pattern} →
         EvaluatesIn theory 0 f theta p c (blocked (too_nested f))

@@ -1,5 +1,6 @@
--- Small theories, with what the definitions say of evaluations and steps there. A theory is told by what its signature
--- declares: each case is one of every signature that declares that.
+-- Small theories, with the evaluations and steps that the definitions give there. A theory is
+-- described by the declarations of its signature. Each case holds for every signature with these
+-- declarations.
 use Rattle.std.specs.Prelude.{◌≡◌, ◌-◌, ◌^◌, ℕ, ℤ, pos, negsuc, List, [], ◌∷◌, slice_get, Some, None, map}
 use Rattle.term_core.specs.Terms.{integer, text, Tree, leaf, node, inj, Forest, no_tree, more_trees, height}
 use Rattle.term_core.specs.Patterns.{Pattern, Patterns, variable, domain_value, application, injection, call, no_pattern, more_patterns}
@@ -25,7 +26,7 @@ use Rattle.rule_core.specs.declared.signature.SymKind.TheVariants.{Ctor, Equatio
 abbrev pub named : ℕ → SortRef
 named s = Sort (record { 0 = s })
 
--- the symbol with this number is of this kind, takes terms of these sorts and makes one of that sort
+-- the symbol with this number has this kind, these argument sorts and this result sort
 pub record Declares (sig : Signature) (f : ℕ) (is : SymKind) (arguments : List ℕ) (result : ℕ) : Type 0 where
   pub info : SymInfo
   pub there : IsSymbol sig f info
@@ -56,7 +57,7 @@ tree_number z = leaf 0 (integer z)
 abbrev pub one_tree : Tree → Forest
 one_tree t = more_trees t no_tree
 
--- ---- whole numbers: the sort 0, functions with hooks, one whose values nothing gives, and the constructor n
+-- ---- whole numbers: the sort 0, functions with hooks, an undefined one, and the constructor n
 
 pub record DeclaresIntegers (sig : Signature) : Type 0 where
   pub sort : IsOfIntegers sig 0
@@ -71,7 +72,7 @@ pub record DeclaresIntegers (sig : Signature) : Type 0 where
 abbrev pub binary : ℕ → ℤ → ℤ → Pattern
 binary f x y = call f [] (two (number x) (number y))
 
--- the constructor with the number 7, on a number
+-- the constructor with the number 7, applied to a number
 abbrev pub n : Pattern → Pattern
 n p = application 7 (one p)
 
@@ -81,7 +82,7 @@ tree_n z = node 7 (one_tree (tree_number z))
 abbrev pub without_rules : Signature → RewriteTheory
 without_rules sig = record { sig = sig; rules = []; equations = [] }
 
--- the pattern, without variables, evaluates so with so many calls left
+-- the pattern, which has no variables, has this outcome with this many calls left
 abbrev pub Gives : RewriteTheory → Pattern → ℕ → Evaluated → Type 0
 Gives theory p calls r = Evaluates theory most_nesting [] p calls r
 
@@ -123,7 +124,7 @@ always right = record {
 abbrev pub defined_by : Signature → List Equation → RewriteTheory
 defined_by sig es = record { sig = sig; rules = []; equations = es ∷ [] }
 
--- the function is called with so much nesting and so many calls left
+-- the call of the function has this outcome, with this nesting and this many calls left
 abbrev pub Calls : Signature → List Equation → ℕ → ℕ → Evaluated → Type 0
 Calls sig es nesting calls r = Evaluates (defined_by sig es) nesting [] (call 0 [] no_pattern) calls r
 
@@ -159,11 +160,11 @@ greater p q = call 5 [] (two p q)
 abbrev pub with_rules : Signature → List RewriteRule → RewriteTheory
 with_rules sig rules = record { sig = sig; rules = rules; equations = [] }
 
--- above 10 it goes to the constructor 9, below 10 to the constructor 10
+-- above 10 the step leads to the constructor 9, below 10 to the constructor 10
 abbrev pub by_size : Signature → RewriteTheory
 by_size sig = with_rules sig (when (greater (variable 0) (number (pos 10))) 9 ∷ (when (greater (number (pos 10)) (variable 0)) 10 ∷ []))
 
--- .. with another first condition, which divides by the number
+-- the same with another first condition, which divides by the number
 abbrev pub by_quotient : Signature → RewriteTheory
 by_quotient sig = with_rules sig (when (greater (call 1 [] (two (number (pos 1)) (variable 0))) (number (pos 0))) 9 ∷ (when (greater (number (pos 10)) (variable 0)) 10 ∷ []))
 
@@ -185,7 +186,8 @@ pub record DeclaresInjections (sig : Signature) : Type 0 where
   pub symbol : IsInjectionSymbol sig 0
   pub below : IsBelow sig.subsorts 0 1
 
--- what the constructor 1 holds, of the sort 1 in the sort 3, is moved to the constructor 2, in the sort 2
+-- the argument of the constructor 1, of the sort 1 in the sort 3, is moved to the constructor 2, in
+-- the sort 2
 abbrev pub moves : RewriteRule
 moves = record {
   left = application 1 (one (injection 1 3 (variable 0)));
@@ -200,8 +202,8 @@ pub record TriedInjections (sig : Signature) : Type 0 where
   pub joined : Gives (without_rules sig) (injection 1 2 (injection 0 1 (number (pos 5)))) 0 (value (inj 0 2 (tree_number (pos 5))) 0)
   pub moved : Steps (with_rules sig (moves ∷ [])) (node 1 (one_tree (inj 0 3 (tree_number (pos 5))))) 0 (next (node 2 (one_tree (inj 0 2 (tree_number (pos 5))))) 0)
 
--- ---- lists: the constructors 1 (empty) and 2 (an item in front), and the function 0, which appends, in the sort 1;
--- the item 3
+-- ---- lists: the constructors 1 (empty) and 2 (an item followed by a list), and the function 0,
+-- which appends, in the sort 1; the item 3
 
 pub record DeclaresLists (sig : Signature) : Type 0 where
   pub append : Declares sig 0 Equations (1 ∷ (1 ∷ [])) 1
@@ -209,7 +211,7 @@ pub record DeclaresLists (sig : Signature) : Type 0 where
   pub more : Declares sig 2 Ctor (0 ∷ (1 ∷ [])) 1
   pub item : Declares sig 3 Ctor [] 0
 
--- nothing in front of a list is the list
+-- the empty list followed by a list is that list
 abbrev pub append_empty : Equation
 append_empty = record {
   parameters = 2;
@@ -221,7 +223,7 @@ append_empty = record {
   place = 0;
 }
 
--- an item and a list in front of another one are the item in front of both lists
+-- an item and a list, followed by another list, are the item followed by both lists
 abbrev pub append_more : Equation
 append_more = record {
   parameters = 2;
@@ -239,7 +241,7 @@ appending sig = defined_by sig (append_empty ∷ (append_more ∷ []))
 abbrev pub empty_list : Pattern
 empty_list = application 1 no_pattern
 
--- the item in front of nothing
+-- the list that has only the item
 abbrev pub one_item : Pattern
 one_item = application 2 (two (application 3 no_pattern) empty_list)
 

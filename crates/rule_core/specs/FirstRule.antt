@@ -1,5 +1,5 @@
--- The first rule that applies to a term (K framework, "Rules"): rules are tried in their order, and the calls that are
--- left go from one condition to the next.
+-- The first rule that applies to a term (K framework, "Rules"). Rules are tried in their order. The
+-- calls that one condition leaves are available to the next.
 use Rattle.std.specs.Prelude.{ℕ, ◌+◌, List, [], ◌∷◌, Option, Some, None}
 use Rattle.term_core.specs.Terms.{Tree, no_tree, more_trees}
 use Rattle.term_core.specs.Patterns.{Pattern, no_pattern, more_patterns}
@@ -12,27 +12,27 @@ use Rattle.rule_core.specs.Evaluation.{Cause, Evaluated, Tested, holds, fails, u
 abbrev pub most_nesting : ℕ
 most_nesting = 2000
 
--- a substitution matches the left side with the term
+-- the substitution matches the left side with the term
 abbrev pub Matches : RewriteTheory → RewriteRule → Tree → List (Option Tree) → Type 0
 Matches theory rule t theta = MatchAll theory.sig rule.variables (more_patterns rule.left no_pattern) (more_trees t no_tree) theta
 
 abbrev pub IsUnmatched : RewriteTheory → RewriteRule → Tree → Type 0
 IsUnmatched theory rule t = NoneMatches theory.sig rule.variables (more_patterns rule.left no_pattern) (more_trees t no_tree)
 
--- the condition of a rule, where it has one
+-- the condition of a rule, if it has one
 pub data Meets (theory : RewriteTheory) (theta : List (Option Tree)) : Option Pattern → ℕ → Tested → Type 0 where
   no_condition : {c : ℕ} → Meets theory theta None c (holds c)
   condition : {c : ℕ} {p : Pattern} {e : Evaluated} {r : Tested} → Evaluates theory most_nesting theta p c e →
       Says e r → Meets theory theta (Some p) c r
 
--- what comes of trying rules: the rule at a place applies with this substitution, and so many calls are left; none
--- applies; or a condition that is reached is blocked
+-- the outcome of trying rules: the rule with this number applies with this substitution, and this
+-- many calls are left; or none applies; or a condition that is reached is blocked
 pub data Trial : Type 0 where
   applies : ℕ → RewriteRule → List (Option Tree) → ℕ → Trial
   none_applies : Trial
   trial_blocked : Cause → Trial
 
--- the rules, of which the first stands at this place, are tried so on a term
+-- the outcome of trying these rules on a term, where this is the number of the first one
 pub data Tries (theory : RewriteTheory) (t : Tree) : ℕ → List RewriteRule → ℕ → Trial → Type 0 where
   no_rule_left : {i c : ℕ} → Tries theory t i [] c none_applies
   unmatched : {i c : ℕ} {rule : RewriteRule} {rules : List RewriteRule} {r : Trial} → IsUnmatched theory rule t →

@@ -1,4 +1,4 @@
--- Laws of matching and of instances, in signatures in which no sort is below itself.
+-- Laws of matching and of instances, in signatures where no sort is below itself.
 use Rattle.std.specs.Prelude.{◌≡◌, ℕ, List, [], length, Option, Some, ◌⊎◌}
 use Rattle.term_core.specs.Terms.{Tree, Forest, AreNormal}
 use Rattle.term_core.specs.Patterns.{Patterns, instances_of, ground_patterns}
@@ -12,13 +12,14 @@ use Rattle.rule_core.specs.declared.signature.SortRef.{SortRef}
 abbrev pub AreTermsOf : Signature → List ℕ → Forest → List SortRef → Type 0
 AreTermsOf sig sorts ts refs = HaveSorts sig [] sorts (ground_patterns ts) refs
 
--- Well-sorted patterns use no variables but those that have a sort.
+-- Well-sorted patterns use only variables that have a sort.
 abbrev pub SortedUseFirst : Type 0
 SortedUseFirst =
     (sig : Signature) (variables sorts : List ℕ) (ps : Patterns) (refs : List SortRef) →
     HaveSorts sig variables sorts ps refs → UseFirst (length variables) ps
 
--- The instances of well-sorted patterns under normal terms of the right sorts are normal terms of these sorts.
+-- The instances of well-sorted patterns under normal terms of the right sorts are normal terms of
+-- the patterns' sorts.
 abbrev pub InstancesAreSorted : Type 0
 InstancesAreSorted =
     (sig : Signature) (variables sorts : List ℕ) (ps : Patterns) (refs : List SortRef) (theta : List (Option Tree)) (ts : Forest) → HaveSorts sig variables sorts ps refs →
@@ -30,7 +31,7 @@ MatchIsUnique =
     (sig : Signature) (variables sorts : List ℕ) (ps : Patterns) (refs : List SortRef) (ts : Forest) (theta sigma : List (Option Tree)) → HasNoCycle sig.subsorts → HaveSorts sig variables sorts ps refs →
     MatchAll sig variables ps ts theta → MatchAll sig variables ps ts sigma → theta ≡ sigma
 
--- Whether one does can be decided, for normal terms of the patterns' sorts.
+-- It is decidable whether there is one, for normal terms of the patterns' sorts.
 abbrev pub MatchIsDecidable : Type 0
 MatchIsDecidable =
     (sig : Signature) (variables sorts : List ℕ) (ps : Patterns) (refs : List SortRef) (ts : Forest) →

@@ -1,5 +1,5 @@
--- What a search for a matching substitution answers, in each signature in which the patterns and the terms are
--- well-sorted.
+-- The result of a search for a matching substitution, in each signature in which the patterns and
+-- the terms are well-sorted.
 use Rattle.std.specs.Prelude.{◌≡◌, ◌+◌, ℕ, List, [], length, Option, MatchOption}
 use Rattle.term_core.specs.Terms.{Tree, Forest}
 use Rattle.term_core.specs.Patterns.{Pattern, Patterns, variable, domain_value, application, injection, call, no_pattern, more_patterns, ground_patterns}
@@ -8,8 +8,9 @@ use Rattle.rule_core.specs.Matching.{MatchAll, NoneMatches}
 use Rattle.rule_core.specs.declared.signature.Signature.{Signature}
 use Rattle.rule_core.specs.declared.signature.SortRef.{SortRef}
 
--- Where a signature has these pairs of subsorts, and gives so many variables sorts so that the patterns and the terms
--- have the same ones: the substitution that was found matches, and none does where none was found.
+-- It holds in each signature with these pairs of subsorts, and for each choice of sorts for this
+-- many variables such that the patterns and the terms have the same sorts. If a substitution was
+-- found, it matches. If none was found, none matches.
 abbrev pub FindsMatch : List (ℕ × ℕ) → ℕ → Patterns → Forest → Option (List (Option Tree)) → Type 0
 FindsMatch pairs count ps ts found =
     (sig : Signature) (variables sorts : List ℕ) (refs : List SortRef) → sig.subsorts ≡ pairs →
@@ -17,7 +18,8 @@ FindsMatch pairs count ps ts found =
     HaveSorts sig [] sorts (ground_patterns ts) refs →
     MatchOption found (NoneMatches sig variables ps ts) (MatchAll sig variables ps ts)
 
--- how many values, constructors, injections and calls a pattern has: each of them costs at most one look at the term
+-- how many values, constructors, injections and calls a pattern has; each of them costs at most one
+-- look at the term
 abbrev mutual
   pub nodes : Pattern → ℕ
   nodes (variable x) = 0

@@ -1,4 +1,5 @@
--- Matching as private functions do it: they take the term apart, and bind variables on top of what is bound.
+-- Matching as the private functions do it. They take the term apart, and add bindings to the
+-- current ones.
 use Rattle.std.specs.Prelude.{◌≡◌, ◌==◌, ◌&&◌, ◌||◌, if◌then◌else◌, ℕ, Bool, true, false, List, [], ◌∷◌, slice_set, Option, Some, None}
 use Rattle.std.specs.Option.{option_and_then}
 use Rattle.rule_core.specs.Subsorts.{is_below}
@@ -6,16 +7,18 @@ use Rattle.term_core.specs.Terms.{Tree, leaf, node, inj, Forest, no_tree, more_t
 use Rattle.term_core.specs.TreeTest.{tree_eq}
 use Rattle.term_core.specs.Patterns.{Pattern, Patterns, variable, domain_value, application, injection, call, no_pattern, more_patterns, binding}
 
--- what stands for a variable of the sort b under an injection, where the term injects this tree from the sort a
+-- the tree to bind to a variable of the sort b under an injection, if the term injects this tree
+-- from the sort a
 abbrev pub lowered : ℕ → ℕ → Tree → Tree
 lowered a b t = if a == b then t else inj a b t
 
--- the substitution, once the variable, which it gives this, stands for the tree; none where it stands for another
+-- the substitution after the variable is bound to the tree, given its current binding; none if it
+-- is bound to another tree
 abbrev pub bound_to : Tree → ℕ → List (Option Tree) → Option Tree → Option (List (Option Tree))
 bound_to t x theta None = Some (slice_set theta x (Some t))
 bound_to t x theta (Some u) = if tree_eq u t then Some theta else None
 
--- the substitution, with the variables that matching binds; none where nothing matches
+-- the substitution with the bindings that matching adds; none if there is no match
 abbrev mutual
   pub matched : List (ℕ × ℕ) → Pattern → Tree → List (Option Tree) → Option (List (Option Tree))
   matched pairs (variable x) t theta = bound_to t x theta (binding theta x)
@@ -35,7 +38,7 @@ abbrev mutual
   all_matched pairs (more_patterns p ps) no_tree theta = None
   all_matched pairs (more_patterns p ps) (more_trees t ts) theta = option_and_then (all_matched pairs ps ts) (matched pairs p t theta)
 
--- a search answers what it found: the substitution is this one, or there is none
+-- the result of a search agrees with what is found: the substitution is this one, or there is none
 abbrev pub Answers : Option (List (Option Tree)) → Bool → List (Option Tree) → Type 0
 Answers found true theta = found ≡ Some theta
 Answers found false theta = found ≡ None

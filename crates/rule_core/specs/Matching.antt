@@ -1,12 +1,13 @@
--- Matching by substitution (Kore language document, "Patterns"). A substitution matches a pattern with a term where the
--- pattern becomes the term under it. The definition guesses the substitution; the code takes the term apart.
+-- Matching by substitution (Kore language document, "Patterns"). A substitution matches a pattern
+-- with a term if the pattern becomes the term under it. The definition quantifies over
+-- substitutions. The code takes the term apart instead.
 use Rattle.std.specs.Prelude.{◌≡◌, ◌↔◌, ◌<◌, ℕ, List, length, slice_get, Option, Some, IsSome, ◌⊎◌}
 use Rattle.term_core.specs.Terms.{Tree, Forest, no_tree, more_trees, IsNormal}
 use Rattle.term_core.specs.Patterns.{Pattern, Patterns, variable, domain_value, application, injection, call, no_pattern, more_patterns, binding, instances_of}
 use Rattle.rule_core.specs.Sorting.{IsTermOf}
 use Rattle.rule_core.specs.declared.signature.Signature.{Signature}
 
--- the variable stands in the pattern
+-- the variable occurs in the pattern
 abbrev mutual
   pub StandsIn : ℕ → Pattern → Type 0
   StandsIn x (variable y) = x ≡ y
@@ -19,31 +20,32 @@ abbrev mutual
   StandsInSome x no_pattern = ⊥
   StandsInSome x (more_patterns p ps) = StandsIn x p ⊎ StandsInSome x ps
 
--- the first variables, so many, are all that stand in the patterns
+-- only the first n variables occur in the patterns
 abbrev pub UseFirst : ℕ → Patterns → Type 0
 UseFirst n ps = (x : ℕ) → StandsInSome x ps → x < n
 
--- the substitution gives variables normal terms of their sorts
+-- each variable that the substitution binds is bound to a normal term of the variable's sort
 abbrev pub RespectsSorts : Signature → List ℕ → List (Option Tree) → Type 0
 RespectsSorts sig variables theta =
     (x : ℕ) (t : Tree) → binding theta x ≡ Some t → IsNormal t × ((sort : ℕ) × (slice_get variables x ≡ Some sort)
     × IsTermOf sig t sort)
 
--- the substitution gives just the variables that stand in the patterns each a normal term of its sort
+-- the substitution binds exactly the variables that occur in the patterns, each to a normal term of
+-- the variable's sort
 pub record Binds (sig : Signature) (variables : List ℕ) (ps : Patterns) (theta : List (Option Tree)) : Type 0 where
   pub room : length theta ≡ length variables
   pub just : (x : ℕ) → IsSome (binding theta x) ↔ StandsInSome x ps
   pub sorted : RespectsSorts sig variables theta
 
--- such a substitution makes the patterns the terms, in order
+-- under such a substitution the patterns become the terms, in order
 pub record MatchAll (sig : Signature) (variables : List ℕ) (ps : Patterns) (ts : Forest) (theta : List (Option Tree)) : Type 0 where
   pub binds : Binds sig variables ps theta
   pub makes : instances_of theta ps ≡ Some ts
 
--- such a substitution makes the pattern the term
+-- under such a substitution the pattern becomes the term
 abbrev pub MatchesTerm : Signature → List ℕ → Pattern → Tree → List (Option Tree) → Type 0
 MatchesTerm sig variables p t theta = MatchAll sig variables (more_patterns p no_pattern) (more_trees t no_tree) theta
 
--- no substitution makes the patterns the terms
+-- under no substitution do the patterns become the terms
 abbrev pub NoneMatches : Signature → List ℕ → Patterns → Forest → Type 0
 NoneMatches sig variables ps ts = (theta : List (Option Tree)) → MatchAll sig variables ps ts theta → ⊥

@@ -3,7 +3,7 @@ use Rattle.std.specs.Prelude.{ℕ, ◌≢◌, List, [], ◌∷◌, Option, map}
 use Rattle.std.specs.List.{position_from}
 use Rattle.std.specs.Str.{bytes_eq}
 
--- the number of a name: the place of the first entry under it
+-- the number of a name: the position of the first entry with this name
 abbrev pub number_of : {V : Type 0} → List (List ℕ × V) → List ℕ → Option ℕ
 number_of {V} entries name = position_from (λ (e : List ℕ × V). bytes_eq name e.0) 0 entries
 
@@ -11,12 +11,12 @@ number_of {V} entries name = position_from (λ (e : List ℕ × V). bytes_eq nam
 abbrev pub names_of : {V : Type 0} → List (List ℕ × V) → List (List ℕ)
 names_of entries = map (λ e. e.0) entries
 
--- a name is none of these
+-- the name is not the name of any of these
 abbrev pub IsNoneOf : List ℕ → List (List ℕ) → Type 0
 IsNoneOf name [] = Unit {0}
 IsNoneOf name (other ∷ others) = (name ≢ other) × IsNoneOf name others
 
--- no name stands twice
+-- no name occurs twice
 abbrev pub AreDistinct : List (List ℕ) → Type 0
 AreDistinct [] = Unit {0}
 AreDistinct (name ∷ names) = IsNoneOf name names × AreDistinct names

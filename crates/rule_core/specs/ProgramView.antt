@@ -1,4 +1,4 @@
--- The theory that a program of the code stands for.
+-- The theory that represents a program of the code.
 use Rattle.std.specs.Prelude.{ℕ, List, Vec, map, option_map}
 use Rattle.std.specs.Global.{Global}
 use Rattle.term_core.specs.RulePatterns.{plain_pattern}
@@ -39,7 +39,7 @@ function_equation e = record {
   place = e.at;
 }
 
--- the equations of each symbol, by its number
+-- the equations of each symbol, indexed by its number
 abbrev pub function_equations : List (Vec Equation Global) → List (List plain.Equation)
 function_equations lists = map (λ (es : Vec Equation Global). map function_equation es.items) lists
 

@@ -1,4 +1,4 @@
--- The plain records that the records of the code stand for.
+-- The plain records that represent the records of the code.
 use Rattle.std.specs.Prelude.{List, [], ◌∷◌, Option, Some, None, option_map}
 use Rattle.rule_core.specs.Records.{Record, RecordList, OptionalRecord, bound, itself, made, by_hook, by_equation, no_record, more_records, unconditional, conditional}
 use Rattle.rule_core.specs.Records as plain
@@ -14,12 +14,12 @@ abbrev pub records : List Record → RecordList
 records [] = no_record
 records (r ∷ rs) = more_records r (records rs)
 
--- the record of a condition, where there is one
+-- the record of a condition, if there is one
 abbrev pub optional : Option Record → OptionalRecord
 optional None = unconditional
 optional (Some r) = conditional r
 
--- one layer, whose parts are plain records already
+-- one layer, whose parts are already plain records
 abbrev pub plain_use : EqRecord-F Record Record → Record
 plain_use used =
     by_equation (records used.args.items) used.equation used.subst (optional (option_map (λ r. r.value) used.cond)) used.body.value

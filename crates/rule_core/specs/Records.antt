@@ -1,4 +1,5 @@
--- Records of evaluations: what was used at each node of a pattern to give its value, so that a proof can be made of it.
+-- Records of evaluations. A record holds what was used at each node of a pattern to get its value,
+-- so that a proof can be built from it.
 use Rattle.std.specs.Prelude.{◌≡◌, ◌<◌, ◌≤◌, ◌-◌, ◌^◌, ◌⊎◌, ℕ, List, [], slice_get, Option, Some, None}
 use Rattle.term_core.specs.Terms.{Tree, leaf, Forest, no_tree, more_trees, height, DomainValue}
 use Rattle.term_core.specs.Patterns.{Pattern, Patterns, variable, domain_value, call, no_pattern, more_patterns, binding}
@@ -12,8 +13,9 @@ use Rattle.rule_core.specs.FirstRule.{Matches, IsUnmatched, Meets, most_nesting}
 use Rattle.rule_core.specs.declared.signature.SymInfo.{SymInfo}
 use Rattle.rule_core.specs.declared.signature.SymKind.TheVariants.{Equations}
 
--- A variable's binding; a value; what a constructor or an injection made; what a hook gave; or the equation that was
--- used: its number, its substitution, and the records of its condition, where it has one, and of its right side.
+-- A variable's binding; a value; what a constructor or an injection built; what a hook returned; or
+-- the equation that was used. For an equation it has its number, its substitution, the record of
+-- its condition, if it has one, and the record of its right side.
 mutual
   pub data Record : Type 0 where
     bound : ℕ → Tree → Record
@@ -30,7 +32,7 @@ mutual
     unconditional : OptionalRecord
     conditional : Record → OptionalRecord
 
--- the value that a record tells
+-- the value that a record states
 abbrev pub result_of : Record → Tree
 result_of (bound x t) = t
 result_of (itself t) = t
@@ -42,18 +44,19 @@ abbrev pub results_of : RecordList → Forest
 results_of no_record = no_tree
 results_of (more_records r rs) = more_trees (result_of r) (results_of rs)
 
--- the calls that records are judged with
+-- the number of calls with which records are judged
 abbrev pub most_calls : ℕ
 most_calls = 2 ^ 32 - 1
 
--- an equation of the function that is not used at these terms: it does not match, or its condition fails
+-- the equation of the function is not used at these terms: it does not match, or its condition
+-- fails
 abbrev pub IsUnused : RewriteTheory → ℕ → Equation → Forest → Type 0
 IsUnused theory f e ts =
     IsUnmatchedBy theory e ts ⊎ ((theta : List (Option Tree)) × (left : ℕ)
     × MatchAll theory.sig e.variables e.arguments ts theta
     × Tests theory most_nesting f theta e.condition most_calls (fails left))
 
--- The record follows the evaluation of the pattern under the substitution.
+-- The record describes the evaluation of the pattern under the substitution.
 abbrev mutual
   pub Records : RewriteTheory → List (Option Tree) → Pattern → Record → Type 0
   Records theory theta p (bound x t) = (p ≡ variable x) × (binding theta x ≡ Some t)
@@ -78,27 +81,27 @@ abbrev mutual
       (q : Pattern) × (qs : Patterns) × (ps ≡ more_patterns q qs) × Records theory theta q r
       × RecordAll theory theta qs rs
 
-  -- .. of a condition that holds
+  -- the same for a condition that holds
   pub RecordsCondition : RewriteTheory → List (Option Tree) → Option Pattern → OptionalRecord → Type 0
   RecordsCondition theory theta p unconditional = p ≡ None
   RecordsCondition theory theta p (conditional r) = (q : Pattern) × (p ≡ Some q) × Records theory theta q r
       × IsTrueValue (result_of r)
 
--- The record of a step: the number of the rule that was used, its substitution, and the records of its condition and
--- right side.
+-- The record of a step: the number of the rule that was used, its substitution, and the records of
+-- its condition and of its right side.
 pub record StepRecord : Type 0 where
   pub rule : ℕ
   pub theta : List (Option Tree)
   pub condition : OptionalRecord
   pub right : Record
 
--- a rule that is not used at a term: it does not match, or its condition fails
+-- the rule is not used at the term: it does not match, or its condition fails
 abbrev pub IsUnusedRule : RewriteTheory → RewriteRule → Tree → Type 0
 IsUnusedRule theory rule t =
     IsUnmatched theory rule t ⊎ ((theta : List (Option Tree)) × (left : ℕ) × Matches theory rule t theta
     × Meets theory theta rule.condition most_calls (fails left))
 
--- It follows a step from this term: the rule applies, and those before it do not.
+-- The record describes a step from this term: the rule applies, and the rules before it do not.
 pub record RecordsStep (theory : RewriteTheory) (t : Tree) (step : StepRecord) : Type 0 where
   pub rule : RewriteRule
   pub there : slice_get theory.rules step.rule ≡ Some rule

@@ -5,6 +5,6 @@ use Rattle.term_core.specs.RulePatterns.{plain_pattern}
 use Rattle.rule_core.specs.Matching.{UseFirst}
 use Rattle.rule_core.specs.declared.rules.Rule.{Rule}
 
--- those of the rule alone
+-- only the variables of the rule itself
 abbrev pub MatchesByOwnVariables : Rule → Type 0
 MatchesByOwnVariables r = UseFirst (vec_len r.vars) (more_patterns (plain_pattern r.left) no_pattern)

@@ -1,11 +1,11 @@
--- Rewrite rules and equations, and the order in which they are tried (K framework: a smaller number is a higher
--- priority).
+-- Rewrite rules and equations, and the order in which they are tried (K framework: a smaller number
+-- is a higher priority).
 use Rattle.std.specs.Prelude.{◌≡◌, ℕ, ◌<◌, ◌⊎◌, List, Option}
 use Rattle.term_core.specs.Patterns.{Pattern, Patterns}
 
--- A rule rewrites the instances of its left side to those of its right side, where its condition evaluates to `true`;
--- one without a condition always does. Its variables have these sorts, by number, and it stands at this place in the
--- file.
+-- A rule rewrites an instance of its left side to the instance of its right side, if its condition
+-- evaluates to `true` or if it has no condition. It has the sorts of its variables, indexed by
+-- number, and its position in the file.
 pub record RewriteRule : Type 0 where
   pub left : Pattern
   pub condition : Option Pattern
@@ -14,8 +14,10 @@ pub record RewriteRule : Type 0 where
   pub priority : ℕ
   pub place : ℕ
 
--- An equation gives a function, at the instances of these arguments, the value of its right side; else as a rule. Its
--- text may give the function so many parameters, of which a guard says what they match; 0 where it has none.
+-- An equation says that the value of a function at an instance of these arguments is the value of
+-- the right side. The condition and the variables are as for a rule. `parameters` is the number of
+-- parameters that its text gives the function, or 0 if there are none. A guard says what the
+-- parameters match.
 pub record Equation : Type 0 where
   pub parameters : ℕ
   pub arguments : Patterns
@@ -25,6 +27,7 @@ pub record Equation : Type 0 where
   pub priority : ℕ
   pub place : ℕ
 
--- The smaller priority comes first, and among equal ones the earlier place in the file.
+-- The smaller priority number comes first. If they are equal, the earlier position in the file
+-- comes first.
 abbrev pub ComesBefore : ℕ × ℕ → ℕ × ℕ → Type 0
 ComesBefore earlier later = (earlier.0 < later.0) ⊎ ((earlier.0 ≡ later.0) × (earlier.1 < later.1))

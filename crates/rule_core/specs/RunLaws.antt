@@ -1,4 +1,4 @@
--- Laws on steps and runs.
+-- Laws of steps and runs.
 use Rattle.std.specs.Prelude.{◌≡◌, ◌≤◌, ◌⊎◌, ℕ, List, [], Option, Some, slice_get, All}
 use Rattle.term_core.specs.Terms.{Tree, height, IsNormal}
 use Rattle.term_core.specs.Patterns.{Pattern}
@@ -11,7 +11,7 @@ use Rattle.rule_core.specs.Runs.{Stepped, next, Steps, Reaches, Run, IsRunOf}
 use Rattle.rule_core.specs.Records.{StepRecord, RecordsStep, most_calls, result_of}
 use Rattle.rule_core.specs.WellSorted.{IsWellSorted, IsRuleOf}
 
--- At most one thing comes of trying the rules, of a step and of a run.
+-- A trial of the rules, a step and a run each have at most one outcome.
 abbrev pub TrialIsUnique : Type 0
 TrialIsUnique = (theory : RewriteTheory) (t : Tree) (c : ℕ) (r s : Trial) → IsWellSorted theory →
     Tries theory t 0 theory.rules c r → Tries theory t 0 theory.rules c s → r ≡ s
@@ -25,14 +25,15 @@ RunIsUnique =
     (theory : RewriteTheory) (limit calls : ℕ) (start : Pattern) (r s : Run) → IsWellSorted theory →
     IsRunOf theory limit calls start r → IsRunOf theory limit calls start s → r ≡ s
 
--- a trial passed over the rule: it does not match, or its condition failed with the calls that were left then
+-- a trial passed over the rule: it does not match, or its condition failed with the number of calls
+-- that were left then
 abbrev pub IsPassedOver : RewriteTheory → Tree → RewriteRule → Type 0
 IsPassedOver theory t rule =
     IsUnmatched theory rule t ⊎ ((theta : List (Option Tree)) × (c : ℕ) × (d : ℕ) × Matches theory rule t theta
     × Meets theory theta rule.condition c (fails d))
 
--- The rule that applies matches, its condition holds, and each rule that comes before it by priority and place is
--- passed over.
+-- The rule that applies matches, and its condition holds. Each rule that comes before it by
+-- priority and position is passed over.
 abbrev pub FirstApplies : Type 0
 FirstApplies =
     (theory : RewriteTheory) (t : Tree) (c i d : ℕ) (rule : RewriteRule) (theta : List (Option Tree)) →
@@ -42,7 +43,7 @@ FirstApplies =
     ((j : ℕ) (other : RewriteRule) → slice_get theory.rules j ≡ Some other →
     ComesBefore (other.priority, other.place) (rule.priority, rule.place) → IsPassedOver theory t other)
 
--- Where none applies, each is passed over.
+-- If no rule applies, each is passed over.
 abbrev pub NoneApplies : Type 0
 NoneApplies =
     (theory : RewriteTheory) (t : Tree) (c j : ℕ) (other : RewriteRule) →
@@ -56,20 +57,21 @@ HasRun =
     All (IsRuleOf theory.sig sort) theory.rules → HasSort theory.sig [] start sort →
     (r : Run) × IsRunOf theory limit calls start r
 
--- Its configurations are normal terms of this sort, which are not too high.
+-- Its configurations are normal terms of this sort, and they are not too high.
 abbrev pub ConfigurationsAreSorted : Type 0
 ConfigurationsAreSorted =
     (theory : RewriteTheory) (calls sort n c : ℕ) (start : Pattern) (t : Tree) → IsWellSorted theory →
     All (IsRuleOf theory.sig sort) theory.rules → HasSort theory.sig [] start sort →
     Reaches theory start calls n t c → IsTermOf theory.sig t sort × IsNormal t × (height t ≤ most_height)
 
--- A step has a record, where no more calls are left than records are judged with.
+-- A step has a record, if the number of calls left is at most the one with which records are
+-- judged.
 abbrev pub StepHasRecord : Type 0
 StepHasRecord =
     (theory : RewriteTheory) (t u : Tree) (c d : ℕ) → c ≤ most_calls → Steps theory t c (next u d) →
     (step : StepRecord) × RecordsStep theory t step × (result_of step.right ≡ u)
 
--- Where there is a record of a step from a term, its result is the only term that a step leads to.
+-- If there is a record of a step from a term, its result is the only term to which a step leads.
 abbrev pub StepRecordDetermines : Type 0
 StepRecordDetermines =
     (theory : RewriteTheory) (t u : Tree) (c d : ℕ) (step : StepRecord) → IsWellSorted theory →

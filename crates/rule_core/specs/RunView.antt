@@ -1,4 +1,4 @@
--- The end of a run as the code tells it.
+-- The end of a run, as the code reports it.
 use Rattle.std.specs.Prelude.{◌≡◌, ◌⊎◌}
 use Rattle.term_core.specs.Terms.{Tree}
 use Rattle.rule_core.specs.Evaluation as plain
@@ -16,7 +16,7 @@ cause_of (why.Calls f) = plain.no_call_left f.0
 cause_of (why.Height f) = plain.too_high f.0
 cause_of (why.Nest f) = plain.too_nested f.0
 
--- The run ends so. One that does not start is blocked after no step.
+-- The run has this end. A run that does not start is blocked after 0 steps.
 abbrev pub EndsSo : Outcome → Run → Type 0
 EndsSo (outcome.Stuck n) run = (t : Tree) × (run ≡ stuck n t)
 EndsSo (outcome.Limit n) run = (t : Tree) × (run ≡ limited n t)

@@ -1,4 +1,5 @@
--- Well-sorted patterns (Kore language document, "Well-formed patterns"), over the signature of a definition.
+-- Well-sorted patterns (Kore language document, "Well-formed patterns"), over the signature of a
+-- definition.
 use Rattle.std.specs.Prelude.{◌≡◌, ◌≤ℤ◌, ◌-◌, ◌^◌, ◌<◌, ℕ, ℤ, pos, neg_ℤ, IsTrue, List, [], ◌∷◌, length, slice_get, Option, Some}
 use Rattle.std.specs.Str.{is_utf8}
 use Rattle.term_core.specs.Terms.{DomainValue, integer, truth, text, Tree}
@@ -18,7 +19,8 @@ use Rattle.rule_core.specs.declared.signature.SortRef.TheVariants.{Param, Sort}
 abbrev pub IsInRange : ℤ → Type 0
 IsInRange n = (neg_ℤ (pos (2 ^ 127)) ≤ℤ n) × (n ≤ℤ pos (2 ^ 127 - 1))
 
--- a value that a sort of this kind has: an integer in the range, a truth value, or any text of another sort
+-- a value of a sort of this kind: an integer in the range, a truth value, or any text for another
+-- sort
 abbrev pub IsValueOf : SortKind → DomainValue → Type 0
 IsValueOf kind.Int (integer n) = IsInRange n
 IsValueOf kind.Int (truth b) = ⊥
@@ -33,16 +35,17 @@ IsValueOf kind.Other (integer n) = ⊥
 IsValueOf kind.Other (truth b) = ⊥
 IsValueOf kind.Other (text bytes) = IsTrue (is_utf8 bytes)
 
--- the sort with this number has that value
+-- the sort with this number has this value
 abbrev pub HasValue : Signature → ℕ → DomainValue → Type 0
 HasValue sig s v = (name : List ℕ) × (info : SortInfo) × (slice_get sig.sorts s ≡ Some (name, info))
     × IsValueOf info.kind v
 
--- the symbol with this number is declared so
+-- the symbol with this number has this declaration
 abbrev pub IsSymbol : Signature → ℕ → SymInfo → Type 0
 IsSymbol sig f info = (name : List ℕ) × (slice_get sig.symbols f ≡ Some (name, info))
 
--- the symbol with this number is a constructor that is associative, commutative or idempotent, or has a unit
+-- the symbol with this number is a constructor that is associative, commutative or idempotent, or
+-- has a unit
 abbrev pub IsAcConstructor : Signature → ℕ → Type 0
 IsAcConstructor sig f = (info : SymInfo) × IsSymbol sig f info × (info.kind ≡ Ctor) × IsTrue info.ac
 
@@ -50,7 +53,7 @@ IsAcConstructor sig f = (info : SymInfo) × IsSymbol sig f info × (info.kind �
 abbrev pub IsAcFree : Signature → Type 0
 IsAcFree sig = (f : ℕ) → IsAcConstructor sig f → ⊥
 
--- what a function is evaluated by, or that nothing gives its values
+-- the kinds of functions: one that is evaluated in some way, or one that nothing defines
 abbrev pub IsFunction : SymKind → Type 0
 IsFunction Injection = ⊥
 IsFunction Ctor = ⊥
@@ -59,12 +62,12 @@ IsFunction (Hooked row) = Unit {0}
 IsFunction Closed = Unit {0}
 IsFunction NoKind = ⊥
 
--- the sort that a declaration names, where the symbol is applied at these sorts
+-- the sort to which a declaration refers, when the symbol is applied to these sorts
 abbrev pub sort_at : List ℕ → SortRef → Option ℕ
 sort_at sorts (Param i) = slice_get sorts i
 sort_at sorts (Sort s) = Some s.0
 
--- the symbol with this number injects a sort into one that it is below
+-- the signature has an injection symbol
 abbrev pub HasInjection : Signature → Type 0
 HasInjection sig = (f : ℕ) × (info : SymInfo) × IsSymbol sig f info × (info.kind ≡ Injection)
 
@@ -72,10 +75,11 @@ abbrev pub AreSorts : Signature → List ℕ → Type 0
 AreSorts sig [] = Unit {0}
 AreSorts sig (s ∷ sorts) = (s < length sig.sorts) × AreSorts sig sorts
 
--- The pattern has this sort, where the variables have these: a variable has its own; a value that of the text, which
--- has it; an application the result sort of its constructor, whose arguments have the declared sorts; an injection the
--- sort that it goes to, which is above that of what is injected; a call the result sort of its function at the given
--- sorts.
+-- The pattern has this sort, if the variables have these sorts. A variable has its own sort. A
+-- value has the sort that is written with it, if that sort has the value. An application has the
+-- result sort of its constructor, if the arguments have the declared sorts. An injection has its
+-- target sort, which is above the sort of the injected pattern. A call has the result sort of its
+-- function at the given sorts.
 abbrev mutual
   pub HasSort : Signature → List ℕ → Pattern → ℕ → Type 0
   HasSort sig variables (variable x) sort = slice_get variables x ≡ Some sort

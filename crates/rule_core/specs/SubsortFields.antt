@@ -1,4 +1,4 @@
--- The pairs that are kept, and the tables beside them.
+-- The stored pairs, and the tables that are stored with them.
 use Rattle.std.specs.Prelude.{◌≡◌, ◌↔◌, ◌==◌, ◌||◌, ◌/◌, ◌%◌, ℕ, Bool, IsTrue, List, Vec, [], map, Contains}
 use Rattle.std.specs.Prelude.{slice_index_or}
 use Rattle.std.specs.Global.{Global}
@@ -14,11 +14,11 @@ sort_pairs pairs = map (λ (p : SortId × SortId). (p.0.0, p.1.0)) pairs
 abbrev pub pairs_of : Inside → List (ℕ × ℕ)
 pairs_of a = sort_pairs a.pairs.items
 
--- the word of a set with this index, which is 0 past its end
+-- the word of a set at this index, or 0 past its end
 abbrev pub word_at : List ℕ → ℕ → ℕ
 word_at set k = slice_index_or set k 0
 
--- the set has the sort with this number, by a bit of one of its words
+-- the set contains the sort with this number: a bit of one of its words
 abbrev pub has : List ℕ → ℕ → Bool
 has set s = bit_at (word_at set (s / 64)) (s % 64) == 1
 
@@ -26,15 +26,15 @@ has set s = bit_at (word_at set (s / 64)) (s % 64) == 1
 abbrev pub set_at : List (Vec ℕ Global) → ℕ → List ℕ
 set_at sets a = slice_index_or (map (λ (set : Vec ℕ Global). set.items) sets) a []
 
--- the set of the first sort has the second
+-- the set of the first sort contains the second
 abbrev pub is_in : List (Vec ℕ Global) → ℕ → ℕ → Bool
 is_in sets a b = has (set_at sets a) b
 
--- the sort is a, or its set has a
+-- the sort is a, or its set contains a
 abbrev pub reaches : List (Vec ℕ Global) → ℕ → ℕ → Bool
 reaches sets x a = x == a || is_in sets x a
 
--- a set has what the sets of its sorts have
+-- a set contains everything that the sets of its members contain
 abbrev pub IsClosed : List (Vec ℕ Global) → Type 0
 IsClosed sets = (x y z : ℕ) → IsTrue (is_in sets x y) → IsTrue (is_in sets y z) → IsTrue (is_in sets x z)
 

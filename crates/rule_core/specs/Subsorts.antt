@@ -1,12 +1,12 @@
--- The order of sorts (K framework, attribute `subsort`): a sort is below another where a chain of one or more declared
--- pairs leads from it to the other.
+-- The order of sorts (K framework, attribute `subsort`). A sort is below another if a chain of one
+-- or more declared pairs leads from it to the other.
 use Rattle.std.specs.Prelude.{◌≡◌, ◌==◌, ◌&&◌, ◌||◌, ℕ, Bool, false, List, [], ◌∷◌, Contains}
 
 pub data IsBelow (pairs : List (ℕ × ℕ)) : ℕ → ℕ → Type 0 where
   by_pair : {a b : ℕ} → Contains pairs (a, b) → IsBelow pairs a b
   by_chain : {a b c : ℕ} → Contains pairs (a, b) → IsBelow pairs b c → IsBelow pairs a c
 
--- The test of it: a chain that does not need the first pair, or one that needs it once.
+-- The test: a chain that does not need the first pair, or a chain that needs it once.
 abbrev pub is_below : List (ℕ × ℕ) → ℕ → ℕ → Bool
 is_below [] a b = false
 is_below (pair ∷ pairs) a b =
@@ -16,7 +16,7 @@ is_below (pair ∷ pairs) a b =
 abbrev pub HasNoCycle : List (ℕ × ℕ) → Type 0
 HasNoCycle pairs = (a : ℕ) → IsBelow pairs a a → ⊥
 
--- the sorts of a chain of pairs from the one sort to the other, both of them included
+-- the sorts of a chain of pairs from the first sort to the second, including both
 abbrev pub IsPath : List (ℕ × ℕ) → ℕ → ℕ → List ℕ → Type 0
 IsPath pairs a b [] = ⊥
 IsPath pairs a b (s ∷ []) = ⊥

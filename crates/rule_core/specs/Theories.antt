@@ -3,8 +3,8 @@ use Rattle.std.specs.Prelude.{ℕ, List, [], slice_index_or}
 use Rattle.rule_core.specs.Rules.{RewriteRule, Equation}
 use Rattle.rule_core.specs.declared.signature.Signature.{Signature}
 
--- Rules stand in the order in which they are tried, and so do the equations of each symbol, which are listed by its
--- number.
+-- Rules are listed in the order in which they are tried. The same holds for the equations of each
+-- symbol, which are indexed by its number.
 pub record RewriteTheory : Type 0 where
   pub sig : Signature
   pub rules : List RewriteRule

@@ -8,13 +8,13 @@ use Rattle.rule_core.specs.WellSorted.{IsRuleOf}
 use Rattle.rule_core.specs.Matching.{MatchesTerm, NoneMatches}
 use Rattle.rule_core.specs.declared.signature.Signature.{Signature}
 
--- none of the rules from this place up to that one matches
+-- no rule from this index up to that one (excluded) matches
 abbrev pub NoRuleMatches : Signature → List RewriteRule → ℕ → ℕ → Tree → Type 0
 NoRuleMatches sig rules from to t =
     (j : ℕ) (rule : RewriteRule) → from ≤ j → j < to → slice_get rules j ≡ Some rule →
     NoneMatches sig rule.variables (more_patterns rule.left no_pattern) (more_trees t no_tree)
 
--- the rule at i is the first from this place on that matches, with this substitution
+-- the rule at i is the first from this index on that matches, and it matches with this substitution
 pub record IsFirstMatch (sig : Signature) (rules : List RewriteRule) (from : ℕ) (t : Tree) (i : ℕ) (theta : List (Option Tree)) : Type 0 where
   pub rule : RewriteRule
   pub there : slice_get rules i ≡ Some rule
@@ -22,8 +22,8 @@ pub record IsFirstMatch (sig : Signature) (rules : List RewriteRule) (from : ℕ
   pub matches : MatchesTerm sig rule.variables rule.left t theta
   pub earlier : NoRuleMatches sig rules from i t
 
--- What a trial finds, in each signature that has these pairs of subsorts and in which the rules, and the term, have one
--- sort.
+-- The result of a trial, in each signature that has these pairs of subsorts and in which the rules
+-- and the term have one common sort.
 abbrev pub FindsFirstMatch : List (ℕ × ℕ) → List RewriteRule → ℕ → Tree → Option (ℕ × List (Option Tree)) → Type 0
 FindsFirstMatch pairs rules from t found =
     (sig : Signature) (sort : ℕ) → sig.subsorts ≡ pairs → All (IsRuleOf sig sort) rules →

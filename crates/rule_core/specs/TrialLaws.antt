@@ -1,12 +1,13 @@
--- A law of trials, by which a search for the first rule that matches serves a trial of rules with conditions.
+-- A law of trials. It allows a trial of rules with conditions to start at the first rule that
+-- matches.
 use Rattle.std.specs.Prelude.{ℕ, ◌+◌, ◌≤◌, length, drop}
 use Rattle.term_core.specs.Terms.{Tree}
 use Rattle.rule_core.specs.Theories.{RewriteTheory}
 use Rattle.rule_core.specs.FirstRule.{Trial, Tries}
 use Rattle.rule_core.specs.Trial.{NoRuleMatches}
 
--- Rules that do not match change nothing: a trial that begins after them comes out as one that begins at the first of
--- them.
+-- Rules that do not match change nothing. A trial that begins after them has the same outcome as
+-- one that begins at the first of them.
 abbrev pub UnmatchedAreSkipped : Type 0
 UnmatchedAreSkipped =
     (theory : RewriteTheory) (t : Tree) (from count calls : ℕ) (r : Trial) → from + count ≤ length theory.rules →

@@ -1,4 +1,5 @@
--- Well-sorted theories: what a definition that is accepted gives, and what matching, evaluation and runs ask for.
+-- Well-sorted theories: what holds of an accepted definition, and what matching, evaluation and
+-- runs require.
 use Rattle.std.specs.Prelude.{◌≡◌, ℕ, ◌<◌, ◌≤◌, List, [], ◌∷◌, length, slice_get, Option, Some, IsSome, IfSome, All, ◌⊎◌, map}
 use Rattle.term_core.specs.Terms.{Tree, height}
 use Rattle.term_core.specs.Patterns.{Pattern, Patterns, variable, domain_value, application, injection, call, no_pattern, more_patterns, binding}
@@ -30,17 +31,17 @@ abbrev mutual
   HaveNoCall no_pattern = Unit {0}
   HaveNoCall (more_patterns p ps) = HasNoCall p × HaveNoCall ps
 
--- a reference of a symbol with so many sort parameters is to one of them or to a declared sort
+-- a reference, of a symbol with this many sort parameters, to one of them or to a declared sort
 abbrev pub IsReference : Signature → ℕ → SortRef → Type 0
 IsReference sig params (Param i) = i < params
 IsReference sig params (Sort s) = s.0 < length sig.sorts
 
--- the declaration of a symbol refers to sorts that are there
+-- the declaration of a symbol refers only to sorts that exist
 pub record IsDeclaration (sig : Signature) (info : SymInfo) : Type 0 where
   pub arguments : All (IsReference sig info.params) info.args.items
   pub result : IsReference sig info.params info.result
 
--- the declaration of the injection goes from its first sort parameter to its second: `inj{From,To}(From) : To`
+-- the injection is declared from its first sort parameter to its second: `inj{From,To}(From) : To`
 pub record IsInjectionDeclaration (info : SymInfo) : Type 0 where
   pub parameters : info.params ≡ 2
   pub argument : info.args.items ≡ Param 0 ∷ []
@@ -62,7 +63,7 @@ abbrev pub IsOfKind : Kind → SortInfo → Type 0
 IsOfKind integers info = info.kind ≡ kind.Int
 IsOfKind truths info = info.kind ≡ kind.Bool
 
--- a sort of whole numbers or of truth values, of which there are no other terms than values: no constructor has it as
+-- a sort of whole numbers or of truth values whose only terms are values: no constructor has it as
 -- its result sort, and no sort is below it
 pub record IsSortOf (sig : Signature) (k : Kind) (sort : ℕ) : Type 0 where
   pub name : List ℕ
@@ -73,11 +74,11 @@ pub record IsSortOf (sig : Signature) (k : Kind) (sort : ℕ) : Type 0 where
       (made.result ≡ Sort (record { 0 = sort }) → ⊥)
   pub lowest : (a : ℕ) → IsBelow sig.subsorts a sort → ⊥
 
--- a declaration's reference is to such a sort
+-- the reference of a declaration is to such a sort
 abbrev pub RefersTo : Signature → Kind → SortRef → Type 0
 RefersTo sig k of = (sort : ℕ) × (of ≡ Sort (record { 0 = sort })) × IsSortOf sig k sort
 
--- references to such sorts, in order
+-- the references are to such sorts, in order
 abbrev pub ReferTo : Signature → List Kind → List SortRef → Type 0
 ReferTo sig [] [] = Unit {0}
 ReferTo sig [] (of ∷ refs) = ⊥
@@ -92,11 +93,11 @@ pub record FitsHook (sig : Signature) (row : ℕ) (info : SymInfo) : Type 0 wher
   pub arguments : ReferTo sig (argument_kinds hook.operation) info.args.items
   pub result : RefersTo sig (result_kind hook.operation) info.result
 
--- each variable that stands in the pattern stands in one of these
+-- each variable that occurs in the pattern occurs in one of these
 abbrev pub UsesOnly : Patterns → Pattern → Type 0
 UsesOnly ps p = (x : ℕ) → StandsIn x p → StandsInSome x ps
 
--- a condition has a sort of truth values, and only variables of these patterns
+-- the condition has a sort of truth values, and uses only variables of these patterns
 abbrev pub IsCondition : Signature → List ℕ → Patterns → Pattern → Type 0
 IsCondition sig variables ps p =
     (sort : ℕ) × (name : List ℕ) × (info : SortInfo) × (slice_get sig.sorts sort ≡ Some (name, info))
@@ -122,7 +123,7 @@ pub record IsEquationOf (sig : Signature) (info : SymInfo) (e : Equation) : Type
   pub right : HasSort sig e.variables e.right sort
   pub bound : UsesOnly e.arguments e.right
 
--- each stands before those that are listed after it, in the order of trial
+-- each comes before those that are listed after it, in the order of trial
 abbrev pub AreInOrder : List (ℕ × ℕ) → Type 0
 AreInOrder [] = Unit {0}
 AreInOrder (first ∷ later) = All (ComesBefore first) later × AreInOrder later
@@ -139,13 +140,13 @@ pub record IsWellSorted (theory : RewriteTheory) : Type 0 where
       All (IsEquationOf theory.sig info) (equations_of theory f)
   pub equations_in_order : (f : ℕ) → AreInOrder (map (λ (e : Equation). (e.priority, e.place)) (equations_of theory f))
 
--- the substitution gives each variable of the pattern, and maybe others, a normal term of its sort, which is not
--- too high
+-- the substitution binds each variable of the pattern, and maybe other variables, to a normal term
+-- of the variable's sort that is not too high
 pub record Serves (sig : Signature) (variables : List ℕ) (theta : List (Option Tree)) (p : Pattern) : Type 0 where
   pub bound : (x : ℕ) → StandsIn x p → IsSome (binding theta x)
   pub sorted : RespectsSorts sig variables theta
   pub low : (x : ℕ) (t : Tree) → binding theta x ≡ Some t → height t ≤ most_height
 
--- the initial term of a run: it has no variable, and a sort, which is that of the rules
+-- the initial term of a run: it has no variable, and its sort is that of the rules
 abbrev pub IsStart : RewriteTheory → Pattern → Type 0
 IsStart theory start = (sort : ℕ) × HasSort theory.sig [] start sort × All (IsRuleOf theory.sig sort) theory.rules

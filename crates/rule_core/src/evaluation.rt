@@ -1,11 +1,13 @@
-// Laws on evaluation, on its records and on runs, and the definitions tried on small theories.
+// Laws of evaluation, of its records and of runs, and the definitions tested on small theories.
 ghost use Rattle.rule_core.specs.EvaluationCases.{TriedEvaluations};
 ghost use Rattle.rule_core.specs.EvaluationLaws.{CallsFall, EvaluationHasAnswer, EvaluationIsUnique, MoreLeftKeepsValue, RecordDetermines, RecordTells, RecordsAgree, ValueHasRecord, ValuesAreSorted};
 ghost use Rattle.rule_core.specs.RunLaws.{ConfigurationsAreSorted, FirstApplies, HasRun, NoneApplies, RunIsUnique, StepHasRecord, StepIsUnique, StepRecordDetermines, TrialIsUnique};
 
-/// Evaluation in a well-sorted theory is a function: a pattern that has a sort has one answer under a substitution that
-/// gives its variables terms of their sorts, and a value is a normal term of the pattern's sort, of height at most 500.
-/// More nesting and more calls left keep a value, and no evaluation leaves more calls than there were.
+/// Has no effect at run time. It states that evaluation in a well-sorted theory is a function. A
+/// pattern that has a sort has exactly one answer under a substitution that gives its variables
+/// terms of their sorts. A value is a normal term of the pattern's sort, of height at most 500.
+/// More nesting and more calls left do not change a value. No evaluation leaves more calls than
+/// there were.
 pub fn evaluation_laws()
     ensures one { EvaluationIsUnique }
     ensures some { EvaluationHasAnswer }
@@ -14,7 +16,8 @@ pub fn evaluation_laws()
     ensures fewer { CallsFall }
 {}
 
-/// A value has a record; a record tells an evaluation, and its result is the only value.
+/// Has no effect at run time. It states that a value has a record, that a record describes an
+/// evaluation, and that the result of the record is the only value.
 pub fn record_laws()
     ensures kept { ValueHasRecord }
     ensures tells { RecordTells }
@@ -22,16 +25,18 @@ pub fn record_laws()
     ensures agree { RecordsAgree }
 {}
 
-/// The definitions say of small theories what is expected: on whole numbers near the ends of their range, near each
-/// bound of an evaluation, by rules with conditions, through injections, and by a function with two equations.
+/// Has no effect at run time. It states what the definitions say of small theories, as expected: on
+/// whole numbers near the ends of their range, near each bound of an evaluation, by rules with
+/// conditions, through injections, and by a function with two equations.
 pub fn tried()
     ensures cases { TriedEvaluations }
 {}
 
-/// Rewriting in a well-sorted theory is a function too: a trial of the rules, a step and a run have one outcome, an
-/// initial term of the rules' sort has a run, and its configurations are normal terms of this sort, of height at most
-/// 500. The rule that applies is the first one, by priority and place, that matches and of which the condition holds. A
-/// step has a record, which tells where the step leads.
+/// Has no effect at run time. It states that rewriting in a well-sorted theory is a function too. A
+/// trial of the rules, a step and a run each have one outcome. An initial term of the rules' sort
+/// has a run. Its configurations are normal terms of this sort, of height at most 500. The rule
+/// that applies is the first one, by priority and position, that matches and whose condition holds.
+/// A step has a record, which determines the next term.
 pub fn run_laws()
     ensures first { FirstApplies }
     ensures none { NoneApplies }

@@ -3,14 +3,15 @@ ghost use Rattle.rule_core.specs.SubsortLaws.{BelowIsTested};
 ghost use Rattle.rule_core.specs.MatchLaws.{SortedUseFirst, InstancesAreSorted, MatchIsUnique, MatchIsDecidable};
 ghost use Rattle.rule_core.specs.TrialLaws.{UnmatchedAreSkipped};
 
-/// Does nothing when it runs: a caller learns by it that the test of the definitions tells what is below what.
+/// Has no effect at run time. It states that the test `is_below` decides whether one sort is below
+/// another.
 pub fn subsort_laws()
     ensures { BelowIsTested }
 {}
 
-/// Does nothing when it runs: a caller learns by it what matching does with well-sorted patterns. They use no variables
-/// but those that have a sort; their instances are normal terms of their sorts; at most one substitution matches them
-/// with terms; and whether one does can be decided.
+/// Has no effect at run time. It states facts about matching with well-sorted patterns. They use
+/// only variables that have a sort. Their instances are normal terms of their sorts. At most one
+/// substitution matches them with terms. It is decidable whether one does.
 pub fn match_laws()
     ensures variables { SortedUseFirst }
     ensures instances { InstancesAreSorted }
@@ -18,8 +19,8 @@ pub fn match_laws()
     ensures decidable { MatchIsDecidable }
 {}
 
-/// Does nothing when it runs: a caller learns by it that a trial of rules goes over those that do not match, so that
-/// one that looks for the first rule that matches may go on from there.
+/// Has no effect at run time. It states that a trial of rules skips those that do not match. So a
+/// caller that looks for the first matching rule may start the trial at that rule.
 pub fn trial_laws()
     ensures skipped { UnmatchedAreSkipped }
 {}

@@ -1,13 +1,16 @@
-// Accepted definitions: their sorts and symbols by number, their rewrite rules, and the plain trial of the rules.
+// Accepted definitions: their numbered sorts and symbols, their rewrite rules, and the plain trial
+// of the rules.
 //
-// `find_match` gives the substitution that makes a pattern a term, and none exactly where no substitution does;
-// `match_laws` says that there is at most one, and that instances of well-sorted patterns are well-sorted.
-// `first_match` gives the first rule from a place on that matches a term, with its substitution, and none exactly where
-// no rule from there matches. A `Table` numbers names from 0 on without a gap, and no name stands in it twice.
+// `find_match` returns the substitution under which a pattern becomes a term. It returns none
+// exactly when there is no such substitution. `match_laws` says that there is at most one, and that
+// instances of well-sorted patterns are well-sorted. `first_match` returns the first rule, from a
+// given position on, that matches a term, and its substitution. It returns none exactly when no
+// rule from there on matches. A `Table` numbers names from 0 without a gap, and no name occurs in
+// it twice.
 //
-// The definitions that other crates cite stand here too: matching by substitution (specs/Matching.antt), the order in
-// which rules are tried (specs/Rules.antt, specs/Trial.antt), the step by the first rule that applies
-// (specs/FirstRule.antt), and runs (specs/Runs.antt).
+// The definitions that other crates cite are also here: matching by substitution
+// (specs/Matching.antt), the order in which rules are tried (specs/Rules.antt, specs/Trial.antt),
+// the step by the first rule that applies (specs/FirstRule.antt), and runs (specs/Runs.antt).
 #![tactic(auto)]
 
 mod evaluation;

@@ -1,4 +1,4 @@
-// Matching of patterns with terms: the substitution that makes the one the other.
+// Matching of patterns with terms: the substitution under which a pattern becomes a term.
 ghost use Rattle.std.specs.Prelude.{ℕ, ◌≡◌, ◌+◌, ◌<◌, ◌≤◌, ◌==◌, ◌||◌, if◌then◌else◌, length, IfOk, None};
 ghost use Rattle.term_core.specs.Terms.{inj, no_tree, more_trees, forest, children, height, IsNoInjection};
 ghost use Rattle.term_core.specs.Patterns.{binding, no_pattern, more_patterns};
@@ -14,10 +14,11 @@ use std::alloc::{AllocError, Global};
 use std::sync::ledger::Ledger;
 use term_core::{MAX_HEIGHT, RulePat, SortId, Steps, Subst, Term, View};
 
-/// The substitution that makes a pattern over `vars` variables the term: none exactly where no substitution does. An
-/// injection of a variable matches the injection of a term of a lower sort too. It looks at no more terms than the
-/// pattern has nodes, and compares two terms where a variable stands again. `AllocError` says that there was no memory
-/// for the substitution.
+/// The substitution under which a pattern over `vars` variables becomes the term. It is None
+/// exactly when there is no such substitution. An injection of a variable also matches the
+/// injection of a term of a lower sort. It looks at no more terms than the pattern has nodes. It
+/// compares two terms when a variable occurs again. `AllocError`: out of memory for the
+/// substitution.
 pub fn find_match<L: Ledger>(
     alloc: Global,
     pat: &RulePat,
@@ -41,7 +42,7 @@ pub fn find_match<L: Ledger>(
     }
 }
 
-/// The same for the patterns of a function's arguments and as many terms.
+/// The same for the patterns of a function's arguments and equally many terms.
 pub fn find_match_all<L: Ledger>(
     alloc: Global,
     pats: &[RulePat],
@@ -67,7 +68,7 @@ pub fn find_match_all<L: Ledger>(
     Ok(Some(subst))
 }
 
-// Whether the pattern matches the term by what is bound and more, which it binds.
+// Whether the pattern matches the term with the current bindings and further ones, which it adds.
 #[cycle(matching)]
 fn match_term<L: Ledger>(
     alloc: Global,
@@ -96,7 +97,8 @@ fn match_term<L: Ledger>(
         },
         RulePat::Inj(from, to, below) => match term.view(steps) {
             View::Inj(own_from, own_to) if *to == own_to => {
-                // A term is normal and not too high: its child is no injection, and lower.
+                // The term is normal and not too high. So its child is not an injection, and is
+                // lower.
                 let _high = term.height();
                 let child = term.child(0);
                 match_lowered(alloc, subsorts, below, own_from, *from, child, subst, steps)
@@ -131,8 +133,9 @@ fn match_children<L: Ledger>(
     Ok(true)
 }
 
-// Whether the pattern, which stands under an injection from the sort `to`, matches what the term injects there:
-// `child`, or its injection from `from`, where that is below.
+// Whether the pattern, which is the child of an injection from the sort `to`, matches what the term
+// injects there. That is `child`, or the injection of `child` from `from` to `to` if `from` is
+// below `to`.
 #[cycle(matching)]
 fn match_lowered<L: Ledger>(
     alloc: Global,
@@ -164,7 +167,8 @@ fn match_lowered<L: Ledger>(
     }
 }
 
-// Whether the pattern matches the injection of `child`, which is made only where a variable is bound to it.
+// Whether the pattern matches the injection of `child`. The injection is built only if a variable
+// is bound to it.
 #[cycle(matching)]
 fn match_injected<L: Ledger>(
     alloc: Global,
@@ -192,7 +196,7 @@ fn match_injected<L: Ledger>(
     }
 }
 
-// Lets a variable stand for the term, or compares it with what the variable stands for.
+// Binds a variable to the term. If the variable is bound already, compares the term with its term.
 fn bind_term(var: u32, term: &Term, subst: &mut Subst) -> Result<bool, AllocError>
     requires { var < length subst.old }
     ensures room { length subst.new ≡ length subst.old }
@@ -205,7 +209,8 @@ fn bind_term(var: u32, term: &Term, subst: &mut Subst) -> Result<bool, AllocErro
     Ok(true)
 }
 
-// Lets a variable stand for the injection of `child`, or compares that with what the variable stands for.
+// Binds a variable to the injection of `child`. If the variable is bound already, compares the
+// injection with its term.
 fn bind_injected(
     alloc: Global,
     var: u32,

@@ -1,23 +1,24 @@
-// Records of evaluations and steps: what was used, so that a proof can be made of it.
+// Records of evaluations and steps. They hold what was used, so that a proof can be built from
+// them.
 ghost use Rattle.std.specs.Prelude.{◌≡◌};
 ghost use Rattle.rule_core.specs.Records.{result_of};
 ghost use Rattle.rule_core.specs.RecordView.{plain_record};
 
 use term_core::{SortId, Subst, SymId, Term};
 
-/// What gave a pattern its value. Contracts see it as the plain `plain_record`.
+/// The record of how a pattern got its value. Contracts see it as the plain `plain_record`.
 #[derive(Drop)]
 #[cycle(records)]
 pub enum EvalRecord {
-    /// The variable with this number stands for the term.
+    /// The variable with this number is bound to the term.
     Bound(u32, Term),
-    /// A domain value is itself.
+    /// A domain value is its own value.
     Value(Term),
-    /// A constructor made the term of its arguments.
+    /// A constructor built the term from its arguments.
     Ctor(SymId, Vec<EvalRecord>, Term),
-    /// The injection from a sort to another made the term.
+    /// The injection from a sort to another built the term.
     Inj(SortId, SortId, Box<EvalRecord>, Term),
-    /// The hook of a function gave the term.
+    /// The hook of a function returned the term.
     ByHook(SymId, Vec<EvalRecord>, Term),
     /// An equation of a function was used.
     ByEquation(EqRecord),
@@ -29,15 +30,15 @@ pub enum EvalRecord {
 pub struct EqRecord {
     /// The function.
     pub fun: SymId,
-    /// What gave its arguments their values.
+    /// The records of its arguments.
     pub args: Vec<EvalRecord>,
-    /// The number of the equation among those of the function.
+    /// The number of the equation among the equations of the function.
     pub equation: u32,
-    /// What makes the equation's arguments these values.
+    /// The substitution that matches the equation's arguments with the values.
     pub subst: Subst,
-    /// What gave its condition the value `true`, where it has one.
+    /// The record of its condition, which has the value `true`, if it has a condition.
     pub cond: Option<Box<EvalRecord>>,
-    /// What gave its right side the value.
+    /// The record of its right side.
     pub body: Box<EvalRecord>,
 }
 
@@ -46,16 +47,16 @@ pub struct EqRecord {
 pub struct StepRecord {
     /// The number of the rule.
     pub rule: u32,
-    /// What makes the rule's left side the term.
+    /// The substitution that matches the rule's left side with the term.
     pub subst: Subst,
-    /// What gave its condition the value `true`, where it has one.
+    /// The record of its condition, which has the value `true`, if it has a condition.
     pub cond: Option<EvalRecord>,
-    /// What gave its right side the next term.
+    /// The record of its right side, whose value is the next term.
     pub right: EvalRecord,
 }
 
 impl EvalRecord {
-    /// The value that the record tells.
+    /// The value that the record states.
     pub fn result(&self) -> &Term
         ensures { result.now ≡ result_of (plain_record self.now) }
     {

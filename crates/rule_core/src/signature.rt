@@ -4,7 +4,7 @@ ghost use Rattle.std.specs.Prelude.{◌↔◌, IsTrue};
 use crate::{Subsorts, Table};
 use term_core::{HookNo, SortId};
 
-/// What the hook of a sort says of the sort's domain values.
+/// What the hook of a sort says about the sort's domain values.
 #[derive(Clone, Copy, PartialEq, Eq, Debug)]
 pub enum SortKind {
     /// Whole numbers, by the hook `INT.Int`.
@@ -17,7 +17,7 @@ pub enum SortKind {
     Other,
 }
 
-/// A declared sort. Its name stands beside it, in the table of sorts.
+/// A declared sort. Its name is stored in the table of sorts.
 #[derive(Clone, Copy, PartialEq, Eq, Debug)]
 pub struct SortInfo {
     /// What its domain values are.
@@ -27,15 +27,15 @@ pub struct SortInfo {
 /// What a symbol is used for.
 #[derive(Clone, Copy, PartialEq, Eq, Debug)]
 pub enum SymKind {
-    /// It takes the terms of a sort to a sort above.
+    /// It injects the terms of a sort into a supersort.
     Injection,
     /// It builds terms.
     Ctor,
-    /// A function whose values its equations give.
+    /// A function that is defined by its equations.
     Equations,
-    /// A function whose values this hook gives.
+    /// A function that is computed by this hook.
     Hooked(HookNo),
-    /// A function whose values nothing gives: a call of it is not evaluated.
+    /// A function that nothing defines: a call of it is not evaluated.
     Closed,
     /// None of these: no term or rule uses it.
     NoKind,
@@ -44,13 +44,13 @@ pub enum SymKind {
 /// A sort in the declaration of a symbol.
 #[derive(Clone, Copy, PartialEq, Eq, Debug)]
 pub enum SortRef {
-    /// One of the symbol's own sort parameters, by its place among them from 0 on.
+    /// One of the symbol's own sort parameters, by its index, from 0.
     Param(u32),
     /// A declared sort.
     Sort(SortId),
 }
 
-/// A declared symbol. Its name stands beside it, in the table of symbols.
+/// A declared symbol. Its name is stored in the table of symbols.
 #[derive(Drop)]
 pub struct SymInfo {
     /// What it is used for.
@@ -59,30 +59,31 @@ pub struct SymInfo {
     pub params: u32,
     /// The sorts of its arguments, in order.
     pub args: Vec<SortRef>,
-    /// The sort of what it makes.
+    /// The sort of its result.
     pub result: SortRef,
-    /// The name of its hook, where it has one.
+    /// The name of its hook, if it has one.
     pub hook: Option<String>,
-    /// Whether it is said to be associative, commutative or idempotent, or to have a unit.
+    /// Whether its declaration says that it is associative, commutative or idempotent, or has a
+    /// unit.
     pub ac: bool,
 }
 
-/// The sorts and the symbols of a definition, each by name and by number.
+/// The sorts and the symbols of a definition. Each can be looked up by name and by number.
 #[derive(Drop)]
 pub struct Signature {
     /// The sorts: a `SortId` is the number of a name here.
     pub sorts: Table<SortInfo>,
     /// The symbols: a `SymId` is the number of a name here.
     pub symbols: Table<SymInfo>,
-    /// Which sorts are below which.
+    /// The order of the sorts.
     pub subsorts: Subsorts,
 }
 
 impl Signature {
     ghost use Rattle.rule_core.specs.Sorting.{IsAcConstructor, IsAcFree};
 
-    /// Whether no constructor is associative, commutative or idempotent, or has a unit. It looks at each symbol at most
-    /// once.
+    /// Whether no constructor is associative, commutative or idempotent, or has a unit. It looks at
+    /// each symbol at most once.
     pub fn ac_free(&self) -> bool
         ensures { IsTrue result ↔ IsAcFree self.now }
     {
@@ -94,7 +95,7 @@ impl Signature {
         true
     }
 
-    // Whether the symbol with this number is such a constructor.
+    // Whether the symbol with this number is a constructor that has one of these properties.
     fn is_ac_constructor(&self, number: usize) -> bool
         ensures { IsTrue result ↔ IsAcConstructor self.now number }
     {

@@ -1,5 +1,6 @@
-// Sets of sorts, one for each sort. A set is a list of words of 64 bits: bit s % 64 of the word s / 64 says whether it
-// has the sort with the number s. What is past its end it does not have.
+// Sets of sorts, one for each sort. A set is a list of words of 64 bits. Bit s % 64 of the word s /
+// 64 says whether the set contains the sort with the number s. A set does not contain the sorts
+// past its end.
 ghost use Rattle.std.specs.Prelude.{ℕ, ◌≡◌, ◌<◌, ◌≤◌, ◌/◌, ◌==◌, ◌||◌, ◌&&◌, length, vec_len, false, OnOk, OnErr, IfOk};
 ghost use Rattle.std.specs.Prelude.{IsTrue};
 ghost use Rattle.rule_core.specs.SubsortFields.{word_at, has, set_at, is_in, reaches, IsClosed};
@@ -17,14 +18,14 @@ pub(crate) fn set_of(rows: &[Vec<u64>], a: SortId) -> &[u64]
     }
 }
 
-// Whether the set of the first sort has the second.
+// Whether the set of the first sort contains the second.
 pub(crate) fn is_in(rows: &[Vec<u64>], a: SortId, b: SortId) -> bool
     ensures { result ≡ is_in rows.now a.0 b.0 }
 {
     has(set_of(rows, a), b)
 }
 
-// Whether the set has the sort.
+// Whether the set contains the sort.
 fn has(set: &[u64], b: SortId) -> bool
     ensures { result ≡ has set.now b.0 }
 {
@@ -46,7 +47,7 @@ pub(crate) fn grow(alloc: Global, rows: &mut Vec<Vec<u64>>, a: SortId) -> Result
     Ok(())
 }
 
-// The set with one sort more.
+// The set with one more sort.
 pub(crate) fn with_sort(alloc: Global, set: &[u64], b: SortId) -> Result<Vec<u64>, AllocError>
     ensures { IfOk result (λ more. (y : ℕ) → has more.items y ≡ (b.0 == y || has set.now y)) }
 {
@@ -64,8 +65,9 @@ fn insert(set: &mut Vec<u64>, b: SortId)
     set[b.0 as usize / 64] |= 1 << (b.0 % 64);
 }
 
-// Adds the second sort, and the sorts of its set, to the set of the first and to each set that has the first. It leaves
-// a set alone that has the second already, since that has all above it too.
+// Adds the second sort, and the sorts of its set, to the set of the first and to each set that
+// contains the first. It does not change a set that already contains the second, since that set
+// also contains every sort above the second.
 pub(crate) fn join(
     alloc: Global,
     rows: &mut Vec<Vec<u64>>,
@@ -87,7 +89,7 @@ pub(crate) fn join(
     Ok(())
 }
 
-// Makes the set of the sort, and each set that has it, at least so long, in words.
+// Makes the set of the sort, and each set that contains it, at least `len` words long.
 fn widen(rows: &mut Vec<Vec<u64>>, a: SortId, len: usize) -> Result<(), AllocError>
     ensures same { (x y : ℕ) → is_in rows.new.items x y ≡ is_in rows.old.items x y }
     ensures count { vec_len rows.new ≡ vec_len rows.old }
@@ -101,7 +103,8 @@ fn widen(rows: &mut Vec<Vec<u64>>, a: SortId, len: usize) -> Result<(), AllocErr
     Ok(())
 }
 
-// Adds these sorts to the set of the sort a and to each set that has it. A set that has b has them all.
+// Adds these sorts to the set of the sort a and to each set that contains it. A set that contains b
+// already contains all of them.
 fn merge(rows: &mut Vec<Vec<u64>>, a: SortId, b: SortId, more: &[u64])
     requires there { a.0 < vec_len rows.old }
     requires long { (x : ℕ) → x < vec_len rows.old → IsTrue (reaches rows.old.items x a.0) → length more.now ≤ length (set_at rows.old.items x) }
@@ -117,7 +120,7 @@ fn merge(rows: &mut Vec<Vec<u64>>, a: SortId, b: SortId, more: &[u64])
     }
 }
 
-// The index of the first word that has a sort, or the length where none has one.
+// The index of the first word that is not 0, or the length if there is none.
 fn first_word(set: &[u64]) -> usize
     ensures { (k : ℕ) → k < result → word_at set.now k ≡ 0 }
 {
@@ -129,7 +132,7 @@ fn first_word(set: &[u64]) -> usize
     set.len()
 }
 
-// Whether the sort with the number x is a, or its set has a, and its set does not have b.
+// Whether the sort with the number x is a, or its set contains a, and its set does not contain b.
 fn gets(rows: &[Vec<u64>], x: usize, a: SortId, b: SortId) -> bool
     requires { x < length rows.now }
     ensures leads { IsTrue result → IsTrue (reaches rows.now x a.0) }
@@ -138,7 +141,7 @@ fn gets(rows: &[Vec<u64>], x: usize, a: SortId, b: SortId) -> bool
     leads(rows, x, a) && !has(&rows[x], b)
 }
 
-// Whether the sort with the number x is the other, or its set has it.
+// Whether the sort with the number x is the other, or its set contains it.
 fn leads(rows: &[Vec<u64>], x: usize, a: SortId) -> bool
     requires { x < length rows.now }
     ensures { result ≡ reaches rows.now x a.0 }
@@ -146,7 +149,7 @@ fn leads(rows: &[Vec<u64>], x: usize, a: SortId) -> bool
     x == a.0 as usize || has(&rows[x], a)
 }
 
-// Makes the set at least so long, in words.
+// Makes the set at least `len` words long.
 fn lengthen(set: &mut Vec<u64>, len: usize) -> Result<(), AllocError>
     ensures same { (y : ℕ) → has set.new.items y ≡ has set.old.items y }
     ensures long { OnOk result (len ≤ length set.new.items) }
@@ -157,7 +160,7 @@ fn lengthen(set: &mut Vec<u64>, len: usize) -> Result<(), AllocError>
     Ok(())
 }
 
-// Adds the sorts of more to the set. The words of more before the index from have none.
+// Adds the sorts of `more` to the set. The words of `more` before the index `from` are 0.
 fn include(set: &mut Vec<u64>, more: &[u64], from: usize)
     requires room { length more.now ≤ length set.old.items }
     requires none { (k : ℕ) → k < from → word_at more.now k ≡ 0 }

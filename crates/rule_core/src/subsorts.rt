@@ -9,12 +9,13 @@ use std::alloc::{AllocError, Global};
 use std::marker::Model;
 use term_core::SortId;
 
-/// The pairs by which a definition says that one sort is below another. Contracts see them as a list of pairs, in the
-/// order in which they were added. No sort is below itself.
+/// The pairs by which a definition says that one sort is below another. Contracts see them as a
+/// list of pairs, in the order in which they were added. No sort is below itself.
 ///
-/// Beside the pairs it keeps for each sort the set of those above it, and the set of those that a pair puts right above
-/// it, a bit for each sort up to the greatest in the set. So a look-up takes one step, and the sets of 10,000 sorts
-/// take at most some 40 MB, with the room in which they grow.
+/// Besides the pairs, it keeps two sets for each sort: the sorts above it, and the sorts that a
+/// pair puts directly above it. A set has one bit for each sort number up to the greatest in the
+/// set. So a look-up takes one step. The sets of 10,000 sorts take at most about 40 MB, including
+/// their spare capacity.
 #[derive(Drop)]
 pub struct Subsorts {
     pairs: Vec<(SortId, SortId)>,
@@ -35,7 +36,7 @@ impl Model for Subsorts {
 }
 
 impl Subsorts {
-    /// No pair. It takes no memory yet.
+    /// No pairs. It allocates no memory yet.
     pub fn new(alloc: Global) -> Subsorts
         ensures { result ≡ [] }
     {
@@ -46,30 +47,31 @@ impl Subsorts {
         }
     }
 
-    /// Whether a chain of one or more pairs leads from a sort to another. It takes no memory, and looks at one entry.
+    /// Whether a chain of one or more pairs leads from the sort `a` to the sort `b`. It allocates
+    /// no memory, and looks at one entry.
     pub fn below(&self, a: SortId, b: SortId) -> bool
         ensures { IsTrue result ↔ IsBelow self.now a.0 b.0 }
     {
         is_in(&self.above, a, b)
     }
 
-    /// Whether this very pair was added. It takes no memory, and looks at one entry.
+    /// Whether exactly this pair was added. It allocates no memory, and looks at one entry.
     pub fn pair(&self, a: SortId, b: SortId) -> bool
         ensures { IsTrue result ↔ Contains self.now (a.0, b.0) }
     {
         is_in(&self.direct, a, b)
     }
 
-    /// Does nothing when it runs: a caller learns by it that no sort is below itself.
+    /// Has no effect at run time. It states that no sort is below itself.
     pub fn has_no_cycle(&self)
         ensures { HasNoCycle self.now }
     {
         let _pairs = &self.pairs;
     }
 
-    /// The sorts of a chain of pairs from a sort to another, both of them included: none exactly where the first is not
-    /// below the second. `AllocError` says that there was no memory for the chain. For each of its sorts it looks at
-    /// each pair at most once.
+    /// The sorts of a chain of pairs from `a` to `b`, including both. It is None exactly when `a`
+    /// is not below `b`. `AllocError`: out of memory for the chain. For each sort of the chain it
+    /// looks at each pair at most once.
     pub fn path(
         &self,
         alloc: Global,
@@ -83,7 +85,7 @@ impl Subsorts {
         if !self.below(a, b) {
             return Ok(None);
         }
-        // So the walk ends.
+        // This shows that the walk ends.
         self.has_no_cycle();
         let mut sorts = vec![in alloc; a]?;
         let mut last = a;
@@ -109,20 +111,21 @@ impl Subsorts {
         unreachable!()
     }
 
-    // Whether the first sort is the second, or below it.
+    // Whether the first sort is the second, or is below it.
     fn reaches(&self, a: SortId, b: SortId) -> bool
         ensures { IsTrue result ↔ ((a.0 ≡ b.0) ⊎ IsBelow self.now a.0 b.0) }
     {
         a == b || self.below(a, b)
     }
 
-    /// Adds a pair and answers true. Where a sort would then be below itself, it answers false and changes nothing.
-    /// `AllocError` says that memory ran out, and then no pair is added either.
+    /// Adds a pair and returns true. If a sort would then be below itself, it returns false and
+    /// changes nothing. `AllocError`: out of memory. Then no pair is added either.
     ///
-    /// Where the first sort is below the second already, only the set right above the first is made anew. Else it
-    /// looks at a few entries of each set, and a set that gets new sorts takes a step for each 64 numbers from the
-    /// first new sort to the greatest. So the pairs of a chain of 10,000 sorts, in order, reversed or shuffled, cost
-    /// some hundred million steps in all.
+    /// If the first sort is already below the second, only the set of the sorts directly above the
+    /// first is rebuilt. Otherwise it looks at a few entries of each set. A set that gets new sorts
+    /// takes one step for each 64 numbers from the first new sort to the greatest. So the pairs of
+    /// a chain of 10,000 sorts, in order, reversed or shuffled, cost some hundred million steps in
+    /// all.
     pub fn add(&mut self, alloc: Global, a: SortId, b: SortId) -> Result<bool, AllocError>
         ensures fresh { IfOk result (λ added. IsTrue added ↔ HasNoCycle (self.old ++ (a.0, b.0) ∷ [])) }
         ensures pairs { IfOk result (λ added. self.new ≡ (if added then self.old ++ (a.0, b.0) ∷ [] else self.old)) }

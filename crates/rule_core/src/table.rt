@@ -6,9 +6,9 @@ use std::alloc::{AllocError, Global};
 use std::collections::BTreeMap;
 use std::marker::Model;
 
-/// Values under names. Each name has a number, from 0 on without a gap, in the order in which the names came, and no
-/// name stands twice. Contracts see a table as the list of its names, each beside its value: an entry's place is its
-/// number.
+/// Values by name. Each name has a number, from 0 without a gap, in the order in which the names
+/// came. No name occurs twice. Contracts see a table as the list of its names, each with its value.
+/// The index of an entry is its number.
 #[derive(Drop)]
 pub struct Table<V> {
     entries: Vec<(String, V)>,
@@ -28,7 +28,7 @@ impl<V> Model for Table<V> {
 }
 
 impl<V: Drop> Table<V> {
-    /// A table without names. It takes no memory yet.
+    /// A table without names. It allocates no memory yet.
     pub fn new(alloc: Global) -> Self
         ensures { result ≡ [] }
     {
@@ -38,14 +38,14 @@ impl<V: Drop> Table<V> {
         }
     }
 
-    /// How many names the table has, which is also the number that the next new name gets.
+    /// How many names the table has. This is also the number that the next new name gets.
     pub fn len(&self) -> usize
         ensures { result ≡ length self.now }
     {
         self.entries.len()
     }
 
-    /// Does nothing when it runs: a caller learns by it that no name stands twice in the table.
+    /// Has no effect at run time. It states that no name occurs twice in the table.
     pub fn names_differ(&self)
         ensures { AreDistinct (names_of self.now) }
     {
@@ -59,15 +59,15 @@ impl<V: Drop> Table<V> {
         self.entries.is_empty()
     }
 
-    /// The number of a name: none exactly where the table lacks it. It compares the name with as many others as the
-    /// logarithm of the number of names, up to a factor.
+    /// The number of a name, or None if the table does not have it. The number of comparisons of
+    /// names is logarithmic in the number of names.
     pub fn number(&self, name: &str) -> Option<usize>
         ensures { result ≡ number_of self.now name.now }
     {
         self.numbers.get(name).copied()
     }
 
-    /// The name with this number: none exactly where the number is not below `len`. It looks at one entry.
+    /// The name with this number, or None if the number is not below `len`. It looks at one entry.
     pub fn name(&self, number: usize) -> Option<&str>
         ensures { option_copied result ≡ option_map (λ e. e.0) (slice_get self.now number) }
     {
@@ -75,7 +75,8 @@ impl<V: Drop> Table<V> {
         Some(entry.0.as_str())
     }
 
-    /// The value of the name with this number: none exactly where the number is not below `len`. It looks at one entry.
+    /// The value of the name with this number, or None if the number is not below `len`. It looks
+    /// at one entry.
     pub fn value(&self, number: usize) -> Option<&V>
         ensures { option_copied result ≡ option_map (λ e. e.1) (slice_get self.now number) }
     {
@@ -83,9 +84,10 @@ impl<V: Drop> Table<V> {
         Some(&entry.1)
     }
 
-    /// Gives a new name the next number and a value, and answers true. Where the table has the name already, it answers
-    /// false and changes nothing. `AllocError` says that memory ran out, and then nothing is changed either. It
-    /// costs what a look-up does and a copy of the name, and now and then a move of all entries to a larger room.
+    /// Gives a new name the next number and a value, and returns true. If the table already has the
+    /// name, it returns false and changes nothing. `AllocError`: out of memory. Then nothing
+    /// changes either. It costs a look-up and a copy of the name, and sometimes a move of all
+    /// entries to larger memory.
     pub fn insert(&mut self, name: String, value: V) -> Result<bool, AllocError>
         ensures fresh { IfOk result (λ added. added ≡ is_none (number_of self.old (string_bytes name))) }
         ensures entries { IfOk result (λ added. self.new ≡ (if added then self.old ++ (string_bytes name, value) ∷ [] else self.old)) }

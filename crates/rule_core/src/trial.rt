@@ -11,10 +11,11 @@ use std::marker::Brand;
 use std::sync::ledger::{Blank, Ledger};
 use term_core::{Steps, Subst, Term};
 
-/// The first of `rules` from the place `from` on that matches the term: its place, and the substitution that makes its
-/// left side the term. None comes exactly where no rule from there matches, so also where `from` is past the end.
-/// `AllocError` says that there was no memory for a substitution. Each rule is tried by itself, up to the first that
-/// matches, at the cost of `find_match`. A left side uses the variables of its rule alone.
+/// The first of `rules`, from the index `from` on, that matches the term: its index, and the
+/// substitution under which its left side becomes the term. It is None exactly when no rule from
+/// there on matches, so also if `from` is past the end. `AllocError`: out of memory for a
+/// substitution. The rules are tried one by one, up to the first that matches, each at the cost of
+/// `find_match`. A left side may use only the variables of its rule.
 pub fn first_match(
     alloc: Global,
     rules: &[Rule],
@@ -28,7 +29,7 @@ pub fn first_match(
     counted_match::<Brand>(alloc, rules, subsorts, from, term, Blank::new(1))
 }
 
-// The same, with a blank for a counter of the looks at the term, whose count nobody reads.
+// The same, with a counter of the looks at the term. Its count is never read.
 fn counted_match<L: Ledger>(
     alloc: Global,
     rules: &[Rule],

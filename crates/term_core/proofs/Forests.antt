@@ -1,4 +1,4 @@
--- Forests and lists of trees are one thing; heights and normal forms of a forest's trees.
+-- Forests and lists of trees correspond one to one; heights and normal forms of a forest's trees.
 use Rattle.std.proofs.Common.{◌≡◌, ℕ, ◌+◌, ◌<◌, ◌≤◌, zero, suc, max, List, [], ◌∷◌, ◌++◌, length, slice_get, ◌↔◌, Some, get_or, take, drop, refl, sym, ◌∙◌, ap, arith}
 use Rattle.std.proofs.lemmas.Option.{slice_get_read, slice_get_within, get_or_from_slice_get}
 use Rattle.std.proofs.lemmas.List.{take_more}
@@ -12,11 +12,11 @@ pub forest-trees : (ts : Forest) → forest (trees ts) ≡ ts
 forest-trees no_tree = refl
 forest-trees (more_trees t ts) = ap (more_trees t) (forest-trees ts)
 
--- lists with the same forest are the same
+-- lists with the same forest are equal
 pub forest_injective : (ts us : List Tree) → forest ts ≡ forest us → ts ≡ us
 forest_injective ts us e = sym (trees-forest ts) ∙ ap trees e ∙ trees-forest us
 
--- constructors with the same symbol are the same where their lists of arguments are
+-- constructors with the same symbol are equal if and only if their lists of arguments are equal
 pub same_node : (P : Type 0) (t u : Tree) (f g : ℕ) (ts us : List Tree) → t ≡ node f (forest ts) → u ≡ node g (forest us) → f ≡ g → P ↔ (ts ≡ us) → P ↔ (t ≡ u)
 same_node P t u f g ts us e h fg same = (
   λ p. let q : ts ≡ us = same.0 p in cc,
@@ -38,13 +38,13 @@ height_positive (leaf s v) = omega arith
 height_positive (node f ts) = omega arith
 height_positive (inj a b t) = omega arith
 
--- Every tree has a root.
+-- Every tree has a size of at least 1.
 pub size_positive : (t : Tree) → 0 < size t
 size_positive (leaf s v) = omega arith
 size_positive (node f ts) = omega arith
 size_positive (inj a b t) = omega arith
 
--- the size of the trees from i on, the one at i apart
+-- the size of the trees from i on is the size of the tree at i plus the size of the rest
 pub sizes-drop : (ts : List Tree) (i : ℕ) (t : Tree) → slice_get ts i ≡ Some t → sizes (forest (drop i ts)) ≡ size t + sizes (forest (drop (i + 1) ts))
 sizes-drop [] i t e = let no : ⊥ = cc in absurd no
 sizes-drop (u ∷ ts) zero t e = let same : u ≡ t = cc in ap (λ (v : Tree). size v + sizes (forest ts)) same
@@ -70,7 +70,7 @@ normal_of-item [] i t e lt a = absurd (omega arith)
 normal_of-item (u ∷ ts) zero t e lt a = rw e a.0
 normal_of-item (u ∷ ts) (suc i) t e lt a = normal_of-item ts i t e (omega arith) a.1
 
--- the same of a child that was looked up
+-- the same for a child that was looked up
 pub height_of-child : (ts : List Tree) (i : ℕ) (t : Tree) → slice_get ts i ≡ Some t → height t ≤ heights (forest ts)
 height_of-child [] i t e = cc
 height_of-child (u ∷ ts) zero t e = let same : u ≡ t = cc in let h : height u ≡ height t = ap height same in omega arith
@@ -81,18 +81,18 @@ normal_of-child [] i t e a = let no : ⊥ = cc in absurd no
 normal_of-child (u ∷ ts) zero t e a = let same : t ≡ u = cc in rw same a.0
 normal_of-child (u ∷ ts) (suc i) t e a = normal_of-child ts i t e a.1
 
--- the first trees of a list, with one more
+-- the first trees of a list, and one more
 pub take_child : (ts : List Tree) (i : ℕ) (t : Tree) → slice_get ts i ≡ Some t → take (i + 1) ts ≡ take i ts ++ t ∷ []
 take_child ts i t e =
     take_more ts i t (slice_get_within ts i t e) ∙ ap (λ (u : Tree). take i ts ++ u ∷ []) (get_or_from_slice_get ts i t t e)
 
--- an injection of a tree of another kind is left as it is
+-- an injection of a tree that is not an injection is built unchanged
 pub injected-other : (a b : ℕ) (t : Tree) → IsNoInjection t → injected a b t ≡ inj a b t
 injected-other a b (leaf s v) other = refl
 injected-other a b (node f ts) other = refl
 injected-other a b (inj c d t) other = absurd other
 
--- injections in a row go from the first sort to the last
+-- injections in a row become one from the innermost source sort to the outermost target sort
 pub injected-injected : (a b c d : ℕ) (t : Tree) → injected a b (injected c d t) ≡ injected c b t
 injected-injected a b c d (leaf s v) = refl
 injected-injected a b c d (node f ts) = refl

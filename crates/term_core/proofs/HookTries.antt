@@ -6,7 +6,7 @@ use Rattle.term_core.specs.HookValues.{hook_value}
 use Rattle.term_core.specs.declared.values.NoValue.{NoValue}
 use Rattle.term_core.specs.declared.values.NoValue.TheVariants.{ZeroDivisor, NegativeShift, Range}
 
--- the hook with a number, at whole numbers
+-- the value of the hook with this number, at whole numbers
 on : ℕ → List ℤ → Option (Result DomainValue NoValue)
 on number arguments = hook_value number (map integer arguments)
 
@@ -41,7 +41,8 @@ ends : (on 3 (least ∷ (neg_ℤ (pos 1) ∷ [])) ≡ Some (Err Range)) × (on 4
 unfolding on is least
 ends = (refl, refl, refl, refl)
 
--- no value of its kinds: a truth value where a whole number has to be, an argument too few, a number that no hook has
+-- there is no value if the arguments are not of the hook's kinds (a truth value instead of a whole
+-- number, or an argument too few), or if no hook has the number
 misfits : (hook_value 0 (truth true ∷ (truth false ∷ [])) ≡ None) × (on 0 (pos 1 ∷ []) ≡ None) × (on 31 (pos 1 ∷ (pos 1 ∷ [])) ≡ None) × (hook_value 25 (truth true ∷ (truth false ∷ [])) ≡ Some (Ok (truth false)))
 unfolding on
 misfits = (refl, refl, refl, refl)

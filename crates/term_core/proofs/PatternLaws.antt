@@ -1,4 +1,4 @@
--- What a pattern becomes, taken apart.
+-- The term that a pattern becomes, from the terms of its parts.
 use Rattle.std.proofs.Common.{◌≡◌, ℕ, ◌+◌, ◌<◌, ◌≤◌, ◌≢◌, ◌↔◌, ◌⊎◌, zero, suc, max, List, [], ◌∷◌, map, length, get_or, slice_get, drop, set, replicate, Option, Some, None, refl, sym, ◌∙◌, ap, ⊎_elim, arith}
 use Rattle.std.specs.Prelude.{option_map, IsSomeAnd, Bool, false, IsTrue}
 use Rattle.std.proofs.lemmas.Bool.{false≢true}
@@ -12,7 +12,7 @@ use Rattle.term_core.specs.GroundPatterns.{IsGround, AreGround}
 use Rattle.term_core.proofs.Forests.{injected-injected, norm-normal, injected-other}
 use Rattle.term_core.specs.declared.rule_patterns.RulePat.{RulePat}
 
--- how deep a pattern is
+-- the depth of a pattern
 abbrev mutual
   pub depth : Pattern → ℕ
   depth (variable x) = 1
@@ -25,18 +25,18 @@ abbrev mutual
   depths no_pattern = 0
   depths (more_patterns p ps) = max (depth p) (depths ps)
 
--- a forest is there where its first tree and the others are
+-- a forest exists if and only if its first tree and the others exist
 pub with_first_some : (o : Option Tree) (os : Option Forest) (t : Tree) (ts : Forest) → (with_first o os ≡ Some (more_trees t ts)) ↔ ((o ≡ Some t) × (os ≡ Some ts))
 with_first_some None os t ts = (λ e. let no : ⊥ = cc in absurd no, λ e. let p : None ≡ Some t = e.0 in cc)
 with_first_some (Some u) None t ts = (λ e. let no : ⊥ = cc in absurd no, λ e. let p : None ≡ Some ts = e.1 in cc)
 with_first_some (Some u) (Some us) t ts = (λ e. (cc, cc), λ e. let p : Some u ≡ Some t = e.0 in let q : Some us ≡ Some ts = e.1 in cc)
 
--- a constructor is there where its arguments are
+-- a constructor exists if and only if its arguments exist
 pub node_some : (f g : ℕ) (os : Option Forest) (ts : Forest) → (option_map (node f) os ≡ Some (node g ts)) ↔ ((f ≡ g) × (os ≡ Some ts))
 node_some f g None ts = (λ e. let no : ⊥ = cc in absurd no, λ e. let p : None ≡ Some ts = e.1 in cc)
 node_some f g (Some us) ts = (λ e. (cc, cc), λ e. let p : f ≡ g = e.0 in let q : Some us ≡ Some ts = e.1 in cc)
 
--- no pattern is deeper than the deepest
+-- no pattern is deeper than the greatest depth
 pub depth_of-item : (ps : List RulePat) (i : ℕ) (p : RulePat) → p ≡ get_or ps i p → i < length ps → depth (plain_pattern p) ≤ depths (plain_patterns ps)
 depth_of-item [] i p e lt = absurd (omega arith)
 depth_of-item (q ∷ ps) zero p e lt =
@@ -44,7 +44,7 @@ depth_of-item (q ∷ ps) zero p e lt =
     omega arith
 depth_of-item (q ∷ ps) (suc i) p e lt = omega (arith, depth_of-item ps i p e (omega arith))
 
--- as many trees as patterns
+-- there are as many trees as patterns
 pub length-instances : (theta : List (Option Tree)) (ps : List RulePat) (ts : List Tree) → instances_of theta (plain_patterns ps) ≡ Some (forest ts) → length ps ≡ length ts
 length-instances theta [] [] e = refl
 length-instances theta [] (t ∷ ts) e = let no : ⊥ = cc in absurd no
@@ -58,7 +58,7 @@ length-instances theta (p ∷ ps) (t ∷ ts) e =
     (with_first_some (instance_of theta (plain_pattern p)) (instances_of theta (plain_patterns ps)) t (forest ts)).0 e in
     ap suc (length-instances theta ps ts parts.1)
 
--- What patterns from i on become is what the one at i becomes, and what the others do.
+-- The terms of the patterns from i on are the term of the one at i, and the terms of the others.
 pub rest_more : (theta : List (Option Tree)) (ps : List RulePat) (ts : List Tree) (i : ℕ) (p : RulePat) (t : Tree) → p ≡ get_or ps i p → i < length ps → slice_get ts i ≡ Some t → (instances_of theta (plain_patterns (drop i ps)) ≡ Some (forest (drop i ts))) ↔ ((instance_of theta (plain_pattern p) ≡ Some t) × (instances_of theta (plain_patterns (drop (i + 1) ps)) ≡ Some (forest (drop (i + 1) ts))))
 rest_more theta ps ts i p t e lt item =
     let front : drop i ps ≡ p ∷ drop (i + 1) ps = drop_more ps i p lt ∙ ap (λ (q : RulePat). q ∷ drop (i + 1) ps) (sym e) in
@@ -76,11 +76,11 @@ other_constructor theta p f g ps t is root other e =
     (node_some f g (instances_of theta (plain_patterns ps)) (forest (children t))).0 both in
     ⊎_elim (λ (ne : f ≢ g). ne parts.0) (λ (ne : length ps ≢ length (children t)). ne (length-instances theta ps (children t) parts.1)) other
 
--- an answer of false, where the fact does not hold
+-- an answer is false, if the fact does not hold
 pub refused : (b : Bool) (P : Type 0) → b ≡ false → (P → ⊥) → IsTrue b ↔ P
 refused b P e wrong = rw e (λ no. absurd (false≢true no), λ p. absurd (wrong p))
 
--- a substitution with no variable bound has normal terms alone
+-- a substitution in which no variable is bound has only normal terms
 pub AreNormalBindings-replicate : (n : ℕ) → AreNormalBindings (replicate n None)
 AreNormalBindings-replicate zero = tt
 AreNormalBindings-replicate (suc n) = AreNormalBindings-replicate n
@@ -99,7 +99,7 @@ IsNormal-binding (Some u ∷ theta) zero t ns e = let same : t ≡ u = cc in rw 
 IsNormal-binding (None ∷ theta) (suc x) t ns e = IsNormal-binding theta x t ns e
 IsNormal-binding (Some u ∷ theta) (suc x) t ns e = IsNormal-binding theta x t ns.1 e
 
--- the normal forms of trees, the first one apart
+-- the normal forms of trees are the normal form of the first one and those of the others
 norms-with_first : (o : Option Tree) (os : Option Forest) → option_map norms (with_first o os) ≡ with_first (option_map norm o) (option_map norms os)
 norms-with_first None os = refl
 norms-with_first (Some t) None = refl
@@ -117,7 +117,8 @@ norm-binding : (theta : List (Option Tree)) (x : ℕ) (o : Option Tree) → AreN
 norm-binding theta x None ns e = refl
 norm-binding theta x (Some t) ns e = ap (λ (u : Tree). Some u) (norm-normal t (IsNormal-binding theta x t ns e))
 
--- Under normal terms, the instance is the normal form of the pattern with the terms in their places.
+-- Under normal terms, the instance is the normal form of the pattern with its variables replaced by
+-- the terms.
 mutual
   pub norm-substituted : (theta : List (Option Tree)) (p : Pattern) → AreNormalBindings theta → option_map norm (substituted theta p) ≡ instance_of theta p
   norm-substituted theta (variable x) ns = norm-binding theta x (binding theta x) ns refl
@@ -133,7 +134,7 @@ mutual
   norms-all_substituted theta (more_patterns p ps) ns =
       norms-with_first (substituted theta p) (all_substituted theta ps) ∙ (ap (λ (o : Option Tree). with_first o (option_map norms (all_substituted theta ps))) (norm-substituted theta p ns) ∙ ap (with_first (instance_of theta p)) (norms-all_substituted theta ps ns))
 
--- The pattern that stands for one term is ground and becomes that term, if the term is normal.
+-- The pattern of a term is ground. If the term is normal, the pattern becomes that term.
 mutual
   pub instance_of-ground_pattern : (theta : List (Option Tree)) (t : Tree) → IsNormal t → instance_of theta (ground_pattern t) ≡ Some t
   instance_of-ground_pattern theta (leaf s v) n = refl
@@ -156,14 +157,14 @@ mutual
   AreGround-ground_patterns no_tree = tt
   AreGround-ground_patterns (more_trees t ts) = (IsGround-ground_pattern t, AreGround-ground_patterns ts)
 
--- Trees fit where the first one and the others do.
+-- Trees fit if and only if the first one and the others fit.
 with_first_fits : (n : ℕ) (o : Option Tree) (os : Option Forest) → IsSomeAnd (with_first o os) (λ (ts : Forest). heights ts ≤ n) ↔ (IsSomeAnd o (λ (t : Tree). height t ≤ n) × IsSomeAnd os (λ (ts : Forest). heights ts ≤ n))
 with_first_fits n None os = (λ h. absurd h, λ h. absurd h.0)
 with_first_fits n (Some t) None = (λ h. absurd h, λ h. absurd h.1)
 with_first_fits n (Some t) (Some ts) =
     (λ h. (omega arith, omega arith), λ h. let a : height t ≤ n = h.0 in let b : heights ts ≤ n = h.1 in omega arith)
 
--- Patterns from i on fit where the one at i and the others do.
+-- The patterns from i on fit if and only if the one at i and the others fit.
 pub rest_fits : (n : ℕ) (theta : List (Option Tree)) (ps : List RulePat) (i : ℕ) (p : RulePat) → p ≡ get_or ps i p → i < length ps → AllFitWithin n theta (plain_patterns (drop i ps)) ↔ (FitsWithin n theta (plain_pattern p) × AllFitWithin n theta (plain_patterns (drop (i + 1) ps)))
 rest_fits n theta ps i p e lt =
     let front : drop i ps ≡ p ∷ drop (i + 1) ps = drop_more ps i p lt ∙ ap (λ (q : RulePat). q ∷ drop (i + 1) ps) (sym e) in
@@ -176,7 +177,7 @@ instance_of-injections theta a b c d p = joined (instance_of theta p) where
   joined None = refl
   joined (Some t) = ap (λ (u : Tree). Some u) (injected-injected a b c d t)
 
--- the trees of the patterns from i on: that of the one at i, and those of the others
+-- the trees of the patterns from i on are the tree of the one at i, and the trees of the others
 pub rest_built : (theta : List (Option Tree)) (ps : List RulePat) (i : ℕ) (p : RulePat) (t : Tree) (ts : Forest) → p ≡ get_or ps i p → i < length ps → instance_of theta (plain_pattern p) ≡ Some t → instances_of theta (plain_patterns (drop (i + 1) ps)) ≡ Some ts → instances_of theta (plain_patterns (drop i ps)) ≡ Some (more_trees t ts)
 rest_built theta ps i p t ts e lt first others =
     let front : drop i ps ≡ p ∷ drop (i + 1) ps = drop_more ps i p lt ∙ ap (λ (q : RulePat). q ∷ drop (i + 1) ps) (sym e) in

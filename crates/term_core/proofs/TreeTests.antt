@@ -1,4 +1,4 @@
--- The test of trees answers true exactly where they are equal.
+-- The test of trees returns true exactly when they are equal.
 use Rattle.std.proofs.Common.{◌≡◌, ◌&&◌, Bool, true, false, refl, ap}
 use Rattle.std.specs.Bool.{Decides}
 use Rattle.std.proofs.lemmas.Bool.{false≢true}
@@ -7,13 +7,13 @@ use Rattle.std.proofs.lemmas.Slice.Eq.{bytes_eq-Decides}
 use Rattle.term_core.specs.Terms.{DomainValue, integer, truth, text, Tree, leaf, node, inj, Forest, no_tree, more_trees}
 use Rattle.term_core.specs.TreeTest.{truth_eq, value_eq, tree_eq, forest_eq}
 
--- two tests, of two parts
+-- the two tests of two parts decide the whole
 both_decide : (b c : Bool) (P Q R : Type 0) → Decides b P → Decides c Q → (P → Q → R) → (R → P) → (R → Q) → Decides (b && c) R
 both_decide true true P Q R p q join left right = (λ e. join (p.0 refl) (q.0 refl), λ r. refl)
 both_decide true false P Q R p q join left right = (λ e. absurd (false≢true e), λ r. q.1 (right r))
 both_decide false c P Q R p q join left right = (λ e. absurd (false≢true e), λ r. p.1 (left r))
 
--- values of two forms are never equal
+-- values of two different forms are never equal
 apart : (P : Type 0) → (P → ⊥) → Decides false P
 apart P no_way = (λ e. absurd (false≢true e), λ p. absurd (no_way p))
 

@@ -1,7 +1,7 @@
--- Patterns that stand for one term alone: laws speak of them.
+-- Patterns with exactly one instance. The laws are about these.
 use Rattle.term_core.specs.Patterns.{Pattern, Patterns, variable, domain_value, application, injection, call, no_pattern, more_patterns}
 
--- no variable stands in it and no function is called
+-- the pattern has no variable and no call of a function
 abbrev mutual
   pub IsGround : Pattern → Type 0
   IsGround (variable x) = ⊥

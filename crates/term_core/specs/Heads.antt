@@ -1,4 +1,4 @@
--- What a look at a term shows: its head and how many children it has.
+-- What a look at a term shows: its head and the number of its children.
 use Rattle.std.specs.Prelude.{◌≡◌, length}
 use Rattle.term_core.specs.Terms.{Tree, leaf, node, inj, forest, children}
 use Rattle.term_core.specs.Values.{value_of}

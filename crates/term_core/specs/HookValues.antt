@@ -1,6 +1,6 @@
--- The hooks on whole numbers and truth values (K framework, "domains.md"): what each gives at its arguments. Whole
--- numbers are those of mathematics; where the result of a hook is a whole number, it has to lie from -2^127 to 2^127 -
--- 1.
+-- The hooks on whole numbers and truth values (K framework, "domains.md"): the value of each at its
+-- arguments. Whole numbers are mathematical integers. If the result of a hook is a whole number, it
+-- must be from -2^127 to 2^127 - 1.
 use Rattle.std.specs.Prelude.{ℕ, ◌-◌, ◌^◌, ℤ, pos, negsuc, ◌+ℤ◌, ◌-ℤ◌, ◌*ℤ◌, int_lt, int_le, int_div, int_rem, unsigned_abs, bit_and, bit_or, bit_xor, Bool, not, ◌&&◌, ◌||◌, if◌then◌else◌, List, [], ◌∷◌, Option, Some, None, Result, Ok, Err, codes, slice_get, option_map}
 use Rattle.std.specs.Int.{int_min, int_max, int_div_euclid, int_rem_euclid}
 use Rattle.std.specs.Ordering.{int_eq}
@@ -10,19 +10,19 @@ use Rattle.term_core.specs.declared.values.NoValue.TheVariants.{ZeroDivisor, Neg
 
 -- ---- whole numbers
 
--- the number, where it lies in the range
+-- the number, if it is in the range
 abbrev pub in_range : ℤ → Result ℤ NoValue
 in_range z = if int_le (pos 0 -ℤ pos (2 ^ 127)) z && int_lt z (pos (2 ^ 127)) then Ok z else Err Range
 
--- what a division gives, by the divisor
+-- the result of a division, by the divisor
 abbrev pub unless_zero : ℤ → Result ℤ NoValue → Result ℤ NoValue
 unless_zero y r = if int_eq y (pos 0) then Err ZeroDivisor else r
 
--- what a shift gives, by how far it goes
+-- the result of a shift, by the distance
 abbrev pub unless_negative : ℤ → Result ℤ NoValue → Result ℤ NoValue
 unless_negative y r = if int_lt y (pos 0) then Err NegativeShift else r
 
--- -z - 1: in two's complement, z with each bit turned
+-- -z - 1, which is z in two's complement with each bit inverted
 abbrev pub complement : ℤ → ℤ
 complement (pos n) = negsuc n
 complement (negsuc n) = pos n
@@ -31,7 +31,8 @@ complement (negsuc n) = pos n
 abbrev pub bits_without : ℕ → ℕ → ℕ
 bits_without m n = m - bit_and m n
 
--- In two's complement without end, the bits of n are its binary digits, and those of -n - 1 are these, each turned.
+-- In infinite two's complement, the bits of n are its binary digits. The bits of -n - 1 are the
+-- same digits, each inverted.
 abbrev pub bitwise_and : ℤ → ℤ → ℤ
 bitwise_and (pos m) (pos n) = pos (bit_and m n)
 bitwise_and (pos m) (negsuc n) = pos (bits_without m n)
@@ -65,9 +66,9 @@ pub record Hook : Type 0 where
 abbrev hook : List ℕ → Operation → Hook
 hook name operation = record { name = name; operation = operation }
 
--- The hooks, in order; the number of a hook is its place here. `INT.tdiv` has the quotient rounded to zero, and
--- `INT.ediv` the one whose remainder is not negative; by a power of two, as in `INT.shr`, that is the quotient rounded
--- down.
+-- The hooks, in order. The number of a hook is its position here. `INT.tdiv` rounds the quotient
+-- towards zero. `INT.ediv` has the quotient whose remainder is not negative. For a power of two, as
+-- in `INT.shr`, that is the quotient rounded down.
 abbrev pub hooks : List Hook
 hooks =
     hook (codes "INT.add") (on_integers (λ x y. in_range (x +ℤ y)))
@@ -123,7 +124,7 @@ result_kind (compares f) = truths
 result_kind (on_truth f) = truths
 result_kind (on_truths f) = truths
 
--- what the table says of a hook, beside its value
+-- what the table says of a hook, apart from its value
 pub record Signature : Type 0 where
   pub name : List ℕ
   pub arguments : List Kind
@@ -132,7 +133,7 @@ pub record Signature : Type 0 where
 abbrev pub signature : Hook → Signature
 signature h = record { name = h.name; arguments = argument_kinds h.operation; result = result_kind h.operation }
 
--- the kinds of the arguments of the hook with this number, where there is one
+-- the kinds of the arguments of the hook with this number, if there is one
 abbrev pub hook_arguments : ℕ → Option (List Kind)
 hook_arguments number = option_map (λ (h : Hook). argument_kinds h.operation) (slice_get hooks number)
 
@@ -142,7 +143,7 @@ abbrev pub outcome : {A : Type 0} → (A → DomainValue) → Result A NoValue �
 outcome make (Ok a) = Ok (make a)
 outcome make (Err reason) = Err reason
 
--- what an operation gives, where it has arguments of its kinds
+-- the result of an operation, if its arguments are of its kinds
 abbrev pub operation_value : Operation → List DomainValue → Option (Result DomainValue NoValue)
 operation_value (on_integer f) (integer x ∷ []) = Some (outcome integer (f x))
 operation_value (on_integers f) (integer x ∷ (integer y ∷ [])) = Some (outcome integer (f x y))
@@ -151,12 +152,12 @@ operation_value (on_truth f) (truth a ∷ []) = Some (Ok (truth (f a)))
 operation_value (on_truths f) (truth a ∷ (truth b ∷ [])) = Some (Ok (truth (f a b)))
 operation_value operation arguments = None
 
--- the same of a hook that is there or not
+-- the same for a hook that may be missing
 abbrev pub value_by : Option Hook → List DomainValue → Option (Result DomainValue NoValue)
 value_by None arguments = None
 value_by (Some h) arguments = operation_value h.operation arguments
 
--- The value of the hook with this number, or the reason why it has none. There is neither where no hook has the number
--- or the arguments are not of its kinds.
+-- The value of the hook with this number, or the reason why it has no value. It is None if no hook
+-- has the number or if the arguments are not of its kinds.
 abbrev pub hook_value : ℕ → List DomainValue → Option (Result DomainValue NoValue)
 hook_value number arguments = value_by (slice_get hooks number) arguments

@@ -1,4 +1,4 @@
--- Lists of a rule's patterns, as they stand below a constructor or a function.
+-- Lists of patterns of a rule: the arguments of a constructor or of a function.
 use Rattle.std.specs.Prelude.{ℕ, List, Option, IsSomeAnd, map, ◌≤◌}
 use Rattle.term_core.specs.Terms.{Tree, Forest, heights}
 use Rattle.term_core.specs.Patterns.{Patterns, patterns, instances_of}
@@ -9,6 +9,6 @@ use Rattle.term_core.specs.declared.rule_patterns.RulePat.{RulePat}
 abbrev pub plain_patterns : List RulePat → Patterns
 plain_patterns ps = patterns (map plain_pattern ps)
 
--- There are instances of all of them, and none is higher than n.
+-- All of them have instances, and none is higher than n.
 abbrev pub AllFitWithin : ℕ → List (Option Tree) → Patterns → Type 0
 AllFitWithin n theta ps = IsSomeAnd (instances_of theta ps) (λ (ts : Forest). heights ts ≤ n)

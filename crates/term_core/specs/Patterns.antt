@@ -1,9 +1,10 @@
--- Patterns of rules (Kore language document, "Patterns"): terms with variables and calls of functions. Variables are
--- numbers too; a substitution is the list of what stands for them, by number, where something does.
+-- Patterns of rules (Kore language document, "Patterns"): terms with variables and calls of
+-- functions. Variables are numbers too. A substitution is a list, indexed by the variables'
+-- numbers. It has the term of each variable that is bound.
 use Rattle.std.specs.Prelude.{ℕ, List, [], ◌∷◌, Option, Some, None, option_map, slice_index_or, IsSomeAnd, ◌≤◌}
 use Rattle.term_core.specs.Terms.{DomainValue, Tree, leaf, node, inj, Forest, no_tree, more_trees, height, IsNormal, injected}
 
--- `call` has the symbol of a function, the sorts that it is applied at, and its arguments.
+-- `call` has the symbol of a function, its sort arguments, and its arguments.
 mutual
   pub data Pattern : Type 0 where
     variable : ℕ → Pattern
@@ -21,7 +22,7 @@ abbrev pub patterns : List Pattern → Patterns
 patterns [] = no_pattern
 patterns (p ∷ ps) = more_patterns p (patterns ps)
 
--- what a substitution gives a variable
+-- the tree that a substitution has for a variable, if the variable is bound
 abbrev pub binding : List (Option Tree) → ℕ → Option Tree
 binding theta x = slice_index_or theta x None
 
@@ -31,14 +32,14 @@ AreNormalBindings [] = Unit {0}
 AreNormalBindings (None ∷ theta) = AreNormalBindings theta
 AreNormalBindings (Some t ∷ theta) = IsNormal t × AreNormalBindings theta
 
--- a tree in front of trees, where both are there
+-- a tree in front of trees, if both are given
 abbrev pub with_first : Option Tree → Option Forest → Option Forest
 with_first None ts = None
 with_first (Some t) None = None
 with_first (Some t) (Some ts) = Some (more_trees t ts)
 
--- The tree that a pattern becomes under a substitution, as it is written. There is none where a variable is not bound
--- or a function is called.
+-- The tree that a pattern becomes under a substitution, with injections not joined. There is none
+-- if a variable is not bound or if a function is called.
 abbrev mutual
   pub substituted : List (Option Tree) → Pattern → Option Tree
   substituted theta (variable x) = binding theta x
@@ -51,8 +52,8 @@ abbrev mutual
   all_substituted theta no_pattern = Some no_tree
   all_substituted theta (more_patterns p ps) = with_first (substituted theta p) (all_substituted theta ps)
 
--- The same tree with two injections in a row joined as it is built. Where the substitution gives normal terms, it is
--- the normal form of `substituted`.
+-- The same tree, but two injections in a row are joined when the tree is built. If the terms of the
+-- substitution are normal, it is the normal form of `substituted`.
 abbrev mutual
   pub instance_of : List (Option Tree) → Pattern → Option Tree
   instance_of theta (variable x) = binding theta x
@@ -69,7 +70,7 @@ abbrev mutual
 abbrev pub FitsWithin : ℕ → List (Option Tree) → Pattern → Type 0
 FitsWithin n theta p = IsSomeAnd (instance_of theta p) (λ (t : Tree). height t ≤ n)
 
--- the pattern that stands for one term alone
+-- the pattern whose only instance is this tree
 abbrev mutual
   pub ground_pattern : Tree → Pattern
   ground_pattern (leaf s v) = domain_value s v

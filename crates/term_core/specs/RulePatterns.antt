@@ -1,4 +1,4 @@
--- The plain pattern that a `RulePat` of the code stands for.
+-- The plain pattern that represents a `RulePat` of the code.
 use Rattle.std.specs.Prelude.{ℕ, List, map}
 use Rattle.term_core.specs.Patterns.{Pattern, variable, domain_value, application, injection, call, patterns}
 use Rattle.term_core.specs.Values.{value_of}
@@ -12,7 +12,7 @@ use Rattle.term_core.specs.declared.rule_patterns.RulePat.TheFolds.{fold-RulePat
 abbrev pub sort_numbers : List SortId → List ℕ
 sort_numbers ss = map (λ (s : SortId). s.0) ss
 
--- one layer, whose parts are plain patterns already
+-- one layer, whose parts are already plain patterns
 abbrev pub plain_layer : RulePat-F Pattern → Pattern
 plain_layer (layer.Var x) = variable x
 plain_layer (layer.Value s v) = domain_value s.0 (value_of v)

@@ -1,4 +1,5 @@
--- A tree as a list of tokens, in postfix order, and back: by this the proofs tell trees apart.
+-- A tree as a list of tokens, in postfix order, and the way back. The proofs use this to show that
+-- trees differ.
 use Rattle.std.specs.Prelude.{◌≡◌, refl, ℕ, ℤ, Bool, List, [], ◌∷◌, ◌⊎◌}
 use Rattle.std.proofs.Common.{inl, inr, ◌∙◌, ap}
 use Rattle.std.specs.Coded.{Coded, code_by, coded×, coded⊎, coded_ℕ, coded_ℤ, coded_bool, coded_list}
@@ -24,7 +25,8 @@ abbrev pub value_code : Coded DomainValue
 value_code =
     code_by (ℤ ⊎ (Bool ⊎ List ℕ)) (coded⊎ coded_ℤ (coded⊎ coded_bool (coded_list coded_ℕ))) value_cases value_of_cases value_of_cases-value_cases
 
--- A token opens a list of arguments, or is a leaf, or ends a constructor's arguments, or an injection's.
+-- A token begins a list of arguments, or is a leaf, or ends a constructor's arguments, or ends an
+-- injection.
 abbrev Token : Type 0
 Token = (Unit {0} ⊎ (ℕ × DomainValue)) ⊎ (ℕ ⊎ (ℕ × ℕ))
 
@@ -32,7 +34,7 @@ abbrev token_code : Coded Token
 token_code =
     coded⊎ (coded⊎ coded_unit (coded× coded_ℕ value_code)) (coded⊎ coded_ℕ (coded× coded_ℕ coded_ℕ))
 
--- the tokens of a tree, and of a forest from its last tree on, in front of others
+-- the tokens of a tree, or of a forest from its last tree on, in front of other tokens
 abbrev mutual
   tokens : Tree → List Token → List Token
   tokens (leaf s v) rest = inl (inr (s, v)) ∷ rest
@@ -43,7 +45,7 @@ abbrev mutual
   all_tokens no_tree rest = rest
   all_tokens (more_trees t ts) rest = all_tokens ts (tokens t rest)
 
--- reading one token, over a stack of the forests that are open
+-- reads one token, with a stack of the open forests
 abbrev read_token : Token → List Forest → List Forest
 read_token (inl (inl u)) open_forests = no_tree ∷ open_forests
 read_token (inl (inr p)) [] = []
@@ -71,7 +73,7 @@ mutual
   read_all-all_tokens (more_trees t ts) rest fs =
       read_all-all_tokens ts (tokens t rest) fs ∙ read_all-tokens t rest ts fs
 
--- the first tree of the forest on top
+-- the first tree of the forest at the top of the stack
 abbrev first_tree : List Forest → Tree
 first_tree [] = node 0 no_tree
 first_tree (no_tree ∷ fs) = node 0 no_tree

@@ -1,4 +1,5 @@
--- The tree that a `Term` of the code stands for: its children stand for theirs.
+-- The tree that represents a `Term` of the code. The children of the tree represent the children of
+-- the term.
 use Rattle.std.specs.Prelude.{ℕ, ◌≡◌, ◌≤◌}
 use Rattle.term_core.specs.Terms.{Tree, leaf, node, inj, forest, height, IsNormal}
 use Rattle.term_core.specs.Values.{value_of}
@@ -14,7 +15,8 @@ node_tree (form.Inj a b t) = inj a.0 b.0 t
 abbrev pub tree_of : Inside → Tree
 tree_of a = node_tree a.node.value
 
--- what holds of every term of the code: it is normal, and its height is the one that it keeps and at most 500
+-- what holds of every term of the code: it is normal, its height is the stored height, and that is
+-- at most 500
 pub record IsTermOfHeight (high : ℕ) (t : Tree) : Type 0 where
   pub normal : IsNormal t
   pub value : high ≡ height t

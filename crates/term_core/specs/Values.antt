@@ -1,4 +1,4 @@
--- What a `Value` and a `Scalar` of the code stand for.
+-- The plain values that represent a `Value` and a `Scalar` of the code.
 use Rattle.std.specs.Rc.{rc_str_bytes}
 use Rattle.term_core.specs.Terms.{DomainValue, integer, truth, text}
 use Rattle.term_core.specs.declared.values.Value.{Value}

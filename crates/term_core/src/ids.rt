@@ -1,4 +1,5 @@
-// Numbers that stand for names: the reader gives each name its number once, and nothing compares text afterwards.
+// Numbers that represent names. The reader numbers each name once, and after that no text is
+// compared.
 
 /// The number of a symbol in its signature.
 #[derive(Clone, Copy, PartialEq, Eq, PartialOrd, Ord, Hash, Debug)]

@@ -1,4 +1,4 @@
-// What a pattern becomes when its variables stand for terms.
+// The terms that patterns become when their variables are replaced by terms.
 ghost use Rattle.std.specs.Prelude.{ℕ, ◌≡◌, ◌↔◌, ◌+◌, ◌-◌, ◌≤◌, [], length, IfOk, IsTrue, Some, option_map};
 ghost use Rattle.term_core.specs.Terms.{forest, children, injected, norm, size, sizes};
 ghost use Rattle.term_core.specs.Patterns.{injection, substituted, instance_of, instances_of, FitsWithin};
@@ -11,14 +11,16 @@ use crate::steps::Steps;
 use crate::subst::Subst;
 use crate::terms::{MAX_HEIGHT, Term, View};
 
-/// The term that `pat` becomes under `subst`: the normal form of the pattern with the terms in their places.
-/// `fits_within` is the test of what it requires: no call, each variable bound, and a term that is not too high.
+/// The term that `pat` becomes under `subst`: the normal form of the pattern with each variable
+/// replaced by its term. `fits_within` tests the precondition: `pat` has no call, each of its
+/// variables is bound, and the term is not too high. An error: out of memory.
 pub fn instance(alloc: Global, pat: &RulePat, subst: &Subst) -> Result<Term, AllocError>
     requires { FitsWithin MAX_HEIGHT subst.now (plain_pattern pat.now) }
     ensures instance { IfOk result (λ t. instance_of subst.now (plain_pattern pat.now) ≡ Some t) }
     ensures norm { IfOk result (λ t. option_map norm (substituted subst.now (plain_pattern pat.now)) ≡ Some t) }
 {
-    // What a substitution gives is normal, and so nothing but new injections can need joining.
+    // The terms of the substitution are normal. So only the injections of the pattern may have to
+    // be joined.
     let _vars = subst.vars();
     build(alloc, pat, subst)
 }
@@ -47,7 +49,7 @@ fn build(alloc: Global, pat: &RulePat, subst: &Subst) -> Result<Term, AllocError
     }
 }
 
-// The instances of some patterns, which stand below a constructor.
+// The instances of some patterns, which are the arguments of a constructor.
 #[cycle(build)]
 fn build_all(alloc: Global, pats: &[RulePat], subst: &Subst) -> Result<Vec<Term>, AllocError>
     requires { AllFitWithin (MAX_HEIGHT - 1) subst.now (plain_patterns pats.now) }
@@ -60,8 +62,8 @@ fn build_all(alloc: Global, pats: &[RulePat], subst: &Subst) -> Result<Vec<Term>
     Ok(terms)
 }
 
-/// Whether `pat` has an instance under `subst` whose height is at most `limit`. It takes no memory, and recurses no
-/// deeper than `limit` and injections in a row.
+/// Whether `pat` has an instance under `subst` whose height is at most `limit`. It allocates no
+/// memory. The depth of its recursion is at most `limit` plus the number of injections in a row.
 #[cycle(fits_within)]
 pub fn fits_within(pat: &RulePat, subst: &Subst, limit: u32) -> bool
     ensures { IsTrue result ↔ FitsWithin limit subst.now (plain_pattern pat.now) }
@@ -109,8 +111,9 @@ fn injection_fits_within(pat: &RulePat, subst: &Subst, limit: u32) -> bool
 use std::alloc::{AllocError, Global};
 use std::sync::ledger::Ledger;
 
-/// Whether `term` is the term that `pat` stands for by itself. A pattern with a variable or a call stands for none. It
-/// takes no memory, and looks at each value, constructor and injection of the term at most once.
+/// Whether `term` is the only instance of `pat`. A pattern with a variable or a call has no such
+/// term. It allocates no memory, and looks at each value, constructor and injection of the term at
+/// most once.
 #[cycle(is_instance)]
 pub fn is_instance<L: Ledger>(pat: &RulePat, term: &Term, steps: &mut Steps<L>) -> bool
     ensures instance { IsTrue result ↔ (instance_of [] (plain_pattern pat.now) ≡ Some term.now) }
@@ -132,7 +135,7 @@ pub fn is_instance<L: Ledger>(pat: &RulePat, term: &Term, steps: &mut Steps<L>) 
     }
 }
 
-// Whether the children of `term` are the terms that the patterns stand for.
+// Whether the children of `term` are the only instances of the patterns, in the same order.
 #[cycle(is_instance)]
 fn are_instances<L: Ledger>(pats: &[RulePat], term: &Term, steps: &mut Steps<L>) -> bool
     requires { length pats.now ≡ length (children term.now) }
@@ -147,7 +150,8 @@ fn are_instances<L: Ledger>(pats: &[RulePat], term: &Term, steps: &mut Steps<L>)
     true
 }
 
-// Whether `term` is the injection of the term that `pat` stands for. An injection in `pat` joins this one.
+// Whether `term` is the injection of the only instance of `pat`. An injection at the root of `pat`
+// is joined with this one.
 #[cycle(is_instance)]
 fn is_injected<L: Ledger>(
     from: SortId,

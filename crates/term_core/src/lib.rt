@@ -1,9 +1,11 @@
-// Ground terms, the patterns of rules, and substitutions, below every crate that matches, evaluates or rewrites.
+// Ground terms, patterns of rules, and substitutions. Every crate that matches, evaluates or
+// rewrites depends on this one.
 //
-// A `Term` is a tree that is shared and always normal, of a height of at most `MAX_HEIGHT`; contracts see it as a plain
-// `Tree` (specs/Terms.antt). A `RulePat` is seen as a plain `Pattern`, and `instance` makes the normal form of a pattern
-// with the terms of a substitution in their places (specs/Patterns.antt). Every look at the head of a term that another
-// crate makes counts one step.
+// A `Term` is a shared tree that is always normal. Its height is at most `MAX_HEIGHT`. Contracts
+// see it as a plain `Tree` (specs/Terms.antt). Contracts see a `RulePat` as a plain `Pattern`.
+// `instance` replaces the variables of a pattern by the terms of a substitution and returns the
+// normal form (specs/Patterns.antt). Each time another crate looks at the head of a term, one step
+// is counted.
 #![tactic(auto)]
 
 mod ids;

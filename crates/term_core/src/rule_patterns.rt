@@ -19,18 +19,19 @@ pub enum RulePat {
     Value(SortId, Value),
     /// A constructor with its arguments.
     Ctor(SymId, Vec<RulePat>),
-    /// An injection: the sort it comes from, the sort it goes to, and what is injected.
+    /// An injection: its source sort, its target sort, and the injected pattern.
     Inj(SortId, SortId, Box<RulePat>),
-    /// A function, the sorts that it is applied at, and its arguments.
+    /// A function, its sort arguments, and its arguments.
     Call(SymId, Vec<SortId>, Vec<RulePat>),
 }
 
-/// The pattern of the same tree, which has no variable and becomes the term under every substitution.
+/// The pattern of the same tree. It has no variable, and becomes the term under every substitution.
+/// An error: out of memory.
 pub fn pattern_of(alloc: Global, term: &Term) -> Result<RulePat, AllocError>
     ensures tree { IfOk result (λ p. plain_pattern p ≡ ground_pattern term.now) }
     ensures instance { IfOk result (λ p. instance_of [] (plain_pattern p) ≡ Some term.now) }
 {
-    // A term is normal, and so it is an instance of its own pattern.
+    // A term is normal, so it is an instance of its own pattern.
     let _high = term.height();
     copied(alloc, term)
 }

@@ -1,10 +1,12 @@
-// A counter of steps: contracts say by it what a search may cost, and it takes no time or room when it runs.
+// A counter of steps. Contracts bound the cost of a search by it. It takes no time and no memory at
+// run time.
 ghost use Rattle.std.specs.Prelude.{◌≡◌, ◌+◌, ◌<◌};
 
 use std::marker::Model;
 use std::sync::ledger::{Blank, Book, Ledger, Share};
 
-/// How many steps were taken, by the ledger `L`. A step is a look at the head of a term, and only `tick` counts one.
+/// The number of steps that the ledger `L` has counted. A step is a look at the head of a term.
+/// Only `tick` counts a step.
 #[derive(Drop)]
 pub struct Steps<L: Ledger> {
     book: Book<L>,

@@ -6,7 +6,8 @@ use crate::terms::Term;
 use std::alloc::{AllocError, Global};
 use std::marker::Model;
 
-/// What stands for each variable of a rule, where something does. Contracts see it as a list, by the variables' numbers.
+/// The term of each variable of a rule that is bound. Contracts see it as a list, indexed by the
+/// variables' numbers.
 #[derive(Drop)]
 pub struct Subst {
     slots: Vec<Option<Term>>,
@@ -29,7 +30,7 @@ impl Model for Subst {
 }
 
 impl Subst {
-    /// A substitution for so many variables, none of which is bound.
+    /// A substitution for `vars` variables, none of which is bound. An error: out of memory.
     pub fn new(alloc: Global, vars: usize) -> Result<Subst, AllocError>
         ensures { IfOk result (λ s. s ≡ replicate vars None) }
     {
@@ -40,7 +41,7 @@ impl Subst {
         Ok(Subst { slots })
     }
 
-    /// For how many variables it was made. Every term in it is normal.
+    /// The number of variables that it was made for. Every term in it is normal.
     pub fn vars(&self) -> usize
         ensures value { result ≡ length self.now }
         ensures normal { AreNormalBindings self.now }
@@ -48,17 +49,17 @@ impl Subst {
         self.slots.len()
     }
 
-    /// Lets a variable stand for a term, in place of what it stood for.
+    /// Binds a variable to a term. An earlier term of the variable is replaced.
     pub fn bind(&mut self, var: u32, term: Term)
         requires { var < length self.old }
         ensures { self.new ≡ slice_set self.old var (Some term) }
     {
-        // Each term is normal, and so the substitution stays so.
+        // Each term is normal, so the substitution still has only normal terms.
         let _high = term.height();
         self.slots[var as usize] = Some(term);
     }
 
-    /// What the variable stands for: none exactly where it is not bound.
+    /// The term of the variable, or None if the variable is not bound.
     pub fn get(&self, var: u32) -> Option<&Term>
         ensures { option_copied result ≡ binding self.now var }
     {

@@ -1,4 +1,5 @@
-// Ground terms. A term is a tree that is shared, not copied, and is always normal: no injection stands right below another.
+// Ground terms. A term is a tree that is shared, not copied. It is always normal: no injection is
+// the child of another injection.
 ghost use Rattle.std.specs.Prelude.{ℕ, ◌≡◌, ◌+◌, ◌<◌, ◌≤◌, ◌↔◌, length, slice_get, IfOk, IsTrue};
 ghost use Rattle.term_core.specs.Terms.{leaf, node, inj, forest, children, height, heights, injected, norm, IsNormal, AreNormal};
 ghost use Rattle.term_core.specs.Values.{value_of};
@@ -12,7 +13,7 @@ use std::marker::Model;
 use std::rc::Rc;
 use std::sync::ledger::Ledger;
 
-/// The greatest height of a term. It bounds how deep a walk over a term recurses.
+/// The greatest height of a term. It bounds the depth of recursion of a walk over a term.
 pub const MAX_HEIGHT: u32 = 500;
 
 /// A ground term. Contracts see it as a plain normal tree.
@@ -54,19 +55,19 @@ impl Model for Term {
     ghost size_decreases = { λ a h. Prim.omega (arith, deep-height a.node.value) };
 }
 
-/// What stands at the root of a term.
+/// The root of a term.
 #[derive(Clone, Copy)]
 pub enum View<'a> {
     /// A domain value of a sort.
     Value(SortId, &'a Value),
     /// A constructor, and how many arguments it has.
     Ctor(SymId, usize),
-    /// An injection, by the sort that it comes from and the sort that it goes to; its term is child 0.
+    /// An injection: its source sort and its target sort. Its term is child 0.
     Inj(SortId, SortId),
 }
 
 impl Term {
-    /// The domain value of a sort.
+    /// The domain value of a sort. An error: out of memory.
     pub fn value(alloc: Global, sort: SortId, value: Value) -> Result<Term, AllocError>
         ensures { IfOk result (λ t. t ≡ leaf sort.0 (value_of value)) }
     {
@@ -74,7 +75,7 @@ impl Term {
         Ok(Term { high: 1, node })
     }
 
-    /// A constructor applied to terms. `highest` is the test of what it requires.
+    /// A constructor applied to terms. `highest` tests the precondition. An error: out of memory.
     pub fn ctor(alloc: Global, sym: SymId, args: Vec<Term>) -> Result<Term, AllocError>
         requires { heights (forest args.items) < MAX_HEIGHT }
         ensures { IfOk result (λ t. t ≡ node sym.0 (forest args.items)) }
@@ -84,19 +85,19 @@ impl Term {
         Ok(Term { high, node })
     }
 
-    /// The injection of a term in normal form: it replaces an injection at the term's root. `height_injected` is the height
-    /// that it will have.
+    /// The injection of a term, in normal form: if the term's root is an injection, the two are
+    /// joined. `height_injected` returns the height of the result. An error: out of memory.
     pub fn inj(alloc: Global, from: SortId, to: SortId, child: &Term) -> Result<Term, AllocError>
         requires { height (injected from.0 to.0 child.now) ≤ MAX_HEIGHT }
         ensures injected { IfOk result (λ t. t ≡ injected from.0 to.0 child.now) }
         ensures norm { IfOk result (λ t. t ≡ norm (inj from.0 to.0 child.now)) }
     {
-        // The child is normal, and so no other injections than these two can stand in a row.
+        // The child is normal, so at most these two injections are in a row.
         let _high = child.height();
         Term::joined(alloc, from, to, child)
     }
 
-    // The injection of a term, joined with one at the term's root.
+    // The injection of a term. It is joined with the injection at the term's root, if there is one.
     fn joined(alloc: Global, from: SortId, to: SortId, child: &Term) -> Result<Term, AllocError>
         requires { height (injected from.0 to.0 child.now) ≤ MAX_HEIGHT }
         ensures { IfOk result (λ t. t ≡ injected from.0 to.0 child.now) }
@@ -119,7 +120,7 @@ impl Term {
         }
     }
 
-    /// The same term, shared: it costs the same for every term.
+    /// The same term, shared. The cost does not depend on the term. An error: out of memory.
     pub fn share(&self) -> Result<Term, AllocError>
         ensures same { IfOk result (λ t. t ≡ self.now) }
         ensures normal { IfOk result IsNormal }
@@ -131,7 +132,8 @@ impl Term {
         })
     }
 
-    /// The height: 1 for a value and for a constructor with no argument, else one more than the greatest of a child.
+    /// The height: 1 for a value and for a constructor with no argument; otherwise one more than
+    /// the greatest height of a child.
     pub fn height(&self) -> u32
         ensures value { result ≡ height self.now }
         ensures bound { result ≤ MAX_HEIGHT }
@@ -140,7 +142,7 @@ impl Term {
         self.high
     }
 
-    /// The height that an injection of this term has.
+    /// The height of an injection of this term.
     pub fn height_injected(&self) -> u32
         ensures value { (a b : ℕ) → height (injected a b self.now) ≡ result }
         ensures bound { result ≤ MAX_HEIGHT + 1 }
@@ -151,7 +153,7 @@ impl Term {
         }
     }
 
-    /// The greatest height of some terms, 0 where there is none.
+    /// The greatest height of some terms, or 0 if there are none.
     pub fn highest(args: &[Term]) -> u32
         ensures value { result ≡ heights (forest args.now) }
         ensures bound { result ≤ MAX_HEIGHT }
@@ -176,7 +178,7 @@ impl Term {
         }
     }
 
-    /// What stands at the root. It takes one step.
+    /// The root of the term. This takes one step.
     pub fn view<L: Ledger>(&self, steps: &mut Steps<L>) -> View<'_>
         ensures shows { Shows self.now result }
         ensures step { steps.new ≡ steps.old + 1 }
@@ -185,7 +187,7 @@ impl Term {
         self.head()
     }
 
-    // What stands at the root, where nobody counts.
+    // The root of the term, with no step counted.
     pub(crate) fn head(&self) -> View<'_>
         ensures { Shows self.now result }
     {
@@ -196,7 +198,7 @@ impl Term {
         }
     }
 
-    /// Whether both are the same term. It costs the size of the smaller one at most.
+    /// Whether both are the same term. It costs at most the size of the smaller one.
     #[cycle(same)]
     pub fn same(&self, other: &Term) -> bool
         ensures { IsTrue result ↔ (self.now ≡ other.now) }

@@ -1,11 +1,11 @@
-// Domain values, and what a hook may answer.
+// Domain values, and what a hook may return.
 ghost use Rattle.std.specs.Prelude.{◌≡◌, ◌↔◌, IfOk, IsTrue};
 ghost use Rattle.term_core.specs.Values.{value_of};
 
 use std::alloc::AllocError;
 use std::rc::RcStr;
 
-/// What a domain value stands for. A text is shared, so that copies of a term share it too.
+/// The value of a domain value. A text is shared, so copies of a term share it too.
 #[derive(Drop)]
 pub enum Value {
     Int(i128),
@@ -25,14 +25,14 @@ pub enum Scalar {
 pub enum NoValue {
     /// The divisor is 0.
     ZeroDivisor,
-    /// A shift or an exponent is below 0.
+    /// A shift or an exponent is negative.
     NegativeShift,
-    /// The result does not fit 128 bits.
+    /// The result does not fit in 128 bits.
     Range,
 }
 
 impl Value {
-    /// The same value, with its text shared.
+    /// The same value, with its text shared. An error: out of memory.
     pub fn share(&self) -> Result<Value, AllocError>
         ensures { IfOk result (λ v. value_of v ≡ value_of self.now) }
     {
@@ -43,7 +43,7 @@ impl Value {
         }
     }
 
-    /// Whether both are the same value. It costs the length of the shorter text at most.
+    /// Whether both are the same value. It costs at most the length of the shorter text.
     pub fn same(&self, other: &Value) -> bool
         ensures { IsTrue result ↔ (value_of self.now ≡ value_of other.now) }
     {

@@ -4,7 +4,7 @@ use Rattle.ml_kernel.specs.Theorems.{derivations}
 use Rattle.ml_kernel.specs.StepsIn.{steps_in, all_steps}
 use Rattle.ml_kernel.proofs.derivations.Deriv.+derivation_drop.Given as goal
 
--- by this measure the drop of a list calls the drop of each of its derivations
+-- the measure that decreases when the drop of a list calls the drop of each of its derivations
 abbrev pub decreases-drop : goal.decreases-drop
 decreases-drop l = size-Deriv l.self
 

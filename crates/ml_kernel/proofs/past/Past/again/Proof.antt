@@ -1,4 +1,4 @@
--- `again` picks the derivation that there is. Assumes `Logic`.
+-- `again` chooses the existing derivation. Assumes `Logic`.
 use Rattle.std.proofs.Common.{List, [], ◌∷◌, ◌++◌, refl}
 use seplogic.Ra.Ura.{Ura}
 use mir.Syntax.{Fn}

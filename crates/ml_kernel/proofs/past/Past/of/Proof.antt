@@ -1,4 +1,4 @@
--- `of` picks the derivation that it is given. Assumes `Logic`.
+-- `of` chooses its argument as the derivation. Assumes `Logic`.
 use Rattle.std.proofs.Common.{List, [], ◌∷◌, ◌++◌, refl}
 use seplogic.Ra.Ura.{Ura}
 use mir.Syntax.{Fn}
