@@ -1,4 +1,5 @@
-// Prints the fixed header of the databases that the program writes, so that other Metamath verifiers can be run over it.
+// Prints the fixed header of the databases that the program writes, so that other Metamath
+// verifiers can be run on it.
 #![tactic(auto)]
 
 use mm_header::header_text;

@@ -6,7 +6,7 @@ use ml_kernel::{Lemma, Thm};
 use ml_pat::{ConstNo, MPat, MSort, VarNo, subst};
 use std::alloc::{AllocError, Global};
 
-// Where x leads to m, each predecessor of x leads to one of m: a lemma with two variables and a hypothesis.
+// If x implies m, then `next x` implies `next m`: a lemma with two variables and a hypothesis.
 pub(crate) fn next_lemma(alloc: Global) -> Result<Thm, AllocError>
     ensures hypotheses { IfOk result (λ lemma. lemma.hypotheses ≡ imp (var 0) (meta 0) ∷ []) }
     ensures conclusion { IfOk result (λ lemma. lemma.conclusion ≡ imp (next (var 0)) (next (meta 0))) }
@@ -17,7 +17,7 @@ pub(crate) fn next_lemma(alloc: Global) -> Result<Thm, AllocError>
     Thm::next_in(alloc, &leads, &x, &m)
 }
 
-// The same for the symbol a in the place of m, by that lemma.
+// The same with the symbol a in place of m, by that lemma.
 pub(crate) fn next_of_a(alloc: Global, lemma: &Lemma) -> Result<Thm, AllocError>
     requires hypotheses { lemma.now.hypotheses ≡ imp (var 0) (meta 0) ∷ [] }
     requires conclusion { lemma.now.conclusion ≡ imp (next (var 0)) (next (meta 0)) }
@@ -30,7 +30,7 @@ pub(crate) fn next_of_a(alloc: Global, lemma: &Lemma) -> Result<Thm, AllocError>
     Thm::use_lemma(alloc, lemma, &patterns, &proofs)
 }
 
-// That everything holds, by way of a pattern with a variable that does not stand in it.
+// Proves `top` by way of a pattern with a variable. The variable does not occur in `top`.
 pub(crate) fn everything(alloc: Global) -> Result<Thm, AllocError> {
     let m = MPat::meta(alloc, 3)?;
     let top = MPat::top(alloc)?;
@@ -47,7 +47,8 @@ pub(crate) fn everything(alloc: Global) -> Result<Thm, AllocError> {
     Thm::mp(alloc, &first, &second, &way, &top)
 }
 
-// What holds of all x holds of a. x stands nowhere in the one part of the pattern, and is free and bound in the other.
+// What holds for all x holds for a. In one part of the pattern x does not occur. In the other part
+// it is free and bound.
 pub(crate) fn instance_at_a(alloc: Global) -> Result<Thm, AllocError> {
     let sort = MSort(0);
     let (x, y) = (VarNo(0), VarNo(1));

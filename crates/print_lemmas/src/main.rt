@@ -1,5 +1,6 @@
-// Prints a database of lemmas: one with variables and a hypothesis, one that cites it, one that has a variable in its
-// proof alone, and an instance, whose proof has a substitution. So other Metamath verifiers can be run over it.
+// Prints a database of lemmas, so that other Metamath verifiers can be run on it. The first lemma
+// has variables and a hypothesis. The second cites it. The third has a variable only in its proof.
+// The fourth is an instance, and its proof has a substitution.
 #![tactic(auto)]
 
 mod lemmas;
@@ -17,7 +18,7 @@ fn main(rt: HostRuntime) -> io::Result<()> {
     rt.stdout().write_all(&text)
 }
 
-// The header, three names and the lemmas.
+// Returns the header, three names and the lemmas.
 fn database(alloc: Global) -> Result<Vec<u8>, AllocError> {
     let mut names = Names::new(alloc);
     names.number("s:S")?;

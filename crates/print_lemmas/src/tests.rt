@@ -2,8 +2,8 @@
 use crate::database;
 use std::test::Fail;
 
-// Behind the header stand, byte for byte, the names and the blocks of `RenderedCases` of `mm_claims`, of which the
-// definitions say that they have no fault.
+// After the header, the text has exactly the names and the blocks of `RenderedCases` of
+// `mm_claims`. The definitions say that these have no fault.
 #[test]
 fn prints_the_blocks_that_were_judged(rt: HostRuntime) -> Result<(), Fail> {
     let text = database(rt.alloc())?;

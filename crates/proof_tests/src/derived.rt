@@ -1,4 +1,4 @@
-// Each derived rule by hand, at symbols.
+// Worked examples of each derived rule, at symbols.
 ghost use Rattle.std.specs.Prelude.{◌≡◌, IfOk};
 ghost use Rattle.ml_pat.specs.Patterns.{constant, equal, all, fun, imp, next, var};
 
@@ -42,7 +42,7 @@ fn chains_implications(rt: HostRuntime) -> Result<(), Fail> {
     Ok(())
 }
 
-// That two symbols are equal, as a hypothesis.
+// The equality of two symbols, as a hypothesis.
 fn same(alloc: Global, c: ConstNo, d: ConstNo) -> Result<Thm, AllocError>
     ensures { IfOk result (λ t. t.conclusion ≡ equal (constant c.0) (constant d.0)) }
 {
@@ -60,7 +60,7 @@ fn for_each(alloc: Global) -> Result<Thm, AllocError>
     assume(alloc, MPat::all(alloc, VarNo(4), MSort(9), &body)?)
 }
 
-// That the symbol a is one element of s, as a hypothesis.
+// The fact that the symbol a is one element of s, as a hypothesis.
 fn element(alloc: Global) -> Result<Thm, AllocError>
     ensures { IfOk result (λ t. t.conclusion ≡ fun (constant 0) 9) }
 {
@@ -82,7 +82,7 @@ fn puts_in_a_symbol(rt: HostRuntime) -> Result<(), Fail> {
     Ok(())
 }
 
-// From `a = b` come `b = a` and `a = a`.
+// From `a = b` follow `b = a` and `a = a`.
 #[test]
 fn turns_and_joins_equalities(rt: HostRuntime) -> Result<(), Fail> {
     let alloc = rt.alloc();
@@ -95,7 +95,7 @@ fn turns_and_joins_equalities(rt: HostRuntime) -> Result<(), Fail> {
     Ok(())
 }
 
-// From `a = b` and `c = d` comes `a c = b d`.
+// From `a = b` and `c = d` follows `a c = b d`.
 #[test]
 fn applies_equalities(rt: HostRuntime) -> Result<(), Fail> {
     let alloc = rt.alloc();

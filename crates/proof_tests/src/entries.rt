@@ -4,7 +4,7 @@ use mm_proof::{Work, write_works};
 use std::alloc::{AllocError, Global};
 use std::test::Fail;
 
-// The sort S and the symbols a and f, with these numbers.
+// The names of the sort S and the symbols a and f, with the numbers 0, 1 and 2.
 pub(crate) fn three_names(alloc: Global) -> Result<Names, AllocError> {
     let mut names = Names::new(alloc);
     names.number("s:S")?;
@@ -13,7 +13,7 @@ pub(crate) fn three_names(alloc: Global) -> Result<Names, AllocError> {
     Ok(names)
 }
 
-// What a work writes, in the block of the statement 7.
+// What `work` writes, in the block of the statement 7.
 pub(crate) fn text_of(alloc: Global, work: Work<'_>) -> Result<Vec<u8>, AllocError> {
     let names = three_names(alloc)?;
     let mut text = Vec::new(alloc);
@@ -60,7 +60,7 @@ fn writes_a_quantifier(rt: HostRuntime) -> Result<(), Fail> {
     Ok(())
 }
 
-// The labels of variables have the number of the statement in which they stand.
+// The labels of variables have the number of their statement.
 #[test]
 fn proves_the_syntax_of_a_quantifier(rt: HostRuntime) -> Result<(), Fail> {
     let alloc = rt.alloc();
@@ -85,7 +85,7 @@ fn proves_that_a_bound_variable_is_not_free(rt: HostRuntime) -> Result<(), Fail>
     Ok(())
 }
 
-// a stands for x in `next x`.
+// a is substituted for x in `next x`.
 #[test]
 fn proves_a_substitution(rt: HostRuntime) -> Result<(), Fail> {
     let alloc = rt.alloc();
@@ -100,14 +100,15 @@ fn proves_a_substitution(rt: HostRuntime) -> Result<(), Fail> {
     Ok(())
 }
 
-// The labels of the proof that a pattern with a for x is the other.
+// Returns the number of labels in the proof that `pat` with a substituted for x is `made`.
 fn labels(alloc: Global, pat: &MPat, made: &MPat) -> Result<usize, AllocError> {
     let a = MPat::constant(alloc, ConstNo(1))?;
     let text = text_of(alloc, Work::Substituted(VarNo(0), &a, pat, made))?;
     Ok(text.iter().filter(|byte| **byte == b' ').count())
 }
 
-// x stands at one leaf of a configuration of 127 nodes: each part beside the way there is left as it is in one step.
+// x occurs at one leaf of a configuration of 127 nodes. Each part next to the way there is left as
+// it is in one step.
 #[test]
 fn substitutes_at_one_leaf(rt: HostRuntime) -> Result<(), Fail> {
     let alloc = rt.alloc();
@@ -123,7 +124,7 @@ fn substitutes_at_one_leaf(rt: HostRuntime) -> Result<(), Fail> {
     Ok(())
 }
 
-// x stands at the end of a list of 100 items.
+// x is at the end of a list of 100 items.
 #[test]
 fn substitutes_at_the_end_of_a_list(rt: HostRuntime) -> Result<(), Fail> {
     let alloc = rt.alloc();
@@ -138,7 +139,7 @@ fn substitutes_at_the_end_of_a_list(rt: HostRuntime) -> Result<(), Fail> {
     Ok(())
 }
 
-// x stands nowhere in the one part, and is bound in the other.
+// x does not occur in one part, and is bound in the other.
 #[test]
 fn proves_freshness_of_a_part_in_one_step(rt: HostRuntime) -> Result<(), Fail> {
     let alloc = rt.alloc();

@@ -6,10 +6,10 @@ use std::alloc::{AllocError, Global};
 use std::process::Abort;
 use std::test::Fail;
 
-/// The most statements of a database below.
+/// The greatest number of statements of a database below.
 const MOST: usize = 40;
 
-/// The first fault of a text, those of proofs left out.
+/// The first fault of a text. Proofs are not checked.
 pub(crate) fn first_fault(alloc: Global, text: &[u8]) -> Result<Option<MmFault>, AllocError> {
     let mut scopes = Scopes::new(alloc);
     let mut reader = MmTokens::new(text);
@@ -125,7 +125,7 @@ const SCOPED: &str =
     "$c t $. $v x y z $. fz $f t z $. fx $f t x $. ${ $v w $. fw $f t w $. fy $f t y $. $d x y w $. h $e t y \
      $. a $a t x $. $}";
 
-/// The scopes after the statements of a text, as far as they have no fault.
+/// The scopes after the statements of a text that come before its first fault.
 pub(crate) fn scopes_of(alloc: Global, text: &[u8]) -> Result<Scopes<'_>, AllocError> {
     let mut scopes = Scopes::new(alloc);
     let mut reader = MmTokens::new(text);
@@ -168,8 +168,8 @@ fn a_block_takes_back_what_was_active_and_keeps_its_assertions(
     Ok(())
 }
 
-/// A text, the label of one of its assertions, the labels of that frame's hypotheses, and the numbers
-/// of its pairs, each once.
+/// A text, the label of one of its assertions, the labels of that frame's hypotheses, and the
+/// numbers of its pairs, each once.
 type FrameExample = (
     &'static str,
     &'static str,

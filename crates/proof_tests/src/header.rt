@@ -3,7 +3,7 @@
 use mm_header::header_text;
 use std::alloc::AllocError;
 
-/// How often the bytes stand somewhere in a text.
+/// How many times the bytes occur in a text.
 fn count_of(text: &[u8], wanted: &[u8]) -> usize {
     let mut count = 0usize;
     for at in 0..text.len() {

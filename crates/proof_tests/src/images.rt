@@ -1,4 +1,4 @@
-// Worked examples, and one happy call of each public function that allocates.
+// Worked examples, and one successful call of each public function that allocates.
 ghost use Rattle.std.specs.Prelude.{◌≡◌, ◌≤◌, [], ◌∷◌, length, IfOk, IfSome, IsSome};
 ghost use Rattle.term_core.specs.Patterns.{application, call, no_pattern, more_patterns};
 ghost use Rattle.term_core.specs.RulePatterns.{plain_pattern};
@@ -71,7 +71,7 @@ pub(crate) fn symbols(alloc: Global) -> Result<Table<SymInfo>, AllocError> {
     Ok(symbols)
 }
 
-// The sorts S, T and U, and these symbols. S is right below T, and that right below U.
+// The sorts S, T and U, and these symbols. S is directly below T, and T is directly below U.
 pub(crate) fn small(alloc: Global) -> Result<Option<Signature>, AllocError>
     ensures sorts { IfOk result (λ found. IfSome found (λ sig. 3 ≤ length sig.sorts)) }
     ensures symbols { IfOk result (λ found. IfSome found (λ sig. 3 ≤ length sig.symbols)) }
@@ -133,7 +133,8 @@ fn makes_the_image_of_a_call(rt: HostRuntime) -> Result<(), Fail> {
     Ok(())
 }
 
-// S right below T is `( \all x:0 s:S ( \ex x:1 s:T ( \eq x:1 ( \app ( \at ( \at f:inj s:S ) s:T ) x:0 ) ) ) )`.
+// S directly below T is
+// `( \all x:0 s:S ( \ex x:1 s:T ( \eq x:1 ( \app ( \at ( \at f:inj s:S ) s:T ) x:0 ) ) ) )`.
 #[test]
 fn says_that_a_subsort_is_one(rt: HostRuntime) -> Result<(), Fail> {
     let alloc = rt.alloc();
@@ -159,7 +160,7 @@ fn says_that_a_subsort_is_one(rt: HostRuntime) -> Result<(), Fail> {
     Ok(())
 }
 
-// From S to T and on to U is from S to U.
+// The injection from S to T followed by that from T to U is the injection from S to U.
 #[test]
 fn says_that_injections_collapse(rt: HostRuntime) -> Result<(), Fail> {
     let alloc = rt.alloc();

@@ -1,4 +1,4 @@
-// Worked examples, and one happy call of each function that allocates.
+// Worked examples, and one successful call of each function that allocates.
 ghost use Rattle.std.specs.Prelude.{◌≡◌, [], IfOk};
 ghost use Rattle.ml_pat.specs.Patterns.{top, imp};
 
@@ -15,7 +15,7 @@ fn ends(alloc: Global) -> Result<(MPat, MPat), AllocError> {
     ))
 }
 
-// q follows from p and `p -> q`, which the theorem has as its hypotheses in this order.
+// q follows from p and `p -> q`. These are the theorem's hypotheses, in this order.
 #[test]
 fn detaches(rt: HostRuntime) -> Result<(), Fail> {
     let alloc = rt.alloc();
@@ -30,7 +30,7 @@ fn detaches(rt: HostRuntime) -> Result<(), Fail> {
     Ok(())
 }
 
-// One step from a to b, by the rules of reaching alone: `ev a -> ev b`.
+// One step from a to b, only by the rules of reaching: `ev a -> ev b`.
 #[test]
 fn makes_one_step(rt: HostRuntime) -> Result<(), Fail> {
     let alloc = rt.alloc();
@@ -46,7 +46,7 @@ fn makes_one_step(rt: HostRuntime) -> Result<(), Fail> {
     Ok(())
 }
 
-// An axiom has its place as its number.
+// The number of an axiom is its place.
 #[test]
 fn keeps_axioms(rt: HostRuntime) -> Result<(), Fail> {
     let alloc = rt.alloc();
@@ -156,7 +156,7 @@ fn calls_the_rules_of_sorts(rt: HostRuntime) -> Result<(), Fail> {
     Ok(())
 }
 
-// The theorem as a lemma, and cited.
+// Closes the theorem as a lemma, and cites it.
 pub(crate) fn cited_again(alloc: Global, thm: Thm) -> Result<Thm, AllocError>
     requires hypotheses { thm.hypotheses ≡ [] }
     requires conclusion { thm.conclusion ≡ top }
@@ -167,7 +167,7 @@ pub(crate) fn cited_again(alloc: Global, thm: Thm) -> Result<Thm, AllocError>
     Thm::use_lemma(alloc, &lemma, &[], &[])
 }
 
-// Of a chain of 1,000,000 lemmas, each of which cites the one before, the last alone is kept.
+// In a chain of 1,000,000 lemmas each cites the one before. Only the last one is kept.
 #[test]
 fn cites_a_long_chain_of_lemmas(rt: HostRuntime) -> Result<(), Fail> {
     let mut thm = Thm::top(rt.alloc())?;
@@ -207,7 +207,7 @@ fn fills_a_deep_pattern(rt: HostRuntime) -> Result<(), Fail> {
     Ok(())
 }
 
-// In a constant nothing is substituted: `(all x s a) -> fun a s -> a`.
+// A constant has no variable to substitute: `(all x s a) -> fun a s -> a`.
 #[test]
 fn calls_the_rule_of_instances(rt: HostRuntime) -> Result<(), Fail> {
     let alloc = rt.alloc();

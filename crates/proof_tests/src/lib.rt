@@ -1,7 +1,8 @@
-//! Worked examples for the crates of patterns, theorems and databases: what no clause of theirs says.
+//! Worked examples for the crates of patterns, theorems and databases. They show what no clause of
+//! these crates says.
 //!
-//! A check of a crate's tests proves the whole crate once more. So the tests of libraries stand here, a module for
-//! each, and call what the library exports.
+//! A check of a crate's tests proves the whole crate once more. So the tests of libraries are here,
+//! one module for each library. They call what the library exports.
 #![tactic(auto)]
 
 #[cfg(test)]

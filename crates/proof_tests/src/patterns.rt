@@ -1,11 +1,11 @@
-// Worked examples, and one happy call of each function that allocates.
+// Worked examples, and one successful call of each function that allocates.
 use ml_pat::{ConstNo, MForm, MPat, MSort, Names, VarNo, fresh, is_pred, subst};
 use std::alloc::{AllocError, Global};
 use std::test::Fail;
 
 const INT: MSort = MSort(3);
 
-// Tokens are numbered in the order in which they come, and one that is there keeps its number.
+// Tokens are numbered in the order in which they come. A known token keeps its number.
 #[test]
 fn numbers_tokens(rt: HostRuntime) -> Result<(), Fail> {
     let mut names = Names::new(rt.alloc());
@@ -26,7 +26,7 @@ fn quantified(alloc: Global, x: VarNo) -> Result<MPat, AllocError> {
     MPat::all(alloc, x, INT, &body)
 }
 
-// The pattern of one variable differs from that of another, and is its shared copy.
+// The pattern of one variable differs from that of another, and is the same as its shared copy.
 #[test]
 fn compares_patterns(rt: HostRuntime) -> Result<(), Fail> {
     let alloc = rt.alloc();
@@ -68,7 +68,7 @@ fn compares_and_drops_deep_patterns(rt: HostRuntime) -> Result<(), Fail> {
     Ok(())
 }
 
-// `f x` with g for x, which is not free where it is bound.
+// `f x` with g substituted for x. Where x is bound it is not replaced.
 #[test]
 fn substitutes_free_variables(rt: HostRuntime) -> Result<(), Fail> {
     let alloc = rt.alloc();
@@ -82,7 +82,7 @@ fn substitutes_free_variables(rt: HostRuntime) -> Result<(), Fail> {
     Ok(())
 }
 
-// A variable that comes in under its own quantifier would be captured.
+// A variable that is substituted under its own quantifier would be captured.
 #[test]
 fn refuses_capture(rt: HostRuntime) -> Result<(), Fail> {
     let alloc = rt.alloc();

@@ -7,7 +7,7 @@ use mm_render::Renderer;
 use std::alloc::{AllocError, Global};
 use std::test::Fail;
 
-// The sort S and the symbols a and f, with these numbers.
+// The names of the sort S and the symbols a and f, with the numbers 0, 1 and 2.
 pub(crate) fn three_names(alloc: Global) -> Result<Names, AllocError> {
     let mut names = Names::new(alloc);
     names.number("s:S")?;
@@ -52,7 +52,7 @@ pub(crate) fn one_axiom(alloc: Global) -> Result<Theory, AllocError>
     Ok(theory)
 }
 
-// From an axiom follows that it holds at some time.
+// It follows from an axiom that it holds at some time.
 pub(crate) fn some_time(alloc: Global, theory: &Theory) -> Result<Thm, AllocError>
     requires { 0 < length theory.now }
 {
@@ -63,7 +63,7 @@ pub(crate) fn some_time(alloc: Global, theory: &Theory) -> Result<Thm, AllocErro
     Thm::mp(alloc, &axiom, &step, &now, &later)
 }
 
-// The axiom, and the lemma by it.
+// The axiom, and the lemma that follows from it.
 pub(crate) fn stated(alloc: Global) -> Result<Vec<u8>, AllocError> {
     let names = three_names(alloc)?;
     let theory = one_axiom(alloc)?;
@@ -103,8 +103,8 @@ fn proves_a_lemma(rt: HostRuntime) -> Result<(), Fail> {
     Ok(())
 }
 
-// After the header stand, byte for byte, the statements of `RenderedCases` of `mm_claims`, of which the definitions say
-// that they have no fault.
+// After the header, the text has exactly the statements of `RenderedCases` of `mm_claims`. The
+// definitions say that these have no fault.
 #[test]
 fn writes_the_database_that_was_judged(rt: HostRuntime) -> Result<(), Fail> {
     let alloc = rt.alloc();
@@ -147,8 +147,9 @@ fn states_an_axiom_with_a_variable(rt: HostRuntime) -> Result<(), Fail> {
     Ok(())
 }
 
-// Object variables stay apart from each other and from each pattern variable; pattern variables may stand for the same.
-// A bound variable is one of them, and each is typed once.
+// Object variables are disjoint from each other and from each pattern variable. Pattern variables
+// may be replaced by the same pattern. A bound variable is an object variable too. Each variable is
+// typed once.
 #[test]
 fn writes_which_variables_stay_apart(rt: HostRuntime) -> Result<(), Fail> {
     let alloc = rt.alloc();

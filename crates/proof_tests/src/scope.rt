@@ -1,10 +1,10 @@
-// One happy call of what takes more than patterns.
+// One successful call of each function that takes more than patterns.
 use ml_kernel::{Lemma, Thm};
 use ml_pat::{ConstNo, MPat};
 use ml_scope::{assume, use_lemma};
 use std::test::Fail;
 
-// What is assumed is the only hypothesis.
+// The assumed pattern is the only hypothesis.
 #[test]
 fn assumes_a_pattern(rt: HostRuntime) -> Result<(), Fail> {
     let alloc = rt.alloc();

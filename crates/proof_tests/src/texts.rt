@@ -1,10 +1,10 @@
-// Worked examples: what the definitions and the clauses are meant to say.
+// Worked examples that show what the definitions and the clauses mean.
 
 use mm_text::*;
 use std::process::Abort;
 use std::test::Fail;
 
-/// A text, the bytes at which its tokens begin and end, and the fault at which it breaks, if it does.
+/// A text, the bytes at which its tokens begin and end, and the first fault, if there is one.
 type Reading<'a> = (&'a str, &'a [u8], &'a [u8], Option<(u8, usize)>);
 
 const READINGS: [Reading; 18] = [
@@ -35,7 +35,7 @@ fn texts_are_read_up_to_their_end_or_their_first_fault(rt: HostRuntime) {
         for (from, to) in begins.iter().zip(ends) {
             expect_token(&rt, &mut tokens, *from, *to, text);
         }
-        // The same answer comes again.
+        // The reader returns the same answer again.
         for _ in 0..2 {
             expect_end(&rt, &mut tokens, fault, text);
         }
@@ -108,8 +108,8 @@ fn other_letters_are_no_number(rt: HostRuntime) {
     }
 }
 
-/// A text, the bytes at which its statements begin with how many tokens they have, and the byte of a
-/// statement that has no end.
+/// A text, the bytes at which its statements begin with how many tokens they have, and the byte of
+/// a statement that has no end.
 type Statements<'a> = (&'a str, &'a [(usize, usize)], Option<usize>);
 
 const STATEMENTS: [Statements; 7] = [

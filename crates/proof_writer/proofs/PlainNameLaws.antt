@@ -20,7 +20,7 @@ none_some a h = cc
 some_same : {A : Type 0} (a b : A) → Some a ≡ Some b → a ≡ b
 some_same a b h = cc
 
--- what a token is made of
+-- the name in a token
 made_of : (make : Token → Token) (o : Option Token) (token : Token) → option_map make o ≡ Some token → (name : Token) × ((o ≡ Some name) × (token ≡ make name))
 made_of make None token h = absurd (none_some token h)
 made_of make (Some name) token h = (name, (refl, sym (some_same (make name) token h)))

@@ -1,4 +1,5 @@
--- The scope of a text: the names that it has declared, and what it has stated. A theorem within it may be proved.
+-- The scope of a text: the names that it has declared, and what it has stated. A theorem within the
+-- scope may be proved.
 use Rattle.std.proofs.Common.{◌≡◌, ◌<◌, ℕ, Bool, true, false, map, List, [], ◌∷◌, Some, length, take, zero, suc, slice_get, refl, sym, ap, ◌∙◌, subst, arith}
 use Rattle.std.specs.Prelude.{Contains, nat_lt, ◌&&◌, ◌==◌, if◌then◌else◌, codes, get_or}
 use Rattle.std.proofs.lemmas.Option.{get_or_from_slice_get, slice_get_within}
@@ -24,7 +25,7 @@ use Rattle.mm_claims.specs.Kept.{Kept, all_stated}
 use Rattle.mm_claims.specs.OverNames.{over_names, AreOverNames}
 use Rattle.mm_claims.specs.Places.{IsStated, MayProve, stated_cites}
 
--- the token is that of a sort
+-- the token is the token of a sort
 abbrev pub names_sort : Token → Bool
 names_sort [] = false
 names_sort (b ∷ bytes) = b == 115
@@ -108,7 +109,7 @@ leaves_from names claims assumed = record {
   meta = λ i h. refl;
 }
 
--- a pattern over the names is over the scope, and the other way round
+-- a pattern over the names is over the scope; the converse follows below
 pub over_from : (names : List Token) (claims : List Stated) (assumed : List Pattern) (p : Pattern) → EachLeaf (over_names names) p → IsOver (scope_of names claims assumed) p
 over_from names claims assumed p h = EachLeaf-implied (over_names names) (leaves_of (scope_of names claims assumed)) p (leaves_from names claims assumed) h
 
@@ -154,7 +155,7 @@ there_from [] i x h k = absurd (omega (arith, h))
 there_from (y ∷ xs) zero x h k = ap (λ z. Some z) k
 there_from (y ∷ xs) (suc i) x h k = there_from xs i x (omega (arith, h)) k
 
--- what stands at a place
+-- an item at a place is contained in the list
 pub contained : {A : Type 0} (xs : List A) (i : ℕ) (x : A) → slice_get xs i ≡ Some x → Contains xs x
 contained {A} xs i x h = (i, slice_get_within xs i x h, get_or_from_slice_get xs i x x h)
 
@@ -212,7 +213,7 @@ hypotheses_over names claims assumed (p ∷ ps) h = (
   hypotheses_over names claims assumed ps (λ q k. h q (suc k.0, omega (arith, k.1), k.2)),
 )
 
--- what is within the scope may be proved
+-- a theorem within the scope may be proved
 pub may_prove : (names : List Token) (k : Kept) (t : Theorem) (assumed : List Pattern) → k.begun ≡ true → k.named ≡ length names →
     IsWithin (scope_of names (all_stated k) assumed) t → MayProve names k t
 may_prove names k t assumed begun named within =
@@ -232,7 +233,7 @@ nothing_there : (names : List Token) (claims : List Stated) (ps : List Pattern) 
 nothing_there names claims [] h = refl
 nothing_there names claims (p ∷ ps) h = absurd (omega (arith, (h p (0, omega arith, refl)).0.1))
 
--- what is within a scope in which nothing may be assumed assumes nothing
+-- a theorem within a scope without assumptions assumes nothing
 pub assumes_nothing : (names : List Token) (claims : List Stated) (t : Theorem) → IsWithin (scope_of names claims []) t → t.hypotheses ≡ []
 assumes_nothing names claims t h = nothing_there names claims t.hypotheses h.hypotheses
 
@@ -241,7 +242,7 @@ assumes_nothing names claims t h = nothing_there names claims t.hypotheses h.hyp
 pub may_be_cited : (k : Kept) (hypotheses : List Pattern) (conclusion : Pattern) → IsStated k.stated hypotheses conclusion → IsStated (all_stated k) hypotheses conclusion
 may_be_cited k hypotheses conclusion (s, at) = (s, record { there = Contains-append_left k.stated k.last s at.there; hypotheses_are = at.hypotheses_are; conclusion_is = at.conclusion_is })
 
--- where all of a context is stated, the scope has the context
+-- if all of a context is stated, the scope has the context
 pub has_context : (cx : Context) (w : Writer) (assumed : List Pattern) → ((p : Pattern) → Contains cx.axioms p → IsStated (all_stated w.renderer) [] p) →
     ((t : Theorem) → Contains cx.lemmas t → IsStated (all_stated w.renderer) t.hypotheses t.conclusion) → SentenceIsOver → HasContext (scope_of cx.names (all_stated w.renderer) assumed) cx
 has_context cx w assumed axioms lemmas over = record {

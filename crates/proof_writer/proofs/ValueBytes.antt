@@ -1,4 +1,4 @@
--- The canonical text of a domain value has bytes alone.
+-- The canonical text of a domain value has only bytes.
 use Rattle.std.proofs.Common.{◌≡◌, ◌≤◌, ◌<◌, ◌/◌, ◌%◌, ℕ, ℤ, Bool, true, false, cond, zero, suc, ◌+◌, List, [], ◌∷◌, ◌++◌, refl, sym, subst, inl, inr, arith}
 use Rattle.std.specs.Prelude.{nat_le, nat_lt, ◌==◌, if◌then◌else◌, decimal, pos, negsuc, ◌⊎◌}
 use Rattle.std.specs.List.{list_all}

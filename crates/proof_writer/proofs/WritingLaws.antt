@@ -25,7 +25,7 @@ pub on_one : {T E : Type 0} {P Q : Type 0} (r : Result T E) → (P → Q) → On
 on_one (Ok x) f p = f p
 on_one (Err e) f p = tt
 
--- bytes that were appended one after another
+-- bytes that were appended one call after another
 pub adds_then : (cx : Context) (a b c : Writer) (x y z : List ℕ) → Adds cx a b x y → Adds cx b c y z → Adds cx a c x z
 adds_then cx a b c x y z (m, is, f) (n, is', g) = (
   m ++ n,
@@ -36,7 +36,7 @@ adds_then cx a b c x y z (m, is, f) (n, is', g) = (
 pub adds_none : (cx : Context) (a : Writer) (x : List ℕ) → Adds cx a a x x
 adds_none cx a x = ([], sym (append-nil x), λ text t. subst (IsTextOf cx a) (sym (append-nil text)) t)
 
--- a text of what one writer wrote is one of another's that has the same counts and keeps the same
+-- a text of one writer is a text of another writer that has the same counts and keeps the same
 pub adds_same : (cx : Context) (a b c : Writer) (x y : List ℕ) → c.renderer ≡ b.renderer → c.facts ≡ b.facts → c.statements ≡ b.statements → Adds cx a b x y → Adds cx a c x y
 adds_same cx a b c x y kept facts statements (m, is, f) = (
   m,
@@ -50,7 +50,7 @@ adds_same cx a b c x y kept facts statements (m, is, f) = (
       },
 )
 
--- ---- what calls write one after another
+-- ---- successive calls
 
 pub writes_none : (cx : Context) (w : Writer) (x : List ℕ) → HasWritten w cx → w.renderer.named ≡ length cx.names → WritesOn cx w w x x
 writes_none cx w x written named = record { written = written; named = named; keeps = λ hs q h. h; text = adds_none cx w x }
@@ -63,7 +63,7 @@ writes_then cx a b c x y z first next = record {
   text = adds_then cx a b c x y z first.text next.text;
 }
 
--- what stands in a list stands at a place
+-- an item of a list is at some place
 pub place_of : {A : Type 0} (xs : List A) (x : A) → Contains xs x → (i : ℕ) × (i < length xs) × (slice_get xs i ≡ Some x)
 place_of {A} xs x (i, within, is) = (i, within, slice_get-get_or xs i x within ∙ ap (λ (y : A). Some y) is)
 
@@ -92,7 +92,7 @@ written_more cx w new h begun named axioms lemmas stays = record {
   lemmas = λ i t few there. stays t.hypotheses t.conclusion (h.lemmas i t (omega (arith, lemmas, few)) there);
 }
 
--- .. and with the next axiom or lemma: what is known of each of the first n is known of one more
+-- The same with the next axiom or lemma: what is known of each of the first n is known of one more.
 
 one_more : {A : Type 0} (P : A → Type 0) (xs : List A) (n : ℕ) (x : A) → slice_get xs n ≡ Some x → P x
     → ((i : ℕ) (y : A) → i < n → slice_get xs i ≡ Some y → P y) → (i : ℕ) (y : A) → i < n + 1 → slice_get xs i ≡ Some y → P y
@@ -150,7 +150,7 @@ keeps_names k new n is hs q h = subst (λ (m : Kept). IsStated (all_stated m) hs
 
 -- ---- statements
 
--- what may be cited always, and what may be cited at all, where one claim more is kept
+-- what may be cited always, and what may be cited at all, after one more claim is kept
 pub stated_still : StatedStays → (k new : Kept) (claim : Claim) → new ≡ with_stated k claim → (hs : List Pattern) (q : Pattern) → IsStated k.stated hs q → IsStated new.stated hs q
 stated_still stays k new claim is hs q h =
     let more : List Stated = record { number = k.count; claim = claim } ∷ [] in
@@ -172,7 +172,7 @@ keeps_stated stays k new claim is hs q h = subst (λ (m : Kept). IsStated (all_s
 pub few_named : (k new : Kept) (claim : Claim) (n : ℕ) → new ≡ with_stated k claim → k.named ≤ n → new.named ≤ n
 few_named k new claim n is few = subst (λ (m : Kept). m.named ≤ n) (sym is) few
 
--- the claim that is kept last was stated
+-- the last kept claim was stated
 pub last_stated : LastIsStated → (k new : Kept) (claim : Claim) → new ≡ with_stated k claim → IsStated new.stated claim.hypotheses claim.conclusion
 last_stated last k new claim is =
     subst (λ (m : Kept). IsStated m.stated claim.hypotheses claim.conclusion) (sym is) (last k.stated (record { number = k.count; claim = claim }))
@@ -196,7 +196,7 @@ nothing_written program w kept axioms lemmas = record {
   lemmas = lemmas;
 }
 
--- ---- what stands at a place
+-- ---- the item at a place
 
 pub axiom_there : (ps : List Pattern) (i : ℕ) → i < length ps → slice_get ps i ≡ Some (axiom_at ps i)
 axiom_there ps i few = slice_get-get_or ps i bot few

@@ -1,4 +1,4 @@
--- What was written of a context, and which texts it stands in.
+-- What was written of a context, and which texts have it.
 use Rattle.std.specs.Prelude.{◌≡◌, ℕ, ◌<◌, ◌≤◌, true, List, [], ◌++◌, length, slice_get, Some}
 use Rattle.ml_pat.specs.Patterns.{Pattern, imp, ev}
 use Rattle.ml_kernel.specs.Theorems.{Theorem}
@@ -25,8 +25,8 @@ context_of made = record {
   lemmas = made.lemmas.now;
 }
 
--- The header was written, the first names of the context are declared, and the first of its axioms and of its lemmas
--- were stated, so many of each.
+-- The header was written. The first `named` names of the context are declared. As many axioms and
+-- lemmas as the writer counts were stated, from the first on.
 pub record HasWritten (w : Writer) (cx : Context) : Type 0 where
   pub begun : w.renderer.begun ≡ true
   pub named : w.renderer.named ≤ length cx.names
@@ -44,8 +44,8 @@ pub record HasWrittenAll (w : Writer) (cx : Context) : Type 0 where
   pub axioms : w.axioms ≡ length cx.axioms
   pub lemmas : w.lemmas ≡ length cx.lemmas
 
--- A text in which just this was written: it is valid so far, it has only axioms of the program, and its facts and
--- statements were counted.
+-- The text has exactly what was written. It is valid so far, it has only axioms of the program, and
+-- its facts and statements were counted.
 pub record IsTextOf (cx : Context) (w : Writer) (bytes : List ℕ) : Type 0 where
   pub fits : Fits cx.names w.renderer bytes
   pub only : HasOnlyAxiomsOf (theory_of cx.program) bytes
@@ -55,14 +55,14 @@ pub record IsTextOf (cx : Context) (w : Writer) (bytes : List ℕ) : Type 0 wher
 abbrev pub Begins : Context → Writer → List ℕ → List ℕ → Type 0
 Begins cx w before after = (added : List ℕ) × (after ≡ before ++ added) × IsTextOf cx w added
 
--- Bytes were appended to a buffer. After every text of what was written before they make one of what was written
--- then.
+-- Bytes were appended to a buffer. Each text of what the old writer has written, followed by these
+-- bytes, is a text of what the new writer has written.
 abbrev pub Adds : Context → Writer → Writer → List ℕ → List ℕ → Type 0
 Adds cx old new before after =
     (added : List ℕ) × (after ≡ before ++ added) ×
     ((text : List ℕ) → IsTextOf cx old text → IsTextOf cx new (text ++ added))
 
--- what may be cited may be cited still
+-- all that could be cited can still be cited
 abbrev pub Keeps : Kept → Kept → Type 0
 Keeps old new =
     (hypotheses : List Pattern) (conclusion : Pattern) → IsStated (all_stated old) hypotheses conclusion →
@@ -73,16 +73,16 @@ abbrev pub HasStated : Scope → Kept → Type 0
 HasStated s k = (hypotheses : List Pattern) (conclusion : Pattern) → IsStated (all_stated k) hypotheses conclusion →
     IsStatedIn s hypotheses conclusion
 
--- the theorem assumes nothing, and uses and cites no more than what the context has and what was stated
+-- the theorem assumes nothing, and uses and cites only what the context has and what was stated
 abbrev pub MayFollow : Context → Kept → Theorem → Type 0
 MayFollow cx k t = (s : Scope) → HasContext s cx → HasStated s k → IsWithin s t
 
--- no variable stands in the pattern of a rule
+-- the pattern of a rule has no variable
 abbrev pub HasNoVariables : RulePattern → Type 0
 HasNoVariables a = (x : ℕ) → StandsIn x a → ⊥
 
--- Where the theorem says that the image of one pattern reaches that of another, the bytes that were appended make of
--- every text one that justifies the run between the two.
+-- If the theorem says that the image of a pattern reaches the image of another, the appended bytes
+-- turn each text into one that justifies the run between the two patterns.
 abbrev pub Concludes : Context → Writer → Theorem → List ℕ → List ℕ → Type 0
 Concludes cx old t before after =
     (a b : RulePattern) (from to : Pattern) (added text : List ℕ) → HasNoVariables a → HasNoVariables b →

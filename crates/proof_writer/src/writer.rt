@@ -36,24 +36,25 @@ pub struct Made<'a> {
     pub lemmas: &'a [Thm],
 }
 
-/// How much of what was made is written: what the renderer keeps of it, how many of the axioms and of the lemmas, and
-/// the counts of the text.
+/// How much of what was made is written: what the renderer keeps of the text, how many axioms and
+/// lemmas were stated, and the counts of the text.
 #[derive(Drop)]
 pub struct Writer {
-    /// What it keeps of the text.
+    /// What the renderer keeps of the text.
     pub renderer: Renderer,
     /// How many axioms were stated.
     pub axioms: u64,
     /// How many lemmas were stated.
     pub lemmas: u64,
-    /// How many statements the text has, 2^64 - 1 where it has more.
+    /// How many statements the text has, or 2^64 - 1 if it has more.
     pub statements: u64,
-    /// How many of them are facts on built-ins, 2^64 - 1 where they are more.
+    /// How many of the statements are facts on built-ins, or 2^64 - 1 if there are more.
     pub facts: u64,
 }
 
 impl Writer {
-    /// Appends the header. The error: out of memory; what was appended then is a part of it.
+    /// Makes a writer, and appends the header to the buffer. The error: out of memory. Then a part
+    /// of the header was appended.
     pub fn begin(alloc: Global, program: &Program, to: &mut Vec<u8>) -> Result<Writer, AllocError>
         ensures written { IfOk result (λ w. HasWrittenAll w (new_context program.now)) }
         ensures text { IfOk result (λ w. Begins (new_context program.now) w to.old.items to.new.items) }
@@ -71,8 +72,8 @@ impl Writer {
         })
     }
 
-    /// Appends what is not written yet: declarations of names, axioms and lemmas. The error: out of memory; then a
-    /// part of that was appended.
+    /// Appends what is not written yet: declarations of names, axioms and lemmas. The error: out of
+    /// memory. Then a part of that was appended.
     pub fn write(&mut self, made: &Made<'_>, to: &mut Vec<u8>) -> Result<(), AllocError>
         requires names { HasPlainNames made.now.program.now.sig }
         requires context { IsContext (context_of made.now) }
@@ -87,7 +88,7 @@ impl Writer {
         self.write_lemmas(made, to)
     }
 
-    // Declares the names that are new.
+    // Declares the new names.
     fn declare(&mut self, made: &Made<'_>, to: &mut Vec<u8>) -> Result<(), AllocError>
         requires names { HasPlainNames made.now.program.now.sig }
         requires context { IsContext (context_of made.now) }
@@ -105,7 +106,7 @@ impl Writer {
         Ok(())
     }
 
-    // States the axioms that are new.
+    // States the new axioms.
     fn write_axioms(&mut self, made: &Made<'_>, to: &mut Vec<u8>) -> Result<(), AllocError>
         requires context { IsContext (context_of made.now) }
         requires written { HasWritten self.old (context_of made.now) }
@@ -135,7 +136,7 @@ impl Writer {
         justifying_laws();
         counting_laws();
         later_laws();
-        // Its contract tells that there are fewer than 2^64.
+        // The contract of `len` says that there are fewer than 2^64 axioms.
         let _count = made.theory.len();
         self.renderer
             .axiom(made.names, made.theory, AxiomNo(no), to)?;
@@ -146,7 +147,7 @@ impl Writer {
         Ok(())
     }
 
-    // States the lemmas that are new.
+    // States the new lemmas.
     fn write_lemmas(&mut self, made: &Made<'_>, to: &mut Vec<u8>) -> Result<(), AllocError>
         requires context { IsContext (context_of made.now) }
         requires written { HasWritten self.old (context_of made.now) }
@@ -182,8 +183,8 @@ impl Writer {
         Ok(())
     }
 
-    /// Appends a theorem that follows from what is written. It may be cited until the next is appended. The error is
-    /// want of memory; then a part of it was appended.
+    /// Appends a theorem that follows from what is written. It may be cited until the next theorem
+    /// is appended. The error: out of memory. Then a part of the theorem was appended.
     pub fn theorem(
         &mut self,
         made: &Made<'_>,
@@ -229,7 +230,7 @@ impl Writer {
         Ok(())
     }
 
-    // .. in the place of the last theorem of the run.
+    // The same, as the new last theorem of the run.
     fn state_last(&mut self, made: &Made<'_>, thm: &Thm, to: &mut Vec<u8>) -> Result<(), AllocError>
         requires named { self.old.renderer.named ≡ length made.now.names.now }
         requires proved { MayProve made.now.names.now self.old.renderer thm.now }
@@ -250,7 +251,8 @@ impl Writer {
     }
 }
 
-// Whether a pattern says of one that it is an element of a sort, or of two that they are equal.
+// Returns whether a pattern says that a pattern is an element of a sort, or that two patterns are
+// equal.
 fn is_fact(pattern: &MPat) -> bool
     ensures { result ≡ is_fact_form pattern.now }
 {

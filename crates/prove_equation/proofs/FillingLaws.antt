@@ -1,4 +1,4 @@
--- An equation's lemma where terms stand for its variables.
+-- An equation's lemma, with terms for its variables.
 use Rattle.std.proofs.Common.{◌≡◌, ◌+◌, ◌⊎◌, ℕ, zero, suc, true, List, [], ◌∷◌, ◌++◌, Option, Some, None, length, slice_get, inl, inr, refl, sym, ◌∙◌, ap, subst, arith}
 use Rattle.std.specs.Prelude.{Contains, IsSome, slice_index_or}
 use Rattle.std.proofs.lemmas.List.Elements.{Contains-get_or, Contains-append_cases, Contains-append_left}
@@ -82,7 +82,7 @@ pub record IsEqualitySchema (cx : Context) (vars : List ℕ) (l r : RulePattern)
   pub says : lemma.conclusion ≡ equal (with_metas left) (with_metas right)
   pub assumes : (h : Pattern) → Contains lemma.hypotheses h → Contains (meta_facts 0 numbers ++ parts) h
 
--- it can be used where the parts of its condition are proved
+-- the lemma can be used if the parts of its condition are proved
 pub schema_usable : (cx : Context) (vars : List ℕ) (l r : RulePattern) (parts : List Pattern) (lemma : Theorem) (theta : List (Option Tree)) (ts others : List Theorem) (s : IsEqualitySchema cx vars l r parts lemma) → (i : HasImages cx theta s.numbers ts)
     → ((h : Pattern) → Contains parts h → IsProved i.patterns s.numbers others h) → IsUsable i.patterns s.numbers lemma ts others
 schema_usable cx vars l r parts lemma theta ts others s i proved =
@@ -100,7 +100,7 @@ schema_usable cx vars l r parts lemma theta ts others s i proved =
     one h (inl fact) = proved_fact i.patterns s.numbers others h fact
     one h (inr part) = proved h part
 
--- what it says of the terms
+-- what the lemma says of the terms
 pub record SaysOfTerms (cx : Context) (theta : List (Option Tree)) (l r : RulePattern) (p : Pattern) : Type 0 where
   pub left : Pattern
   pub left_image : image_of cx.program.sig cx.names (filled theta l) ≡ Some left
@@ -125,7 +125,7 @@ schema_says cx vars l r parts lemma theta ts t s i there is =
       );
     }
 
--- it stays in the context
+-- the result stays in the context
 pub schema_stays : (cx : Context) (vars : List ℕ) (l r : RulePattern) (parts : List Pattern) (lemma : Theorem) (theta : List (Option Tree)) (ts others : List Theorem) (t : Theorem) → IsEqualitySchema cx vars l r parts lemma → Contains cx.lemmas lemma
     → AreElementsFor cx theta ts → ((s : Scope) → HasContext s cx → AreWithin s others) → StaysUsed lemma ts others t → StaysIn cx t
 schema_stays cx vars l r parts lemma theta ts others t s there are stay used scope has =
@@ -167,7 +167,7 @@ condition_proved cx vars theta qs ns others x sort p t condition h images there 
     only_one a b (zero, low, same) = same
     only_one a b (suc k, low, same) = absurd (omega (arith, low))
 
--- what the condition's theorem, where there is one, proves of the lemma's assumptions
+-- what the condition's theorem, if there is one, proves of the lemma's assumptions
 pub part_proved : (cx : Context) (vars : List ℕ) (theta : List (Option Tree)) (qs : List Pattern) (ns : List ℕ) (holds : Sentence) (condition : Pattern) (c : Option RulePattern) (o : Option Theorem) → condition_of cx.program.sig vars c ≡ Some holds → sentence_image cx.program.sig cx.names holds ≡ Some condition
     → IsCondition cx.program.sig vars c → AreImages cx.program.sig cx.names theta qs → AllThere theta (length vars) → length vars ≡ length qs → SaysCondition cx vars theta c o → (h : Pattern) → Contains (parts_of (with_metas condition)) h → IsProved qs ns (listed o) h
 part_proved cx vars theta qs ns holds condition None o is_holds image has images there many said h part =
@@ -202,7 +202,7 @@ condition_within cx vars theta None (Some t) h s has = absurd h
 condition_within cx vars theta (Some p) None h s has = absurd h
 condition_within cx vars theta (Some p) (Some t) (sort, sorted, says, stays) s has = (stays s has, tt)
 
--- ---- an equation that is written directly
+-- ---- an equation without parameters
 
 pub equation_lemma_grown : (old new : Context) (f : ℕ) (e : Equation) (t : Theorem) → HasGrown old new → IsEquationLemma old f e t → IsEquationLemma new f e t
 equation_lemma_grown old new f e t g is = record {
@@ -252,7 +252,7 @@ direct_schema cx f e lemma has s d =
           (subst (λ (c : Pattern). Contains (meta_facts 0 s.numbers ++ parts_of (with_metas c)) h) same.1 (s.assumes h there));
     }
 
--- all that is known where the lemma is cited
+-- all that is known when the lemma is cited
 pub record IsCited (cx : Context) (f : ℕ) (e : Equation) (lemma : Theorem) (theta : List (Option Tree)) (o : Option Theorem) (ts : List Theorem) : Type 0 where
   pub can : CanFill cx f e lemma theta o
   pub elements : AreElementsFor cx theta ts

@@ -1,4 +1,4 @@
--- The lemma of an equation in the form of kompile where terms stand for its parameters and variables.
+-- The lemma of an equation in the form of kompile, with terms for its parameters and variables.
 use Rattle.std.proofs.Common.{◌≡◌, ◌<◌, ◌+◌, ◌⊎◌, ℕ, zero, suc, true, List, [], ◌∷◌, ◌++◌, Option, Some, None, option_map, length, length-append, map, slice_get, inl, inr, refl, sym, ◌∙◌, ap, subst, arith}
 use Rattle.std.specs.Prelude.{Contains, slice_index_or}
 use Rattle.std.specs.List.{AllZip}
@@ -76,7 +76,7 @@ mutual
 
 -- ---- memberships
 
--- where terms stand for all variables, with their images
+-- there is a term for each variable, with its image
 pub record AreAt (cx : Context) (theta : List (Option Tree)) (qs : List Pattern) (n : ℕ) : Type 0 where
   pub images : AreImages cx.program.sig cx.names theta qs
   pub there : AllThere theta n
@@ -150,14 +150,14 @@ bound_front [] theta i u h = absurd (none_some u h)
 bound_front (v ∷ us) theta zero u h = h
 bound_front (v ∷ us) theta (suc i) u h = bound_front us theta i u h
 
--- what is known where the lemma is used
+-- what is known when the lemma is used
 pub record IsMet (cx : Context) (f : ℕ) (e : Equation) (lemma : Theorem) (theta : List (Option Tree)) (us : List Tree) (o : Option Theorem) (fs gs ms : List Theorem) : Type 0 where
   pub can : CanMeet cx f e lemma theta us o
   pub terms : AllZip (IsElementOf cx) us fs
   pub elements : AreElementsFor cx theta gs
   pub members : AreMemberships cx theta e.arguments us ms
 
--- the equation after its parameters, and the terms in front of what the substitution gives
+-- the equation after its parameters, and the terms before the bindings of the substitution
 record IsPlaced (cx : Context) (f : ℕ) (e : Equation) (p : Pattern) (theta : List (Option Tree)) (us : List Tree) (fs gs : List Theorem) : Type 0 where
   shape : IsKompile cx.program.sig cx.names f e p
   count : length us ≡ length shape.sorts

@@ -16,7 +16,7 @@ use Rattle.prove_schema.proofs.ScopeLaws.{StaysAssuming, lemma_of, assumes_only}
 use Rattle.prove_equation.specs.EquationLemmas.{SaysEquationSchema}
 use Rattle.prove_equation.proofs.ShapeLaws.{IsImplied, equation_implied}
 
--- ---- what may be assumed is over the scope
+-- ---- the assumptions are over the scope
 
 only_one : (x y : Pattern) → Contains (x ∷ []) y → x ≡ y
 only_one x y (zero, low, is) = is
@@ -56,7 +56,8 @@ facts_over s k (n ∷ ns) p q metas over (suc i, low, is) = facts_over s (k + 1)
 
 -- ---- the lemma
 
--- what is known of an equation, its axiom, the axiom at pattern variables, and that without its condition
+-- what is known of an equation, its axiom, the axiom at pattern variables, and the latter without
+-- its condition
 pub record IsOpened (cx : Context) (f : ℕ) (e : Equation) (stated whole : Theorem) : Type 0 where
   pub image : HasEquationImage cx.program.sig f e
   pub axiom_says : SaysEquationOf cx f e stated.conclusion

@@ -1,4 +1,4 @@
--- That terms are in the patterns that become them, as these are written.
+-- Terms are members of the patterns that become them, as these are written.
 use Rattle.std.proofs.Common.{◌≡◌, ◌<◌, ◌≤◌, ◌+◌, ℕ, zero, suc, List, [], ◌∷◌, ◌++◌, Option, Some, None, option_map, length, get_or, take, refl, sym, ◌∙◌, ap, subst, arith}
 use Rattle.std.specs.Prelude.{IfSome, IsSomeAnd, ◌≢◌}
 use Rattle.std.specs.List.{AllZip}
@@ -86,7 +86,7 @@ entered_stays itself turned entered context (Some u) t is (p, q, equality, own, 
     subst (λ (v : Theorem). StaysWithin (var 0 ∷ []) (v ∷ itself ∷ []) entered) (sym (some_same u t is))
     (λ s over within. second s (subst (IsOver s) (sym shape) ((subst (IsOver s) own within.1.0.conclusion).0, over.0), over) (first s over (within.0, tt), (within.1.0, tt)))
 
--- ---- a term in a pattern
+-- ---- a term as a member of a pattern
 
 mutual
   instance_written : (theta : List (Option Tree)) (p : RulePattern) (u : Tree) → instance_of theta p ≡ Some u → (t : Tree) × (substituted theta p ≡ Some t)
@@ -259,7 +259,7 @@ as_many_facts cx [] (t ∷ ts) h = absurd h
 as_many_facts cx (u ∷ us) [] h = absurd h
 as_many_facts cx (u ∷ us) (t ∷ ts) h = ap suc (as_many_facts cx us ts h.1)
 
--- ---- where an equation meets terms
+-- ---- an equation used at terms
 
 terms_of : (sig : Signature) (us : List Tree) (refs : List SortRef) → AreTermsOf sig [] (forest us) refs → AreTerms sig us
 terms_of sig [] refs h k d low = absurd (omega (arith, low))

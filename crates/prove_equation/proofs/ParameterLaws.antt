@@ -1,4 +1,4 @@
--- Terms that stand for an equation's parameters, in front of those that stand for its variables.
+-- Terms for an equation's parameters, before those for its variables.
 use Rattle.std.proofs.Common.{◌≡◌, ◌≤◌, ◌+◌, ℕ, zero, suc, List, [], ◌∷◌, ◌++◌, Option, Some, length, length-append, append_assoc, refl, sym, ◌∙◌, ap, subst, arith}
 use Rattle.std.specs.List.{AllZip}
 use Rattle.ml_kernel.specs.Theorems.{Theorem}
@@ -82,7 +82,7 @@ mutual
       ap (λ (q : RulePattern). more_patterns q (all_filled (behind_terms ts theta) (all_shifted (length ts) ps))) (filled-behind sig ts theta n p there has.0)
       ∙ ap (more_patterns (filled theta p)) (all_filled-behind sig ts theta n ps there has.1)
 
--- so many variables as patterns, numbered from k on
+-- n variables as patterns, numbered from k on
 abbrev pub variable_patterns : ℕ → ℕ → RulePatterns
 variable_patterns k zero = no_pattern
 variable_patterns k (suc n) = more_patterns (variable k) (variable_patterns (k + 1) n)

@@ -52,7 +52,7 @@ condition_open sig vars None c h is = subst (IsOpenSentence sig (length vars)) (
 condition_open sig vars (Some p) c h is =
     subst (IsOpenSentence sig (length vars)) (sym (condition_is sig vars p h.sort c h.sorted is)) (h.image, h.truths)
 
--- ---- an equation that is written directly
+-- ---- an equation without parameters
 
 pub record IsDirect (sig : Signature) (names : List (List ℕ)) (f : ℕ) (e : Equation) (p : Pattern) : Type 0 where
   pub numbers : List ℕ
@@ -179,7 +179,7 @@ kompile_shape sig names f e p some (s, kompile c info sorts sort other many decl
       says = inside.says ∙ ap (closed 0 inside.numbers) (parts.says ∙ ap (λ (q : Pattern). imp q (equal parts.left parts.right)) w.4);
     }
 
--- what is after parameters
+-- patterns after parameters
 mutual
   pub shifted_has : (sig : Signature) (k n : ℕ) (p : RulePattern) → HasImage sig n p → HasImage sig (k + n) (shifted k p)
   shifted_has sig k n (variable x) h = omega (arith, h)

@@ -49,7 +49,7 @@ turned_stays made turned joined (Some u) t is first second =
     subst (λ (v : Theorem). StaysWithin (var 0 ∷ []) (v ∷ made ∷ []) joined) (sym (some_same u t is))
     (λ s over within. second s over (first s over (within.0, tt), (within.1.0, tt)))
 
--- ---- what an equation gives its function at terms
+-- ---- what an equation says of its function at terms
 
 -- what is known of the arguments as they are written
 pub record IsWritten (cx : Context) (f : ℕ) (e : Equation) (theta : List (Option Tree)) (us : Forest) (made : Theorem) (normal : Option Theorem) : Type 0 where

@@ -7,8 +7,9 @@ use Rattle.prove_term.specs.Contexts.{Context}
 use Rattle.prove_term.specs.EquationAxioms.{SaysEquationOf}
 use Rattle.prove_schema.specs.Schemas.{with_metas, meta_facts, parts_of, IsSentence}
 
--- The image of the equation says something under a condition of all elements of some sorts. The theorem says the same
--- of pattern variables, and assumes that they are elements of these sorts, and the parts of the condition.
+-- The image of the equation is a sentence for all elements of some sorts: if a condition holds, an
+-- equality does. The theorem says the equality of pattern variables. It assumes that these are
+-- elements of the sorts, and the parts of the condition. It assumes nothing else.
 pub record SaysEquationSchema (cx : Context) (f : ℕ) (e : Equation) (t : Theorem) : Type 0 where
   pub sentence : Pattern
   pub is_sentence : SaysEquationOf cx f e sentence
@@ -20,7 +21,7 @@ pub record SaysEquationSchema (cx : Context) (f : ℕ) (e : Equation) (t : Theor
   pub assumes : (h : Pattern) → Contains t.hypotheses h →
       Contains (meta_facts 0 numbers ++ parts_of (with_metas condition)) h
 
--- the theorem is a lemma of the context, that of the equation
+-- the theorem is a lemma of the context, and is the lemma of the equation
 pub record IsEquationLemma (cx : Context) (f : ℕ) (e : Equation) (t : Theorem) : Type 0 where
   pub listed : Contains cx.lemmas t
   pub says : SaysEquationSchema cx f e t

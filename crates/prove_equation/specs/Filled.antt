@@ -1,5 +1,5 @@
--- What an equation gives its function at terms, with its arguments as they are written, and how that becomes what it
--- gives at the terms.
+-- What an equation says of its function at terms, with the arguments as they are written, and how
+-- this becomes what it says with the arguments in normal form.
 use Rattle.std.specs.Prelude.{◌≡◌, ℕ, List, [], ◌∷◌, Option, Some, None, length}
 use Rattle.term_core.specs.Terms.{Tree}
 use Rattle.term_core.specs.Patterns.{call}
@@ -16,7 +16,7 @@ use Rattle.prove_term.specs.Filling.{filled}
 use Rattle.prove_equation.specs.Conditions.{BindsEach, SaysCondition}
 use Rattle.prove_equation.specs.EquationLemmas.{IsEquationLemma}
 
--- the lemma of an equation that is written directly may be used with this substitution
+-- the lemma of a direct equation, which has no parameters, may be used with this substitution
 pub record CanFill (cx : Context) (f : ℕ) (e : Equation) (lemma : Theorem) (theta : List (Option Tree))
     (o : Option Theorem) : Type 0 where
   pub image : HasEquationImage cx.program.sig f e
@@ -27,8 +27,8 @@ pub record CanFill (cx : Context) (f : ℕ) (e : Equation) (lemma : Theorem) (th
   pub bound : BindsEach e.variables theta
   pub condition : SaysCondition cx e.variables theta e.condition o
 
--- the pattern says that the image of the function f of the equation's arguments equals that of its right side, both
--- with the terms of a substitution in the places of their variables
+-- The pattern says that the image of the function f of the equation's arguments equals the image of
+-- the right side. The variables of both are replaced by the terms of a substitution.
 pub record SaysFilled (cx : Context) (f : ℕ) (e : Equation) (theta : List (Option Tree)) (p : Pattern) : Type 0 where
   pub left : Pattern
   pub left_image : image_of cx.program.sig cx.names (filled theta (call f [] e.arguments)) ≡ Some left
@@ -37,14 +37,14 @@ pub record SaysFilled (cx : Context) (f : ℕ) (e : Equation) (theta : List (Opt
   pub says : p ≡ equal left right
   pub no_variable : HasNoVariable left × HasNoVariable right
 
--- `p = r`, and maybe `p = q`
+-- `made` is `p = r`, and the theorem, if there is one, is `p = q`
 abbrev pub CanTurn : Pattern → Option Theorem → Type 0
 CanTurn made None = Unit {0}
 CanTurn made (Some t) =
     (p : Pattern) × (q : Pattern) × (r : Pattern) × (t.conclusion ≡ equal p q) × (made ≡ equal p r) × HasNoVariable p
     × HasNoVariable q
 
--- `q = r`, or the first as it is
+-- the result is `q = r`, or `made` itself if there is no theorem
 abbrev pub IsTurned : Theorem → Option Theorem → Theorem → Type 0
 IsTurned made None turned = turned ≡ made
 IsTurned made (Some t) turned =

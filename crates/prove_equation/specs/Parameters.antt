@@ -1,4 +1,5 @@
--- Terms for an equation's parameters: what stands for them, and that they are in its arguments.
+-- Terms for an equation's parameters: what is bound to the parameters, and that each is a member of
+-- its argument.
 use Rattle.std.specs.Prelude.{◌≡◌, ◌≢◌, ℕ, List, [], ◌∷◌, Option, Some, None, length}
 use Rattle.ml_pat.specs.Patterns.{Pattern, equal, fun, member, var}
 use Rattle.ml_kernel.specs.Lemmas.{HasNoVariable}
@@ -19,13 +20,13 @@ use Rattle.prove_term.specs.Filling.{filled}
 use Rattle.prove_equation.specs.Conditions.{BindsEach, SaysCondition}
 use Rattle.prove_equation.specs.EquationLemmas.{IsEquationLemma}
 
--- the terms of a list, and then what a substitution gives
+-- the terms of the list, and after them the bindings of the substitution
 abbrev pub behind_terms : List Tree → List (Option Tree) → List (Option Tree)
 behind_terms [] theta = theta
 behind_terms (t ∷ ts) theta = Some t ∷ behind_terms ts theta
 
--- the pattern says that the image of the term is in that of p, with the terms of a substitution in the places of its
--- variables
+-- The pattern says that the image of the term u is a member of the image of p. The variables of p
+-- are replaced by the terms of a substitution.
 pub record SaysMember (cx : Context) (theta : List (Option Tree)) (p : RulePattern) (u : Tree) (q : Pattern)
     : Type 0 where
   pub element : Pattern
@@ -34,11 +35,11 @@ pub record SaysMember (cx : Context) (theta : List (Option Tree)) (p : RulePatte
   pub whole_image : image_of cx.program.sig cx.names (filled theta p) ≡ Some whole
   pub says : q ≡ member element whole
 
--- the theorem says so, and stays in the context
+-- the theorem says this, and stays in the context
 abbrev pub IsMembership : Context → List (Option Tree) → RulePattern → Tree → Theorem → Type 0
 IsMembership cx theta p u t = SaysMember cx theta p u t.conclusion × StaysIn cx t
 
--- .. of each of the patterns, in order
+-- the same for each of the patterns, in order
 abbrev pub AreMemberships : Context → List (Option Tree) → RulePatterns → List Tree → List Theorem → Type 0
 AreMemberships cx theta no_pattern [] [] = Unit {0}
 AreMemberships cx theta no_pattern [] (t ∷ ts) = ⊥
@@ -48,7 +49,8 @@ AreMemberships cx theta (more_patterns p ps) (u ∷ us) [] = ⊥
 AreMemberships cx theta (more_patterns p ps) (u ∷ us) (t ∷ ts) =
     IsMembership cx theta p u t × AreMemberships cx theta ps us ts
 
--- the lemma of an equation in the form of kompile may be used at these terms, which its arguments match
+-- the lemma of an equation in the form of kompile may be used at these terms, which its arguments
+-- match
 pub record CanMeet (cx : Context) (f : ℕ) (e : Equation) (lemma : Theorem) (theta : List (Option Tree)) (us : List Tree)
     (o : Option Theorem) : Type 0 where
   pub well_sorted : IsWellSorted (theory_of cx.program)
@@ -62,22 +64,22 @@ pub record CanMeet (cx : Context) (f : ℕ) (e : Equation) (lemma : Theorem) (th
   pub makes : instances_of theta e.arguments ≡ Some (forest us)
   pub condition : SaysCondition cx e.variables theta e.condition o
 
--- the pattern says that another is one element of a sort
+-- the pattern says that some pattern is one element of a sort
 abbrev pub SaysElement : Pattern → Type 0
 SaysElement q = (p : Pattern) × (n : ℕ) × (q ≡ fun p n)
 
--- that it is in itself
+-- if the fact says that p is one element of a sort, the theorem says that p is a member of itself
 abbrev pub IsInItself : Theorem → Theorem → Type 0
 IsInItself fact t = (p : Pattern) (n : ℕ) → fact.conclusion ≡ fun p n → t.conclusion ≡ member p p
 
--- `q in q`, and maybe `p = q`
+-- `itself` is `q in q`, and the theorem, if there is one, is `p = q`
 abbrev pub CanEnter : Pattern → Option Theorem → Type 0
 CanEnter itself None = Unit {0}
 CanEnter itself (Some t) =
     (p : Pattern) × (q : Pattern) × (t.conclusion ≡ equal p q) × (itself ≡ member q q) × HasNoVariable p
     × HasNoVariable q
 
--- `q in p`, or the first as it is
+-- the result is `q in p`, or `itself` if there is no theorem
 abbrev pub IsEntered : Theorem → Option Theorem → Theorem → Type 0
 IsEntered itself None entered = entered ≡ itself
 IsEntered itself (Some t) entered =
@@ -91,6 +93,6 @@ StaysEntered itself (Some t) entered = StaysWithin (var 0 ∷ []) (t ∷ itself 
 abbrev pub IsEquality : Pattern → Type 0
 IsEquality e = (p : Pattern) × (q : Pattern) × (e ≡ equal p q)
 
--- `q in x:0`, where the equality is `q = p`
+-- if the equality is `q = p`, the pattern is `q in x:0`
 abbrev pub IsInHole : Pattern → Pattern → Type 0
 IsInHole e c = (q p : Pattern) → e ≡ equal q p → c ≡ member q (var 0)

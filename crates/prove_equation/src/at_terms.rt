@@ -20,10 +20,11 @@ use rule_core::Equation;
 use std::alloc::{AllocError, Global};
 use term_core::{Subst, Term};
 
-/// What the lemma of an equation gives its function at terms that its arguments match: the function of them equals the
-/// right side, with what the match gives its variables in their places. `condition` says that the equation's condition
-/// is true there, where it has one. `AllocError` says that memory ran out, or what it says of `fun_of`; the context
-/// may have grown then too. The cost grows with the terms that the match gives the variables.
+/// Proves what the lemma of an equation says of its function at terms that its arguments match: the
+/// function of the terms equals the right side, with its variables replaced by what they were
+/// matched with. `condition` says that the equation's condition is true there, if it has one.
+/// `AllocError`: out of memory, or the error of `fun_of`. After an error the context may have
+/// grown. The cost grows with the terms that the match binds to the variables.
 pub fn equation_at(
     alloc: Global,
     cx: &mut Cx<'_>,

@@ -1,11 +1,11 @@
-// The theorem on a condition, where there is one.
+// The theorem on a condition, if there is one.
 ghost use Rattle.std.specs.Prelude.{◌≡◌, IfOk};
 ghost use Rattle.prove_equation.specs.Conditions.{listed};
 
 use ml_kernel::Thm;
 use std::alloc::{AllocError, Global};
 
-/// The theorem on a condition, where there is one, as a list. `AllocError` says that memory ran out.
+/// Returns the theorem on a condition, if there is one, as a list. `AllocError`: out of memory.
 pub fn given(alloc: Global, condition: &Option<Thm>) -> Result<Vec<Thm>, AllocError>
     ensures { IfOk result (λ v. v.items ≡ listed condition.now) }
 {

@@ -1,4 +1,4 @@
-// Equations that are written directly, at terms.
+// Direct equations, which have no parameters, at terms.
 ghost use Rattle.std.specs.Prelude.{◌≡◌, [], IfOk};
 ghost use Rattle.term_core.specs.Terms.{forest};
 ghost use Rattle.rule_core.specs.Matching.{MatchAll};
@@ -22,7 +22,8 @@ use rule_core::Equation;
 use std::alloc::{AllocError, Global};
 use term_core::{Subst, Term};
 
-// What the lemma of an equation that is written directly gives its function at terms that its arguments match.
+// Proves what the lemma of a direct equation says of its function at terms that its arguments
+// match.
 pub(crate) fn direct_at(
     alloc: Global,
     cx: &mut Cx<'_>,
@@ -53,7 +54,8 @@ pub(crate) fn direct_at(
     from_normal(alloc, made, &normal)
 }
 
-// What the lemma says of what the match gives the equation's variables, with the arguments as they are written.
+// Proves what the lemma says when its variables are replaced by what they were matched with, with
+// the arguments as they are written.
 fn filled(
     alloc: Global,
     cx: &mut Cx<'_>,
@@ -75,7 +77,7 @@ fn filled(
     schema_at(alloc, lemma, &facts, &others)
 }
 
-// `q = r`, from `p = r` and `p = q`; or `p = r` as it is, where q is p.
+// Proves `q = r` from `p = r` and `p = q`. Without the second, q is p, and the result is `p = r`.
 fn from_normal(alloc: Global, made: Thm, normal: &Option<Thm>) -> Result<Thm, AllocError>
     requires { CanTurn made.conclusion normal.now }
     ensures says { IfOk result (IsTurned made normal.now) }

@@ -12,10 +12,11 @@ use prove_term::Cx;
 use rule_core::Equation;
 use std::alloc::{AllocError, Global};
 
-/// An equation of a function as a lemma: of pattern variables in the place of its variables, in the form of kompile
-/// also in the place of its parameters. It assumes that each is one element of its sort, that each parameter is in its
-/// argument, and what the condition says. `AllocError` says that memory ran out; the context may have grown then
-/// too. Its image is stated as an axiom, so who uses an equation often keeps its lemma.
+/// Turns an equation of a function into a lemma, with pattern variables for its variables, and in
+/// the form of kompile also for its parameters. The lemma assumes that each pattern variable is one
+/// element of its sort, that each parameter is a member of its argument, and what the condition
+/// says. `AllocError`: out of memory. After an error the context may have grown. Each call states
+/// the equation's image as an axiom. A caller that uses an equation often keeps its lemma.
 pub fn equation_lemma(
     alloc: Global,
     cx: &mut Cx<'_>,

@@ -1,8 +1,9 @@
-// Equations of functions as lemmas, and what they give the functions at terms.
+// Equations of functions as lemmas, and what they say of the functions at terms.
 //
-// The contract: `equation_lemma` makes of an equation's axiom the same with pattern variables in the place of its
-// variables (specs/EquationLemmas.antt), and `equation_at` what that lemma says of the terms that the equation's
-// arguments match: the function of them equals the right side, with its variables filled.
+// The contract: `equation_lemma` turns an equation's axiom into a lemma, with pattern variables for
+// its variables (specs/EquationLemmas.antt). `equation_at` proves what that lemma says of the terms
+// that the equation's arguments match: the function of the terms equals the right side, with its
+// variables replaced.
 #![tactic(auto)]
 
 mod at_terms;

@@ -1,4 +1,5 @@
-// Equations in the form of kompile at terms: each term is in the argument of its parameter.
+// Equations in the form of kompile, at terms: each term is a member of the argument of its
+// parameter.
 ghost use Rattle.std.specs.Prelude.{◌≡◌, ◌≢◌, ◌++◌, [], ◌∷◌, ℕ, List, IfOk, Some};
 ghost use Rattle.std.specs.List.{AllZip};
 ghost use Rattle.ml_pat.specs.Patterns.{fun, imp, member};
@@ -33,7 +34,8 @@ use rule_core::Equation;
 use std::alloc::{AllocError, Global};
 use term_core::{RulePat, Subst, Term};
 
-// What the lemma of an equation in the form of kompile gives its function at terms that its arguments match.
+// Proves what the lemma of an equation in the form of kompile says of its function at terms that
+// its arguments match.
 pub(crate) fn kompile_at(
     alloc: Global,
     cx: &mut Cx<'_>,
@@ -68,7 +70,7 @@ pub(crate) fn kompile_at(
     schema_at(alloc, lemma, &facts, &others)
 }
 
-// Theorems, and then others.
+// Returns the theorems of the first list, followed by those of the second.
 fn joined(alloc: Global, first: &[Thm], second: &[Thm]) -> Result<Vec<Thm>, AllocError>
     ensures { IfOk result (λ v. v.items ≡ first.now ++ second.now) }
 {
@@ -82,7 +84,8 @@ fn joined(alloc: Global, first: &[Thm], second: &[Thm]) -> Result<Vec<Thm>, Allo
     Ok(theorems)
 }
 
-// That terms are each in the pattern of its place, with a substitution's terms in the places of the variables.
+// Proves that each term is a member of the pattern at its place, with the pattern's variables
+// replaced by a substitution's terms.
 fn memberships(
     alloc: Global,
     cx: &mut Cx<'_>,
@@ -108,7 +111,7 @@ fn memberships(
     Ok(members)
 }
 
-// That a term is in a pattern that becomes it, as that is written.
+// Proves that a term is a member of a pattern that becomes it, with the pattern as it is written.
 fn membership(
     alloc: Global,
     cx: &mut Cx<'_>,
@@ -126,14 +129,14 @@ fn membership(
     ensures member { IfOk result (IsMembership cx.new subst.now (plain_pattern pat.now) term.now) }
     ensures grown { HasGrown cx.old cx.new }
 {
-    // A term is not too high.
+    // The contract of `height` says that a term is not too high.
     let _height = term.height();
     let itself = in_itself(alloc, fact)?;
     let equality = inj_eq(alloc, cx, pat, subst)?;
     in_written(alloc, itself, &equality)
 }
 
-// `p in p`, from that p is one element of a sort.
+// Proves `p in p` from the fact that p is one element of a sort.
 fn in_itself(alloc: Global, fact: &Thm) -> Result<Thm, AllocError>
     requires { SaysElement fact.now.conclusion }
     ensures says { IfOk result (IsInItself fact.now) }
@@ -153,7 +156,7 @@ fn mem_in(alloc: Global, p: &MPat, s: MSort) -> Result<Thm, AllocError>
     Thm::mem_in(alloc, p, s)
 }
 
-// What a pattern says to be one element of a sort, and that.
+// Returns the pattern that a fact says to be one element of a sort, and the sort.
 fn subject(fact: &MPat) -> (&MPat, MSort)
     requires { SaysElement fact.now }
     ensures { fact.now ≡ fun result.0.now result.1.0 }
@@ -164,7 +167,8 @@ fn subject(fact: &MPat) -> (&MPat, MSort)
     }
 }
 
-// `q in p`, from `q in q` and `p = q`; or `q in q` as it is, where q is p.
+// Proves `q in p` from `q in q` and `p = q`. Without the second, q is p, and the result is the
+// given theorem.
 fn in_written(alloc: Global, itself: Thm, equality: &Option<Thm>) -> Result<Thm, AllocError>
     requires { CanEnter itself.conclusion equality.now }
     ensures says { IfOk result (IsEntered itself equality.now) }
@@ -180,7 +184,7 @@ fn in_written(alloc: Global, itself: Thm, equality: &Option<Thm>) -> Result<Thm,
     }
 }
 
-// `q in x`, from `q = p`, where x marks a place.
+// Returns `q in x` from `q = p`. The variable x marks a place.
 fn in_hole(alloc: Global, equality: &MPat) -> Result<MPat, AllocError>
     requires { IsEquality equality.now }
     ensures { IfOk result (λ c. IsInHole equality.now c) }

@@ -1,4 +1,4 @@
--- Equalities: what stays when a context grows, and what is made of them.
+-- Equalities: what stays true when a context grows, and what follows from them.
 use Rattle.std.proofs.Common.{◌∷◌, [], Option, Some, None, refl, sym, ◌∙◌, ap, subst}
 use Rattle.ml_pat.specs.Patterns.{Pattern, app, equal, var}
 use Rattle.ml_kernel.specs.Lemmas.{HasNoVariable}
@@ -26,7 +26,7 @@ pub has_equal_grown : (a b : Context) (p : RulePattern) (image : Pattern) (o : O
 has_equal_grown a b p image o g h =
     record { left = h.left; left_image = image_grown a b (term p) h.left g h.left_image; closed = h.closed; equates = equates_grown a b h.left image o g h.equates }
 
--- a term's own image
+-- the image of a term equals itself
 pub equals_itself : (cx : Context) (t : Tree) (image : Pattern) → IsImage cx (ground_pattern t) image → HasEqual cx (ground_pattern t) image None
 equals_itself cx t image is = record { left = image; left_image = is; closed = image_closed cx.program.sig cx.names t image is; equates = refl }
 

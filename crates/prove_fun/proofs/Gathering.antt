@@ -1,4 +1,4 @@
--- The arguments of a node one by one: what those that are done make of the whole.
+-- The arguments of a node one by one: what follows for the whole from those that are done.
 use Rattle.std.proofs.Common.{◌≡◌, ◌+◌, ℕ, zero, suc, List, [], ◌∷◌, Option, Some, None, length, get_or, drop, slice_get, refl, sym, ◌∙◌, ap, subst}
 use Rattle.ml_pat.specs.Patterns.{Pattern, app}
 use Rattle.ml_kernel.specs.Lemmas.{HasNoVariable}
@@ -41,7 +41,7 @@ image_at sig names (more_records s rs) (p ∷ qs) zero r q h there at =
     first s r e = cc
 image_at sig names (more_records s rs) (p ∷ qs) (suc i) r q h there at = image_at sig names rs qs i r q h.1 there at
 
--- ---- what was made of the first i arguments
+-- ---- the result of the first i arguments
 
 pub record IsGathered (cx : Context) (theta : List (Option Tree)) (args : List RulePat) (i : ℕ) (head function : Pattern) (made : Option Theorem) : Type 0 where
   pub left : Pattern

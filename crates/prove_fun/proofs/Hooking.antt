@@ -37,7 +37,7 @@ use Rattle.prove_fun.specs.Evaluating.{IsHookCall, IsImage, SaysCall}
 no_result : {X : Type 0} {r : Result DomainValue NoValue} → None ≡ Some r → X
 no_result e = let no : ⊥ = cc in absurd no
 
--- where an operation has a value, its arguments have no text
+-- if an operation has a value, its arguments have no text
 scalars_of : (op : Operation) (vs : List DomainValue) (r : Result DomainValue NoValue) → operation_value op vs ≡ Some r → (ss : List Scalar) × (vs ≡ map scalar_value ss)
 scalars_of (on_integer f) (integer x ∷ []) r e = (scalar.Int x ∷ [], refl)
 scalars_of (on_integers f) (integer x ∷ (integer y ∷ [])) r e = (scalar.Int x ∷ (scalar.Int y ∷ []), refl)
@@ -125,7 +125,7 @@ same_row k i j a b =
 same_value : (v w : DomainValue) → ◌≡◌ {A = Option (Result DomainValue NoValue)} (Some (Ok v)) (Some (Ok w)) → v ≡ w
 same_value v w e = cc
 
--- what is said of it is what was recorded
+-- the fact says what was recorded
 pub hook_call : (cx : Context) (f : ℕ) (ts : Forest) (t : Tree) (vs : List DomainValue) (fact : Theorem) (image : Pattern) → IsHookCall cx.program.sig f ts t → AreValues ts vs
     → IsImageOf cx.program.sig cx.names (SaysHook cx.program.sig f vs) fact.conclusion → StaysIn cx fact → IsImage cx (ground_pattern t) image → SaysCall cx f ts image fact
 hook_call cx f ts t vs fact image h are (s, says, image_is) stays is =
@@ -155,7 +155,7 @@ hook_call cx f ts t vs fact image h are (s, says, image_is) stays is =
 
 -- ---- the values of arguments, one by one
 
--- the first records give these values
+-- the results of the first records are these values
 abbrev pub AreScalarsOf : List Record → List Scalar → Type 0
 AreScalarsOf rs [] = Unit {0}
 AreScalarsOf [] (s ∷ ss) = ⊥

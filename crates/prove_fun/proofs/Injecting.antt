@@ -32,7 +32,7 @@ same_image p q e = cc
 same_tree : (t u : Tree) → Some t ≡ Some u → t ≡ u
 same_tree t u e = cc
 
--- ---- an injection at once
+-- ---- a direct injection
 
 pub injected_once_says : (cx : Context) (a b : ℕ) (t : Tree) (o : Option Theorem) → SaysEqualImages cx (Some t ∷ []) (injection a b (variable 0)) o → IfSome o (StaysIn cx) → IsInjectedOnce cx a b t o
 injected_once_says cx a b t None h stays = λ image is.
@@ -77,7 +77,7 @@ beneath_evaluated old cx theta x y p t whole head argument one o g image split e
           (application cx head head evaluated.left argument None one o (λ s has. (over s has).0) (λ s has. (over s has).1) refl evaluated.equates is);
     }
 
--- what equals the whole equals what that equals
+-- a pattern that equals the whole also equals what the whole equals
 pub joined_equal : (cx : Context) (p : RulePattern) (whole image : Pattern) (first second o : Option Theorem) → HasEqual cx p whole first → Equates cx whole image second
     → ((cx : Context) (a b c : Pattern) → HasNoVariable a → Equates cx a b first → Equates cx b c second → Equates cx a c o) → HasEqual cx p image o
 joined_equal cx p whole image first second o h equates join =

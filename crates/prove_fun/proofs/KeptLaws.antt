@@ -1,4 +1,5 @@
--- Lemmas of equations whose places are kept: what stays when a context grows, and when one more is kept.
+-- The kept places of the lemmas of equations: what stays true when a context grows, and when one
+-- more place is kept.
 use Rattle.std.proofs.Common.{◌≡◌, ◌<◌, ℕ, Bool, true, false, cond, List, [], ◌∷◌, ◌++◌, Option, Some, length, slice_get, refl, sym, ◌∙◌, subst}
 use Rattle.std.specs.Prelude.{IfSome}
 use Rattle.std.specs.BTreeMap.{BTreeMap, UpdatesBy, is_at}

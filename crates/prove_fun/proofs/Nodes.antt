@@ -1,4 +1,4 @@
--- Constructors and calls of their arguments.
+-- Constructors and calls, with their arguments.
 use Rattle.std.proofs.Common.{◌≡◌, ℕ, List, [], ◌∷◌, Option, Some, None, length, refl, sym, ◌∙◌, ap, subst}
 use Rattle.ml_pat.specs.Patterns.{Pattern, equal, constant, var}
 use Rattle.ml_scope.specs.Scopes.{StaysWithin}
@@ -27,7 +27,7 @@ use Rattle.prove_fun.proofs.Recording.{as_many_records, constructor_recorded}
 use Rattle.prove_fun.proofs.Equalities.{says_grown, joinable, joined_says}
 use Rattle.prove_fun.proofs.Gathering.{as_many_images}
 
--- an image that is a symbol's constant applied to the images of results, as many as there are arguments
+-- an image that is a symbol's constant applied to the images of the results, one for each argument
 pub record IsNode (cx : Context) (f : ℕ) (rs : RecordList) (args : List RulePat) (image : Pattern) : Type 0 where
   pub number : ℕ
   pub is_head : symbol_image cx.program.sig cx.names f ≡ Some (constant number)
@@ -52,7 +52,7 @@ node_of cx program theta f rs args image all is =
       head = head_over cx f w.0 w.2;
     }
 
--- what is known of the arguments makes the node
+-- the node follows from what is known of the arguments
 pub node_evaluated : (old cx : Context) (theta : List (Option Tree)) (f c : ℕ) (ps : RulePatterns) (whole : Pattern) (o : Option Theorem) → HasGrown old cx → symbol_image old.program.sig old.names f ≡ Some (constant c)
     → AreEvaluated cx theta ps (constant c) whole o → HasEqual cx (application f (all_filled theta ps)) whole o
 node_evaluated old cx theta f c ps whole o g head are = record {
@@ -87,7 +87,7 @@ constructor_evaluated old cx theta p f args rs image head images o is n g is_hea
     subst (λ (h : Pattern). AreEvaluated cx theta (plain_patterns args) h image o) is_head (subst (λ (w : Pattern). AreEvaluated cx theta (plain_patterns args) head w o) whole are_evaluated) in
     subst (λ (q : RulePattern). IsEvaluated cx theta q image o) (sym is) (node_evaluated old cx theta f n.number (plain_patterns args) image o g n.is_head all)
 
--- ---- a call, of which a theorem on the values of its arguments is known
+-- ---- a call, with a theorem on the values of its arguments
 
 pub call_parts : (cx : Context) (program : Program) (theta : List (Option Tree)) (f : ℕ) (args : List RulePat) (rs : RecordList) (right left other : Pattern) (fact : Theorem) → RecordAll (theory_of program) theta (plain_patterns args) rs → (s : SaysCall cx f (results_of rs) right fact)
     → fact.conclusion ≡ equal left other → IsNode cx f rs args left × (left ≡ s.left)
@@ -104,7 +104,7 @@ values_evaluated old cx theta f args rs left head images o n g is_head are are_e
     let h : HasEqual cx (application f (all_filled theta (plain_patterns args))) left o = constructor_evaluated old cx theta (application f (plain_patterns args)) f args rs left head images o refl n g is_head are are_evaluated in
     call_evaluated cx f (all_filled theta (plain_patterns args)) left o h
 
--- with what equals the values of the arguments
+-- with equalities for the values of the arguments
 pub call_joinable : (old cx : Context) (f : ℕ) (ts : Forest) (p : RulePattern) (left right : Pattern) (same fact : Theorem) → HasGrown old cx → (s : SaysCall old f ts right fact) → left ≡ s.left → HasEqual cx p left (Some same) → AreJoinable same.conclusion fact.conclusion
 call_joinable old cx f ts p left right same fact g s is h =
     joinable cx h.left left right same fact h.closed h.equates (subst (λ (q : Pattern). SaysEqual cx q right fact) (sym is) (says_grown old cx s.left right fact g s.equal))

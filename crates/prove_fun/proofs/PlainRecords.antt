@@ -1,4 +1,4 @@
--- The plain record of each variant, and those of its arguments.
+-- The plain record of each variant, and the plain records of its arguments.
 use Rattle.std.proofs.Common.{rules, ◌≡◌, ◌<◌, ℕ, zero, suc, List, [], ◌∷◌, Some, length, get_or, map, option_map, slice_get, refl, sym, ◌∙◌, ap, arith}
 use Rattle.std.specs.Global.{Vec, Box}
 use Rattle.term_core.specs.Terms.{Tree}

@@ -29,7 +29,7 @@ use Rattle.prove_fun.specs.Using.{IsUse}
 
 -- ---- results
 
--- the result is a normal term of the pattern's sort, which is not too high
+-- the result is a normal term of the pattern's sort, and not too high
 pub result_good : (program : Program) (theta : List (Option Tree)) (p : RulePattern) (r : Record) (h : IsRecorded program theta p r) → IsTermOf program.sig (result_of r) h.sort × IsNormal (result_of r) × (height (result_of r) ≤ most_height)
 result_good program theta p r h =
     let told = record_tells_value (theory_of program) theta p r h.records in
@@ -97,7 +97,7 @@ constructor_recorded program theta f ps r h =
 
 -- ---- injections
 
--- the record of what is injected
+-- the record of the injected pattern
 pub record IsInjection (program : Program) (theta : List (Option Tree)) (a b : ℕ) (p : RulePattern) (r : Record) : Type 0 where
   pub below : Record
   pub only : children r ≡ below ∷ []
@@ -235,7 +235,7 @@ go_good program variables theta ps (of ∷ refs) (more_records r rs) ok sorted s
     let others : AreGood program (results_of rs) refs = go_good program variables theta qs refs rs ok sorts.3 (λ x stands. stand' x (inr stands)) respects lows rest in
     record { sorted = (sorts.0, sorts.1, good.0, others.sorted); normal = (good.1, others.normal); low = omega (arith, good.2, others.low) }
 
--- they are normal terms of the declared sorts, which are not too high
+-- the results are normal terms of the declared sorts, and not too high
 pub arguments_good : (program : Program) (theta : List (Option Tree)) (ps : RulePatterns) (rs : RecordList) (h : AreRecorded program theta ps rs) → AreTermsOf program.sig [] (results_of rs) h.refs × AreNormal (results_of rs) × (heights (results_of rs) ≤ most_height)
 arguments_good program theta ps rs h =
     let g : AreGood program (results_of rs) h.refs = go_good program h.variables theta ps h.refs rs h.ready h.sorted h.bound h.respects h.low h.records in
@@ -282,7 +282,7 @@ call_recorded program theta f sorts ps r h =
       },
     )
 
--- what a hook gave
+-- the result of a hook
 pub hook_recorded : (program : Program) (theta : List (Option Tree)) (f : ℕ) (ps : RulePatterns) (r : Record) (rs : RecordList) (t : Tree) → r ≡ by_hook rs t → IsRecorded program theta (call f [] ps) r → IsHookCall program.sig f (results_of (children_of r)) (result_of r)
 unfolding call_recorded
 hook_recorded program theta f ps r rs t is h = subst (λ (q : Record). IsHookCall program.sig f (results_of (children_of q)) (result_of q)) (sym is) (go (subst (IsRecorded program theta (call f [] ps)) is h))

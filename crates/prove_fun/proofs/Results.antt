@@ -1,4 +1,4 @@
--- The value of a pattern, from what equals its image.
+-- The value of a pattern, from an equality for its image.
 use Rattle.std.proofs.Common.{List, Option, Some, None, ◌∙◌, ap}
 use Rattle.std.specs.Prelude.{IfSome}
 use Rattle.ml_pat.specs.Patterns.{Pattern}

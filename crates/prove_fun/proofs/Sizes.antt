@@ -1,4 +1,4 @@
--- How large a record is: larger than those of its parts.
+-- The size of a record is greater than the sizes of its parts.
 use Rattle.std.proofs.Common.{◌≡◌, ◌<◌, ◌≤◌, ◌+◌, ℕ, zero, suc, List, Option, Some, slice_get, sym, subst, arith}
 use Rattle.term_core.specs.Terms.{Tree}
 use Rattle.rule_core.specs.Records.{Record, RecordList, OptionalRecord, bound, itself, made, by_hook, by_equation, no_record, more_records, unconditional, conditional}
@@ -40,7 +40,7 @@ children_size (by_equation rs i theta condition body) = omega arith
 pub child_size : (r : Record) (i : ℕ) (q : Record) → slice_get (children r) i ≡ Some q → size q < size r
 child_size r i q there = omega (arith, item_size (children_of r) i q there, children_size r)
 
--- no record is empty
+-- no record has size zero
 pub some_size : (r : Record) → 1 ≤ size r
 some_size (bound x t) = omega arith
 some_size (itself t) = omega arith

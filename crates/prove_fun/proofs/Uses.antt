@@ -1,4 +1,4 @@
--- Equations that were used: where they stand, and what they give.
+-- Used equations: their places, and what they say.
 use Rattle.std.proofs.Common.{◌≡◌, ◌<◌, ℕ, zero, suc, List, [], ◌∷◌, ◌++◌, Option, Some, None, length, map, option_map, get_or, slice_get, take, inl, inr, refl, sym, ◌∙◌, ap, subst, arith}
 use Rattle.std.specs.Prelude.{true, Vec, slice_index_or, ◌⊎◌}
 use Rattle.std.specs.Global.{Global}
@@ -35,7 +35,7 @@ use Rattle.prove_fun.specs.Using.{IsUse, SaysConditionAt}
 use Rattle.prove_fun.proofs.Equalities.{has_equal_grown}
 use Rattle.prove_fun.proofs.Recording.{result_good}
 
--- ---- where an equation stands
+-- ---- the place of an equation
 
 equation_item : (es : List Equation) (i : ℕ) (q : Equation) → slice_get es i ≡ Some q → slice_get (map function_equation es) i ≡ Some (function_equation q)
 equation_item [] i q there = absurd (let no : ⊥ = cc in no)
@@ -47,12 +47,12 @@ lists_item [] f es there = absurd (let no : ⊥ = cc in no)
 lists_item (v ∷ lists) zero es there = let same : v ≡ es = cc in ap (λ (x : Vec Equation Global). map function_equation x.items) same
 lists_item (v ∷ lists) (suc f) es there = lists_item lists f es there
 
--- the plain equation of one of the code
+-- the plain equation of an equation of the code
 pub plain_there : (program : Program) (f i : ℕ) (q : Equation) → IsEquationAt program f i q → slice_get (equations_of (theory_of program) f) i ≡ Some (function_equation q)
 plain_there program f i q (es, list, there) =
     ap (λ (xs : List PlainEquation). slice_get xs i) (lists_item program.equations.items f es list) ∙ equation_item es.items i q there
 
--- a plain equation stands where one of the code does
+-- each plain equation is that of an equation of the code at the same place
 lists_found : (lists : List (Vec Equation Global)) (f i : ℕ) (e : PlainEquation) → slice_get (slice_index_or (map (λ (v : Vec Equation Global). map function_equation v.items) lists) f []) i ≡ Some e → (es : Vec Equation Global) × (slice_get lists f ≡ Some es) × (i < length es.items)
 lists_found [] f i e there = absurd (let no : ⊥ = cc in no)
 lists_found (v ∷ lists) zero i e there = (v, refl, item_found v.items i there)
@@ -74,7 +74,7 @@ same_equation program f i q e at there =
     first : (x y : PlainEquation) → Some x ≡ Some y → x ≡ y
     first x y e = cc
 
--- ---- what a use asks for
+-- ---- the requirements of a use
 
 pub used_own : (program : Program) (f : ℕ) (rs : RecordList) (i : ℕ) (sigma : List (Option Tree)) (o : OptionalRecord) (body : Record) (u : IsUse program f rs i sigma o body) → IsEquationFor (theory_of program) f u.equation
 used_own program f rs i sigma o body u = record {
@@ -100,7 +100,7 @@ has_image program f q ready bound own =
     go (inl none) = inl none
     go (inr many) = inr (many ∙ sym (count_patterns q.args.items))
 
--- ---- what the equation gives is what is asked of it
+-- ---- what the equation says meets the requirements
 
 pub equation_call : (cx : Context) (f : ℕ) (e : PlainEquation) (sigma : List (Option Tree)) (ts : Forest) (t : Theorem) → (s : SaysEquationAt cx f e sigma ts t.conclusion) → StaysIn cx t → SaysCall cx f ts s.right t
 equation_call cx f e sigma ts t s stays = record { left = s.left; left_image = s.left_image; closed = s.no_variable.0; equal = record { says = s.says; stays = stays } }
@@ -146,7 +146,7 @@ then_parts old mid cx sigma p e_right q_right right image first second g k own i
     first_same : (p q : Pattern) → Some p ≡ Some q → p ≡ q
     first_same p q e = cc
 
--- a program stays as it is
+-- the program stays the same
 pub recorded_later : (a b : Context) (theta : List (Option Tree)) (p : RulePattern) (r : Record) → HasGrown a b → IsRecorded a.program theta p r → IsRecorded b.program theta p r
 recorded_later a b theta p r g h = subst (λ (x : Program). IsRecorded x theta p r) (sym g.program) h
 
@@ -156,7 +156,7 @@ use_later a b f rs i sigma o body g h = subst (λ (x : Program). IsUse x f rs i 
 pub ready_later : (a b : Context) → HasGrown a b → IsReady a.program → IsReady b.program
 ready_later a b g h = subst IsReady (sym g.program) h
 
--- what an equation of the code is asked for
+-- the requirements on an equation of the code
 pub used_matches : (program : Program) (f : ℕ) (rs : RecordList) (i : ℕ) (sigma : List (Option Tree)) (o : OptionalRecord) (body : Record) (q : Equation) (u : IsUse program f rs i sigma o body) → IsEquationAt program f i q
     → MatchAll program.sig (sorts_of q.vars.items) (plain_patterns q.args.items) (results_of rs) sigma
 used_matches program f rs i sigma o body q u at =
@@ -175,7 +175,7 @@ item_there [] i x low at = absurd (omega (arith, low))
 item_there (y ∷ xs) zero x low at = ap (λ z. Some z) (sym at)
 item_there (y ∷ xs) (suc i) x low at = item_there xs i x (omega (arith, low)) at
 
--- ---- what the use of an equation of the code is asked for
+-- ---- the requirements on the use of an equation of the code
 
 pub record IsAsked (program : Program) (f : ℕ) (rs : RecordList) (i : ℕ) (sigma : List (Option Tree)) (q : Equation) : Type 0 where
   pub function : q.fun.0 ≡ f
@@ -203,7 +203,7 @@ asked program f rs i sigma o body q ready u at =
 pub asked_later : (a b : Context) (f : ℕ) (rs : RecordList) (i : ℕ) (sigma : List (Option Tree)) (q : Equation) → HasGrown a b → IsAsked a.program f rs i sigma q → IsAsked b.program f rs i sigma q
 asked_later a b f rs i sigma q g h = subst (λ (p : Program). IsAsked p f rs i sigma q) (sym g.program) h
 
--- ---- the condition of the equation that was used
+-- ---- the condition of the used equation
 
 pub condition_at : (cx : Context) (program : Program) (f : ℕ) (rs : RecordList) (i : ℕ) (sigma : List (Option Tree)) (o : OptionalRecord) (body : Record) (t : Option Theorem) (u : IsUse program f rs i sigma o body) → cx.program ≡ program → SaysCondition cx u.equation.variables sigma u.equation.condition t → SaysConditionAt cx f i sigma t
 condition_at cx program f rs i sigma o body t u same h = λ e there.

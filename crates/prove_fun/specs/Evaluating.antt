@@ -1,4 +1,5 @@
--- Patterns beside the records of their evaluations, part by part, and equalities of the images of both.
+-- Patterns and the records of their evaluations, part by part: the image of a pattern equals the
+-- image of its value.
 use Rattle.std.specs.Prelude.{◌≡◌, ◌≤◌, ℕ, List, [], Option, Some, None, IsSome}
 use Rattle.term_core.specs.Terms.{Tree, Forest, DomainValue, leaf, height, injected}
 use Rattle.term_core.specs.Patterns.{Pattern as RulePattern, Patterns as RulePatterns, injection, call, binding}
@@ -23,12 +24,13 @@ use Rattle.ml_image.specs.Images.{image_of, applied}
 use Rattle.prove_term.specs.Contexts.{Context, StaysIn}
 use Rattle.prove_term.specs.Filling.{filled, all_filled}
 
--- The program is well sorted, and its variables are bound.
+-- The program is well sorted, and its rules and equations bind their variables.
 pub record IsReady (program : Program) : Type 0 where
   pub well_sorted : IsWellSorted (theory_of program)
   pub bound : HasBoundVariables program
 
--- The record follows the evaluation of a pattern that has a sort, under a substitution that serves it.
+-- The record is right for the evaluation of a pattern that has a sort, under a substitution that
+-- serves the pattern.
 pub record IsRecorded (program : Program) (theta : List (Option Tree)) (p : RulePattern) (r : Record) : Type 0 where
   pub ready : IsReady program
   pub variables : List ℕ
@@ -52,34 +54,35 @@ pub record AreRecorded (program : Program) (theta : List (Option Tree)) (ps : Ru
 abbrev pub IsImage : Context → RulePattern → Pattern → Type 0
 IsImage cx p q = image_of cx.program.sig cx.names p ≡ Some q
 
--- the theorem says that two patterns are equal
+-- the theorem says that two patterns are equal, and stays in the context
 pub record SaysEqual (cx : Context) (a b : Pattern) (t : Theorem) : Type 0 where
   pub says : t.conclusion ≡ equal a b
   pub stays : StaysIn cx t
 
--- there is no theorem, and two patterns are the same; or it says that they are equal
+-- there is no theorem, and two patterns are the same; or the theorem says that they are equal
 abbrev pub Equates : Context → Pattern → Pattern → Option Theorem → Type 0
 Equates cx a b None = a ≡ b
 Equates cx a b (Some t) = SaysEqual cx a b t
 
--- so are the image of a pattern and this one
+-- the image of p and the given pattern are the same, or the theorem says that they are equal
 pub record HasEqual (cx : Context) (p : RulePattern) (image : Pattern) (o : Option Theorem) : Type 0 where
   pub left : Pattern
   pub left_image : IsImage cx p left
   pub closed : HasNoVariable left
   pub equates : Equates cx left image o
 
--- so are the image of p, with the terms of a substitution in the places of its variables, and this pattern
+-- the same for the image of p with its variables replaced by the terms of a substitution
 abbrev pub IsEvaluated : Context → List (Option Tree) → RulePattern → Pattern → Option Theorem → Type 0
 IsEvaluated cx theta p image o = HasEqual cx (filled theta p) image o
 
--- so are the image of an injection of a term and that of the injected term in normal form
+-- the same for the image of an injection of a term and the image of the normal form of that
+-- injection
 abbrev pub IsInjectedOnce : Context → ℕ → ℕ → Tree → Option Theorem → Type 0
 IsInjectedOnce cx a b t o =
     (image : Pattern) → IsImage cx (ground_pattern (injected a b t)) image →
     HasEqual cx (injection a b (ground_pattern t)) image o
 
--- so are a head that is applied to such images, and this pattern
+-- the same for a head that is applied to the images of such patterns
 pub record AreEvaluated (cx : Context) (theta : List (Option Tree)) (ps : RulePatterns) (head whole : Pattern)
     (o : Option Theorem) : Type 0 where
   pub left : Pattern
@@ -87,14 +90,16 @@ pub record AreEvaluated (cx : Context) (theta : List (Option Tree)) (ps : RulePa
   pub closed : HasNoVariable left
   pub equates : Equates cx left whole o
 
--- The theorem says that the function of these terms, as an image without object variables, equals this pattern.
+-- The theorem says that the image of the function of these terms equals the given pattern. The
+-- image has no object variable.
 pub record SaysCall (cx : Context) (f : ℕ) (ts : Forest) (right : Pattern) (t : Theorem) : Type 0 where
   pub left : Pattern
   pub left_image : IsImage cx (call f [] (ground_patterns ts)) left
   pub closed : HasNoVariable left
   pub equal : SaysEqual cx left right t
 
--- the function has a hook, which gives at these terms of its arguments' sorts the term t
+-- the function has a hook; at these terms, which are of its arguments' sorts, the hook has the
+-- value t
 pub record IsHookCall (sig : Signature) (f : ℕ) (ts : Forest) (t : Tree) : Type 0 where
   pub info : SymInfo
   pub there : IsSymbol sig f info

@@ -1,4 +1,4 @@
--- Lemmas of equations whose places are kept.
+-- Lemmas of equations, by their places.
 use Rattle.std.specs.Prelude.{◌≡◌, ℕ, List, Some, IfSome, slice_get}
 use Rattle.std.specs.BTreeMap.{is_at}
 use Rattle.std.specs.Map.{lookup}
@@ -11,7 +11,7 @@ use Rattle.rule_core.specs.ProgramView.{theory_of}
 use Rattle.prove_term.specs.Contexts.{Context}
 use Rattle.prove_equation.specs.EquationLemmas.{SaysEquationSchema}
 
--- the lemma at a place of the context is that of the function's equation with this number
+-- the lemma at place k of the context is the lemma of the equation with number i of the function f
 abbrev pub IsLemmaAt : Context → ℕ → ℕ → ℕ → Type 0
 IsLemmaAt cx f i k =
     (e : Equation) → slice_get (equations_of (theory_of cx.program) f) i ≡ Some e →
@@ -21,6 +21,7 @@ IsLemmaAt cx f i k =
 abbrev pub pair_cmp : ℕ × ℕ → ℕ × ℕ → Ordering
 pair_cmp a b = ordering_then (nat_cmp a.0 b.0) (nat_cmp a.1 b.1)
 
--- Each place that is listed, by a function and the number of one of its equations, is that of the equation's lemma.
+-- The place that is kept for a function and the number of one of its equations is the place of the
+-- equation's lemma.
 pub record IsKeptIn (cx : Context) (kept : List ((ℕ × ℕ) × ℕ)) : Type 0 where
   pub each : (f i : ℕ) → IfSome (lookup (is_at (pair_cmp (f, i))) kept) (IsLemmaAt cx f i)

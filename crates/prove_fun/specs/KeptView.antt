@@ -1,4 +1,4 @@
--- The places of lemmas that a `Kept` of the code stands for.
+-- The places of lemmas that a `Kept` of the code has as its model.
 use Rattle.std.specs.Prelude.{ℕ, List}
 use Rattle.prove_fun.specs.declared.kept.Kept.TheInside.{Inside}
 

@@ -1,4 +1,4 @@
--- Uses of equations, as they were recorded.
+-- Recorded uses of equations.
 use Rattle.std.specs.Prelude.{◌≡◌, ℕ, List, Option, Some, map, option_map, slice_get}
 use Rattle.std.specs.Global.{Box}
 use Rattle.term_core.specs.Terms.{Tree}
@@ -22,7 +22,7 @@ use Rattle.prove_term.specs.Contexts.{Context}
 use Rattle.prove_equation.specs.Conditions.{SaysCondition}
 use Rattle.prove_fun.specs.Evaluating.{IsRecorded}
 
--- the plain record of the condition of an equation that was used, where it has one
+-- the plain record of the condition of the used equation, if it has one
 abbrev pub condition_record : EqRecord → OptionalRecord
 condition_record used = optional (option_map (λ (b : Box EvalRecord). plain_record b.value) used.cond)
 
@@ -32,8 +32,8 @@ used_record used =
     by_equation (records (map plain_record used.args.items)) used.equation used.subst (condition_record used)
     (plain_record used.body.value)
 
--- An equation of the function f, by its number, was used at the results of some records with this substitution, and
--- with these records of its condition and of its right side.
+-- The equation number i of the function f was used. It was used at the results of the records rs,
+-- with the substitution sigma, and with records of its condition and of its right side.
 pub record IsUse (program : Program) (f : ℕ) (rs : RecordList) (i : ℕ) (sigma : List (Option Tree))
     (condition : OptionalRecord) (body : Record) : Type 0 where
   pub info : SymInfo
@@ -47,7 +47,7 @@ pub record IsUse (program : Program) (f : ℕ) (rs : RecordList) (i : ℕ) (sigm
       (h : IsRecorded program sigma p q) × (h.variables ≡ equation.variables) × IsTrueValue (result_of q)
   pub right : IsRecorded program sigma equation.right body
 
--- the theorem says that the condition of the function's equation with this number holds
+-- the theorem says that the condition of equation i of the function f holds
 abbrev pub SaysConditionAt : Context → ℕ → ℕ → List (Option Tree) → Option Theorem → Type 0
 SaysConditionAt cx f i sigma o =
     (e : Equation) → slice_get (equations_of (theory_of cx.program) f) i ≡ Some e →

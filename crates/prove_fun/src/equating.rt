@@ -1,4 +1,4 @@
-// Equalities one after another, where there are such.
+// Chains of equalities, some of which may be missing.
 ghost use Rattle.std.specs.Prelude.{◌≡◌, IfOk, Some};
 ghost use Rattle.ml_pat.specs.Patterns.{Pattern};
 ghost use Rattle.ml_kernel.specs.Lemmas.{HasNoVariable};
@@ -12,7 +12,7 @@ use ml_pat::MPat;
 use ml_scope::eq_refl;
 use std::alloc::{AllocError, Global};
 
-// From an equality to what the next is from, and that one: both together.
+// From `a = b` and `b = c`: `a = c`. If an equality is missing, its sides are the same.
 pub(crate) fn joined(
     alloc: Global,
     first: Option<Thm>,
@@ -28,7 +28,7 @@ pub(crate) fn joined(
     }
 }
 
-// From an equality and maybe one of what it is to: both together.
+// The same if the first equality is there.
 pub(crate) fn followed(alloc: Global, first: Thm, second: &Option<Thm>) -> Result<Thm, AllocError>
     requires { (cx : Context) × (a b c : Pattern) × HasNoVariable a × Equates cx a b (Some first)
         × Equates cx b c second.now }
@@ -41,7 +41,7 @@ pub(crate) fn followed(alloc: Global, first: Thm, second: &Option<Thm>) -> Resul
     }
 }
 
-// That something equals a pattern, also where it is that.
+// Returns an equality in each case. If none was found, it says that the image equals itself.
 pub(crate) fn equality(alloc: Global, found: Option<Thm>, image: &MPat) -> Result<Thm, AllocError>
     ensures { IfOk result (λ t. (cx : Context) (a : Pattern) → IsOverContext cx image.now →
         Equates cx a image.now found → Equates cx a image.now (Some t)) }

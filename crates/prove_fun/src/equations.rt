@@ -1,4 +1,4 @@
-// Equations of functions at the values of calls' arguments.
+// Equations of functions at the values of a call's arguments.
 ghost use Rattle.std.specs.Prelude.{◌≡◌, ℕ, IfOk, Some, length, slice_get};
 ghost use Rattle.term_core.specs.Terms.{forest};
 ghost use Rattle.rule_core.specs.Rules.{Equation as PlainEquation};
@@ -23,7 +23,7 @@ use rule_core::{EqRecord, Equation, EvalRecord, Program};
 use std::alloc::{AllocError, Global};
 use term_core::{SymId, Term};
 
-// The equation of a function with a number.
+// Returns the equation of a function with a number.
 pub(crate) fn equation_of(program: &Program, symbol: SymId, number: u32) -> &Equation
     requires { (e : PlainEquation) × (slice_get (equations_of (theory_of program.now) symbol.0) number ≡ Some e) }
     ensures { IsEquationAt program.now symbol.0 number result.now }
@@ -31,8 +31,9 @@ pub(crate) fn equation_of(program: &Program, symbol: SymId, number: u32) -> &Equ
     &program.equations[symbol.0 as usize][number as usize]
 }
 
-// That the function of its arguments' values, so many, is the right side of the equation that was used, with what it
-// was matched by in the places of its variables. The condition is known to hold.
+// Proves that the function of its arguments' values equals the right side of the used equation,
+// with its variables replaced by what they were matched with. The call has `count` arguments. The
+// condition is known to hold.
 pub(crate) fn equation_fact(
     alloc: Global,
     cx: &mut Cx<'_>,
@@ -64,7 +65,7 @@ pub(crate) fn equation_fact(
     equation_at(alloc, cx, &lemma, equation, &used.subst, &terms, condition)
 }
 
-// The values of the arguments, so many.
+// Returns the values of the `count` arguments.
 fn results(alloc: Global, evaluation: &EvalRecord, count: usize) -> Result<Vec<Term>, AllocError>
     requires { count ≡ length (children (plain_record evaluation.now)) }
     ensures { IfOk result (λ v. forest v.items ≡ results_of (children_of (plain_record evaluation.now))) }

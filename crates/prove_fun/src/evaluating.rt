@@ -1,5 +1,5 @@
-// Patterns beside the records of their evaluations: the image of a pattern, with the terms of a substitution in the
-// places of its variables, equals that of its value.
+// Patterns and the records of their evaluations: the image of a pattern, with its variables
+// replaced by the terms of a substitution, equals the image of its value.
 ghost use Rattle.std.specs.Prelude.{◌≡◌, ◌≤◌, ℕ, List, IfOk, IfSome, Some, []};
 ghost use Rattle.ml_pat.specs.Patterns.{Pattern};
 ghost use Rattle.ml_kernel.specs.Lemmas.{HasNoVariable};
@@ -39,11 +39,13 @@ use rule_core::{EqRecord, Equation, EvalRecord};
 use std::alloc::{AllocError, Global};
 use term_core::{MAX_HEIGHT, RulePat, SortId, Subst, SymId, Term, pattern_of};
 
-/// That the image of a pattern, with the images of a substitution's terms in the places of its variables, equals that
-/// of its value, by the record of its evaluation. Where both are literally the same there is no theorem. What is stated
-/// and proved once is kept in the context, and `kept` has the places of the equations' lemmas there. `AllocError` says
-/// that memory ran out, or what it says of `fun_of`; the context may have grown then too. It recurses as deep as
-/// the record. An injection costs the size of its value, and a call those of its arguments' values.
+/// Proves that the image of a pattern, with its variables replaced by the images of a
+/// substitution's terms, equals the image of its value, by the record of its evaluation. If both
+/// are literally the same, there is no theorem. What is stated and proved once is kept in the
+/// context, and `kept` has the places of the equations' lemmas there. `AllocError`: out of memory,
+/// or the error of `fun_of`. After an error the context may have grown. The recursion is as deep as
+/// the record. An injection costs the size of its value, and a call the sizes of its arguments'
+/// values.
 pub fn eval_eq(
     alloc: Global,
     cx: &mut Cx<'_>,
@@ -71,8 +73,8 @@ pub fn eval_eq(
     evaluated(alloc, cx, kept, pat, subst, evaluation, &image)
 }
 
-/// The same as a theorem in each case, also where both images are the same. `AllocError` as of `eval_eq`; the context
-/// may have grown then too.
+/// The same, with a theorem in each case, even if both images are the same. `AllocError`: as for
+/// `eval_eq`. After an error the context may have grown.
 pub fn value_eq(
     alloc: Global,
     cx: &mut Cx<'_>,
@@ -130,7 +132,7 @@ fn evaluated(
     }
 }
 
-// The same of a constructor of some arguments.
+// The same for a constructor of arguments.
 #[cycle(evaluated)]
 fn constructed(
     alloc: Global,
@@ -165,7 +167,7 @@ fn constructed(
     )
 }
 
-// The same of arguments, to whose images a head is applied.
+// The same for arguments, to whose images a head is applied.
 #[cycle(evaluated)]
 fn all_evaluated(
     alloc: Global,
@@ -207,7 +209,7 @@ fn all_evaluated(
     Ok(made)
 }
 
-// The same of an injection.
+// The same for an injection.
 #[cycle(evaluated)]
 fn injected(
     alloc: Global,
@@ -238,7 +240,7 @@ fn injected(
     joined(alloc, beneath, once)
 }
 
-// The same of a call of a function.
+// The same for a call of a function.
 #[cycle(evaluated)]
 fn called(
     alloc: Global,
@@ -276,7 +278,7 @@ fn called(
     }
 }
 
-// The same of a call whose value an equation gave.
+// The same for a call whose value an equation gave.
 #[cycle(evaluated)]
 fn by_equation(
     alloc: Global,
@@ -315,7 +317,7 @@ fn by_equation(
     followed(alloc, first, &right)
 }
 
-// That the condition of the equation that was used holds, where it has one.
+// Proves that the condition of the used equation holds, if it has one.
 #[cycle(evaluated)]
 fn condition_held(
     alloc: Global,
@@ -343,7 +345,7 @@ fn condition_held(
     }
 }
 
-// That a pattern equals its value.
+// Proves that a pattern equals its value.
 #[cycle(evaluated)]
 fn value_held(
     alloc: Global,
@@ -367,7 +369,8 @@ fn value_held(
     equality(alloc, found, &image)
 }
 
-// From a theorem on a function of the arguments' values, the same on the function of their images.
+// From a theorem on a function of the arguments' values, proves the same for the function of the
+// arguments' images.
 #[cycle(evaluated)]
 fn at_values(
     alloc: Global,
@@ -407,7 +410,7 @@ fn at_values(
     }
 }
 
-// The image of an injection of a term, beside that of the term that is injected then in normal form.
+// Returns the image of an injection of a term, from the image of its normal form.
 fn as_written(once: &Option<Thm>, image: &MPat) -> Result<MPat, AllocError>
     requires { (cx : Context) × (a : Pattern) × Equates cx a image.now once.now }
     ensures { IfOk result (λ p. (cx : Context) (a : Pattern) → Equates cx a image.now once.now → p ≡ a) }
@@ -418,7 +421,8 @@ fn as_written(once: &Option<Thm>, image: &MPat) -> Result<MPat, AllocError>
     }
 }
 
-// That an injection of a term is, in normal form, injected at once, where the term is an injection itself.
+// Proves that an injection of a term equals its normal form. If the term is an injection itself,
+// the normal form injects directly.
 fn injected_once(
     alloc: Global,
     cx: &mut Cx<'_>,

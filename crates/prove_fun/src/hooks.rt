@@ -19,7 +19,8 @@ use rule_core::EvalRecord;
 use std::alloc::{AllocError, Global};
 use term_core::{RulePat, Scalar, SymId, Term, Value, pattern_of};
 
-// That the function of its arguments' values is what the hook gave. There are so many arguments.
+// Proves that the function of its arguments' values equals the value of the hook. The call has
+// `count` arguments.
 pub(crate) fn hook_fact(
     alloc: Global,
     cx: &mut Cx<'_>,
@@ -39,7 +40,7 @@ pub(crate) fn hook_fact(
     cx.hook(alloc, symbol, &args)
 }
 
-// The values of the arguments.
+// Returns the values of the arguments.
 fn scalars(alloc: Global, evaluation: &EvalRecord, count: usize) -> Result<Vec<Scalar>, AllocError>
     requires values { (ss : List Scalar)
         × AreValues (results_of (children_of (plain_record evaluation.now))) (map scalar_value ss) }
@@ -54,7 +55,7 @@ fn scalars(alloc: Global, evaluation: &EvalRecord, count: usize) -> Result<Vec<S
     Ok(values)
 }
 
-// The value that a term is.
+// Returns the value of a term that is a domain value.
 fn scalar(alloc: Global, term: &Term) -> Result<Scalar, AllocError>
     requires { (sort : ℕ) × (s : Scalar) × (term.now ≡ leaf sort (scalar_value s)) }
     ensures { IfOk result (λ s. (sort : ℕ) × (term.now ≡ leaf sort (scalar_value s))) }
@@ -65,7 +66,7 @@ fn scalar(alloc: Global, term: &Term) -> Result<Scalar, AllocError>
     Ok(plain(&value))
 }
 
-// A value that is no text.
+// Returns a value that is not a text.
 fn plain(value: &Value) -> Scalar
     requires { (s : Scalar) × (value_of value.now ≡ scalar_value s) }
     ensures { scalar_value result ≡ value_of value.now }

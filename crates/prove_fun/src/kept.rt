@@ -18,8 +18,8 @@ use std::alloc::{AllocError, Global};
 use std::collections::BTreeMap;
 use std::marker::Model;
 
-/// Where the lemmas of equations stand in a context, by the function and the number of the equation. Contracts see the
-/// list of these pairs, each beside the lemma's place.
+/// The places of the lemmas of equations in a context, by the function and the number of the
+/// equation. Contracts see the list of these pairs, each with the lemma's place.
 #[derive(Drop)]
 pub struct Kept {
     places: BTreeMap<(u32, u32), usize>,
@@ -36,7 +36,7 @@ impl Model for Kept {
 }
 
 impl Kept {
-    /// No place, as at the start of a run.
+    /// Makes an empty `Kept`, as at the start of a run.
     pub fn new(alloc: Global) -> Kept
         ensures { (cx : Context) → IsKeptIn cx result }
     {
@@ -45,7 +45,7 @@ impl Kept {
         }
     }
 
-    // The place of the lemma of an equation, where there is one.
+    // Returns the place of the lemma of an equation, if there is one.
     fn place(&self, function: u32, number: u32) -> Option<usize>
         ensures { result ≡ lookup (is_at (pair_cmp (function, number))) self.now }
     {
@@ -61,7 +61,7 @@ impl Kept {
     }
 }
 
-// The lemma of an equation, by its number, which is made when it is first asked for.
+// Returns the lemma of an equation, by its number. It is made when it is first needed.
 pub(crate) fn lemma_of(
     alloc: Global,
     cx: &mut Cx<'_>,
@@ -82,7 +82,7 @@ pub(crate) fn lemma_of(
     cx.lemmas()[place].share(alloc)
 }
 
-// The place of the lemma.
+// Returns the place of the lemma.
 fn place_of(
     alloc: Global,
     cx: &mut Cx<'_>,

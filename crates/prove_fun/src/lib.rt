@@ -1,5 +1,5 @@
-// Evaluations as theorems: the image of a pattern under a substitution equals that of its value, by the record of how
-// an engine came to that.
+// Evaluations as theorems: the image of a pattern under a substitution equals the image of its
+// value. The proof follows the record of the evaluation.
 #![tactic(auto, using(crate::proofs::KeptLaws::growing))]
 
 mod equating;

@@ -7,7 +7,7 @@ ghost use Rattle.prove_fun.specs.RecordParts.{children};
 use ml_pat::{MForm, MPat};
 use rule_core::EvalRecord;
 
-// The record of an argument.
+// Returns the record of an argument.
 pub(crate) fn child(evaluation: &EvalRecord, i: usize) -> &EvalRecord
     requires { i < length (children (plain_record evaluation.now)) }
     ensures { slice_get (children (plain_record evaluation.now)) i ≡ Some (plain_record result.now) }
@@ -21,7 +21,7 @@ pub(crate) fn child(evaluation: &EvalRecord, i: usize) -> &EvalRecord
     }
 }
 
-// The two sides of an equality.
+// Returns the two sides of an equality.
 pub(crate) fn sides(equality: &MPat) -> (&MPat, &MPat)
     requires { (a b : Pattern) × (equality.now ≡ equal a b) }
     ensures { equality.now ≡ equal result.0.now result.1.now }

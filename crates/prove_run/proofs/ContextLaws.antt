@@ -1,4 +1,4 @@
--- What stays true of what was written when a context grows, and of terms without variables.
+-- What stays true of what was written when a context grows, and laws of terms without variables.
 use Rattle.std.proofs.Common.{◌≡◌, ℕ, ◌<◌, ◌≤◌, List, [], ◌∷◌, ◌++◌, Some, None, length, zero, suc, inl, inr, sym, subst, arith, length-append}
 use Rattle.std.specs.Prelude.{slice_get, Contains}
 use Rattle.std.proofs.lemmas.List.Elements.{Contains-append_left, Contains-append_right}
@@ -25,7 +25,7 @@ use Rattle.prove_schema.proofs.OpenLaws.{open_no_variable, open_closed, image_is
 use Rattle.proof_writer.specs.declared.writer.Writer.{Writer}
 use Rattle.proof_writer.specs.Writing.{HasNoVariables, HasWritten, HasWrittenAll, IsTextOf}
 
--- ---- contexts that grow
+-- ---- growing contexts
 
 there_later : {A : Type 0} (xs more ys : List A) (i : ℕ) (x : A) → ys ≡ xs ++ more → i < length xs → slice_get ys i ≡ Some x → slice_get xs i ≡ Some x
 there_later {A} xs more ys i x is few at = go xs i few (subst (λ (l : List A). slice_get l i ≡ Some x) is at)
@@ -63,7 +63,7 @@ pub lemma_grown : (old new : Context) (t : Theorem) → HasGrown old new → Con
 lemma_grown old new t g there =
     subst (λ (ts : List Theorem). Contains ts t) (sym g.more_lemmas) (Contains-append_left old.lemmas g.lemmas t there)
 
--- the lemma that was kept last is there
+-- the last kept lemma is there
 pub kept_lemma : (old new : Context) (t lemma : Theorem) → new ≡ record old { lemmas = old.lemmas ++ t ∷ [] } → lemma ≡ t → Contains new.lemmas lemma
 kept_lemma old new t lemma is same =
     subst (λ (cx : Context). Contains cx.lemmas lemma) (sym is)
@@ -84,7 +84,7 @@ mutual
 
 -- ---- initial terms
 
--- no object variable stands in the image of a pattern without variables
+-- the image of a pattern without variables has no object variable
 pub image_is_closed : (sig : Signature) (names : List (List ℕ)) (p : RulePattern) (q : Pattern) → HasImage sig 0 p → image_of sig names p ≡ Some q → HasNoVariable q
 image_is_closed sig names p q has is =
     let is_open : IsOpenFrom 0 0 q = image_is_open sig names 0 p has q is in
@@ -93,7 +93,7 @@ image_is_closed sig names p q has is =
 none_some : {A : Type 0} (x : A) → None ≡ Some x → ⊥
 none_some x h = cc
 
--- a pattern that has a sort where there are no variables has none
+-- a pattern that has a sort without variables has no variables
 mutual
   pub sorted_has_none : (sig : Signature) (p : RulePattern) (sort : ℕ) → HasSort sig [] p sort → HasNoVariables p
   sorted_has_none sig (variable x) sort h y k = none_some sort h
@@ -109,7 +109,7 @@ mutual
   sorted_have_none sig sorts (more_patterns p ps) (r ∷ refs) h x (inl k) = sorted_has_none sig p h.0 h.2 x k
   sorted_have_none sig sorts (more_patterns p ps) (r ∷ refs) h x (inr k) = sorted_have_none sig sorts ps refs h.3 x k
 
--- an image without variables is one whatever numbers variables may have
+-- an image without variables is an image for any number of variables
 mutual
   pub image_wherever : (sig : Signature) (n : ℕ) (p : RulePattern) → HasImage sig 0 p → HasImage sig n p
   image_wherever sig n (variable x) h = absurd (omega (arith, h))

@@ -1,4 +1,4 @@
--- What a start reaches with one step more, by the last theorem and that of the step.
+-- What a start reaches with one more step, by the last theorem and the theorem of the step.
 use Rattle.std.proofs.Common.{◌≡◌, [], refl, ◌∙◌, sym, subst}
 use Rattle.std.specs.Prelude.{Contains}
 use Rattle.ml_pat.specs.Patterns.{Pattern, imp, next, ev}
@@ -36,7 +36,7 @@ next_from p q r s h k = cc
 cited_says : (p q : Pattern) → HasNoMeta p → q ≡ instance [] p → q ≡ p
 cited_says p q no_meta is = is ∙ instance-empty [] p refl no_meta
 
--- ---- what was said last
+-- ---- the last theorem
 
 -- the last theorem has no pattern variables
 pub last_no_meta : (cx : Context) (start reached : RulePattern) (last : Theorem) → SaysReached cx start reached last → HasNoMeta last.conclusion
@@ -44,18 +44,18 @@ last_no_meta cx start reached last h =
     subst HasNoMeta (sym h.says)
     (sentence_has_no_meta cx.program.sig cx.names (term start) h.from h.from_image, sentence_has_no_meta cx.program.sig cx.names (term reached) h.to h.to_image)
 
--- so it says the same where it is cited
+-- so the theorem says the same when it is cited
 again_says : (cx : Context) (start reached : RulePattern) (last sofar : Theorem) (h : SaysReached cx start reached last) → sofar.conclusion ≡ instance [] last.conclusion →
     sofar.conclusion ≡ imp h.from (ev h.to)
 again_says cx start reached last sofar h again = cited_says last.conclusion sofar.conclusion (last_no_meta cx start reached last h) again ∙ h.says
 
 -- ---- the theorem of the step
 
--- what it says, from whatever term the step is
+-- what the theorem says, from each term that makes the step
 abbrev pub SaysMoved : Context → StepRecord → Pattern → Type 0
 SaysMoved cx step p = (t : Tree) → IsStepFrom (theory_of cx.program) t step → SaysStep cx t (result_of step.right) p
 
--- What is known where both theorems are made: the last one cited, and that of the step.
+-- What is known when both theorems are made: the cited last theorem, and the theorem of the step.
 pub record Making (old new : Context) (last reach sofar moved : Theorem) (step : StepRecord) : Type 0 where
   pub may : MayGoOn old last reach step
   pub grown : HasGrown old new
@@ -67,14 +67,14 @@ step_says : (old new : Context) (last reach sofar moved : Theorem) (step : StepR
 step_says old new last reach sofar moved step m =
     m.moves m.may.term (subst (λ (p : Program). IsStepFrom (theory_of p) m.may.term step) (sym m.grown.program) m.may.follows)
 
--- it is a step from what the start reaches
+-- the theorem is about a step from what the start reaches
 moved_says : (old new : Context) (last reach sofar moved : Theorem) (step : StepRecord) (m : Making old new last reach sofar moved step) →
     (says : SaysStep new m.may.term (result_of step.right) moved.conclusion) → moved.conclusion ≡ imp m.may.says.to (next says.to)
 moved_says old new last reach sofar moved step m says =
     next_from moved.conclusion says.from m.may.says.to says.to says.says
     (some_same says.from m.may.says.to (sym says.from_image ∙ pattern_grown old new (ground_pattern m.may.term) m.may.says.to m.grown m.may.says.to_image))
 
--- ---- both are linked, and no object variable stands in them
+-- ---- both are linked, and have no object variable
 
 pub linked : (old new : Context) (last reach sofar moved : Theorem) (step : StepRecord) → Making old new last reach sofar moved step → IsOneStepOn sofar.conclusion moved.conclusion
 linked old new last reach sofar moved step m =
@@ -87,9 +87,9 @@ both_closed old new last reach sofar moved step m =
     let says = step_says old new last reach sofar moved step m in
     (subst HasNoVariable (sym (again_says old m.may.start (ground_pattern m.may.term) last sofar m.may.says m.again)) m.may.says.closed, subst HasNoVariable (sym says.says) says.no_variable)
 
--- ---- so the start reaches what the step makes
+-- ---- so the start reaches the result of the step
 
--- whatever the last theorem says of a start
+-- for each start of which the last theorem says something
 further_says : (old new : Context) (last reach sofar moved t : Theorem) (step : StepRecord) → Making old new last reach sofar moved step →
     ReachesOneFurther sofar.conclusion moved.conclusion t.conclusion → (start reached : RulePattern) → SaysReached old start reached last →
     SaysReached new start (ground_pattern (result_of step.right)) t
@@ -106,7 +106,7 @@ further_says old new last reach sofar moved t step m reaches start reached h =
           (next_from moved.conclusion m.may.says.to h.to says.to (moved_says old new last reach sofar moved step m says) same);
     }
 
--- what the last theorem says is over every scope that has the context
+-- what the last theorem says is over each scope that has the context
 last_over : (old new : Context) (last : Theorem) (start reached : RulePattern) (s : Scope) → HasGrown old new → HasContext s new → (h : SaysReached old start reached last) → IsOver s (imp h.from (ev h.to))
 last_over old new last start reached s grown has h =
     (has.images (term start) h.from (pattern_grown old new start h.from grown h.from_image), has.images (term reached) h.to (pattern_grown old new reached h.to grown h.to_image))

@@ -1,4 +1,4 @@
--- What is true of a proof that begins and of one that goes on, and which texts fit it.
+-- What is true of a proof at its beginning and after a step, and which texts fit it.
 use Rattle.std.proofs.Common.{◌≡◌, ◌≤◌, ℕ, List, [], ◌++◌, Option, Some, length, refl, ap, ◌∙◌, sym, subst}
 use Rattle.std.specs.Prelude.{Contains}
 use Rattle.std.proofs.lemmas.List.{append_assoc}
@@ -32,7 +32,7 @@ use Rattle.prove_run.proofs.StartingLaws.{begun_has_none}
 
 -- ---- what a proof is
 
--- the invariant, from what is known of the theorem that was stated last and of the value that is kept
+-- the invariant, from what is known of the last stated theorem and of the kept value
 pub is_proof : (program : Program) (told : Option Tree) (thm : Theorem) (p : Inside) → p.prover.program ≡ program → IsWellSorted (theory_of program) → HasBoundVariables program
     → HasPlainNames program.sig → HasNoVariables (plain_pattern p.start.now)
     → SaysReached p.prover (plain_pattern p.start.now) (configuration (plain_pattern p.start.now) told) thm → p.reached ≡ told → p.last ≡ thm
@@ -55,7 +55,7 @@ is_proof program told thm p same well_sorted bound names ground says made last r
   listed = listed;
 }
 
--- a text of what was written before fits the proof with the bytes that were appended
+-- a text of what was written before, followed by the appended bytes, fits the proof
 fits_now : (p : Inside) (old : Writer) (told : Option Tree) (thm : Theorem) (before after added text : List ℕ) → HasNoVariables (plain_pattern p.start.now)
     → SaysReached p.prover (plain_pattern p.start.now) (configuration (plain_pattern p.start.now) told) thm → p.reached ≡ told → Concludes p.prover old thm before after → after ≡ before ++ added
     → IsTextOf p.prover old text → IsTextOf p.prover p.writer (text ++ added) → FitsProof (run_proof p) (text ++ added)
@@ -68,7 +68,7 @@ fits_now p old told thm before after added text ground says made concludes whole
   counts = is.counts;
 }
 
--- ---- where it begins
+-- ---- the beginning
 
 pub begun_grown : (program : Program) (first middle new : Context) → first ≡ new_context program → HasGrown first middle → HasGrown middle new → HasGrown (new_context program) new
 begun_grown program first middle new is g h = subst (λ (cx : Context). HasGrown cx new) is (grown_twice first middle new g h)
@@ -94,9 +94,9 @@ begins program told w thm p before middle after grown ground says made written (
       );
     }
 
--- ---- where it goes on
+-- ---- a step
 
--- it may go on by a step that the record tells
+-- the proof may go on by a recorded step
 pub may_go_on : (p : Inside) (v : RunProof) (step : StepRecord) → run_proof p ≡ v → IsProof p → CanStep v step → MayGoOn p.prover p.last p.reach step
 may_go_on p v step is proof can =
     let at : configuration (plain_pattern p.start.now) p.reached ≡ ground_pattern can.term = ap reached is ∙ can.at in
@@ -123,11 +123,11 @@ pub further_follows : (p : Inside) (new : Context) (u : Tree) (further : Theorem
 further_follows p new u further proof goes s has told =
     goes.stays s has (told p.last.hypotheses p.last.conclusion proof.has_reached.stated)
 
--- what it says of the start
+-- what the new theorem says of the start
 says_now : (p : Inside) (new : Context) (u : Tree) (further : Theorem) → IsProof p → GoesOn p.prover new p.last u further → SaysReached new (plain_pattern p.start.now) (ground_pattern u) further
 says_now p new u further proof goes = goes.says (plain_pattern p.start.now) (configuration (plain_pattern p.start.now) p.reached) proof.has_reached.says
 
--- the proof with what was made in the step
+-- the proof with the results of the step
 abbrev pub after_step : Inside → Context → Writer → Theorem → Tree → Inside
 after_step p new w last made = record p { prover = new; writer = w; reached = Some made; last = last }
 
@@ -137,7 +137,7 @@ goes_proof p new w further last u made proof goes same same_last context written
     is_proof p.prover.program (Some u) further (after_step p new w last made) goes.grown.program proof.well_sorted proof.bound proof.names proof.has_reached.ground
     (says_now p new u further proof goes) (ap (λ (t : Tree). Some t) same) same_last proof.reach (lemma_grown p.prover new p.reach goes.grown proof.listed) context written none stated
 
--- a text that fitted the proof is one of what was written
+-- a text that fits the proof is a text of what was written
 fitted_text : (p : Inside) (v : RunProof) (new : Context) (text : List ℕ) → run_proof p ≡ v → IsProof p → HasGrown p.prover new → FitsProof v text → IsTextOf new p.writer text
 fitted_text p v new text is proof grown h =
     let fits : FitsProof (run_proof p) text = subst (λ (x : RunProof). FitsProof x text) (sym is) h in

@@ -25,7 +25,7 @@ one_of p q r (suc (suc k), low, is) = absurd (omega (arith, low))
 
 -- ---- the lemma
 
--- the lemma stays in every context where its two assumptions may be assumed
+-- the lemma stays in each context in which its two assumptions may be assumed
 reach_assuming : (sofar step t : Theorem) → AssumesWithin sofar_form sofar → AssumesWithin step_form step → StaysWithin [] (sofar ∷ step ∷ []) t → (cx : Context) →
     StaysAssuming cx (sofar_form ∷ step_form ∷ []) t
 reach_assuming sofar step t first second stays cx s has may =
@@ -37,7 +37,7 @@ reach_assuming sofar step t first second stays cx s has may =
 pub reach_stays : (sofar step t : Theorem) → AssumesWithin sofar_form sofar → AssumesWithin step_form step → StaysWithin [] (sofar ∷ step ∷ []) t → (cx : Context) → IsLemmaIn cx t
 reach_stays sofar step t first second stays cx = lemma_of cx (sofar_form ∷ step_form ∷ []) t (reach_assuming sofar step t first second stays cx)
 
--- a scope of all numbers, where nothing was stated
+-- a scope of all numbers, in which nothing was stated
 abbrev everything : List Pattern → Scope
 everything ps = record {
   sort = λ n. true;
@@ -67,7 +67,7 @@ reach_says sofar step t first second stays one two reaches = record {
     there (p ∷ ps) zero d low = (zero, omega arith, refl)
     there (p ∷ ps) (suc k) d low = let deeper : Contains ps (slice_index_or ps k d) = there ps k d (omega (arith, low)) in (suc deeper.0, omega (arith, deeper.1), deeper.2)
 
--- the forms that are assumed
+-- the assumed forms
 pub made_sofar : (p q r s : Pattern) → p ≡ meta 0 → q ≡ meta 1 → r ≡ ev q → s ≡ imp p r → s ≡ imp (meta 0) (ev (meta 1))
 made_sofar p q r s h k l m = cc
 
@@ -94,7 +94,7 @@ one_more_proof sofar step ps i p ts t low is before here =
 
 -- ---- its use
 
--- the patterns that come in the places of its pattern variables
+-- the patterns that replace its pattern variables
 abbrev pub three : Pattern → Pattern → Pattern → List Pattern
 three a b c = a ∷ b ∷ c ∷ []
 
@@ -139,7 +139,7 @@ proofs_within s sofar step (p ∷ ps) [] first second h = absurd h
 proofs_within s sofar step (p ∷ ps) (t ∷ ts) first second (inl k, rest) = (subst (IsWithin s) (sym k.1) first, proofs_within s sofar step ps ts first second rest)
 proofs_within s sofar step (p ∷ ps) (t ∷ ts) first second (inr k, rest) = (subst (IsWithin s) (sym k.1) second, proofs_within s sofar step ps ts first second rest)
 
--- what is over, where the conclusions of both theorems are
+-- the three patterns are over the scope if the conclusions of both theorems are
 parts_over : (s : Scope) (a b c p q : Pattern) → p ≡ imp a (ev b) → q ≡ imp b (next c) → IsOver s p → IsOver s q → AreOver s (three a b c)
 parts_over s a b c p q one two first second =
     let over : IsOver s (imp a (ev b)) = subst (IsOver s) one first in

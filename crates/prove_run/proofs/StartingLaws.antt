@@ -35,11 +35,11 @@ use Rattle.prove_run.proofs.ContextLaws.{image_wherever, image_is_closed, sorted
 pub start_has_image : (sig : Signature) (start : RulePattern) (sort : ℕ) → IsSignature sig → HasSort sig [] start sort → HasImage sig (2 ^ 32) start
 start_has_image sig start sort ok sorted = image_wherever sig (2 ^ 32) start (sorted_has_image sig [] start sort ok sorted)
 
--- nothing stands for a variable
+-- no variable is bound
 nothing_bound : {P : Type 0} (x : ℕ) (t : Tree) → binding [] x ≡ Some t → P
 nothing_bound x t e = absurd (let no : ⊥ = cc in no)
 
--- and none is asked for
+-- no variable needs to be bound
 pub start_serves : (sig : Signature) (theta : List (Option Tree)) (start : RulePattern) (sort : ℕ) → theta ≡ [] → HasSort sig [] start sort → Serves sig [] theta start
 start_serves sig theta start sort none sorted = subst (λ (s : List (Option Tree)). Serves sig [] s start) (sym none) (record {
   bound = λ x stands. absurd (sorted_has_none sig start sort sorted x stands);
@@ -47,7 +47,7 @@ start_serves sig theta start sort none sorted = subst (λ (s : List (Option Tree
   low = λ x t bound. nothing_bound x t bound;
 })
 
--- no variable stands in the configuration at which a proof begins
+-- the configuration at which a proof begins has no variable
 pub begun_has_none : (start : RulePattern) (value : Option Tree) → HasNoVariables start → HasNoVariables (configuration start value)
 begun_has_none start None none = none
 begun_has_none start (Some t) none = ground_has_none t
@@ -70,9 +70,9 @@ itself_reached cx start sort here t ok sorted image says =
 pub itself_stays : (cx : Context) (start : RulePattern) (here : Pattern) (t : Theorem) → image_of cx.program.sig cx.names start ≡ Some here → StaysWithin (here ∷ []) [] t → StaysIn cx t
 itself_stays cx start here t image stays s has = stays s (has.images (term start) here image, tt) tt
 
--- ---- .. and its value
+-- ---- the start reaches its value
 
--- the start is as it is with nothing in the places of its variables
+-- the start does not change when none of its variables is replaced
 start_image : (old new : Context) (start : RulePattern) (theta : List (Option Tree)) (itself : Theorem) → theta ≡ [] → HasGrown old new → (h : SaysReached old start start itself)
     → image_of new.program.sig new.names (filled theta start) ≡ Some h.to
 start_image old new start theta itself none g h =
@@ -96,13 +96,13 @@ same_reached old new start theta u itself none g h has =
     let same : h.to ≡ has.image = some_same h.to has.image (sym (start_image old new start theta itself none g h) ∙ has.left_image) in
     reached_as old new start u itself itself has.image g h has.right_image (h.says ∙ ap (λ (p : Pattern). imp h.from (ev p)) same)
 
--- the equality turns the image of the start into that of its value
+-- the equality is between the image of the start and the image of its value
 turned : (old new : Context) (start : RulePattern) (theta : List (Option Tree)) (u : Tree) (e itself : Theorem) → theta ≡ [] → HasGrown old new → (h : SaysReached old start start itself)
     → (is : SaysValue new theta start u e.conclusion) → e.conclusion ≡ equal h.to is.right
 turned old new start theta u e itself none g h is =
     is.says ∙ ap (λ (p : Pattern). equal p is.right) (some_same is.left h.to (sym is.left_image ∙ start_image old new start theta itself none g h))
 
--- what the rule that turns it asks for
+-- what `to_other` requires
 pub can_turn : (old new : Context) (start : RulePattern) (theta : List (Option Tree)) (u : Tree) (e itself : Theorem) → theta ≡ [] → HasGrown old new → SaysReached old start start itself
     → SaysValue new theta start u e.conclusion → (p r q : Pattern) × (e.conclusion ≡ equal r q) × (itself.conclusion ≡ imp p (ev r)) × HasNoVariable p
 can_turn old new start theta u e itself none g h is = (h.from, h.to, is.right, turned old new start theta u e itself none g h is, h.says, h.closed.0)
@@ -124,7 +124,7 @@ at_end p u closed = rw (substituted-without p 0 u closed) refl
 imp_parts : (p q r t : Pattern) → imp p q ≡ imp r t → (p ≡ r) × (q ≡ t)
 imp_parts p q r t e = (cc, cc)
 
--- a reached pattern, and one that equals it
+-- a reached pattern, and a pattern that equals it
 pub record CanGoOn (e reached : Theorem) : Type 0 where
   pub from : Pattern
   pub to : Pattern
@@ -133,7 +133,7 @@ pub record CanGoOn (e reached : Theorem) : Type 0 where
   pub says : reached.conclusion ≡ imp from (ev to)
   pub closed : HasNoVariable from
 
--- the context with the place, as it is made
+-- the context with the place, as the code makes it
 whole : (e reached : Theorem) (context before after : Pattern) (can : CanGoOn e reached) → reached.conclusion ≡ imp before after → context ≡ imp before (ev (var 0)) → context ≡ imp can.from (ev (var 0))
 whole e reached context before after can says is =
     is ∙ ap (λ (q : Pattern). imp q (ev (var 0))) (sym (imp_parts can.from (ev can.to) before after (sym can.says ∙ says)).0)

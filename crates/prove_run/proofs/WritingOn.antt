@@ -1,4 +1,4 @@
--- What is written, and then a theorem, as one.
+-- Writing what was made, and then a theorem, as one step.
 use Rattle.std.proofs.Common.{◌≡◌, ℕ, List, [], ◌∷◌, ◌++◌, ap, ◌∙◌, sym, subst}
 use Rattle.std.specs.Prelude.{Result, Ok, Err, OnOk}
 use Rattle.std.proofs.lemmas.List.{append_assoc}
@@ -17,7 +17,7 @@ pub on_any : {T E : Type 0} {P : Type 0} (r : Result T E) → P → OnOk r P
 on_any (Ok x) p = p
 on_any (Err e) p = tt
 
--- the context of what a context lends
+-- the context of what a `Cx` lends
 pub same_context : (cx : Context) (made : Made) → made.program.now ≡ cx.program → made.names.now ≡ cx.names → made.theory.now ≡ cx.axioms
     → made.lemmas.now ≡ cx.lemmas → context_of made ≡ cx
 same_context cx made program names axioms lemmas =
@@ -29,7 +29,7 @@ same_context cx made program names axioms lemmas =
     whole : Program → List (List ℕ) → List Pattern → List Theorem → Context
     whole p ns ps ts = record { program = p; names = ns; axioms = ps; lemmas = ts }
 
--- what follows from what was written follows from more
+-- what follows from what was written follows also from more
 pub follows_later : (cx : Context) (k new : Kept) (t : Theorem) → Keeps k new → MayFollow cx k t → MayFollow cx new t
 follows_later cx k new t keeps follows s has told = follows s has (λ hs q h. told hs q (keeps hs q h))
 

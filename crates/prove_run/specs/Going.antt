@@ -13,8 +13,8 @@ use Rattle.prove_step.specs.Steps.{IsStepFrom}
 use Rattle.prove_run.specs.Reaching.{SaysReached}
 use Rattle.prove_run.specs.ReachLemma.{IsReachLemma}
 
--- The last theorem, which assumes nothing, says that a start reaches a term; the record tells a step from there; and
--- the lemma by which a run goes further is one of the context's.
+-- The last theorem has no hypotheses, and says that a start reaches a term. The record is about a
+-- step from that term. The lemma by which a run goes further is in the context.
 pub record MayGoOn (cx : Context) (last reach : Theorem) (step : StepRecord) : Type 0 where
   pub well_sorted : IsWellSorted (theory_of cx.program)
   pub bound : HasBoundVariables cx.program
@@ -26,8 +26,9 @@ pub record MayGoOn (cx : Context) (last reach : Theorem) (step : StepRecord) : T
   pub is_reach : IsReachLemma reach
   pub listed : Contains cx.lemmas reach
 
--- The context has grown. Each start that reaches something by the last theorem reaches the term by this one, which
--- stays in every scope that has the context and the last theorem as stated.
+-- The context has grown. If a start reaches something by the last theorem, it reaches the term u by
+-- the new theorem. The new theorem stays in each scope that has the context and the last theorem as
+-- stated.
 pub record GoesOn (old new : Context) (last : Theorem) (u : Tree) (t : Theorem) : Type 0 where
   pub grown : HasGrown old new
   pub says : (start reached : RulePattern) → SaysReached old start reached last →

@@ -1,4 +1,4 @@
--- How a `Proof` of the code is seen, and what is true of it.
+-- How contracts see a `Proof` of the code, and what is true of it.
 use Rattle.std.specs.Prelude.{Contains}
 use Rattle.term_core.specs.RulePatterns.{plain_pattern}
 use Rattle.rule_core.specs.BoundVariables.{HasBoundVariables}
@@ -23,8 +23,9 @@ run_proof p = record {
   statements = p.writer.statements;
 }
 
--- The program is well-sorted, its variables are bound, and its names can stand in a text; all that was made is written;
--- the last theorem says how far the run has come; and the lemma by which it goes further is one of the context's.
+-- The program is well sorted, its rules and equations bind their variables, and its names can be
+-- written in a text. All that was made is written. The last theorem says how far the run has come.
+-- The lemma by which it goes further is in the context.
 pub record IsProof (p : Inside) : Type 0 where
   pub well_sorted : IsWellSorted (theory_of p.prover.program)
   pub bound : HasBoundVariables p.prover.program

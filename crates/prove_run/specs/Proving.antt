@@ -1,4 +1,4 @@
--- Which texts fit a proof of a run, how a proof begins, and what a step makes of it.
+-- Which texts fit a proof of a run, how a proof begins, and what a step does to it.
 use Rattle.std.specs.Prelude.{◌≡◌, ℕ, List, ◌++◌, Option, Some, option_map}
 use Rattle.term_core.specs.Terms.{Tree}
 use Rattle.term_core.specs.Patterns.{ground_pattern}
@@ -15,20 +15,21 @@ use Rattle.mm_justify.specs.Counting.{HasCounts}
 use Rattle.prove_step.specs.Steps.{IsStepFrom}
 use Rattle.prove_run.specs.RunProof.{RunProof, reached}
 
--- A text fits a proof: it is just what the proof keeps of it, it has only axioms of the program, it justifies the run
--- from the start to the present configuration, and the proof has its counts.
+-- The text fits the proof. It has exactly what the proof keeps of it. It has only axioms of the
+-- program. It justifies the run from the start to the present configuration. The proof has its
+-- counts.
 pub record FitsProof (proof : RunProof) (text : List ℕ) : Type 0 where
   pub fits : Fits proof.names proof.kept text
   pub only : HasOnlyAxiomsOf (theory_of proof.program) text
   pub justifies : JustifiesRun text (theory_of proof.program) (plain_pattern proof.start) (reached proof)
   pub counts : HasCounts proof.facts proof.statements text
 
--- the value that a record tells, where there is one
+-- the value in a record, if there is a record
 abbrev pub value_told : Option EvalRecord → Option Tree
 value_told o = option_map (λ (r : EvalRecord). result_of (plain_record r)) o
 
--- a proof that a start reaches its value, or where it has none itself, by no step; what was appended to a buffer is a
--- text that fits it
+-- The proof says that a start reaches its value. If there is no value, the start reaches itself in
+-- no step. The bytes that were appended to a buffer are a text that fits the proof.
 pub record Begins (program : Program) (start : RulePat) (value : Option Tree) (proof : RunProof)
     (before after : List ℕ) : Type 0 where
   pub same_program : proof.program ≡ program
@@ -36,14 +37,14 @@ pub record Begins (program : Program) (start : RulePat) (value : Option Tree) (p
   pub made : proof.made ≡ value
   pub text : (added : List ℕ) × (after ≡ before ++ added) × FitsProof proof added
 
--- The record tells a step from the present configuration, which is a term.
+-- The present configuration is a term, and the record is about a step from it.
 pub record CanStep (proof : RunProof) (step : StepRecord) : Type 0 where
   pub term : Tree
   pub at : reached proof ≡ ground_pattern term
   pub follows : IsStepFrom (theory_of proof.program) term step
 
--- A proof goes on to a term: it is the present configuration then. Bytes were appended to a buffer; with them after it
--- each text that fitted the proof fits the new one.
+-- The new proof has the term u as its present configuration. Bytes were appended to a buffer. Each
+-- text that fits the old proof, followed by these bytes, fits the new proof.
 pub record StepsTo (old new : RunProof) (u : Tree) (before after : List ℕ) : Type 0 where
   pub same_program : new.program ≡ old.program
   pub same_start : new.start ≡ old.start

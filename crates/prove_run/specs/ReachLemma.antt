@@ -14,16 +14,18 @@ step_form = imp (meta 1) (next (meta 2))
 abbrev pub IsReachHypothesis : Pattern → Type 0
 IsReachHypothesis p = (p ≡ sofar_form) ⊎ (p ≡ step_form)
 
--- the lemma says that the run reaches what the step makes, and assumes no more than these two
+-- the lemma says that the run reaches the result of the step, and assumes at most these two
+-- patterns
 pub record IsReachLemma (lemma : Theorem) : Type 0 where
   pub says : lemma.conclusion ≡ imp (meta 0) (ev (meta 2))
   pub hypotheses : All IsReachHypothesis lemma.hypotheses
 
--- the theorem proves this hypothesis of the lemma
+-- the theorem t proves the hypothesis p of the lemma
 abbrev pub ProvesHypothesis : Theorem → Theorem → Pattern → Theorem → Type 0
 ProvesHypothesis sofar step p t = ((p ≡ sofar_form) × (t ≡ sofar)) ⊎ ((p ≡ step_form) × (t ≡ step))
 
--- where a scope has the lemma as stated, and the theorems so far and of the step, it has this one
+-- a scope that has the lemma as stated, the theorem so far and the theorem of the step has the
+-- theorem t
 abbrev pub GoesFurther : Theorem → Theorem → Theorem → Theorem → Type 0
 GoesFurther lemma sofar step t =
     (s : Scope) → IsStatedIn s lemma.hypotheses lemma.conclusion → AreWithin s (sofar ∷ step ∷ []) → IsWithin s t

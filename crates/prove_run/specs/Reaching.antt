@@ -1,4 +1,4 @@
--- What a start is, and what the theorem that was stated last says.
+-- What a start is, and what the last stated theorem says.
 use Rattle.std.specs.Prelude.{◌≡◌, ℕ, [], Some}
 use Rattle.term_core.specs.Patterns.{Pattern as RulePattern}
 use Rattle.rule_core.specs.BoundVariables.{HasBoundVariables}
@@ -16,15 +16,16 @@ use Rattle.prove_term.specs.Contexts.{Context}
 use Rattle.proof_writer.specs.Writing.{HasNoVariables}
 use Rattle.proof_writer.specs.declared.writer.Writer.{Writer}
 
--- an initial term without variables, of a well-sorted program whose variables are bound
+-- an initial term without variables, of a well-sorted program whose rules and equations bind their
+-- variables
 pub record IsStarting (program : Program) (start : RulePattern) : Type 0 where
   pub well_sorted : IsWellSorted (theory_of program)
   pub bound : HasBoundVariables program
   pub sort : ℕ
   pub sorted : HasSort program.sig [] start sort
 
--- the theorem says that the image of the start reaches that of the present configuration; no object variable stands in
--- them
+-- the theorem says that the image of the start reaches the image of the present configuration;
+-- neither has an object variable
 pub record SaysReached (cx : Context) (start reached : RulePattern) (t : Theorem) : Type 0 where
   pub from : Pattern
   pub to : Pattern
@@ -33,8 +34,8 @@ pub record SaysReached (cx : Context) (start reached : RulePattern) (t : Theorem
   pub closed : HasNoVariable from × HasNoVariable to
   pub says : t.conclusion ≡ imp from (ev to)
 
--- The theorem that was stated last assumes nothing and says that the image of the start, in which no variable stands,
--- reaches that of the present configuration.
+-- The last stated theorem has no hypotheses. It says that the image of the start reaches the image
+-- of the present configuration. The start has no variables.
 pub record HasReached (cx : Context) (w : Writer) (last : Theorem) (start reached : RulePattern) : Type 0 where
   pub says : SaysReached cx start reached last
   pub ground : HasNoVariables start

@@ -1,4 +1,4 @@
--- What a proof of a run has come to.
+-- What a proof of a run has reached so far.
 use Rattle.std.specs.Prelude.{ℕ, List, Option, Some, None}
 use Rattle.term_core.specs.Terms.{Tree}
 use Rattle.term_core.specs.Patterns.{Pattern, ground_pattern}
@@ -7,9 +7,10 @@ use Rattle.term_core.specs.declared.rule_patterns.RulePat.{RulePat}
 use Rattle.rule_core.specs.declared.rules.Program.{Program}
 use Rattle.mm_claims.specs.Kept.{Kept}
 
--- A proof that the start of a program's run reaches a configuration, with the names in its text, what is kept of the
--- text, and how many facts and statements it has. `made` is that configuration: the value of the start, or what the
--- last step made. A start without a value reaches itself alone.
+-- A proof that the start of a program's run reaches a configuration. It has the names in its text,
+-- what is kept of the text, and how many facts and statements the text has. `made` is the
+-- configuration: the value of the start, or the result of the last step. A start without a value
+-- reaches only itself.
 pub record RunProof : Type 0 where
   pub program : Program
   pub start : RulePat
@@ -19,7 +20,7 @@ pub record RunProof : Type 0 where
   pub facts : ℕ
   pub statements : ℕ
 
--- the present configuration, or the start where there is none
+-- the present configuration; it is the start if there is none
 abbrev pub configuration : Pattern → Option Tree → Pattern
 configuration start None = start
 configuration start (Some t) = ground_pattern t

@@ -13,7 +13,7 @@ use ml_pat::{MForm, MPat};
 use ml_scope::{assume, use_lemma};
 use std::alloc::{AllocError, Global};
 
-// `m:0 -> ev m:2`, from `m:0 -> ev m:1` and `m:1 -> next m:2`.
+// Proves `m:0 -> ev m:2` from `m:0 -> ev m:1` and `m:1 -> next m:2`.
 pub(crate) fn reach_lemma(alloc: Global) -> Result<Thm, AllocError>
     ensures says { IfOk result IsReachLemma }
     ensures stays { IfOk result (λ t. (cx : Context) → IsLemmaIn cx t) }
@@ -30,7 +30,7 @@ pub(crate) fn reach_lemma(alloc: Global) -> Result<Thm, AllocError>
     reach_step(alloc, &sofar, &step)
 }
 
-// `a -> ev c`, from `a -> ev b` and `b -> next c`, by the lemma.
+// Proves `a -> ev c` from `a -> ev b` and `b -> next c`, by the lemma.
 pub(crate) fn reach_further(
     alloc: Global,
     lemma: &Lemma,
@@ -50,7 +50,7 @@ pub(crate) fn reach_further(
     use_lemma(alloc, lemma, &images, &proofs)
 }
 
-// a, b and c of `a -> ev b` and `b -> next c`.
+// Returns a, b and c of `a -> ev b` and `b -> next c`.
 fn images(alloc: Global, sofar: &MPat, step: &MPat) -> Result<Vec<MPat>, AllocError>
     requires { IsOneStepOn sofar.now step.now }
     ensures { IfOk result (λ v. (a b c : Pattern) → sofar.now ≡ imp a (ev b) → step.now ≡ imp b (next c) →
@@ -61,7 +61,7 @@ fn images(alloc: Global, sofar: &MPat, step: &MPat) -> Result<Vec<MPat>, AllocEr
     Ok(vec![in alloc; a.share()?, b.share()?, c.share()?]?)
 }
 
-// a and b of `a -> ev b`.
+// Returns a and b of `a -> ev b`.
 fn reached(sofar: &MPat) -> (&MPat, &MPat)
     requires { (a b : Pattern) × (sofar.now ≡ imp a (ev b)) }
     ensures { sofar.now ≡ imp result.0.now (ev result.1.now) }
@@ -74,7 +74,7 @@ fn reached(sofar: &MPat) -> (&MPat, &MPat)
     unreachable!()
 }
 
-// c of `b -> next c`.
+// Returns c of `b -> next c`.
 fn made(step: &MPat) -> &MPat
     requires { (b c : Pattern) × (step.now ≡ imp b (next c)) }
     ensures { (b : Pattern) × (step.now ≡ imp b (next result.now)) }
@@ -87,7 +87,7 @@ fn made(step: &MPat) -> &MPat
     unreachable!()
 }
 
-// One of the two for each hypothesis of the lemma.
+// Returns the proof of each hypothesis of the lemma: `sofar` or `step`.
 fn proofs(
     alloc: Global,
     hypotheses: &[MPat],
@@ -105,7 +105,7 @@ fn proofs(
     Ok(proofs)
 }
 
-// The one that proves a hypothesis of the lemma.
+// Returns the theorem that proves a hypothesis of the lemma.
 fn proof_of<'a>(hypothesis: &MPat, sofar: &'a Thm, step: &'a Thm) -> &'a Thm
     requires { IsReachHypothesis hypothesis.now }
     ensures { ProvesHypothesis sofar.now step.now hypothesis.now result.now }

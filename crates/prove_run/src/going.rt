@@ -10,7 +10,8 @@ use prove_step::Prover;
 use rule_core::StepRecord;
 use std::alloc::{AllocError, Global};
 
-// That a start reaches what the step makes, from the last theorem, which says that it reaches the term before.
+// Proves that a start reaches the result of the step. The last theorem says that it reaches the
+// term before the step.
 pub(crate) fn goes_further(
     alloc: Global,
     prover: &mut Prover<'_>,

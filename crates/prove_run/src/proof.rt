@@ -26,18 +26,18 @@ use std::alloc::{AllocError, Global};
 use std::marker::Model;
 use term_core::{RulePat, Term};
 
-/// A proof that the start of a run reaches the present configuration. Contracts see it as these two, the program, the
-/// names, and what is kept of the text.
+/// A proof that the start of a run reaches the present configuration. Contracts see the start, the
+/// configuration, the program, the names, and what is kept of the text.
 #[derive(Drop)]
 pub struct Proof<'p> {
     prover: Prover<'p>,
     writer: Writer,
     start: &'p RulePat,
-    // The present configuration, where the start has a value.
+    // The present configuration, if the start has a value.
     reached: Option<Term>,
-    // The theorem that says so.
+    // The theorem that the start reaches it.
     last: Lemma,
-    // The lemma by which it goes one step further.
+    // The lemma by which the run goes one step further.
     reach: Lemma,
 }
 
@@ -60,8 +60,9 @@ impl<'p> Model for Proof<'p> {
 }
 
 impl<'p> Proof<'p> {
-    /// The proof of a run of no step: the start reaches its value, by the record of its evaluation, or where it has
-    /// none itself. Its text is appended to the buffer. The error: out of memory; then a part of the text was appended.
+    /// Begins the proof of a run with no steps: the start reaches its value, by the record of its
+    /// evaluation. If there is no record, the start reaches itself. The text of the proof is
+    /// appended to the buffer. The error: out of memory. Then a part of the text was appended.
     pub fn begin(
         alloc: Global,
         program: &'p Program,
@@ -94,9 +95,10 @@ impl<'p> Proof<'p> {
         })
     }
 
-    /// One step more, by the record of a step from the present configuration. The value of its right side is the
-    /// present configuration then. The text of the step is appended to the buffer. The error: out of memory; then a
-    /// part of it was appended, and no proof is left.
+    /// Adds one step, by the record of a step from the present configuration. The value of the
+    /// rule's right side is the new present configuration. The text of the step is appended to the
+    /// buffer. The error: out of memory. Then a part of the text was appended, and the proof is
+    /// gone.
     pub fn step(
         self,
         alloc: Global,
@@ -122,14 +124,14 @@ impl<'p> Proof<'p> {
         })
     }
 
-    /// How many facts on built-ins the text has, 2^64 - 1 where it has more.
+    /// Returns how many facts on built-ins the text has, or 2^64 - 1 if it has more.
     pub fn facts(&self) -> u64
         ensures { result ≡ self.now.facts }
     {
         self.writer.facts
     }
 
-    /// How many `$a` and `$p` statements the text has, 2^64 - 1 where it has more.
+    /// Returns how many `$a` and `$p` statements the text has, or 2^64 - 1 if it has more.
     pub fn statements(&self) -> u64
         ensures { result ≡ self.now.statements }
     {
@@ -137,7 +139,7 @@ impl<'p> Proof<'p> {
     }
 }
 
-// The value that a record tells, where there is one.
+// Returns the value in a record, if there is a record.
 fn value_of(value: Option<&EvalRecord>) -> Result<Option<Term>, AllocError>
     ensures { IfOk result (λ told. told ≡ value_told (option_copied value.entry)) }
 {
@@ -147,7 +149,7 @@ fn value_of(value: Option<&EvalRecord>) -> Result<Option<Term>, AllocError>
     }
 }
 
-// Keeps the lemma by which a run goes further in the context.
+// Makes the lemma by which a run goes further, and keeps it in the context.
 fn keep_reach_lemma(alloc: Global, prover: &mut Prover<'_>) -> Result<Lemma, AllocError>
     ensures says { IfOk result IsReachLemma }
     ensures there { IfOk result (Contains prover.new.lemmas) }
@@ -160,7 +162,7 @@ fn keep_reach_lemma(alloc: Global, prover: &mut Prover<'_>) -> Result<Lemma, All
     Ok(lemma)
 }
 
-// Writes what was made, and a theorem that follows from it.
+// Writes what was made, and then a theorem that follows from it.
 fn state(
     prover: &Prover<'_>,
     writer: &mut Writer,

@@ -20,10 +20,11 @@ use rule_core::EvalRecord;
 use std::alloc::{AllocError, Global};
 use term_core::{RulePat, Subst};
 
-// The variable that marks the place in the context made here.
+// The variable that marks the place in the context of `to_other`.
 const HOLE: VarNo = VarNo(0);
 
-// That an initial term reaches its value, by the record of its evaluation, or where it has none itself.
+// Proves that an initial term reaches its value, by the record of its evaluation. If there is no
+// record, it reaches itself.
 pub(crate) fn start_reaches(
     alloc: Global,
     prover: &mut Prover<'_>,
@@ -46,7 +47,7 @@ pub(crate) fn start_reaches(
     }
 }
 
-// That an initial term reaches its value, from the theorem that it reaches itself.
+// Proves that an initial term reaches its value, from the theorem that it reaches itself.
 fn valued(
     alloc: Global,
     prover: &mut Prover<'_>,
@@ -71,7 +72,7 @@ fn valued(
     }
 }
 
-// `p -> ev q`, from `r = q` and `p -> ev r`.
+// Proves `p -> ev q` from `r = q` and `p -> ev r`.
 fn to_other(alloc: Global, e: &Thm, reached: &Thm) -> Result<Thm, AllocError>
     requires { (p r q : Pattern) × (e.now.conclusion ≡ equal r q) × (reached.now.conclusion ≡ imp p (ev r))
         × HasNoVariable p }

@@ -1,4 +1,4 @@
--- What a substitution gives the variables of a schema, with the images of that.
+-- The terms that a substitution binds to the variables of a schema, with their images.
 use Rattle.std.proofs.Common.{◌≡◌, ◌+◌, ℕ, zero, suc, List, [], ◌∷◌, Option, Some, None, length, slice_get, refl, sym, ◌∙◌, ap, arith}
 use Rattle.std.specs.Prelude.{Contains}
 use Rattle.ml_pat.specs.Patterns.{Pattern, fun, meta}
@@ -26,7 +26,7 @@ symbol_unique : (sig : Signature) (f : ℕ) (info other : SymInfo) → IsSymbol 
 symbol_unique sig f info other h k =
     ap (λ (e : List ℕ × SymInfo). e.1) (some_same (h.0, info) (k.0, other) (sym h.1 ∙ k.1))
 
--- a pattern has one sort
+-- a pattern has only one sort
 pub sort_unique : (sig : Signature) (vars : List ℕ) (p : RulePattern) (s r : ℕ) → HasSort sig vars p s → HasSort sig vars p r → s ≡ r
 sort_unique sig vars (variable x) s r h k = some_same s r (sym h ∙ k)
 sort_unique sig vars (domain_value t v) s r h k = sym h.0 ∙ k.0
@@ -80,7 +80,7 @@ elements_within s cx (Some u ∷ theta) (t ∷ ts) has are = (are.0.1 s has, ele
 
 -- ---- facts on pattern variables
 
--- what is said of one of them
+-- each fact is about one of the pattern variables
 pub meta_fact : (k : ℕ) (ns : List ℕ) (p : Pattern) → Contains (meta_facts k ns) p → (x : ℕ) × (n : ℕ) × (slice_get ns x ≡ Some n) × (p ≡ fun (meta (k + x)) n)
 meta_fact k [] p there = absurd (omega (arith, there.1))
 meta_fact k (n ∷ ns) p (zero, low, is) =

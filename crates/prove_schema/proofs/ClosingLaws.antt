@@ -1,4 +1,4 @@
--- A pattern after quantifiers, and the schema that is its instance at pattern variables.
+-- A pattern under quantifiers, and the schema, which is its instance at pattern variables.
 use Rattle.std.proofs.Common.{◌≡◌, ◌≢◌, ◌<◌, ◌≤◌, ◌+◌, ℕ, Bool, true, false, zero, suc, List, [], ◌∷◌, Option, Some, None, length, slice_get, inl, inr, refl, sym, ◌∙◌, ap, subst, arith}
 use Rattle.std.specs.Prelude.{◌==◌, ◌⊎◌, cond}
 use Rattle.std.specs.List.{AllZip}
@@ -12,7 +12,7 @@ use Rattle.ml_derived.specs.Instances.{put, IsInstance}
 use Rattle.prove_schema.specs.Schemas.{with_metas, IsOpenFrom, closed, meta_facts}
 use Rattle.prove_schema.proofs.OpenLaws.{open_closed}
 
--- ---- a pattern variable in the place of the first object variable
+-- ---- a pattern variable in place of the first object variable
 
 put_bound : (k : ℕ) (u : Pattern) (y s : ℕ) (p : Pattern) → k ≢ y → put k u (all y s p) ≡ all y s (put k u p)
 put_bound k u y s p other = go (eqb_tells k y)
@@ -27,7 +27,7 @@ put_closed k j u (s ∷ ss) p low =
     let other : k ≢ j = λ (e : k ≡ j). omega (arith, low, e) in
     put_bound k u j s (closed (j + 1) ss p) other ∙ ap (all j s) (put_closed k (j + 1) u ss p (omega (arith, low)))
 
--- what becomes of a variable
+-- what a variable becomes
 put_var : (k n x : ℕ) → k ≤ x → x < n → IsOpenFrom (k + 1) n (put k (meta k) (var x)) × (with_metas (put k (meta k) (var x)) ≡ meta x)
 put_var k n x from below = go (eqb_tells k x)
   where
@@ -61,7 +61,7 @@ put_open k n (var x) h = (put_var k n x h.0 h.1).0
 put_open k n (meta i) h = h
 put_open k n (constant c) h = tt
 
--- and has the same schema
+-- the result has the same schema
 put_schema : (k n : ℕ) (p : Pattern) → IsOpenFrom k n p → with_metas (put k (meta k) p) ≡ with_metas p
 put_schema k n bot h = refl
 put_schema k n top h = refl
@@ -105,7 +105,8 @@ schema_instance k n (s ∷ ss) p all_there is_open =
 abbrev pub AreNumbers : Signature → List (List ℕ) → List ℕ → List ℕ → Type 0
 AreNumbers sig names ss ns = AllZip (λ (s n : ℕ). sort_image sig names s ≡ Some n) ss ns
 
--- The image of a sentence for all variables of some sorts is that of the sentence, closed over the sorts' numbers.
+-- The image of a sentence for all variables of some sorts is the image of the sentence, closed over
+-- the sorts' numbers.
 pub record IsClosed (sig : Signature) (names : List (List ℕ)) (k : ℕ) (ss : List ℕ) (s : Sentence) (p : Pattern) : Type 0 where
   pub numbers : List ℕ
   pub are : AreNumbers sig names ss numbers
@@ -133,7 +134,7 @@ closed_image sig names k (sort ∷ ss) s p e =
     one_more sig names k sort ss s p (sort_image sig names sort) (sentence_image sig names (for_all (k + 1) ss s)) refl
     (λ r. closed_image sig names (k + 1) ss s r) e
 
--- as many numbers as sorts
+-- there are as many numbers as sorts
 pub numbers_length : (sig : Signature) (names : List (List ℕ)) (ss ns : List ℕ) → AreNumbers sig names ss ns → length ns ≡ length ss
 numbers_length sig names [] [] h = refl
 numbers_length sig names [] (n ∷ ns) h = absurd h

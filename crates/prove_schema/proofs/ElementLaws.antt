@@ -1,4 +1,4 @@
--- Terms that come in the places of pattern variables, while a context grows.
+-- Terms that replace pattern variables, while a context grows.
 use Rattle.std.proofs.Common.{◌≡◌, ◌<◌, ◌+◌, ℕ, List, [], ◌∷◌, ◌++◌, Option, Some, None, length, take, get_or, sym, ◌∙◌, ap, subst}
 use Rattle.std.specs.List.{AllZip}
 use Rattle.std.proofs.lemmas.List.{take_more}
@@ -75,7 +75,7 @@ one_more_term old new us i u ts t low is g before here =
     subst (λ (vs : List Tree). AllZip (IsElementOf new) vs (ts ++ t ∷ [])) (sym front)
     (zip_push (IsElementOf new) (take i us) ts u t (elements_grown old new (take i us) ts g before) here)
 
--- ---- where terms are bound
+-- ---- bound terms
 
 pub bound_grown : (old new : Context) (theta : List (Option Tree)) (x : ℕ) → HasGrown old new → AllBound old.program.sig theta → x < length theta → IsBound new.program.sig theta x
 bound_grown old new theta x g each low = subst (λ (p : Program). IsBound p.sig theta x) (sym g.program) (each x low)

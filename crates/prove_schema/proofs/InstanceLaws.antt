@@ -16,17 +16,17 @@ use Rattle.prove_schema.specs.Schemas.{with_metas}
 
 -- ---- images of filled patterns
 
--- the list has, for each variable that a substitution binds, the image of what stands for it
+-- for each bound variable, the list has the image of the term that is bound to it
 abbrev pub AreImages : Signature → List (List ℕ) → List (Option Tree) → List Pattern → Type 0
 AreImages sig names theta qs =
     (x : ℕ) (t : Tree) → binding theta x ≡ Some t →
     (q : Pattern) × ((slice_get qs x ≡ Some q) × (image_of sig names (ground_pattern t) ≡ Some q))
 
--- something stands for each variable below n
+-- each variable below n is bound
 abbrev pub AllThere : List (Option Tree) → ℕ → Type 0
 AllThere theta n = (x : ℕ) → x < n → (t : Tree) × (binding theta x ≡ Some t)
 
--- what is there becomes the instance of its schema
+-- a pattern that is there becomes the instance of its schema
 abbrev pub Becomes : List Pattern → Option Pattern → Option Pattern → Type 0
 Becomes qs old new = (p : Pattern) → old ≡ Some p → new ≡ Some (instance qs (with_metas p))
 
@@ -57,8 +57,8 @@ becomes_some : (sig : Signature) (names : List (List ℕ)) (qs : List Pattern) (
 becomes_some sig names qs None p e = absurd (none_some p e)
 becomes_some sig names qs (Some f) p e = becomes_constant qs (numbered names (token_of_symbol sig f)) p e
 
--- The image of a pattern with terms in the places of its variables is the instance of its schema at the images of the
--- terms.
+-- The image of a pattern with terms in place of its variables is the instance of the pattern's
+-- schema at the images of the terms.
 mutual
   pub filled_image : (sig : Signature) (names : List (List ℕ)) (theta : List (Option Tree)) (qs : List Pattern) (n : ℕ) (p : RulePattern) → AreImages sig names theta qs → AllThere theta n
       → HasImage sig n p → Becomes qs (image_of sig names p) (image_of sig names (filled theta p))
@@ -87,7 +87,7 @@ mutual
 
 -- ---- no object variable
 
--- none comes in with patterns that have none
+-- patterns without object variables bring none in
 pub instance_closed : (qs : List Pattern) (p : Pattern) → HaveNoVariables qs → HasNoVariable p → HasNoVariable (instance qs p)
 instance_closed qs bot h k = tt
 instance_closed qs top h k = tt

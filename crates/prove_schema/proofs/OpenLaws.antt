@@ -1,4 +1,4 @@
--- What stands in schemas, and in images of patterns.
+-- What occurs in schemas, and in images of patterns.
 use Rattle.std.proofs.Common.{◌≡◌, ℕ, List, [], ◌∷◌, Option, Some, None, option_map, refl, ap, subst, arith}
 use Rattle.std.specs.Prelude.{IsTrue}
 use Rattle.ml_pat.specs.Patterns.{Pattern, bot, top, imp, not, and, or, equal, member, fun, ex, all, app, at_sort, next, ev, var, meta, constant}
@@ -13,7 +13,7 @@ use Rattle.ml_image.specs.HasImages.{HasImage, HaveImages}
 use Rattle.ml_image.proofs.ImageLaws.{none_some, some_same}
 use Rattle.prove_schema.specs.Schemas.{with_metas, IsOpenFrom}
 
--- ---- what stands in a schema
+-- ---- what occurs in a schema
 
 pub open_no_variable : (k n : ℕ) (p : Pattern) → IsOpenFrom k n p → HasNoVariable (with_metas p)
 open_no_variable k n bot h = tt
@@ -76,7 +76,7 @@ open_closed n (var x) h = absurd (omega (arith, h.0, h.1))
 open_closed n (meta i) h = refl
 open_closed n (constant c) h = refl
 
--- a schema has only what the pattern has, and pattern variables
+-- the leaves of a schema are leaves of the pattern, or pattern variables
 pub schema_leaves : (f : LeafFacts) (p : Pattern) → ((i : ℕ) → f.meta i) → EachLeaf f p → EachLeaf f (with_metas p)
 schema_leaves f bot m h = tt
 schema_leaves f top m h = tt

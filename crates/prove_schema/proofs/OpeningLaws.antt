@@ -1,4 +1,4 @@
--- A sentence as a schema: from the sentence and assumed facts.
+-- A sentence as a schema, from the sentence and assumed facts.
 use Rattle.std.proofs.Common.{◌≡◌, ◌+◌, ℕ, zero, suc, List, [], ◌∷◌, ◌++◌, length, refl, sym, ◌∙◌, ap, subst, arith, append_assoc}
 use Rattle.std.specs.Prelude.{Contains}
 use Rattle.std.proofs.lemmas.List.Elements.{Contains-append_left, Contains-append_right}
@@ -15,7 +15,7 @@ use Rattle.prove_schema.specs.Opening.{IsForAll, IsSchemaOf, StaysOpen, IsFollow
 use Rattle.prove_schema.specs.Assumptions.{AreAssumptions, facts_of, HoldsByParts}
 use Rattle.prove_schema.proofs.ClosingLaws.{schema_instance}
 
--- ---- the facts that are assumed
+-- ---- the assumed facts
 
 first : {X : Type 0} (x : X) (xs : List X) → Contains (x ∷ xs) x
 first x xs = (zero, omega arith, refl)
@@ -70,7 +70,7 @@ closed_facts : (k : ℕ) (ns : List ℕ) (p : Pattern) → facts_of p ≡ [] →
 closed_facts k [] p none = none
 closed_facts k (n ∷ ns) p none = ap (λ (ps : List Pattern). fun (meta k) n ∷ ps) (closed_facts (k + 1) ns p none)
 
--- the quantifiers in front of a sentence are those of its variables
+-- the leading quantifiers of a sentence are those of its variables
 pub sentence_facts : (numbers : List ℕ) (body p : Pattern) → IsSentence numbers body p → facts_of p ≡ meta_facts 0 numbers
 sentence_facts numbers body p is = ap facts_of is.says ∙ closed_facts 0 numbers body (open_no_facts 0 (length numbers) body is.is_open)
 
@@ -95,7 +95,7 @@ opened_stays sentence t ts are assumed stays numbers body is s within may =
 
 -- ---- conditions
 
--- what is no conjunction is its only part
+-- a pattern that is not a conjunction is its only part
 pub alone : (f : MForm) → (f ≡ form.Top → ⊥) → ((p q : Pattern) → f ≡ form.And p q → ⊥) → parts_of (pattern_of f) ≡ pattern_of f ∷ []
 alone form.Bot h k = refl
 alone form.Top h k = absurd (h refl)

@@ -36,7 +36,7 @@ all_leaves f (var x) h = h.object x
 all_leaves f (meta i) h = h.meta i
 all_leaves f (constant c) h = h.constant c
 
--- all numbers, a context's claims, and what may be assumed
+-- the scope of all numbers, with a context's claims and the given assumptions
 abbrev pub everything : Context → List Pattern → Scope
 everything cx ps = record {
   sort = λ n. true;
@@ -67,7 +67,7 @@ has_everything cx ps = record {
 
 -- ---- what may be assumed
 
--- the scope, where these patterns may be assumed instead
+-- the same scope, with these patterns as its assumptions
 abbrev pub assuming : Scope → List Pattern → Scope
 assuming s ps = record s { assumed = ps }
 
@@ -75,7 +75,8 @@ pub assuming_has : (s : Scope) (ps : List Pattern) (cx : Context) → HasContext
 assuming_has s ps cx h =
     record { images = h.images; objects = h.objects; metas = h.metas; axioms = h.axioms; lemmas = h.lemmas }
 
--- A theorem is within a scope where its own hypotheses may be assumed, if it is so where others may be.
+-- If a theorem is within a scope with other assumptions, it is within the scope when its own
+-- hypotheses may be assumed there.
 pub within_own : (s : Scope) (ps : List Pattern) (t : Theorem) → IsWithin (assuming s ps) t →
     ((p : Pattern) → Contains t.hypotheses p → Contains s.assumed p) → IsWithin s t
 within_own s ps t w own = record {
@@ -85,7 +86,8 @@ within_own s ps t w own = record {
   cited = w.cited;
 }
 
--- A theorem that stays in a context but for what it assumes of these patterns is a lemma there, and assumes no others.
+-- A theorem that stays in a context and may assume these patterns is a lemma there, and assumes
+-- only them.
 abbrev pub StaysAssuming : Context → List Pattern → Theorem → Type 0
 StaysAssuming cx ps t =
     (s : Scope) → HasContext s cx → ((p : Pattern) → Contains ps p → Contains s.assumed p) → IsWithin s t

@@ -1,4 +1,4 @@
--- Sentences without quantifiers: what stands in their images.
+-- Sentences without quantifiers: what occurs in their images.
 use Rattle.std.proofs.Common.{◌≡◌, ℕ, List, Option, Some, option_map, sym, subst}
 use Rattle.ml_pat.specs.Patterns.{Pattern}
 use Rattle.ml_pat.specs.Patterns as logic
@@ -15,7 +15,7 @@ use Rattle.prove_term.proofs.ImageShapes.{both_some, map_some}
 use Rattle.prove_schema.specs.Schemas.{with_metas, IsOpenFrom}
 use Rattle.prove_schema.proofs.OpenLaws.{image_is_open, schema_leaves}
 
--- no quantifier stands in the sentence, and its patterns have images whose variables have numbers below n
+-- the sentence has no quantifier, and its patterns have images whose variables have numbers below n
 abbrev pub IsOpenSentence : Signature → ℕ → Sentence → Type 0
 IsOpenSentence sig n (term p) = HasImage sig n p
 IsOpenSentence sig n (symbol f) = Unit {0}
@@ -74,7 +74,7 @@ sentence_is_open sig names n (exists x s p) h = absurd h
 sentence_is_open sig names n (forall x s p) h = absurd h
 sentence_is_open sig names n (next p) h = open_map n logic.next (sentence_image sig names p) (λ a x. x) (sentence_is_open sig names n p h)
 
--- a scope that has a context has the schema of an image over it, but for pattern variables
+-- the schema of an image uses only what a scope with the context has, apart from pattern variables
 pub schema_over_places : (s : Scope) (cx : Context) (q : Sentence) (p : Pattern) → HasContext s cx → sentence_image cx.program.sig cx.names q ≡ Some p → IsOverPlaces s (with_metas p)
 schema_over_places s cx q p has is =
     schema_leaves (place_leaves_of s) p (λ i. tt)

@@ -1,4 +1,4 @@
--- What comes in the places of a schema's pattern variables, and what is proved of it.
+-- The patterns that replace a schema's pattern variables, and what follows for them.
 use Rattle.std.proofs.Common.{◌≡◌, ◌<◌, ◌≤◌, ◌+◌, ℕ, zero, suc, slice_get, List, [], ◌∷◌, ◌++◌, Some, length, take, get_or, inl, inr, refl, sym, ◌∙◌, ap, subst, arith}
 use Rattle.std.specs.Prelude.{All, Contains, ◌⊎◌}
 use Rattle.std.specs.List.{AllZip}
@@ -63,7 +63,7 @@ facts_over s (q ∷ qs) (n ∷ ns) [] h k = absurd h
 facts_over s (q ∷ qs) (n ∷ ns) (t ∷ ts) h k =
     ((subst (IsOver s) h.0 k.0.conclusion).0, facts_over s qs ns ts h.2 k.1)
 
--- ---- the patterns that the facts are on
+-- ---- the patterns of the facts
 
 element_same : (p q : Pattern) (m n : ℕ) → fun p m ≡ fun q n → p ≡ q
 element_same p q m n e = cc
@@ -86,7 +86,7 @@ all_subjects qs ns ts i ps h enough before =
 
 -- ---- proofs of hypotheses
 
--- a hypothesis that says that something is one element
+-- a hypothesis that says that a pattern is one element of a sort
 pub proved_fun : (qs : List Pattern) (ns : List ℕ) (others : List Theorem) (h p : Pattern) (n : ℕ) → IsProved qs ns others h → h ≡ fun p n → (x : ℕ) × (p ≡ meta x) × (slice_get ns x ≡ Some n)
 proved_fun qs ns others h p n (by_fact x m at is) e = (x, element_same p (meta x) n m (sym e ∙ is), at ∙ ap (λ (k : ℕ). Some k) (number_same p (meta x) n m (sym e ∙ is)))
   where
@@ -101,7 +101,7 @@ proved_fun qs ns others h p n (by_condition x q r t at last is below says) e = a
     differ : fun p n ≡ equal q r → ⊥
     differ k = cc
 
--- the proof at a place of the others
+-- the proof at a place of `others`
 pub record HasOther (qs : List Pattern) (others : List Theorem) (h : Pattern) (x : ℕ) : Type 0 where
   pub proof : Theorem
   pub there : slice_get others x ≡ Some proof
@@ -132,7 +132,7 @@ proved_equal qs ns others h p q (by_member x r t at is below says) e = absurd (d
     differ k = cc
 proved_equal qs ns others h p q (by_condition x r u t at last is below says) e = (x, last, record { proof = t; there = at; says = says })
 
--- no other form has a proof
+-- the three forms of hypotheses; no other form has a proof
 abbrev HasForm : Pattern → Type 0
 HasForm bot = ⊥
 HasForm top = ⊥
@@ -182,7 +182,7 @@ pub no_other_form : (qs : List Pattern) (ns : List ℕ) (others : List Theorem) 
     → ((p : Pattern) (s : MSort) → f ≡ form.Fun p s → ⊥) → ⊥
 no_other_form qs ns others h f proved is a b c = only_forms f (subst HasForm is (has_form qs ns others h proved)) a b c
 
--- ---- the proofs that are given
+-- ---- the given proofs
 
 meta_same : (x y : ℕ) → meta x ≡ meta y → x ≡ y
 meta_same x y e = cc
@@ -238,7 +238,7 @@ given_condition facts others h p q k t is last there = record {
       ap (λ (u : Theorem). u.conclusion) (some_same t by.2.proof (sym there ∙ ap (slice_get others) (sym same) ∙ by.2.there)) ∙ by.2.says;
 }
 
--- ---- one after another
+-- ---- one proof after another
 
 pub zip_push : {X Y : Type 0} (R : X → Y → Type 0) (xs : List X) (ys : List Y) (x : X) (y : Y) → AllZip R xs ys → R x y → AllZip R (xs ++ x ∷ []) (ys ++ y ∷ [])
 zip_push R [] [] x y h k = (k, tt)
@@ -253,7 +253,7 @@ one_more_given facts others hs i h ts t u low is before here same =
     subst (λ (ps : List Pattern). AreGiven ps facts others (ts ++ t ∷ [])) (sym front)
     (zip_push (IsGiven facts others) (take i hs) ts h t before (subst (IsGiven facts others h) (sym same) here))
 
--- ---- all of them
+-- ---- all proofs
 
 proved_below : (qs : List Pattern) (ns : List ℕ) (others : List Theorem) (h : Pattern) → length ns ≡ length qs → IsProved qs ns others h → IsMetaBelow (length qs) h
 proved_below qs ns others h many (by_fact x n at is) =
@@ -292,7 +292,7 @@ given_within s facts others (h ∷ hs) (t ∷ ts) a b given = (one given.0.given
 
 -- ---- the use
 
--- all that is known where the lemma is cited
+-- all that is known when the lemma is cited
 pub record IsReady (lemma : Theorem) (facts others : List Theorem) (patterns : List Pattern) (ts : List Theorem) : Type 0 where
   pub subjects : (qs : List Pattern) (ns : List ℕ) → AreFacts qs ns facts → patterns ≡ qs
   pub given : AreGiven lemma.hypotheses facts others ts

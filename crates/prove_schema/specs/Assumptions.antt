@@ -1,4 +1,4 @@
--- Theorems that only assume.
+-- Theorems that say only what they assume.
 use Rattle.std.specs.Prelude.{List, [], ◌∷◌}
 use Rattle.ml_pat.specs.Patterns.{Pattern, bot, top, imp, not, and, or, equal, member, fun, ex, all}
 use Rattle.ml_pat.specs.Patterns.{app, at_sort, next, ev, var, meta, constant}
@@ -6,12 +6,13 @@ use Rattle.ml_kernel.specs.Theorems.{Theorem}
 use Rattle.ml_scope.specs.Scopes.{Scope, AssumesWithin, AreAssumed, IsWithin}
 use Rattle.prove_schema.specs.Schemas.{parts_of}
 
--- each theorem says no more than what it assumes
+-- each theorem says what it assumes, and assumes nothing else
 abbrev pub AreAssumptions : List Theorem → Type 0
 AreAssumptions [] = Unit {0}
 AreAssumptions (t ∷ ts) = AssumesWithin t.conclusion t × AreAssumptions ts
 
--- of the quantifiers in front of a pattern: that the pattern variable of each number is one element of its sort
+-- the facts of the leading quantifiers of a pattern: each bound variable's pattern variable is one
+-- element of its sort
 abbrev pub facts_of : Pattern → List Pattern
 facts_of bot = []
 facts_of top = []
@@ -32,6 +33,6 @@ facts_of (var x) = []
 facts_of (meta i) = []
 facts_of (constant c) = []
 
--- a scope where each part of the pattern may be assumed has the theorem
+-- a scope in which each part of p may be assumed has the theorem
 abbrev pub HoldsByParts : Pattern → Theorem → Type 0
 HoldsByParts p t = (s : Scope) → AreAssumed s (parts_of p) → IsWithin s t

@@ -1,4 +1,4 @@
--- Proofs that are given for the hypotheses of a schema.
+-- Proofs of the hypotheses of a schema.
 use Rattle.std.specs.Prelude.{◌≡◌, ◌⊎◌, ℕ, List, All, Contains}
 use Rattle.std.specs.List.{AllZip}
 use Rattle.ml_pat.specs.Patterns.{Pattern}
@@ -6,12 +6,12 @@ use Rattle.ml_kernel.specs.Lemmas.{instance}
 use Rattle.ml_kernel.specs.Theorems.{Theorem}
 use Rattle.prove_schema.specs.Using.{AreFacts, IsProved}
 
--- each of the hypotheses is proved by these
+-- each of the hypotheses is proved by `facts` or `others`
 abbrev pub CanProve : List Pattern → List Theorem → List Theorem → Type 0
 CanProve hypotheses facts others =
     (qs : List Pattern) × (ns : List ℕ) × AreFacts qs ns facts × All (IsProved qs ns others) hypotheses
 
--- the theorem is given, and says the hypothesis of the patterns
+-- the theorem is one of those given, and says the hypothesis at the patterns qs
 pub record IsGiven (facts others : List Theorem) (h : Pattern) (t : Theorem) : Type 0 where
   pub given : Contains facts t ⊎ Contains others t
   pub says : (qs : List Pattern) (ns : List ℕ) → AreFacts qs ns facts → IsProved qs ns others h →

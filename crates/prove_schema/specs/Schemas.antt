@@ -1,9 +1,10 @@
--- Sentences as schemas: with a pattern variable for each object variable.
+-- Sentences as schemas, with a pattern variable for each object variable.
 use Rattle.std.specs.Prelude.{◌≡◌, ℕ, ◌+◌, ◌<◌, ◌≤◌, List, [], ◌∷◌, ◌++◌, length}
 use Rattle.ml_pat.specs.Patterns.{Pattern, bot, top, imp, not, and, or, equal, member, fun, ex, all}
 use Rattle.ml_pat.specs.Patterns.{app, at_sort, next, ev, var, meta, constant}
 
--- the pattern with the pattern variable of the same number in the place of each object variable that is no quantifier's
+-- the pattern with each occurrence of an object variable replaced by the pattern variable of the
+-- same number; the variable that a quantifier names stays
 abbrev pub with_metas : Pattern → Pattern
 with_metas bot = bot
 with_metas top = top
@@ -24,8 +25,8 @@ with_metas (var x) = meta x
 with_metas (meta i) = meta i
 with_metas (constant c) = constant c
 
--- No quantifier stands in the pattern, its object variables have numbers from k on below n, and its pattern variables
--- have numbers below n.
+-- The pattern has no quantifier. The numbers of its object variables are at least k and below n.
+-- The numbers of its pattern variables are below n.
 abbrev pub IsOpenFrom : ℕ → ℕ → Pattern → Type 0
 IsOpenFrom k n bot = Unit {0}
 IsOpenFrom k n top = Unit {0}
@@ -46,22 +47,24 @@ IsOpenFrom k n (var x) = (k ≤ x) × (x < n)
 IsOpenFrom k n (meta i) = i < n
 IsOpenFrom k n (constant c) = Unit {0}
 
--- the pattern for all elements of the sorts with these numbers, its variables numbered from k on, the first outermost
+-- the pattern for all elements of the sorts with these numbers; its variables are numbered from k
+-- on, the first one outermost
 abbrev pub closed : ℕ → List ℕ → Pattern → Pattern
 closed k [] p = p
 closed k (s ∷ ss) p = all k s (closed (k + 1) ss p)
 
--- that pattern variables, numbered from k on, are each one element of its sort
+-- the facts that each pattern variable, numbered from k on, is one element of its sort
 abbrev pub meta_facts : ℕ → List ℕ → List Pattern
 meta_facts k [] = []
 meta_facts k (s ∷ ss) = fun (meta k) s ∷ meta_facts (k + 1) ss
 
--- the sentence p says the body, which has no quantifier, of all elements of the sorts with these numbers
+-- the sentence p says the body for all elements of the sorts with these numbers; the body has no
+-- quantifier
 pub record IsSentence (numbers : List ℕ) (body p : Pattern) : Type 0 where
   pub says : p ≡ closed 0 numbers body
   pub is_open : IsOpenFrom 0 (length numbers) body
 
--- the parts of a conjunction of conjunctions, but for `top`
+-- the parts of nested conjunctions, without `top`
 abbrev pub parts_of : Pattern → List Pattern
 parts_of bot = bot ∷ []
 parts_of top = []

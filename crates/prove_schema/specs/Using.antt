@@ -1,11 +1,12 @@
--- Where a schema is used: what comes in the places of its pattern variables, and what is proved of it.
+-- Uses of a schema: the patterns that replace its pattern variables, and what follows.
 use Rattle.std.specs.Prelude.{◌≡◌, ℕ, ◌+◌, List, [], ◌∷◌, All, Some, length, slice_get}
 use Rattle.ml_pat.specs.Patterns.{Pattern, equal, fun, member, meta}
 use Rattle.ml_kernel.specs.Lemmas.{instance, HasNoVariable, IsMetaBelow}
 use Rattle.ml_kernel.specs.Theorems.{Theorem}
 use Rattle.ml_scope.specs.Scopes.{Scope, IsStatedIn, IsOverPlaces, IsWithin, AreWithin}
 
--- the theorems say in turn of patterns without object variables that each is one element of the sort with its number
+-- Each theorem says that the pattern at its place is one element of the sort with the number at its
+-- place. The patterns have no object variables.
 abbrev pub AreFacts : List Pattern → List ℕ → List Theorem → Type 0
 AreFacts [] [] [] = Unit {0}
 AreFacts [] [] (t ∷ ts) = ⊥
@@ -14,8 +15,11 @@ AreFacts (q ∷ qs) [] ts = ⊥
 AreFacts (q ∷ qs) (n ∷ ns) [] = ⊥
 AreFacts (q ∷ qs) (n ∷ ns) (t ∷ ts) = (t.conclusion ≡ fun q n) × HasNoVariable q × AreFacts qs ns ts
 
--- The hypothesis of a schema is proved where the patterns qs stand for its pattern variables: by the fact on one of
--- them; by the theorem of the same place that one of them is in a pattern; or, an equality, by the last theorem.
+-- The hypothesis of a schema is proved when the patterns qs replace its pattern variables. There
+-- are three ways. A fact says that one of the patterns is one element of its sort. Or the
+-- hypothesis says that the variable x is a member of a pattern, and the theorem at place x of
+-- `others` says this of its pattern. Or the hypothesis is an equality, and the last theorem of
+-- `others` says it.
 pub data IsProved (qs : List Pattern) (ns : List ℕ) (others : List Theorem) (h : Pattern) : Type 0 where
   by_fact : (x n : ℕ) → slice_get ns x ≡ Some n → h ≡ fun (meta x) n → IsProved qs ns others h
   by_member : (x : ℕ) (p : Pattern) (t : Theorem) → slice_get others x ≡ Some t → h ≡ member (meta x) p →
@@ -29,13 +33,13 @@ pub record IsUsable (qs : List Pattern) (ns : List ℕ) (lemma : Theorem) (facts
   pub proved : All (IsProved qs ns others) lemma.hypotheses
   pub below : IsMetaBelow (length qs) lemma.conclusion
 
--- what the lemma concludes of them
+-- the theorem says what the lemma concludes at the patterns
 abbrev pub IsUsed : Theorem → List Theorem → List Theorem → Theorem → Type 0
 IsUsed lemma facts others t =
     (qs : List Pattern) (ns : List ℕ) → IsUsable qs ns lemma facts others → t.conclusion ≡ instance qs lemma.conclusion
 
--- Where the lemma was stated in a scope, and the scope has what the lemma concludes, and these theorems, it has this
--- theorem.
+-- If the lemma was stated in a scope, and the scope has the parts of the lemma's conclusion and the
+-- given theorems, then it has the theorem t.
 abbrev pub StaysUsed : Theorem → List Theorem → List Theorem → Theorem → Type 0
 StaysUsed lemma facts others t =
     (s : Scope) → IsStatedIn s lemma.hypotheses lemma.conclusion → IsOverPlaces s lemma.conclusion →

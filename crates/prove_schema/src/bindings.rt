@@ -1,4 +1,4 @@
-// Terms that come in the places of pattern variables, one element each of its sort.
+// Terms that replace pattern variables: each is one element of its sort.
 ghost use Rattle.std.specs.Prelude.{◌≤◌, ◌^◌, length, IfOk};
 ghost use Rattle.std.specs.List.{AllZip};
 ghost use Rattle.term_core.specs.Patterns.{binding};
@@ -12,8 +12,9 @@ use prove_term::{Cx, fun_of};
 use std::alloc::{AllocError, Global};
 use term_core::{Subst, Term};
 
-/// That each term that a substitution gives its variables is one element of its sort. `AllocError` says that memory was
-/// wanting, or what it says of `fun_of`; the context may have grown then too.
+/// Proves that each term that a substitution gives a variable is one element of its sort.
+/// `AllocError`: out of memory, or the error of `fun_of`. After an error the context may have
+/// grown.
 pub fn elements(alloc: Global, cx: &mut Cx<'_>, subst: &Subst) -> Result<Vec<Thm>, AllocError>
     requires well_sorted { IsWellSorted (theory_of cx.old.program) }
     requires few { length subst.now ≤ 2 ^ 32 }
@@ -28,7 +29,7 @@ pub fn elements(alloc: Global, cx: &mut Cx<'_>, subst: &Subst) -> Result<Vec<Thm
     Ok(facts)
 }
 
-// That the term that stands for a variable is one element of its sort.
+// Proves that the term that is bound to a variable is one element of its sort.
 fn element(alloc: Global, cx: &mut Cx<'_>, subst: &Subst, x: u32) -> Result<Thm, AllocError>
     requires well_sorted { IsWellSorted (theory_of cx.old.program) }
     requires bound { IsBound cx.old.program.sig subst.now x }
@@ -41,8 +42,8 @@ fn element(alloc: Global, cx: &mut Cx<'_>, subst: &Subst, x: u32) -> Result<Thm,
     }
 }
 
-/// That each of some terms is one element of its sort. `AllocError` says that memory ran out, or what it says of
-/// `fun_of`; the context may have grown then too.
+/// Proves that each of the terms is one element of its sort. `AllocError`: out of memory, or the
+/// error of `fun_of`. After an error the context may have grown.
 pub fn term_elements(alloc: Global, cx: &mut Cx<'_>, terms: &[Term]) -> Result<Vec<Thm>, AllocError>
     requires well_sorted { IsWellSorted (theory_of cx.old.program) }
     requires sorted { AreTerms cx.old.program.sig terms.now }

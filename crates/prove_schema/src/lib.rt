@@ -1,9 +1,12 @@
-// Sentences on all elements of sorts as lemmas with pattern variables, and the use of such lemmas at terms.
+// Sentences on all elements of sorts as lemmas with pattern variables, and the use of such lemmas
+// at terms.
 //
-// The contract: `schema` makes of a sentence for all elements the same of pattern variables, under the assumptions that
-// they are elements of the variables' sorts (specs/Schemas.antt), and `without_condition` what follows where its
-// condition is assumed too. `schema_at` concludes what such a lemma says of patterns, from proofs of its hypotheses
-// (specs/Using.antt); `elements` gives those on sorts for what a substitution gives the variables.
+// The contract: `schema` turns a sentence for all elements into the same for pattern variables. The
+// result assumes that these are elements of the variables' sorts (specs/Schemas.antt).
+// `without_condition` assumes the condition of an implication too, and says what follows.
+// `schema_at` concludes what such a lemma says of patterns, from proofs of its hypotheses
+// (specs/Using.antt). `elements` makes the proofs of the hypotheses on sorts, for the terms that a
+// substitution gives the variables.
 #![tactic(auto)]
 
 mod bindings;

@@ -1,4 +1,4 @@
-// Sentences with pattern variables in the place of their variables.
+// Sentences with their variables replaced by pattern variables.
 ghost use Rattle.std.specs.Prelude.{◌≡◌, IfOk};
 ghost use Rattle.ml_pat.specs.Patterns.{imp};
 ghost use Rattle.ml_kernel.specs.Theorems.{conclusions};
@@ -12,9 +12,10 @@ use ml_pat::{MForm, MPat};
 use ml_scope::{assume, mp, top};
 use std::alloc::{AllocError, Global};
 
-/// What a sentence says of all elements of some sorts, of the pattern variables with the numbers of its variables. It
-/// assumes that each is one element of its sort. An error: out of memory. The cost grows with the number of
-/// variables times the size of the sentence.
+/// Turns a sentence for all elements of zero or more sorts into the same for pattern variables with
+/// the numbers of its variables. The result assumes that each pattern variable is one element of
+/// its sort. `AllocError`: out of memory. The cost grows with the number of variables times the
+/// size of the sentence.
 pub fn schema(alloc: Global, sentence: Thm) -> Result<Thm, AllocError>
     requires { IsForAll sentence.conclusion }
     ensures says { IfOk result (λ t. IsSchemaOf sentence.conclusion t.conclusion) }
@@ -24,8 +25,8 @@ pub fn schema(alloc: Global, sentence: Thm) -> Result<Thm, AllocError>
     instance(alloc, sentence, &facts)
 }
 
-// For each quantifier in front of a sentence, the assumption that the pattern variable of its number is one element of
-// its sort.
+// For each leading quantifier of a sentence, assumes that the pattern variable of its number is one
+// element of its sort.
 fn assumed_facts(alloc: Global, sentence: &MPat) -> Result<Vec<Thm>, AllocError>
     ensures facts { IfOk result (λ v. conclusions v.items ≡ facts_of sentence.now) }
     ensures assumed { IfOk result (λ v. AreAssumptions v.items) }
@@ -40,8 +41,8 @@ fn assumed_facts(alloc: Global, sentence: &MPat) -> Result<Vec<Thm>, AllocError>
     Ok(facts)
 }
 
-/// q, from `p -> q`. It assumes p: each part of a conjunction on its own, and `top` not at all. An error: memory was
-/// refused.
+/// Proves q from `p -> q`. The result assumes p, each part of a conjunction on its own, without
+/// `top`. `AllocError`: out of memory.
 pub fn without_condition(alloc: Global, conditional: &Thm) -> Result<Thm, AllocError>
     requires { IsConditional conditional.now.conclusion }
     ensures says { IfOk result (λ t. IsFollowing conditional.now.conclusion t.conclusion) }
@@ -52,7 +53,7 @@ pub fn without_condition(alloc: Global, conditional: &Thm) -> Result<Thm, AllocE
     mp(alloc, &held, conditional, condition, rest)
 }
 
-// A pattern, from its parts.
+// Proves a pattern from its parts.
 fn held(alloc: Global, pattern: &MPat) -> Result<Thm, AllocError>
     ensures conclusion { IfOk result (λ t. t.conclusion ≡ pattern.now) }
     ensures stays { IfOk result (HoldsByParts pattern.now) }
@@ -68,7 +69,7 @@ fn held(alloc: Global, pattern: &MPat) -> Result<Thm, AllocError>
     }
 }
 
-// The sides of an implication.
+// Returns the sides of an implication.
 fn sides(p: &MPat) -> (&MPat, &MPat)
     requires { IsConditional p.now }
     ensures { p.now ≡ imp result.0.now result.1.now }

@@ -9,10 +9,11 @@ use ml_pat::{MForm, MPat};
 use ml_scope::use_lemma;
 use std::alloc::{AllocError, Global};
 
-/// What a schema concludes of patterns that are each one element of the sort of the pattern variable in whose place it
-/// comes. `facts` says so of each pattern in turn. `others` has what its other hypotheses become: that the first
-/// patterns are each in a pattern, in turn, and last, where there is one, what its condition says. An error: memory was
-/// refused.
+/// Proves what a schema concludes when patterns replace its pattern variables. `facts` says of each
+/// pattern in turn that it is one element of its variable's sort. `others` proves the other
+/// hypotheses at these patterns. Its theorems say in turn that one of the first patterns is a
+/// member of a pattern. If there is a condition, the last theorem says it. `AllocError`: out of
+/// memory.
 pub fn schema_at(
     alloc: Global,
     lemma: &Lemma,
@@ -28,7 +29,7 @@ pub fn schema_at(
     use_lemma(alloc, lemma, &patterns, &proofs)
 }
 
-// What facts say to be one element of a sort.
+// Returns the patterns that the facts say to be one element of a sort.
 fn subjects(alloc: Global, facts: &[Thm]) -> Result<Vec<MPat>, AllocError>
     requires { (qs : List Pattern) × (ns : List ℕ) × AreFacts qs ns facts.now }
     ensures { IfOk result (λ v. (qs : List Pattern) (ns : List ℕ) → AreFacts qs ns facts.now → v.items ≡ qs) }
@@ -40,7 +41,7 @@ fn subjects(alloc: Global, facts: &[Thm]) -> Result<Vec<MPat>, AllocError>
     Ok(patterns)
 }
 
-// What a pattern says to be one element of a sort.
+// Returns the pattern that a fact says to be one element of a sort.
 fn subject(fact: &MPat) -> &MPat
     requires { (p : Pattern) × (n : ℕ) × (fact.now ≡ fun p n) }
     ensures { (n : ℕ) × (fact.now ≡ fun result.now n) }
@@ -51,7 +52,7 @@ fn subject(fact: &MPat) -> &MPat
     }
 }
 
-// Proofs of hypotheses.
+// Returns the proofs of the hypotheses.
 fn proofs(
     alloc: Global,
     hypotheses: &[MPat],
@@ -68,7 +69,7 @@ fn proofs(
     Ok(proofs)
 }
 
-// The proof of a hypothesis.
+// Returns the proof of a hypothesis.
 fn proof<'a>(hypothesis: &MPat, facts: &'a [Thm], others: &'a [Thm]) -> &'a Thm
     requires { (qs : List Pattern) × (ns : List ℕ) × AreFacts qs ns facts.now
         × IsProved qs ns others.now hypothesis.now }
@@ -82,7 +83,7 @@ fn proof<'a>(hypothesis: &MPat, facts: &'a [Thm], others: &'a [Thm]) -> &'a Thm
     }
 }
 
-// The theorem at a place.
+// Returns the theorem at a place.
 fn nth<'a>(theorems: &'a [Thm], place: usize) -> &'a Thm
     requires { place < length theorems.now }
     ensures { slice_get theorems.now place ≡ Some result.now }
@@ -90,7 +91,7 @@ fn nth<'a>(theorems: &'a [Thm], place: usize) -> &'a Thm
     &theorems[place]
 }
 
-// The number of a pattern variable.
+// Returns the number of a pattern variable.
 fn number(p: &MPat) -> usize
     requires { (x : ℕ) × (p.now ≡ meta x) }
     ensures { p.now ≡ meta result }

@@ -1,4 +1,4 @@
--- What is known while a rule's lemma is used.
+-- What is known when a rule's lemma is used.
 use Rattle.std.proofs.Common.{◌≤◌, ◌^◌, ℕ, List, Option, length, sym, subst}
 use Rattle.std.specs.Prelude.{Contains}
 use Rattle.std.proofs.lemmas.List.Elements.{Contains-append_left}
@@ -36,7 +36,7 @@ few_bound cx r lemma theta o can = subst (λ (n : ℕ). n ≤ 2 ^ 32) (sym can.r
 pub each_bound : (cx : Context) (r : RewriteRule) (lemma : Theorem) (theta : List (Option Tree)) (o : Option Theorem) → CanApply cx r lemma theta o → AllBound cx.program.sig theta
 each_bound cx r lemma theta o can = all_bound cx.program.sig r.variables theta can.respects can.room can.bound
 
--- all that is known where the lemma is cited
+-- all that is known when the lemma is cited
 pub cited_at : (old new : Context) (r : RewriteRule) (lemma : Theorem) (theta : List (Option Tree)) (o : Option Theorem) (ts : List Theorem) → HasGrown old new → AreElementsFor new theta ts → CanApply old r lemma theta o → IsCited new r lemma theta o ts
 cited_at old new r lemma theta o ts g elements can =
     record { can = can_apply_grown old new r lemma theta o g can; elements = elements }

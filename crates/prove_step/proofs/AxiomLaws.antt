@@ -20,7 +20,7 @@ use Rattle.prove_schema.proofs.SentenceLaws.{sentence_is_open}
 use Rattle.prove_equation.proofs.ShapeLaws.{condition_is, condition_open}
 use Rattle.prove_step.specs.RuleLemmas.{AreNumbers, IsCondition}
 
--- what is the left side, where the condition holds, makes a step to the right side
+-- if the condition holds, the left side steps to the right side
 abbrev pub body_of : Pattern → Pattern → Pattern → Pattern
 body_of left condition right = imp (and left condition) (next right)
 
@@ -81,11 +81,11 @@ rule_image sig names r p has (s, rule, image) =
       is_open = subst (λ (n : ℕ). IsOpenFrom 0 n (body_of parts.left parts.condition parts.right)) many ((left, condition), right);
     }
 
--- the image says the body of all elements of the sorts of the rule's variables
+-- the image says the body for all elements of the sorts of the rule's variables
 pub image_sentence : (sig : Signature) (names : List (List ℕ)) (r : RewriteRule) (p : Pattern) (i : IsRuleImage sig names r p) → IsSentence i.numbers (body_of i.left i.condition i.right) p
 image_sentence sig names r p i = record { says = i.says; is_open = i.is_open }
 
--- what the image of a condition is
+-- the image of a condition
 condition_form : (sig : Signature) (names : List (List ℕ)) (vars : List ℕ) (o : Option RulePattern) (holds : Sentence) (c : Pattern) → own.IsCondition sig vars o → condition_of sig vars o ≡ Some holds → sentence_image sig names holds ≡ Some c → IsCondition (with_metas c)
 condition_form sig names vars None holds c has is image =
     let nothing : holds ≡ says.top = some_same holds says.top (sym is) in

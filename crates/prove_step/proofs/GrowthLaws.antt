@@ -51,7 +51,7 @@ lemma_of_grown old new i k g (t, there, says) = (t, lemma_there_grown old new k 
 rule_lemmas_grown : (old new : Context) (places : List (Option ℕ)) → HasGrown old new → AreRuleLemmas old places → AreRuleLemmas new places
 rule_lemmas_grown old new places g are i k there = lemma_of_grown old new i k g (are i k there)
 
--- other places of equations may be kept then
+-- the same if other places of equations are kept afterwards
 pub lemmas_after : (old new : Context) (places : List (Option ℕ)) (kept more : List ((ℕ × ℕ) × ℕ)) (sides : SideLemmas) → HasGrown old new → AreLemmas old places kept sides → IsKeptIn new more → AreLemmas new places more sides
 lemmas_after old new places kept more sides g are is = record {
   room = are.room ∙ sym (ap (λ (p : Program). length p.rules.items) g.program);
@@ -60,7 +60,7 @@ lemmas_after old new places kept more sides g are is = record {
   sides = side_lemmas_grown old new sides g are.sides;
 }
 
--- .. and other lemmas for sides
+-- the same if other lemmas for sides are kept afterwards
 pub lemmas_turned : (old new : Context) (places : List (Option ℕ)) (kept more : List ((ℕ × ℕ) × ℕ)) (sides others : SideLemmas) → HasGrown old new → AreLemmas old places kept sides → IsKeptIn new more → AreSideLemmas new others
     → AreLemmas new places more others
 lemmas_turned old new places kept more sides others g are is all = record {

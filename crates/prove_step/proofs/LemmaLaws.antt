@@ -1,4 +1,4 @@
--- How the lemma of a rule is made: from its axiom as a schema.
+-- How the lemma of a rule is made from its axiom as a schema.
 use Rattle.std.proofs.Common.{◌≡◌, ◌+◌, ℕ, zero, suc, List, [], ◌∷◌, ◌++◌, Option, Some, slice_get, inl, inr, sym, ◌∙◌, ap, subst, arith}
 use Rattle.std.specs.Prelude.{IsTrue, Contains, ◌⊎◌}
 use Rattle.std.proofs.lemmas.List.Elements.{Contains-append_left, Contains-append_right}
@@ -56,12 +56,12 @@ facts_over s cx k (sort ∷ ss) (n ∷ ns) p has are there =
 
 -- ---- the condition
 
--- a condition is no conjunction
+-- a condition is not a conjunction
 no_conjunction : (p q : Pattern) → IsCondition (and p q) → ⊥
 no_conjunction p q (inl h) = cc
 no_conjunction p q (inr (a, b, h)) = cc
 
--- a condition that says something is its only part
+-- a condition other than `top` is its only part
 pub only_part : (f : MForm) → IsCondition (pattern_of f) → (f ≡ form.Top → ⊥) → parts_of (pattern_of f) ≡ pattern_of f ∷ []
 only_part f is some = alone f some (λ p q e. no_conjunction p q (subst (λ (x : MForm). IsCondition (pattern_of x)) e is))
 
@@ -88,7 +88,7 @@ pub image_for_all : (cx : Context) (i : ℕ) (p : Pattern) → ImageAt cx i p �
 image_for_all cx i p a =
     (a.image.numbers, body_of a.image.left a.image.condition a.image.right, image_sentence cx.program.sig cx.names (rewrite_rule a.rule) p a.image)
 
--- the rule under the pattern variables
+-- the rule at pattern variables
 pub whole_says : (cx : Context) (i : ℕ) (p q : Pattern) (a : ImageAt cx i p) → IsSchemaOf p q → q ≡ body_of (with_metas a.image.left) (with_metas a.image.condition) (with_metas a.image.right)
 whole_says cx i p q a schema =
     schema a.image.numbers (body_of a.image.left a.image.condition a.image.right) (image_sentence cx.program.sig cx.names (rewrite_rule a.rule) p a.image)
@@ -114,7 +114,7 @@ pub record Opened (cx : Context) (i : ℕ) (stated whole held : Theorem) : Type 
   pub held_has : HasCondition held.conclusion whole.conclusion
   pub held_stays : HoldsByParts held.conclusion held
 
--- without its condition it is the lemma
+-- the theorem without its condition is the lemma
 opened_assuming : (cx : Context) (i : ℕ) (stated whole held freed : Theorem) (o : Opened cx i stated whole held) → StaysWithin [] (whole ∷ held ∷ []) freed
     → StaysAssuming cx (meta_facts 0 o.at.image.numbers ++ parts_of (with_metas o.at.image.condition)) freed
 opened_assuming cx i stated whole held freed o freed_stays s has may =

@@ -1,4 +1,4 @@
--- Where no two injections meet, a pattern becomes the same as it is written.
+-- If no two injections meet, a pattern as it is written becomes a normal term.
 use Rattle.std.proofs.Common.{◌≡◌, ℕ, Bool, true, false, List, Option, Some, None, option_map, inl, inr, refl, sym, ◌∙◌, ap, arith}
 use Rattle.std.specs.Prelude.{◌⊎◌, ◌||◌, ◌==◌, ◌≢◌}
 use Rattle.std.proofs.lemmas.Bool.Decides.{eqb_tells}
@@ -17,7 +17,7 @@ neither false b h = (refl, h)
 
 -- ---- terms
 
--- what is no injection becomes one as it is written
+-- if a term is not an injection, its injection is normal as it is written
 plain_injected : (a b : ℕ) (t : Tree) → is_injection t ≡ false → inj a b t ≡ injected a b t
 plain_injected a b (leaf s v) h = refl
 plain_injected a b (node f ts) h = refl
@@ -41,7 +41,7 @@ same_number m n same = go (eqb_tells m n)
     go (inl is) = is.0
     go (inr differ) = absurd (differ.1 same)
 
--- an injection does not grow when it is injected, and every other term does
+-- injecting makes a term higher if and only if the term is not an injection
 pub high_tells : (t : Tree) (m n : ℕ) → height (injected 0 0 t) ≡ m → n ≡ height t → (m == n) ≡ is_injection t
 high_tells (leaf s v) m n high is = not_same m n (λ (e : m ≡ n). omega (arith, high, is, e))
 high_tells (node f ts) m n high is = not_same m n (λ (e : m ≡ n). omega (arith, high, is, e))

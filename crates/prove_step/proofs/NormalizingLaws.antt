@@ -32,7 +32,7 @@ use Rattle.prove_schema.proofs.ElementLaws.{pattern_grown}
 use Rattle.prove_step.proofs.StepFacts.{StepFacts, facts_later, same_term}
 use Rattle.prove_step.proofs.StepLaws.{closed_term}
 
--- ---- a side is turned into its normal form
+-- ---- a side is replaced by its normal form
 
 pub turned_side : (mid new : Context) (theta : List (Option Tree)) (p : RulePattern) (o : Option Theorem) (u : Tree) (from : Pattern) → HasGrown mid new → SaysEqualImages mid theta p o → instance_of theta p ≡ Some u
     → image_of new.program.sig new.names (filled theta p) ≡ Some from → (to : Pattern) × Turns o from to × (image_of new.program.sig new.names (ground_pattern u) ≡ Some to)
@@ -56,7 +56,7 @@ filled_grown old new theta l r p g says = record {
   no_variable = says.no_variable;
 }
 
--- .. or into its value
+-- a side is replaced by its value
 pub turned_value : (cx : Context) (theta : List (Option Tree)) (p : RulePattern) (o : Option Theorem) (u : Tree) (from : Pattern) → EqualsValue cx theta p u o → image_of cx.program.sig cx.names (filled theta p) ≡ Some from
     → (to : Pattern) × Turns o from to × (image_of cx.program.sig cx.names (ground_pattern u) ≡ Some to)
 turned_value cx theta p None u from same image = (from, refl, same.right_image ∙ sym same.left_image ∙ image)
@@ -64,7 +64,7 @@ turned_value cx theta p (Some e) u from says image =
     let left : says.left ≡ from = some_same says.left from (sym says.left_image ∙ image) in
     (says.right, says.says ∙ ap (λ (q : Pattern). equal q says.right) left, says.right_image)
 
--- what is known of both
+-- what is known of the step as it is written and of both replacements
 pub record Turning (cx : Context) (step : StepRecord) (r : Rule) (left right : Option Theorem) (written : Theorem) : Type 0 where
   pub facts : StepFacts cx.program step r
   pub says : SaysFilled cx step.theta (plain_pattern r.left) (plain_pattern r.right) written.conclusion
@@ -97,7 +97,7 @@ turning old mid new step r left right written g k facts said turns_left turns_ri
       to_image = to.2;
     }
 
--- no variable stands in what the sides are turned into
+-- the replaced sides have no object variable
 from_closed : (cx : Context) (step : StepRecord) (r : Rule) (left right : Option Theorem) (written : Theorem) (w : Turning cx step r left right written) → HasNoVariable w.from × HasNoMeta w.from
 from_closed cx step r left right written w =
     let sorted : IsTermOf cx.program.sig w.facts.term w.facts.sort = (instance_is_sorted cx.program.sig (rewrite_rule r).variables (plain_pattern r.left) w.facts.sort step.theta w.facts.term w.facts.fits.left w.facts.matches.binds.sorted w.facts.from).0 in
@@ -153,7 +153,7 @@ within_there : (s : Scope) (cx : Context) (o : Option Theorem) → HasContext s 
 within_there s cx None has stays = tt
 within_there s cx (Some e) has stays = stays s has
 
--- the contexts are those in which the theorems were made, in turn
+-- the contexts are those in which the theorems were made, in order
 pub turned_stays : (old mid new first last : Context) (left right : Option Theorem) (written t u : Theorem) → HasGrown old mid → HasGrown mid new → HasGrown new first → HasGrown first last → StaysIn old written → IfSome left (StaysIn mid) → IfSome right (StaysIn new)
     → StaysTurned first left written t → StaysTurned last right t u → StaysIn last u
 turned_stays old mid new first last left right written t u g k l m stays on_left on_right turned_left turned_right s has =
@@ -163,7 +163,7 @@ turned_stays old mid new first last left right written t u g k l m stays on_left
     turned_right s has (within_there s new right at_new on_right)
     (turned_left s at_first (within_there s mid left at_mid on_left) (stays s (has_before old mid s g at_mid)))
 
--- .. and says the same in a context that has grown
+-- the theorem says the same in a context that has grown
 pub says_step_grown : (old new : Context) (step : StepRecord) (p : Pattern) → HasGrown old new → SaysStepOf old step p → SaysStepOf new step p
 says_step_grown old new step p g says = λ t from.
     let s : SaysStep old t (result_of step.right) p = says t (subst (λ (program : Program). IsStepFrom (theory_of program) t step) g.program from) in

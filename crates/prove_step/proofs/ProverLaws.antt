@@ -1,4 +1,4 @@
--- Where a prover makes a step.
+-- What is true when a prover makes a step.
 use Rattle.std.proofs.Common.{◌≡◌, ◌≢◌, ◌<◌, ℕ, true, false, zero, suc, List, [], ◌∷◌, ◌++◌, Option, Some, None, length, replicate, set, get_or, slice_get, inl, inr, refl, sym, ◌∙◌, ap, subst, arith}
 use Rattle.std.specs.Prelude.{Result, Ok, Err, OnOk, OnErr, Contains, ◌⊎◌, ◌==◌, slice_index_or}
 use Rattle.std.proofs.lemmas.Bool.Decides.{eqb_tells}
@@ -40,7 +40,7 @@ can_step_at cx step lemma o h is said =
     let w : (r : Rule) × (slice_get cx.program.rules.items step.rule ≡ Some r) = step_rule cx.program step h in
     (rewrite_rule w.0, can_step cx step lemma o w.0 h is said w.1)
 
--- what the lemma says then of the rule's sides
+-- what the lemma then says of the rule's sides
 pub applied_sides : (mid new : Context) (step : StepRecord) (lemma : Theorem) (o : Option Theorem) (t : Theorem) → HasGrown mid new → IsStepOf mid.program step → IsRuleLemma mid step.rule lemma → SaysConditionAt mid step.rule step.theta o → SaysApplied mid lemma step.theta o new t
     → SaysFilledAt new step.rule step.theta t.conclusion
 applied_sides mid new step lemma o t g h is said says r there =
@@ -77,7 +77,7 @@ at_end : {A : Type 0} (xs : List A) (x : A) → slice_get (xs ++ x ∷ []) (leng
 at_end [] x = refl
 at_end (y ∷ xs) x = at_end xs x
 
--- it stands at the end
+-- the new lemma is the last one
 pub lemma_placed : (mid new : Context) (i : ℕ) (schema lemma : Theorem) → lemma ≡ schema → new ≡ record mid { lemmas = mid.lemmas ++ lemma ∷ [] } → SaysSchemaAt mid i schema → IsLemmaOf new i (length mid.lemmas)
 lemma_placed mid new i schema lemma same is says =
     let grown : Context = record mid { lemmas = mid.lemmas ++ lemma ∷ [] } in
@@ -91,14 +91,14 @@ grown_to mid new lemma is = subst (HasGrown mid) (sym is) (grown_lemma mid lemma
 pub grown_same : (mid new : Context) → new ≡ mid → HasGrown mid new
 grown_same mid new is = subst (HasGrown mid) (sym is) (grown_none mid)
 
--- .. or nothing changed
+-- the context has one more lemma, or nothing changed
 pub grown_either : {A E : Type 0} (r : Result A E) (mid new : Context) (lemma : Theorem) → OnOk r (new ≡ record mid { lemmas = mid.lemmas ++ lemma ∷ [] }) → OnErr r (new ≡ mid) → HasGrown mid new
 grown_either (Ok x) mid new lemma ok err = grown_to mid new lemma ok
 grown_either (Err e) mid new lemma ok err = grown_same mid new err
 
 -- ---- places
 
--- the rule stands there still
+-- the rule is still there
 pub rule_within : (old new : Context) (i : ℕ) → HasGrown old new → HasImageAt old.program i → i < length new.program.rules.items
 rule_within old new i g (r, there, has) =
     subst (λ (p : Program). i < length p.rules.items) (sym g.program) (slice_get_within old.program.rules.items i r there)

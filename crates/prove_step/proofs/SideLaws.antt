@@ -16,7 +16,7 @@ use Rattle.prove_step.specs.declared.side_lemmas.Side.{Side}
 use Rattle.prove_step.specs.declared.side_lemmas.Side.TheVariants.{Left, Right}
 use Rattle.prove_step.specs.declared.side_lemmas.SideLemmas.{SideLemmas}
 
--- the equality that is assumed, and the step
+-- the assumed equality, and the assumed step
 abbrev pub same : Pattern
 same = equal (meta 0) (meta 1)
 
@@ -27,7 +27,7 @@ given side = step_of side (meta 0) (meta 2)
 abbrev pub place : Side → Pattern
 place side = step_of side (var 0) (meta 2)
 
--- the patterns that are made are these
+-- the pattern that the code makes is the assumed equality
 pub made_same : (p q r : Pattern) → p ≡ meta 0 → q ≡ meta 1 → r ≡ equal p q → r ≡ same
 made_same p q r h k l = cc
 
@@ -37,7 +37,7 @@ made_given side p r s h k l = l ∙ ap (λ (x : Pattern). step_of side x r) h �
 pub made_place : (side : Side) (p r s : Pattern) → p ≡ var 0 → r ≡ meta 2 → s ≡ step_of side p r → s ≡ place side
 made_place side p r s h k l = l ∙ ap (λ (x : Pattern). step_of side x r) h ∙ ap (step_of side (var 0)) k
 
--- what comes at the place
+-- substitution at the place
 pub at_place : (side : Side) (p : Pattern) → substituted (place side) 0 p ≡ Some (step_of side p (meta 2))
 at_place Left p = refl
 at_place Right p = refl
@@ -51,7 +51,7 @@ carried_says : (side : Side) (e context made : Pattern) → e ≡ same → conte
 carried_says side e context made is at carried =
     some_same made (step_of side (meta 1) (meta 2)) (sym (carried (meta 0) (meta 1) is) ∙ ap (λ (c : Pattern). substituted c 0 (meta 1)) at ∙ at_place side (meta 1))
 
--- ---- the lemma assumes no more than these two
+-- ---- the lemma has at most these two assumptions
 
 first_there : (p q : Pattern) → Contains (p ∷ q ∷ []) p
 first_there p q = (zero, omega arith, refl)
@@ -64,7 +64,7 @@ one_of p q r (zero, low, is) = inl (sym is)
 one_of p q r (suc zero, low, is) = inr (sym is)
 one_of p q r (suc (suc k), low, is) = absurd (omega (arith, low))
 
--- a scope of all numbers, where nothing was stated
+-- a scope of all numbers, in which nothing was stated
 abbrev everything : List Pattern → Scope
 everything ps = record {
   sort = λ n. true;
@@ -83,7 +83,7 @@ place_over : (side : Side) (s : Scope) → IsOver s (var 0) → IsOver s (meta 2
 place_over Left s object other = (object, other)
 place_over Right s object other = (other, object)
 
--- the theorem is made of the two that are assumed
+-- the theorem is made from the two assumed ones
 pub record IsMade (side : Side) (e step t : Theorem) : Type 0 where
   pub equality : AssumesWithin same e
   pub moved : AssumesWithin (given side) step
@@ -96,7 +96,7 @@ made_of side e step t p q context one two at first second stays = record {
   stays = subst (λ (h : Pattern). StaysWithin (h ∷ var 0 ∷ []) (e ∷ step ∷ []) t) at stays;
 }
 
--- a scope of all variables has it where both may be assumed
+-- a scope of all variables has the theorem if both may be assumed
 made_within : (side : Side) (e step t : Theorem) → IsMade side e step t → (s : Scope) → ((x : ℕ) → IsOver s (var x)) → ((i : ℕ) → IsOver s (meta i)) → Contains s.assumed same → Contains s.assumed (given side) → IsWithin s t
 made_within side e step t made s objects metas one two =
     made.stays s (place_over side s (objects 0) (metas 2), (objects 0, tt))
@@ -147,7 +147,7 @@ side_lemmas_grown old new lemmas g are = record {
   right = if_some lemmas.right (λ t is. side_lemma_grown old new Right t g is) are.right;
 }
 
--- the lemma that was kept last is there
+-- the last kept lemma is there
 pub added_there : (old new : Context) (t lemma : Theorem) → new ≡ record old { lemmas = old.lemmas ++ t ∷ [] } → lemma ≡ t → Contains new.lemmas lemma
 added_there old new t lemma is alike =
     subst (λ (cx : Context). Contains cx.lemmas lemma) (sym is)

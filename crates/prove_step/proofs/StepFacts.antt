@@ -1,4 +1,4 @@
--- What is known of a step that was recorded, by the rule that it uses.
+-- What is known of a recorded step, by the rule that it uses.
 use Rattle.std.proofs.Common.{◌≡◌, ◌≤◌, ◌<◌, ℕ, zero, suc, List, [], ◌∷◌, Option, Some, get_or, length, slice_get, inl, inr, refl, sym, ◌∙◌, ap, subst, arith}
 use Rattle.std.specs.Prelude.{All, IfSome, IsSomeAnd, ◌⊎◌}
 use Rattle.std.proofs.lemmas.Option.{slice_get_within}
@@ -63,7 +63,7 @@ pub record StepFacts (program : Program) (step : StepRecord) (r : Rule) : Type 0
 first_tree : (a b : Tree) (rest other : Forest) → more_trees a rest ≡ more_trees b other → a ≡ b
 first_tree a b rest other e = cc
 
--- what is matched is what the left side becomes
+-- the left side becomes the matched term
 pub matched : (theory : RewriteTheory) (r : RewriteRule) (t : Tree) (theta : List (Option Tree)) → Matches theory r t theta → instance_of theta r.left ≡ Some t
 matched theory r t theta matches =
     let made : (u : Tree) × ((us : Forest) × ((more_trees t no_tree ≡ more_trees u us) × ((instance_of theta r.left ≡ Some u) × (instances_of theta no_pattern ≡ Some us)))) =
@@ -106,7 +106,7 @@ step_facts program step r h there =
     (subst (λ (q : RewriteRule). RecordsCondition (theory_of program) step.theta q.condition step.condition) same h.follows.condition)
     (subst (λ (q : RewriteRule). Records (theory_of program) step.theta q.right step.right) same h.follows.right)
 
--- the rule stands there
+-- there is a rule at the place
 pub step_rule : (program : Program) (step : StepRecord) → IsStepOf program step → (r : Rule) × (slice_get program.rules.items step.rule ≡ Some r)
 step_rule program step h =
     let w : (q : Rule) × (slice_get program.rules.items step.rule ≡ Some q) × (rewrite_rule q ≡ h.follows.rule) = rule_at program.rules.items step.rule h.follows.rule h.follows.there in
@@ -120,7 +120,7 @@ step_image program step h =
     let w : (r : Rule) × (slice_get program.rules.items step.rule ≡ Some r) = step_rule program step h in
     (w.0, w.1, (step_facts program step w.0 h w.1).image)
 
--- the rule that was looked up
+-- what is known of the rule that was looked up
 pub facts_found : (program lent : Program) (step : StepRecord) (found : Rule) → lent ≡ program → found ≡ get_or lent.rules.items step.rule found → IsStepOf program step → StepFacts program step found
 facts_found program lent step found same is h =
     let w : (r : Rule) × (slice_get program.rules.items step.rule ≡ Some r) = step_rule program step h in
@@ -128,7 +128,7 @@ facts_found program lent step found same is h =
     let rule : w.0 ≡ found = rule_found program.rules.items step.rule w.0 found w.1 at in
     step_facts program step found h (w.1 ∙ ap (λ (r : Rule). Some r) rule)
 
--- a program stays as it is
+-- the program stays the same
 pub step_later : (a b : Context) (step : StepRecord) → HasGrown a b → IsStepOf a.program step → IsStepOf b.program step
 step_later a b step g h = subst (λ (p : Program). IsStepOf p step) (sym g.program) h
 
@@ -140,7 +140,7 @@ facts_later a b step r g h = subst (λ (p : Program). StepFacts p step r) (sym g
 pub left_fits : (program : Program) (step : StepRecord) (r : Rule) → StepFacts program step r → FitsWithin most_height step.theta (plain_pattern r.left)
 left_fits program step r h = subst (λ (o : Option Tree). IsSomeAnd o (λ (u : Tree). height u ≤ most_height)) (sym h.from) h.low
 
--- a term that makes the step is the one that is known
+-- only one term makes the step
 pub same_term : (program : Program) (step : StepRecord) (r : Rule) (t : Tree) (h : StepFacts program step r) → IsStepFrom (theory_of program) t step → h.term ≡ t
 same_term program step r t h other =
     let w : (q : Rule) × (slice_get program.rules.items step.rule ≡ Some q) × (rewrite_rule q ≡ other.rule) = rule_at program.rules.items step.rule other.rule other.there in
@@ -150,14 +150,14 @@ same_term program step r t h other =
 
 -- ---- the condition
 
--- a condition that is there has its record
+-- if there is a condition, there is its record
 pub held_condition : (program : Program) (step : StepRecord) (r : Rule) (p : Pattern) (q : Record) → StepFacts program step r → (rewrite_rule r).condition ≡ Some p → step.condition ≡ optional (Some q) → (h : IsRecorded program step.theta p q) × (h.variables ≡ (rewrite_rule r).variables) × IsTrueValue (result_of q)
 held_condition program step r p q h is_p is_q =
     let has : IsCondition program.sig (rewrite_rule r).variables (more_patterns (plain_pattern r.left) no_pattern) p =
     subst (λ (x : Option Pattern). IfSome x (IsCondition program.sig (rewrite_rule r).variables (more_patterns (plain_pattern r.left) no_pattern))) is_p h.fits.condition in
     held_record program step.theta (rewrite_rule r).variables (more_patterns (plain_pattern r.left) no_pattern) (more_trees h.term no_tree) p q (rewrite_rule r).condition step.condition h.ready has h.matches (omega (arith, h.low)) is_p is_q h.condition
 
--- what is known of the condition of the rule is known of the one at its place
+-- what is known of the condition of the rule is known of the rule at its place
 pub condition_at : (old new : Context) (step : StepRecord) (r : Rule) (o : Option Theorem) → HasGrown old new → StepFacts old.program step r → SaysCondition new (rewrite_rule r).variables step.theta (rewrite_rule r).condition o → SaysConditionAt new step.rule step.theta o
 condition_at old new step r o g h says = λ q there.
     let before : slice_get old.program.rules.items step.rule ≡ Some q = subst (λ (p : Program). slice_get p.rules.items step.rule ≡ Some q) g.program there in

@@ -1,4 +1,4 @@
--- What the lemma of a rule says at the images of what stands for its variables.
+-- What the lemma of a rule says at the images of the terms for its variables.
 use Rattle.std.proofs.Common.{◌≡◌, ◌⊎◌, ℕ, List, [], Option, length, inl, inr, sym, ◌∙◌, ap, subst}
 use Rattle.std.specs.Prelude.{Contains, Some, slice_index_or}
 use Rattle.std.proofs.lemmas.List.Elements.{Contains-get_or, Contains-append_cases}
@@ -31,16 +31,16 @@ use Rattle.prove_step.specs.Applying.{CanApply, SaysFilled}
 
 -- ---- closed images
 
--- neither object variables nor pattern variables stand in the image of a term
+-- the image of a term has neither object variables nor pattern variables
 pub closed_term : (sig : Signature) (names : List (List ℕ)) (t : Tree) (sort : ℕ) (p : Pattern) → IsSignature sig → IsTermOf sig t sort → image_of sig names (ground_pattern t) ≡ Some p → HasNoVariable p × HasNoMeta p
 closed_term sig names t sort p ok sorted image =
     let is_open : IsOpenFrom 0 0 p = image_is_open sig names 0 (ground_pattern t) (sorted_has_image sig [] (ground_pattern t) sort ok sorted) p image in
     let same : with_metas p ≡ p = open_closed 0 p is_open in
     (subst HasNoVariable same (open_no_variable 0 0 p is_open), subst (IsMetaBelow 0) same (open_metas 0 0 p is_open))
 
--- ---- where the lemma is cited
+-- ---- citing the lemma
 
--- what is known where the lemma of a rule is cited
+-- what is known when the lemma of a rule is cited
 pub record IsCited (cx : Context) (r : RewriteRule) (lemma : Theorem) (theta : List (Option Tree)) (o : Option Theorem) (ts : List Theorem) : Type 0 where
   pub can : CanApply cx r lemma theta o
   pub elements : AreElementsFor cx theta ts
@@ -90,7 +90,8 @@ cited_usable cx r lemma theta o ts w =
     let g : IsReady cx r lemma theta o ts w = ready cx r lemma theta o ts w in
     (g.images.patterns, w.can.schema.numbers, g.usable)
 
--- The lemma says that the left side, with terms in the places of its variables, makes a step to the right side.
+-- The lemma says that the left side steps to the right side. The variables of both are replaced by
+-- terms.
 pub cited_says : (cx : Context) (r : RewriteRule) (lemma : Theorem) (theta : List (Option Tree)) (o : Option Theorem) (ts : List Theorem) (t : Theorem) → IsCited cx r lemma theta o ts → IsUsed lemma ts (listed o) t → SaysFilled cx theta r.left r.right t.conclusion
 cited_says cx r lemma theta o ts t w used =
     let g : IsReady cx r lemma theta o ts w = ready cx r lemma theta o ts w in
@@ -108,7 +109,7 @@ cited_says cx r lemma theta o ts t w used =
       );
     }
 
--- what it says stays in the context
+-- what the lemma says stays in the context
 side_over : (s : Scope) (cx : Context) (side : RulePattern) (image : Pattern) → HasContext s cx → image_of cx.program.sig cx.names side ≡ Some image → IsOverPlaces s (with_metas image)
 side_over s cx side image has is = schema_over_places s cx (term side) image has is
 

@@ -14,7 +14,7 @@ use Rattle.prove_step.specs.Turning.{IsProofFor, IsTurned, StaysCiting, StaysTur
 use Rattle.prove_step.specs.declared.side_lemmas.Side.{Side}
 use Rattle.prove_step.specs.declared.side_lemmas.Side.TheVariants.{Left, Right}
 
--- the patterns that come in the places of its pattern variables
+-- the patterns that replace its pattern variables
 abbrev pub three : Pattern → Pattern → Pattern → List Pattern
 three p q r = p ∷ q ∷ r ∷ []
 
@@ -62,7 +62,7 @@ one_more_proof e step ps i p ts t low is before here =
     let front : take (i + 1) ps ≡ take i ps ++ p ∷ [] = take_more ps i p low ∙ ap (λ (q : Pattern). take i ps ++ q ∷ []) (sym is) in
     subst (λ (qs : List Pattern). AllZip (IsProofFor e step) qs (ts ++ t ∷ [])) (sym front) (zip_push (IsProofFor e step) (take i ps) ts p t before here)
 
--- the one of both that proves a hypothesis
+-- the equality or the step proves a hypothesis
 abbrev Proves : Side → Theorem → Theorem → Pattern → Theorem → Type 0
 Proves side e step p t = ((p ≡ equal (meta 0) (meta 1)) × (t ≡ e)) ⊎ ((p ≡ step_of side (meta 0) (meta 2)) × (t ≡ step))
 
@@ -123,7 +123,7 @@ all_within side s e step (p ∷ ps) [] first second h = absurd h
 all_within side s e step (p ∷ ps) (t ∷ ts) first second (inl k, rest) = (subst (IsWithin s) (sym k.1) first, all_within side s e step ps ts first second rest)
 all_within side s e step (p ∷ ps) (t ∷ ts) first second (inr k, rest) = (subst (IsWithin s) (sym k.1) second, all_within side s e step ps ts first second rest)
 
--- ---- what it gives
+-- ---- the result
 
 pub stays_citing : (side : Side) (p q r : Pattern) (lemma e step t : Theorem) (ts : List Theorem) → IsSideLemma side lemma → e.conclusion ≡ equal p q → step.conclusion ≡ step_of side p r → AllZip (IsProofFor e step) lemma.hypotheses ts
     → CitesWithin lemma (three p q r) ts t → StaysCiting lemma e step t
@@ -140,7 +140,7 @@ is_turned side p q r lemma e step t is one two whole = λ a b c turns says.
     whole ∙ ap (instance (three p q r)) is.says ∙ step_instance side (three p q r) 1 2
     ∙ ap (λ (x : Pattern). step_of side x r) sides.1 ∙ ap (step_of side b) parts.1
 
--- where there is no equality it is the step as it was
+-- if there is no equality, the result is the given step
 pub as_it_was : (side : Side) (step : Theorem) → IsTurned side None step step
 as_it_was side step = λ p q r turns says. says ∙ ap (λ (x : Pattern). step_of side x r) turns
 

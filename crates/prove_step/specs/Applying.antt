@@ -1,5 +1,4 @@
--- Where the lemma of a rule is used: the step that is made, what stands for the rule's variables, and what is proved
--- of it.
+-- Use of a rule's lemma: the recorded step, the terms for the rule's variables, and what follows.
 use Rattle.std.specs.Prelude.{◌≡◌, ℕ, List, length, Option, Some, Contains, slice_get}
 use Rattle.ml_pat.specs.Patterns.{Pattern, imp, next}
 use Rattle.ml_kernel.specs.Theorems.{Theorem}
@@ -23,20 +22,22 @@ use Rattle.prove_equation.specs.Conditions.{BindsEach, SaysCondition}
 use Rattle.prove_step.specs.RuleLemmas.{SaysRuleSchema}
 use Rattle.prove_step.specs.Steps.{IsStepFrom}
 
--- a term makes this step, and the program is well sorted with its variables bound
+-- some term makes this step; the program is well sorted, and its rules and equations bind their
+-- variables
 pub record IsStepOf (program : Program) (step : StepRecord) : Type 0 where
   pub well_sorted : IsWellSorted (theory_of program)
   pub bound : HasBoundVariables program
   pub term : Tree
   pub follows : IsStepFrom (theory_of program) term step
 
--- the theorem, which is there where there is a condition, says that the condition of the rule at this place holds
+-- The theorem says that the condition of the rule at place i holds. There is a theorem exactly when
+-- there is a condition.
 abbrev pub SaysConditionAt : Context → ℕ → List (Option Tree) → Option Theorem → Type 0
 SaysConditionAt cx i theta o =
     (r : Rule) → slice_get cx.program.rules.items i ≡ Some r →
     SaysCondition cx (rewrite_rule r).variables theta (rewrite_rule r).condition o
 
--- the lemma of the rule may be used with this substitution, and this theorem on its condition
+-- the lemma of the rule may be used with this substitution and this theorem on its condition
 pub record CanApply (cx : Context) (r : RewriteRule) (lemma : Theorem) (theta : List (Option Tree))
     (o : Option Theorem) : Type 0 where
   pub well_sorted : IsWellSorted (theory_of cx.program)
@@ -48,8 +49,8 @@ pub record CanApply (cx : Context) (r : RewriteRule) (lemma : Theorem) (theta : 
   pub listed : Contains cx.lemmas lemma
   pub condition : SaysCondition cx r.variables theta r.condition o
 
--- the pattern says that the image of the left side, with terms in the places of its variables, makes a step to that of
--- the right side; no object variable stands in them
+-- The pattern says that the image of the left side steps to the image of the right side. The
+-- variables of both are replaced by terms. Neither image has an object variable.
 pub record SaysFilled (cx : Context) (theta : List (Option Tree)) (left right : RulePattern) (p : Pattern) :
     Type 0 where
   pub from : Pattern
@@ -59,13 +60,13 @@ pub record SaysFilled (cx : Context) (theta : List (Option Tree)) (left right : 
   pub says : p ≡ imp from (next to)
   pub no_variable : HasNoVariable from × HasNoVariable to
 
--- .. of the rule at a place
+-- the same for the rule at place i
 abbrev pub SaysFilledAt : Context → ℕ → List (Option Tree) → Pattern → Type 0
 SaysFilledAt cx i theta p =
     (r : Rule) → slice_get cx.program.rules.items i ≡ Some r →
     SaysFilled cx theta (plain_pattern r.left) (plain_pattern r.right) p
 
--- with this substitution the rule's lemma says so of the rule's sides
+-- the theorem says this of the rule's sides, if the rule's lemma may be used with this substitution
 abbrev pub SaysApplied : Context → Theorem → List (Option Tree) → Option Theorem → Context → Theorem → Type 0
 SaysApplied old lemma theta o new t =
     (r : RewriteRule) → CanApply old r lemma theta o → SaysFilled new theta r.left r.right t.conclusion

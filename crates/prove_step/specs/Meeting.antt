@@ -1,4 +1,4 @@
--- Where two injections meet in what a pattern becomes.
+-- Whether an injection of an injection occurs in what a pattern becomes.
 use Rattle.std.specs.Prelude.{◌||◌, Bool, true, false, List, Option, Some, None}
 use Rattle.term_core.specs.Terms.{Tree, leaf, node, inj}
 use Rattle.term_core.specs.Patterns.{Pattern, Patterns, variable, domain_value, application, injection, call}
@@ -21,7 +21,7 @@ becomes_injection theta (application f ps) = false
 becomes_injection theta (injection a b p) = true
 becomes_injection theta (call f ss ps) = false
 
--- an injection stands right above another in what the pattern becomes as it is written
+-- an injection occurs directly above another one in what the pattern becomes as it is written
 abbrev mutual
   pub meet_in : List (Option Tree) → Pattern → Bool
   meet_in theta (variable x) = false

@@ -1,4 +1,4 @@
--- The context that a `Prover` of the code stands for, and what is true of it.
+-- The context that a `Prover` of the code has as its model, and what is true of it.
 use Rattle.std.specs.Prelude.{◌≡◌, ℕ, List, Option, length}
 use Rattle.prove_term.specs.Contexts.{Context}
 use Rattle.prove_fun.specs.KeptLemmas.{IsKeptIn}
@@ -10,8 +10,8 @@ use Rattle.prove_step.specs.declared.side_lemmas.SideLemmas.{SideLemmas}
 abbrev pub context_of : Inside → Context
 context_of a = a.cx
 
--- a place may be kept for each rule, and the lemma there is that of the rule; so are those that are kept for
--- equations, and those for the sides of steps
+-- There is room for one place per rule. The lemma at a kept place is the lemma of its rule. The
+-- kept lemmas of equations and of sides are right too.
 pub record AreLemmas (cx : Context) (places : List (Option ℕ)) (kept : List ((ℕ × ℕ) × ℕ)) (lemmas : SideLemmas) :
     Type 0 where
   pub room : length places ≡ length cx.program.rules.items

@@ -1,4 +1,4 @@
--- Rules as lemmas: what a lemma of a rule says, by its pattern variables.
+-- Rules as lemmas: what the lemma of a rule says of its pattern variables.
 use Rattle.std.specs.Prelude.{◌≡◌, ◌⊎◌, ◌++◌, ℕ, List, Contains, Option, Some, None, slice_get, slice_index_or}
 use Rattle.std.specs.List.{AllZip}
 use Rattle.ml_pat.specs.Patterns.{Pattern, top, imp, and, equal, next}
@@ -17,8 +17,9 @@ use Rattle.prove_schema.specs.Schemas.{with_metas, meta_facts, parts_of}
 abbrev pub AreNumbers : Signature → List (List ℕ) → List ℕ → List ℕ → Type 0
 AreNumbers sig names ss ns = AllZip (λ (s n : ℕ). sort_image sig names s ≡ Some n) ss ns
 
--- Where each pattern variable is one element of the sort of the rule's variable with its number, and the rule's
--- condition says no more than what is assumed, what is the rule's left side makes a step to its right side.
+-- The theorem says that the rule's left side steps to its right side, with pattern variables for
+-- the rule's variables. It assumes that each pattern variable is one element of the sort of its
+-- variable, and that the rule's condition holds. It assumes nothing else.
 pub record SaysRuleSchema (cx : Context) (r : RewriteRule) (t : Theorem) : Type 0 where
   pub numbers : List ℕ
   pub are : AreNumbers cx.program.sig cx.names r.variables numbers
@@ -34,27 +35,27 @@ pub record SaysRuleSchema (cx : Context) (r : RewriteRule) (t : Theorem) : Type 
   pub assumes : (h : Pattern) → Contains t.hypotheses h →
       Contains (meta_facts 0 numbers ++ parts_of (with_metas condition)) h
 
--- the theorem says so of the rule at this place
+-- the theorem says this for the rule at place i
 abbrev pub SaysSchemaAt : Context → ℕ → Theorem → Type 0
 SaysSchemaAt cx i t =
     (r : Rule) → slice_get cx.program.rules.items i ≡ Some r → SaysRuleSchema cx (rewrite_rule r) t
 
--- a lemma of the context, by its number, is that of the rule at this place
+-- lemma k of the context is the lemma of the rule at place i
 abbrev pub IsLemmaOf : Context → ℕ → ℕ → Type 0
 IsLemmaOf cx i k = (t : Theorem) × (slice_get cx.lemmas k ≡ Some t) × SaysSchemaAt cx i t
 
--- the theorem is a lemma of the context, that of the rule at this place
+-- the theorem is a lemma of the context, and is the lemma of the rule at place i
 abbrev pub IsRuleLemma : Context → ℕ → Theorem → Type 0
 IsRuleLemma cx i t = Contains cx.lemmas t × SaysSchemaAt cx i t
 
--- the lemmas at the places that are kept for rules, by the rules' places, are those of the rules
+-- a place that is kept for a rule is the place of the rule's lemma
 abbrev pub AreRuleLemmas : Context → List (Option ℕ) → Type 0
 AreRuleLemmas cx places = (i k : ℕ) → slice_index_or places i None ≡ Some k → IsLemmaOf cx i k
 
--- something follows where a condition holds
+-- the pattern says that r follows from l if the condition c holds
 abbrev pub IsConditional : Pattern → Type 0
 IsConditional p = (l c r : Pattern) × (p ≡ imp (and l c) r)
 
--- a condition says nothing, or that two patterns are equal
+-- the condition is `top` or an equality of two patterns
 abbrev pub IsCondition : Pattern → Type 0
 IsCondition c = (c ≡ top) ⊎ ((p q : Pattern) × (c ≡ equal p q))

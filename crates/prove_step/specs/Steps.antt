@@ -1,4 +1,4 @@
--- Steps as they were recorded, and that a term makes a step to another, as a theorem says it.
+-- Recorded steps, and what a theorem says of a step from a term to another.
 use Rattle.std.specs.Prelude.{◌≡◌, ◌≤◌, Some, slice_get}
 use Rattle.term_core.specs.Terms.{Tree, height}
 use Rattle.term_core.specs.Patterns.{ground_pattern}
@@ -12,8 +12,8 @@ use Rattle.rule_core.specs.Rules.{RewriteRule}
 use Rattle.rule_core.specs.Theories.{RewriteTheory}
 use Rattle.prove_term.specs.Contexts.{Context}
 
--- The record tells a step from the term t: its rule matches t, the rule's condition holds, and its right side has the
--- value that is recorded. Other rules may come before it.
+-- The record is about a step from the term t: its rule matches t, the rule's condition holds, and
+-- the rule's right side has the recorded value. The rule need not be the first one that applies.
 pub record IsStepFrom (theory : RewriteTheory) (t : Tree) (step : StepRecord) : Type 0 where
   pub rule : RewriteRule
   pub there : slice_get theory.rules step.rule ≡ Some rule
@@ -22,7 +22,7 @@ pub record IsStepFrom (theory : RewriteTheory) (t : Tree) (step : StepRecord) : 
   pub condition : RecordsCondition theory step.theta rule.condition step.condition
   pub right : Records theory step.theta rule.right step.right
 
--- the pattern says that the image of t makes a step to the image of u; both are closed
+-- the pattern says that the image of t steps to the image of u; both images are closed
 pub record SaysStep (cx : Context) (t u : Tree) (p : Pattern) : Type 0 where
   pub from : Pattern
   pub from_image : image_of cx.program.sig cx.names (ground_pattern t) ≡ Some from

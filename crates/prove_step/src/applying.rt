@@ -11,7 +11,8 @@ use prove_term::Cx;
 use std::alloc::{AllocError, Global};
 use term_core::Subst;
 
-// What the lemma says of the terms that stand for the rule's variables. The condition is known to hold.
+// Proves what the lemma says of the terms that are bound to the rule's variables. The condition is
+// known to hold.
 pub(crate) fn applied(
     alloc: Global,
     cx: &mut Cx<'_>,

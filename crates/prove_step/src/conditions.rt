@@ -11,7 +11,7 @@ use prove_term::Cx;
 use rule_core::StepRecord;
 use std::alloc::{AllocError, Global};
 
-// That the condition of the rule that was used holds, where it has one.
+// Proves that the condition of the used rule holds, if it has one.
 pub(crate) fn condition_held(
     alloc: Global,
     cx: &mut Cx<'_>,

@@ -1,5 +1,5 @@
-// One step of a run as a theorem: the rule that applies is a lemma, made once, and the step is its instance, in which
-// injections that meet are made one, and the right side is its value.
+// One step of a run as a theorem. The rule that applies is a lemma, made once. The step is its
+// instance, with injections of injections made one, and with the right side replaced by its value.
 #![tactic(auto, using(crate::proofs::GrowthLaws::growing))]
 
 mod applying;

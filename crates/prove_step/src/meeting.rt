@@ -1,4 +1,4 @@
-// Whether two injections meet in what a pattern becomes, before anything is made of it.
+// Whether two injections meet in what a pattern becomes. This is decided before a proof is made.
 ghost use Rattle.std.specs.Prelude.{◌≡◌};
 ghost use Rattle.term_core.specs.RulePatterns.{plain_pattern};
 ghost use Rattle.term_core.specs.PatternLists.{plain_patterns};
@@ -6,7 +6,8 @@ ghost use Rattle.prove_step.specs.Meeting.{becomes_injection, is_injection, meet
 
 use term_core::{RulePat, Subst, Term};
 
-// Whether an injection stands right above another in what the pattern becomes as it is written.
+// Returns whether an injection occurs directly above another one in what the pattern becomes as it
+// is written.
 #[cycle(meeting)]
 pub(crate) fn meet_in(pat: &RulePat, subst: &Subst) -> bool
     ensures { result ≡ meet_in subst.now (plain_pattern pat.now) }
@@ -30,7 +31,7 @@ fn meet_in_some(pats: &[RulePat], subst: &Subst) -> bool
     false
 }
 
-// Whether the pattern becomes an injection.
+// Returns whether the pattern becomes an injection.
 fn becomes_injection(pat: &RulePat, subst: &Subst) -> bool
     ensures { result ≡ becomes_injection subst.now (plain_pattern pat.now) }
 {
@@ -44,7 +45,7 @@ fn becomes_injection(pat: &RulePat, subst: &Subst) -> bool
     }
 }
 
-// Whether a term is an injection: such a term does not become higher when it is injected.
+// Returns whether a term is an injection. Every other term becomes higher when it is injected.
 fn is_injection(term: &Term) -> bool
     ensures { result ≡ is_injection term.now }
 {

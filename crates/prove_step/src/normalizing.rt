@@ -1,4 +1,5 @@
-// The step of a rule as it is written, carried to terms in which no two injections meet, and to the right side's value.
+// From the step of a rule as it is written to the step with normal terms. Injections of injections
+// are made one, and the right side is replaced by its value.
 ghost use Rattle.std.specs.Prelude.{ℕ, List, IfOk, IfSome};
 ghost use Rattle.term_core.specs.Patterns.{FitsWithin};
 ghost use Rattle.term_core.specs.RulePatterns.{plain_pattern};
@@ -24,8 +25,8 @@ use rule_core::StepRecord;
 use std::alloc::{AllocError, Global};
 use term_core::{RulePat, Subst};
 
-// The step that was recorded, from the theorem that says it of the rule's sides with terms in the places of the
-// variables.
+// Proves the recorded step, from the theorem that says it of the rule's sides with terms in place
+// of the variables.
 pub(crate) fn normalized(
     alloc: Global,
     cx: &mut Cx<'_>,
@@ -52,8 +53,8 @@ pub(crate) fn normalized(
     turned(alloc, cx, lemmas, Side::Right, &right, from)
 }
 
-// That the image of what a side becomes as it is written equals that of its normal form; nothing is made where no two
-// injections meet.
+// Proves that the image of what a side becomes as it is written equals the image of its normal
+// form. If no two injections meet, no theorem is made.
 fn compared(
     alloc: Global,
     cx: &mut Cx<'_>,

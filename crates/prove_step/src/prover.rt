@@ -31,16 +31,16 @@ use std::alloc::{AllocError, Global};
 use std::marker::Model;
 use term_core::{RulePat, Subst};
 
-/// What proves the steps of a program's runs: a context, in which each rule and each equation is a lemma from its first
-/// use on. Contracts see it as its context.
+/// Proves the steps of a program's runs. It holds a context, in which each used rule and equation
+/// is a lemma. Contracts see it as its context.
 #[derive(Drop)]
 pub struct Prover<'p> {
     cx: Cx<'p>,
-    // The place of the lemma of each rule, where it was used.
+    // The place of the lemma of each rule that was used.
     rules: Vec<Option<usize>>,
     // The places of the lemmas of the equations that were used.
     kept: Kept,
-    // The lemmas by which a side of a step is turned into what it equals.
+    // The lemmas that replace a side of a step by what it equals.
     sides: SideLemmas,
 }
 
@@ -63,7 +63,8 @@ impl<'p> Model for Prover<'p> {
 }
 
 impl<'p> Prover<'p> {
-    /// The context at the start: nothing was made. `AllocError` says that memory ran out.
+    /// Makes a prover with the context at the start, without names, axioms and lemmas.
+    /// `AllocError`: out of memory.
     pub fn new(alloc: Global, program: &'p Program) -> Result<Prover<'p>, AllocError>
         ensures { IfOk result (λ prover. prover ≡ new_context program.now) }
     {
@@ -75,15 +76,15 @@ impl<'p> Prover<'p> {
         })
     }
 
-    /// The context: names, axioms and lemmas.
+    /// Returns the context: names, axioms and lemmas.
     pub fn cx(&self) -> &Cx<'p>
         ensures { result.now ≡ self.now }
     {
         &self.cx
     }
 
-    /// The image of a pattern whose sorts and symbols are the program's. `AllocError` says that memory ran out; the
-    /// names may have grown then too.
+    /// Returns the image of a pattern whose sorts and symbols are the program's. `AllocError`: out
+    /// of memory. After an error the names may have grown.
     pub fn image(&mut self, alloc: Global, pat: &RulePat) -> Result<MPat, AllocError>
         requires { HasImage self.old.program.sig (2 ^ 32) (plain_pattern pat.now) }
         ensures image { IfOk result
@@ -93,9 +94,10 @@ impl<'p> Prover<'p> {
         self.cx.image(alloc, pat)
     }
 
-    /// That the image of a pattern, with the images of a substitution's terms in the places of its variables, equals
-    /// that of its value, by the record of its evaluation. Where both are literally the same there is no theorem.
-    /// `AllocError` says that memory ran out; the context may have grown then too.
+    /// Proves that the image of a pattern, with its variables replaced by the images of a
+    /// substitution's terms, equals the image of its value, by the record of its evaluation. If
+    /// both are literally the same, there is no theorem. `AllocError`: out of memory. After an
+    /// error the context may have grown.
     pub fn eval_eq(
         &mut self,
         alloc: Global,
@@ -118,8 +120,8 @@ impl<'p> Prover<'p> {
         eval_eq(alloc, &mut self.cx, &mut self.kept, pat, subst, evaluation)
     }
 
-    /// Keeps a theorem as a lemma: it stays in the context but for its own hypotheses. `AllocError` says that memory
-    /// was wanting, and nothing changes then.
+    /// Keeps a theorem as a lemma. The theorem may use only what the context has, and may assume
+    /// its own hypotheses. `AllocError`: out of memory. Then nothing changes.
     pub fn add_lemma(&mut self, alloc: Global, thm: Thm) -> Result<(), AllocError>
         requires { IsLemmaIn self.old thm }
         ensures ok { OnOk result (self.new ≡ record self.old { lemmas = self.old.lemmas ++ thm ∷ [] }) }
@@ -128,8 +130,8 @@ impl<'p> Prover<'p> {
         self.cx.add_lemma(alloc, thm)
     }
 
-    /// A step as a theorem, by its record: the term that the rule matches makes a step to the value of the rule's right
-    /// side. `AllocError` says that memory ran out; the context may have grown then too.
+    /// Proves a step from its record: the term that the rule matches steps to the value of the
+    /// rule's right side. `AllocError`: out of memory. After an error the context may have grown.
     pub fn step(&mut self, alloc: Global, step: &StepRecord) -> Result<Thm, AllocError>
         requires well_sorted { IsWellSorted (theory_of self.old.program) }
         requires bound { HasBoundVariables self.old.program }
@@ -154,7 +156,7 @@ impl<'p> Prover<'p> {
         )
     }
 
-    // The lemma of a rule, which is made when it is first asked for.
+    // Returns the lemma of a rule. It is made by the first call for the rule.
     fn rule_lemma(&mut self, alloc: Global, rule: u32) -> Result<Lemma, AllocError>
         requires { HasImageAt self.old.program rule }
         ensures lemma { IfOk result (IsRuleLemma self.new rule) }
@@ -164,7 +166,7 @@ impl<'p> Prover<'p> {
         self.cx.lemmas()[place].share(alloc)
     }
 
-    // The place of the lemma of a rule.
+    // Returns the place of the lemma of a rule.
     fn rule_place(&mut self, alloc: Global, rule: u32) -> Result<usize, AllocError>
         requires { HasImageAt self.old.program rule }
         ensures place { IfOk result (IsLemmaOf self.new rule) }
@@ -178,7 +180,7 @@ impl<'p> Prover<'p> {
         Ok(place)
     }
 
-    // Makes the lemma of a rule.
+    // Makes the lemma of a rule, and returns its place.
     fn new_lemma(&mut self, alloc: Global, rule: u32) -> Result<usize, AllocError>
         requires { HasImageAt self.old.program rule }
         ensures place { IfOk result (IsLemmaOf self.new rule) }
@@ -190,7 +192,7 @@ impl<'p> Prover<'p> {
         Ok(place)
     }
 
-    // Keeps the place of a lemma as that of a rule.
+    // Keeps the place of a rule's lemma.
     fn keep_rule(&mut self, rule: u32, place: usize)
         requires there { rule < length self.old.program.rules.items }
         requires lemma { IsLemmaOf self.old rule place }
@@ -200,7 +202,7 @@ impl<'p> Prover<'p> {
     }
 }
 
-// No place for any of so many rules.
+// Returns a list of n empty places, one for each rule.
 fn no_lemmas(alloc: Global, rules: usize) -> Result<Vec<Option<usize>>, AllocError>
     ensures { IfOk result (λ v. v.items ≡ replicate rules None) }
 {

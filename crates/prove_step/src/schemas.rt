@@ -1,4 +1,4 @@
-// A rule as a lemma: with a pattern variable for each variable of the rule.
+// A rule as a lemma, with a pattern variable for each variable of the rule.
 ghost use Rattle.std.specs.Prelude.{◌≡◌, IfOk};
 ghost use Rattle.ml_derived.specs.Implications.{HasCondition};
 ghost use Rattle.prove_schema.specs.Assumptions.{HoldsByParts};
@@ -14,8 +14,8 @@ use prove_schema::schema;
 use prove_term::Cx;
 use std::alloc::{AllocError, Global};
 
-// The rule at a place, under the assumptions that each pattern variable is one element of the sort of the rule's
-// variable, and that the rule's condition holds, where it has one.
+// Turns the rule at a place into a lemma. It assumes that each pattern variable is one element of
+// the sort of the rule's variable, and that the rule's condition holds, if there is one.
 pub(crate) fn rule_schema(alloc: Global, cx: &mut Cx<'_>, rule: u32) -> Result<Thm, AllocError>
     requires { HasImageAt cx.old.program rule }
     ensures says { IfOk result (SaysSchemaAt cx.new rule) }
@@ -28,7 +28,7 @@ pub(crate) fn rule_schema(alloc: Global, cx: &mut Cx<'_>, rule: u32) -> Result<T
     free_of_condition(alloc, &whole, &held)
 }
 
-// What a condition says. It is assumed, but not that which says nothing.
+// Proves what a condition says by assuming it. The condition `top` is not assumed.
 fn assumed(alloc: Global, condition: &MPat) -> Result<Thm, AllocError>
     requires { IsCondition condition.now }
     ensures conclusion { IfOk result (λ t. t.conclusion ≡ condition.now) }
@@ -40,7 +40,7 @@ fn assumed(alloc: Global, condition: &MPat) -> Result<Thm, AllocError>
     }
 }
 
-// The condition under which something follows.
+// Returns the condition under which something follows.
 fn condition(rule: &MPat) -> &MPat
     requires { IsConditional rule.now }
     ensures { HasCondition result.now rule.now }

@@ -1,4 +1,4 @@
-// The lemmas by which a side of a step is turned into what it equals, each made when it is first asked for.
+// The lemmas that replace a side of a step by what it equals. Each is made when it is first needed.
 ghost use Rattle.std.specs.Prelude.{IfOk, IfSome, Contains, ◌≡◌};
 ghost use Rattle.prove_term.specs.Contexts.{Context, HasGrown, IsLemmaIn};
 ghost use Rattle.prove_step.specs.SideLemmas.{IsSideLemma, step_of};
@@ -29,7 +29,7 @@ pub(crate) struct SideLemmas {
 }
 
 impl SideLemmas {
-    // None, as at the start of a run.
+    // No lemmas, as at the start of a run.
     pub(crate) fn none() -> SideLemmas
         ensures { (cx : Context) → AreSideLemmas cx result }
     {
@@ -39,7 +39,7 @@ impl SideLemmas {
         }
     }
 
-    // The lemma for a side, where it was made.
+    // Returns the lemma for a side, if it was made.
     fn of(&self, side: Side) -> &Option<Lemma>
         ensures { (cx : Context) → AreSideLemmas cx self.now → IfSome result.now (IsSideLemmaIn cx side) }
     {
@@ -61,7 +61,7 @@ impl SideLemmas {
     }
 }
 
-// The lemma for a side.
+// Returns the lemma for a side.
 pub(crate) fn side_lemma(
     alloc: Global,
     cx: &mut Cx<'_>,
@@ -82,7 +82,7 @@ pub(crate) fn side_lemma(
     Ok(lemma)
 }
 
-// The theorem as a lemma, which is kept in the context.
+// Keeps the theorem as a lemma of the context, and returns it.
 fn added(alloc: Global, cx: &mut Cx<'_>, thm: Thm) -> Result<Lemma, AllocError>
     requires { IsLemmaIn cx.old thm }
     ensures same { IfOk result (λ lemma. lemma ≡ thm) }
@@ -95,7 +95,7 @@ fn added(alloc: Global, cx: &mut Cx<'_>, thm: Thm) -> Result<Lemma, AllocError>
     Ok(lemma)
 }
 
-// `m:1 -> next m:2`, from `m:0 = m:1` and `m:0 -> next m:2`; or at the right side.
+// Proves `m:1 -> next m:2` from `m:0 = m:1` and `m:0 -> next m:2`, or the same for the right side.
 fn side_schema(alloc: Global, side: Side) -> Result<Thm, AllocError>
     ensures says { IfOk result (IsSideLemma side) }
     ensures stays { IfOk result (λ t. (cx : Context) → IsLemmaIn cx t) }
@@ -112,7 +112,7 @@ fn side_schema(alloc: Global, side: Side) -> Result<Thm, AllocError>
     carry(alloc, &equality, &context, HOLE, &step)
 }
 
-// The step with this at a side, and that at the other.
+// Returns the step that has `this` at the given side and `that` at the other side.
 fn step_with(alloc: Global, side: Side, this: &MPat, that: &MPat) -> Result<MPat, AllocError>
     ensures { IfOk result (λ step. step ≡ step_of side this.now that.now) }
 {

@@ -1,4 +1,4 @@
-// A side of a step is turned into what it equals, by the lemma for that side.
+// A side of a step is replaced by what it equals, by the lemma for that side.
 ghost use Rattle.std.specs.Prelude.{◌≡◌, ◌∷◌, [], IfOk, Some};
 ghost use Rattle.std.specs.List.{AllZip};
 ghost use Rattle.ml_pat.specs.Patterns.{Pattern, equal};
@@ -14,7 +14,8 @@ use ml_scope::use_lemma;
 use prove_term::Cx;
 use std::alloc::{AllocError, Global};
 
-// The step with what a side is turned into. Where there is no equality it is the step as it was.
+// Proves the step with a side replaced by what it equals. If there is no equality, the result is
+// the given step.
 pub(crate) fn turned(
     alloc: Global,
     cx: &mut Cx<'_>,
@@ -39,7 +40,7 @@ pub(crate) fn turned(
     }
 }
 
-// The step with q at a side, from `p = q` and the step with p there.
+// Proves the step with q at a side, from `p = q` and the step with p there.
 fn turned_by(
     alloc: Global,
     lemma: &Lemma,
@@ -59,7 +60,7 @@ fn turned_by(
     use_lemma(alloc, lemma, &images, &proofs)
 }
 
-// p, q, and the other side of the step.
+// Returns p, q and the other side of the step.
 fn images(alloc: Global, side: Side, e: &MPat, step: &MPat) -> Result<Vec<MPat>, AllocError>
     requires { (p q r : Pattern) × (e.now ≡ equal p q) × (step.now ≡ step_of side p r) }
     ensures { IfOk result (λ v. (p q r : Pattern) → e.now ≡ equal p q → step.now ≡ step_of side p r →
@@ -70,7 +71,7 @@ fn images(alloc: Global, side: Side, e: &MPat, step: &MPat) -> Result<Vec<MPat>,
     Ok(vec![in alloc; p.share()?, q.share()?, r.share()?]?)
 }
 
-// The sides of an equality.
+// Returns the sides of an equality.
 fn equated(e: &MPat) -> (&MPat, &MPat)
     requires { (p q : Pattern) × (e.now ≡ equal p q) }
     ensures { e.now ≡ equal result.0.now result.1.now }
@@ -81,7 +82,7 @@ fn equated(e: &MPat) -> (&MPat, &MPat)
     (p, q)
 }
 
-// The other side of a step.
+// Returns the other side of a step.
 fn other(side: Side, step: &MPat) -> &MPat
     requires { (p r : Pattern) × (step.now ≡ step_of side p r) }
     ensures { (p : Pattern) × (step.now ≡ step_of side p result.now) }
@@ -97,7 +98,7 @@ fn other(side: Side, step: &MPat) -> &MPat
     unreachable!()
 }
 
-// The equality for each hypothesis that is one, and the step for each other.
+// Returns a proof of each hypothesis: the equality if the hypothesis is one, else the step.
 fn proofs(alloc: Global, hypotheses: &[MPat], e: &Thm, step: &Thm) -> Result<Vec<Thm>, AllocError>
     ensures { IfOk result (λ v. AllZip (IsProofFor e.now step.now) hypotheses.now v.items) }
 {
@@ -109,7 +110,7 @@ fn proofs(alloc: Global, hypotheses: &[MPat], e: &Thm, step: &Thm) -> Result<Vec
     Ok(proofs)
 }
 
-// The equality, if the hypothesis is one, or the step.
+// Returns the equality if the hypothesis is one, else the step.
 fn proof_for<'a>(hypothesis: &MPat, e: &'a Thm, step: &'a Thm) -> &'a Thm
     ensures { IsProofFor e.now step.now hypothesis.now result.now }
 {

@@ -1,11 +1,11 @@
--- A head that is applied to patterns, taken apart from the last of them on.
+-- A head that is applied to patterns, taken apart from the last pattern on.
 use Rattle.std.proofs.Common.{◌≡◌, ◌<◌, ◌+◌, ℕ, suc, List, [], ◌∷◌, ◌++◌, length, reverse, refl, sym, ◌∙◌, ap, arith}
 use Rattle.ml_pat.specs.Patterns.{Pattern, app}
 use Rattle.prove_term.specs.Schemas.{backwards}
 use Rattle.prove_term.specs.Applications.{applied_to}
 use Rattle.prove_term.proofs.Instances.{backwards-push, reverse-backwards}
 
--- the last of some patterns, and those before it
+-- the last of the patterns, and those before it
 pub record HasLast (head : Pattern) (qs : List Pattern) : Type 0 where
   pub first : List Pattern
   pub last : Pattern

@@ -1,4 +1,4 @@
--- What is made of a sentence on all arguments of a constructor, step by step.
+-- What follows from a sentence on all arguments of a constructor, step by step.
 use Rattle.std.proofs.Common.{◌≡◌, ◌<◌, ◌+◌, ℕ, zero, suc, true, List, [], ◌∷◌, ◌++◌, Some, length, take, drop, get_or, refl, sym, ◌∙◌, ap, subst, arith, append-nil}
 use Rattle.std.specs.Prelude.{Contains}
 use Rattle.std.proofs.lemmas.List.{take_more}
@@ -18,7 +18,7 @@ use Rattle.prove_term.proofs.Hypotheses.{kept_as_they_are}
 
 -- ---- theorems that stay in every scope
 
--- the scope that has everything, where nothing may be assumed
+-- the scope that has everything and assumes nothing
 abbrev everything : Scope
 everything = record {
   sort = λ n. true;
@@ -57,7 +57,7 @@ nothing_there : (ps : List Pattern) → AreAssumed everything ps → ps ≡ []
 nothing_there [] h = refl
 nothing_there (p ∷ ps) h = absurd (omega (arith, (h p (0, omega arith, refl)).0.1))
 
--- a theorem that stays in every scope that has some patterns assumes nothing
+-- a theorem that stays in each scope that has the patterns assumes nothing
 pub assumes_nothing : (ps : List Pattern) (t : Theorem) → StaysWithin ps [] t → t.hypotheses ≡ []
 assumes_nothing ps t stays = nothing_there t.hypotheses (stays everything (all_over_everything ps) tt).hypotheses
 
@@ -69,7 +69,7 @@ detached_rule made rule under b falls none adds =
     let joined : all_hypotheses (made ∷ rule ∷ []) ≡ made.hypotheses = ap (λ (hs : List Pattern). made.hypotheses ++ (hs ++ [])) none ∙ append-nil made.hypotheses in
     kept_as_they_are made.hypotheses under.hypotheses b falls (subst (λ (hs : List Pattern). AddsNew [] hs under.hypotheses) joined adds)
 
--- from a fact that is assumed, and a theorem
+-- from an assumed fact and a theorem
 pub detached_fact : (known under t : Theorem) (i s : ℕ) (hs : List Pattern) → Falls i hs → known.hypotheses ≡ fun (meta i) s ∷ [] → under.hypotheses ≡ hs → AddsNew [] (all_hypotheses (known ∷ under ∷ [])) t.hypotheses
     → t.hypotheses ≡ fun (meta i) s ∷ hs
 detached_fact known under t i s hs falls fact rest adds =
@@ -88,7 +88,7 @@ same_all x y s t p q h = (cc, cc, cc)
 some_one : (p q : Pattern) → Some p ≡ Some q → p ≡ q
 some_one p q h = cc
 
--- what becomes of a theorem is determined
+-- what a theorem becomes is determined
 pub opened_as : (i : ℕ) (made t : Theorem) (x s : ℕ) (body opened : Pattern) → made.conclusion ≡ all x s body → substituted body x (meta i) ≡ Some opened → t.conclusion ≡ opened → t.hypotheses ≡ fun (meta i) s ∷ made.hypotheses → OpenedFrom i made t
 opened_as i made t x s body opened is put says hypotheses = λ o.
     let same : (o.variable ≡ x) × (o.sort ≡ s) × (o.body ≡ body) = same_all o.variable x o.sort s o.body body (sym o.is ∙ is) in
@@ -96,7 +96,7 @@ opened_as i made t x s body opened is put says hypotheses = λ o.
     ap (λ (p : Pattern). substituted p o.variable (meta i)) same.2 ∙ ap (λ (y : ℕ). substituted body y (meta i)) same.0 ∙ put in
     (says ∙ some_one opened o.opened (sym put' ∙ o.put), hypotheses ∙ ap (λ (n : ℕ). fun (meta i) n ∷ made.hypotheses) (sym same.1))
 
--- the theorem stays where the other is, and its hypotheses may be assumed
+-- the theorem stays wherever the other stays and its hypotheses may be assumed
 pub opened_stays : (made rule under known t : Theorem) (i x sort : ℕ) (body by fact opened : Pattern) → made.conclusion ≡ all x sort body → by ≡ meta i → fact ≡ fun by sort → substituted body x (meta i) ≡ Some opened
     → StaysWithin (all x sort body ∷ by ∷ opened ∷ []) [] rule → StaysWithin [] (made ∷ rule ∷ []) under → AssumesWithin fact known → StaysWithin [] (known ∷ under ∷ []) t → t.hypotheses ≡ fun (meta i) sort ∷ made.hypotheses → StaysFrom made t
 opened_stays made rule under known t i x sort body by fact opened is by_is fact_is put rule_stays under_stays known_stays t_stays hypotheses = λ s metas within assumed.
@@ -141,7 +141,7 @@ partly_opens i head numbers number made low h =
       put = n.2;
     }
 
--- .. and is one then
+-- the next variable has become a pattern variable
 pub partly_opened : (i head : ℕ) (numbers : List ℕ) (number : ℕ) (made t : Theorem) → i < length numbers → IsPartly i head numbers number made → OpenedFrom i made t → IsPartly (i + 1) head numbers number t
 unfolding partly_opens
 partly_opened i head numbers number made t low h opened =

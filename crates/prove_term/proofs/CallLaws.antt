@@ -1,4 +1,4 @@
--- Functions of patterns beside the same functions of the terms that the patterns become.
+-- Calls of functions on patterns, and the same calls on the terms that the patterns become.
 use Rattle.std.proofs.Common.{◌≡◌, ◌<◌, ◌^◌, ℕ, List, [], ◌∷◌, Option, Some, None, length, sym, ◌∙◌, ap, subst, arith}
 use Rattle.ml_pat.specs.Patterns.{Pattern, constant, equal}
 use Rattle.ml_kernel.specs.Lemmas.{HasNoVariable}
@@ -50,7 +50,7 @@ called_has_image sig f n theta args us w h is =
     let sorted : AreTermsOf sig [] us h.refs = (instances_are_sorted sig h.variables [] (plain_patterns args) h.refs theta us h.are.sorted h.are.respects h.are.make).0 in
     subst (HasImage sig n) (sym is) (h.symbol, tt, terms_have_images sig n us h.refs h.signature sorted)
 
--- the image taken apart
+-- the image, taken apart
 pub record IsSplit (cx : Context) (f : ℕ) (args ws : List RulePat) (us : Forest) (image : Pattern) : Type 0 where
   pub number : ℕ
   pub images : List Pattern
@@ -105,7 +105,8 @@ compared_says cx f c theta ps us qs (Some t) head images closed h = (
   h.stays,
 )
 
--- the image of f of terms is closed: it is that of a constructor's term with the same number
+-- the image of f of terms is closed, because it equals the image of a constructor's term with the
+-- same number
 call_closed : (sig : Signature) (names : List (List ℕ)) (f : ℕ) (us : Forest) (p : Pattern) → image_of sig names (call f [] (ground_patterns us)) ≡ Some p → HasNoVariable p
 call_closed sig names f us p is = image_closed sig names (node f us) p is
 

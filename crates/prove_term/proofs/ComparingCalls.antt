@@ -1,4 +1,4 @@
--- What the calls that compare patterns with their terms give each other.
+-- What the functions that compare patterns with their terms get from each other.
 use Rattle.std.proofs.Common.{◌≡◌, ℕ, List, [], ◌∷◌, Option, Some, None, option_map, length, sym, ◌∙◌, ap, subst}
 use Rattle.std.specs.Prelude.{◌≢◌, IfSome}
 use Rattle.ml_pat.specs.Patterns.{Pattern, app, constant, equal, var}
@@ -93,7 +93,7 @@ constructor_compares cx f g c ps ws qs image o head is all = λ variables theta 
 pub head_over : (cx : Context) (f c : ℕ) → symbol_image cx.program.sig cx.names f ≡ Some (constant c) → HasNoVariable (constant c) × IsOverContext cx (constant c)
 head_over cx f c is = (tt, λ s has. has.images (symbol f) (constant c) is)
 
--- a constructor of arguments, its image, and the patterns that stand for what the arguments become
+-- a constructor of arguments, its image, and the patterns of the terms that the arguments become
 pub record IsTakenApart (cx : Context) (f g : ℕ) (args ws : List RulePat) (image : Pattern) : Type 0 where
   pub number : ℕ
   pub images : List Pattern
@@ -151,7 +151,7 @@ once_halves cx a b d w once o head middle q is = same_halves head o.head middle 
 pub once_splits : (cx : Context) (a b d : ℕ) (w : RulePattern) (once : Theorem) → IsOnce cx a b d w once → (f : Pattern) × (m : Pattern) × (q : Pattern) × (once.conclusion ≡ equal (app f m) q)
 once_splits cx a b d w once o = (o.head, o.middle, o.last, o.says)
 
--- nothing else collapses
+-- there is no further collapse
 pub once_compares : (cx : Context) (a b d : ℕ) (p w : RulePattern) (once : Theorem) (o : IsOnce cx a b d w once) (head middle : Pattern) (one r : Option Theorem) → a ≢ b → Compares cx p (injection a b w) middle one → IsApplication head middle None one r → r ≡ None
     → (image : Pattern) → image_of cx.program.sig cx.names (injection a d w) ≡ Some image → Compares cx (injection b d p) (injection a d w) image (Some once)
 once_compares cx a b d p w once o head middle None r apart compared made none image is = λ variables theta sort u h ground.
@@ -163,7 +163,7 @@ once_compares cx a b d p w once o head middle None r apart compared made none im
     (joined_here cx theta a b d p tree.0 image once (subst (λ (q : RulePattern). IsOnce cx a b d q once) tree.2 o) apart (ap (λ (q : RulePattern). image_of cx.program.sig cx.names (injection a d q)) (sym tree.2) ∙ is) same)
 once_compares cx a b d p w once o head middle (Some x) r apart compared made none image is = absurd (none_some made.made (sym none ∙ made.is))
 
--- the halves at the sides of what is made
+-- the halves at the sides of the result
 record HasSides (head middle : Pattern) (x e : Theorem) : Type 0 where
   pub says : (left : Pattern) → x.conclusion ≡ equal left middle → e.conclusion ≡ equal (app head left) (app head middle)
   pub stays : StaysWithin (head ∷ var 0 ∷ []) (x ∷ []) e
@@ -201,7 +201,7 @@ further_joined cx theta a b d p w v image once x e t ground apart join within = 
         (λ s has. sides.stays s (((has.images (term (injection b d (injection a b (ground_pattern v)))) (app o.head o.middle) (applied_image cx b d (injection a b (ground_pattern v)) o.head o.middle o.is_head o.is_middle)).0), (has.objects 0, tt)) (j.stays s has, tt))
         join within
 
--- something collapses further within
+-- there is a further collapse inside
 pub further_compares : (cx : Context) (a b d : ℕ) (p w : RulePattern) (once e t : Theorem) (o : IsOnce cx a b d w once) (one r : Option Theorem) → a ≢ b → Compares cx p (injection a b w) o.middle one → IsApplication o.head o.middle None one r → r ≡ Some e
     → IsJoin e.conclusion once.conclusion t.conclusion → StaysWithin (var 0 ∷ []) (e ∷ (once ∷ [])) t → (image : Pattern) → image_of cx.program.sig cx.names (injection a d w) ≡ Some image → Compares cx (injection b d p) (injection a d w) image (Some t)
 further_compares cx a b d p w once e t o None r apart compared applies is join within image at = absurd (none_some e (sym applies ∙ is))
@@ -213,7 +213,7 @@ further_compares cx a b d p w once e t o (Some x) r apart compared applies is jo
     subst (λ (q : Tree). IsJoined cx theta (injection b d p) q image t) (sym tree.1)
     (further_joined cx theta a b d p w tree.0 image once x e t tree.2 apart join within o at j (sides_of o.head o.middle x e r applies is))
 
--- the other way round
+-- the converse
 pub made_again : (old new : Context) (p w : RulePattern) → HasGrown old new → IsMade old.program.sig p w → IsMade new.program.sig p w
 made_again old new p w g h = subst (λ (program : Program). IsMade program.sig p w) (sym g.program) h
 

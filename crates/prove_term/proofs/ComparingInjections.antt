@@ -1,4 +1,4 @@
--- Injections of patterns beside the terms that they become.
+-- Injections of patterns, and the terms that they become.
 use Rattle.std.proofs.Common.{◌≡◌, ℕ, List, [], ◌∷◌, Option, Some, None, option_map, refl, sym, ◌∙◌, ap, subst}
 use Rattle.std.specs.Prelude.{◌≢◌}
 use Rattle.ml_pat.specs.Patterns.{Pattern, app, at_sort, constant, equal, fun, var}
@@ -81,7 +81,7 @@ stays_injected cx theta a b p v head argument (Some e) o joined is made =
 
 -- ---- an injection that becomes one from a lower sort
 
--- the theorem says that both injections of what w stands for are one
+-- the theorem says that both injections of the term of w are one
 pub record IsOnce (cx : Context) (a b d : ℕ) (w : RulePattern) (once : Theorem) : Type 0 where
   pub head : Pattern
   pub is_head : injection_image cx.program.sig cx.names b d ≡ Some head
@@ -180,7 +180,7 @@ joined_further cx theta a b d p v image once one e t o apart is j says stays joi
       stays = λ s has. within s (has.objects 0, tt) (stays s has, (o.stays s has, tt));
     }
 
--- ---- what is made by injections
+-- ---- results of injections
 
 pub moved_made : (sig : Signature) (a b d e : ℕ) (p w : RulePattern) → IsMade sig (injection b d p) (injection a e w) → a ≢ b → (e ≡ d) × IsBelow sig.subsorts a b × IsMade sig p (injection a b w)
 moved_made sig a b d e p w (variables, theta, sort, u, h, is) apart =
@@ -196,14 +196,14 @@ stayed_made sig b d e p w ok (variables, theta, sort, u, h, is) =
     injection_stayed sig variables theta b d e p sort tree.0 ok (subst (λ (t : Tree). IsInstance sig variables theta (injection b d p) sort t) tree.1 h) in
     (m.0, (variables, theta, b, tree.0, m.1, tree.2))
 
--- an injection becomes one
+-- an injection becomes an injection
 pub made_injection : (sig : Signature) (b d : ℕ) (p w : RulePattern) → IsMade sig (injection b d p) w → (a : ℕ) × (v : Tree) × (w ≡ injection a d (ground_pattern v))
 made_injection sig b d p w (variables, theta, sort, u, h, is) =
     let from : (t : Tree) × (injected b d t ≡ u) × IsInstance sig variables theta p b t × IsTermOf sig t b = injected_of sig variables theta b d p sort u h in
     let at : (a : ℕ) × (v : Tree) × (injected b d from.0 ≡ inj a d v) = injected_is b d from.0 in
     (at.0, at.1, is ∙ ap ground_pattern (sym from.1 ∙ at.2))
 
--- .. to the same sort
+-- the result goes to the same sort
 pub same_end : (sig : Signature) (b d a e : ℕ) (p base w : RulePattern) → IsMade sig (injection b d p) w → w ≡ injection a e base → e ≡ d
 same_end sig b d a e p base w h is =
     let m : (x : ℕ) × (v : Tree) × (w ≡ injection x d (ground_pattern v)) = made_injection sig b d p w h in
@@ -212,7 +212,7 @@ same_end sig b d a e p base w h is =
     ends : (a x e d : ℕ) (p q : RulePattern) → injection a e p ≡ injection x d q → e ≡ d
     ends a x e d p q same = cc
 
--- the injection symbol reaches from the second sort
+-- the signature has an injection symbol, and the sort b is below d
 pub moved_reaches : (sig : Signature) (b d : ℕ) (p w : RulePattern) → IsSignature sig → IsMade sig (injection b d p) w → InjectsBelow sig b d
 moved_reaches sig b d p w ok (variables, theta, sort, u, h, is) = record {
   signature = ok;
@@ -220,7 +220,7 @@ moved_reaches sig b d p w ok (variables, theta, sort, u, h, is) = record {
   below = h.sorted.2;
 }
 
--- what is injected is a term of its sort
+-- the injected term has its sort
 pub base_sorted : (sig : Signature) (p : RulePattern) (a d : ℕ) (w : RulePattern) → IsMade sig p (injection a d w) → (v : Tree) × (w ≡ ground_pattern v) × HasSort sig [] w a
 base_sorted sig p a d w (variables, theta, sort, u, h, is) =
     let tree : (v : Tree) × (u ≡ inj a d v) × (w ≡ ground_pattern v) = ground_injection a d w u is in

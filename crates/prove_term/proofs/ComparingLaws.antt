@@ -1,4 +1,5 @@
--- Patterns beside the terms that they become: parts, images, and what equalities of parts say of the whole.
+-- Patterns and the terms that they become: parts, images, and what equalities of parts say of the
+-- whole.
 use Rattle.std.proofs.Common.{◌≡◌, ◌<◌, ℕ, zero, suc, List, [], ◌∷◌, Option, Some, None, option_map, length, get_or, refl, sym, ◌∙◌, ap, subst, arith}
 use Rattle.std.specs.Prelude.{◌≢◌}
 use Rattle.ml_pat.specs.Patterns.{Pattern, app, at_sort, constant}
@@ -66,11 +67,11 @@ mutual
   closed-forest sig names (more_trees t ts) head h =
       closed-forest sig names ts (both app head (image_of sig names (ground_pattern t))) (closed-app head (image_of sig names (ground_pattern t)) h (closed-term sig names t))
 
--- no object variable stands in the image of a term
+-- the image of a term has no object variable
 pub image_closed : (sig : Signature) (names : List (List ℕ)) (t : Tree) (p : Pattern) → image_of sig names (ground_pattern t) ≡ Some p → HasNoVariable p
 image_closed sig names t p is = closed-term sig names t p is
 
--- what has an image without variables has one among any number of them
+-- a pattern that has an image without variables has one with any number of variables
 mutual
   pub image_among : (sig : Signature) (n : ℕ) (p : RulePattern) → HasImage sig 0 p → HasImage sig n p
   image_among sig n (variable x) h = absurd (omega (arith, h))
@@ -138,7 +139,7 @@ arguments_of sig variables theta f ps sort u h =
     let from : (us : Forest) × ((instances_of theta ps ≡ Some us) × (node f us ≡ u)) = mapped (node f) (instances_of theta ps) u h.makes in
     (h.sorted.0.args.items, from.0, sym from.1.1, record { sorted = h.sorted.4; respects = h.respects; make = from.1.0 })
 
--- what is injected
+-- the injected term
 pub injected_of : (sig : Signature) (variables : List ℕ) (theta : List (Option Tree)) (b d : ℕ) (p : RulePattern) (sort : ℕ) (u : Tree) → IsInstance sig variables theta (injection b d p) sort u
     → (t : Tree) × (injected b d t ≡ u) × IsInstance sig variables theta p b t × IsTermOf sig t b
 injected_of sig variables theta b d p sort u h =
@@ -150,7 +151,7 @@ injected_is b d (leaf s v) = (b, leaf s v, refl)
 injected_is b d (node f ts) = (b, node f ts, refl)
 injected_is b d (inj x y t) = (x, t, refl)
 
--- an injection from b, which is no longer from b
+-- an injection from b that became one from another sort
 moved : (sig : Signature) (a b d e : ℕ) (t v : Tree) → injected b d t ≡ inj a e v → a ≢ b → IsTermOf sig t b → (e ≡ d) × (t ≡ inj a b v) × IsBelow sig.subsorts a b
 moved sig a b d e (leaf s x) v h apart sorted = let same : a ≡ b = cc in absurd (apart same)
 moved sig a b d e (node f ts) v h apart sorted = let same : a ≡ b = cc in absurd (apart same)
@@ -165,7 +166,7 @@ moved sig a b d e (inj x y t) v h apart sorted =
       subst P (sym from) (subst Q sorted.1 sorted.2),
     )
 
--- .. and one that still is
+-- an injection that is still one from b
 stayed : (sig : Signature) (b d e : ℕ) (t v : Tree) → IsSignature sig → injected b d t ≡ inj b e v → IsTermOf sig t b → (e ≡ d) × (t ≡ v)
 stayed sig b d e (leaf s x) v ok h sorted = (cc, cc)
 stayed sig b d e (node f ts) v ok h sorted = (cc, cc)
@@ -189,7 +190,7 @@ injection_stayed sig variables theta b d e p sort v ok h =
     let m : (e ≡ d) × (w.0 ≡ v) = stayed sig b d e w.0 v ok w.1 w.3 in
     (m.0, record { sorted = w.2.sorted; respects = w.2.respects; makes = w.2.makes ∙ ap (λ (t : Tree). Some t) m.1 })
 
--- ---- one of some arguments
+-- ---- one argument
 
 as_many_step : (p : RulePat) (args ws : List RulePat) (t : Tree) (vs : Forest) → plain_patterns ws ≡ more_patterns (ground_pattern t) (ground_patterns vs) → ((ws : List RulePat) → plain_patterns ws ≡ ground_patterns vs → length args ≡ length ws)
     → length (p ∷ args) ≡ length ws

@@ -1,4 +1,4 @@
--- The arguments of a constructor one by one: what those that are done make of the whole.
+-- The arguments of a constructor one by one: what follows for the whole from those that are done.
 use Rattle.std.proofs.Common.{◌≡◌, ◌<◌, ◌+◌, ℕ, zero, suc, List, [], ◌∷◌, Option, Some, None, length, get_or, drop, refl, sym, ◌∙◌, ap, subst, arith}
 use Rattle.std.specs.Prelude.{◌≢◌}
 use Rattle.ml_pat.specs.Patterns.{Pattern, app, equal}
@@ -24,7 +24,7 @@ use Rattle.prove_term.specs.Applications.{applied_to, SaysEqualTo, IsApplication
 use Rattle.prove_term.specs.Comparing.{IsInstance, AreInstances, IsMade, AreMade, IsJoined, IsCompared, Compares, AreCompared, AllCompare, IsOverContext}
 use Rattle.prove_term.proofs.ContextLaws.{grown_none, grown_twice, image_grown, stays_grown}
 
--- ---- one of some arguments
+-- ---- one argument
 
 pub record IsItem (sig : Signature) (variables : List ℕ) (theta : List (Option Tree)) (args : List RulePat) (i : ℕ) (p w : RulePat) : Type 0 where
   pub sort : ℕ
@@ -89,9 +89,10 @@ made_item sig args ws i p w (variables, theta, refs, us, h, is) low at on =
     let one : IsItem sig variables theta args i p w = item_of sig variables theta args ws refs us i p w h is low at on in
     (variables, theta, one.sort, one.tree, one.instance, one.is)
 
--- ---- some arguments
+-- ---- several arguments
 
--- What is left, whatever it becomes as it is written, is applied to after a pattern as all of it is after the head.
+-- The pattern `left`, applied to the images of the arguments in `rest`, is the head applied to the
+-- images of all arguments. The images are those of the arguments as they are written.
 abbrev pub IsWritten : Context → List (Option Tree) → Pattern → RulePatterns → RulePatterns → Pattern → Type 0
 IsWritten cx theta head ps rest left =
     (later : Context) → HasGrown cx later → (ts : Forest) (qs : List Pattern) → all_substituted theta rest ≡ Some ts → AreImages later.program.sig later.names (ground_patterns ts) qs
@@ -110,7 +111,7 @@ pub record AreMended (cx : Context) (theta : List (Option Tree)) (head : Pattern
   pub says : t.conclusion ≡ equal left function
   pub stays : StaysIn cx t
 
--- what is known of those that are done
+-- what is known of the arguments that are done
 abbrev pub AreDone : Context → List (Option Tree) → Pattern → RulePatterns → RulePatterns → Pattern → Option Theorem → Type 0
 AreDone cx theta head ps rest function None = ArePlain cx theta head ps rest function
 AreDone cx theta head ps rest function (Some t) = AreMended cx theta head ps rest function t
@@ -136,7 +137,7 @@ same_first : (t u : Tree) (o : Option Forest) (us : Forest) → with_first (Some
 same_first t u None us h = absurd (let no : ⊥ = cc in no)
 same_first t u (Some ts) us h = cc
 
--- one more pattern in front of what is left
+-- one more pattern before the rest
 one_written : (cx : Context) (theta : List (Option Tree)) (head : Pattern) (ps : RulePatterns) (p : RulePattern) (rest : RulePatterns) (left : Pattern) (t : Tree) (q : Pattern) → substituted theta p ≡ Some t
     → image_of cx.program.sig cx.names (ground_pattern t) ≡ Some q → IsWritten cx theta head ps (more_patterns p rest) left → IsWritten cx theta head ps rest (app left q)
 one_written cx theta head ps p rest left t q is image before = λ later g ts qs are images.
@@ -202,7 +203,7 @@ all_done cx theta head ps us function images (Some t) make is done =
 
 -- ---- the loop
 
--- those before number i are done
+-- the arguments before number i are done
 abbrev pub AreDoneBefore : Context → List RulePat → List RulePat → ℕ → Pattern → Pattern → Option Theorem → Type 0
 AreDoneBefore cx args ws i head function made =
     (variables : List ℕ) (theta : List (Option Tree)) (refs : List SortRef) (us : Forest) → AreInstances cx.program.sig variables theta (plain_patterns args) refs us → plain_patterns ws ≡ ground_patterns us
@@ -249,7 +250,7 @@ compared_says cx p w image (Some t) (variables, theta, sort, u, h, is) compared 
     let j : IsJoined cx theta p u image t = compared variables theta sort u h is in
     (j.left, j.says, j.closed)
 
--- the images that are left
+-- the rest of the images
 pub left_applied : (images : List Pattern) (i : ℕ) (function q : Pattern) → i < length images → q ≡ get_or images i q → applied_to function (drop i images) ≡ applied_to (app function q) (drop (i + 1) images)
 left_applied [] i function q low at = absurd (omega (arith, low))
 left_applied (r ∷ images) zero function q low at = ap (λ (x : Pattern). applied_to (app function x) images) (sym at)

@@ -35,7 +35,7 @@ says_totality cx f n p takes few (s, says, is) =
       says = shape.1;
     }
 
--- as many arguments as the constructor takes
+-- the number of arguments is that of the constructor
 pub arguments_counted : (cx : Context) (f n : ℕ) (p : Pattern) (says : SaysTotality cx f p) → Takes cx.program.sig f n → n ≡ length says.numbered.numbers.numbers
 arguments_counted cx f n p says takes =
     let many : length says.numbered.numbers.numbers ≡ length says.numbered.sorts = as_many_numbers cx.program.sig cx.names says.numbered.sorts says.numbered.numbers.numbers says.numbered.numbers.are_numbers in
@@ -53,7 +53,7 @@ is_totality cx f n t says none takes = record {
   no_hypotheses = none;
 }
 
--- a lemma that was made of it, after the others
+-- a lemma that was made from it, and added as the last one
 pub constructor_learned : (cx : Context) (f n place : ℕ) (t lemma : Theorem) → SaysTotality cx f t.conclusion → t.hypotheses ≡ [] → Takes cx.program.sig f n → TotalFrom n t lemma → place ≡ length cx.lemmas
     → IsConstructorAt (record cx { lemmas = cx.lemmas ++ lemma ∷ [] }) f place
 constructor_learned cx f n place t lemma says none takes from last = record {
@@ -63,6 +63,6 @@ constructor_learned cx f n place t lemma says none takes from last = record {
   says = from says.numbered.numbers.head says.numbered.numbers.numbers says.numbered.numbers.number (is_totality cx f n t says none takes);
 }
 
--- what stands at one place is one pattern
+-- there is only one pattern at a place
 pub same_there : (ps : List Pattern) (n : ℕ) (p q : Pattern) → slice_get ps n ≡ Some p → slice_get ps n ≡ Some q → p ≡ q
 same_there ps n p q h k = some_same p q (sym h ∙ k)

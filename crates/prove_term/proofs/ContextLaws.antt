@@ -1,4 +1,4 @@
--- Laws of contexts: how they grow, and what stays true then.
+-- Laws of contexts: how they grow, and what stays true when they do.
 use Rattle.std.proofs.Common.{◌≡◌, ℕ, zero, suc, List, [], ◌∷◌, ◌++◌, Some, take, refl, sym, ◌∙◌, ap, subst, arith, append-nil, append_assoc, slice_get, inl, inr}
 use Rattle.std.specs.Prelude.{Contains, ◌⊎◌}
 use Rattle.std.proofs.lemmas.List.Elements.{Contains-append_left, Contains-append_cases}
@@ -71,12 +71,12 @@ grown_lemma cx t = record {
 
 -- ---- what stays
 
--- a sentence has the image that it had
+-- a sentence keeps its image
 pub image_grown : (a b : Context) (q : Sentence) (p : Pattern) → HasGrown a b → sentence_image a.program.sig a.names q ≡ Some p → sentence_image b.program.sig b.names q ≡ Some p
 image_grown a b q p g is =
     subst (λ (program : Program). sentence_image program.sig b.names q ≡ Some p) (sym g.program) (gained-sentence a.program.sig a.names b.names q g.names p is)
 
--- a scope that has what the context has become has what the context had
+-- a scope that has what the grown context has also has what the old context had
 pub has_before : (a b : Context) (s : Scope) → HasGrown a b → HasContext s b → HasContext s a
 has_before a b s g has = record {
   images = λ q p is. has.images q p (image_grown a b q p g is);
@@ -92,7 +92,7 @@ stays_grown a b t g stays = λ s has. stays s (has_before a b s g has)
 pub lemma_grown : (a b : Context) (t : Theorem) → HasGrown a b → IsLemmaIn a t → IsLemmaIn b t
 lemma_grown a b t g stays = λ s has assumed. stays s (has_before a b s g has) assumed
 
--- what is there has the same number
+-- an item keeps its number
 pub there_grown : {A : Type 0} (xs ys : List A) (n : ℕ) (x : A) → slice_get xs n ≡ Some x → slice_get (xs ++ ys) n ≡ Some x
 there_grown [] ys n x h = absurd (none_some x h)
 there_grown (z ∷ xs) ys zero x h = h
@@ -148,7 +148,7 @@ context_states cx p h image = record {
     go q (inl old) = h.axioms q old
     go q (inr new) = subst (IsImageOf cx.program.sig cx.names (IsAssumed (theory_of cx.program))) (only_one p q new) image
 
--- a list with one more at its end: what stands at a place, and what stands before it
+-- a list with one more item at its end: the item at a place, and the items before it
 last_or_before : {A : Type 0} (xs : List A) (x y : A) (k : ℕ) → slice_get (xs ++ x ∷ []) k ≡ Some y →
     ((slice_get xs k ≡ Some y) × (take k (xs ++ x ∷ []) ≡ take k xs)) ⊎ ((x ≡ y) × (take k (xs ++ x ∷ []) ≡ xs))
 last_or_before [] x y zero there = inr (some_same x y there, refl)

@@ -89,7 +89,7 @@ first_of x y xs ys h = (cc, cc)
 same_element : (p q : Pattern) (m n : ℕ) → fun p m ≡ fun q n → (p ≡ q) × (m ≡ n)
 same_element p q m n h = (cc, cc)
 
--- what a theorem says to be one element
+-- the pattern that a theorem says to be one element
 pub says_element : (cx : Context) (p : RulePattern) (q : Pattern) → IsSorted cx.program.sig p → IsElement cx p q → (r : Pattern) × (s : ℕ) × (q ≡ fun r s)
 says_element cx p q (sort, sorted) h = let at : IsElementAt cx p sort q = h sort sorted in (at.image, at.number, at.says)
 
@@ -159,7 +159,7 @@ no_meta-applied : (qs : List Pattern) (h : Pattern) → HasNoMeta h → AreMetas
 no_meta-applied [] h a k = a
 no_meta-applied (q ∷ qs) h a k = no_meta-applied qs (app h q) (a, k.0) k.1
 
--- as many facts as patterns, where there are as many sorts
+-- if there are as many sorts as patterns, there are as many facts
 as_many_said : (ps : RulePatterns) (sig : Signature) (names : List (List ℕ)) (qs : List Pattern) (refs : List SortRef) (sorts : List ℕ) → AreImages sig names ps qs → HaveSorts sig [] [] ps refs → refs ≡ map named sorts → length qs ≡ length sorts
 as_many_said no_pattern sig names [] [] [] h k are = refl
 as_many_said no_pattern sig names [] [] (s ∷ sorts) h k are = absurd (omega (arith, ap length are))
@@ -187,7 +187,7 @@ is_made a b d f k ps qs ts g h at elements sorted = record {
 pub lemma_found : (ts : List Theorem) (k : ℕ) (t found : Theorem) → slice_get ts k ≡ Some t → found ≡ get_or ts k found → t ≡ found
 lemma_found ts k t found there is = sym (get_or_from_slice_get ts k t found there) ∙ sym is
 
--- what the lemma and the elements have in common
+-- what the lemma and the elements agree on
 pub record Agrees (cx : Context) (f k : ℕ) (ps : RulePatterns) (qs : List Pattern) (ts : List Theorem) (m : IsMade cx f k ps qs ts) : Type 0 where
   pub as_many : length qs ≡ length m.at.numbered.numbers.numbers
   pub say : conclusions ts ≡ backwards (facts qs m.at.numbered.numbers.numbers)
@@ -248,7 +248,7 @@ made_element cx f k ps qs ts m q is = λ sort sorted.
       no_meta = no_meta-applied qs (constant m.at.numbered.numbers.head) tt m.elements.no_metas;
     }
 
--- images are over each scope that has the context
+-- the images use only what each scope with the context has
 images_over : (cx : Context) (s : Scope) (ps : RulePatterns) (qs : List Pattern) → HasContext s cx → AreImages cx.program.sig cx.names ps qs → AreOver s qs
 images_over cx s no_pattern [] has h = tt
 images_over cx s no_pattern (q ∷ qs) has h = absurd h

@@ -1,4 +1,4 @@
--- Arguments one by one, from the last to the first, and values and terms as patterns.
+-- Arguments one by one, from the last to the first; values and terms as patterns.
 use Rattle.std.proofs.Common.{◌≡◌, ◌<◌, ◌+◌, ℕ, zero, suc, List, [], ◌∷◌, Option, option_map, length, drop, get_or, refl, sym, ◌∙◌, ap, subst, arith}
 use Rattle.ml_pat.specs.Patterns.{Pattern, constant}
 use Rattle.term_core.specs.Terms.{Tree, DomainValue}
@@ -17,7 +17,7 @@ use Rattle.prove_term.specs.Functional.{SaysFunctional}
 use Rattle.prove_term.specs.ValueAxioms.{SaysValueOf}
 use Rattle.prove_term.specs.Elements.{IsSorted, AreSorted, IsElementAt, IsElement}
 
--- ---- one of some arguments
+-- ---- one argument
 
 have_item : (sig : Signature) (args : List RulePat) (refs : List SortRef) (i : ℕ) (p : RulePat) → HaveSorts sig [] [] (plain_patterns args) refs → i < length args → p ≡ get_or args i p → IsSorted sig (plain_pattern p)
 have_item sig [] refs i p h low is = absurd (omega (arith, low))
@@ -46,7 +46,7 @@ next_item (a ∷ args) (suc j) p low is =
     further : (j : ℕ) → suc (j + 1) ≡ suc j + 1
     further j = omega arith
 
--- the argument before number i in front of those from it on
+-- the argument before number i, followed by those from i on
 pub item_before : (args : List RulePat) (i j : ℕ) (p : RulePat) → i ≡ j + 1 → j < length args → p ≡ get_or args j p → plain_patterns (drop j args) ≡ more_patterns (plain_pattern p) (plain_patterns (drop i args))
 item_before args i j p next low is = next_item args j p low is ∙ ap (λ (k : ℕ). more_patterns (plain_pattern p) (plain_patterns (drop k args))) (sym next)
 

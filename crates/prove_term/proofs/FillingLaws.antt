@@ -1,4 +1,5 @@
--- Patterns with terms in the places of their variables, beside the terms that they become as they are written.
+-- Patterns with terms in place of their variables, and the terms that they become as they are
+-- written.
 use Rattle.std.proofs.Common.{◌≡◌, ℕ, List, [], Option, Some, None, option_map, refl, sym, ◌∙◌, ap}
 use Rattle.term_core.specs.Terms.{Tree, Forest, leaf, node, inj, no_tree, more_trees, injected}
 use Rattle.term_core.specs.Patterns.{Pattern, Patterns, variable, domain_value, application, injection, call, no_pattern, more_patterns}
@@ -17,7 +18,8 @@ one_forest ts us e = cc
 
 -- ---- filled patterns
 
--- A pattern with terms in the places of its variables stands for the term that it becomes as it is written.
+-- A pattern with terms in place of its variables is the pattern of the term that it becomes as it
+-- is written.
 mutual
   pub filled_written : (theta : List (Option Tree)) (p : Pattern) (t : Tree) → substituted theta p ≡ Some t → filled theta p ≡ ground_pattern t
   filled_written theta (variable x) t e = ap (in_place x) e
@@ -67,7 +69,7 @@ mutual
 
 -- ---- patterns without terms
 
--- with no term for any variable, a pattern stays as it is
+-- without terms for its variables, a pattern stays as it is
 mutual
   pub filled_nothing : (p : Pattern) → filled [] p ≡ p
   filled_nothing (variable x) = refl

@@ -1,4 +1,4 @@
--- Hypotheses that are kept once each, where they differ by their pattern variables.
+-- Hypotheses that differ by their pattern variables, each kept once.
 use Rattle.std.proofs.Common.{◌≡◌, ◌<◌, ◌≤◌, ℕ, zero, suc, List, [], ◌∷◌, ◌++◌, sym, ◌∙◌, subst, arith, append_assoc, append-nil, inl, inr}
 use Rattle.std.specs.Prelude.{Contains, ◌⊎◌}
 use Rattle.std.proofs.lemmas.List.Elements.{Contains-append_cases}
@@ -6,7 +6,7 @@ use Rattle.ml_pat.specs.Patterns.{Pattern, fun, meta}
 use Rattle.ml_kernel.specs.Theorems.{AddsNew}
 use Rattle.prove_term.specs.Falling.{Falls}
 
--- each is on a pattern variable from b on
+-- each pattern is about a pattern variable with a number of at least b
 abbrev Above : ℕ → List Pattern → Type 0
 Above b ps = (p : Pattern) → Contains ps p → (j : ℕ) × (s : ℕ) × (b ≤ j) × (p ≡ fun (meta j) s)
 
@@ -34,6 +34,6 @@ adds_all (p ∷ ps) old new b above (j, s, low, is, falls) (inr (fresh, adds)) =
     let more : Above j (old ++ p ∷ []) = subst (λ (q : Pattern). Above j (old ++ q ∷ [])) (sym is) (above_more b j s old above low) in
     adds_all ps (old ++ p ∷ []) new j more falls adds ∙ append_assoc old (p ∷ []) ps
 
--- hypotheses that fall are kept as they are
+-- hypotheses in falling order are kept as they are
 pub kept_as_they_are : (ps new : List Pattern) (b : ℕ) → Falls b ps → AddsNew [] ps new → new ≡ ps
 kept_as_they_are ps new b falls adds = adds_all ps [] new b (λ p there. absurd (omega (arith, there.1))) falls adds

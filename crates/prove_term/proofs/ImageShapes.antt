@@ -29,7 +29,7 @@ pub map_some : {A B : Type 0} (f : A → B) (a : Option A) (b : B) → option_ma
 map_some f None b h = absurd (none_some b h)
 map_some f (Some x) b h = (x, refl, sym (some_same (f x) b h))
 
--- ---- no pattern variable stands in an image
+-- ---- images have no pattern variable
 
 abbrev HasNone : Option Pattern → Type 0
 HasNone o = (p : Pattern) → o ≡ Some p → HasNoMeta p
@@ -145,7 +145,7 @@ as_many_numbers sig names (s ∷ ss) (n ∷ ns) h = ap suc (as_many_numbers sig 
 
 -- ---- the totality of a constructor
 
--- applied to variables there is an image only where there is one of what is applied
+-- if an application to variables has an image, what is applied has one
 applied_variables_some : (sig : Signature) (names : List (List ℕ)) (n k : ℕ) (s : Sentence) (p : Pattern) → sentence_image sig names (apply_all s (variables k n)) ≡ Some p → (h : Pattern) × (sentence_image sig names s ≡ Some h)
 applied_variables_some sig names zero k s p h = (p, h)
 applied_variables_some sig names (suc n) k s p h =

@@ -32,7 +32,7 @@ injects_below sig a b p ok (sort, sorted) = record {
 pub below_sorted : (sig : Signature) (a b : ℕ) (p : RulePattern) → IsSorted sig (injection a b p) → IsSorted sig p
 below_sorted sig a b p (sort, sorted) = (a, sorted.3)
 
--- an element that is to be injected, and the lemma
+-- an element to be injected, and the lemma
 pub record IsInjectedElement (cx : Context) (a b k : ℕ) (p : RulePattern) (proof : Theorem) : Type 0 where
   pub at : IsInjectionAt cx a b k
   pub image : Pattern

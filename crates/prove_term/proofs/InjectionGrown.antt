@@ -1,4 +1,4 @@
--- What is kept of injections in grown contexts.
+-- The kept lemmas of injections in grown contexts.
 use Rattle.std.proofs.Common.{◌≡◌, ℕ, List, ◌++◌, Option, Some, None, sym, subst}
 use Rattle.std.specs.Prelude.{IfSome}
 use Rattle.std.specs.BTreeMap as tree

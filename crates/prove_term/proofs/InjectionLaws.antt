@@ -106,7 +106,7 @@ once_cites c s t lower base says is = record { says = says; proved = is; closed 
 pub second_cites : (c s t u : ℕ) (lower upper once base : Theorem) → SaysInjected c t u upper → Cites c s t (meta 0) lower base → CitedFrom lower base once → Cites c t u (inject c s t (meta 0)) upper once
 second_cites c s t u lower upper once base says cites from = record { says = says; proved = from c s t (meta 0) cites; closed = ((tt, tt)) }
 
--- a theorem by a lemma and one proof has the hypothesis of that
+-- a theorem by a lemma and one proof has the hypothesis of the proof
 pub cited_keeps : (lemma proof made : Theorem) (p h : Pattern) → IsByLemma lemma (p ∷ []) (proof ∷ []) made → proof.hypotheses ≡ h ∷ [] → made.hypotheses ≡ h ∷ []
 cited_keeps lemma proof made p h by one =
     kept_one h made.hypotheses (subst (λ (hs : List Pattern). AddsNew [] hs made.hypotheses) (ap (λ (hs : List Pattern). hs ++ []) one) by.kept_hypotheses)
@@ -204,7 +204,7 @@ joins_twice c s t u collapse base equality lower upper joins is assumes to by =
 pub twice_carries : (c s t u : ℕ) (equality lower upper twice : Theorem) → Twice c s t u equality lower upper → SaysTwice c s t u twice → Carries (inject c t u (inject c s t (meta 0))) (inject c s u (meta 0)) u (fun (meta 0) s) equality twice
 twice_carries c s t u equality lower upper twice both says = record { equals = both.equals; says = says.conclusion; first = both.assumes; second = says.hypotheses }
 
--- what is assumed, and what the lemma makes of it
+-- an assumption, and what the lemma says of it
 pub record IsOnce (hypothesis : Pattern) (collapse base equality : Theorem) : Type 0 where
   pub conclusion : base.conclusion ≡ hypothesis
   pub hypotheses : base.hypotheses ≡ hypothesis ∷ []

@@ -1,4 +1,4 @@
--- What the axioms of injections look like, and what is kept of injections in grown contexts.
+-- What the axioms of injections look like, and the kept lemmas of injections in grown contexts.
 use Rattle.std.proofs.Common.{◌≡◌, ◌<◌, ℕ, List, [], ◌∷◌, Option, Some, None, length, sym, ◌∙◌, ap, inl}
 use Rattle.std.proofs.lemmas.List.Elements.{All-contains}
 use Rattle.ml_pat.specs.Patterns.{Pattern}
@@ -52,7 +52,7 @@ injection_shape sig names a b q p is =
     let head : (e : HasEnds sig names a b) × (w.0 ≡ logic.at_sort (logic.at_sort (logic.constant e.symbol) e.lower) e.upper) = head_shape sig names a b w.0 w.2 in
     (head.0, w.1, w.3, w.4 ∙ ap (λ (h : Pattern). logic.app h w.1) head.1)
 
--- .. and the other way round
+-- the converse
 pub head_made : (sig : Signature) (names : List (List ℕ)) (a b : ℕ) (e : HasEnds sig names a b) → injection_image sig names a b ≡ Some (logic.at_sort (logic.at_sort (logic.constant e.symbol) e.lower) e.upper)
 head_made sig names a b e =
     ap (λ (o : Option Pattern). both logic.at_sort (both logic.at_sort o (sort_image sig names a)) (sort_image sig names b)) e.is_symbol
@@ -67,7 +67,7 @@ injection_made sig names a b e q r is =
 same_constant : (c d : ℕ) → logic.constant c ≡ logic.constant d → c ≡ d
 same_constant c d h = cc
 
--- one symbol injects
+-- there is only one injection symbol
 same_symbol : (sig : Signature) (names : List (List ℕ)) (a b d f : ℕ) (e : HasEnds sig names a b) (g : HasEnds sig names d f) → e.symbol ≡ g.symbol
 same_symbol sig names a b d f e g = same_constant e.symbol g.symbol (some_same (logic.constant e.symbol) (logic.constant g.symbol) (sym e.is_symbol ∙ g.is_symbol))
 

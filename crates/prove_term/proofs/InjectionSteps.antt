@@ -1,4 +1,4 @@
--- Injections along chains of pairs of sorts, one pair further each time.
+-- Injections along chains of pairs of sorts, one pair at a time.
 use Rattle.std.proofs.Common.{◌≡◌, ◌<◌, ◌+◌, ℕ, zero, suc, List, [], ◌∷◌, ◌++◌, Some, length, get_or, refl, sym, ◌∙◌, ap, subst, arith}
 use Rattle.std.specs.Prelude.{Contains}
 use Rattle.ml_pat.specs.Patterns.{Pattern, constant, at_sort, equal, var, meta}
@@ -33,7 +33,7 @@ injected_by_pair cx a b total lemma says from = record {
 same_constant : (c d : ℕ) → constant c ≡ constant d → c ≡ d
 same_constant c d h = cc
 
--- the lemma of an injection says so with the numbers that are known otherwise
+-- the lemma of an injection, with numbers that are known to be the same
 said_with : (c s t c' s' t' : ℕ) (lemma : Theorem) → c ≡ c' → s ≡ s' → t ≡ t' → SaysInjected c s t lemma → SaysInjected c' s' t' lemma
 said_with c s t c' s' t' lemma e f g h = subst (λ (x : ℕ). SaysInjected x s' t' lemma) e (subst (λ (x : ℕ). SaysInjected c x t' lemma) f (subst (λ (x : ℕ). SaysInjected c s x lemma) g h))
 
@@ -52,7 +52,7 @@ collapsed_by_axiom cx a b d stated lemma says from = record {
   says = from says.ends.symbol says.ends.lower says.ends.upper says.last says.says;
 }
 
--- the injection symbol at two sorts has what a scope of the context has
+-- the injection symbol at two sorts uses only what a scope with the context has
 pub ends_over : (s : Scope) (cx : Context) (a b : ℕ) (e : HasEnds cx.program.sig cx.names a b) → HasContext s cx → IsOver s (at_sort (at_sort (constant e.symbol) e.lower) e.upper)
 ends_over s cx a b e has =
     (has.images (term (injection a b (variable 0))) (inject e.symbol e.lower e.upper (var 0)) (injection_made cx.program.sig cx.names a b e (Some (var 0)) (var 0) refl)).0
@@ -143,7 +143,7 @@ length-numbers (s ∷ ss) = ap suc (length-numbers ss)
 pub one_further : (pairs : List (ℕ × ℕ)) (a b d : ℕ) → IsBelow pairs a b → Contains pairs (b, d) → IsBelow pairs a d
 one_further pairs a b d below pair = IsBelow-trans pairs a b d below (by_pair pair)
 
--- two sorts of a chain, one after the other
+-- two neighbouring sorts of a chain
 pub pair_at : (pairs : List (ℕ × ℕ)) (a b : ℕ) (ss : List SortId) (i : ℕ) (d e : SortId) → IsPath pairs a b (sort_numbers ss) → i + 1 < length ss → Contains pairs ((get_or ss i d).0, (get_or ss (i + 1) e).0)
 pair_at pairs a b ss i d e path low =
     let low' : i + 1 < length (sort_numbers ss) = omega (arith, low, length-numbers ss) in

@@ -62,7 +62,7 @@ instances-facts (q ∷ post) pre (s ∷ ss) h =
     ap (λ (r : Pattern). fun r s ∷ instances (pre ++ q ∷ post) (meta_facts (length pre + 1) ss)) (at_place pre post q (meta (length pre)))
     ∙ ap (λ (rs : List Pattern). fun q s ∷ rs) below
 
--- ---- which pattern variables stand in them
+-- ---- the pattern variables that occur in them
 
 pub below-metas : (n k m : ℕ) (h : Pattern) → k + m ≤ n → IsMetaBelow n h → IsMetaBelow n (at_metas h k m)
 below-metas n k zero h few below = below

@@ -1,4 +1,4 @@
--- A `Cx` of the code whose names, axioms or lemmas have grown.
+-- A `Cx` of the code with more names, axioms or lemmas.
 use Rattle.std.proofs.Common.{◌≡◌, ◌∙◌, ℕ, List, [], ◌∷◌, ◌++◌, Some, refl, sym, ap, subst, slice_get, inl, inr, length}
 use Rattle.std.specs.Prelude.{◌⊎◌, Result, Ok, Err, OnOk, OnErr}
 use Rattle.std.specs.Global.{Vec}
@@ -37,7 +37,7 @@ kept_gains a names h gained =
 pub grown_gains : (a : Inside) (v : Context) (names : List (List ℕ)) → context_of a ≡ v → HasGained a.program.now.sig a.names names → HasGrown v (context_of (record a { names = names }))
 grown_gains a v names is gained = subst (λ (w : Context). HasGrown w (context_of (record a { names = names }))) is (grown_names (context_of a) names gained)
 
--- what is assumed has no pattern variable
+-- an assumed sentence has no pattern variable
 pub assumed_no_meta : (v : Context) (p : Pattern) → IsImageOf v.program.sig v.names (IsAssumed (theory_of v.program)) p → HasNoMeta p
 assumed_no_meta v p image = sentence_has_no_meta v.program.sig v.names image.0 p image.2
 

@@ -1,4 +1,4 @@
--- The places of lemmas by pairs and triples of sorts, when one more is kept.
+-- The places of lemmas by pairs and triples of sorts, after one more is kept.
 use Rattle.std.proofs.Common.{◌≡◌, ℕ, Bool, true, false, cond, Option, Some, refl, sym, ◌∙◌, subst}
 use Rattle.std.specs.Prelude.{IfSome}
 use Rattle.std.specs.BTreeMap as tree

@@ -1,4 +1,4 @@
--- Clauses on results, from others.
+-- Clauses on results that follow from other clauses.
 use Rattle.std.specs.Prelude.{Result, Ok, Err, IfOk, OnOk}
 
 pub if_ok : {T E : Type 0} {P Q : T → Type 0} (r : Result T E) → ((x : T) → P x → Q x) → IfOk r P → IfOk r Q

@@ -1,4 +1,4 @@
--- Pattern variables put into sentences on a symbol, one after another.
+-- Pattern variables substituted into sentences on a symbol, one after another.
 use Rattle.std.proofs.Common.{◌≡◌, ◌<◌, ◌+◌, ℕ, zero, suc, Bool, true, false, List, [], ◌∷◌, Option, Some, None, option_map, length, refl, sym, ◌∙◌, ap, subst, arith, inl, inr}
 use Rattle.std.specs.Prelude.{◌==◌, ◌&&◌, ◌||◌, if◌then◌else◌, ◌⊎◌}
 use Rattle.ml_pat.specs.Patterns.{Pattern, bot, top, imp, not, and, or, equal, member, fun, ex, all, app, at_sort, next, ev, var, meta, constant}
@@ -55,7 +55,8 @@ variable_over l x y u r hy hu h = go (x == y) h
     go true k = subst (EachLeaf l) (some_same u r k) hu
     go false k = subst (EachLeaf l) (some_same (var y) r k) hy
 
--- what is true of the leaves of two patterns is true of those of one with the other put in
+-- If something is true of the leaves of two patterns, it is true of the leaves of one with the
+-- other substituted in it.
 pub over_substituted : (l : LeafFacts) (p : Pattern) (x : ℕ) (u r : Pattern) → EachLeaf l p → EachLeaf l u → substituted p x u ≡ Some r → EachLeaf l r
 over_substituted l bot x u r hp hu h = subst (EachLeaf l) (some_same bot r h) tt
 over_substituted l top x u r hp hu h = subst (EachLeaf l) (some_same top r h) tt
@@ -115,7 +116,7 @@ pub at_metas-push : (n k : ℕ) (head : Pattern) → at_metas head k (suc n) ≡
 at_metas-push zero k head = ap (λ (x : ℕ). app head (meta x)) (omega arith)
 at_metas-push (suc n) k head = at_metas-push n (k + 1) (app head (meta k)) ∙ ap (λ (x : ℕ). app (at_metas (app head (meta k)) (k + 1) n) (meta x)) (omega arith)
 
--- the body of the quantifier of a value that is no variable of the rest
+-- substitution for a variable below n goes into `ex n (x:n = p)`, if the variable is free in p
 put_in_some : (n sort i : ℕ) (p p' : Pattern) → i < n → fresh i p ≡ false → substituted p i (meta i) ≡ Some p' → substituted (ex n sort (equal (var n) p)) i (meta i) ≡ Some (ex n sort (equal (var n) p'))
 put_in_some n sort i p p' low free put = rw (differ i n low, free, put) refl
 

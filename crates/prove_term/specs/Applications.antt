@@ -1,4 +1,4 @@
--- Patterns that are applied to patterns, and what equalities of their parts say of the whole, where there are such.
+-- Patterns that are applied to patterns, and what equalities of the parts say of the whole.
 use Rattle.std.specs.Prelude.{◌≡◌, List, [], ◌∷◌, Option, Some, None}
 use Rattle.ml_pat.specs.Patterns.{Pattern, app, equal, var}
 use Rattle.ml_kernel.specs.Lemmas.{HasNoVariable}
@@ -6,24 +6,25 @@ use Rattle.ml_kernel.specs.Theorems.{Theorem}
 use Rattle.ml_scope.specs.Scopes.{StaysWithin}
 use Rattle.ml_derived.specs.Equalities.{IsApplied, IsAppliedTo, IsArgument}
 
--- applied to patterns, one after another
+-- the head, applied to each pattern of the list in turn
 abbrev pub applied_to : Pattern → List Pattern → Pattern
 applied_to head [] = head
 applied_to head (q ∷ qs) = applied_to (app head q) qs
 
--- the theorem, where there is one, says that a closed pattern equals this one
+-- There is no theorem, or the theorem says that a closed pattern equals p.
 abbrev pub SaysEqualTo : Pattern → Option Theorem → Type 0
 SaysEqualTo p None = Unit {0}
 SaysEqualTo p (Some t) = (left : Pattern) × (t.conclusion ≡ equal left p) × HasNoVariable left
 
--- the theorem says what this is said of, and stays within this
+-- The option holds a theorem. P is true of its conclusion, and it stays within ps and ts.
 pub record IsTheorem (P : Pattern → Type 0) (ps : List Pattern) (ts : List Theorem) (o : Option Theorem) : Type 0 where
   pub made : Theorem
   pub is : o ≡ Some made
   pub says : P made.conclusion
   pub stays : StaysWithin ps ts made
 
--- what is made of equalities of a function and of its argument, where there are such
+-- What is proved of `app f a` from an equality for f and an equality for a. Each equality may be
+-- missing, and without both there is no theorem.
 abbrev pub IsApplication : Pattern → Pattern → Option Theorem → Option Theorem → Option Theorem → Type 0
 IsApplication f a None None o = o ≡ None
 IsApplication f a (Some d) None o = IsTheorem (IsAppliedTo d.conclusion a) (a ∷ var 0 ∷ []) (d ∷ []) o

@@ -1,4 +1,4 @@
--- Lemmas of injections cited for one element, and what equalities make of that.
+-- Lemmas on injections cited for one element, and what follows from them by equalities.
 use Rattle.std.specs.Prelude.{◌≡◌, ℕ, IsTrue, [], ◌∷◌, Contains}
 use Rattle.ml_pat.specs.Patterns.{Pattern, equal, fun, meta}
 use Rattle.ml_kernel.specs.Lemmas.{HasNoVariable}
@@ -35,8 +35,9 @@ abbrev pub CollapsesBy : Theorem → Theorem → Theorem → Type 0
 CollapsesBy lemma proof made =
     (c s t u : ℕ) (p : Pattern) → Collapses c s t u p lemma proof → IsByLemma lemma (p ∷ []) (proof ∷ []) made
 
--- two lemmas on injections, one after the other, and a theorem that both together are one injection, of a pattern
--- variable whose sort it assumes
+-- Two lemmas on injections, from s to t and from t to u, and an equality. The equality says that
+-- both injections in turn are the injection from s to u. It says so of a pattern variable, and
+-- assumes its sort.
 pub record Twice (c s t u : ℕ) (equality lower upper : Theorem) : Type 0 where
   pub first : SaysInjected c s t lower
   pub second : SaysInjected c t u upper
@@ -51,15 +52,16 @@ abbrev pub TwiceFrom : Theorem → Theorem → Theorem → Theorem → Type 0
 TwiceFrom equality lower upper made =
     (c s t u : ℕ) → Twice c s t u equality lower upper → SaysTwice c s t u made
 
--- a scope that has the equality, both lemmas as stated, and each pattern variable has what is made, where its
--- hypotheses may be assumed
+-- If a scope has the equality, both lemmas as stated, all pattern variables, and assumes the
+-- hypotheses of the result, it has the result.
 abbrev pub StaysTwice : Theorem → Theorem → Theorem → Theorem → Type 0
 StaysTwice equality lower upper made =
     (s : Scope) → ((i : ℕ) → IsTrue (s.meta i)) → IsWithin s equality
     → IsStatedIn s lower.hypotheses lower.conclusion → IsStatedIn s upper.hypotheses upper.conclusion
     → ((p : Pattern) → Contains made.hypotheses p → Contains s.assumed p) → IsWithin s made
 
--- an equality, and that its left side is one element of a sort, both from one hypothesis
+-- One theorem is an equality. The other says that its left side is one element of a sort. Both have
+-- the same hypothesis.
 pub record Carries (p q : Pattern) (s : ℕ) (h : Pattern) (equality made : Theorem) : Type 0 where
   pub equals : equality.conclusion ≡ equal p q
   pub says : made.conclusion ≡ fun p s

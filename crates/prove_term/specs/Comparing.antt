@@ -1,5 +1,5 @@
--- Patterns beside the normal terms that they become, part by part: what they become as they are written, and equalities
--- of the images of both.
+-- Patterns of rules and the normal terms that they become. What a pattern becomes as it is written
+-- may differ from the normal term. Then an equality of both images is proved, part by part.
 use Rattle.std.specs.Prelude.{◌≡◌, ◌≢◌, ℕ, List, [], Option, Some, None}
 use Rattle.ml_pat.specs.Patterns.{Pattern, equal, fun}
 use Rattle.ml_kernel.specs.Lemmas.{HasNoVariable}
@@ -18,7 +18,8 @@ use Rattle.prove_term.specs.Contexts.{Context, HasContext, StaysIn}
 use Rattle.prove_term.specs.Schemas.{AreImages}
 use Rattle.prove_term.specs.Applications.{applied_to}
 
--- the pattern, of this sort, becomes the term under a substitution that gives its variables normal terms of their sorts
+-- Under the substitution the pattern becomes the term u. The pattern has this sort, and the
+-- substitution gives each variable a normal term of the variable's sort.
 pub record IsInstance (sig : Signature) (variables : List ℕ) (theta : List (Option Tree)) (p : RulePattern) (sort : ℕ)
     (u : Tree) : Type 0 where
   pub sorted : HasSort sig variables p sort
@@ -31,7 +32,7 @@ pub record AreInstances (sig : Signature) (variables : List ℕ) (theta : List (
   pub respects : RespectsSorts sig variables theta
   pub make : instances_of theta ps ≡ Some us
 
--- the pattern w stands for the term that p becomes under some such substitution
+-- the pattern w is the pattern of the term that p becomes under some such substitution
 abbrev pub IsMade : Signature → RulePattern → RulePattern → Type 0
 IsMade sig p w =
     (variables : List ℕ) × (theta : List (Option Tree)) × (sort : ℕ) × (u : Tree)
@@ -42,8 +43,8 @@ AreMade sig ps ws =
     (variables : List ℕ) × (theta : List (Option Tree)) × (refs : List SortRef) × (us : Forest)
     × AreInstances sig variables theta ps refs us × (ws ≡ ground_patterns us)
 
--- What p becomes as it is written differs from the term u, whose image is this, and the theorem says that the images
--- are equal.
+-- What p becomes as it is written differs from the term u, which has this image. The theorem says
+-- that the two images are equal.
 pub record IsJoined (cx : Context) (theta : List (Option Tree)) (p : RulePattern) (u : Tree) (image : Pattern)
     (t : Theorem) : Type 0 where
   pub written : Tree
@@ -55,18 +56,19 @@ pub record IsJoined (cx : Context) (theta : List (Option Tree)) (p : RulePattern
   pub says : t.conclusion ≡ equal left image
   pub stays : StaysIn cx t
 
--- it is the term u, and there is no theorem, or it is not
+-- There is no theorem and p becomes u as it is written, or the theorem says that the images are
+-- equal.
 abbrev pub IsCompared : Context → List (Option Tree) → RulePattern → Tree → Pattern → Option Theorem → Type 0
 IsCompared cx theta p u image None = substituted theta p ≡ Some u
 IsCompared cx theta p u image (Some t) = IsJoined cx theta p u image t
 
--- the same, whatever the substitution
+-- the same for each substitution
 abbrev pub Compares : Context → RulePattern → RulePattern → Pattern → Option Theorem → Type 0
 Compares cx p w image o =
     (variables : List ℕ) (theta : List (Option Tree)) (sort : ℕ) (u : Tree) →
     IsInstance cx.program.sig variables theta p sort u → w ≡ ground_pattern u → IsCompared cx theta p u image o
 
--- the same of arguments, to which a head is applied
+-- the same for lists of arguments, to whose images a head is applied
 pub record AreJoined (cx : Context) (theta : List (Option Tree)) (ps : RulePatterns) (us : Forest) (head : Pattern)
     (images : List Pattern) (t : Theorem) : Type 0 where
   pub written : Forest
@@ -89,11 +91,12 @@ AllCompare cx ps ws head images o =
     AreInstances cx.program.sig variables theta ps refs us → ws ≡ ground_patterns us →
     AreCompared cx theta ps us head images o
 
--- each scope that has what the context has has the pattern
+-- in each scope that has what the context has, the pattern uses only what the scope has
 abbrev pub IsOverContext : Context → Pattern → Type 0
 IsOverContext cx p = (s : Scope) → HasContext s cx → IsOver s p
 
--- the theorem says of a pattern w of this sort that its image, in which no object variable stands, is one element of it
+-- the theorem says that the image of a pattern w of this sort is one element of it; the image has
+-- no object variable
 pub record IsFactOn (cx : Context) (w : RulePattern) (sort : ℕ) (fact : Theorem) : Type 0 where
   pub image : Pattern
   pub is_image : image_of cx.program.sig cx.names w ≡ Some image

@@ -15,7 +15,8 @@ use Rattle.prove_term.specs.Schemas.{AreSortImages, partly, at_metas, meta_facts
 abbrev pub Constructs : Signature → ℕ → Type 0
 Constructs sig f = (info : SymInfo) × IsSymbol sig f info × (info.kind ≡ Ctor)
 
--- the constant of a symbol, and the numbers of the sorts of its arguments and of its result, among the names
+-- the numbers, among the names, of a symbol, of the sorts of its arguments, and of the sort of its
+-- result
 pub record HasNumbers (sig : Signature) (names : List (List ℕ)) (f : ℕ) (sorts : List ℕ) (sort : ℕ) : Type 0 where
   pub head : ℕ
   pub is_head : symbol_image sig names f ≡ Some (constant head)
@@ -32,7 +33,7 @@ pub record IsNumbered (sig : Signature) (names : List (List ℕ)) (f : ℕ) : Ty
   pub constructs : IsConstructor sig f info sorts sort
   pub numbers : HasNumbers sig names f sorts sort
 
--- that of a constructor with these numbers, for all arguments
+-- for all arguments, a constructor with these numbers makes one element of its sort
 abbrev pub totality : ℕ → List ℕ → ℕ → Pattern
 totality head numbers number = partly head 0 numbers (length numbers) number
 
@@ -42,8 +43,9 @@ pub record SaysTotality (cx : Context) (f : ℕ) (p : Pattern) : Type 0 where
   pub few : length numbered.numbers.numbers < 2 ^ 31
   pub says : p ≡ totality numbered.numbers.head numbered.numbers.numbers numbered.numbers.number
 
--- The theorem says, of pattern variables that are each one element of its sort, that a constructor with these numbers
--- makes one element of them.
+-- The theorem is about a constructor with these numbers, applied to pattern variables. It assumes
+-- that each variable is one element of its sort. It says that the application is one element of the
+-- constructor's sort.
 pub record IsTotalLemma (head : ℕ) (numbers : List ℕ) (number : ℕ) (t : Theorem) : Type 0 where
   pub hypotheses : t.hypotheses ≡ backwards (meta_facts 0 numbers)
   pub conclusion : t.conclusion ≡ fun (at_metas (constant head) 0 (length numbers)) number
@@ -55,6 +57,6 @@ pub record IsConstructorAt (cx : Context) (f k : ℕ) : Type 0 where
   pub there : slice_get cx.lemmas k ≡ Some lemma
   pub says : IsTotalLemma numbered.numbers.head numbered.numbers.numbers numbered.numbers.number lemma
 
--- the symbol has so many arguments
+-- the symbol has n arguments
 abbrev pub Takes : Signature → ℕ → ℕ → Type 0
 Takes sig f n = (info : SymInfo) → IsSymbol sig f info → n ≡ length info.args.items

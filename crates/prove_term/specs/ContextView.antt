@@ -1,4 +1,4 @@
--- The context that a `Cx` of the code stands for, and what is true of it.
+-- The `Context` that a `Cx` of the code has as its model, and what is true of it.
 use Rattle.std.specs.Prelude.{◌≡◌, ℕ, IfSome}
 use Rattle.std.specs.BTreeMap as tree
 use Rattle.std.specs.Ordering.{nat_cmp}
@@ -13,8 +13,8 @@ use Rattle.prove_term.specs.SortKeys.{pair_cmp, triple_cmp}
 abbrev pub context_of : Inside → Context
 context_of a = record { program = a.program.now; names = a.names; axioms = a.theory; lemmas = a.lemmas.items }
 
--- the axioms that are kept are those of their rules and values, and the lemmas those of their constructors
--- and injections
+-- The context is right, and the theorems are its lemmas. Each entry of the maps is right: the axiom
+-- or the lemma that it numbers is about the key of the entry.
 pub record IsKept (a : Inside) : Type 0 where
   pub context : IsContext (context_of a)
   pub rules : (i : ℕ) → IfSome (tree.get nat_cmp a.rules i) (λ no. IsRuleAxiom (context_of a) i no.0)

@@ -1,5 +1,5 @@
--- What was made for the proofs of a run: the names of sorts, symbols and values, the axioms, and the lemmas. A theorem
--- stays in a context where it uses and cites nothing else.
+-- What was made for the proofs of a run: the names of sorts, symbols and values, the axioms, and
+-- the lemmas. A theorem stays in a context if it uses and cites nothing else.
 use Rattle.std.specs.Prelude.{◌≡◌, ℕ, IsTrue, List, [], ◌++◌, Contains, ◌⊎◌, Some, take, slice_get}
 use Rattle.ml_pat.specs.Patterns.{Pattern}
 use Rattle.ml_kernel.specs.Theorems.{Theorem}
@@ -12,19 +12,20 @@ use Rattle.ml_image.specs.OwnAxioms.{IsOwnAxiom}
 use Rattle.ml_image.specs.TrueFacts.{IsTrueFact}
 use Rattle.ml_image.specs.Gained.{AreOwnTokens, HasGained}
 
--- the names, axioms and lemmas that proofs about a program have, each in the order in which they came
+-- the names, axioms and lemmas that proofs about a program use, each in the order in which they
+-- were added
 pub record Context : Type 0 where
   pub program : Program
   pub names : List (List ℕ)
   pub axioms : List Pattern
   pub lemmas : List Theorem
 
--- what the program's definition says, or a true fact on its built-ins
+-- the sentence is an axiom of the program's definition, or a true fact about its built-ins
 abbrev pub IsAssumed : RewriteTheory → Sentence → Type 0
 IsAssumed theory s = IsOwnAxiom theory s ⊎ IsTrueFact theory.sig s
 
--- The scope has what the context has: the sorts and constants of each image over its names, every variable, and its
--- axioms and lemmas as stated.
+-- The scope has what the context has: the sorts and constants of each image over its names, all
+-- variables, and its axioms and lemmas as stated.
 pub record HasContext (s : Scope) (cx : Context) : Type 0 where
   pub images : (q : Sentence) (p : Pattern) → sentence_image cx.program.sig cx.names q ≡ Some p → IsOver s p
   pub objects : (x : ℕ) → IsTrue (s.object x)
@@ -32,17 +33,17 @@ pub record HasContext (s : Scope) (cx : Context) : Type 0 where
   pub axioms : (p : Pattern) → Contains cx.axioms p → IsStatedIn s [] p
   pub lemmas : (t : Theorem) → Contains cx.lemmas t → IsStatedIn s t.hypotheses t.conclusion
 
--- the theorem assumes, uses and cites no more than what the context has
+-- the theorem assumes, uses and cites only what the context has
 abbrev pub StaysIn : Context → Theorem → Type 0
 StaysIn cx t = (s : Scope) → HasContext s cx → IsWithin s t
 
--- .. but for its own hypotheses
+-- the theorem uses and cites only what the context has, and assumes only its own hypotheses
 abbrev pub IsLemmaIn : Context → Theorem → Type 0
 IsLemmaIn cx t =
     (s : Scope) → HasContext s cx → ((p : Pattern) → Contains t.hypotheses p → Contains s.assumed p) → IsWithin s t
 
--- The names are the program's own, and so are the axioms; each lemma stays in the context of the names, the axioms and
--- the lemmas before it.
+-- The names are the program's own, and so are the axioms. Each lemma stays in the context of the
+-- names, the axioms and the lemmas before it.
 pub record IsContext (cx : Context) : Type 0 where
   pub own : AreOwnTokens cx.program.sig cx.names
   pub axioms : (p : Pattern) → Contains cx.axioms p →
@@ -50,7 +51,7 @@ pub record IsContext (cx : Context) : Type 0 where
   pub lemmas : (k : ℕ) (t : Theorem) → slice_get cx.lemmas k ≡ Some t →
       IsLemmaIn (record cx { lemmas = take k cx.lemmas }) t
 
--- A context has grown: it keeps its program and all that it had, and what it gained came after that.
+-- The context has grown. It keeps its program and all that it had. What is new comes after that.
 pub record HasGrown (old new : Context) : Type 0 where
   pub program : new.program ≡ old.program
   pub names : HasGained old.program.sig old.names new.names
@@ -59,6 +60,6 @@ pub record HasGrown (old new : Context) : Type 0 where
   pub lemmas : List Theorem
   pub more_lemmas : new.lemmas ≡ old.lemmas ++ lemmas
 
--- the context at the start: nothing was made
+-- the context at the start, without names, axioms and lemmas
 abbrev pub new_context : Program → Context
 new_context program = record { program = program; names = []; axioms = []; lemmas = [] }

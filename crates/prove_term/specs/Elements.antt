@@ -1,4 +1,4 @@
--- That patterns without variables are one element each of their sorts.
+-- Patterns without variables: each is one element of its sort.
 use Rattle.std.specs.Prelude.{◌≡◌, ℕ, Some, List, [], map}
 use Rattle.ml_pat.specs.Patterns.{Pattern, fun}
 use Rattle.ml_kernel.specs.Lemmas.{HasNoVariable, HaveNoVariables, HasNoMeta, AreMetasBelow}
@@ -20,7 +20,7 @@ IsSorted sig p = (sort : ℕ) × HasSort sig [] p sort
 abbrev pub AreSorted : Signature → RulePatterns → Type 0
 AreSorted sig ps = (refs : List SortRef) × HaveSorts sig [] [] ps refs
 
--- the pattern q says that the image of p, which is closed, is one element of the sort
+-- the pattern q says that the image of p is one element of the sort; the image is closed
 pub record IsElementAt (cx : Context) (p : RulePattern) (sort : ℕ) (q : Pattern) : Type 0 where
   pub image : Pattern
   pub is_image : image_of cx.program.sig cx.names p ≡ Some image
@@ -30,12 +30,12 @@ pub record IsElementAt (cx : Context) (p : RulePattern) (sort : ℕ) (q : Patter
   pub no_variable : HasNoVariable image
   pub no_meta : HasNoMeta image
 
--- .. of each sort that p has
+-- the same for each sort of p
 abbrev pub IsElement : Context → RulePattern → Pattern → Type 0
 IsElement cx p q = (sort : ℕ) → HasSort cx.program.sig [] p sort → IsElementAt cx p sort q
 
--- The theorems, from the last to the first, say that the images qs of patterns, which are closed, are one element each
--- of their declared sorts.
+-- The theorems are in reverse order. They say that the images qs of the patterns are each one
+-- element of the declared sort. The images are closed.
 pub record AreElements (cx : Context) (ps : RulePatterns) (qs : List Pattern) (ts : List Theorem) : Type 0 where
   pub images : AreImages cx.program.sig cx.names ps qs
   pub say : (refs : List SortRef) (sorts : List ℕ) → HaveSorts cx.program.sig [] [] ps refs → refs ≡ map named sorts →
@@ -46,7 +46,7 @@ pub record AreElements (cx : Context) (ps : RulePatterns) (qs : List Pattern) (t
   pub no_variables : HaveNoVariables qs
   pub no_metas : AreMetasBelow 0 qs
 
--- .. where the images too are from the last to the first
+-- the same if the images too are in reverse order
 pub record AreGathered (cx : Context) (ps : RulePatterns) (images : List Pattern) (ts : List Theorem) : Type 0 where
   pub natural : List Pattern
   pub are : images ≡ backwards natural

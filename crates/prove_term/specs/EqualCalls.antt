@@ -1,5 +1,5 @@
--- That the image of a function of patterns' terms as they are written equals that of their normal forms, as a theorem
--- says it.
+-- What a theorem says about a function of patterns: the image of its call on the terms as they are
+-- written equals the image of its call on their normal forms.
 use Rattle.std.specs.Prelude.{◌≡◌, ℕ, List, [], Option, Some, None}
 use Rattle.term_core.specs.Terms.{Tree, Forest}
 use Rattle.term_core.specs.Patterns.{Patterns, call, all_substituted, ground_patterns}
@@ -9,8 +9,8 @@ use Rattle.ml_kernel.specs.Theorems.{Theorem}
 use Rattle.ml_image.specs.Images.{image_of}
 use Rattle.prove_term.specs.Contexts.{Context, StaysIn}
 
--- the pattern says that the image of the function f of some terms equals that of f of others; no object variable stands
--- in them
+-- the pattern says that the image of f of the terms ts equals the image of f of the terms us;
+-- neither image has an object variable
 pub record SaysEqualCall (cx : Context) (f : ℕ) (ts us : Forest) (p : Pattern) : Type 0 where
   pub left : Pattern
   pub left_image : image_of cx.program.sig cx.names (call f [] (ground_patterns ts)) ≡ Some left
@@ -19,8 +19,9 @@ pub record SaysEqualCall (cx : Context) (f : ℕ) (ts us : Forest) (p : Pattern)
   pub says : p ≡ equal left right
   pub no_variable : HasNoVariable left × HasNoVariable right
 
--- What the patterns become under the substitution, as they are written, are these terms, and there is no theorem; or
--- the theorem says that f of them equals f of these terms, and stays in the context.
+-- There is no theorem, and the patterns become the terms us under the substitution as they are
+-- written. Or the theorem says that f of the written terms equals f of us, and stays in the
+-- context.
 abbrev pub SaysEqualCalls : Context → ℕ → List (Option Tree) → Patterns → Forest → Option Theorem → Type 0
 SaysEqualCalls cx f theta ps us None = all_substituted theta ps ≡ Some us
 SaysEqualCalls cx f theta ps us (Some t) =

@@ -6,6 +6,6 @@ use Rattle.ml_image.specs.OwnAxioms.{SaysEquation}
 use Rattle.ml_image.specs.Sentences.{IsImageOf}
 use Rattle.prove_term.specs.Contexts.{Context}
 
--- the pattern is the image of what an equation of the function f says
+-- the pattern is the image of what the equation e of the function f says
 abbrev pub SaysEquationOf : Context → ℕ → Equation → Pattern → Type 0
 SaysEquationOf cx f e p = IsImageOf cx.program.sig cx.names (SaysEquation cx.program.sig f e) p

@@ -1,15 +1,16 @@
--- Patterns of rules with terms in the places of their variables, as they are written.
+-- Patterns of rules with terms in place of their variables, as they are written.
 use Rattle.std.specs.Prelude.{ℕ, List, Option, Some, None}
 use Rattle.term_core.specs.Terms.{Tree}
 use Rattle.term_core.specs.Patterns.{Pattern, Patterns, variable, domain_value, application, injection, call}
 use Rattle.term_core.specs.Patterns.{no_pattern, more_patterns, binding, ground_pattern}
 
--- what stands for a variable, where something does, else the variable
+-- the term that is bound to the variable x, or the variable itself if none is
 abbrev pub in_place : ℕ → Option Tree → Pattern
 in_place x None = variable x
 in_place x (Some t) = ground_pattern t
 
--- The pattern with what a substitution gives its variables in their places. Calls stay, and so do injections that meet.
+-- The pattern with its variables replaced by the terms that a substitution binds to them. Calls
+-- stay, and so do injections of injections.
 abbrev mutual
   pub filled : List (Option Tree) → Pattern → Pattern
   filled theta (variable x) = in_place x (binding theta x)

@@ -1,4 +1,4 @@
--- That a term is one element of its sort, as a theorem says it.
+-- What a theorem says about a term: it is one element of its sort.
 use Rattle.std.specs.Prelude.{◌≡◌, ℕ, Some}
 use Rattle.term_core.specs.Terms.{Tree}
 use Rattle.term_core.specs.Patterns.{ground_pattern}
@@ -8,7 +8,7 @@ use Rattle.ml_image.specs.Images.{image_of, sort_image}
 use Rattle.rule_core.specs.Sorting.{IsTermOf}
 use Rattle.prove_term.specs.Contexts.{Context}
 
--- the pattern says that the image of the term is one element of the term's sort; the image is closed
+-- the pattern says that the image of t is one element of the sort of t; the image is closed
 pub record SaysFunctional (cx : Context) (t : Tree) (p : Pattern) : Type 0 where
   pub sort : ℕ
   pub sorted : IsTermOf cx.program.sig t sort

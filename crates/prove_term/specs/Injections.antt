@@ -1,4 +1,4 @@
--- Injections between sorts: what axioms and lemmas say of them.
+-- Injections between sorts: what axioms and lemmas say about them.
 use Rattle.std.specs.Prelude.{◌≡◌, ℕ, Some, IsTrue, List, [], ◌∷◌, Contains, slice_get}
 use Rattle.ml_pat.specs.Patterns.{Pattern, all, ex, equal, fun, app, at_sort, var, meta, constant}
 use Rattle.ml_kernel.specs.Theorems.{Theorem}
@@ -20,7 +20,7 @@ pub record HasEnds (sig : Signature) (names : List (List ℕ)) (a b : ℕ) : Typ
   pub upper : ℕ
   pub is_upper : sort_image sig names b ≡ Some upper
 
--- each element of the sort s is, injected into the sort t, one element of that
+-- each element of the sort s, injected into the sort t, is one element of t
 abbrev pub injecting : ℕ → ℕ → ℕ → Pattern
 injecting c s t = all 0 s (ex 1 t (equal (var 1) (inject c s t (var 0))))
 
@@ -28,7 +28,8 @@ pub record SaysInjecting (cx : Context) (a b : ℕ) (p : Pattern) : Type 0 where
   pub ends : HasEnds cx.program.sig cx.names a b
   pub says : p ≡ injecting ends.symbol ends.lower ends.upper
 
--- from s to t and on to u is from s to u
+-- for each element of s, the injection from s to t followed by that from t to u is the injection
+-- from s to u
 abbrev pub collapsing : ℕ → ℕ → ℕ → ℕ → Pattern
 collapsing c s t u = all 0 s (equal (inject c t u (inject c s t (var 0))) (inject c s u (var 0)))
 
@@ -38,49 +39,50 @@ pub record SaysCollapsing (cx : Context) (a b d : ℕ) (p : Pattern) : Type 0 wh
   pub is_last : sort_image cx.program.sig cx.names d ≡ Some last
   pub says : p ≡ collapsing ends.symbol ends.lower ends.upper last
 
--- the theorem says that a pattern variable, one element of the sort s, is one of the sort t when it is injected
+-- the theorem assumes that a pattern variable is one element of s, and says that it is one element
+-- of t when injected
 pub record SaysInjected (c s t : ℕ) (made : Theorem) : Type 0 where
   pub hypotheses : made.hypotheses ≡ fun (meta 0) s ∷ []
   pub conclusion : made.conclusion ≡ fun (inject c s t (meta 0)) t
 
--- the lemma says so of these sorts
+-- the lemma says this for the sorts a and b
 pub record IsInjected (cx : Context) (a b : ℕ) (lemma : Theorem) : Type 0 where
   pub ends : HasEnds cx.program.sig cx.names a b
   pub says : SaysInjected ends.symbol ends.lower ends.upper lemma
 
--- .. and stands at this place
+-- the lemma at place k says this
 pub record IsInjectionAt (cx : Context) (a b k : ℕ) : Type 0 where
   pub lemma : Theorem
   pub there : slice_get cx.lemmas k ≡ Some lemma
   pub is : IsInjected cx a b lemma
 
--- the theorem says that a pattern variable, one element of the sort s, injected into t and on into u is injected into u
--- at once
+-- The theorem assumes that a pattern variable is one element of s. It says that its injection into
+-- t and then into u equals its injection into u.
 pub record SaysCollapsed (c s t u : ℕ) (made : Theorem) : Type 0 where
   pub hypotheses : made.hypotheses ≡ fun (meta 0) s ∷ []
   pub conclusion : made.conclusion ≡ equal (inject c t u (inject c s t (meta 0))) (inject c s u (meta 0))
 
--- the lemma says so of these sorts
+-- the lemma says this for the sorts a, b and d
 pub record IsCollapsed (cx : Context) (a b d : ℕ) (lemma : Theorem) : Type 0 where
   pub ends : HasEnds cx.program.sig cx.names a b
   pub last : ℕ
   pub is_last : sort_image cx.program.sig cx.names d ≡ Some last
   pub says : SaysCollapsed ends.symbol ends.lower ends.upper last lemma
 
--- .. and stands at this place
+-- the lemma at place k says this
 pub record IsCollapseAt (cx : Context) (a b d k : ℕ) : Type 0 where
   pub lemma : Theorem
   pub there : slice_get cx.lemmas k ≡ Some lemma
   pub is : IsCollapsed cx a b d lemma
 
--- what is made of an axiom
+-- what is proved from an axiom
 abbrev pub CollapsedFrom : Theorem → Theorem → Type 0
 CollapsedFrom first made = (c s t u : ℕ) → first.conclusion ≡ collapsing c s t u → SaysCollapsed c s t u made
 
 abbrev pub InjectedFrom : Theorem → Theorem → Type 0
 InjectedFrom first made = (c s t : ℕ) → first.conclusion ≡ injecting c s t → SaysInjected c s t made
 
--- what is made of three lemmas
+-- what is proved from three lemmas
 pub record Joins (c s t u : ℕ) (collapse first second : Theorem) : Type 0 where
   pub collapses : SaysCollapsed c s t u collapse
   pub lower : SaysInjected c s t first
@@ -90,7 +92,8 @@ abbrev pub JoinedFrom : Theorem → Theorem → Theorem → Theorem → Type 0
 JoinedFrom collapse first second made =
     (c s t u : ℕ) → Joins c s t u collapse first second → SaysInjected c s u made
 
--- a scope that has all these, what the first says, and each variable, has it, where its hypotheses may be assumed
+-- If a scope has the three lemmas as stated, the pattern of the first, and all variables, and
+-- assumes the hypotheses of the result, it has the result.
 abbrev pub StaysJoined : Theorem → Theorem → Theorem → Theorem → Type 0
 StaysJoined collapse first second made =
     (s : Scope) → ((x : ℕ) → IsTrue (s.object x)) → ((i : ℕ) → IsTrue (s.meta i)) → IsOver s collapse.conclusion

@@ -1,7 +1,7 @@
 -- Terms without injections.
 use Rattle.term_core.specs.Terms.{Tree, Forest, leaf, node, inj, no_tree, more_trees}
 
--- no injection stands in the term
+-- the term has no injection in it
 abbrev mutual
   pub HasNoInjection : Tree → Type 0
   HasNoInjection (leaf s v) = Unit {0}

@@ -9,12 +9,12 @@ use Rattle.ml_image.specs.OwnAxioms.{SaysRule}
 use Rattle.ml_image.specs.Sentences.{IsImageOf}
 use Rattle.prove_term.specs.Contexts.{Context}
 
--- a rule stands at this place of the program, and has an image
+-- there is a rule at place i of the program, and it has an image
 abbrev pub HasImageAt : Program → ℕ → Type 0
 HasImageAt program i =
     (r : Rule) × (slice_get program.rules.items i ≡ Some r) × HasRuleImage program.sig (rewrite_rule r)
 
--- the pattern is the image of what the rule at this place says
+-- the pattern is the image of what the rule at place i says
 abbrev pub SaysRuleAt : Context → ℕ → Pattern → Type 0
 SaysRuleAt cx i p =
     (r : Rule) → slice_get cx.program.rules.items i ≡ Some r →

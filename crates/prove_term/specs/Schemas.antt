@@ -1,4 +1,5 @@
--- Patterns over numbered variables and pattern variables, as sentences and lemmas about symbols have them.
+-- Patterns over numbered variables and pattern variables, as they occur in sentences and lemmas
+-- about symbols.
 use Rattle.std.specs.Prelude.{◌≡◌, ℕ, ◌+◌, zero, suc, List, [], ◌∷◌, ◌++◌, length, Some}
 use Rattle.ml_pat.specs.Patterns.{Pattern, app, all, fun, var, meta, constant, ex, equal}
 use Rattle.rule_core.specs.declared.signature.Signature.{Signature}
@@ -6,7 +7,7 @@ use Rattle.term_core.specs.Patterns.{Patterns, no_pattern, more_patterns}
 use Rattle.ml_image.specs.Counted.{at_variables}
 use Rattle.ml_image.specs.Images.{image_of, sort_image}
 
--- applied to so many pattern variables, numbered from k on
+-- the head, applied to n pattern variables numbered from k on
 abbrev pub at_metas : Pattern → ℕ → ℕ → Pattern
 at_metas head k zero = head
 at_metas head k (suc n) = at_metas (app head (meta k)) (k + 1) n
@@ -16,18 +17,18 @@ abbrev pub all_from : ℕ → List ℕ → Pattern → Pattern
 all_from k [] p = p
 all_from k (s ∷ ss) p = all k s (all_from (k + 1) ss p)
 
--- that pattern variables, numbered from k on, are each one element of its sort
+-- the facts that each pattern variable, numbered from k on, is one element of its sort
 abbrev pub meta_facts : ℕ → List ℕ → List Pattern
 meta_facts k [] = []
 meta_facts k (s ∷ ss) = fun (meta k) s ∷ meta_facts (k + 1) ss
 
--- that patterns are each one element of its sort
+-- the facts that each pattern is one element of its sort
 abbrev pub facts : List Pattern → List ℕ → List Pattern
 facts [] ss = []
 facts (q ∷ qs) [] = []
 facts (q ∷ qs) (s ∷ ss) = fun q s ∷ facts qs ss
 
--- the numbers of sorts among the names
+-- the numbers ns of the sorts ss among the names
 abbrev pub AreSortImages : Signature → List (List ℕ) → List ℕ → List ℕ → Type 0
 AreSortImages sig names [] [] = Unit {0}
 AreSortImages sig names [] (n ∷ ns) = ⊥
@@ -41,13 +42,14 @@ AreImages sig names no_pattern (q ∷ qs) = ⊥
 AreImages sig names (more_patterns p ps) [] = ⊥
 AreImages sig names (more_patterns p ps) (q ∷ qs) = (image_of sig names p ≡ Some q) × AreImages sig names ps qs
 
--- That a constructor, applied to pattern variables below i and then to the variables from i on, is for some x:n of the
--- sort that x, for each of these variables of the sorts that are left.
+-- What is left of the sentence that a constructor is total, after i of its variables became pattern
+-- variables. It is for all variables from i on, of the sorts in `rest`. It says that some x:n of
+-- the sort equals the constructor's application.
 abbrev pub partly : ℕ → ℕ → List ℕ → ℕ → ℕ → Pattern
 partly head i rest n sort =
     all_from i rest (ex n sort (equal (var n) (at_variables (at_metas (constant head) 0 i) i (length rest))))
 
--- a list from its end to its start
+-- a list in reverse order
 abbrev pub backwards : {A : Type 0} → List A → List A
 backwards [] = []
 backwards (x ∷ xs) = backwards xs ++ x ∷ []

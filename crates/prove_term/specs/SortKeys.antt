@@ -1,4 +1,4 @@
--- The orders in which maps keep pairs and triples of sorts, by their numbers.
+-- The orders in which maps keep pairs and triples of sorts. They compare the numbers of the sorts.
 use Rattle.std.specs.Prelude.{ℕ}
 use Rattle.std.specs.Ordering.{nat_cmp, ordering_then}
 use Rattle.std.specs.declared.cmp.Ordering.{Ordering}

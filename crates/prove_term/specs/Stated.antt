@@ -1,10 +1,10 @@
--- What stands at a number among the axioms of a context.
+-- What the axiom with a number in a context says.
 use Rattle.std.specs.Prelude.{◌≡◌, ℕ, Some, slice_get}
 use Rattle.ml_pat.specs.Patterns.{Pattern}
 use Rattle.prove_term.specs.Contexts.{Context}
 use Rattle.prove_term.specs.RuleAxioms.{SaysRuleAt}
 
--- the axiom with this number is that of the rule at this place
+-- the axiom with number n is that of the rule at place i
 pub record IsRuleAxiom (cx : Context) (i n : ℕ) : Type 0 where
   pub stated : Pattern
   pub there : slice_get cx.axioms n ≡ Some stated

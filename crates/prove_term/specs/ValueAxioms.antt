@@ -1,4 +1,4 @@
--- What an axiom on a domain value says.
+-- What an axiom about a domain value says.
 use Rattle.std.specs.Prelude.{◌≡◌, ℕ, Some, List, slice_get}
 use Rattle.ml_pat.specs.Patterns.{Pattern, fun, constant}
 use Rattle.term_core.specs.Terms.{DomainValue}
@@ -18,6 +18,6 @@ pub record IsValueFact (sig : Signature) (names : List (List ℕ)) (s : ℕ) (v 
 abbrev pub SaysValueOf : Context → ℕ → DomainValue → Pattern → Type 0
 SaysValueOf cx s v p = IsValueFact cx.program.sig cx.names s v p
 
--- the axiom with this number says that the constant is one element of the sort with that number
+-- the axiom with number n says that the constant c is one element of the sort with number s
 abbrev pub IsValueAxiom : Context → ℕ → ℕ → ℕ → Type 0
 IsValueAxiom cx c s n = slice_get cx.axioms n ≡ Some (fun (constant c) s)

@@ -1,4 +1,4 @@
-// Functions of patterns beside the same functions of the terms that the patterns become.
+// Calls of functions on patterns, and the same calls on the terms that the patterns become.
 ghost use Rattle.std.specs.Prelude.{◌≡◌, ◌<◌, ℕ, List, [], length, IfOk, Some};
 ghost use Rattle.term_core.specs.Terms.{forest};
 ghost use Rattle.term_core.specs.Patterns.{call, ground_patterns, instances_of};
@@ -18,10 +18,10 @@ use ml_kernel::Thm;
 use std::alloc::{AllocError, Global};
 use term_core::{RulePat, SortId, Subst, SymId, Term, pattern_of};
 
-/// That a function of patterns, with a substitution's terms in the places of their variables, equals the function of
-/// the terms that the patterns become. Both are literally the same where no two injections meet, and then there is no
-/// theorem. `AllocError` says that memory ran out, or what it says of `inj_eq`; the context may have grown then
-/// too.
+/// Proves that a function of patterns, with their variables replaced by a substitution's terms,
+/// equals the function of the terms that the patterns become. If no two injections meet, both are
+/// literally the same, and there is no theorem. `AllocError`: out of memory, or the error of
+/// `inj_eq`. After an error the context may have grown.
 pub fn call_eq(
     alloc: Global,
     cx: &mut Cx<'_>,
@@ -49,7 +49,7 @@ pub fn call_eq(
     all_compared(alloc, cx, args, wholes, &parts.head, &parts.arguments)
 }
 
-// The pattern of a function of terms.
+// Returns the pattern of a function of terms.
 fn called(alloc: Global, function: SymId, terms: &[Term]) -> Result<RulePat, AllocError>
     ensures { IfOk result (λ p. plain_pattern p ≡ call function.0 [] (ground_patterns (forest terms.now))) }
 {
@@ -58,7 +58,7 @@ fn called(alloc: Global, function: SymId, terms: &[Term]) -> Result<RulePat, All
     Ok(RulePat::Call(function, sorts, args))
 }
 
-// The patterns of terms.
+// Returns the patterns of terms.
 fn patterns(alloc: Global, terms: &[Term]) -> Result<Vec<RulePat>, AllocError>
     ensures { IfOk result (λ ps. plain_patterns ps.items ≡ ground_patterns (forest terms.now)) }
 {

@@ -1,5 +1,6 @@
-// Patterns beside the terms that they become under a substitution: the image of a pattern with the images of the terms
-// in the places of its variables equals that of the term. Where injections meet, a lemma makes them one.
+// Patterns and the terms that they become under a substitution. The image of a pattern, with its
+// variables replaced by the images of the terms, equals the image of the term. If two injections
+// meet, a lemma makes them one.
 ghost use Rattle.std.specs.Prelude.{◌≡◌, ◌≢◌, ℕ, List, IfOk, IfSome, Some};
 ghost use Rattle.ml_pat.specs.Patterns.{Pattern, app, equal};
 ghost use Rattle.ml_kernel.specs.Lemmas.{HasNoVariable};
@@ -25,11 +26,12 @@ use ml_pat::{MForm, MPat};
 use std::alloc::{AllocError, Global};
 use term_core::{MAX_HEIGHT, RulePat, SortId, Subst, instance, pattern_of};
 
-/// That the image of a pattern, with the images of a substitution's terms in the places of its variables, equals that
-/// of the term that the pattern becomes. Both are literally the same where no two injections meet, and then there is
-/// no theorem. Lemmas on injections are made when they are first needed. `AllocError` says that memory ran out, or
-/// that a constructor of an injected term has 2^31 arguments or more; the context may have grown then too. It recurses
-/// as deep as the pattern and the injected terms are high.
+/// Proves that the image of a pattern, with its variables replaced by the images of a
+/// substitution's terms, equals the image of the term that the pattern becomes. If no two
+/// injections meet, both are literally the same, and there is no theorem. Lemmas on injections are
+/// made when they are first needed. `AllocError`: out of memory, or a constructor of an injected
+/// term has 2^31 arguments or more. After an error the context may have grown. The recursion is as
+/// deep as the pattern and the injected terms are high.
 pub fn inj_eq(
     alloc: Global,
     cx: &mut Cx<'_>,
@@ -51,7 +53,7 @@ pub fn inj_eq(
     compared(alloc, cx, pat, &whole, &image)
 }
 
-// The same, with the term that the pattern becomes as a pattern, and its image.
+// The same. `whole` is the pattern of the term that `pat` becomes, and `image` is its image.
 #[cycle(compared)]
 fn compared(
     alloc: Global,
@@ -76,7 +78,7 @@ fn compared(
     }
 }
 
-// The same of a constructor of some arguments.
+// The same for a constructor of arguments.
 #[cycle(compared)]
 fn constructor_compared(
     alloc: Global,
@@ -100,7 +102,7 @@ fn constructor_compared(
     all_compared(alloc, cx, args, wholes, &parts.head, &parts.arguments)
 }
 
-// The same of its arguments, to whose images a head is applied.
+// The same for arguments, to whose images a head is applied.
 #[cycle(compared)]
 pub(crate) fn all_compared(
     alloc: Global,
@@ -129,7 +131,7 @@ pub(crate) fn all_compared(
     Ok(made)
 }
 
-// The same of an injection.
+// The same for an injection.
 #[cycle(compared)]
 fn injection_compared(
     alloc: Global,
@@ -159,7 +161,7 @@ fn injection_compared(
     Ok(Some(made))
 }
 
-// The same of an injection that stays one.
+// The same for an injection whose argument does not become an injection.
 #[cycle(compared)]
 fn beneath(
     alloc: Global,
@@ -184,7 +186,8 @@ fn beneath(
     applied(alloc, &None, head, &one, argument)
 }
 
-// The same of an injection of what becomes an injection from the lowest sort, of which an element is at hand.
+// The same for an injection whose argument becomes an injection. A theorem about an element of the
+// lowest sort is at hand.
 #[cycle(compared)]
 fn joined_compared(
     alloc: Global,
@@ -218,7 +221,7 @@ fn joined_compared(
     }
 }
 
-// The same of what is injected then.
+// The same for the injected pattern in that case.
 #[cycle(compared)]
 fn middle_compared(
     alloc: Global,
@@ -253,7 +256,8 @@ fn middle_compared(
     }
 }
 
-// The outer and the inner part of the left side of an equality that makes two injections one.
+// Returns the outer and the inner part of the left side of an equality that makes two injections
+// one.
 fn twice(once: &Thm) -> (&MPat, &MPat)
     requires { (f a q : Pattern) × (once.now.conclusion ≡ equal (app f a) q) }
     ensures { (q : Pattern) × (once.now.conclusion ≡ equal (app result.0.now result.1.now) q) }

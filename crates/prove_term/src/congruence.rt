@@ -1,4 +1,4 @@
-// Applications: their parts, and what equalities of their parts make of them.
+// Applications: their parts, and what equalities of the parts say of the whole.
 ghost use Rattle.std.specs.Prelude.{◌≡◌, ℕ, List, IfOk, length};
 ghost use Rattle.ml_pat.specs.Patterns.{Pattern, app};
 ghost use Rattle.ml_kernel.specs.Lemmas.{HasNoVariable};
@@ -9,14 +9,14 @@ use ml_kernel::Thm;
 use ml_pat::{MForm, MPat};
 use std::alloc::{AllocError, Global};
 
-/// A head, and the patterns that it is applied to.
+/// A head, and the patterns to which it is applied.
 #[derive(Drop)]
 pub struct Parts {
     pub head: MPat,
     pub arguments: Vec<MPat>,
 }
 
-/// The head of a pattern that is applied to so many, and these. `AllocError` says that memory ran out.
+/// Takes apart a head that is applied to `count` patterns. `AllocError`: out of memory.
 pub fn taken_apart(alloc: Global, image: &MPat, count: usize) -> Result<Parts, AllocError>
     requires { (head : Pattern) × (qs : List Pattern) × (image.now ≡ applied_to head qs) × (count ≡ length qs) }
     ensures { IfOk result (λ a. (head : Pattern) (qs : List Pattern) → image.now ≡ applied_to head qs →
@@ -34,7 +34,7 @@ pub fn taken_apart(alloc: Global, image: &MPat, count: usize) -> Result<Parts, A
     Ok(Parts { head, arguments })
 }
 
-/// What is applied, and what it is applied to.
+/// Returns the function and the argument of an application.
 pub fn halves(p: &MPat) -> (&MPat, &MPat)
     requires { (f a : Pattern) × (p.now ≡ app f a) }
     ensures { p.now ≡ app result.0.now result.1.now }
@@ -45,8 +45,8 @@ pub fn halves(p: &MPat) -> (&MPat, &MPat)
     }
 }
 
-/// An application, with what equals the function and the argument in their places, where something does: that it equals
-/// the application as it is. `AllocError` says that memory ran out.
+/// Proves that an application equals the one in which function and argument are replaced by what
+/// equals them. Without any equality there is no theorem. `AllocError`: out of memory.
 pub fn applied(
     alloc: Global,
     function: &Option<Thm>,

@@ -15,7 +15,8 @@ use std::alloc::{AllocError, Global};
 use term_core::SymId;
 
 impl<'p> Cx<'p> {
-    // The place of the lemma of a constructor. A constructor of 2^31 arguments or more is refused as out of memory.
+    // Returns the place of the lemma of a constructor. A constructor with 2^31 arguments or more is
+    // refused as out of memory.
     pub(crate) fn constructor(&mut self, alloc: Global, symbol: SymId) -> Result<usize, AllocError>
         requires signature { IsSignature self.old.program.sig }
         requires constructs { Constructs self.old.program.sig symbol.0 }
@@ -33,14 +34,14 @@ impl<'p> Cx<'p> {
         Ok(place)
     }
 
-    // The place of the lemma of a constructor, where there is one.
+    // Returns the place of the lemma of a constructor, if there is one.
     fn known_constructor(&self, symbol: SymId) -> Option<usize>
         ensures { IfSome result (IsConstructorAt self.now symbol.0) }
     {
         self.constructors.get(&symbol.0).copied()
     }
 
-    // Keeps a lemma as that of a constructor.
+    // Keeps the place of a constructor's lemma.
     fn keep_constructor(&mut self, symbol: SymId, place: usize) -> Result<(), AllocError>
         requires { IsConstructorAt self.old symbol.0 place }
         ensures { self.new ≡ self.old }
@@ -49,7 +50,7 @@ impl<'p> Cx<'p> {
         Ok(())
     }
 
-    // That a constructor is total, for all arguments.
+    // Proves that a constructor is total, for all arguments.
     fn totality(&mut self, alloc: Global, symbol: SymId) -> Result<Thm, AllocError>
         requires signature { IsSignature self.old.program.sig }
         requires constructs { Constructs self.old.program.sig symbol.0 }
@@ -63,7 +64,7 @@ impl<'p> Cx<'p> {
         self.axiom(alloc, no)
     }
 
-    // The image of that.
+    // Returns the image of that sentence.
     fn totality_image(&mut self, alloc: Global, symbol: SymId) -> Result<MPat, AllocError>
         requires signature { IsSignature self.old.program.sig }
         requires constructs { Constructs self.old.program.sig symbol.0 }
@@ -78,7 +79,7 @@ impl<'p> Cx<'p> {
         ctor_total(alloc, &self.program.sig, &mut self.names, symbol)
     }
 
-    // How many arguments a symbol has.
+    // Returns how many arguments a symbol has.
     fn count(&self, symbol: SymId) -> usize
         ensures { Takes self.now.program.sig symbol.0 result }
     {

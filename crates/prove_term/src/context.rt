@@ -19,31 +19,31 @@ use std::collections::BTreeMap;
 use std::marker::Model;
 use term_core::RulePat;
 
-/// What the proofs about a program use: the names of its sorts, symbols and values, axioms, and lemmas. Contracts see
-/// it as a plain `Context`.
+/// What the proofs about a program use: the names of its sorts, symbols and values, the axioms, and
+/// the lemmas. Contracts see it as a plain `Context`.
 #[derive(Drop)]
 pub struct Cx<'p> {
     pub(crate) program: &'p Program,
     pub(crate) names: Names,
     theory: Theory,
     lemmas: Vec<Lemma>,
-    // The theorems of these, with their derivations.
+    // The theorems of the lemmas, with their derivations.
     theorems: Vec<Thm>,
     // The axiom of each rule that was used.
     rules: BTreeMap<u32, AxiomNo>,
     // The axiom of each value that was used, by the value's constant.
     pub(crate) values: BTreeMap<u64, ValueAxiom>,
-    // The axiom of each call of a hook that was used, by the function and its arguments.
+    // The axiom of each hook call that was used, by the function and its arguments.
     pub(crate) hooks: BTreeMap<(u32, i128, i128), AxiomNo>,
     // The place of the lemma of each constructor that was used.
     pub(crate) constructors: BTreeMap<u32, usize>,
-    // That of each injection that was used, by the sorts that it comes from and goes to.
+    // The place of the lemma of each injection that was used, by its two sorts.
     pub(crate) injections: BTreeMap<(u32, u32), usize>,
-    // That of each two injections in a row that were made one, by the three sorts.
+    // The place of the lemma that makes two injections one, by the three sorts.
     pub(crate) collapses: BTreeMap<(u32, u32, u32), usize>,
 }
 
-/// The axiom of a value, and the sort that it names.
+/// The axiom of a value, and the sort in it.
 #[derive(Clone, Copy)]
 pub(crate) struct ValueAxiom {
     pub(crate) sort: MSort,
@@ -69,7 +69,7 @@ impl<'p> Model for Cx<'p> {
 }
 
 impl<'p> Cx<'p> {
-    /// The context at the start: nothing was made.
+    /// Makes a context without names, axioms and lemmas.
     pub fn new(alloc: Global, program: &'p Program) -> Cx<'p>
         ensures { result ≡ new_context program.now }
     {
@@ -88,50 +88,51 @@ impl<'p> Cx<'p> {
         }
     }
 
-    /// The program.
+    /// Returns the program.
     pub fn program(&self) -> &'p Program
         ensures { result.now ≡ self.now.program }
     {
         self.program
     }
 
-    /// The names of the program's sorts, symbols and values that proofs have used.
+    /// Returns the names of the program's sorts, symbols and values that proofs have used.
     pub fn names(&self) -> &Names
         ensures { result.now ≡ self.now.names }
     {
         &self.names
     }
 
-    /// The axioms.
+    /// Returns the axioms.
     pub fn theory(&self) -> &Theory
         ensures { result.now ≡ self.now.axioms }
     {
         &self.theory
     }
 
-    /// The lemmas, in the order in which they came.
+    /// Returns the lemmas, in the order in which they were added.
     pub fn lemmas(&self) -> &[Lemma]
         ensures { result.now ≡ self.now.lemmas }
     {
         &self.lemmas
     }
 
-    /// The same with their derivations, as they are to be written.
+    /// Returns the lemmas with their derivations, for writing.
     pub fn theorems(&self) -> &[Thm]
         ensures { result.now ≡ self.now.lemmas }
     {
         &self.theorems
     }
 
-    /// Names and axioms are the program's own, and each lemma stays in what came before it.
+    /// Law: the names and axioms are the program's own, and each lemma stays in what came before
+    /// it.
     pub fn law(&self)
         ensures { IsContext self.now }
     {
         let _names = &self.names;
     }
 
-    /// The image of a pattern whose sorts and symbols are the program's. `AllocError` says that memory ran out; the
-    /// names may have grown then too.
+    /// Returns the image of a pattern whose sorts and symbols are the program's. `AllocError`: out
+    /// of memory. After an error the names may have grown.
     pub fn image(&mut self, alloc: Global, pat: &RulePat) -> Result<MPat, AllocError>
         requires { HasImage self.old.program.sig (2 ^ 32) (plain_pattern pat.now) }
         ensures image { IfOk result
@@ -141,8 +142,8 @@ impl<'p> Cx<'p> {
         term_image(alloc, &self.program.sig, &mut self.names, pat)
     }
 
-    /// The image of the rule at a place as a theorem. It is stated as an axiom when it is first asked for. `AllocError`
-    /// says that memory ran out; the context may have grown then too.
+    /// Returns the image of the rule at a place as a theorem. The first call for a rule states it
+    /// as an axiom. `AllocError`: out of memory. After an error the context may have grown.
     pub fn rule_axiom(&mut self, alloc: Global, rule: u32) -> Result<Thm, AllocError>
         requires { HasImageAt self.old.program rule }
         ensures says { IfOk result (λ t. SaysRuleAt self.new rule t.conclusion) }
@@ -154,7 +155,7 @@ impl<'p> Cx<'p> {
         self.axiom(alloc, no)
     }
 
-    // The number of the axiom of a rule.
+    // Returns the number of the axiom of a rule.
     fn rule_number(&mut self, alloc: Global, rule: u32) -> Result<AxiomNo, AllocError>
         requires { HasImageAt self.old.program rule }
         ensures says { IfOk result (λ no. IsRuleAxiom self.new rule no.0) }
@@ -169,7 +170,7 @@ impl<'p> Cx<'p> {
         Ok(no)
     }
 
-    // The image of the rule at a place.
+    // Returns the image of the rule at a place.
     fn rule_image(&mut self, alloc: Global, rule: u32) -> Result<MPat, AllocError>
         requires { HasImageAt self.old.program rule }
         ensures image { IfOk result (SaysRuleAt self.new rule) }
@@ -179,7 +180,7 @@ impl<'p> Cx<'p> {
         rule_image(alloc, &self.program.sig, &mut self.names, stated)
     }
 
-    // Keeps an axiom as that of a rule.
+    // Keeps the number of a rule's axiom.
     fn keep_rule(&mut self, rule: u32, no: AxiomNo) -> Result<(), AllocError>
         requires { IsRuleAxiom self.old rule no.0 }
         ensures { self.new ≡ self.old }
@@ -188,7 +189,7 @@ impl<'p> Cx<'p> {
         Ok(())
     }
 
-    /// States the image of what is assumed as an axiom. `AllocError` says that memory ran out.
+    /// States the image of an assumed sentence as an axiom. `AllocError`: out of memory.
     pub fn state(&mut self, image: MPat) -> Result<AxiomNo, AllocError>
         requires { IsImageOf self.old.program.sig self.old.names (IsAssumed (theory_of self.old.program)) image }
         ensures there { IfOk result (λ no. slice_get self.new.axioms no.0 ≡ Some image) }
@@ -198,7 +199,7 @@ impl<'p> Cx<'p> {
         self.theory.add(image)
     }
 
-    /// An axiom as a theorem. `AllocError` says that memory ran out.
+    /// Returns an axiom as a theorem. `AllocError`: out of memory.
     pub fn axiom(&self, alloc: Global, no: AxiomNo) -> Result<Thm, AllocError>
         requires { no.0 < length self.now.axioms }
         ensures conclusion { IfOk result (λ t. slice_get self.now.axioms no.0 ≡ Some t.conclusion) }
@@ -208,8 +209,8 @@ impl<'p> Cx<'p> {
         self.theory.axiom(alloc, no)
     }
 
-    /// Keeps a theorem as a lemma: it stays in the context but for its own hypotheses. `AllocError` says that memory
-    /// was wanting, and nothing changes then.
+    /// Keeps a theorem as a lemma. The theorem may use only what the context has, and may assume
+    /// its own hypotheses. `AllocError`: out of memory. Then nothing changes.
     pub fn add_lemma(&mut self, alloc: Global, thm: Thm) -> Result<(), AllocError>
         requires { IsLemmaIn self.old thm }
         ensures ok { OnOk result (self.new ≡ record self.old { lemmas = self.old.lemmas ++ thm ∷ [] }) }

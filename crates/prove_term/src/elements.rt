@@ -19,10 +19,10 @@ use ml_pat::{MForm, MPat};
 use std::alloc::{AllocError, Global};
 use term_core::{RulePat, SortId, SymId, Term, pattern_of};
 
-/// That a term is one element of its sort, from the axioms of its values and the lemmas of its constructors and
-/// injections, which are made when they are first needed. `AllocError` says that memory ran out, or that a
-/// constructor of the term has 2^31 arguments or more; the context may have grown then too. It recurses as deep as the
-/// term is high.
+/// Proves that a term is one element of its sort, from the axioms of its values and the lemmas of
+/// its constructors and injections. These are made when they are first needed. `AllocError`: out of
+/// memory, or a constructor of the term has 2^31 arguments or more. After an error the context may
+/// have grown. The recursion is as deep as the term is high.
 pub fn fun_of(alloc: Global, cx: &mut Cx<'_>, term: &Term) -> Result<Thm, AllocError>
     requires well_sorted { IsWellSorted (theory_of cx.old.program) }
     requires sorted { (sort : ℕ) × IsTermOf cx.old.program.sig term.now sort }
@@ -35,7 +35,7 @@ pub fn fun_of(alloc: Global, cx: &mut Cx<'_>, term: &Term) -> Result<Thm, AllocE
     element(alloc, cx, &pattern)
 }
 
-// That a pattern without variables and calls is one element of its sort.
+// Proves that a pattern without variables and calls is one element of its sort.
 #[cycle(element)]
 pub(crate) fn element(alloc: Global, cx: &mut Cx<'_>, pat: &RulePat) -> Result<Thm, AllocError>
     requires signature { IsSignature cx.old.program.sig }
@@ -54,7 +54,7 @@ pub(crate) fn element(alloc: Global, cx: &mut Cx<'_>, pat: &RulePat) -> Result<T
     }
 }
 
-// The same for a constructor of some arguments, by its lemma.
+// The same for a constructor of arguments, by its lemma.
 #[cycle(element)]
 fn constructed(
     alloc: Global,
@@ -97,7 +97,8 @@ fn injected(
     cited(alloc, &cx.lemmas()[place], proof)
 }
 
-// The images of some arguments, and from the last to the first that each is one element of its sort.
+// The images of arguments, and proofs that each is one element of its sort. Both are in reverse
+// order.
 #[derive(Drop)]
 struct Arguments {
     images: Vec<MPat>,
@@ -123,7 +124,7 @@ fn all_elements(alloc: Global, cx: &mut Cx<'_>, args: &[RulePat]) -> Result<Argu
     Ok(Arguments { images, proofs })
 }
 
-// What a theorem says to be one element of a sort.
+// Returns the pattern that a theorem says to be one element of a sort.
 pub(crate) fn subject(made: &Thm) -> Result<MPat, AllocError>
     requires { (p : Pattern) × (s : ℕ) × (made.now.conclusion ≡ fun p s) }
     ensures { IfOk result (λ q. (p : Pattern) (s : ℕ) → made.now.conclusion ≡ fun p s → q ≡ p) }

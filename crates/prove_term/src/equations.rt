@@ -14,9 +14,9 @@ use rule_core::Equation;
 use std::alloc::{AllocError, Global};
 
 impl<'p> Cx<'p> {
-    /// The image of an equation of a function as a theorem. Each call states it as an axiom: who uses an equation often
-    /// keeps the theorem, or what is made of it. `AllocError` says that memory ran out; the context may have grown
-    /// then too.
+    /// Returns the image of an equation of a function as a theorem. Each call states a new axiom. A
+    /// caller that uses an equation often keeps the theorem, or what follows from it. `AllocError`:
+    /// out of memory. After an error the context may have grown.
     pub fn equation_axiom(&mut self, alloc: Global, equation: &Equation) -> Result<Thm, AllocError>
         requires image { HasEquationImage self.old.program.sig equation.now.fun.0 (function_equation equation.now) }
         requires own { IsEquationFor (theory_of self.old.program) equation.now.fun.0 (function_equation equation.now) }
@@ -31,7 +31,7 @@ impl<'p> Cx<'p> {
         self.axiom(alloc, no)
     }
 
-    // The image of an equation.
+    // Returns the image of an equation.
     fn equation_image(&mut self, alloc: Global, equation: &Equation) -> Result<MPat, AllocError>
         requires { HasEquationImage self.old.program.sig equation.now.fun.0 (function_equation equation.now) }
         ensures says { IfOk result

@@ -1,4 +1,4 @@
-// Functions with hooks: what a hook gives at values, by an axiom that is stated once.
+// Functions with hooks: the value of a hook at values, by an axiom that is stated once.
 ghost use Rattle.std.specs.Prelude.{◌≡◌, [], IfOk, IfSome, Some, map, slice_get};
 ghost use Rattle.term_core.specs.Values.{scalar_value};
 ghost use Rattle.rule_core.specs.ProgramView.{theory_of};
@@ -17,8 +17,9 @@ use term_core::{Scalar, SymId};
 type Call = (u32, i128, i128);
 
 impl<'p> Cx<'p> {
-    /// That a function with a hook is, of values, the value that the hook gives there. It is stated as an axiom when it
-    /// is first asked for. `AllocError` says that memory ran out; the context may have grown then too.
+    /// Proves that a function with a hook, applied to values, equals the value of the hook. The
+    /// first call states this as an axiom. `AllocError`: out of memory. After an error the context
+    /// may have grown.
     pub fn hook(&mut self, alloc: Global, symbol: SymId, args: &[Scalar]) -> Result<Thm, AllocError>
         requires { (s : Sentence) × SaysHook self.old.program.sig symbol.0 (map scalar_value args.now) s }
         ensures says { IfOk result (λ t. IsImageOf self.new.program.sig self.new.names
@@ -32,7 +33,7 @@ impl<'p> Cx<'p> {
         self.axiom(alloc, no)
     }
 
-    // The image of that.
+    // Returns the image of that fact.
     fn hook_image(
         &mut self,
         alloc: Global,
@@ -49,7 +50,7 @@ impl<'p> Cx<'p> {
         hook_fact(alloc, &self.program.sig, &mut self.names, symbol, args)
     }
 
-    // The number of the axiom of a fact on a call.
+    // Returns the number of the axiom of a fact on a call.
     fn fact_number(&mut self, of: Call, fact: MPat) -> Result<AxiomNo, AllocError>
         requires { IsImageOf self.old.program.sig self.old.names (IsAssumed (theory_of self.old.program)) fact }
         ensures there { IfOk result (λ no. slice_get self.new.axioms no.0 ≡ Some fact) }
@@ -64,7 +65,7 @@ impl<'p> Cx<'p> {
         Ok(no)
     }
 
-    // The number of the axiom that is kept for a call, where it is this fact.
+    // Returns the number of the axiom that is kept for a call, if it is this fact.
     fn known_fact(&self, of: Call, fact: &MPat) -> Option<AxiomNo>
         ensures { IfSome result (λ no. slice_get self.now.axioms no.0 ≡ Some fact.now) }
     {
@@ -77,7 +78,7 @@ impl<'p> Cx<'p> {
     }
 }
 
-// What a fact is kept by.
+// Returns the key by which the fact on a call is kept.
 fn call(symbol: SymId, args: &[Scalar]) -> Call {
     (symbol.0, number(args.get(0)), number(args.get(1)))
 }

@@ -1,4 +1,5 @@
-// Injections: each takes one element of a sort to one of a sort above, by a lemma that is made once.
+// Injections: each maps an element of a sort to one element of a supersort, by a lemma that is made
+// once.
 ghost use Rattle.std.specs.Prelude.{◌≡◌, ◌∷◌, [], Contains, IfOk, IfSome};
 ghost use Rattle.term_core.specs.RulePatterns.{sort_numbers};
 ghost use Rattle.rule_core.specs.ProgramView.{theory_of};
@@ -18,7 +19,7 @@ use std::alloc::{AllocError, Global};
 use term_core::SortId;
 
 impl<'p> Cx<'p> {
-    // The place of the lemma of an injection into a sort above.
+    // Returns the place of the lemma of an injection into a supersort.
     pub(crate) fn injection(
         &mut self,
         alloc: Global,
@@ -38,7 +39,7 @@ impl<'p> Cx<'p> {
         }
     }
 
-    // The same along a chain of pairs.
+    // The same along a chain of declared pairs.
     fn injection_along(
         &mut self,
         alloc: Global,
@@ -58,7 +59,7 @@ impl<'p> Cx<'p> {
         Ok(place)
     }
 
-    // The place of the lemma of an injection into a sort that a pair puts right above.
+    // Returns the place of the lemma of an injection for a declared pair of sorts.
     fn direct(&mut self, alloc: Global, from: SortId, to: SortId) -> Result<usize, AllocError>
         requires { AllowsPair self.old.program.sig from.0 to.0 }
         ensures lemma { IfOk result (IsInjectionAt self.new from.0 to.0) }
@@ -72,7 +73,8 @@ impl<'p> Cx<'p> {
         self.add_injection(alloc, from, to, lemma)
     }
 
-    // That of an injection one pair further than one whose lemma stands at a place.
+    // Returns the place of the lemma of an injection that goes one declared pair further than
+    // another injection. `lower` is the place of the other's lemma.
     fn further(
         &mut self,
         alloc: Global,
@@ -97,7 +99,7 @@ impl<'p> Cx<'p> {
         self.add_injection(alloc, from, to, lemma)
     }
 
-    // Keeps a lemma as that of an injection, and gives its place.
+    // Keeps a lemma as that of an injection, and returns its place.
     fn add_injection(
         &mut self,
         alloc: Global,
@@ -116,7 +118,7 @@ impl<'p> Cx<'p> {
         Ok(place)
     }
 
-    // The place of the lemma of an injection, where there is one.
+    // Returns the place of the lemma of an injection, if there is one.
     fn known_injection(&self, from: SortId, to: SortId) -> Option<usize>
         ensures { IfSome result (IsInjectionAt self.now from.0 to.0) }
     {
@@ -132,7 +134,7 @@ impl<'p> Cx<'p> {
         Ok(())
     }
 
-    // That injected elements of a sort are one element each of the sort right above it.
+    // Proves that each injected element of a sort is one element of the sort directly above it.
     fn subsort(&mut self, alloc: Global, from: SortId, to: SortId) -> Result<Thm, AllocError>
         requires { AllowsPair self.old.program.sig from.0 to.0 }
         ensures says { IfOk result (λ t. SaysInjecting self.new from.0 to.0 t.conclusion) }
@@ -145,7 +147,7 @@ impl<'p> Cx<'p> {
         self.axiom(alloc, no)
     }
 
-    // The image of that.
+    // Returns the image of that sentence.
     fn subsort_image(&mut self, alloc: Global, from: SortId, to: SortId) -> Result<MPat, AllocError>
         requires { AllowsPair self.old.program.sig from.0 to.0 }
         ensures says { IfOk result (SaysInjecting self.new from.0 to.0) }
@@ -156,7 +158,8 @@ impl<'p> Cx<'p> {
         inj_total(alloc, &self.program.sig, &mut self.names, from, to)
     }
 
-    // The place of the lemma that an injection through a sort is the injection at once.
+    // Returns the place of the lemma that an injection through a sort between is the direct
+    // injection.
     pub(crate) fn collapse(
         &mut self,
         alloc: Global,
@@ -180,14 +183,14 @@ impl<'p> Cx<'p> {
         Ok(place)
     }
 
-    // The place of that lemma, where there is one.
+    // Returns the place of that lemma, if there is one.
     fn known_collapse(&self, from: SortId, through: SortId, to: SortId) -> Option<usize>
         ensures { IfSome result (IsCollapseAt self.now from.0 through.0 to.0) }
     {
         self.collapses.get(&(from.0, through.0, to.0)).copied()
     }
 
-    // Keeps its place.
+    // Keeps the place of that lemma.
     fn keep_collapse(
         &mut self,
         from: SortId,
@@ -202,7 +205,7 @@ impl<'p> Cx<'p> {
         Ok(())
     }
 
-    // That an injection through a sort is the injection at once.
+    // Proves that an injection through a sort between is the direct injection.
     fn collapse_axiom(
         &mut self,
         alloc: Global,
@@ -222,7 +225,7 @@ impl<'p> Cx<'p> {
         self.axiom(alloc, no)
     }
 
-    // The image of that.
+    // Returns the image of that sentence.
     fn collapse_image(
         &mut self,
         alloc: Global,

@@ -1,4 +1,4 @@
-// The lemmas of injections, from axioms.
+// The lemmas on injections, from axioms.
 ghost use Rattle.std.specs.Prelude.{◌≡◌, ◌∷◌, ℕ, [], IfOk};
 ghost use Rattle.ml_pat.specs.Patterns.{Pattern, equal, fun, imp, var};
 ghost use Rattle.ml_scope.specs.Scopes.{StaysWithin};
@@ -15,8 +15,8 @@ use ml_pat::{MForm, MPat, VarNo};
 use ml_scope::{assume, eq_el};
 use std::alloc::{AllocError, Global};
 
-// That a pattern variable, one element of a sort, is one of the sort right above when it is injected, as a lemma,
-// from the same for all elements.
+// The lemma that a pattern variable, one element of a sort, is one element of the sort directly
+// above when injected. It follows from the same for all elements.
 pub(crate) fn injected(alloc: Global, total: &Thm) -> Result<Thm, AllocError>
     requires total { (c s t : ℕ) × (total.now.conclusion ≡ injecting c s t) }
     requires no_hypotheses { total.now.hypotheses ≡ [] }
@@ -27,8 +27,9 @@ pub(crate) fn injected(alloc: Global, total: &Thm) -> Result<Thm, AllocError>
     one_element(alloc, &instance)
 }
 
-// That a pattern variable, one element of a sort, is injected at once where it is injected through a sort between, as a
-// lemma, from the same for all elements.
+// The lemma that a pattern variable, injected through a sort between, is the same as injected
+// directly. It assumes that the variable is one element of its sort. It follows from the same for
+// all elements.
 pub(crate) fn collapsed(alloc: Global, collapse: &Thm) -> Result<Thm, AllocError>
     requires collapse { (c s t u : ℕ) × (collapse.now.conclusion ≡ collapsing c s t u) }
     requires no_hypotheses { collapse.now.hypotheses ≡ [] }
@@ -38,8 +39,8 @@ pub(crate) fn collapsed(alloc: Global, collapse: &Thm) -> Result<Thm, AllocError
     at_meta(alloc, collapse, 0)
 }
 
-// The lemma of an injection from those of one into a sort between and of one from there, and from that both together
-// are the injection at once.
+// The lemma of an injection from three lemmas: that of the injection into a sort between, that of
+// the injection from there, and the lemma that both together are the direct injection.
 pub(crate) fn joined(
     alloc: Global,
     collapse: &Lemma,
@@ -56,7 +57,7 @@ pub(crate) fn joined(
     carried(alloc, &equality, &twice)
 }
 
-// The lemma that two injections are one, of one element.
+// The lemma that two injections are one, cited for one element.
 pub(crate) fn at_once(alloc: Global, lemma: &Lemma, proof: &Thm) -> Result<Thm, AllocError>
     requires { (c s t u : ℕ) × (p : Pattern) × Collapses c s t u p lemma.now proof.now }
     ensures conclusion { IfOk result (CollapsesTo lemma.now proof.now) }
@@ -67,7 +68,8 @@ pub(crate) fn at_once(alloc: Global, lemma: &Lemma, proof: &Thm) -> Result<Thm, 
     Thm::use_lemma(alloc, lemma, &images, &proofs)
 }
 
-// The pattern variable, injected by both, from what the equality assumes.
+// Proves that the pattern variable, injected by both, is one element of the greatest sort. It
+// assumes what the equality assumes.
 fn injected_twice(
     alloc: Global,
     equality: &Thm,
@@ -83,7 +85,7 @@ fn injected_twice(
     cited(alloc, upper, once)
 }
 
-// The lemma of an injection, of one element.
+// The lemma of an injection, cited for one element.
 pub(crate) fn cited(alloc: Global, lemma: &Lemma, proof: Thm) -> Result<Thm, AllocError>
     requires { (c s t : ℕ) × (p : Pattern) × Cites c s t p lemma.now proof }
     ensures conclusion { IfOk result (CitedFrom lemma.now proof) }
@@ -94,7 +96,7 @@ pub(crate) fn cited(alloc: Global, lemma: &Lemma, proof: Thm) -> Result<Thm, All
     Thm::use_lemma(alloc, lemma, &images, &proofs)
 }
 
-// From an equality, and that its left side is one element of a sort: its right side is.
+// Proves that the right side of an equality is one element of a sort, because the left side is.
 fn carried(alloc: Global, equality: &Thm, made: &Thm) -> Result<Thm, AllocError>
     requires { (p q : Pattern) × (s : ℕ) × (h : Pattern) × Carries p q s h equality.now made.now }
     ensures says { IfOk result (CarriedFrom equality.now made.now) }
@@ -111,7 +113,7 @@ fn carried(alloc: Global, equality: &Thm, made: &Thm) -> Result<Thm, AllocError>
     detach(alloc, made, &under, made.conclusion(), &fact)
 }
 
-// From an equality: where its left side is one element of a sort, its right side is.
+// Proves from an equality: if its left side is one element of a sort, so is its right side.
 fn exchanged(alloc: Global, equality: &Thm, old: &MPat, new: &MPat) -> Result<Thm, AllocError>
     requires { (p q : Pattern) × (s : ℕ) ×
         (equality.now.conclusion ≡ equal p q) × (old.now ≡ fun p s) × (new.now ≡ fun q s) }

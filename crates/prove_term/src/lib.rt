@@ -1,8 +1,9 @@
 // Theorems about the terms of a program's runs, and what is kept for their proofs.
 //
-// A `Cx` keeps the names, the axioms and the lemmas of the proofs about one program; contracts see it as a plain
-// `Context` (specs/Contexts.antt). Each axiom and each lemma is made once, when it is first needed. What a call gives
-// stays in the context as it is afterwards, and contexts only grow (`StaysIn`, `HasGrown`).
+// A `Cx` keeps the names, the axioms and the lemmas of the proofs about one program. Contracts see
+// it as a plain `Context` (specs/Contexts.antt). Each axiom and each lemma is made once, when it is
+// first needed. A theorem that a call returns stays in the context as it is after the call, and
+// contexts only grow (`StaysIn`, `HasGrown`).
 #![tactic(auto, using(crate::proofs::ContextLaws::grown_twice, crate::proofs::ContextLaws::grown_none))]
 
 mod calls;

@@ -1,4 +1,4 @@
-// A sentence on all arguments of a constructor, as a lemma on pattern variables.
+// A sentence on all arguments of a constructor, turned into a lemma on pattern variables.
 ghost use Rattle.std.specs.Prelude.{◌≡◌, ◌∷◌, ℕ, List, [], IfOk, Some};
 ghost use Rattle.ml_pat.specs.Patterns.{all, fun, imp, meta};
 ghost use Rattle.ml_pat.specs.Judgements.{substituted};
@@ -13,8 +13,8 @@ use ml_pat::{MForm, MPat, MSort, VarNo, subst};
 use ml_scope::{assume, fun_ex, inst};
 use std::alloc::{AllocError, Global};
 
-// That a constructor makes one element of pattern variables, so many, that are each one element of its sort, as a
-// lemma, from the same for all arguments.
+// The lemma that a constructor of `count` pattern variables makes one element, if each variable is
+// one element of its sort. It follows from the same for all arguments.
 pub(crate) fn total_lemma(alloc: Global, totality: Thm, count: u32) -> Result<Thm, AllocError>
     requires { (head : ℕ) × (numbers : List ℕ) × (number : ℕ) × IsTotality count head numbers number totality }
     ensures says { IfOk result (TotalFrom count totality) }
@@ -24,7 +24,7 @@ pub(crate) fn total_lemma(alloc: Global, totality: Thm, count: u32) -> Result<Th
     one_element(alloc, &instance)
 }
 
-// The sentence with pattern variables in the place of its variables.
+// The sentence with its variables replaced by pattern variables.
 fn at_metas(alloc: Global, totality: Thm, count: u32) -> Result<Thm, AllocError>
     requires { (head : ℕ) × (numbers : List ℕ) × (number : ℕ) × IsTotality count head numbers number totality }
     ensures says { IfOk result (PartlyFrom count count totality) }
@@ -38,7 +38,8 @@ fn at_metas(alloc: Global, totality: Thm, count: u32) -> Result<Thm, AllocError>
     Ok(made)
 }
 
-// A theorem for all elements of a sort, for a pattern variable that is assumed to be one.
+// Turns a theorem for all elements of a sort into one for a pattern variable that is assumed to be
+// one element.
 pub(crate) fn at_meta(alloc: Global, made: &Thm, i: u32) -> Result<Thm, AllocError>
     requires opens { Opens i made.now.conclusion }
     requires falls { Falls i made.now.hypotheses }
@@ -55,7 +56,7 @@ pub(crate) fn at_meta(alloc: Global, made: &Thm, i: u32) -> Result<Thm, AllocErr
     }
 }
 
-// The same, with what it becomes.
+// The same. `opened` is what the body becomes.
 fn assumed(
     alloc: Global,
     made: &Thm,
@@ -81,7 +82,7 @@ fn assumed(
     detach(alloc, &known, &under, &fact, opened)
 }
 
-// From that a pattern is, for some element of a sort, that element: it is one element of the sort.
+// If some element of a sort equals a pattern, the pattern is one element of the sort.
 pub(crate) fn one_element(alloc: Global, some: &Thm) -> Result<Thm, AllocError>
     requires some { IsSome some.now.conclusion }
     requires falls { (b : ℕ) × Falls b some.now.hypotheses }

@@ -16,7 +16,7 @@ use std::alloc::{AllocError, Global};
 use term_core::{SortId, Value};
 
 impl<'p> Cx<'p> {
-    // That a domain value is one element of its sort.
+    // Proves that a domain value is one element of its sort.
     pub(crate) fn value(
         &mut self,
         alloc: Global,
@@ -34,7 +34,7 @@ impl<'p> Cx<'p> {
         self.axiom(alloc, no)
     }
 
-    // The image of that.
+    // Returns the image of that fact.
     fn value_image(
         &mut self,
         alloc: Global,
@@ -50,7 +50,7 @@ impl<'p> Cx<'p> {
         value_fact(alloc, &self.program.sig, &mut self.names, sort, value)
     }
 
-    // The number of the axiom of a value.
+    // Returns the number of the axiom of a value.
     fn value_number(&mut self, fact: MPat) -> Result<AxiomNo, AllocError>
         requires assumed { IsImageOf self.old.program.sig self.old.names (IsAssumed (theory_of self.old.program)) fact }
         requires form { (c s : ℕ) × (fact ≡ fun (constant c) s) }
@@ -67,7 +67,7 @@ impl<'p> Cx<'p> {
         Ok(no)
     }
 
-    // The number of the axiom of a value, where there is one.
+    // Returns the number of the axiom of a value, if there is one.
     fn known_value(&self, at: ValueParts) -> Option<AxiomNo>
         ensures { IfSome result (λ no. IsValueAxiom self.now at.token.0 at.sort.0 no.0) }
     {
@@ -79,7 +79,7 @@ impl<'p> Cx<'p> {
         }
     }
 
-    // Keeps an axiom as that of a value.
+    // Keeps the number of a value's axiom.
     fn keep_value(&mut self, at: ValueParts, no: AxiomNo) -> Result<(), AllocError>
         requires { IsValueAxiom self.old at.token.0 at.sort.0 no.0 }
         ensures { self.new ≡ self.old }

@@ -279,7 +279,8 @@ injected-injected_once-requires-clause-low t c =
     let is : plain_record c.child-inner.result.now ≡ i.below = only_child (children (plain_record c.args.evaluation.now)) i.below (plain_record c.child-inner.result.now) i.only c.child-inner.ensures in
     subst (λ (u : Tree). height (injected c.args.from.0 c.args.to.0 u) ≤ 500) (sym (c.result.ensures ∙ ap result_of is)) i.low
 
--- the image of the injection as it is written, where the context has grown by that of the injection at once
+-- the image of the injection as it is written, in a context that has also the image of the direct
+-- injection
 abbrev Once : (cx : Context) (a b : ℕ) (u : Tree) (image : Pattern) (o : Option Theorem) → Type 0
 Once cx a b u image o = HasEqual cx (injection a b (ground_pattern u)) image o
 
@@ -306,7 +307,7 @@ injected-halves-requires t c =
     let whole : c.in_ok-whole.whole ≡ once.left = c.in_ok-whole.ensures c.injected_once.new.cx once.left once.equates in
     halves_there c.injected_once.new.cx c.args.from.0 c.args.to.0 (ground_pattern c.result.result.now) c.in_ok-whole.whole (once.left_image ∙ ap (λ (q : Pattern). Some q) (sym whole))
 
--- what stands around and below the injection
+-- the parts around and below the injection
 record IsSplit (cx : Context) (a b : ℕ) (u : Tree) (image whole head argument : Pattern) (o : Option Theorem) : Type 0 where
   is_whole : IsImage cx (injection a b (ground_pattern u)) whole
   halves : HasHalves cx a b (ground_pattern u) head argument
@@ -544,7 +545,7 @@ by_equation-equation_fact-requires-clause-count t c =
     let all = (call_recorded c.args.cx.now.program c.args.subst.now c.args.symbol.0 [] (plain_patterns c.args.args.now) (plain_record c.args.evaluation.now) c.requires.recorded).1 in
     sym (as_many_records c.args.cx.now.program c.args.subst.now c.args.args.now (children_of (plain_record c.args.evaluation.now)) all.records)
 
--- what is known then
+-- what is known of the fact
 record IsFact (old cx : Context) (f : ℕ) (r : Record) (used : EqRecord) (fact : Theorem) : Type 0 where
   right : Pattern
   says : SaysCall cx f (results_of (children_of r)) right fact
@@ -718,7 +719,7 @@ condition_held-unreachable-requires t c =
     let none : condition_record c.args.used.now ≡ unconditional = ap (λ (o : Option (Box EvalRecord)). optional (option_map (λ (b : Box EvalRecord). plain_record b.value) o)) c.in-Some-None.is-1 in
     condition_missing c.args.cx.now.program c.args.used.now.subst u.equation.condition _ (condition_record c.args.used.now) is_p none u.condition_held
 
--- ---- contexts that grow
+-- ---- growing contexts
 
 pub all_evaluated-returns-in_err-made-clause-grown : goal.all_evaluated-returns-in_err-made-clause-grown
 all_evaluated-returns-in_err-made-clause-grown t c = grown_twice c.args.cx.now c.loop-i.cx c.evaluated.new.cx c.loop-i.invariant.grown c.in_ok-one.ensures.grown

@@ -572,7 +572,7 @@ injection_compared-returns-clause-says t c =
     ap (image_of c.joined_compared.new.cx.program.sig c.joined_compared.new.cx.names) (sym whole') ∙ image_grown c.args.cx.now c.joined_compared.new.cx (term (plain_pattern c.args.whole.now)) c.args.image.now g c.requires.image in
     subst (λ (q : RulePattern). Compares c.joined_compared.new.cx (injection c.args.from.0 c.args.to.0 (plain_pattern c.args.below.now)) q c.args.image.now (Some c.in_ok-made.made)) (sym whole') (c.in_ok-made.ensures.says c.args.image.now image)
 
--- ---- what is injected then
+-- ---- the injected pattern
 
 pub middle_compared-beneath-requires : goal.middle_compared-beneath-requires
 middle_compared-beneath-requires t c =
